@@ -1,0 +1,43 @@
+-- What a contract sees of a store and of a sink in memory.
+use Rattle.std.specs.Prelude.{ℕ, ◌-◌, ◌==◌, if◌then◌else◌, List, ◌++◌, take, refl, Result, Ok, Err}
+use Rattle.std.specs.Coded.{Coded, code_by, coded×, coded_ℕ, coded_list}
+use Rattle.std.specs.FinMap as map
+use Rattle.ports.specs.declared.faults.PutFault.{PutFault}
+use Rattle.ports.specs.declared.faults.PutFault.TheVariants as put
+use Rattle.ports.specs.Counts.{counted}
+use Rattle.ports.specs.Files.{Files}
+
+-- the files, how often the store has failed, and which call fails next, counted from 1, 0 being none
+pub record StoreState : Type 0 where
+  pub files : Files
+  pub faults : ℕ
+  pub fails_in : ℕ
+
+-- a store's state is coded as the tuple of its fields
+abbrev pub store_code : Coded StoreState
+store_code =
+    code_by (Files × (ℕ × ℕ)) (coded× (map.code (coded_list coded_ℕ) (coded_list coded_ℕ)) (coded× coded_ℕ coded_ℕ))
+    (λ s. (s.files, (s.faults, s.fails_in))) (λ p. record { files = p.0; faults = p.1.0; fails_in = p.1.1 }) (λ _. refl)
+
+-- the bytes, how often the sink has failed, how often it had no memory, which call fails next,
+-- counted from 1, 0 being none, and how many bytes of its piece that call still appends
+pub record SinkState : Type 0 where
+  pub bytes : List ℕ
+  pub faults : ℕ
+  pub shortages : ℕ
+  pub fails_in : ℕ
+  pub part : ℕ
+
+-- what a put appends: the whole piece, but only its first part where the call is the one that fails
+abbrev pub appended : SinkState → List ℕ → List ℕ
+appended sink piece = if sink.fails_in == 1 then take sink.part piece else piece
+
+-- the sink after a put: a call that fails has appended its part, and one without memory nothing
+abbrev pub sink_after_put : {T : Type 0} → SinkState → List ℕ → Result T PutFault → SinkState
+sink_after_put sink piece (Ok x) = record sink { bytes = sink.bytes ++ piece; fails_in = sink.fails_in - 1 }
+sink_after_put sink piece (Err put.Failed) = record sink {
+  bytes = sink.bytes ++ take sink.part piece;
+  faults = counted sink.faults;
+  fails_in = sink.fails_in - 1;
+}
+sink_after_put sink piece (Err put.OutOfMemory) = record sink { shortages = counted sink.shortages; fails_in = sink.fails_in - 1 }

@@ -1,0 +1,148 @@
+//! A stream in memory.
+ghost use Rattle.std.specs.Prelude.{◌≡◌, ◌≢◌, ◌↔◌, [], ◌++◌, take, min, length, OnOk, OnErr, IsOk, IsErrOf, IfOk, IfErr};
+ghost use Rattle.ports.specs.Counts.{PutCounts, MemoryCounts, counted};
+ghost use Rattle.ports.specs.Pieces.{with_piece, AddsFront, next_piece};
+ghost use Rattle.ports.specs.States.{appended, sink_after_put};
+
+use super::plan::FaultPlan;
+use crate::{PutFault, Sink};
+use std::alloc::{AllocError, Global};
+use std::marker::Model;
+
+/// A stream of bytes in memory, for tests.
+#[derive(Drop)]
+pub struct MemorySink {
+    bytes: Vec<u8>,
+    plan: FaultPlan,
+    shortages: u64,
+    part: u64,
+}
+
+impl Model for MemorySink {
+    ghost use Rattle.ports.specs.States.{SinkState};
+
+    ghost Value = { SinkState };
+
+    ghost view = { λ a. record {
+      bytes = a.bytes.items;
+      faults = a.plan.faults;
+      shortages = a.shortages;
+      fails_in = a.plan.fails_in;
+      part = a.part;
+    } };
+}
+
+impl MemorySink {
+    /// A sink without bytes, which fails at no call.
+    pub fn new(alloc: Global) -> Self
+        ensures { result ≡ record { bytes = []; faults = 0; shortages = 0; fails_in = 0; part = 0 } }
+    {
+        MemorySink {
+            bytes: Vec::new(alloc),
+            plan: FaultPlan::new(),
+            shortages: 0,
+            part: 0,
+        }
+    }
+
+    /// The bytes so far.
+    pub fn bytes(&self) -> &[u8]
+        ensures { result.now ≡ self.now.bytes }
+    {
+        &self.bytes
+    }
+
+    /// How often the sink has failed.
+    pub fn faults(&self) -> u64
+        ensures { result ≡ self.now.faults }
+    {
+        self.plan.faults
+    }
+
+    /// How often the sink has answered that there was no memory.
+    pub fn shortages(&self) -> u64
+        ensures { result ≡ self.now.shortages }
+    {
+        self.shortages
+    }
+
+    /// Makes the n-th call from now on fail and append nothing, the next one being the first; 0 is none.
+    pub fn fail_at(&mut self, n: u64)
+        ensures { self.new ≡ record self.old { fails_in = n; part = 0 } }
+    {
+        self.fail_part(n, 0);
+    }
+
+    /// Makes the n-th call from now on append the first `k` bytes of its piece, or all where it has fewer, and
+    /// then fail. It stands in the place of what `fail_at` or `fail_part` said before.
+    pub fn fail_part(&mut self, n: u64, k: u64)
+        ensures { self.new ≡ record self.old { fails_in = n; part = k } }
+    {
+        self.plan.fails_in = n;
+        self.part = k;
+    }
+
+    /// Appends the bytes, and counts a want of memory.
+    fn append(&mut self, bytes: &[u8]) -> Result<(), PutFault>
+        ensures ok { OnOk result (self.new ≡ record self.old { bytes = self.old.bytes ++ bytes.now }) }
+        ensures err { OnErr result (self.new ≡ record self.old { shortages = counted self.old.shortages }) }
+        ensures counts { MemoryCounts self.old.shortages self.new.shortages result }
+        ensures cause { IfErr result (λ e. e ≡ PutFault.OutOfMemory) }
+        ensures wanted { OnErr result (bytes.now ≢ []) }
+    {
+        if bytes.is_empty() {
+            return Ok(());
+        }
+        match self.bytes.extend_from_slice(bytes) {
+            Ok(()) => Ok(()),
+            Err(AllocError) => {
+                self.shortages = self.shortages.saturating_add(1);
+                Err(PutFault::OutOfMemory)
+            }
+        }
+    }
+}
+
+impl Sink for MemorySink {
+    ghost use Rattle.std.specs.Prelude.{Some};
+    ghost use Rattle.ports.specs.Pieces.{untold_pieces};
+
+    ghost bytes = { λ s. Some s.bytes };
+
+    ghost faults = { λ s. s.faults };
+
+    ghost shortages = { λ s. s.shortages };
+
+    ghost pieces = { λ _. untold_pieces };
+
+    fn put(&mut self, piece: &[u8]) -> Result<(), PutFault>
+        ensures ok { OnOk result (Some self.new.bytes ≡ with_piece piece.now (Some self.old.bytes)) }
+        ensures err { OnErr result (AddsFront (Some self.old.bytes) piece.now (Some self.new.bytes)) }
+        ensures cause { PutCounts self.old.faults self.new.faults result }
+        ensures memory { MemoryCounts self.old.shortages self.new.shortages result }
+        ensures pieces { untold_pieces ≡ next_piece untold_pieces }
+
+        ensures taken { OnOk result (self.old.fails_in ≢ 1) }
+        ensures failed { IsErrOf result PutFault.Failed → self.old.fails_in ≡ 1 }
+        ensures no_memory { IsErrOf result PutFault.OutOfMemory → appended self.old piece.now ≢ [] }
+        ensures after { self.new ≡ sink_after_put self.old piece.now result }
+    {
+        if !self.plan.counts_call() {
+            return self.append(piece);
+        }
+        self.append(front(piece, self.part))?;
+        self.plan.counts_fault();
+        Err(PutFault::Failed)
+    }
+}
+
+/// The first `count` bytes, or all where there are fewer.
+fn front(bytes: &[u8], count: u64) -> &[u8]
+    ensures { result.now ≡ take count bytes.now }
+{
+    if count < bytes.len() as u64 {
+        &bytes[..count as usize]
+    } else {
+        bytes
+    }
+}

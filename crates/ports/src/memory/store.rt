@@ -1,0 +1,140 @@
+//! Files in memory.
+ghost use Rattle.std.specs.Prelude.{◌≡◌, ◌-◌, ◌⊎◌, ◌++◌, length, take, None, IsErr, OnOk, OnErr, IsErrOf, IfSome, MatchOption, ◌↔◌};
+ghost use Rattle.std.specs.Option.{option_copied};
+ghost use Rattle.std.specs.FinMap as map;
+ghost use Rattle.ports.specs.Counts.{FetchCounts, PutCounts, faults_after_fetch, faults_after_put};
+ghost use Rattle.ports.specs.Files.{file_at, with_file, with_name};
+
+use super::plan::FaultPlan;
+use crate::{FetchFault, PutFault, Store};
+use std::alloc::{AllocError, Global};
+use std::collections::BTreeMap;
+use std::marker::Model;
+
+/// Files in memory, for tests.
+#[derive(Drop)]
+pub struct MemoryStore {
+    alloc: Global,
+    files: BTreeMap<String, Vec<u8>>,
+    plan: FaultPlan,
+}
+
+impl Model for MemoryStore {
+    ghost use Rattle.ports.specs.States.{StoreState, store_code};
+    ghost use Rattle.ports.specs.Entries.{files_of};
+
+    ghost Value = { StoreState };
+
+    ghost coded = { store_code };
+
+    ghost view = { λ a. record { files = files_of a.files.entries; faults = a.plan.faults; fails_in = a.plan.fails_in } };
+}
+
+impl MemoryStore {
+    /// A store without files, which fails at no call.
+    pub fn new(alloc: Global) -> Self
+        ensures { result ≡ record { files = map.empty; faults = 0; fails_in = 0 } }
+    {
+        MemoryStore {
+            alloc,
+            files: BTreeMap::new(alloc),
+            plan: FaultPlan::new(),
+        }
+    }
+
+    /// Puts a file of that name, or new bytes for it, which is no call that may fail.
+    pub fn add(&mut self, name: &str, bytes: &[u8]) -> Result<(), AllocError>
+        ensures ok { OnOk result (self.new ≡ record self.old { files = map.insert self.old.files name.now bytes.now }) }
+        ensures err { OnErr result (self.new ≡ self.old) }
+    {
+        let name = String::from_str(self.alloc, name)?;
+        let bytes = Vec::from_slice(self.alloc, bytes)?;
+        self.files.insert(name, bytes)?;
+        Ok(())
+    }
+
+    /// The bytes of the file of that name, if there is one.
+    pub fn get(&self, name: &str) -> Option<&[u8]>
+        ensures { option_copied result ≡ file_at self.now.files name.now }
+    {
+        match self.files.get(name) {
+            Some(bytes) => Some(bytes.as_slice()),
+            None => None,
+        }
+    }
+
+    /// How often the store has failed.
+    pub fn faults(&self) -> u64
+        ensures { result ≡ self.now.faults }
+    {
+        self.plan.faults
+    }
+
+    /// Makes the n-th call from now on fail, the next one being the first; 0 is none. Fetches and puts count together.
+    pub fn fail_at(&mut self, n: u64)
+        ensures { self.new ≡ record self.old { fails_in = n } }
+    {
+        self.plan.fails_in = n;
+    }
+}
+
+impl Store for MemoryStore {
+    ghost use Rattle.std.specs.Prelude.{Some};
+    ghost use Rattle.ports.specs.Files.{untold_names};
+
+    ghost files = { λ s. Some s.files };
+
+    ghost faults = { λ s. s.faults };
+
+    ghost asked = { λ _. untold_names };
+
+    fn fetch(&mut self, name: &str, into: &mut Vec<u8>) -> Result<(), FetchFault>
+        ensures files { Some self.new.files ≡ Some self.old.files }
+        ensures bytes { IfSome (Some self.old.files) (λ fs. MatchOption (file_at fs name.now)
+            (IsErr result) (λ b. OnOk result (into.new.items ≡ into.old.items ++ b))) }
+        ensures appends { take (length into.old.items) into.new.items ≡ into.old.items }
+        ensures kept { OnErr result (into.new.items ≡ into.old.items) }
+        ensures cause { FetchCounts self.old.faults self.new.faults result }
+        ensures asked { untold_names ≡ with_name name.now untold_names }
+
+        ensures fails { IsErrOf result FetchFault.Failed ↔ ((self.old.fails_in ≡ 1)
+            ⊎ (file_at self.old.files name.now ≡ None)) }
+        ensures count { self.new.faults ≡ faults_after_fetch self.old.faults result }
+        ensures call { self.new.fails_in ≡ self.old.fails_in - 1 }
+    {
+        if self.plan.counts_call() {
+            self.plan.counts_fault();
+            return Err(FetchFault::Failed);
+        }
+        match self.get(name) {
+            Some(bytes) => match into.extend_from_slice(bytes) {
+                Ok(()) => Ok(()),
+                Err(AllocError) => Err(FetchFault::OutOfMemory),
+            },
+            None => {
+                self.plan.counts_fault();
+                Err(FetchFault::Failed)
+            }
+        }
+    }
+
+    fn put(&mut self, name: &str, bytes: &[u8]) -> Result<(), PutFault>
+        ensures ok { OnOk result (Some self.new.files ≡ with_file name.now bytes.now (Some self.old.files)) }
+        ensures err { OnErr result (Some self.new.files ≡ Some self.old.files) }
+        ensures cause { PutCounts self.old.faults self.new.faults result }
+        ensures asked { untold_names ≡ untold_names }
+
+        ensures fails { IsErrOf result PutFault.Failed ↔ (self.old.fails_in ≡ 1) }
+        ensures count { self.new.faults ≡ faults_after_put self.old.faults result }
+        ensures call { self.new.fails_in ≡ self.old.fails_in - 1 }
+    {
+        if self.plan.counts_call() {
+            self.plan.counts_fault();
+            return Err(PutFault::Failed);
+        }
+        match self.add(name, bytes) {
+            Ok(()) => Ok(()),
+            Err(AllocError) => Err(PutFault::OutOfMemory),
+        }
+    }
+}

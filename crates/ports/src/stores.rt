@@ -1,0 +1,35 @@
+//! Files by name.
+ghost use Rattle.std.specs.Prelude.{◌≡◌, ℕ, List, ◌++◌, length, take, Option, IsErr, OnOk, OnErr, IfSome, MatchOption};
+ghost use Rattle.ports.specs.Counts.{FetchCounts, PutCounts};
+ghost use Rattle.ports.specs.Files.{Files, file_at, with_file, with_name};
+
+use crate::{FetchFault, PutFault};
+
+/// Files by name: where the jobs and objects come from, and where an image goes.
+pub trait Store {
+    // The files by name, where the store tells them.
+    ghost files: { Self → Option Files };
+
+    // How often the store has failed.
+    ghost faults: { Self → ℕ };
+
+    // The names of the fetches so far, in order, where the store tells them.
+    ghost asked: { Self → Option (List (List ℕ)) };
+
+    /// Appends the bytes of the file of that name, and leaves `into` as it was on a refusal.
+    fn fetch(&mut self, name: &str, into: &mut Vec<u8>) -> Result<(), FetchFault>
+        ensures files { files self.new ≡ files self.old }
+        ensures bytes { IfSome (files self.old) (λ fs. MatchOption (file_at fs name.now)
+            (IsErr result) (λ b. OnOk result (into.new.items ≡ into.old.items ++ b))) }
+        ensures appends { take (length into.old.items) into.new.items ≡ into.old.items }
+        ensures kept { OnErr result (into.new.items ≡ into.old.items) }
+        ensures cause { FetchCounts (faults self.old) (faults self.new) result }
+        ensures asked { asked self.new ≡ with_name name.now (asked self.old) };
+
+    /// Makes these bytes the whole content of the file of that name, whether it was there or not.
+    fn put(&mut self, name: &str, bytes: &[u8]) -> Result<(), PutFault>
+        ensures ok { OnOk result (files self.new ≡ with_file name.now bytes.now (files self.old)) }
+        ensures err { OnErr result (files self.new ≡ files self.old) }
+        ensures cause { PutCounts (faults self.old) (faults self.new) result }
+        ensures asked { asked self.new ≡ asked self.old };
+}
