@@ -1,0 +1,59 @@
+//! Section headers (gABI, "Sections").
+
+ghost use Rattle.elf_records.specs.Fields.{IsReadAt};
+ghost use Rattle.elf_records.specs.Records.{section_at};
+
+use crate::field::{fits, u32_at, u64_at};
+
+/// An entry of the section header table: what a section is called, what it holds and where its bytes lie in the file.
+#[derive(Clone, Copy, PartialEq, Eq, Debug)]
+pub struct SectionHeader {
+    /// Where the name begins in the string table of section names.
+    pub name: u32,
+    /// The type, as [`SHT_PROGBITS`](crate::SHT_PROGBITS).
+    pub kind: u32,
+    /// Bits such as [`SHF_ALLOC`](crate::SHF_ALLOC).
+    pub flags: u64,
+    /// The address at which the section is loaded; 0 in an object.
+    pub addr: u64,
+    /// Where the section's bytes begin in the file.
+    pub offset: u64,
+    /// How many bytes the section has; those of [`SHT_NOBITS`](crate::SHT_NOBITS) take none of the file.
+    pub size: u64,
+    /// Another section: of a symbol table its string table, of relocations their symbol table.
+    pub link: u32,
+    /// Of a symbol table the number of its first symbol that is not local, of relocations the section that they apply to.
+    pub info: u32,
+    /// A power of two of which the address is to be a multiple; 0 and 1 ask for nothing.
+    pub addralign: u64,
+    /// Bytes that each entry takes, in a section that is a table.
+    pub entsize: u64,
+}
+
+impl SectionHeader {
+    /// Bytes that a section header takes in a file.
+    pub const SIZE: u64 = 64;
+}
+
+/// Reads the section header at place `at`. `None` exactly where it would pass the end of `bytes`.
+#[tactic(auto, unfolding(crate::specs::Records::section_at))]
+pub fn read_section(bytes: &[u8], at: u64) -> Option<SectionHeader>
+    ensures { IsReadAt SectionHeader.SIZE section_at bytes.now at result }
+{
+    if !fits(bytes, at, SectionHeader::SIZE) {
+        return None;
+    }
+    let at = at as usize;
+    Some(SectionHeader {
+        name: u32_at(bytes, at),
+        kind: u32_at(bytes, at + 4),
+        flags: u64_at(bytes, at + 8),
+        addr: u64_at(bytes, at + 16),
+        offset: u64_at(bytes, at + 24),
+        size: u64_at(bytes, at + 32),
+        link: u32_at(bytes, at + 40),
+        info: u32_at(bytes, at + 44),
+        addralign: u64_at(bytes, at + 48),
+        entsize: u64_at(bytes, at + 56),
+    })
+}

@@ -1,0 +1,47 @@
+//! Symbol table entries (gABI, "Symbol Table").
+
+ghost use Rattle.elf_records.specs.Fields.{IsReadAt};
+ghost use Rattle.elf_records.specs.Records.{symbol_at};
+
+use crate::field::{fits, u8_at, u16_at, u32_at, u64_at};
+
+/// An entry of a symbol table.
+#[derive(Clone, Copy, PartialEq, Eq, Debug)]
+pub struct SymbolEntry {
+    /// Where the name begins in the symbol table's string table.
+    pub name: u32,
+    /// The binding times 16, plus the type.
+    pub info: u8,
+    /// The visibility, in the low two bits.
+    pub other: u8,
+    /// The section that the symbol is defined in, or a reserved number such as [`SHN_UNDEF`](crate::SHN_UNDEF).
+    pub shndx: u16,
+    /// In an object the offset in its section. Of a TLS symbol in an image, the offset in the TLS segment; else an address.
+    pub value: u64,
+    /// How many bytes the symbol names, or 0.
+    pub size: u64,
+}
+
+impl SymbolEntry {
+    /// Bytes that an entry takes in a file.
+    pub const SIZE: u64 = 24;
+}
+
+/// Reads the symbol table entry at place `at`. `None` exactly where it would pass the end of `bytes`.
+#[tactic(auto, unfolding(crate::specs::Records::symbol_at))]
+pub fn read_symbol(bytes: &[u8], at: u64) -> Option<SymbolEntry>
+    ensures { IsReadAt SymbolEntry.SIZE symbol_at bytes.now at result }
+{
+    if !fits(bytes, at, SymbolEntry::SIZE) {
+        return None;
+    }
+    let at = at as usize;
+    Some(SymbolEntry {
+        name: u32_at(bytes, at),
+        info: u8_at(bytes, at + 4),
+        other: u8_at(bytes, at + 5),
+        shndx: u16_at(bytes, at + 6),
+        value: u64_at(bytes, at + 8),
+        size: u64_at(bytes, at + 16),
+    })
+}
