@@ -1,9 +1,10 @@
 //! Entries of the dynamic array (gABI, "Dynamic Section").
 
-ghost use Rattle.elf_records.specs.Fields.{IsReadAt};
-ghost use Rattle.elf_records.specs.Records.{dynamic_at};
+ghost use Rattle.std.specs.Prelude.{◌≡◌, ◌+◌, ◌≤◌, length, take, drop};
+ghost use Rattle.elf_records.specs.Fields.{IsReadAt, splice};
+ghost use Rattle.elf_records.specs.Records.{dynamic_at, dynamic_bytes};
 
-use crate::field::{fits, u64_at};
+use crate::field::{fits, put_u64, u64_at};
 
 /// An entry of the dynamic array, by which a loader finds an image's tables.
 #[derive(Clone, Copy, PartialEq, Eq, Debug)]
@@ -32,4 +33,17 @@ pub fn read_dynamic(bytes: &[u8], at: u64) -> Option<DynamicEntry>
         tag: u64_at(bytes, at),
         value: u64_at(bytes, at + 8),
     })
+}
+
+/// Writes the entry of a dynamic array at place `at`, over the bytes that stand there.
+pub fn write_dynamic(fields: &DynamicEntry, bytes: &mut [u8], at: u64)
+    requires { at + DynamicEntry.SIZE ≤ length bytes.old }
+    ensures bytes { bytes.new ≡ splice at (dynamic_bytes fields.now) bytes.old }
+    ensures again { dynamic_at at bytes.new ≡ fields.now }
+    ensures before { take at bytes.new ≡ take at bytes.old }
+    ensures after { drop (at + DynamicEntry.SIZE) bytes.new ≡ drop (at + DynamicEntry.SIZE) bytes.old }
+{
+    let at = at as usize;
+    put_u64(bytes, at, fields.tag);
+    put_u64(bytes, at + 8, fields.value);
 }

@@ -1,9 +1,10 @@
 //! The header that every ELF file begins with (gABI, "ELF Header").
 
-ghost use Rattle.elf_records.specs.Fields.{IsReadAt};
-ghost use Rattle.elf_records.specs.Records.{header_at};
+ghost use Rattle.std.specs.Prelude.{◌≡◌, ◌+◌, ◌≤◌, length, take, drop};
+ghost use Rattle.elf_records.specs.Fields.{IsReadAt, splice};
+ghost use Rattle.elf_records.specs.Records.{header_at, header_bytes};
 
-use crate::field::{fits, u16_at, u32_at, u64_at};
+use crate::field::{fits, put_bytes, put_u16, put_u32, put_u64, u16_at, u32_at, u64_at};
 
 /// The header of an ELF file: what the file is, and where its two tables of headers lie.
 #[derive(Clone, Copy, PartialEq, Eq, Debug)]
@@ -70,4 +71,29 @@ pub fn read_header(bytes: &[u8], at: u64) -> Option<Header>
         e_shnum: u16_at(bytes, at + 60),
         e_shstrndx: u16_at(bytes, at + 62),
     })
+}
+
+/// Writes the ELF header at place `at`, over the bytes that stand there.
+pub fn write_header(fields: &Header, bytes: &mut [u8], at: u64)
+    requires { at + Header.SIZE ≤ length bytes.old }
+    ensures bytes { bytes.new ≡ splice at (header_bytes fields.now) bytes.old }
+    ensures again { header_at at bytes.new ≡ fields.now }
+    ensures before { take at bytes.new ≡ take at bytes.old }
+    ensures after { drop (at + Header.SIZE) bytes.new ≡ drop (at + Header.SIZE) bytes.old }
+{
+    let at = at as usize;
+    put_bytes(bytes, at, &fields.ident);
+    put_u16(bytes, at + 16, fields.e_type);
+    put_u16(bytes, at + 18, fields.e_machine);
+    put_u32(bytes, at + 20, fields.e_version);
+    put_u64(bytes, at + 24, fields.e_entry);
+    put_u64(bytes, at + 32, fields.e_phoff);
+    put_u64(bytes, at + 40, fields.e_shoff);
+    put_u32(bytes, at + 48, fields.e_flags);
+    put_u16(bytes, at + 52, fields.e_ehsize);
+    put_u16(bytes, at + 54, fields.e_phentsize);
+    put_u16(bytes, at + 56, fields.e_phnum);
+    put_u16(bytes, at + 58, fields.e_shentsize);
+    put_u16(bytes, at + 60, fields.e_shnum);
+    put_u16(bytes, at + 62, fields.e_shstrndx);
 }

@@ -1,9 +1,10 @@
 //! Relocation entries with an addend (gABI, "Relocation").
 
-ghost use Rattle.elf_records.specs.Fields.{IsReadAt};
-ghost use Rattle.elf_records.specs.Records.{rela_at};
+ghost use Rattle.std.specs.Prelude.{◌≡◌, ◌+◌, ◌≤◌, length, take, drop};
+ghost use Rattle.elf_records.specs.Fields.{IsReadAt, splice};
+ghost use Rattle.elf_records.specs.Records.{rela_at, rela_bytes};
 
-use crate::field::{fits, i64_at, u64_at};
+use crate::field::{fits, i64_at, put_i64, put_u64, u64_at};
 
 /// An entry of a section of type [`SHT_RELA`](crate::SHT_RELA): how to fill one field of the section that it applies to.
 #[derive(Clone, Copy, PartialEq, Eq, Debug)]
@@ -35,4 +36,18 @@ pub fn read_rela(bytes: &[u8], at: u64) -> Option<Rela>
         info: u64_at(bytes, at + 8),
         addend: i64_at(bytes, at + 16),
     })
+}
+
+/// Writes the relocation entry at place `at`, over the bytes that stand there.
+pub fn write_rela(fields: &Rela, bytes: &mut [u8], at: u64)
+    requires { at + Rela.SIZE ≤ length bytes.old }
+    ensures bytes { bytes.new ≡ splice at (rela_bytes fields.now) bytes.old }
+    ensures again { rela_at at bytes.new ≡ fields.now }
+    ensures before { take at bytes.new ≡ take at bytes.old }
+    ensures after { drop (at + Rela.SIZE) bytes.new ≡ drop (at + Rela.SIZE) bytes.old }
+{
+    let at = at as usize;
+    put_u64(bytes, at, fields.offset);
+    put_u64(bytes, at + 8, fields.info);
+    put_i64(bytes, at + 16, fields.addend);
 }

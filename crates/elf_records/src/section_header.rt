@@ -1,9 +1,10 @@
 //! Section headers (gABI, "Sections").
 
-ghost use Rattle.elf_records.specs.Fields.{IsReadAt};
-ghost use Rattle.elf_records.specs.Records.{section_at};
+ghost use Rattle.std.specs.Prelude.{◌≡◌, ◌+◌, ◌≤◌, length, take, drop};
+ghost use Rattle.elf_records.specs.Fields.{IsReadAt, splice};
+ghost use Rattle.elf_records.specs.Records.{section_at, section_bytes};
 
-use crate::field::{fits, u32_at, u64_at};
+use crate::field::{fits, put_u32, put_u64, u32_at, u64_at};
 
 /// An entry of the section header table: what a section is called, what it holds and where its bytes lie in the file.
 #[derive(Clone, Copy, PartialEq, Eq, Debug)]
@@ -56,4 +57,25 @@ pub fn read_section(bytes: &[u8], at: u64) -> Option<SectionHeader>
         addralign: u64_at(bytes, at + 48),
         entsize: u64_at(bytes, at + 56),
     })
+}
+
+/// Writes the section header at place `at`, over the bytes that stand there.
+pub fn write_section(fields: &SectionHeader, bytes: &mut [u8], at: u64)
+    requires { at + SectionHeader.SIZE ≤ length bytes.old }
+    ensures bytes { bytes.new ≡ splice at (section_bytes fields.now) bytes.old }
+    ensures again { section_at at bytes.new ≡ fields.now }
+    ensures before { take at bytes.new ≡ take at bytes.old }
+    ensures after { drop (at + SectionHeader.SIZE) bytes.new ≡ drop (at + SectionHeader.SIZE) bytes.old }
+{
+    let at = at as usize;
+    put_u32(bytes, at, fields.name);
+    put_u32(bytes, at + 4, fields.kind);
+    put_u64(bytes, at + 8, fields.flags);
+    put_u64(bytes, at + 16, fields.addr);
+    put_u64(bytes, at + 24, fields.offset);
+    put_u64(bytes, at + 32, fields.size);
+    put_u32(bytes, at + 40, fields.link);
+    put_u32(bytes, at + 44, fields.info);
+    put_u64(bytes, at + 48, fields.addralign);
+    put_u64(bytes, at + 56, fields.entsize);
 }

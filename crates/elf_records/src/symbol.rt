@@ -1,9 +1,10 @@
 //! Symbol table entries (gABI, "Symbol Table").
 
-ghost use Rattle.elf_records.specs.Fields.{IsReadAt};
-ghost use Rattle.elf_records.specs.Records.{symbol_at};
+ghost use Rattle.std.specs.Prelude.{◌≡◌, ◌+◌, ◌≤◌, length, take, drop};
+ghost use Rattle.elf_records.specs.Fields.{IsReadAt, splice};
+ghost use Rattle.elf_records.specs.Records.{symbol_at, symbol_bytes};
 
-use crate::field::{fits, u8_at, u16_at, u32_at, u64_at};
+use crate::field::{fits, put_u16, put_u32, put_u64, put_u8, u16_at, u32_at, u64_at, u8_at};
 
 /// An entry of a symbol table.
 #[derive(Clone, Copy, PartialEq, Eq, Debug)]
@@ -44,4 +45,21 @@ pub fn read_symbol(bytes: &[u8], at: u64) -> Option<SymbolEntry>
         value: u64_at(bytes, at + 8),
         size: u64_at(bytes, at + 16),
     })
+}
+
+/// Writes the symbol table entry at place `at`, over the bytes that stand there.
+pub fn write_symbol(fields: &SymbolEntry, bytes: &mut [u8], at: u64)
+    requires { at + SymbolEntry.SIZE ≤ length bytes.old }
+    ensures bytes { bytes.new ≡ splice at (symbol_bytes fields.now) bytes.old }
+    ensures again { symbol_at at bytes.new ≡ fields.now }
+    ensures before { take at bytes.new ≡ take at bytes.old }
+    ensures after { drop (at + SymbolEntry.SIZE) bytes.new ≡ drop (at + SymbolEntry.SIZE) bytes.old }
+{
+    let at = at as usize;
+    put_u32(bytes, at, fields.name);
+    put_u8(bytes, at + 4, fields.info);
+    put_u8(bytes, at + 5, fields.other);
+    put_u16(bytes, at + 6, fields.shndx);
+    put_u64(bytes, at + 8, fields.value);
+    put_u64(bytes, at + 16, fields.size);
 }
