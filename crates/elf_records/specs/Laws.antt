@@ -1,6 +1,6 @@
 -- How numbers at a place read in a part of the bytes, and in bytes joined to others. Crates above cite these laws.
-use Rattle.std.proofs.Common.{ℕ, zero, suc, ◌+◌, ◌-◌, ◌^◌, ◌<◌, ◌≤◌, ◌≡◌, List, [], ◌∷◌, ◌++◌, length, take, drop, slice_index, slice_range, refl, sym, ap, ◌∙◌, arith, append_assoc, length-append, length-drop}
-use Rattle.std.proofs.lemmas.List.{append-nil, drop-drop, drop-take, get_or-drop, length-take-le, take-take, take-append-le, take_rest, drop_at, take_at}
+use Rattle.std.proofs.Common.{ℕ, zero, suc, ◌+◌, ◌-◌, ◌^◌, ◌<◌, ◌≤◌, ◌≡◌, List, [], ◌∷◌, ◌++◌, length, take, drop, slice_index, slice_range, refl, sym, ap, ◌∙◌, arith, append_assoc, length-append, length-drop, zero-add}
+use Rattle.std.proofs.lemmas.List.{append-nil, drop-append-le, drop-drop, drop-take, get_or-drop, length-take-le, take-take, take-append-le, take_rest, drop_at, take_at}
 use Rattle.byteorder.specs.Endian.{little_from}
 use Rattle.byteorder.specs.Numbers.{length-bytes_low_first, little_from-lt, little_from-take, little_number-reads_back}
 use Rattle.elf_records.specs.Fields.{FitAll, Reads, ReadsAll, bytes_of, number_at, part_at, spelled, splice, width}
@@ -90,7 +90,6 @@ unfolding splice
 drop-splice at n new bytes above inside =
     let front = length-take-le at bytes inside in
     let joined : length (take at bytes ++ new) ≡ at + length new = length-append (take at bytes) new ∙ ap (λ k. k + length new) front in
-    let k = n - (at + length new) in
     let split : (at + length new) + (n - (at + length new)) ≡ n = omega arith in
     ap (λ i. drop i (take at bytes ++ (new ++ drop (at + length new) bytes))) (sym split)
     ∙ sym (drop-drop (n - (at + length new)) (at + length new) (take at bytes ++ (new ++ drop (at + length new) bytes)))
@@ -119,9 +118,9 @@ splice_more at next xs ys bytes place inside =
     let end : next + length ys ≡ at + length (xs ++ ys) = omega arith in
     let within : at + length xs ≤ at + length (xs ++ ys) = omega arith in
     let head : take next (splice at xs bytes) ≡ take at bytes ++ xs =
-        ap (take next) (sym (append_assoc (take at bytes) xs (drop (at + length xs) bytes))) ∙ take_at (take at bytes ++ xs) (drop (at + length xs) bytes) next joined in
+    ap (take next) (sym (append_assoc (take at bytes) xs (drop (at + length xs) bytes))) ∙ take_at (take at bytes ++ xs) (drop (at + length xs) bytes) next joined in
     let tail : drop (next + length ys) (splice at xs bytes) ≡ drop (at + length (xs ++ ys)) bytes =
-        ap (λ i. drop i (splice at xs bytes)) end ∙ drop-splice at (at + length (xs ++ ys)) xs bytes within inside in
+    ap (λ i. drop i (splice at xs bytes)) end ∙ drop-splice at (at + length (xs ++ ys)) xs bytes within inside in
     rw (head, tail) (append_assoc (take at bytes) xs (ys ++ drop (at + length (xs ++ ys)) bytes) ∙ ap (λ r. take at bytes ++ r) (sym (append_assoc xs ys (drop (at + length (xs ++ ys)) bytes))))
 
 -- the same of a field that stands k bytes behind a place
@@ -141,15 +140,70 @@ part_at-part n at i j xs within =
     ∙ take-take n (j - i - at) (drop at (drop i xs)) enough
     ∙ ap (take n) (drop-drop at i xs)
 
+-- a number inside m bytes is read from those bytes alone
+pub number_at-own : (n k m at : ℕ) (xs : List ℕ) → k + n ≤ m → number_at n k (part_at m at xs) ≡ number_at n (at + k) xs
+unfolding part_at
+number_at-own n k m at xs within = number_at-take n k m (drop at xs) within ∙ number_at-drop n k at xs
+
+-- the same of bytes
+pub part_at-own : (n k m at : ℕ) (xs : List ℕ) → k + n ≤ m → part_at n k (part_at m at xs) ≡ part_at n (at + k) xs
+unfolding part_at
+part_at-own n k m at xs within =
+    let split : k + (m - k) ≡ m = omega arith in
+    let enough : n ≤ m - k = omega arith in
+    ap (λ p. take n (drop k (take p (drop at xs)))) (sym split)
+    ∙ ap (take n) (drop-take k (m - k) (drop at xs))
+    ∙ take-take n (m - k) (drop k (drop at xs)) enough
+    ∙ ap (take n) (drop-drop k at xs)
+
+-- no byte behind them counts
+pub part_at-take : (n at m : ℕ) (xs : List ℕ) → at + n ≤ m → part_at n at (take m xs) ≡ part_at n at xs
+unfolding part_at
+part_at-take n at m xs within = part_at-own n at m 0 xs within ∙ ap (λ p. part_at n p xs) (zero-add at)
+
+-- bytes behind the first i are bytes i further on
+pub part_at-drop : (n at i : ℕ) (xs : List ℕ) → part_at n at (drop i xs) ≡ part_at n (i + at) xs
+unfolding part_at
+part_at-drop n at i xs = ap (take n) (drop-drop at i xs)
+
+-- bytes behind change nothing
+pub part_at-append : (n at : ℕ) (xs ys : List ℕ) → at + n ≤ length xs → part_at n at (xs ++ ys) ≡ part_at n at xs
+unfolding part_at
+part_at-append n at xs ys within =
+    let inside : at ≤ length xs = omega arith in
+    let enough : n ≤ length (drop at xs) = omega (arith, length-drop at xs) in
+    ap (take n) (drop-append-le at xs ys inside) ∙ take-append-le n (drop at xs) ys enough
+
+-- bytes in front only move them on
+pub part_at-behind : (n at : ℕ) (xs ys : List ℕ) → part_at n (length xs + at) (xs ++ ys) ≡ part_at n at ys
+part_at-behind n at xs ys =
+    sym (part_at-drop n at (length xs) (xs ++ ys)) ∙ ap (part_at n at) (drop_at xs ys (length xs) refl)
+
+-- what was written stands at its place
+pub part_at-splice : (at : ℕ) (new bytes : List ℕ) → at ≤ length bytes → part_at (length new) at (splice at new bytes) ≡ new
+unfolding splice
+part_at-splice at new bytes inside = part_again at (take at bytes) new (drop (at + length new) bytes) (length-take-le at bytes inside)
+
+-- bytes in front of what was written stay
+pub part_at-splice_before : (n i at : ℕ) (new bytes : List ℕ) → i + n ≤ at → at ≤ length bytes → part_at n i (splice at new bytes) ≡ part_at n i bytes
+part_at-splice_before n i at new bytes below inside =
+    sym (part_at-take n i at (splice at new bytes) below)
+    ∙ ap (part_at n i) (take-splice at at new bytes (omega arith) inside)
+    ∙ part_at-take n i at bytes below
+
+-- bytes behind what was written stay
+pub part_at-splice_after : (n i at : ℕ) (new bytes : List ℕ) → at + length new ≤ i → at ≤ length bytes → part_at n i (splice at new bytes) ≡ part_at n i bytes
+unfolding part_at
+part_at-splice_after n i at new bytes above inside = ap (take n) (drop-splice at i new bytes above inside)
+
 -- a row of fields that was written is read again, each field as its value
 pub reads_again : (at k : ℕ) (fs : List (ℕ × ℕ)) (front back : List ℕ) → length front ≡ at + k → FitAll fs → Reads at k fs (front ++ (spelled fs ++ back))
 unfolding spelled
 reads_again at k [] front back place fits = tt
 reads_again at k (f ∷ fs) front back place fits =
-    let first = bytes_of f.0 f.1 in
     let inner : (bytes_of f.0 f.1 ++ spelled fs) ++ back ≡ bytes_of f.0 f.1 ++ (spelled fs ++ back) = append_assoc (bytes_of f.0 f.1) (spelled fs) back in
     let outer : front ++ ((bytes_of f.0 f.1 ++ spelled fs) ++ back) ≡ (front ++ bytes_of f.0 f.1) ++ (spelled fs ++ back) =
-        ap (λ b. front ++ b) inner ∙ sym (append_assoc front (bytes_of f.0 f.1) (spelled fs ++ back)) in
+    ap (λ b. front ++ b) inner ∙ sym (append_assoc front (bytes_of f.0 f.1) (spelled fs ++ back)) in
     let width : length (bytes_of f.0 f.1) ≡ f.0 = length-bytes_of f.0 f.1 in
     let joined = length-append front (bytes_of f.0 f.1) in
     let next : length (front ++ bytes_of f.0 f.1) ≡ at + (k + f.0) = omega arith in
@@ -164,7 +218,7 @@ reads_all at [] front back place fits = tt
 reads_all at (f ∷ fs) front back place fits =
     let inner : (bytes_of f.0 f.1 ++ spelled fs) ++ back ≡ bytes_of f.0 f.1 ++ (spelled fs ++ back) = append_assoc (bytes_of f.0 f.1) (spelled fs) back in
     let outer : front ++ ((bytes_of f.0 f.1 ++ spelled fs) ++ back) ≡ (front ++ bytes_of f.0 f.1) ++ (spelled fs ++ back) =
-        ap (λ b. front ++ b) inner ∙ sym (append_assoc front (bytes_of f.0 f.1) (spelled fs ++ back)) in
+    ap (λ b. front ++ b) inner ∙ sym (append_assoc front (bytes_of f.0 f.1) (spelled fs ++ back)) in
     let width : length (bytes_of f.0 f.1) ≡ f.0 = length-bytes_of f.0 f.1 in
     let joined = length-append front (bytes_of f.0 f.1) in
     let next : length (front ++ bytes_of f.0 f.1) ≡ at + f.0 = omega arith in

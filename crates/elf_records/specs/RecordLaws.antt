@@ -1,7 +1,7 @@
 -- What holds of each of the six records: its size in bytes, that it is read again as it was written, and how it reads in a part.
-use Rattle.std.proofs.Common.{ℕ, ◌+◌, ◌-◌, ◌^◌, ◌<◌, ◌≤◌, ◌≡◌, List, [], ◌∷◌, ◌++◌, length, take, drop, slice_range, refl, sym, ap, ◌∙◌, arith, append_assoc, length-append}
+use Rattle.std.proofs.Common.{ℕ, ◌+◌, ◌-◌, ◌^◌, ◌<◌, ◌≤◌, ◌≡◌, List, [], ◌∷◌, ◌++◌, length, take, drop, slice_range, refl, sym, ap, ◌∙◌, arith, add-zero, append_assoc, length-append}
 use Rattle.std.proofs.lemmas.List.{length-take-le}
-use Rattle.std.proofs.Math.Facts.{to_z-of_z}
+use Rattle.std.proofs.Math.Facts.{Fits-of_z, to_z-of_z}
 use Rattle.std.specs.Int.{w64, cast_unsigned}
 use Rattle.elf_records.specs.declared.file_header.Header.{Header}
 use Rattle.elf_records.specs.declared.section_header.SectionHeader.{SectionHeader}
@@ -10,7 +10,7 @@ use Rattle.elf_records.specs.declared.relocation.Rela.{Rela}
 use Rattle.elf_records.specs.declared.program_header.Segment.{Segment}
 use Rattle.elf_records.specs.declared.dynamic.DynamicEntry.{DynamicEntry}
 use Rattle.elf_records.specs.Fields.{FitAll, Reads, ReadsAll, bytes_of, number_at, part_at, signed_at, spelled, splice}
-use Rattle.elf_records.specs.Laws.{length-bytes_of, length-spelled, number_again, number_at-field, number_at-part, part_again, part_at-part, reads_all, reads_again}
+use Rattle.elf_records.specs.Laws.{length-bytes_of, length-spelled, number_again, number_at-field, number_at-own, number_at-part, part_again, part_at-own, part_at-part, reads_all, reads_again}
 use Rattle.elf_records.specs.Records.{FitsHeader, FitsSectionHeader, FitsSymbolEntry, FitsRela, FitsSegment, FitsDynamicEntry, header_at, header_bytes, header_fields, section_at, section_bytes, section_fields, symbol_at, symbol_bytes, symbol_fields, rela_at, rela_bytes, rela_fields, segment_at, segment_bytes, segment_fields, dynamic_at, dynamic_bytes, dynamic_fields}
 
 -- the sizes, in bytes
@@ -44,13 +44,13 @@ unfolding header_at header_bytes
 header_again at r front back place fits =
     let inner : (r.ident ++ spelled (header_fields r)) ++ back ≡ r.ident ++ (spelled (header_fields r) ++ back) = append_assoc r.ident (spelled (header_fields r)) back in
     let outer : front ++ ((r.ident ++ spelled (header_fields r)) ++ back) ≡ (front ++ r.ident) ++ (spelled (header_fields r) ++ back) =
-        ap (λ b. front ++ b) inner ∙ sym (append_assoc front r.ident (spelled (header_fields r) ++ back)) in
+    ap (λ b. front ++ b) inner ∙ sym (append_assoc front r.ident (spelled (header_fields r) ++ back)) in
     let sixteen : length r.ident ≡ 16 = fits.0 in
     let joined : length (front ++ r.ident) ≡ at + 16 = length-append front r.ident ∙ ap (λ k. k + length r.ident) place ∙ ap (λ k. at + k) sixteen in
     let ident : part_at 16 at (front ++ ((r.ident ++ spelled (header_fields r)) ++ back)) ≡ r.ident =
-        ap (λ b. part_at 16 at (front ++ b)) inner ∙ ap (λ k. part_at k at (front ++ (r.ident ++ (spelled (header_fields r) ++ back)))) (sym sixteen) ∙ part_again at front r.ident (spelled (header_fields r) ++ back) place in
+    ap (λ b. part_at 16 at (front ++ b)) inner ∙ ap (λ k. part_at k at (front ++ (r.ident ++ (spelled (header_fields r) ++ back)))) (sym sixteen) ∙ part_again at front r.ident (spelled (header_fields r) ++ back) place in
     let all : Reads at 16 (header_fields r) (front ++ ((r.ident ++ spelled (header_fields r)) ++ back)) =
-        rw outer (reads_again at 16 (header_fields r) (front ++ r.ident) back joined fits.1) in
+    rw outer (reads_again at 16 (header_fields r) (front ++ r.ident) back joined fits.1) in
     rw (ident, all.0, all.1.0, all.1.1.0, all.1.1.1.0, all.1.1.1.1.0, all.1.1.1.1.1.0, all.1.1.1.1.1.1.0, all.1.1.1.1.1.1.1.0, all.1.1.1.1.1.1.1.1.0, all.1.1.1.1.1.1.1.1.1.0, all.1.1.1.1.1.1.1.1.1.1.0, all.1.1.1.1.1.1.1.1.1.1.1.0, all.1.1.1.1.1.1.1.1.1.1.1.1.0) refl
 
 pub section_again : (at : ℕ) (r : SectionHeader) (front back : List ℕ) → length front ≡ at → FitsSectionHeader r → section_at at (front ++ (section_bytes r ++ back)) ≡ r
@@ -68,7 +68,9 @@ symbol_again at r front back place fits =
 pub rela_again : (at : ℕ) (r : Rela) (front back : List ℕ) → length front ≡ at → FitsRela r → rela_at at (front ++ (rela_bytes r ++ back)) ≡ r
 unfolding rela_at rela_bytes
 rela_again at r front back place fits =
-    let all = reads_all at (rela_fields r) front back place fits.0 in
+    let bits = Fits-of_z fits.1 in
+    let below : cast_unsigned w64 r.addend < 2 ^ 64 = omega (arith, bits) in
+    let all = reads_all at (rela_fields r) front back place (fits.0.0, (fits.0.1.0, (below, tt))) in
     let addend = to_z-of_z fits.1 in
     rw (all.0, all.1.0, all.1.1.0, addend) refl
 
@@ -108,6 +110,31 @@ segment_at-splice at r bytes inside fits = segment_again at r (take at bytes) (d
 pub dynamic_at-splice : (at : ℕ) (r : DynamicEntry) (bytes : List ℕ) → at ≤ length bytes → FitsDynamicEntry r → dynamic_at at (splice at (dynamic_bytes r) bytes) ≡ r
 unfolding splice
 dynamic_at-splice at r bytes inside fits = dynamic_again at r (take at bytes) (drop (at + length (dynamic_bytes r)) bytes) (length-take-le at bytes inside) fits
+
+-- a record depends on its own bytes alone
+pub header_at-own : (at : ℕ) (xs : List ℕ) → header_at 0 (part_at 64 at xs) ≡ header_at at xs
+unfolding header_at
+header_at-own at xs = rw (part_at-own 16 0 64 at xs (omega arith), number_at-own 2 16 64 at xs (omega arith), number_at-own 2 18 64 at xs (omega arith), number_at-own 4 20 64 at xs (omega arith), number_at-own 8 24 64 at xs (omega arith), number_at-own 8 32 64 at xs (omega arith), number_at-own 8 40 64 at xs (omega arith), number_at-own 4 48 64 at xs (omega arith), number_at-own 2 52 64 at xs (omega arith), number_at-own 2 54 64 at xs (omega arith), number_at-own 2 56 64 at xs (omega arith), number_at-own 2 58 64 at xs (omega arith), number_at-own 2 60 64 at xs (omega arith), number_at-own 2 62 64 at xs (omega arith), add-zero at) refl
+
+pub section_at-own : (at : ℕ) (xs : List ℕ) → section_at 0 (part_at 64 at xs) ≡ section_at at xs
+unfolding section_at
+section_at-own at xs = rw (number_at-own 4 0 64 at xs (omega arith), number_at-own 4 4 64 at xs (omega arith), number_at-own 8 8 64 at xs (omega arith), number_at-own 8 16 64 at xs (omega arith), number_at-own 8 24 64 at xs (omega arith), number_at-own 8 32 64 at xs (omega arith), number_at-own 4 40 64 at xs (omega arith), number_at-own 4 44 64 at xs (omega arith), number_at-own 8 48 64 at xs (omega arith), number_at-own 8 56 64 at xs (omega arith), add-zero at) refl
+
+pub symbol_at-own : (at : ℕ) (xs : List ℕ) → symbol_at 0 (part_at 24 at xs) ≡ symbol_at at xs
+unfolding symbol_at
+symbol_at-own at xs = rw (number_at-own 4 0 24 at xs (omega arith), number_at-own 1 4 24 at xs (omega arith), number_at-own 1 5 24 at xs (omega arith), number_at-own 2 6 24 at xs (omega arith), number_at-own 8 8 24 at xs (omega arith), number_at-own 8 16 24 at xs (omega arith), add-zero at) refl
+
+pub rela_at-own : (at : ℕ) (xs : List ℕ) → rela_at 0 (part_at 24 at xs) ≡ rela_at at xs
+unfolding rela_at
+rela_at-own at xs = rw (number_at-own 8 0 24 at xs (omega arith), number_at-own 8 8 24 at xs (omega arith), number_at-own 8 16 24 at xs (omega arith), add-zero at) refl
+
+pub segment_at-own : (at : ℕ) (xs : List ℕ) → segment_at 0 (part_at 56 at xs) ≡ segment_at at xs
+unfolding segment_at
+segment_at-own at xs = rw (number_at-own 4 0 56 at xs (omega arith), number_at-own 4 4 56 at xs (omega arith), number_at-own 8 8 56 at xs (omega arith), number_at-own 8 16 56 at xs (omega arith), number_at-own 8 24 56 at xs (omega arith), number_at-own 8 32 56 at xs (omega arith), number_at-own 8 40 56 at xs (omega arith), number_at-own 8 48 56 at xs (omega arith), add-zero at) refl
+
+pub dynamic_at-own : (at : ℕ) (xs : List ℕ) → dynamic_at 0 (part_at 16 at xs) ≡ dynamic_at at xs
+unfolding dynamic_at
+dynamic_at-own at xs = rw (number_at-own 8 0 16 at xs (omega arith), number_at-own 8 8 16 at xs (omega arith), add-zero at) refl
 
 -- a record in the part from i to j is the record i bytes further on in the whole
 pub header_at-part : (at i j : ℕ) (xs : List ℕ) → at + 64 ≤ j - i → header_at at (slice_range xs i j) ≡ header_at (i + at) xs

@@ -1,6 +1,6 @@
 -- The six records of ELF64, each field at its place in the record (gABI, "ELF Header", "Sections", "Symbol Table",
 -- "Relocation", "Program Header" and "Dynamic Section").
-use Rattle.std.specs.Prelude.{◌≡◌, ◌+◌, ℕ, List, [], ◌∷◌, ◌++◌, length, FitsSigned}
+use Rattle.std.specs.Prelude.{◌≡◌, ◌+◌, ◌/◌, ◌%◌, ◌^◌, ℕ, List, [], ◌∷◌, ◌++◌, length, FitsSigned}
 use Rattle.std.specs.Int.{w64, cast_unsigned}
 use Rattle.elf_records.specs.declared.file_header.Header.{Header}
 use Rattle.elf_records.specs.declared.section_header.SectionHeader.{SectionHeader}
@@ -116,7 +116,7 @@ rela_bytes r = spelled (rela_fields r)
 
 -- each field lies in the range of its type, as it does in every record that code holds
 abbrev pub FitsRela : Rela → Type 0
-FitsRela r = FitAll (rela_fields r) × FitsSigned w64 r.addend
+FitsRela r = FitAll ((8, r.offset) ∷ (8, r.info) ∷ []) × FitsSigned w64 r.addend
 
 -- Elf64_Phdr
 unfoldable pub segment_at : ℕ → List ℕ → Segment
@@ -163,3 +163,20 @@ dynamic_bytes r = spelled (dynamic_fields r)
 -- each field lies in the range of its type, as it does in every record that code holds
 abbrev pub FitsDynamicEntry : DynamicEntry → Type 0
 FitsDynamicEntry r = FitAll (dynamic_fields r)
+
+-- ELF64_ST_BIND, ELF64_ST_TYPE and ELF64_ST_VISIBILITY
+abbrev pub symbol_binding : SymbolEntry → ℕ
+symbol_binding r = r.info / 16
+
+abbrev pub symbol_kind : SymbolEntry → ℕ
+symbol_kind r = r.info % 16
+
+abbrev pub symbol_visibility : SymbolEntry → ℕ
+symbol_visibility r = r.other % 4
+
+-- ELF64_R_SYM and ELF64_R_TYPE
+abbrev pub rela_symbol : Rela → ℕ
+rela_symbol r = r.info / 2 ^ 32
+
+abbrev pub rela_kind : Rela → ℕ
+rela_kind r = r.info % 2 ^ 32

@@ -1,6 +1,6 @@
 //! One field of a record: a little-endian number at a place of a slice of bytes.
 
-ghost use Rattle.std.specs.Prelude.{◌≡◌, ◌+◌, ◌^◌, ◌<◌, ◌≤◌, length, nat_le, FitsSigned};
+ghost use Rattle.std.specs.Prelude.{◌≡◌, ◌+◌, ◌^◌, ◌<◌, ◌≤◌, length, nat_le};
 ghost use Rattle.std.specs.Int.{w64, cast_unsigned};
 ghost use Rattle.elf_records.specs.Fields.{bytes_of, number_at, signed_at, splice};
 
@@ -94,9 +94,7 @@ pub fn put_u64(bytes: &mut [u8], at: usize, value: u64)
 /// A signed number is written in two's complement.
 pub fn put_i64(bytes: &mut [u8], at: usize, value: i64)
     requires { at + 8 ≤ length bytes.old }
-    ensures written { bytes.new ≡ splice at (bytes_of 8 (cast_unsigned w64 value)) bytes.old }
-    ensures fits { cast_unsigned w64 value < 2 ^ 64 }
-    ensures in_range { FitsSigned w64 value }
+    ensures { bytes.new ≡ splice at (bytes_of 8 (cast_unsigned w64 value)) bytes.old }
 {
     put_u64(bytes, at, value.cast_unsigned());
 }

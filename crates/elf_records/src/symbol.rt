@@ -4,7 +4,7 @@ ghost use Rattle.std.specs.Prelude.{◌≡◌, ◌+◌, ◌≤◌, length, take,
 ghost use Rattle.elf_records.specs.Fields.{IsReadAt, splice};
 ghost use Rattle.elf_records.specs.Records.{symbol_at, symbol_bytes};
 
-use crate::field::{fits, put_u16, put_u32, put_u64, put_u8, u16_at, u32_at, u64_at, u8_at};
+use crate::field::{fits, put_u8, put_u16, put_u32, put_u64, u8_at, u16_at, u32_at, u64_at};
 
 /// An entry of a symbol table.
 #[derive(Clone, Copy, PartialEq, Eq, Debug)]
