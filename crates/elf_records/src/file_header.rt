@@ -6,6 +6,22 @@ ghost use Rattle.elf_records.specs.Records.{header_at, header_bytes};
 
 use crate::field::{fits, put_bytes, put_u16, put_u32, put_u64, u16_at, u32_at, u64_at};
 
+// The first bytes of `ident`, in which every file for x86-64 agrees (gABI, "ELF Identification").
+/// The magic number, class 2 (64 bits), data encoding 1 (little-endian) and version 1.
+pub const ELF_IDENT: [u8; 7] = [0x7f, b'E', b'L', b'F', 2, 1, 1];
+
+// Values of `e_type`, `e_machine` and `e_version`.
+/// An object, to be linked.
+pub const ET_REL: u16 = 1;
+/// A program whose addresses are fixed.
+pub const ET_EXEC: u16 = 2;
+/// A shared object, or a program that may be loaded anywhere.
+pub const ET_DYN: u16 = 3;
+/// The x86-64 processor.
+pub const EM_X86_64: u16 = 62;
+/// The one version of the format that there is.
+pub const EV_CURRENT: u32 = 1;
+
 /// The header of an ELF file: what the file is, and where its two tables of headers lie.
 #[derive(Clone, Copy, PartialEq, Eq, Debug)]
 pub struct Header {

@@ -6,6 +6,24 @@ ghost use Rattle.elf_records.specs.Records.{segment_at, segment_bytes};
 
 use crate::field::{fits, put_u32, put_u64, u32_at, u64_at};
 
+// Segment types (gABI, "Segment Types").
+/// A part that is loaded into memory.
+pub const PT_LOAD: u32 = 1;
+/// The dynamic array.
+pub const PT_DYNAMIC: u32 = 2;
+/// What each thread's block of this image begins with.
+pub const PT_TLS: u32 = 7;
+/// A part that is written by the loader alone.
+pub const PT_GNU_RELRO: u32 = 0x6474_e552;
+
+// Segment flags (gABI, "Segment Permissions").
+/// May be executed.
+pub const PF_X: u32 = 1;
+/// May be written.
+pub const PF_W: u32 = 2;
+/// May be read.
+pub const PF_R: u32 = 4;
+
 /// An entry of the program header table: a part of the file, and where it lies in memory once it is loaded.
 #[derive(Clone, Copy, PartialEq, Eq, Debug)]
 pub struct Segment {

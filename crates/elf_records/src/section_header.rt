@@ -6,6 +6,44 @@ ghost use Rattle.elf_records.specs.Records.{section_at, section_bytes};
 
 use crate::field::{fits, put_u32, put_u64, u32_at, u64_at};
 
+// Section types (gABI, "Section Types").
+/// The header names no section.
+pub const SHT_NULL: u32 = 0;
+/// Bytes whose meaning is the program's own.
+pub const SHT_PROGBITS: u32 = 1;
+/// A symbol table.
+pub const SHT_SYMTAB: u32 = 2;
+/// A string table: texts, each with a zero byte behind it.
+pub const SHT_STRTAB: u32 = 3;
+/// Relocation entries with an addend.
+pub const SHT_RELA: u32 = 4;
+/// Notes.
+pub const SHT_NOTE: u32 = 7;
+/// Zeros, which take no bytes of the file.
+pub const SHT_NOBITS: u32 = 8;
+/// Relocation entries without an addend.
+pub const SHT_REL: u32 = 9;
+/// A group of sections that are kept or dropped together.
+pub const SHT_GROUP: u32 = 17;
+/// Section numbers that do not fit a symbol's 16 bits.
+pub const SHT_SYMTAB_SHNDX: u32 = 18;
+/// Tables for unwinding the stack (psABI, "Special Sections").
+pub const SHT_X86_64_UNWIND: u32 = 0x7000_0001;
+
+// Section flags (gABI, "Section Attribute Flags").
+/// The program may write there.
+pub const SHF_WRITE: u64 = 0x1;
+/// The section takes memory while the program runs.
+pub const SHF_ALLOC: u64 = 0x2;
+/// The section holds code.
+pub const SHF_EXECINSTR: u64 = 0x4;
+/// A linker may keep equal entries once.
+pub const SHF_MERGE: u64 = 0x10;
+/// The entries are texts, each with a zero byte behind it.
+pub const SHF_STRINGS: u64 = 0x20;
+/// Each thread has a copy of the section of its own.
+pub const SHF_TLS: u64 = 0x400;
+
 /// An entry of the section header table: what a section is called, what it holds and where its bytes lie in the file.
 #[derive(Clone, Copy, PartialEq, Eq, Debug)]
 pub struct SectionHeader {
