@@ -1,0 +1,9 @@
+-- What a fault of the store means for the command.
+use Rattle.ports.specs.declared.faults.FetchFault.{FetchFault}
+use Rattle.ports.specs.declared.faults.FetchFault.TheVariants as fetch
+use Rattle.tlsld.specs.declared.fault.CommandFault.{CommandFault}
+use Rattle.tlsld.specs.declared.fault.CommandFault.TheVariants as fault
+
+abbrev pub fault_of_fetch : FetchFault → CommandFault
+fault_of_fetch fetch.Failed = fault.Store
+fault_of_fetch fetch.OutOfMemory = fault.OutOfMemory

@@ -1,0 +1,47 @@
+//! Why a command gives no output.
+ghost use Rattle.std.specs.Prelude.{◌≡◌};
+
+use ports::FetchFault;
+use std::alloc::{AllocError, AllocFailed};
+
+/// Why a command gives no output.
+#[derive(Debug, Drop)]
+pub enum CommandFault {
+    /// The store failed.
+    Store,
+    /// There was no memory.
+    OutOfMemory,
+}
+
+impl From<FetchFault> for CommandFault {
+    ghost use Rattle.tlsld.specs.FetchFaults.{fault_of_fetch};
+
+    ghost from_gives = { λ fetch fault. fault ≡ fault_of_fetch fetch };
+
+    fn from(fault: FetchFault) -> CommandFault {
+        match fault {
+            FetchFault::Failed => CommandFault::Store,
+            FetchFault::OutOfMemory => CommandFault::OutOfMemory,
+        }
+    }
+}
+
+impl From<AllocError> for CommandFault {
+    ghost use Rattle.tlsld.specs.declared.fault.CommandFault.TheVariants.{OutOfMemory};
+
+    ghost from_gives = { λ _ fault. fault ≡ OutOfMemory };
+
+    fn from(_error: AllocError) -> CommandFault {
+        CommandFault::OutOfMemory
+    }
+}
+
+impl<T: Drop> From<AllocFailed<T>> for CommandFault {
+    ghost use Rattle.tlsld.specs.declared.fault.CommandFault.TheVariants.{OutOfMemory};
+
+    ghost from_gives = { λ _ fault. fault ≡ OutOfMemory };
+
+    fn from(_error: AllocFailed<T>) -> CommandFault {
+        CommandFault::OutOfMemory
+    }
+}
