@@ -1,5 +1,5 @@
 -- Registers by their numbers (Intel's manual, volume 2, table 2-2).
-use Rattle.std.specs.Prelude.{ℕ, ◌==◌, if◌then◌else◌}
+use Rattle.std.specs.Prelude.{ℕ, ◌+◌, Bool, ◌==◌, if◌then◌else◌}
 use Rattle.amd64_subset.specs.declared.register.Register.{Register}
 use Rattle.amd64_subset.specs.declared.register.Register.TheVariants.{Rax, Rcx, Rdx, Rbx, Rsp, Rbp, Rsi, Rdi, R8, R9, R10, R11, R12, R13, R14, R15}
 
@@ -39,3 +39,7 @@ number_of R12 = 12
 number_of R13 = 13
 number_of R14 = 14
 number_of R15 = 15
+
+-- a register by the three bits in the instruction's own bytes and the fourth in REX
+abbrev pub extended : ℕ → Bool → Register
+extended low high = register_of (low + (if high then 8 else 0))

@@ -1,5 +1,5 @@
 ghost use Rattle.std.specs.Prelude.{◌≡◌, ◌<◌};
-ghost use Rattle.amd64_subset.specs.Register.{register_of, number_of};
+ghost use Rattle.amd64_subset.specs.Register.{register_of, number_of, extended};
 
 /// One of the sixteen general registers. Its place in this list is its number in an encoding: the
 /// low three bits stand in an instruction's own bytes, the fourth in its REX prefix.
@@ -56,5 +56,13 @@ impl Register {
         ensures { result ≡ number_of self }
     {
         self as u8
+    }
+
+    /// The register of three bits in the instruction's own bytes and a fourth in its REX prefix.
+    pub(crate) fn extended(low: u8, high: bool) -> Register
+        requires { low < 8 }
+        ensures { result ≡ extended low high }
+    {
+        Register::numbered(if high { low + 8 } else { low })
     }
 }
