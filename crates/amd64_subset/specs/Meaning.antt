@@ -1,0 +1,102 @@
+-- What the parts of an instruction's bytes mean together.
+use Rattle.std.specs.Prelude.{ℕ, ◌+◌, ◌%◌, Bool, true, false, Option, Some, None, if◌then◌else◌}
+use Rattle.amd64_subset.specs.declared.register.Register.{Register}
+use Rattle.amd64_subset.specs.declared.register.Register.TheVariants.{Rax}
+use Rattle.amd64_subset.specs.declared.operand.Operand.{Operand}
+use Rattle.amd64_subset.specs.declared.operand.Operand.TheVariants as operand
+use Rattle.amd64_subset.specs.declared.operand.Operands.{Operands}
+use Rattle.amd64_subset.specs.declared.operand.Operands.TheVariants.{IntoRegister, IntoMemory, Immediate}
+use Rattle.amd64_subset.specs.declared.instr.Width.{Width}
+use Rattle.amd64_subset.specs.declared.instr.Width.TheVariants.{Long, Quad}
+use Rattle.amd64_subset.specs.declared.instr.Target.TheVariants.{Relative, Indirect}
+use Rattle.amd64_subset.specs.declared.instr.Operation.{Operation}
+use Rattle.amd64_subset.specs.declared.instr.Operation.TheVariants as operation
+use Rattle.amd64_subset.specs.declared.prefix.Prefixes.{Prefixes}
+use Rattle.amd64_subset.specs.declared.size.Size.{Size}
+use Rattle.amd64_subset.specs.declared.size.Size.TheVariants as size
+use Rattle.amd64_subset.specs.declared.size.Numbers.{Numbers}
+use Rattle.amd64_subset.specs.declared.row.Numbered.{Numbered}
+use Rattle.amd64_subset.specs.declared.row.Numbered.TheVariants as numbered
+use Rattle.amd64_subset.specs.declared.row.Action.{Action}
+use Rattle.amd64_subset.specs.declared.row.Action.TheVariants as action
+use Rattle.amd64_subset.specs.declared.selectors.Selectors.{Selectors}
+use Rattle.amd64_subset.specs.declared.meaning.Body.{Body}
+use Rattle.amd64_subset.specs.Number.{count_of}
+use Rattle.amd64_subset.specs.Prefix.{bits_of}
+use Rattle.amd64_subset.specs.Selectors.{displacement_size, register_in, memory_in, operand_in}
+
+-- 64 bits with REX.W, else 32
+abbrev pub width_of : Prefixes → Width
+width_of prefixes = if (bits_of prefixes).wide then Quad else Long
+
+-- where a four-byte field begins that so many bytes follow, counted back from the end
+abbrev pub place_of : Size → ℕ → Option ℕ
+place_of size.Four behind = Some (behind + 4)
+place_of size behind = None
+
+-- an instruction of an opcode alone
+abbrev pub alone_body : Operation → Body
+alone_body operation = record { instr = record { operation = operation; displacement = 0; immediate = 0 }; disp = None; imm = None }
+
+-- the number is an immediate, not a distance
+abbrev pub is_immediate : Numbered → Bool
+is_immediate (numbered.Move register) = true
+is_immediate (numbered.Compute arithmetic) = true
+is_immediate action = false
+
+abbrev pub numbered_operation : Numbered → Width → ℕ → Operation
+numbered_operation numbered.Call width number = operation.Call (Relative number)
+numbered_operation numbered.Jump width number = operation.Jump (Relative number)
+numbered_operation (numbered.JumpIf condition) width number = operation.JumpIf condition number
+numbered_operation (numbered.Move register) width number = operation.Move width (Immediate (operand.Register register))
+numbered_operation (numbered.Compute arithmetic) width number = operation.Compute arithmetic width (Immediate (operand.Register Rax))
+
+-- an instruction whose opcode is followed by a number alone
+unfoldable pub numbered_body : Numbered → Width → Size → ℕ → Body
+numbered_body action width size number =
+    if is_immediate action
+    then record { instr = record { operation = numbered_operation action width number; displacement = 0; immediate = number }; disp = None; imm = place_of size 0 }
+    else alone_body (numbered_operation action width number)
+
+-- the action has an immediate
+abbrev pub takes_immediate : Action → Bool
+takes_immediate action.MoveImmediate = true
+takes_immediate (action.ComputeImmediate arithmetic) = true
+takes_immediate action = false
+
+-- the operand is written, or compared, with the register
+abbrev pub into_operand : Operand → Register → Operands
+into_operand (operand.Register to) register = IntoRegister to (operand.Register register)
+into_operand (operand.InMemory to) register = IntoMemory to register
+
+-- what the action does with these operands, and with this count where it is a shift
+unfoldable pub operation_of : Action → Prefixes → Selectors → ℕ → Operation
+operation_of action.StoreByte prefixes selectors count = operation.StoreByte (memory_in prefixes selectors) (register_in prefixes selectors)
+operation_of action.Store prefixes selectors count = operation.Move (width_of prefixes) (into_operand (operand_in prefixes selectors) (register_in prefixes selectors))
+operation_of action.Load prefixes selectors count = operation.Move (width_of prefixes) (IntoRegister (register_in prefixes selectors) (operand_in prefixes selectors))
+operation_of action.MoveImmediate prefixes selectors count = operation.Move (width_of prefixes) (Immediate (operand_in prefixes selectors))
+operation_of action.ExtendByte prefixes selectors count = operation.ExtendByte (width_of prefixes) (register_in prefixes selectors) (operand_in prefixes selectors)
+operation_of action.ExtendLong prefixes selectors count = operation.ExtendLong (register_in prefixes selectors) (operand_in prefixes selectors)
+operation_of action.LoadAddress prefixes selectors count = operation.LoadAddress (width_of prefixes) (register_in prefixes selectors) (memory_in prefixes selectors)
+operation_of (action.ComputeInto arithmetic) prefixes selectors count = operation.Compute arithmetic (width_of prefixes) (into_operand (operand_in prefixes selectors) (register_in prefixes selectors))
+operation_of (action.ComputeFrom arithmetic) prefixes selectors count = operation.Compute arithmetic (width_of prefixes) (IntoRegister (register_in prefixes selectors) (operand_in prefixes selectors))
+operation_of (action.ComputeImmediate arithmetic) prefixes selectors count = operation.Compute arithmetic (width_of prefixes) (Immediate (operand_in prefixes selectors))
+operation_of action.TestWith prefixes selectors count = operation.Test (width_of prefixes) (operand_in prefixes selectors) (register_in prefixes selectors)
+operation_of action.MultiplyBy prefixes selectors count = operation.Multiply (width_of prefixes) (register_in prefixes selectors) (operand_in prefixes selectors)
+operation_of (action.ShiftBy shift) prefixes selectors count = operation.Shift shift (width_of prefixes) (operand_in prefixes selectors) count
+operation_of (action.ShiftOnce shift) prefixes selectors count = operation.Shift shift (width_of prefixes) (operand_in prefixes selectors) 1
+operation_of action.CallTarget prefixes selectors count = operation.Call (Indirect (operand_in prefixes selectors))
+operation_of action.JumpTarget prefixes selectors count = operation.Jump (Indirect (operand_in prefixes selectors))
+operation_of action.Padding prefixes selectors count = operation.Nop (Some (operand_in prefixes selectors))
+
+-- an instruction with a ModRM byte, and an immediate of this size
+unfoldable pub operand_body : Action → Prefixes → Selectors → Size → Numbers → Body
+operand_body action prefixes selectors size numbers = record {
+  instr = record {
+    operation = operation_of action prefixes selectors (numbers.immediate % 256);
+    displacement = numbers.displacement;
+    immediate = if takes_immediate action then numbers.immediate else 0;
+  };
+  disp = place_of (displacement_size selectors) (count_of size);
+  imm = place_of size 0;
+}

@@ -1,0 +1,8 @@
+/// Why no instruction was read.
+#[derive(Clone, Copy, PartialEq, Eq, Debug)]
+pub(crate) enum Fault {
+    /// The bytes are too few: so many more at least complete an instruction.
+    Short(u8),
+    /// No instruction begins so.
+    Wrong,
+}

@@ -1,0 +1,166 @@
+use crate::operand::{Memory, Operand, Operands};
+use crate::register::Register;
+
+/// The width of an operation. The 32-bit one clears the upper half of a register that it writes.
+#[derive(Clone, Copy, PartialEq, Eq, Debug)]
+pub enum Width {
+    Long,
+    Quad,
+}
+
+#[derive(Clone, Copy, PartialEq, Eq, Debug)]
+pub enum Arithmetic {
+    Add,
+    Or,
+    And,
+    Sub,
+    Xor,
+    Compare,
+}
+
+#[derive(Clone, Copy, PartialEq, Eq, Debug)]
+pub enum Shift {
+    Left,
+    Right,
+    RightSigned,
+}
+
+/// When a conditional jump is taken, in the order of the encoding; the two parity conditions, 10 and
+/// 11, are left out.
+#[derive(Clone, Copy, PartialEq, Eq, Debug)]
+pub enum Condition {
+    Overflow,
+    NotOverflow,
+    Below,
+    NotBelow,
+    Equal,
+    NotEqual,
+    BelowOrEqual,
+    Above,
+    Sign,
+    NotSign,
+    Less,
+    NotLess,
+    LessOrEqual,
+    Greater,
+}
+
+/// Where a jump or a call goes.
+#[derive(Clone, Copy, PartialEq, Eq, Debug)]
+pub enum Target {
+    /// A distance from the place behind the instruction, sign-extended to 64 bits.
+    Relative(u64),
+    /// The place that the operand holds.
+    Indirect(Operand),
+}
+
+/// What an instruction does, but for its displacement and its immediate.
+#[derive(Clone, Copy, PartialEq, Eq, Debug)]
+pub enum Operation {
+    /// mov
+    Move {
+        width: Width,
+        operands: Operands,
+    },
+    /// mov of a register's low byte
+    StoreByte {
+        to: Memory,
+        from: Register,
+    },
+    /// movzx from 8 bits
+    ExtendByte {
+        width: Width,
+        to: Register,
+        from: Operand,
+    },
+    /// movslq
+    ExtendLong {
+        to: Register,
+        from: Operand,
+    },
+    /// lea
+    LoadAddress {
+        width: Width,
+        to: Register,
+        from: Memory,
+    },
+    /// add, or, and, sub, xor, cmp
+    Compute {
+        arithmetic: Arithmetic,
+        width: Width,
+        operands: Operands,
+    },
+    /// test
+    Test {
+        width: Width,
+        left: Operand,
+        right: Register,
+    },
+    /// imul
+    Multiply {
+        width: Width,
+        to: Register,
+        from: Operand,
+    },
+    /// shl, shr, sar, with the count as it is written
+    Shift {
+        shift: Shift,
+        width: Width,
+        to: Operand,
+        count: u8,
+    },
+    /// push, of 64 bits
+    Push {
+        from: Register,
+    },
+    /// pop, of 64 bits
+    Pop {
+        to: Register,
+    },
+    /// leave
+    Leave,
+    /// call
+    Call {
+        target: Target,
+    },
+    /// jmp
+    Jump {
+        target: Target,
+    },
+    /// jcc
+    JumpIf {
+        condition: Condition,
+        distance: u64,
+    },
+    /// ret
+    Return,
+    /// nop and endbr64: no access, and no use of the operand's registers
+    Nop {
+        operand: Option<Operand>,
+    },
+    /// ud2
+    Undefined,
+}
+
+/// An instruction. `displacement` and `immediate` are sign-extended to 64 bits, and 0 where it has
+/// none. They stand beside the operation so that two readings that differ only in such a field have
+/// equal operations.
+#[derive(Clone, Copy, PartialEq, Eq, Debug)]
+pub struct Instr {
+    pub operation: Operation,
+    pub displacement: u64,
+    pub immediate: u64,
+}
+
+/// An instruction that was read, and where its parts lie in its bytes.
+#[derive(Clone, Copy, PartialEq, Eq, Debug)]
+pub struct Decoded {
+    pub instr: Instr,
+    /// How many bytes it has, from 1 to 15.
+    pub len: u8,
+    /// Where the four-byte displacement of a memory operand begins, one from the next instruction
+    /// too. `None` exactly where it has none; the distance of a jump or a call is no displacement.
+    pub disp: Option<u8>,
+    /// Where the four-byte immediate begins. `None` exactly where it has none.
+    pub imm: Option<u8>,
+}

@@ -1,0 +1,54 @@
+use crate::register::Register;
+
+/// What an address starts from.
+#[derive(Clone, Copy, PartialEq, Eq, Debug)]
+pub enum Base {
+    /// No register: 0.
+    Absolute,
+    /// A general register.
+    Register(Register),
+    /// The place behind the instruction, in %rip. There is no index then.
+    NextInstruction,
+}
+
+/// What an index is multiplied by.
+#[derive(Clone, Copy, PartialEq, Eq, Debug)]
+pub enum Scale {
+    One,
+    Two,
+    Four,
+    Eight,
+}
+
+/// A second register of an address, and its factor. It is never %rsp.
+#[derive(Clone, Copy, PartialEq, Eq, Debug)]
+pub struct Index {
+    pub register: Register,
+    pub scale: Scale,
+}
+
+/// A memory operand: base plus index plus the instruction's displacement, modulo 2^64.
+#[derive(Clone, Copy, PartialEq, Eq, Debug)]
+pub struct Memory {
+    /// The FS prefix: the thread pointer is added.
+    pub from_thread_pointer: bool,
+    pub base: Base,
+    pub index: Option<Index>,
+}
+
+/// A register or a place in memory.
+#[derive(Clone, Copy, PartialEq, Eq, Debug)]
+pub enum Operand {
+    Register(Register),
+    InMemory(Memory),
+}
+
+/// Where an instruction of two operands reads and writes. A register to a register has one value,
+/// whichever of two opcodes spelled it.
+#[derive(Clone, Copy, PartialEq, Eq, Debug)]
+pub enum Operands {
+    IntoRegister { to: Register, from: Operand },
+    IntoMemory { to: Memory, from: Register },
+    /// The number is the instruction's immediate.
+    Immediate { to: Operand },
+}

@@ -1,0 +1,206 @@
+ghost use Rattle.std.specs.Prelude.{◌≡◌, ◌≤◌};
+ghost use Rattle.amd64_subset.specs.Selectors.{has_sib, least_displacement, byte_register, allowed, displacement_size, register_in, rip_or_base, absolute_or_base, index_of, memory_in, operand_in, sib_at, selectors_at};
+ghost use Rattle.amd64_subset.specs.Reading.{Gives};
+
+use crate::fault::Fault;
+use crate::operand::{Base, Index, Memory, Operand, Scale};
+use crate::prefix::Prefixes;
+use crate::register::Register;
+use crate::row::{Action, Row};
+use crate::size::Size;
+
+/// The bytes that select an instruction's operands: ModRM, with a mode in its upper two bits, a
+/// register or more of the opcode in the next three, a register or how memory is addressed in the
+/// last three; and SIB, where ModRM asks for one, with a scale, an index and a base.
+#[derive(Clone, Copy)]
+pub(crate) struct Selectors {
+    pub modrm: u8,
+    pub sib: Option<u8>,
+}
+
+/// A SIB byte follows: the operand lies in memory, and in place of a base stands 100.
+fn has_sib(modrm: u8) -> bool
+    ensures { result ≡ has_sib modrm }
+{
+    modrm / 64 != 3 && modrm % 8 == 4
+}
+
+/// How many bytes of displacement follow at least.
+fn least_displacement(modrm: u8) -> u8
+    ensures value { result ≡ least_displacement modrm }
+    ensures bound { result ≤ 4 }
+{
+    match modrm / 64 {
+        1 => 1,
+        2 => 4,
+        _ => 0,
+    }
+}
+
+/// The low byte of a register with these three bits is an operand: without REX, 4 to 7 would be %ah to %bh.
+fn byte_register(prefixes: Prefixes, low: u8) -> bool
+    ensures { result ≡ byte_register prefixes low }
+{
+    low < 4 || prefixes.rex.is_some()
+}
+
+/// The action may have these operands.
+#[tactic(auto, unfolding(crate::specs::Selectors::allowed))]
+fn allowed(action: Action, prefixes: Prefixes, modrm: u8) -> bool
+    ensures { result ≡ allowed action prefixes modrm }
+{
+    if modrm / 64 == 3 {
+        !prefixes.thread_pointer
+            && match action {
+                Action::StoreByte | Action::LoadAddress => false,
+                Action::ExtendByte => byte_register(prefixes, modrm % 8),
+                _ => true,
+            }
+    } else {
+        match action {
+            Action::StoreByte => byte_register(prefixes, modrm / 8 % 8),
+            _ => true,
+        }
+    }
+}
+
+impl Selectors {
+    /// How many bytes of displacement follow.
+    #[tactic(auto, unfolding(crate::specs::Selectors::displacement_size))]
+    pub(crate) fn displacement_size(self) -> Size
+        ensures { result ≡ displacement_size self }
+    {
+        match self.modrm / 64 {
+            1 => Size::One,
+            2 => Size::Four,
+            3 => Size::Zero,
+            _ => {
+                if self.sib.unwrap_or(self.modrm) % 8 == 5 {
+                    Size::Four
+                } else {
+                    Size::Zero
+                }
+            }
+        }
+    }
+
+    /// The register in ModRM's reg field.
+    pub(crate) fn register(self, prefixes: Prefixes) -> Register
+        ensures { result ≡ register_in prefixes self }
+    {
+        Register::extended(self.modrm / 8 % 8, prefixes.bits().register)
+    }
+
+    /// The memory operand that modes 0 to 2 name.
+    #[tactic(auto, unfolding(crate::specs::Selectors::memory_in))]
+    pub(crate) fn memory(self, prefixes: Prefixes) -> Memory
+        ensures { result ≡ memory_in prefixes self }
+    {
+        let rex = prefixes.bits();
+        let (base, index) = match self.sib {
+            None => (rip_or_base(self.modrm, rex.base), None),
+            Some(sib) => (
+                absolute_or_base(self.modrm, sib, rex.base),
+                index(sib, rex.index),
+            ),
+        };
+        Memory {
+            from_thread_pointer: prefixes.thread_pointer,
+            base,
+            index,
+        }
+    }
+
+    /// The register or the memory operand that ModRM's rm field names.
+    pub(crate) fn operand(self, prefixes: Prefixes) -> Operand
+        ensures { result ≡ operand_in prefixes self }
+    {
+        if self.modrm / 64 == 3 {
+            Operand::Register(Register::extended(self.modrm % 8, prefixes.bits().base))
+        } else {
+            Operand::InMemory(self.memory(prefixes))
+        }
+    }
+}
+
+/// The base without a SIB byte.
+fn rip_or_base(modrm: u8, high: bool) -> Base
+    ensures { result ≡ rip_or_base modrm high }
+{
+    if modrm / 64 == 0 && modrm % 8 == 5 {
+        Base::NextInstruction
+    } else {
+        Base::Register(Register::extended(modrm % 8, high))
+    }
+}
+
+/// The base in a SIB byte.
+fn absolute_or_base(modrm: u8, sib: u8, high: bool) -> Base
+    ensures { result ≡ absolute_or_base modrm sib high }
+{
+    if modrm / 64 == 0 && sib % 8 == 5 {
+        Base::Absolute
+    } else {
+        Base::Register(Register::extended(sib % 8, high))
+    }
+}
+
+/// The index in a SIB byte; 100 without REX.X is none.
+fn index(sib: u8, high: bool) -> Option<Index>
+    ensures { result ≡ index_of sib high }
+{
+    if sib / 8 % 8 == 4 && !high {
+        return None;
+    }
+    let scale = match sib / 64 {
+        0 => Scale::One,
+        1 => Scale::Two,
+        2 => Scale::Four,
+        _ => Scale::Eight,
+    };
+    Some(Index {
+        register: Register::extended(sib / 8 % 8, high),
+        scale,
+    })
+}
+
+/// Reads a SIB byte, if ModRM asks for one. `behind` bytes follow at least, besides a displacement.
+#[tactic(auto, unfolding(crate::specs::Selectors::sib_at))]
+fn read_sib(modrm: u8, behind: Size, bytes: &[u8]) -> Result<(Option<u8>, &[u8]), Fault>
+    ensures { Gives (λ x. (x.0, x.1.now)) result (sib_at modrm behind bytes.now) }
+{
+    if !has_sib(modrm) {
+        return Ok((None, bytes));
+    }
+    match bytes {
+        [] => Err(Fault::Short(1 + least_displacement(modrm) + behind.count())),
+        [sib, rest @ ..] => Ok((Some(*sib), rest)),
+    }
+}
+
+/// Reads ModRM, whose reg field may complete the opcode, and SIB. A byte that no instruction has
+/// here is refused at once.
+#[tactic(auto, unfolding(crate::specs::Selectors::selectors_at))]
+pub(crate) fn read_selectors(
+    prefixes: Prefixes,
+    row: Row,
+    behind: Size,
+    bytes: &[u8],
+) -> Result<((Action, Selectors), &[u8]), Fault>
+    ensures { Gives (λ x. (x.0, x.1.now)) result (selectors_at prefixes row behind bytes.now) }
+{
+    match bytes {
+        [] => Err(Fault::Short(1 + behind.count())),
+        [modrm, rest @ ..] => {
+            let modrm = *modrm;
+            let Some(action) = row.action(modrm / 8 % 8) else {
+                return Err(Fault::Wrong);
+            };
+            if !allowed(action, prefixes, modrm) {
+                return Err(Fault::Wrong);
+            }
+            let (sib, rest) = read_sib(modrm, behind, rest)?;
+            Ok(((action, Selectors { modrm, sib }), rest))
+        }
+    }
+}
