@@ -1,0 +1,13 @@
+pub mod Access
+pub mod Cause
+pub mod Decoding
+pub mod Machine
+pub mod Operand
+pub mod Plain
+pub mod PlainLaws
+pub mod Ranges
+pub mod Run
+pub mod State
+pub mod Step
+pub mod Use
+pub mod Values

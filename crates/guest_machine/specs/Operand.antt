@@ -1,0 +1,93 @@
+-- What operands are: addresses, and words that are carried whole or in part.
+use Rattle.std.specs.Prelude.{ℕ, zero, ◌*◌, ◌%◌, ◌^◌, Result, Ok, Err, Option, Some, None, if◌then◌else◌}
+use Rattle.amd64_subset.specs.declared.register.Register.{Register}
+use Rattle.amd64_subset.specs.declared.instr.Width.{Width}
+use Rattle.amd64_subset.specs.declared.instr.Width.TheVariants.{Long, Quad}
+use Rattle.amd64_subset.specs.declared.operand.Base as base
+use Rattle.amd64_subset.specs.declared.operand.Base.{Base}
+use Rattle.amd64_subset.specs.declared.operand.Base.TheVariants.{Absolute, NextInstruction, Register as OfRegister}
+use Rattle.amd64_subset.specs.declared.operand.Scale.{Scale}
+use Rattle.amd64_subset.specs.declared.operand.Scale.TheVariants.{One, Two, Four, Eight}
+use Rattle.amd64_subset.specs.declared.operand.Index.{Index}
+use Rattle.amd64_subset.specs.declared.operand.Memory.{Memory}
+use Rattle.amd64_subset.specs.declared.operand.Operand.{Operand}
+use Rattle.amd64_subset.specs.declared.operand.Operand.TheVariants.{InMemory, Register as InRegister}
+use Rattle.guest_machine.specs.declared.cause.Cause.{Cause}
+use Rattle.guest_machine.specs.declared.cause.Cause.TheVariants.{Field}
+use Rattle.guest_machine.specs.declared.stop.Stop.{Stop}
+use Rattle.guest_machine.specs.declared.state.Registers.{Registers}
+use Rattle.guest_machine.specs.declared.state.State.{State}
+use Rattle.guest_machine.specs.declared.frame.Frame.{Frame}
+use Rattle.guest_machine.specs.Values.{Operations}
+use Rattle.guest_machine.specs.Access.{Accesses, load_of}
+use Rattle.guest_machine.specs.State.{register_of}
+use Rattle.guest_machine.specs.Use.{◌>>=◌, plus, both, clean, there}
+
+abbrev pub factor_of : Scale → ℕ
+factor_of One = 1
+factor_of Two = 2
+factor_of Four = 4
+factor_of Eight = 8
+
+-- how many bytes an operand of this width has
+abbrev pub size_of : Width → ℕ
+size_of Long = 4
+size_of Quad = 8
+
+-- a use, and what follows from the number
+abbrev pub used : {A B : Type 0} → (A → B) → Result A Cause → Result B Cause
+used f (Ok x) = Ok (f x)
+used f (Err cause) = Err cause
+
+-- where an offset field stands, anything but the one allowed use is a misuse of the field
+abbrev pub charged : {A : Type 0} → Option ℕ → Result A Cause → Result A Cause
+charged None result = result
+charged (Some at) (Ok x) = Ok x
+charged (Some at) (Err cause) = Err Field
+
+-- carried as the number that f makes of it: of a word that is no number nothing is known then
+abbrev pub carried_as : {W F B : Type 0} → Operations W F B → (ℕ → ℕ) → Result ℕ Cause → W
+carried_as ops f (Ok number) = ops.word (f number)
+carried_as ops f (Err cause) = ops.unknown
+
+module _ {W F B : Type 0} (ops : Operations W F B) where
+  -- a base register and the displacement, which may be an offset field at a place
+  unfoldable pub base_of : Frame → Registers W → Base → Result ℕ Cause
+  base_of frame registers base = based frame.displacement_field base
+    where
+    based : Option ℕ → Base → Result ℕ Cause
+    based None Absolute = Ok frame.displacement
+    based None (OfRegister register) = used (λ number. plus number frame.displacement) (ops.number_of (register_of registers register))
+    based None NextInstruction = Ok (plus frame.next frame.displacement)
+    based (Some at) (OfRegister register) = ops.moved (register_of registers register) frame.displacement at
+    based (Some at) Absolute = Err Field
+    based (Some at) NextInstruction = Err Field
+
+  -- an index register times its factor
+  unfoldable pub index_of : Registers W → Option Index → Result ℕ Cause
+  index_of registers None = Ok 0
+  index_of registers (Some index) = used (λ number. number * factor_of index.scale % 2 ^ 64) (ops.number_of (register_of registers index.register))
+
+  -- where a memory operand lies (Intel's manual, volume 1, section 3.7.5): the uses of its registers come with it
+  unfoldable pub address_of : Frame → State W F → Memory → Result ℕ Cause
+  address_of frame state memory =
+      let segment = if memory.from_thread_pointer then state.thread_pointer else 0 in
+      used (λ parts. plus (plus parts.0 parts.1) segment) (charged frame.displacement_field
+      (both (base_of frame state.registers memory.base) (index_of state.registers memory.index)))
+
+  -- a register's word as it is carried at a width
+  unfoldable pub kept : Width → W → W
+  kept Quad word = word
+  kept Long word = carried_as ops (λ number. number % 2 ^ 32) (ops.number_of word)
+
+  -- a register's lowest byte as it is carried
+  unfoldable pub kept_byte : W → W
+  kept_byte word = carried_as ops (λ number. number % 256) (ops.number_of word)
+
+module _ {W F B M : Type 0} (ops : Operations W F B) (acc : Accesses M B) where
+  -- what an operand holds, to be carried
+  unfoldable pub carried : Width → Frame → State W F → M → Operand → Result W Stop
+  carried width frame state memory (InRegister register) = Ok (kept ops width (register_of state.registers register))
+  carried width frame state memory (InMemory operand) = do
+    place ← clean state.place (address_of ops frame state operand)
+    there state.place (load_of ops acc memory place (size_of width))

@@ -1,0 +1,18 @@
+-- Plain numbers: a word is a number below 2^64, a flag a truth value, a byte a number below 256.
+use Rattle.std.specs.Prelude.{◌≡◌, ℕ, ◌+◌, ◌*◌, ◌/◌, ◌%◌, ◌^◌, ◌<◌, ◌≤◌, Bool, List, [], ◌∷◌, length, map, Option, Some, Result, Ok, refl}
+use Rattle.guest_machine.specs.Values.{Operations, IsLawful, number_from, digit}
+
+unfoldable pub plain_operations : Operations ℕ Bool ℕ
+plain_operations = record {
+  word = λ number. number % 2 ^ 64;
+  number_of = λ word. Ok word;
+  unknown = 0;
+  flag = λ truth. truth;
+  truth_of = λ flag. Ok flag;
+  unsettled = λ flag. flag;
+  moved = λ word field place. Ok ((word + field) % 2 ^ 64);
+  byte = λ number. number;
+  code = λ byte. Some byte;
+  joined = λ bytes. number_from bytes % 2 ^ 64;
+  byte_of = λ word k. digit word k
+  }

@@ -1,0 +1,89 @@
+-- Runs, counted down: of any steps, and of the machine.
+use Rattle.std.specs.Prelude.{ℕ, zero, suc, ◌≡◌, ◌+◌, ◌-◌, ◌||◌, ◌==◌, Bool, Result, Ok, Err, Option, Some, None, if◌then◌else◌}
+use Rattle.guest_machine.specs.declared.cause.Cause.{Cause}
+use Rattle.guest_machine.specs.declared.cause.Cause.TheVariants.{Answer}
+use Rattle.guest_machine.specs.declared.stop.Stop.{Stop}
+use Rattle.guest_machine.specs.declared.stop.Stop.TheVariants.{Returned, Look, Unclean, Steps}
+use Rattle.guest_machine.specs.declared.state.State.{State}
+use Rattle.guest_machine.specs.Values.{Operations}
+use Rattle.guest_machine.specs.Access.{Accesses}
+use Rattle.guest_machine.specs.Use.{After, left}
+use Rattle.guest_machine.specs.Ranges.{AddressSpace, range_accesses, is_field_of}
+use Rattle.guest_machine.specs.Machine.{Standing}
+use Rattle.guest_machine.specs.Step.{step_of}
+
+-- what a step comes to: the next state, a stop, or a look, from which another goes on
+pub data Next (S : Type 0) : Type 0 where
+  Goes : S → Next S
+  Ends : Stop → Next S
+  Looks : S → Next S
+
+-- what a run comes to, with the number of steps that are left: a stop, or a look whose own step is still to be paid
+pub data Outcome (S : Type 0) : Type 0 where
+  Ended : Stop → ℕ → S → Outcome S
+  Waits : ℕ → S → Outcome S
+
+pub record Stepping (S : Type 0) : Type 0 where
+  -- where a run is over, and how
+  pub over : S → Option Stop
+  pub step : S → Next S
+  -- the stop where no step is left
+  pub spent : S → Stop
+
+abbrev pub over_or : {S : Type 0} → ℕ → S → Option Stop → Outcome S → Outcome S
+over_or n s (Some stop) rest = Ended stop n s
+over_or n s None rest = rest
+
+abbrev pub go_on : {S : Type 0} → ℕ → S → (S → Outcome S) → Next S → Outcome S
+go_on n s run (Goes t) = run t
+go_on n s run (Ends stop) = Ended stop n s
+go_on n s run (Looks t) = Waits n t
+
+-- a run of at most so many steps
+abbrev pub run : {S : Type 0} → Stepping S → ℕ → S → Outcome S
+run x zero s = over_or zero s (x.over s) (Ended (x.spent s) zero s)
+run x (suc n) s = over_or (suc n) s (x.over s) (go_on (suc n) s (run x n) (x.step s))
+
+abbrev pub next_of : {W F M : Type 0} → Result (After W F M) Stop → Next (After W F M)
+next_of (Ok after) = Goes after
+next_of (Err stop) = Ends stop
+
+-- %rax as what a call returned
+abbrev pub returned : Result ℕ Cause → ℕ → Stop
+returned (Ok number) place = Returned number
+returned (Err cause) place = Unclean place Answer
+
+-- where another has to answer: the calls of `__tls_get_addr` and of a descriptor
+abbrev pub is_look : ℕ → Bool
+is_look place = (place == 0x1000) || (place == 0x1800)
+
+module _ {W F B M : Type 0} (ops : Operations W F B) (acc : Accesses M B) (is_field : M → ℕ → Bool) where
+  -- the machine: 0x2000 ends a call
+  unfoldable pub machine : Stepping (After W F M)
+  machine = record {
+    over = λ at. if at.state.place == 0x2000 then Some (returned (ops.number_of at.state.registers.rax) at.state.place) else None;
+    step = λ at. if is_look at.state.place then Looks at else next_of (step_of ops acc (is_field at.memory) at.state at.memory);
+    spent = λ at. Steps at.state.place
+    }
+
+abbrev pub stop_of : {W F M : Type 0} → Outcome (After W F M) → Stop
+stop_of (Ended stop n at) = stop
+stop_of (Waits n at) = Look at.state.place
+
+abbrev pub steps_left : {S : Type 0} → Outcome S → ℕ
+steps_left (Ended stop n at) = n
+steps_left (Waits n at) = n
+
+abbrev pub state_after : {S : Type 0} → Outcome S → S
+state_after (Ended stop n at) = at
+state_after (Waits n at) = at
+
+-- the machine over a memory of ranges
+abbrev pub machine_of : {W F B : Type 0} → Operations W F B → Stepping (After W F (AddressSpace B))
+machine_of ops = machine ops (range_accesses ops) is_field_of
+
+-- a run up to its limit: how it stopped, what it left, and how many steps it took
+pub record Runs {W F B : Type 0} (ops : Operations W F B) (limit : ℕ) (result : Stop) (old : Standing W F) (memory : AddressSpace B) (new : Standing W F) (memory' : AddressSpace B) : Type 0 where
+  pub stop : result ≡ stop_of (run (machine_of ops) (limit - old.taken) (left old.state memory))
+  pub after : left new.state memory' ≡ state_after (run (machine_of ops) (limit - old.taken) (left old.state memory))
+  pub steps : new.taken + steps_left (run (machine_of ops) (limit - old.taken) (left old.state memory)) ≡ old.taken + (limit - old.taken)

@@ -1,0 +1,45 @@
+ghost use Rattle.std.specs.Prelude.{◌≡◌};
+ghost use Rattle.guest_machine.specs.Ranges.{is_field_of};
+ghost use Rattle.guest_machine.specs.Step.{frame_of, field_at};
+
+use crate::space::Space;
+use crate::values::Values;
+use amd64_subset::Decoded;
+
+/// What stands around an instruction's operation.
+#[derive(Clone, Copy, Debug)]
+pub struct Frame {
+    /// Where the next instruction begins.
+    pub next: u64,
+    pub displacement: u64,
+    pub immediate: u64,
+    /// The displacement's place, where it is an offset field.
+    pub displacement_field: Option<u64>,
+    /// The immediate's place, where it is an offset field.
+    pub immediate_field: Option<u64>,
+}
+
+/// The place of a part of an instruction, where it is an offset field.
+fn field<V: Values, S: Space<V>>(space: &S, here: u64, within: Option<u8>) -> Option<u64>
+    ensures { result ≡ field_at (is_field_of (S.memory space.now)) here within }
+{
+    let within = within?;
+    let place = here.wrapping_add(u64::from(within));
+    if space.is_field(place) {
+        return Some(place);
+    }
+    None
+}
+
+#[tactic(auto, unfolding(crate::specs::Step::frame_of))]
+pub(crate) fn frame_at<V: Values, S: Space<V>>(space: &S, here: u64, decoded: &Decoded) -> Frame
+    ensures { result ≡ frame_of (is_field_of (S.memory space.now)) here decoded.now }
+{
+    Frame {
+        next: here.wrapping_add(u64::from(decoded.len)),
+        displacement: decoded.instr.displacement,
+        immediate: decoded.instr.immediate,
+        displacement_field: field::<V, S>(space, here, decoded.disp),
+        immediate_field: field::<V, S>(space, here, decoded.imm),
+    }
+}

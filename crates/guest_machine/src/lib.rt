@@ -1,0 +1,27 @@
+//! A small x86-64 machine.
+#![tactic(auto)]
+
+mod cause;
+mod decoding;
+mod frame;
+mod machine;
+mod moves;
+mod operand;
+mod plain;
+mod run;
+mod space;
+mod stack;
+mod state;
+mod step;
+mod stop;
+mod uses;
+mod values;
+
+pub use cause::Cause;
+pub use machine::Machine;
+pub use plain::Plain;
+pub use run::{DESCRIPTOR, GET_ADDRESS, RETURN};
+pub use space::{Access, Space};
+pub use state::{Flags, Registers, State};
+pub use stop::Stop;
+pub use values::Values;

@@ -1,0 +1,122 @@
+ghost use Rattle.std.specs.Prelude.{◌≡◌, ◌-◌, ◌^◌, ◌<◌};
+ghost use Rattle.amd64_subset.specs.Register.{register_of};
+ghost use Rattle.guest_machine.specs.Machine.{Answers, answer_of};
+ghost use Rattle.guest_machine.specs.Ranges.{range_accesses};
+ghost use Rattle.guest_machine.specs.Run.{Runs};
+ghost use Rattle.guest_machine.specs.State.{start_of, with_register};
+ghost use Rattle.guest_machine.specs.State as state;
+
+use crate::run::run;
+use crate::space::Space;
+use crate::stack::return_from;
+use crate::state::{Flags, State, register, set_register, start};
+use crate::stop::Stop;
+use crate::values::Values;
+use amd64_subset::Register;
+use std::marker::Model;
+
+/// A machine and the number of steps that it took.
+#[derive(Drop)]
+pub struct Machine<V: Values> {
+    state: State<V::Word, V::Flag>,
+    taken: u64,
+}
+
+impl<V: Values> Model for Machine<V> {
+    ghost use Rattle.guest_machine.specs.Machine.{Standing};
+
+    ghost Value = { Standing V.Word V.Flag };
+
+    ghost view = { λ machine. record { state = machine.state; taken = machine.taken } };
+}
+
+impl<V: Values> Machine<V> {
+    /// A machine before a call: %rdi, %rsi and %rdx hold `a`, `b` and `c`, %rsp holds `stack`, and
+    /// all else is 0, the thread pointer too.
+    pub fn start(place: u64, stack: u64, a: V::Word, b: V::Word, c: V::Word) -> Machine<V>
+        ensures { result ≡ record { state = start_of V.operations place stack a b c; taken = 0 } }
+    {
+        Machine {
+            state: start::<V>(place, stack, a, b, c),
+            taken: 0,
+        }
+    }
+
+    /// The number of steps since `start`.
+    pub fn taken(&self) -> u64
+        ensures { result ≡ self.now.taken }
+    {
+        self.taken
+    }
+
+    /// Runs up to a stop. At 0x2000 the call is over; else the limit is asked, then whether another
+    /// has to answer; then one step is made, and so on.
+    pub fn run<S: Space<V>>(&mut self, space: &mut S, limit: u64) -> Stop
+        ensures { Runs V.operations limit result self.old (S.memory space.old) self.new (S.memory space.new) }
+    {
+        run::<V, S>(&mut self.state, &mut self.taken, space, limit)
+    }
+
+    /// What the register of this number holds.
+    pub fn register(&self, number: u8) -> V::Word
+        requires { number < 16 }
+        ensures { result ≡ state.register_of self.now.state.registers (register_of number) }
+    {
+        register(&self.state.registers, Register::numbered(number))
+    }
+
+    /// Puts a word into the register of this number.
+    pub fn set_register(&mut self, number: u8, word: V::Word)
+        requires { number < 16 }
+        ensures { self.new ≡ record self.old { state = record self.old.state { registers = with_register self.old.state.registers (register_of number) word } } }
+    {
+        set_register(&mut self.state.registers, Register::numbered(number), word);
+    }
+
+    pub fn set_flags(&mut self, zf: V::Flag, sf: V::Flag, cf: V::Flag, of: V::Flag)
+        ensures { self.new ≡ record self.old { state = record self.old.state { flags = record { zero = zf; sign = sf; carry = cf; overflow = of } } } }
+    {
+        self.state.flags = Flags {
+            zero: zf,
+            sign: sf,
+            carry: cf,
+            overflow: of,
+        };
+    }
+
+    /// Where the next instruction begins.
+    pub fn place(&self) -> u64
+        ensures { result ≡ self.now.state.place }
+    {
+        self.state.place
+    }
+
+    pub fn set_place(&mut self, place: u64)
+        ensures { self.new ≡ record self.old { state = record self.old.state { place = place } } }
+    {
+        self.state.place = place;
+    }
+
+    /// Sets what the FS prefix adds to an address.
+    pub fn set_thread_pointer(&mut self, thread_pointer: u64)
+        ensures { self.new ≡ record self.old { state = record self.old.state { thread_pointer = thread_pointer } } }
+    {
+        self.state.thread_pointer = thread_pointer;
+    }
+
+    /// Answers for another in one step: the word goes into %rax, and the return address is popped.
+    /// Answers false where it cannot be, and then nothing has changed.
+    pub fn answer<S: Space<V>>(&mut self, space: &mut S, word: V::Word) -> bool
+        requires { self.old.taken < 2 ^ 64 - 1 }
+        ensures { Answers result self.old (S.memory space.old) self.new (S.memory space.new) (answer_of V.operations (range_accesses V.operations) word self.old.state (S.memory space.old)) }
+    {
+        let mut state = self.state;
+        state.registers.rax = word;
+        if return_from::<V, S>(&mut state, space).is_err() {
+            return false;
+        }
+        self.state = state;
+        self.taken += 1;
+        true
+    }
+}

@@ -1,0 +1,154 @@
+ghost use Rattle.std.specs.Prelude.{◌≡◌, ◌<◌, ◌%◌, if◌then◌else◌};
+ghost use Rattle.guest_machine.specs.Operand.{factor_of, size_of, charged, base_of, index_of, address_of, kept, kept_byte, carried_as, carried};
+ghost use Rattle.guest_machine.specs.Ranges.{range_accesses};
+
+use crate::cause::Cause;
+use crate::frame::Frame;
+use crate::space::Space;
+use crate::state::{Registers, State, register};
+use crate::stop::Stop;
+use crate::uses::{both, load, used};
+use crate::values::Values;
+use amd64_subset::{Base, Index, Memory, Operand, Scale, Width};
+
+fn factor(scale: Scale) -> u64
+    ensures { result ≡ factor_of scale }
+{
+    match scale {
+        Scale::One => 1,
+        Scale::Two => 2,
+        Scale::Four => 4,
+        Scale::Eight => 8,
+    }
+}
+
+/// How many bytes an operand of the width has.
+pub(crate) fn size(width: Width) -> u8
+    ensures { result ≡ size_of width }
+{
+    match width {
+        Width::Long => 4,
+        Width::Quad => 8,
+    }
+}
+
+/// Where an offset field stands, any other cause is a misuse of the field.
+fn charged<A: Copy>(field: Option<u64>, answer: Result<A, Cause>) -> Result<A, Cause>
+    ensures { result ≡ charged field answer }
+{
+    match (field, answer) {
+        (Some(_), Err(_)) => Err(Cause::Field),
+        (_, answer) => answer,
+    }
+}
+
+/// The base of an address with the displacement.
+#[tactic(auto, unfolding(crate::specs::Operand::base_of))]
+fn base<V: Values>(
+    frame: &Frame,
+    registers: &Registers<V::Word>,
+    base: Base,
+) -> Result<u64, Cause>
+    ensures { result ≡ base_of V.operations frame.now registers.now base }
+{
+    match (frame.displacement_field, base) {
+        (None, Base::Absolute) => Ok(frame.displacement),
+        (None, Base::Register(name)) => {
+            let number = V::number_of(register(registers, name))?;
+            Ok(number.wrapping_add(frame.displacement))
+        }
+        (None, Base::NextInstruction) => Ok(frame.next.wrapping_add(frame.displacement)),
+        (Some(place), Base::Register(name)) => {
+            V::moved(register(registers, name), frame.displacement, place)
+        }
+        (Some(_), Base::Absolute) => Err(Cause::Field),
+        (Some(_), Base::NextInstruction) => Err(Cause::Field),
+    }
+}
+
+/// The index of an address, times its factor.
+#[tactic(auto, unfolding(crate::specs::Operand::index_of))]
+fn index<V: Values>(registers: &Registers<V::Word>, index: Option<Index>) -> Result<u64, Cause>
+    ensures { result ≡ index_of V.operations registers.now index }
+{
+    match index {
+        None => Ok(0),
+        Some(index) => {
+            let number = V::number_of(register(registers, index.register))?;
+            Ok(number.wrapping_mul(factor(index.scale)))
+        }
+    }
+}
+
+/// Where a memory operand lies.
+#[tactic(auto, unfolding(crate::specs::Operand::address_of))]
+pub(crate) fn address<V: Values>(
+    frame: &Frame,
+    state: &State<V::Word, V::Flag>,
+    memory: &Memory,
+) -> Result<u64, Cause>
+    ensures { result ≡ address_of V.operations frame.now state.now memory.now }
+{
+    let base = base::<V>(frame, &state.registers, memory.base);
+    let index = index::<V>(&state.registers, memory.index);
+    let segment = segment(memory.from_thread_pointer, state.thread_pointer);
+    let (base, index) = charged(frame.displacement_field, both(base, index))?;
+    Ok(base.wrapping_add(index).wrapping_add(segment))
+}
+
+/// What the FS prefix adds.
+fn segment(is_prefixed: bool, thread_pointer: u64) -> u64
+    ensures { result ≡ (if is_prefixed then thread_pointer else 0) }
+{
+    if is_prefixed { thread_pointer } else { 0 }
+}
+
+/// A register's word as it is carried at a width.
+#[tactic(auto, unfolding(crate::specs::Operand::kept))]
+pub(crate) fn kept<V: Values>(width: Width, word: V::Word) -> V::Word
+    ensures { result ≡ kept V.operations width word }
+{
+    match width {
+        Width::Quad => word,
+        Width::Long => low::<V>(word, 1 << 32),
+    }
+}
+
+/// A word modulo a number, or nothing known of it where it is no number.
+fn low<V: Values>(word: V::Word, modulus: u64) -> V::Word
+    requires { 0 < modulus }
+    ensures { result ≡ carried_as V.operations (λ number. number % modulus) (V.operations.number_of word) }
+{
+    match V::number_of(word) {
+        Ok(number) => V::word(number % modulus),
+        Err(_) => V::unknown(),
+    }
+}
+
+/// A word's lowest byte as it is carried.
+#[tactic(auto, unfolding(crate::specs::Operand::kept_byte))]
+pub(crate) fn kept_byte<V: Values>(word: V::Word) -> V::Word
+    ensures { result ≡ kept_byte V.operations word }
+{
+    low::<V>(word, 256)
+}
+
+/// What an operand holds, to be carried.
+#[tactic(auto, unfolding(crate::specs::Operand::carried))]
+pub(crate) fn carried<V: Values, S: Space<V>>(
+    width: Width,
+    frame: &Frame,
+    state: &State<V::Word, V::Flag>,
+    space: &S,
+    operand: &Operand,
+) -> Result<V::Word, Stop>
+    ensures { result ≡ carried V.operations (range_accesses V.operations) width frame.now state.now (S.memory space.now) operand.now }
+{
+    match operand {
+        Operand::Register(name) => Ok(kept::<V>(width, register(&state.registers, *name))),
+        Operand::InMemory(memory) => {
+            let place = used(state.place, address::<V>(frame, state, memory))?;
+            load::<V, S>(space, state.place, place, size(width))
+        }
+    }
+}

@@ -1,0 +1,61 @@
+ghost use Rattle.std.specs.Prelude.{◌≡◌};
+ghost use Rattle.guest_machine.specs.Run.{Runs, returned, is_look};
+
+use crate::cause::Cause;
+use crate::space::Space;
+use crate::state::State;
+use crate::step::step;
+use crate::stop::Stop;
+use crate::values::Values;
+
+/// Where a call returns to.
+pub const RETURN: u64 = 0x2000;
+
+/// Where `__tls_get_addr` is called.
+pub const GET_ADDRESS: u64 = 0x1000;
+
+/// Where the function of a TLS descriptor is called.
+pub const DESCRIPTOR: u64 = 0x1800;
+
+/// What a call returned, from %rax.
+fn returned(answer: Result<u64, Cause>, place: u64) -> Stop
+    ensures { result ≡ returned answer place }
+{
+    match answer {
+        Ok(number) => Stop::Returned(number),
+        Err(_) => Stop::Unclean(place, Cause::Answer),
+    }
+}
+
+/// Whether another has to answer at the place.
+fn is_look(place: u64) -> bool
+    ensures { result ≡ is_look place }
+{
+    place == GET_ADDRESS || place == DESCRIPTOR
+}
+
+/// Steps up to a stop, and counts them.
+pub(crate) fn run<V: Values, S: Space<V>>(
+    state: &mut State<V::Word, V::Flag>,
+    taken: &mut u64,
+    space: &mut S,
+    limit: u64,
+) -> Stop
+    ensures { Runs V.operations limit result (record { state = state.old; taken = taken.old }) (S.memory space.old) (record { state = state.new; taken = taken.new }) (S.memory space.new) }
+{
+    loop {
+        if state.place == RETURN {
+            return returned(V::number_of(state.registers.rax), state.place);
+        }
+        if *taken >= limit {
+            return Stop::Steps(state.place);
+        }
+        if is_look(state.place) {
+            return Stop::Look(state.place);
+        }
+        if let Err(stop) = step::<V, S>(state, space) {
+            return stop;
+        }
+        *taken += 1;
+    }
+}

@@ -1,0 +1,129 @@
+ghost use Rattle.std.specs.Prelude.{◌≡◌, [], ◌∷◌, ◌++◌, OnOk, OnErr, ◌==◌};
+ghost use Rattle.std.specs.List.{list_any};
+ghost use Rattle.guest_memory.specs.Writable.{first_writable};
+ghost use Rattle.guest_machine.specs.Ranges.{byte_in, with_byte};
+
+use crate::bytes::Bytes;
+use crate::range::GuestRange;
+use guest_machine::{Access, Values};
+use std::alloc::{AllocFailed, Global};
+use std::marker::Model;
+
+/// No memory was left.
+#[derive(Clone, Copy, PartialEq, Eq, Debug)]
+pub struct OutOfMemory;
+
+/// Ranges of owned bytes, and the places of offset fields.
+#[derive(Drop)]
+pub struct GuestMemory<B> {
+    ranges: Vec<GuestRange<B>>,
+    fields: Vec<u64>,
+}
+
+impl<B> Model for GuestMemory<B> {
+    ghost use Rattle.guest_machine.specs.Ranges.{AddressSpace};
+
+    ghost Value = { AddressSpace B };
+
+    ghost view = { λ memory. record { ranges = memory.ranges.items; fields = memory.fields.items } };
+}
+
+impl<B: Copy + Drop> GuestMemory<B> {
+    /// A memory with nothing in it.
+    pub fn new(alloc: Global) -> Self
+        ensures { result ≡ record { ranges = []; fields = [] } }
+    {
+        GuestMemory {
+            ranges: Vec::new(alloc),
+            fields: Vec::new(alloc),
+        }
+    }
+
+    /// Adds a range behind the others.
+    pub fn add_range(&mut self, range: GuestRange<B>) -> Result<(), OutOfMemory>
+        ensures ok { OnOk result (self.new ≡ record self.old { ranges = self.old.ranges ++ range ∷ [] }) }
+        ensures err { OnErr result (self.new ≡ self.old) }
+    {
+        match self.ranges.push(range) {
+            Ok(()) => Ok(()),
+            Err(_) => Err(OutOfMemory),
+        }
+    }
+
+    /// Says that an offset field begins at a place.
+    pub fn add_field(&mut self, place: u64) -> Result<(), OutOfMemory>
+        ensures ok { OnOk result (self.new ≡ record self.old { fields = self.old.fields ++ place ∷ [] }) }
+        ensures err { OnErr result (self.new ≡ self.old) }
+    {
+        match self.fields.push(place) {
+            Ok(()) => Ok(()),
+            Err(_) => Err(OutOfMemory),
+        }
+    }
+}
+
+/// The byte at a place, where it may be accessed so.
+fn byte_of<B: Copy + Drop>(ranges: &[GuestRange<B>], access: Access, place: u64) -> Option<B>
+    ensures { result ≡ byte_in access ranges.now place }
+{
+    for range in ranges {
+        if range.grants(access, place) {
+            return range.byte(place);
+        }
+    }
+    None
+}
+
+/// Which range takes a byte that is written at a place, or how many there are where none does.
+fn writable_at<B: Copy + Drop>(ranges: &[GuestRange<B>], place: u64) -> usize
+    ensures { result ≡ first_writable ranges.now place }
+{
+    for (index, range) in ranges.iter().enumerate() {
+        if range.grants(Access::Write, place) {
+            return index;
+        }
+    }
+    ranges.len()
+}
+
+/// Writes the byte at a place, or nothing where it may not be written.
+fn write_in<B: Copy + Drop>(ranges: &mut [GuestRange<B>], place: u64, byte: B)
+    ensures { ranges.new ≡ with_byte ranges.old place byte }
+{
+    let index = writable_at(ranges, place);
+    if index < ranges.len() {
+        let range = &mut ranges[index];
+        range.set_byte(place, byte);
+    }
+}
+
+fn is_among(fields: &[u64], place: u64) -> bool
+    ensures { result ≡ list_any (λ field. field == place) fields.now }
+{
+    fields.iter().any(|field| *field == place)
+}
+
+impl<V: Values> Bytes<V> for GuestMemory<V::Byte> {
+    ghost memory = { λ memory. memory };
+
+    fn read(&self, place: u64) -> Option<V::Byte> {
+        byte_of(&self.ranges, Access::Read, place)
+    }
+
+    fn run(&self, place: u64) -> Option<V::Byte> {
+        byte_of(&self.ranges, Access::Run, place)
+    }
+
+    fn may_write(&self, place: u64) -> bool {
+        byte_of(&self.ranges, Access::Write, place).is_some()
+    }
+
+    fn write(&mut self, place: u64, byte: V::Byte) {
+        write_in(&mut self.ranges, place, byte);
+    }
+
+    #[tactic(auto, unfolding(guest_machine::specs::Ranges::is_field_of))]
+    fn is_field(&self, place: u64) -> bool {
+        is_among(&self.fields, place)
+    }
+}
