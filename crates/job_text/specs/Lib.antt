@@ -1,0 +1,4 @@
+pub mod Jobs
+pub mod Kinds
+pub mod OutcomeWords
+pub mod Texts
