@@ -1,3 +1,4 @@
+pub mod Drafts
 pub mod Jobs
 pub mod Kinds
 pub mod OutcomeWords

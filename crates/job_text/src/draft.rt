@@ -1,5 +1,8 @@
 //! A job as far as it is read.
 
+ghost use Rattle.std.specs.Prelude.{◌≡◌, ◌≤◌, ◌<◌, IfOk, IfSome, length, vec_len};
+ghost use Rattle.job_text.specs.Drafts.{image_count};
+
 use crate::fault::{Flaw, JobFaultKind};
 use crate::grammar::{Heading, Verb, has_its_words, heading_of, is_image_name, is_short_name};
 use crate::images::{Image, ImageKind};
@@ -9,6 +12,7 @@ use crate::thread_lines::Action;
 use crate::words::Words;
 use std::alloc::{AllocError, Global};
 use std::collections::HashMap;
+use std::marker::Model;
 
 /// Where an image stands: each group of images is counted from 0 in the order of the job.
 #[derive(Clone, Copy, PartialEq, Eq, Debug)]
@@ -36,6 +40,18 @@ pub(crate) struct Draft<'a> {
     pub(crate) fuel: Option<u64>,
     pub(crate) order: Option<Vec<u32>>,
     pub(crate) lines: Vec<Vec<Plan>>,
+}
+
+impl<'a> Model for Draft<'a> {
+    ghost use Rattle.std.specs.Prelude.{map};
+    ghost use Rattle.std.specs.Option.{option_map};
+    ghost use Rattle.job_text.specs.Drafts.{Declared, IsWithinLimits, declared};
+
+    ghost Value = { Declared };
+
+    ghost view = { λ d. declared d.program d.starts.items d.lates.items d.has_threads d.fuel (option_map (λ threads. threads.items) d.order) (map (λ lines. lines.items) d.lines.items) };
+
+    ghost invariant = { λ d. IsWithinLimits (declared d.program d.starts.items d.lates.items d.has_threads d.fuel (option_map (λ threads. threads.items) d.order) (map (λ lines. lines.items) d.lines.items)) };
 }
 
 impl<'a> Draft<'a> {
@@ -85,7 +101,7 @@ impl<'a> Draft<'a> {
         kind: ImageKind,
         words: &Words<'a>,
     ) -> Result<(), Flaw> {
-        if self.starts.len() + self.lates.len() + usize::from(self.program.is_some()) >= 64 {
+        if self.image_count() == 64 {
             return Err(Flaw::Kind(JobFaultKind::Count));
         }
         if !is_image_name(words.at(1)) || !are_short_names(words, 3) {
@@ -104,8 +120,19 @@ impl<'a> Draft<'a> {
         Ok(())
     }
 
+    /// How many images there are, at most 64.
+    fn image_count(&self) -> usize
+        ensures count { result ≡ image_count self.now }
+        ensures few { result ≤ 64 }
+    {
+        let programs = if self.program.is_some() { 1 } else { 0 };
+        programs + self.starts.len() + self.lates.len()
+    }
+
     /// Adds an image of a new name to its group.
-    fn declare(&mut self, name: &'a str, image: Image) -> Result<(), AllocError> {
+    fn declare(&mut self, name: &'a str, image: Image) -> Result<(), AllocError>
+        requires { image_count self.old < 64 }
+    {
         self.names.reserve(1)?;
         match image.kind {
             ImageKind::Exe | ImageKind::Pie => {
@@ -135,9 +162,8 @@ impl<'a> Draft<'a> {
         if self.has_threads {
             return Err(Flaw::Kind(JobFaultKind::Twice));
         }
-        for _ in 1..count {
-            self.lines.push(Vec::new(alloc))?;
-        }
+        let mut more = empty_lines(alloc, count - 1)?;
+        self.lines.append(&mut more)?;
         self.has_threads = true;
         Ok(())
     }
@@ -182,17 +208,30 @@ impl<'a> Draft<'a> {
             return Err(Flaw::Kind(JobFaultKind::Name));
         };
         let place = *place;
-        if let Some(lines) = self.lines.get_mut(thread as usize - 1) {
-            lines.push(Plan { place, action })?;
-        }
+        let lines = &mut self.lines[thread as usize - 1];
+        lines.push(Plan { place, action })?;
         Ok(())
     }
 
     /// The thread that a word names, where it is declared so far.
-    fn thread(&self, word: &str) -> Option<u32> {
+    fn thread(&self, word: &str) -> Option<u32>
+        ensures some { IfSome result (λ thread. 1 ≤ thread) }
+        ensures declared { IfSome result (λ thread. thread ≤ length self.now.lines) }
+    {
         let thread = number_within(word, 1, self.lines.len() as u64)?;
         Some(thread as u32)
     }
+}
+
+/// The lines of so many threads, none yet.
+fn empty_lines(alloc: Global, count: u64) -> Result<Vec<Vec<Plan>>, AllocError>
+    ensures { IfOk result (λ lines. vec_len lines ≡ count) }
+{
+    let mut lines = Vec::new(alloc);
+    for _thread in 0..count {
+        lines.push(Vec::new(alloc))?;
+    }
+    Ok(lines)
 }
 
 /// What a line of a thread does, but for its image.

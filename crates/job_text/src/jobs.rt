@@ -1,6 +1,8 @@
 //! The job.
 
-ghost use Rattle.std.specs.Prelude.{◌≡◌, ◌≤◌, ◌<◌, ◌^◌, length};
+ghost use Rattle.std.specs.Prelude.{◌≡◌, ◌≤◌, ◌<◌, ◌^◌, [], IfOk, length, map, unwrap_or};
+ghost use Rattle.std.specs.Option.{option_map};
+ghost use Rattle.job_text.specs.Jobs.{IsAnswer, in_image_order, job_declared, number_of, numbered_line};
 
 use crate::draft::{Draft, Place, Plan};
 use crate::fault::{Flaw, JobFault, JobFaultKind};
@@ -9,6 +11,9 @@ use crate::thread_lines::ThreadLine;
 use crate::words::{is_skipped, text_of};
 use std::alloc::{AllocError, Global};
 use std::marker::Model;
+
+/// The steps of a call where no line says otherwise.
+const DEFAULT_FUEL: u64 = 100_000;
 
 /// A job: the images to link, and what the threads do with them.
 #[derive(Debug, Drop)]
@@ -109,13 +114,15 @@ fn read_line<'a>(
     }
 }
 
-/// The job of a draft that has a program.
-fn finish(alloc: Global, draft: Draft) -> Result<Job, JobFault> {
+/// The job that a draft declares, if it has a program.
+fn finish(alloc: Global, draft: Draft) -> Result<Job, JobFault>
+    ensures { IsAnswer (job_declared draft.entry) result }
+{
     let Draft {
         names: _,
         program,
-        mut starts,
-        mut lates,
+        starts,
+        lates,
         has_threads: _,
         fuel,
         order,
@@ -127,29 +134,53 @@ fn finish(alloc: Global, draft: Draft) -> Result<Job, JobFault> {
             kind: JobFaultKind::NoExe,
         });
     };
-    let lines = numbered_lines(alloc, lines, starts.len() as u32)?;
+    let lines = numbered_lines(alloc, lines, starts.len() as u8)?;
+    let images = in_image_order(alloc, program, starts, lates)?;
+    Ok(Job {
+        images,
+        fuel: fuel.unwrap_or(DEFAULT_FUEL),
+        order: order_or_none(alloc, order),
+        lines,
+    })
+}
+
+/// The images in image order.
+fn in_image_order(
+    alloc: Global,
+    program: Image,
+    starts: Vec<Image>,
+    lates: Vec<Image>,
+) -> Result<Vec<Image>, AllocError>
+    ensures { IfOk result (λ images. images.items ≡ in_image_order program starts.items lates.items) }
+{
+    let mut starts = starts;
+    let mut lates = lates;
     let mut images = Vec::new(alloc);
     images.push(program)?;
     images.append(&mut starts)?;
     images.append(&mut lates)?;
-    let order = match order {
-        Some(order) => order,
+    Ok(images)
+}
+
+/// The order, which is empty where there is no line of it.
+fn order_or_none(alloc: Global, order: Option<Vec<u32>>) -> Vec<u32>
+    ensures { result.items ≡ unwrap_or (option_map (λ threads. threads.items) order) [] }
+{
+    match order {
+        Some(threads) => threads,
         None => Vec::new(alloc),
-    };
-    Ok(Job {
-        images,
-        fuel: fuel.unwrap_or(100_000),
-        order,
-        lines,
-    })
+    }
 }
 
 /// The lines of all threads, with the images' numbers.
 fn numbered_lines(
     alloc: Global,
     plans: Vec<Vec<Plan>>,
-    starts: u32,
-) -> Result<Vec<Vec<ThreadLine>>, AllocError> {
+    starts: u8,
+) -> Result<Vec<Vec<ThreadLine>>, AllocError>
+    ensures lines { IfOk result (λ all. map (λ lines. lines.items) all.items ≡ map (λ lines. map (numbered_line starts) lines.items) plans.items) }
+    ensures len { IfOk result (λ all. length all.items ≡ length plans.items) }
+{
     let mut all = Vec::new(alloc);
     for lines in plans {
         all.push(numbered(alloc, lines, starts)?)?;
@@ -157,23 +188,32 @@ fn numbered_lines(
     Ok(all)
 }
 
-fn numbered(alloc: Global, plans: Vec<Plan>, starts: u32) -> Result<Vec<ThreadLine>, AllocError> {
-    let mut lines = Vec::new(alloc);
-    for plan in plans {
-        let Plan { place, action } = plan;
-        lines.push(ThreadLine {
-            image: number_of(place, starts),
-            action,
-        })?;
+fn numbered(alloc: Global, plans: Vec<Plan>, starts: u8) -> Result<Vec<ThreadLine>, AllocError>
+    ensures { IfOk result (λ lines. lines.items ≡ map (numbered_line starts) plans.items) }
+{
+    plans
+        .into_iter()
+        .map(|plan| numbered_line(plan, starts))
+        .collect(alloc)
+}
+
+fn numbered_line(plan: Plan, starts: u8) -> ThreadLine
+    ensures { result ≡ numbered_line starts plan }
+{
+    let Plan { place, action } = plan;
+    ThreadLine {
+        image: number_of(place, starts),
+        action,
     }
-    Ok(lines)
 }
 
 /// The number of an image: the program is 1, then come the start images, then the late ones.
-fn number_of(place: Place, starts: u32) -> u32 {
+fn number_of(place: Place, starts: u8) -> u32
+    ensures { result ≡ number_of starts place }
+{
     match place {
         Place::Program => 1,
         Place::Start(index) => 2 + u32::from(index),
-        Place::Late(index) => 2 + starts + u32::from(index),
+        Place::Late(index) => 2 + u32::from(starts) + u32::from(index),
     }
 }

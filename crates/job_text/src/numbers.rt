@@ -1,5 +1,7 @@
 //! Numbers, as the job writes them.
 
+ghost use Rattle.std.specs.Prelude.{◌≤◌, IfSome};
+
 /// The number that a word writes: decimal digits without a leading zero, or `0x` and hexadecimal
 /// digits of either case. None where it writes none, or one that does not fit 64 bits.
 pub(crate) fn number(word: &str) -> Option<u64> {
@@ -27,7 +29,10 @@ fn decimal(word: &str) -> Option<u64> {
 }
 
 /// The number that a word writes, where it lies between two bounds.
-pub(crate) fn number_within(word: &str, low: u64, high: u64) -> Option<u64> {
+pub(crate) fn number_within(word: &str, low: u64, high: u64) -> Option<u64>
+    ensures low { IfSome result (λ value. low ≤ value) }
+    ensures high { IfSome result (λ value. value ≤ high) }
+{
     let value = number(word)?;
     if value < low || high < value {
         return None;

@@ -2,7 +2,7 @@
 
 ghost use Rattle.std.specs.Prelude.{◌≡◌, ◌≤◌, ◌++◌, OnOk, All, length, map};
 ghost use Rattle.std.specs.String.{string_bytes};
-ghost use Rattle.job_text.specs.Texts.{IsImageNumber, bytes_text, outcome_text, points_text, line_text, lines_text, threads_text, image_name, event_text, events_text};
+ghost use Rattle.job_text.specs.Texts.{IsImageNumber, bytes_text, outcome_text, points_text, line_text, lines_text, threads_text, event_word, image_name, event_text, events_text};
 
 use crate::event::Event;
 use crate::images::Image;
@@ -118,11 +118,20 @@ fn push_event(
     requires { IsImageNumber images.now event.now.image }
     ensures { OnOk result (string_bytes text.new ≡ string_bytes text.old ++ event_text images.now number event.now) }
 {
-    let name = name_at(images, event.image);
-    let word = if event.opens { "open" } else { "close" };
     let thread = event.thread;
     let line = event.line;
-    write!(text, "e{number} t{thread} l{line} {word} {name}\n")
+    write!(text, "e{number} t{thread} l{line} ")?;
+    text.push_str(event_word(event.opens))?;
+    let name = name_at(images, event.image);
+    write!(text, " {name}\n")?;
+    Ok(())
+}
+
+/// The word for what an event did.
+fn event_word(opens: bool) -> &'static str
+    ensures { result.now ≡ event_word opens }
+{
+    if opens { "open" } else { "close" }
 }
 
 /// The name of an image.
