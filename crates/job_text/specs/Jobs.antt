@@ -1,0 +1,67 @@
+-- A job, as contracts see it, and how it is made of what its lines declare.
+use Rattle.std.specs.Prelude.{◌≡◌, ℕ, ◌+◌, ◌≤◌, ◌<◌, ◌^◌, List, [], ◌∷◌, ◌++◌, length, map, Option, Some, None, unwrap_or, Result, Ok, Err}
+use Rattle.job_text.specs.Drafts.{Declared}
+use Rattle.job_text.specs.declared.draft.Place.{Place}
+use Rattle.job_text.specs.declared.draft.Place.TheVariants.{Program, Start, Late}
+use Rattle.job_text.specs.declared.draft.Plan.{Plan}
+use Rattle.job_text.specs.declared.fault.JobFault.{JobFault}
+use Rattle.job_text.specs.declared.fault.JobFault.TheVariants.{At, OutOfMemory}
+use Rattle.job_text.specs.declared.fault.JobFaultKind.TheVariants.{NoExe}
+use Rattle.job_text.specs.declared.images.Image.{Image}
+use Rattle.job_text.specs.declared.thread_lines.ThreadLine.{ThreadLine}
+
+-- the images in image order, the steps of a call, the threads of the first turns, and the lines of
+-- each thread, thread 1 first
+pub record JobParts : Type 0 where
+  pub images : List Image
+  pub fuel : ℕ
+  pub order : List ℕ
+  pub lines : List (List ThreadLine)
+
+-- what is true of each job: its sizes
+pub record HasJobSizes (images : List Image) (fuel : ℕ) (threads : ℕ) : Type 0 where
+  pub some_image : 1 ≤ length images
+  pub few_images : length images ≤ 64
+  pub some_thread : 1 ≤ threads
+  pub few_threads : threads ≤ 64
+  pub some_fuel : 1 ≤ fuel
+  pub little_fuel : fuel < 2 ^ 32
+
+-- the number of an image, where so many images start with the program: the program is 1, then come
+-- the start images, then the late ones
+abbrev pub number_of : ℕ → Place → ℕ
+number_of starts Program = 1
+number_of starts (Start index) = 2 + index
+number_of starts (Late index) = 2 + starts + index
+
+-- a line of a thread, with its image's number
+abbrev pub numbered_line : ℕ → Plan → ThreadLine
+numbered_line starts plan = record { image = number_of starts plan.place; action = plan.action }
+
+-- the images in image order
+abbrev pub in_image_order : Image → List Image → List Image → List Image
+in_image_order program starts lates = program ∷ starts ++ lates
+
+-- the job with this program; without a line `fuel` a call has 100,000 steps
+abbrev pub job_with : Image → Declared → JobParts
+job_with program d = record {
+  images = in_image_order program d.starts d.lates;
+  fuel = unwrap_or d.fuel 100000;
+  order = unwrap_or d.order [];
+  lines = map (map (numbered_line (length d.starts))) d.lines;
+}
+
+-- the job of this program, if there is one; else the fault of a job without a program
+abbrev pub job_of_program : Option Image → Declared → Result JobParts JobFault
+job_of_program None d = Err (At 0 NoExe)
+job_of_program (Some program) d = Ok (job_with program d)
+
+-- the job that the lines declare
+abbrev pub job_declared : Declared → Result JobParts JobFault
+job_declared d = job_of_program d.program d
+
+-- an answer is what it should be, but that want of memory may come in place of any
+abbrev pub IsAnswer : Result JobParts JobFault → Result JobParts JobFault → Type 0
+IsAnswer right (Ok job) = right ≡ Ok job
+IsAnswer right (Err OutOfMemory) = Unit {0}
+IsAnswer right (Err (At line kind)) = right ≡ Err (At line kind)

@@ -1,0 +1,5 @@
+pub mod Drafts
+pub mod Jobs
+pub mod Kinds
+pub mod OutcomeWords
+pub mod Texts

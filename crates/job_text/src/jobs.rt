@@ -1,0 +1,219 @@
+//! The job.
+
+ghost use Rattle.std.specs.Prelude.{◌≡◌, ◌≤◌, ◌<◌, ◌^◌, [], IfOk, length, map, unwrap_or};
+ghost use Rattle.std.specs.Option.{option_map};
+ghost use Rattle.job_text.specs.Jobs.{IsAnswer, in_image_order, job_declared, number_of, numbered_line};
+
+use crate::draft::{Draft, Place, Plan};
+use crate::fault::{Flaw, JobFault, JobFaultKind};
+use crate::images::Image;
+use crate::thread_lines::ThreadLine;
+use crate::words::{is_skipped, text_of};
+use std::alloc::{AllocError, Global};
+use std::marker::Model;
+
+/// The steps of a call where no line says otherwise.
+const DEFAULT_FUEL: u64 = 100_000;
+
+/// A job: the images to link, and what the threads do with them.
+#[derive(Debug, Drop)]
+pub struct Job {
+    images: Vec<Image>,
+    fuel: u64,
+    order: Vec<u32>,
+    lines: Vec<Vec<ThreadLine>>,
+}
+
+impl Model for Job {
+    ghost use Rattle.std.specs.Prelude.{map, length};
+    ghost use Rattle.job_text.specs.Jobs.{JobParts, HasJobSizes};
+
+    ghost Value = { JobParts };
+
+    ghost view = { λ job. record {
+      images = job.images.items;
+      fuel = job.fuel;
+      order = job.order.items;
+      lines = map (λ lines. lines.items) job.lines.items;
+    } };
+
+    ghost invariant = { λ job. HasJobSizes job.images.items job.fuel (length job.lines.items) };
+}
+
+impl Job {
+    /// Reads a job.
+    pub fn read(alloc: Global, bytes: &[u8]) -> Result<Job, JobFault> {
+        let mut draft = Draft::new(alloc)?;
+        for (index, line) in bytes.split(|byte| *byte == b'\n').enumerate() {
+            let number = index as u64 + 1;
+            if let Err(flaw) = read_line(alloc, &mut draft, number, line) {
+                return Err(flaw.at(number));
+            }
+        }
+        finish(alloc, draft)
+    }
+
+    /// The images in image order: the program, the modules that start with it, the late ones.
+    pub fn images(&self) -> &[Image]
+        ensures value { result.now ≡ self.now.images }
+        ensures some { 1 ≤ length result.now }
+        ensures few { length result.now ≤ 64 }
+    {
+        self.images.as_slice()
+    }
+
+    /// How many threads there are, 1 to 64.
+    pub fn threads(&self) -> u32
+        ensures value { result ≡ length self.now.lines }
+        ensures some { 1 ≤ result }
+        ensures few { result ≤ 64 }
+    {
+        self.lines.len() as u32
+    }
+
+    /// The steps of one call, 1 to 2^32 - 1.
+    pub fn fuel(&self) -> u64
+        ensures value { result ≡ self.now.fuel }
+        ensures some { 1 ≤ result }
+        ensures little { result < 2 ^ 32 }
+    {
+        self.fuel
+    }
+
+    /// The threads in the order in which they take their first turns.
+    pub fn order(&self) -> &[u32]
+        ensures { result.now ≡ self.now.order }
+    {
+        self.order.as_slice()
+    }
+
+    /// The lines of a thread, and none of a thread that there is not.
+    pub fn lines(&self, thread: u32) -> &[ThreadLine] {
+        if thread == 0 {
+            return &[];
+        }
+        match self.lines.get(thread as usize - 1) {
+            Some(lines) => lines.as_slice(),
+            None => &[],
+        }
+    }
+}
+
+fn read_line<'a>(
+    alloc: Global,
+    draft: &mut Draft<'a>,
+    number: u64,
+    line: &'a [u8],
+) -> Result<(), Flaw> {
+    if is_skipped(line) {
+        return Ok(());
+    }
+    match text_of(line) {
+        Some(text) => draft.read_line(alloc, number, text),
+        None => Err(Flaw::Kind(JobFaultKind::NotText)),
+    }
+}
+
+/// The job that a draft declares, if it has a program.
+fn finish(alloc: Global, draft: Draft) -> Result<Job, JobFault>
+    ensures { IsAnswer (job_declared draft.entry) result }
+{
+    let Draft {
+        names: _,
+        program,
+        starts,
+        lates,
+        has_threads: _,
+        fuel,
+        order,
+        lines,
+    } = draft;
+    let Some(program) = program else {
+        return Err(JobFault::At {
+            line: 0,
+            kind: JobFaultKind::NoExe,
+        });
+    };
+    let lines = numbered_lines(alloc, lines, starts.len() as u8)?;
+    let images = in_image_order(alloc, program, starts, lates)?;
+    Ok(Job {
+        images,
+        fuel: fuel.unwrap_or(DEFAULT_FUEL),
+        order: order_or_none(alloc, order),
+        lines,
+    })
+}
+
+/// The images in image order.
+fn in_image_order(
+    alloc: Global,
+    program: Image,
+    starts: Vec<Image>,
+    lates: Vec<Image>,
+) -> Result<Vec<Image>, AllocError>
+    ensures { IfOk result (λ images. images.items ≡ in_image_order program starts.items lates.items) }
+{
+    let mut starts = starts;
+    let mut lates = lates;
+    let mut images = Vec::new(alloc);
+    images.push(program)?;
+    images.append(&mut starts)?;
+    images.append(&mut lates)?;
+    Ok(images)
+}
+
+/// The order, which is empty where there is no line of it.
+fn order_or_none(alloc: Global, order: Option<Vec<u32>>) -> Vec<u32>
+    ensures { result.items ≡ unwrap_or (option_map (λ threads. threads.items) order) [] }
+{
+    match order {
+        Some(threads) => threads,
+        None => Vec::new(alloc),
+    }
+}
+
+/// The lines of all threads, with the images' numbers.
+fn numbered_lines(
+    alloc: Global,
+    plans: Vec<Vec<Plan>>,
+    starts: u8,
+) -> Result<Vec<Vec<ThreadLine>>, AllocError>
+    ensures lines { IfOk result (λ all. map (λ lines. lines.items) all.items ≡ map (λ lines. map (numbered_line starts) lines.items) plans.items) }
+    ensures len { IfOk result (λ all. length all.items ≡ length plans.items) }
+{
+    let mut all = Vec::new(alloc);
+    for lines in plans {
+        all.push(numbered(alloc, lines, starts)?)?;
+    }
+    Ok(all)
+}
+
+fn numbered(alloc: Global, plans: Vec<Plan>, starts: u8) -> Result<Vec<ThreadLine>, AllocError>
+    ensures { IfOk result (λ lines. lines.items ≡ map (numbered_line starts) plans.items) }
+{
+    plans
+        .into_iter()
+        .map(|plan| numbered_line(plan, starts))
+        .collect(alloc)
+}
+
+fn numbered_line(plan: Plan, starts: u8) -> ThreadLine
+    ensures { result ≡ numbered_line starts plan }
+{
+    let Plan { place, action } = plan;
+    ThreadLine {
+        image: number_of(place, starts),
+        action,
+    }
+}
+
+/// The number of an image: the program is 1, then come the start images, then the late ones.
+fn number_of(place: Place, starts: u8) -> u32
+    ensures { result ≡ number_of starts place }
+{
+    match place {
+        Place::Program => 1,
+        Place::Start(index) => 2 + u32::from(index),
+        Place::Late(index) => 2 + u32::from(starts) + u32::from(index),
+    }
+}
