@@ -39,7 +39,7 @@ pub const DF_1_PIE: u64 = 0x0800_0000;
 /// An entry of the dynamic array, by which a loader finds an image's tables.
 #[derive(Clone, Copy, PartialEq, Eq, Debug)]
 pub struct DynamicEntry {
-    /// What the value means, as [`DT_SYMTAB`](crate::DT_SYMTAB).
+    /// What the value means, as [`DT_SYMTAB`].
     pub tag: u64,
     /// An address, a number of bytes or flags, by the tag.
     pub value: u64,

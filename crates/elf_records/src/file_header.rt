@@ -27,11 +27,11 @@ pub const EV_CURRENT: u32 = 1;
 pub struct Header {
     /// The magic number 7f 45 4c 46, then the class, the data encoding, the version and what systems add.
     pub ident: [u8; 16],
-    /// What kind of file it is, as [`ET_REL`](crate::ET_REL).
+    /// What kind of file it is, as [`ET_REL`].
     pub e_type: u16,
-    /// The processor, as [`EM_X86_64`](crate::EM_X86_64).
+    /// The processor, as [`EM_X86_64`].
     pub e_machine: u16,
-    /// The version of the format, [`EV_CURRENT`](crate::EV_CURRENT).
+    /// The version of the format, [`EV_CURRENT`].
     pub e_version: u32,
     /// The address at which a program begins, or 0.
     pub e_entry: u64,

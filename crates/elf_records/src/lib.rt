@@ -1,115 +1,51 @@
-//! Records of ELF64 files.
+//! The fixed records of ELF64 files: read from bytes, and written into bytes.
+//!
+//! An object that a compiler writes, a program and a shared object are all files of one format, ELF. Such a file is little
+//! more than tables of records of fixed size. Its first 64 bytes are a *header*, which says what the file is and where two
+//! tables lie. The *section headers* are the linker's view: code, data, relocations and names, each a range of the file.
+//! The *program headers* are the loader's view: which ranges of the file to put where in memory. Some sections are tables
+//! themselves: of *symbols*, the names that objects share; of *relocations*, the fields that a linker fills in; and the
+//! *dynamic array*, by which a loader finds the tables of an image.
+//!
+//! This crate knows these six records and nothing of what they are for. A number in a record has 1, 2, 4 or 8 bytes, the
+//! lowest byte first, as on every x86-64 system; one of them, the addend of a relocation, has a sign. For example, these
+//! 24 bytes
+//!
+//! ```text
+//! 04 00 00 00 00 00 00 00   13 00 00 00 02 00 00 00   fc ff ff ff ff ff ff ff
+//! ```
+//!
+//! are the relocation entry `Rela { offset: 4, info: 0x2_0000_0013, addend: -4 }`: fill the field 4 bytes into the section,
+//! for symbol 2, by the rule of type 19 (`R_X86_64_TLSGD`), with -4 added.
+//!
+//! The rule that the crate keeps: **a record is exactly the bytes at its place.**
+//! - `read_rela(bytes, at)` is `None` exactly where the record would pass the end of `bytes`. Any place may be asked for, up
+//!   to 2^64 - 1. Else it is the record whose fields stand there; no field is judged, and every 24 bytes are some entry.
+//! - `write_rela(&entry, bytes, at)` asks that the record fits, as [`fits`] tests. It is then read again as `entry`, and no
+//!   other byte changes.
+//!
+//! The other five pairs do the same for their record. No call takes memory. Numbers with a name in the standard, as
+//! `SHT_RELA` or `R_X86_64_TLSGD`, are constants in the module of their record.
+//!
+//! The records are those of the System V ABI (gABI), chapters "Object Files" and "Program Loading and Dynamic Linking", for
+//! files of class ELFCLASS64 with data encoding ELFDATA2LSB; what x86-64 adds is in its supplement (psABI). `specs/Records`
+//! states each record's fields and their places, and `specs/Laws` and `specs/RecordLaws` what callers may use of them.
 #![tactic(auto)]
 
-mod dynamic;
+pub mod dynamic;
 mod field;
-mod file_header;
-mod program_header;
-mod relocation;
-mod section_header;
-mod symbol;
+pub mod file_header;
+pub mod program_header;
+pub mod relocation;
+pub mod section_header;
+pub mod symbol;
+#[cfg(test)]
+mod tests;
 
-pub use dynamic::DF_1_PIE;
-pub use dynamic::DF_STATIC_TLS;
-pub use dynamic::DT_FLAGS;
-pub use dynamic::DT_FLAGS_1;
-pub use dynamic::DT_HASH;
-pub use dynamic::DT_NULL;
-pub use dynamic::DT_RELA;
-pub use dynamic::DT_RELAENT;
-pub use dynamic::DT_RELASZ;
-pub use dynamic::DT_STRSZ;
-pub use dynamic::DT_STRTAB;
-pub use dynamic::DT_SYMENT;
-pub use dynamic::DT_SYMTAB;
-pub use dynamic::DynamicEntry;
-pub use dynamic::read_dynamic;
-pub use dynamic::write_dynamic;
+pub use dynamic::{DynamicEntry, read_dynamic, write_dynamic};
 pub use field::fits;
-pub use file_header::ELF_IDENT;
-pub use file_header::EM_X86_64;
-pub use file_header::ET_DYN;
-pub use file_header::ET_EXEC;
-pub use file_header::ET_REL;
-pub use file_header::EV_CURRENT;
-pub use file_header::Header;
-pub use file_header::read_header;
-pub use file_header::write_header;
-pub use program_header::PF_R;
-pub use program_header::PF_W;
-pub use program_header::PF_X;
-pub use program_header::PT_DYNAMIC;
-pub use program_header::PT_GNU_RELRO;
-pub use program_header::PT_LOAD;
-pub use program_header::PT_TLS;
-pub use program_header::Segment;
-pub use program_header::read_segment;
-pub use program_header::write_segment;
-pub use relocation::R_X86_64_32;
-pub use relocation::R_X86_64_32S;
-pub use relocation::R_X86_64_64;
-pub use relocation::R_X86_64_DTPMOD64;
-pub use relocation::R_X86_64_DTPOFF32;
-pub use relocation::R_X86_64_DTPOFF64;
-pub use relocation::R_X86_64_GOTPC32_TLSDESC;
-pub use relocation::R_X86_64_GOTPCREL;
-pub use relocation::R_X86_64_GOTPCRELX;
-pub use relocation::R_X86_64_GOTTPOFF;
-pub use relocation::R_X86_64_JUMP_SLOT;
-pub use relocation::R_X86_64_NONE;
-pub use relocation::R_X86_64_PC32;
-pub use relocation::R_X86_64_PLT32;
-pub use relocation::R_X86_64_RELATIVE;
-pub use relocation::R_X86_64_REX_GOTPCRELX;
-pub use relocation::R_X86_64_TLSDESC;
-pub use relocation::R_X86_64_TLSDESC_CALL;
-pub use relocation::R_X86_64_TLSGD;
-pub use relocation::R_X86_64_TLSLD;
-pub use relocation::R_X86_64_TPOFF32;
-pub use relocation::R_X86_64_TPOFF64;
-pub use relocation::Rela;
-pub use relocation::read_rela;
-pub use relocation::write_rela;
-pub use section_header::SHF_ALLOC;
-pub use section_header::SHF_EXECINSTR;
-pub use section_header::SHF_MERGE;
-pub use section_header::SHF_STRINGS;
-pub use section_header::SHF_TLS;
-pub use section_header::SHF_WRITE;
-pub use section_header::SHT_GROUP;
-pub use section_header::SHT_NOBITS;
-pub use section_header::SHT_NOTE;
-pub use section_header::SHT_NULL;
-pub use section_header::SHT_PROGBITS;
-pub use section_header::SHT_REL;
-pub use section_header::SHT_RELA;
-pub use section_header::SHT_STRTAB;
-pub use section_header::SHT_SYMTAB;
-pub use section_header::SHT_SYMTAB_SHNDX;
-pub use section_header::SHT_X86_64_UNWIND;
-pub use section_header::SectionHeader;
-pub use section_header::read_section;
-pub use section_header::write_section;
-pub use symbol::SHN_ABS;
-pub use symbol::SHN_COMMON;
-pub use symbol::SHN_LORESERVE;
-pub use symbol::SHN_UNDEF;
-pub use symbol::SHN_XINDEX;
-pub use symbol::STB_GLOBAL;
-pub use symbol::STB_LOCAL;
-pub use symbol::STB_WEAK;
-pub use symbol::STT_COMMON;
-pub use symbol::STT_FILE;
-pub use symbol::STT_FUNC;
-pub use symbol::STT_GNU_IFUNC;
-pub use symbol::STT_NOTYPE;
-pub use symbol::STT_OBJECT;
-pub use symbol::STT_SECTION;
-pub use symbol::STT_TLS;
-pub use symbol::STV_DEFAULT;
-pub use symbol::STV_HIDDEN;
-pub use symbol::STV_INTERNAL;
-pub use symbol::STV_PROTECTED;
-pub use symbol::SymbolEntry;
-pub use symbol::read_symbol;
-pub use symbol::write_symbol;
+pub use file_header::{Header, read_header, write_header};
+pub use program_header::{Segment, read_segment, write_segment};
+pub use relocation::{Rela, read_rela, write_rela};
+pub use section_header::{SectionHeader, read_section, write_section};
+pub use symbol::{SymbolEntry, read_symbol, write_symbol};

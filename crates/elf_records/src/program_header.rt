@@ -27,9 +27,9 @@ pub const PF_R: u32 = 4;
 /// An entry of the program header table: a part of the file, and where it lies in memory once it is loaded.
 #[derive(Clone, Copy, PartialEq, Eq, Debug)]
 pub struct Segment {
-    /// The type, as [`PT_LOAD`](crate::PT_LOAD).
+    /// The type, as [`PT_LOAD`].
     pub kind: u32,
-    /// Bits that say how the segment may be used, as [`PF_R`](crate::PF_R).
+    /// Bits that say how the segment may be used, as [`PF_R`].
     pub flags: u32,
     /// Where the segment's bytes begin in the file.
     pub offset: u64,

@@ -53,7 +53,7 @@ pub const R_X86_64_GOTPCRELX: u32 = 41;
 /// The same, in an instruction with a REX prefix.
 pub const R_X86_64_REX_GOTPCRELX: u32 = 42;
 
-/// An entry of a section of type [`SHT_RELA`](crate::SHT_RELA): how to fill one field of the section that it applies to.
+/// An entry of a section of type [`SHT_RELA`](crate::section_header::SHT_RELA): how to fill one field of the section that it applies to.
 #[derive(Clone, Copy, PartialEq, Eq, Debug)]
 pub struct Rela {
     /// Where the field begins: in an object a place in its section, in an image an address.

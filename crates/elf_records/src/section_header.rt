@@ -49,15 +49,15 @@ pub const SHF_TLS: u64 = 0x400;
 pub struct SectionHeader {
     /// Where the name begins in the string table of section names.
     pub name: u32,
-    /// The type, as [`SHT_PROGBITS`](crate::SHT_PROGBITS).
+    /// The type, as [`SHT_PROGBITS`].
     pub kind: u32,
-    /// Bits such as [`SHF_ALLOC`](crate::SHF_ALLOC).
+    /// Bits such as [`SHF_ALLOC`].
     pub flags: u64,
     /// The address at which the section is loaded; 0 in an object.
     pub addr: u64,
     /// Where the section's bytes begin in the file.
     pub offset: u64,
-    /// How many bytes the section has; those of [`SHT_NOBITS`](crate::SHT_NOBITS) take none of the file.
+    /// How many bytes the section has; those of [`SHT_NOBITS`] take none of the file.
     pub size: u64,
     /// Another section: of a symbol table its string table, of relocations their symbol table.
     pub link: u32,

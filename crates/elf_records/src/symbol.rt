@@ -63,7 +63,7 @@ pub struct SymbolEntry {
     pub info: u8,
     /// The visibility, in the low two bits.
     pub other: u8,
-    /// The section that the symbol is defined in, or a reserved number such as [`SHN_UNDEF`](crate::SHN_UNDEF).
+    /// The section that the symbol is defined in, or a reserved number such as [`SHN_UNDEF`].
     pub shndx: u16,
     /// In an object the offset in its section. Of a TLS symbol in an image, the offset in the TLS segment; else an address.
     pub value: u64,
