@@ -1,0 +1,6 @@
+pub mod File
+pub mod Firsts
+pub mod EndsOfNames
+pub mod Order
+pub mod Parts
+pub mod Searches
