@@ -4,3 +4,4 @@ pub mod EndsOfNames
 pub mod Order
 pub mod Parts
 pub mod Searches
+pub mod SymbolTables

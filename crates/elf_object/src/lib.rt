@@ -8,6 +8,7 @@ mod headers;
 mod names;
 mod relocation;
 mod relocs;
+mod scan;
 mod section_tests;
 mod symbol_tests;
 mod symbols;
