@@ -1,0 +1,7 @@
+pub mod File
+pub mod Firsts
+pub mod EndsOfNames
+pub mod Order
+pub mod Parts
+pub mod Searches
+pub mod SymbolTables

@@ -1,0 +1,51 @@
+-- What the searches for the symbol table and for sections of relocations find.
+use Rattle.std.proofs.Common.{◌≡◌, ◌<◌, ◌≤◌, ◌+◌, ◌/◌, ◌*◌, ◌∙◌, length, ℕ, List, Bool, true, false, refl, sym, ap, arith, nat_lt, ◌==◌, ◌&&◌}
+use Rattle.std.proofs.lemmas.Bool.Decides.{nat_tests}
+use Rattle.elf_records.specs.declared.section_header.SectionHeader.{SectionHeader}
+use Rattle.elf_object.specs.Parts.{header, section, IsTable, symbol_table, symbol_count, is_table, relocation_table, relocates}
+use Rattle.elf_object.specs.Firsts.{first_below}
+use Rattle.elf_object.specs.Faults.{HasPartPastEnd}
+use Rattle.elf_object.proofs.Parts.{part_inside}
+use Rattle.elf_object.proofs.Firsts.{first_none, first_found, first_passes, first_least}
+
+both : (s n k : ℕ) → 0 < s → n ≡ k → (nat_lt 0 s && (n == k)) ≡ true
+both s n k above same = grind (arith, nat_tests)
+
+not_both : (s n k : ℕ) → (n ≡ k → ⊥) → (nat_lt 0 s && (n == k)) ≡ false
+not_both s n k other = grind (arith, nat_tests)
+
+of_both : (s n k : ℕ) → (nat_lt 0 s && (n == k)) ≡ true → (0 < s) × (n ≡ k)
+of_both s n k h = grind (arith, nat_tests)
+
+-- one section more, which holds no symbols
+pub no_table_more : (b : List ℕ) (s : ℕ) → first_below (is_table b) s ≡ 0 → ((section b s).kind ≡ 2 → ⊥) → first_below (is_table b) (s + 1) ≡ 0
+no_table_more b s none other = first_none (is_table b) s none (not_both s (section b s).kind 2 other)
+
+-- the first section that holds symbols
+pub table_found : (b : List ℕ) (s : ℕ) → 0 < s → s < (header b).e_shnum → first_below (is_table b) s ≡ 0 → (section b s).kind ≡ 2 → symbol_table b ≡ s
+unfolding symbol_table
+table_found b s above below none same = first_found (is_table b) s (header b).e_shnum above none (both s (section b s).kind 2 above same) below
+
+-- the symbol table is a section that holds symbols
+pub table_is : (b : List ℕ) → 0 < symbol_table b → (symbol_table b < (header b).e_shnum) × ((section b (symbol_table b)).kind ≡ 2)
+unfolding symbol_table
+table_is b some =
+    let found = first_passes (is_table b) (header b).e_shnum some in
+    (found.1, (of_both (symbol_table b) (section b (symbol_table b)).kind 2 found.0).1)
+
+-- where a section holds symbols, there is a symbol table, and none comes before it
+pub table_least : (b : List ℕ) (s : ℕ) → 0 < s → s < (header b).e_shnum → (section b s).kind ≡ 2 → (0 < symbol_table b) × (symbol_table b ≤ s)
+unfolding symbol_table
+table_least b s above below same = first_least (is_table b) (header b).e_shnum s above below (both s (section b s).kind 2 above same)
+
+-- where there is a symbol table, its entries are counted
+pub count_of_table : (b : List ℕ) (t : ℕ) → t ≡ symbol_table b → 0 < t → symbol_count b ≡ (section b t).size / 24
+count_of_table b t same some = let above : 0 < symbol_table b = omega arith in grind (arith, nat_tests, ap (section b) same)
+
+-- the entries of the symbol table lie in the file
+pub table_inside : (b : List ℕ) (s : ℕ) (h : SectionHeader) → h ≡ section b s → ((t : ℕ) → HasPartPastEnd b t → ⊥) → IsTable b s → h.offset + 24 * (h.size / 24) ≤ length b
+table_inside b s h same none table =
+    let whole = part_inside b s none table.0 (λ null. omega arith, λ empty. omega arith) in
+    let at = ap (λ x. x.offset) same in
+    let size = ap (λ x. x.size) same in
+    omega (arith, at, size, whole)

@@ -1,0 +1,70 @@
+-- The types of relocation that linking takes (psABI, "Relocation Types").
+use Rattle.std.specs.Prelude.{◌≡◌, ◌+◌, ◌<◌, ◌≤◌, ◌*◌, ◌^◌, ◌/◌, ◌%◌, ◌==◌, ℕ, List, Option, Some, None, if◌then◌else◌}
+use Rattle.elf_records.specs.declared.relocation.Rela.{Rela}
+use Rattle.elf_object.specs.declared.relocation.RelocationKind.{RelocationKind}
+use Rattle.elf_object.specs.declared.relocation.RelocationKind.TheVariants.{Nothing, Absolute64, Pc32, Plt32, GotPcRel, Absolute32, Absolute32Signed, TlsGd, TlsLd, DtpOff32, GotTpOff, TpOff32, GotPc32TlsDesc, TlsDescCall, GotPcRelX, RexGotPcRelX}
+use Rattle.elf_object.specs.Parts.{section, rela, entry_count, IsRela}
+use Rattle.elf_object.specs.Classes.{IsKeptSection}
+
+-- the symbol that an entry names
+abbrev pub symbol_of : Rela → ℕ
+symbol_of r = r.info / 2 ^ 32
+
+-- the number of its type
+abbrev pub type_of : Rela → ℕ
+type_of r = r.info % 2 ^ 32
+
+-- the type of a number
+abbrev pub relocation_kind : ℕ → Option RelocationKind
+relocation_kind n =
+    if n == 0 then Some Nothing else
+    if n == 1 then Some Absolute64 else
+    if n == 2 then Some Pc32 else
+    if n == 4 then Some Plt32 else
+    if n == 9 then Some GotPcRel else
+    if n == 10 then Some Absolute32 else
+    if n == 11 then Some Absolute32Signed else
+    if n == 19 then Some TlsGd else
+    if n == 20 then Some TlsLd else
+    if n == 21 then Some DtpOff32 else
+    if n == 22 then Some GotTpOff else
+    if n == 23 then Some TpOff32 else
+    if n == 34 then Some GotPc32TlsDesc else
+    if n == 35 then Some TlsDescCall else
+    if n == 41 then Some GotPcRelX else
+    if n == 42 then Some RexGotPcRelX else
+    None
+
+-- how many bytes the field has
+abbrev pub field_width : RelocationKind → ℕ
+field_width Nothing = 0
+field_width Absolute64 = 8
+field_width TlsDescCall = 0
+field_width _ = 4
+
+-- the type belongs to an instruction, so it stands in executable sections alone
+abbrev pub IsOfCode : RelocationKind → Type 0
+IsOfCode Nothing = ⊥
+IsOfCode Absolute64 = ⊥
+IsOfCode Pc32 = ⊥
+IsOfCode Absolute32 = ⊥
+IsOfCode Absolute32Signed = ⊥
+IsOfCode TpOff32 = ⊥
+IsOfCode _ = Unit {0}
+
+-- the field's width, 0 for a number that is no type of the list
+abbrev pub width_of : Option RelocationKind → ℕ
+width_of None = 0
+width_of (Some kind) = field_width kind
+
+-- e numbers a relocation of section r, whose target linking keeps
+abbrev pub IsReloc : List ℕ → ℕ → ℕ → Type 0
+IsReloc b r e = IsRela b r × IsKeptSection b (section b r).info × (e < entry_count (section b r))
+
+-- the width of the field of entry e of section r
+abbrev pub width_at : List ℕ → ℕ → ℕ → ℕ
+width_at b r e = width_of (relocation_kind (type_of (rela b r e)))
+
+-- byte k of the target lies in the field of entry e of section r
+abbrev pub Covers : List ℕ → ℕ → ℕ → ℕ → Type 0
+Covers b r e k = ((rela b r e).offset ≤ k) × (k < (rela b r e).offset + width_at b r e)

@@ -1,0 +1,26 @@
+-- What the reader keeps of an object's symbols and of a section of relocations.
+use Rattle.std.specs.Prelude.{◌≡◌, ◌↔◌, ◌+◌, ◌*◌, ◌<◌, ◌≤◌, ℕ, List, Some, IsTrue, length}
+use Rattle.elf_object.specs.declared.class.SectionClass.TheVariants.{Executable}
+use Rattle.elf_object.specs.declared.symbols.Symbols.{Symbols}
+use Rattle.elf_object.specs.declared.relocs.RelocTable.{RelocTable}
+use Rattle.elf_object.specs.Parts.{header, section, symbol_table, symbol_count, entry_count, IsStrings, IsRela}
+use Rattle.elf_object.specs.Classes.{kept_class, IsKeptSection}
+use Rattle.elf_object.specs.Names.{IsEndOfNames}
+
+-- where the symbol table lies, and where its names end
+pub record AreSymbols (b : List ℕ) (symbols : Symbols) : Type 0 where
+  pub table_is : symbols.table ≡ symbol_table b
+  pub table_in : symbols.table < (header b).e_shnum
+  pub at_is : 0 < symbols.table → symbols.at ≡ (section b symbols.table).offset
+  pub count_is : symbols.count ≡ symbol_count b
+  pub inside : symbols.at + 24 * symbols.count ≤ length b
+  pub names_end_is : 0 < symbols.table → IsStrings b (section b symbols.table).link → IsEndOfNames b (section b symbols.table).link symbols.names_end
+
+-- where the relocations of section r lie, and what of their target the tests ask
+pub record AreRelocs (b : List ℕ) (r : ℕ) (relocs : RelocTable) : Type 0 where
+  pub of_kept : IsRela b r × IsKeptSection b (section b r).info
+  pub at_is : relocs.at ≡ (section b r).offset
+  pub count_is : relocs.count ≡ entry_count (section b r)
+  pub inside : relocs.at + 24 * relocs.count ≤ length b
+  pub size_is : relocs.target_size ≡ (section b (section b r).info).size
+  pub code_is : IsTrue relocs.is_code ↔ (kept_class (section b (section b r).info) ≡ Some Executable)

@@ -1,0 +1,19 @@
+//! Relocatable objects of ELF64, read and checked.
+#![tactic(auto)]
+
+mod class;
+mod elf;
+mod fault;
+mod headers;
+mod names;
+mod relocation;
+mod relocs;
+mod scan;
+mod section_tests;
+mod symbol_tests;
+mod symbols;
+mod tables;
+
+pub use class::SectionClass;
+pub use fault::{FaultKind, ObjectFault};
+pub use relocation::RelocationKind;
