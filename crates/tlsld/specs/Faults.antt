@@ -6,5 +6,7 @@ use Rattle.tlsld.specs.declared.fault.CommandFault.TheVariants as fault
 
 -- the store's count of faults rose where a command gave up because of the store, and only there
 abbrev pub StoreCounts : {T : Type 0} → ℕ → ℕ → Result T CommandFault → Type 0
+StoreCounts before now (Ok x) = now ≡ before
 StoreCounts before now (Err fault.Store) = Counted before now
-StoreCounts before now _ = now ≡ before
+StoreCounts before now (Err fault.OutOfMemory) = now ≡ before
+StoreCounts before now (Err (fault.Refused r)) = now ≡ before

@@ -1,3 +1,5 @@
 pub mod Delivery
 pub mod Faults
 pub mod FetchFaults
+pub mod Statuses
+pub mod Replies

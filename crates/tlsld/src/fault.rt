@@ -11,6 +11,17 @@ pub enum CommandFault {
     Store,
     /// There was no memory.
     OutOfMemory,
+    /// The input is refused.
+    Refused(Refusal),
+}
+
+/// What of the input is refused.
+#[derive(Debug, Drop)]
+pub enum Refusal {
+    /// The path does not take this job yet.
+    JobNotYet,
+    /// The path does not take this object yet.
+    ObjectNotYet { name: String },
 }
 
 impl From<FetchFault> for CommandFault {
@@ -42,6 +53,26 @@ impl<T: Drop> From<AllocFailed<T>> for CommandFault {
     ghost from_gives = { λ _ fault. fault ≡ OutOfMemory };
 
     fn from(_error: AllocFailed<T>) -> CommandFault {
+        CommandFault::OutOfMemory
+    }
+}
+
+impl From<guest_memory::OutOfMemory> for CommandFault {
+    ghost use Rattle.tlsld.specs.declared.fault.CommandFault.TheVariants.{OutOfMemory};
+
+    ghost from_gives = { λ _ fault. fault ≡ OutOfMemory };
+
+    fn from(_error: guest_memory::OutOfMemory) -> CommandFault {
+        CommandFault::OutOfMemory
+    }
+}
+
+impl From<job_text::OutOfMemory> for CommandFault {
+    ghost use Rattle.tlsld.specs.declared.fault.CommandFault.TheVariants.{OutOfMemory};
+
+    ghost from_gives = { λ _ fault. fault ≡ OutOfMemory };
+
+    fn from(_error: job_text::OutOfMemory) -> CommandFault {
         CommandFault::OutOfMemory
     }
 }

@@ -1,0 +1,29 @@
+-- The statuses that the program ends with, and what they say of the store and of the sink.
+use Rattle.std.specs.Prelude.{◌≡◌, ℕ, ◌<◌, ◌≤◌, ◌⊎◌}
+use Rattle.ports.specs.Counts.{Rose}
+use Rattle.tlsld.specs.declared.status.Status.{Status}
+use Rattle.tlsld.specs.declared.status.Status.TheVariants.{Done, Usage, Store, Job, Object}
+
+-- the number of a status that a command gives itself; 1 and 4 come of putting its text
+abbrev pub code_of : Status → ℕ
+code_of Done = 0
+code_of Usage = 2
+code_of Store = 3
+code_of Job = 5
+code_of Object = 6
+
+-- the text did not get through, so that the number is not the command's own: want of memory, or a sink that failed
+abbrev pub IsLate : ℕ → Type 0
+IsLate code = (code ≡ 1) ⊎ (code ≡ 4)
+
+-- 3 comes only where the store failed, and where it failed, 3 or a late number comes
+pub record StoreShown (before now code : ℕ) : Type 0 where
+  pub later : before ≤ now
+  pub cause : code ≡ 3 → Rose before now
+  pub shown : before < now → (code ≡ 3) ⊎ IsLate code
+
+-- 4 comes only where the sink failed, and where it failed, 4 comes
+pub record SinkShown (before now code : ℕ) : Type 0 where
+  pub later : before ≤ now
+  pub cause : code ≡ 4 → Rose before now
+  pub shown : before < now → code ≡ 4

@@ -1,0 +1,4 @@
+#[derive(Drop)]
+pub enum Task {
+    Run { job: String, no_relax: bool },
+}
