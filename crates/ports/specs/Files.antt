@@ -9,6 +9,10 @@ use Rattle.std.specs.FinMap as map
 abbrev pub Files : Type 0
 Files = map.FinMap (slice_cmp nat_cmp) (List ℕ)
 
+-- a store that does not tell its files
+abbrev pub untold_files : Option Files
+untold_files = None
+
 -- the content of a file
 abbrev pub file_at : Files → List ℕ → Option (List ℕ)
 file_at files name = map.get files name

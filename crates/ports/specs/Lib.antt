@@ -1,5 +1,7 @@
 pub mod Counts
 pub mod Entries
+pub mod Errors
 pub mod Files
 pub mod Pieces
 pub mod States
+pub mod Streams

@@ -2,6 +2,10 @@
 use Rattle.std.specs.Prelude.{◌≡◌, ℕ, ◌+◌, List, ◌++◌, take, Option, None}
 use Rattle.std.specs.Option.{option_map}
 
+-- a sink that does not tell its bytes
+abbrev pub untold_bytes : Option (List ℕ)
+untold_bytes = None
+
 -- the bytes, and then the whole piece
 abbrev pub with_piece : List ℕ → Option (List ℕ) → Option (List ℕ)
 with_piece piece = option_map (λ bytes. bytes ++ piece)

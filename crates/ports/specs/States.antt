@@ -1,5 +1,5 @@
 -- What a contract sees of a store and of a sink in memory.
-use Rattle.std.specs.Prelude.{ℕ, ◌-◌, ◌==◌, if◌then◌else◌, List, ◌++◌, take, refl, Result, Ok, Err}
+use Rattle.std.specs.Prelude.{ℕ, ◌-◌, ◌==◌, if◌then◌else◌, List, ◌++◌, take, refl, Option, Result, Ok, Err}
 use Rattle.std.specs.Coded.{Coded, code_by, coded×, coded_ℕ, coded_list}
 use Rattle.std.specs.FinMap as map
 use Rattle.ports.specs.declared.faults.PutFault.{PutFault}
@@ -41,3 +41,9 @@ sink_after_put sink piece (Err put.Failed) = record sink {
   fails_in = sink.fails_in - 1;
 }
 sink_after_put sink piece (Err put.OutOfMemory) = record sink { shortages = counted sink.shortages; fails_in = sink.fails_in - 1 }
+
+-- what the sink's writer holds, where that is known, how often the sink has failed, and how often it had no memory
+pub record HostSinkState : Type 0 where
+  pub written : Option (List ℕ)
+  pub faults : ℕ
+  pub shortages : ℕ

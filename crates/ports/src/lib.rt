@@ -27,11 +27,15 @@
 #![tactic(auto)]
 
 mod faults;
+mod host;
 mod memory;
 mod sinks;
 mod stores;
+#[cfg(test)]
+mod tests;
 
 pub use faults::{FetchFault, PutFault};
+pub use host::{HostSink, HostStore, LARGEST_FILE};
 pub use memory::{MemorySink, MemoryStore};
 pub use sinks::Sink;
 pub use stores::Store;

@@ -107,10 +107,7 @@ impl Store for MemoryStore {
             return Err(FetchFault::Failed);
         }
         match self.get(name) {
-            Some(bytes) => match into.extend_from_slice(bytes) {
-                Ok(()) => Ok(()),
-                Err(AllocError) => Err(FetchFault::OutOfMemory),
-            },
+            Some(bytes) => Ok(into.extend_from_slice(bytes)?),
             None => {
                 self.plan.counts_fault();
                 Err(FetchFault::Failed)
@@ -132,9 +129,6 @@ impl Store for MemoryStore {
             self.plan.counts_fault();
             return Err(PutFault::Failed);
         }
-        match self.add(name, bytes) {
-            Ok(()) => Ok(()),
-            Err(AllocError) => Err(PutFault::OutOfMemory),
-        }
+        Ok(self.add(name, bytes)?)
     }
 }

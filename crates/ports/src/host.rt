@@ -1,0 +1,7 @@
+//! The store and the sink of the host: its file system, and a writer such as its standard output.
+mod sink;
+mod store;
+mod streams;
+
+pub use sink::HostSink;
+pub use store::{HostStore, LARGEST_FILE};

@@ -1,0 +1,107 @@
+//! A writer of the host as a sink.
+ghost use Rattle.std.specs.Prelude.{◌≡◌, [], OnOk, OnErr, IsOk};
+ghost use Rattle.std.specs.Io.KnownBytes.{Appends};
+ghost use Rattle.ports.specs.Counts.{PutCounts, MemoryCounts};
+ghost use Rattle.ports.specs.Pieces.{with_piece, AddsFront, next_piece, untold_bytes, untold_pieces};
+ghost use Rattle.ports.specs.Streams.{AppendsFront};
+
+use super::streams::write_all;
+use crate::{PutFault, Sink};
+use std::io::Write;
+use std::marker::Model;
+
+/// A writer, such as `io::writer(&rt)` for standard output. It tells a caller no bytes.
+///
+/// A put is done when the writer has taken and flushed the whole piece. A writer that fails, that takes nothing of what is
+/// left, or that a signal interrupts a thousand times in a row, is a fault; then a front of the piece has been written. A
+/// closed pipe is such a fault where the process lives on, that is where it holds off SIGPIPE.
+#[derive(Drop)]
+pub struct HostSink<W: Write + Drop> {
+    to: W,
+    faults: u64,
+    shortages: u64,
+}
+
+impl<W: Write + Drop> Model for HostSink<W> {
+    ghost use Rattle.ports.specs.States.{HostSinkState};
+
+    ghost Value = { HostSinkState };
+
+    ghost view = { λ a. record { written = W.contents a.to; faults = a.faults; shortages = a.shortages } };
+}
+
+impl<W: Write + Drop> HostSink<W> {
+    pub fn new(to: W) -> Self
+        ensures { result ≡ record { written = W.contents to; faults = 0; shortages = 0 } }
+    {
+        HostSink {
+            to,
+            faults: 0,
+            shortages: 0,
+        }
+    }
+
+    /// How often the sink has failed.
+    pub fn faults(&self) -> u64
+        ensures { result ≡ self.now.faults }
+    {
+        self.faults
+    }
+
+    /// How often the sink has answered that there was no memory.
+    pub fn shortages(&self) -> u64
+        ensures { result ≡ self.now.shortages }
+    {
+        self.shortages
+    }
+}
+
+/// Writes the whole piece and flushes it.
+fn write_through<W: Write>(to: &mut W, piece: &[u8]) -> Result<(), PutFault>
+    ensures ok { OnOk result (Appends (W.contents to.old) (W.contents to.new) piece.now) }
+    ensures err { OnErr result (AppendsFront (W.contents to.old) (W.contents to.new) piece.now) }
+    ensures empty { piece.now ≡ [] → IsOk result }
+{
+    if piece.is_empty() {
+        return Ok(());
+    }
+    write_all(to, piece)?;
+    to.flush()?;
+    Ok(())
+}
+
+impl<W: Write + Drop> Sink for HostSink<W> {
+    ghost use Rattle.ports.specs.Pieces.{untold_bytes, untold_pieces};
+
+    ghost bytes = { λ _. untold_bytes };
+
+    ghost faults = { λ s. s.faults };
+
+    ghost shortages = { λ s. s.shortages };
+
+    ghost pieces = { λ _. untold_pieces };
+
+    fn put(&mut self, piece: &[u8]) -> Result<(), PutFault>
+        ensures ok { OnOk result (untold_bytes ≡ with_piece piece.now untold_bytes) }
+        ensures err { OnErr result (AddsFront untold_bytes piece.now untold_bytes) }
+        ensures cause { PutCounts self.old.faults self.new.faults result }
+        ensures memory { MemoryCounts self.old.shortages self.new.shortages result }
+        ensures pieces { untold_pieces ≡ next_piece untold_pieces }
+
+        ensures written { OnOk result (Appends self.old.written self.new.written piece.now) }
+        ensures cut { OnErr result (AppendsFront self.old.written self.new.written piece.now) }
+        ensures empty { piece.now ≡ [] → IsOk result }
+    {
+        match write_through(&mut self.to, piece) {
+            Ok(()) => Ok(()),
+            Err(PutFault::Failed) => {
+                self.faults = self.faults.saturating_add(1);
+                Err(PutFault::Failed)
+            }
+            Err(PutFault::OutOfMemory) => {
+                self.shortages = self.shortages.saturating_add(1);
+                Err(PutFault::OutOfMemory)
+            }
+        }
+    }
+}

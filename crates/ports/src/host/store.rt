@@ -1,0 +1,162 @@
+//! The host's file system as a store.
+ghost use Rattle.std.specs.Prelude.{◌≡◌, ◌+◌, ◌++◌, ◌≤◌, length, take, IsErr, OnOk, OnErr, IfSome, MatchOption};
+ghost use Rattle.ports.specs.Counts.{FetchCounts, PutCounts};
+ghost use Rattle.ports.specs.Files.{file_at, with_file, with_name, untold_files, untold_names};
+
+use super::streams::{read_all, write_all};
+use crate::{FetchFault, PutFault, Store};
+use std::alloc::Global;
+use std::fs::{File, OpenFile};
+use std::io::ErrorKind;
+use std::marker::Model;
+use std::rt::Files;
+use std::{fs, io};
+
+/// The most bytes that a file may have to be fetched: 256 MiB.
+pub const LARGEST_FILE: usize = 1 << 28;
+
+/// How many names are tried for the new file that a put writes first.
+const NAMES: u32 = 100;
+
+/// The files of the host, by path. It tells a caller neither files nor names, but only counts its faults.
+#[derive(Drop)]
+pub struct HostStore<'a, R: Files> {
+    rt: &'a R,
+    alloc: Global,
+    faults: u64,
+}
+
+impl<'a, R: Files> Model for HostStore<'a, R> {
+    ghost use Rattle.std.specs.Prelude.{ℕ};
+
+    ghost Value = { ℕ };
+
+    ghost view = { λ a. a.faults };
+}
+
+impl<'a, R: Files> HostStore<'a, R> {
+    pub fn new(rt: &'a R, alloc: Global) -> Self
+        ensures { result ≡ 0 }
+    {
+        HostStore {
+            rt,
+            alloc,
+            faults: 0,
+        }
+    }
+
+    /// How often the store has failed.
+    pub fn faults(&self) -> u64
+        ensures { result ≡ self.now }
+    {
+        self.faults
+    }
+}
+
+fn read_file<R: Files>(rt: &R, name: &str, into: &mut Vec<u8>) -> Result<(), FetchFault>
+    ensures fits { OnOk result (length into.new.items ≤ length into.old.items + LARGEST_FILE) }
+    ensures begins { take (length into.old.items) into.new.items ≡ into.old.items }
+    ensures kept { OnErr result (into.new.items ≡ into.old.items) }
+{
+    let mut file = fs::open(rt, name)?;
+    read_all(&mut file, into, LARGEST_FILE)
+}
+
+impl<'a, R: Files> Store for HostStore<'a, R> {
+    ghost use Rattle.ports.specs.Files.{untold_files, untold_names};
+
+    ghost files = { λ _. untold_files };
+
+    ghost faults = { λ faults. faults };
+
+    ghost asked = { λ _. untold_names };
+
+    fn fetch(&mut self, name: &str, into: &mut Vec<u8>) -> Result<(), FetchFault>
+        ensures files { untold_files ≡ untold_files }
+        ensures bytes { IfSome untold_files (λ fs. MatchOption (file_at fs name.now)
+            (IsErr result) (λ b. OnOk result (into.new.items ≡ into.old.items ++ b))) }
+        ensures appends { take (length into.old.items) into.new.items ≡ into.old.items }
+        ensures kept { OnErr result (into.new.items ≡ into.old.items) }
+        ensures cause { FetchCounts self.old self.new result }
+        ensures asked { untold_names ≡ with_name name.now untold_names }
+
+        ensures fits { OnOk result (length into.new.items ≤ length into.old.items + LARGEST_FILE) }
+    {
+        match read_file(self.rt, name, into) {
+            Err(FetchFault::Failed) => {
+                self.faults = self.faults.saturating_add(1);
+                Err(FetchFault::Failed)
+            }
+            answer => answer,
+        }
+    }
+
+    fn put(&mut self, name: &str, bytes: &[u8]) -> Result<(), PutFault>
+        ensures ok { OnOk result (untold_files ≡ with_file name.now bytes.now untold_files) }
+        ensures err { OnErr result (untold_files ≡ untold_files) }
+        ensures cause { PutCounts self.old self.new result }
+        ensures asked { untold_names ≡ untold_names }
+    {
+        match write_file(self.rt, self.alloc, name, bytes) {
+            Err(PutFault::Failed) => {
+                self.faults = self.faults.saturating_add(1);
+                Err(PutFault::Failed)
+            }
+            answer => answer,
+        }
+    }
+}
+
+fn write_file<R: Files>(rt: &R, alloc: Global, name: &str, bytes: &[u8]) -> Result<(), PutFault> {
+    if is_special(rt, name)? {
+        write_all(&mut fs::create(rt, name)?, bytes)
+    } else {
+        replace_file(rt, alloc, name, bytes)
+    }
+}
+
+/// Whether something stands under the name that is no plain file, as a device, a pipe or a link.
+fn is_special<R: Files>(rt: &R, name: &str) -> io::Result<bool> {
+    match fs::symlink_metadata(rt, name) {
+        Ok(found) => Ok(!found.is_file()),
+        Err(error) if error.kind() == ErrorKind::NotFound => Ok(false),
+        Err(error) => Err(error),
+    }
+}
+
+/// Writes a new file beside `name`, and then gives it that name.
+fn replace_file<R: Files>(rt: &R, alloc: Global, name: &str, bytes: &[u8]) -> Result<(), PutFault> {
+    for number in 0..NAMES {
+        let part = format!(in alloc; "{name}.part{number}")?;
+        match File::create_new(rt, part.as_str()) {
+            Ok(file) => return finish_file(rt, file, part.as_str(), name, bytes),
+            Err(error) if error.kind() == ErrorKind::AlreadyExists => {}
+            Err(error) => return Err(PutFault::from(error)),
+        }
+    }
+    Err(PutFault::Failed)
+}
+
+/// Fills the new file `part` and gives it its name, or takes it away.
+fn finish_file<R: Files>(
+    rt: &R,
+    file: R::File,
+    part: &str,
+    name: &str,
+    bytes: &[u8],
+) -> Result<(), PutFault> {
+    let answer = match fill_file(file, bytes) {
+        Ok(()) => fs::rename(rt, part, name).map_err(PutFault::from),
+        Err(fault) => Err(fault),
+    };
+    if answer.is_err() {
+        let _ = fs::remove_file(rt, part);
+    }
+    answer
+}
+
+fn fill_file<F: io::Write + OpenFile + Drop>(mut file: F, bytes: &[u8]) -> Result<(), PutFault> {
+    write_all(&mut file, bytes)?;
+    file.sync_all()?;
+    Ok(())
+}

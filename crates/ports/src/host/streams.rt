@@ -1,0 +1,101 @@
+//! Whole streams, by single reads and writes.
+ghost use Rattle.std.specs.Prelude.{◌≡◌, [], ◌+◌, ◌++◌, ◌≤◌, length, take, OnOk, OnErr, IsOk, IfSome};
+ghost use Rattle.std.specs.Io.{ReadsAtMost, WritesAtMost};
+ghost use Rattle.std.specs.Io.KnownBytes.{ReadConsumes, WriteAppends, Appends};
+ghost use Rattle.ports.specs.Streams.{AppendsFront};
+
+use crate::{FetchFault, PutFault};
+use std::io;
+use std::io::{ErrorKind, Read, Write};
+
+/// How often a call is asked again that a signal interrupted.
+const RETRIES: u32 = 1000;
+
+/// How many bytes are read at a time.
+const CHUNK: usize = 4096;
+
+/// One read. Where a signal interrupts it, which is before it has moved a byte, it is asked again.
+fn read_some<R: Read>(from: &mut R, buffer: &mut [u8]) -> io::Result<usize>
+    ensures bound { ReadsAtMost result buffer.new }
+    ensures bytes { ReadConsumes (R.remaining from.old) (R.remaining from.new) result buffer.new }
+{
+    for _ in 0..RETRIES {
+        match from.read(buffer) {
+            Ok(count) => return Ok(count),
+            Err(error) if error.kind() == ErrorKind::Interrupted => {}
+            Err(error) => return Err(error),
+        }
+    }
+    from.read(buffer)
+}
+
+/// One write. Where a signal interrupts it, which is before it has moved a byte, it is asked again.
+fn write_some<W: Write>(to: &mut W, bytes: &[u8]) -> io::Result<usize>
+    ensures bound { WritesAtMost result bytes.now }
+    ensures bytes { WriteAppends (W.contents to.old) (W.contents to.new) result bytes.now }
+{
+    for _ in 0..RETRIES {
+        match to.write(bytes) {
+            Ok(count) => return Ok(count),
+            Err(error) if error.kind() == ErrorKind::Interrupted => {}
+            Err(error) => return Err(error),
+        }
+    }
+    to.write(bytes)
+}
+
+/// Appends what the reader has left, chunk by chunk. After a refusal some of it has been appended.
+fn read_rest<R: Read>(from: &mut R, into: &mut Vec<u8>, mut room: usize) -> Result<(), FetchFault>
+    ensures bytes { OnOk result (IfSome (R.remaining from.old) (λ bytes. into.new.items ≡ into.old.items ++ bytes)) }
+    ensures fits { OnOk result (length into.new.items ≤ length into.old.items + room) }
+    ensures begins { take (length into.old.items) into.new.items ≡ into.old.items }
+{
+    let mut buffer = [0; CHUNK];
+    loop {
+        let count = read_some(from, &mut buffer)?;
+        if count == 0 {
+            return Ok(());
+        }
+        if count > room {
+            return Err(FetchFault::Failed);
+        }
+        room -= count;
+        into.extend_from_slice(&buffer[..count])?;
+    }
+}
+
+/// Appends what the reader has left, and leaves `into` as it was where that fails, or is more than `room` bytes.
+pub(super) fn read_all<R: Read>(
+    from: &mut R,
+    into: &mut Vec<u8>,
+    room: usize,
+) -> Result<(), FetchFault>
+    ensures bytes { OnOk result (IfSome (R.remaining from.old) (λ bytes. into.new.items ≡ into.old.items ++ bytes)) }
+    ensures fits { OnOk result (length into.new.items ≤ length into.old.items + room) }
+    ensures begins { take (length into.old.items) into.new.items ≡ into.old.items }
+    ensures kept { OnErr result (into.new.items ≡ into.old.items) }
+{
+    let begin = into.len();
+    let answer = read_rest(from, into, room);
+    if answer.is_err() {
+        into.truncate(begin);
+    }
+    answer
+}
+
+/// Writes all the bytes, piece by piece. A writer that takes nothing of them has failed.
+pub(super) fn write_all<W: Write>(to: &mut W, bytes: &[u8]) -> Result<(), PutFault>
+    ensures ok { OnOk result (Appends (W.contents to.old) (W.contents to.new) bytes.now) }
+    ensures err { OnErr result (AppendsFront (W.contents to.old) (W.contents to.new) bytes.now) }
+    ensures empty { bytes.now ≡ [] → IsOk result }
+{
+    let mut written = 0;
+    while written < bytes.len() {
+        let count = write_some(to, &bytes[written..])?;
+        if count == 0 {
+            return Err(PutFault::Failed);
+        }
+        written += count;
+    }
+    Ok(())
+}
