@@ -64,13 +64,13 @@ module _ {W F B : Type 0} (ops : Operations W F B) (limit : ℕ) (old : Standing
   runs-ended stop ended = record {
     stop = rw (← same, ended) refl;
     after = rw (← same, ended) refl;
-    steps = rw (← same, ended) counted
-    }
+    steps = rw (← same, ended) counted;
+  }
 
   pub runs-waits : run (machine_of ops) (limit - new.taken) (left new.state memory') ≡ Waits (limit - new.taken) (left new.state memory')
       → Runs ops limit (Look new.state.place) old memory new memory'
   runs-waits waits = record {
     stop = rw (← same, waits) refl;
     after = rw (← same, waits) refl;
-    steps = rw (← same, waits) counted
-    }
+    steps = rw (← same, waits) counted;
+  }

@@ -1,6 +1,5 @@
 pub mod Access
 pub mod Cause
-pub mod Decoding
 pub mod Machine
 pub mod Operand
 pub mod Plain

@@ -55,13 +55,13 @@ module _ {W F B : Type 0} (ops : Operations W F B) where
   unfoldable pub base_of : Frame → Registers W → Base → Result ℕ Cause
   base_of frame registers base = based frame.displacement_field base
     where
-    based : Option ℕ → Base → Result ℕ Cause
-    based None Absolute = Ok frame.displacement
-    based None (OfRegister register) = used (λ number. plus number frame.displacement) (ops.number_of (register_of registers register))
-    based None NextInstruction = Ok (plus frame.next frame.displacement)
-    based (Some at) (OfRegister register) = ops.moved (register_of registers register) frame.displacement at
-    based (Some at) Absolute = Err Field
-    based (Some at) NextInstruction = Err Field
+      based : Option ℕ → Base → Result ℕ Cause
+      based None Absolute = Ok frame.displacement
+      based None (OfRegister register) = used (λ number. plus number frame.displacement) (ops.number_of (register_of registers register))
+      based None NextInstruction = Ok (plus frame.next frame.displacement)
+      based (Some at) (OfRegister register) = ops.moved (register_of registers register) frame.displacement at
+      based (Some at) Absolute = Err Field
+      based (Some at) NextInstruction = Err Field
 
   -- an index register times its factor
   unfoldable pub index_of : Registers W → Option Index → Result ℕ Cause

@@ -14,5 +14,5 @@ plain_operations = record {
   byte = λ number. number;
   code = λ byte. Some byte;
   joined = λ bytes. number_from bytes % 2 ^ 64;
-  byte_of = λ word k. digit word k
-  }
+  byte_of = λ word k. digit word k;
+}

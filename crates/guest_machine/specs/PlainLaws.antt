@@ -33,5 +33,5 @@ plain_laws = record {
   code-byte = λ n below. refl;
   code-only = λ b n below coded. cc;
   joined-bytes = λ ns short. ap (λ bytes. number_from bytes % 2 ^ 64) (same_list ns);
-  byte_of-word = λ n k below. low_digit n k below
-  }
+  byte_of-word = λ n k below. low_digit n k below;
+}

@@ -36,16 +36,16 @@ abbrev pub byte_in : {B : Type 0} → Access → List (Range B) → ℕ → Opti
 byte_in access [] place = None
 byte_in access (range ∷ ranges) place =
     if grants access range place
-      then slice_get range.bytes (place - range.start)
-      else byte_in access ranges place
+    then slice_get range.bytes (place - range.start)
+    else byte_in access ranges place
 
 -- the ranges with the byte at a place written
 abbrev pub with_byte : {B : Type 0} → List (Range B) → ℕ → B → List (Range B)
 with_byte [] place byte = []
 with_byte (range ∷ ranges) place byte =
     if grants Write range place
-      then record range { bytes = slice_set range.bytes (place - range.start) byte } ∷ ranges
-      else range ∷ with_byte ranges place byte
+    then record range { bytes = slice_set range.bytes (place - range.start) byte } ∷ ranges
+    else range ∷ with_byte ranges place byte
 
 -- what such a memory lets a machine do
 unfoldable pub range_accesses : {W F B : Type 0} → Operations W F B → Accesses (AddressSpace B) B
@@ -53,8 +53,8 @@ range_accesses ops = record {
   byte = λ memory place. ok_or (byte_in Read memory.ranges place) Refused;
   writes = λ memory place. reached (λ byte. tt) (ok_or (byte_in Write memory.ranges place) Refused);
   put = λ memory place byte. record memory { ranges = with_byte memory.ranges place byte };
-  code = λ memory place. option_and_then ops.code (byte_in Run memory.ranges place)
-  }
+  code = λ memory place. option_and_then ops.code (byte_in Run memory.ranges place);
+}
 
 -- whether an offset field begins at a place
 unfoldable pub is_field_of : {B : Type 0} → AddressSpace B → ℕ → Bool

@@ -63,8 +63,8 @@ module _ {W F B M : Type 0} (ops : Operations W F B) (acc : Accesses M B) (is_fi
   machine = record {
     over = λ at. if at.state.place == 0x2000 then Some (returned (ops.number_of at.state.registers.rax) at.state.place) else None;
     step = λ at. if is_look at.state.place then Looks at else next_of (step_of ops acc (is_field at.memory) at.state at.memory);
-    spent = λ at. Steps at.state.place
-    }
+    spent = λ at. Steps at.state.place;
+  }
 
 abbrev pub stop_of : {W F M : Type 0} → Outcome (After W F M) → Stop
 stop_of (Ended stop n at) = stop

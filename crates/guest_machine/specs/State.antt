@@ -50,10 +50,24 @@ start_of ops place stack a b c =
     let clear = ops.flag false in
     record {
       registers = record {
-        rax = zero_word; rcx = zero_word; rdx = c; rbx = zero_word; rsp = ops.word stack; rbp = zero_word; rsi = b; rdi = a;
-        r8 = zero_word; r9 = zero_word; r10 = zero_word; r11 = zero_word; r12 = zero_word; r13 = zero_word; r14 = zero_word; r15 = zero_word
-        };
+        rax = zero_word;
+        rcx = zero_word;
+        rdx = c;
+        rbx = zero_word;
+        rsp = ops.word stack;
+        rbp = zero_word;
+        rsi = b;
+        rdi = a;
+        r8 = zero_word;
+        r9 = zero_word;
+        r10 = zero_word;
+        r11 = zero_word;
+        r12 = zero_word;
+        r13 = zero_word;
+        r14 = zero_word;
+        r15 = zero_word;
+      };
       flags = record { zero = clear; sign = clear; carry = clear; overflow = clear };
       place = place;
-      thread_pointer = 0
-      }
+      thread_pointer = 0;
+    }

@@ -17,7 +17,7 @@ use Rattle.guest_machine.specs.Access.{Accesses, load_of, fetch_of}
 use Rattle.guest_machine.specs.State.{with_register}
 use Rattle.guest_machine.specs.Use.{◌>>=◌, plus, clean, there, After, left}
 use Rattle.guest_machine.specs.Operand.{carried}
-use Rattle.guest_machine.specs.Decoding.{decoded_of}
+use Rattle.amd64_subset.specs.Decoding.{decoded}
 
 abbrev pub with_word : {W F : Type 0} → State W F → Register → W → State W F
 with_word state register word = record state { registers = with_register state.registers register word }
@@ -56,19 +56,19 @@ field_at is_field here (Some within) = if is_field (plus here within) then Some 
 
 -- what stands around the operation of an instruction that was read at a place
 unfoldable pub frame_of : (ℕ → Bool) → ℕ → Decoded → Frame
-frame_of is_field here decoded = record {
-  next = plus here decoded.len;
-  displacement = decoded.instr.displacement;
-  immediate = decoded.instr.immediate;
-  displacement_field = field_at is_field here decoded.disp;
-  immediate_field = field_at is_field here decoded.imm
-  }
+frame_of is_field here it = record {
+  next = plus here it.len;
+  displacement = it.instr.displacement;
+  immediate = it.instr.immediate;
+  displacement_field = field_at is_field here it.disp;
+  immediate_field = field_at is_field here it.imm;
+}
 
 module _ {W F B M : Type 0} (ops : Operations W F B) (acc : Accesses M B) (is_field : ℕ → Bool) where
   abbrev pub act_if : Option Decoded → State W F → M → Result (After W F M) Stop
   act_if None state memory = Err (Code state.place)
-  act_if (Some decoded) state memory = act ops acc (frame_of is_field state.place decoded) decoded.instr.operation state memory
+  act_if (Some it) state memory = act ops acc (frame_of is_field state.place it) it.instr.operation state memory
 
   -- one step: the instruction is read from the bytes that may be fetched
   unfoldable pub step_of : State W F → M → Result (After W F M) Stop
-  step_of state memory = act_if (decoded_of (fetch_of acc memory state.place)) state memory
+  step_of state memory = act_if (decoded (fetch_of acc memory state.place)) state memory

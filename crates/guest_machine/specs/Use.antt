@@ -9,7 +9,6 @@ use Rattle.guest_machine.specs.Access.{Refusal, Refused, Shut}
 use Rattle.guest_machine.specs.Cause.{first_cause}
 
 infixl 10 ◌>>=◌
-
 -- one thing after another, up to the first stop
 abbrev pub ◌>>=◌ : {A B : Type 0} → Result A Stop → (A → Result B Stop) → Result B Stop
 (Ok x) >>= f = f x

@@ -49,6 +49,10 @@ impl Cause {
     pub fn first(self, other: Cause) -> Cause
         ensures { result ≡ first_cause self other }
     {
-        if self.rank() <= other.rank() { self } else { other }
+        if self.rank() <= other.rank() {
+            self
+        } else {
+            other
+        }
     }
 }

@@ -2,7 +2,6 @@
 #![tactic(auto)]
 
 mod cause;
-mod decoding;
 mod frame;
 mod machine;
 mod moves;

@@ -44,11 +44,7 @@ fn charged<A: Copy>(field: Option<u64>, answer: Result<A, Cause>) -> Result<A, C
 
 /// The base of an address with the displacement.
 #[tactic(auto, unfolding(crate::specs::Operand::base_of))]
-fn base<V: Values>(
-    frame: &Frame,
-    registers: &Registers<V::Word>,
-    base: Base,
-) -> Result<u64, Cause>
+fn base<V: Values>(frame: &Frame, registers: &Registers<V::Word>, base: Base) -> Result<u64, Cause>
     ensures { result ≡ base_of V.operations frame.now registers.now base }
 {
     match (frame.displacement_field, base) {

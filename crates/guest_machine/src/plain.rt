@@ -22,7 +22,9 @@ fn number(bytes: &[u8]) -> u64
 
 impl Values for Plain {
     type Word = u64;
+
     type Flag = bool;
+
     type Byte = u8;
 
     ghost operations = { plain_operations };

@@ -3,7 +3,6 @@ ghost use Rattle.guest_machine.specs.Ranges.{range_accesses, is_field_of};
 ghost use Rattle.guest_machine.specs.Step.{act, step_of};
 ghost use Rattle.guest_machine.specs.Use.{Leaves, left};
 
-use crate::decoding::decode;
 use crate::frame::{Frame, frame_at};
 use crate::moves::move_in;
 use crate::space::Space;
@@ -11,7 +10,7 @@ use crate::stack::return_from;
 use crate::state::State;
 use crate::stop::Stop;
 use crate::values::Values;
-use amd64_subset::{Operands, Operation};
+use amd64_subset::{Operands, Operation, decode};
 
 /// One instruction.
 #[tactic(auto, unfolding(crate::specs::Step::act))]

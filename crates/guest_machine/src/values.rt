@@ -7,7 +7,9 @@ use crate::cause::Cause;
 /// number where an instruction needs one.
 pub trait Values {
     type Word: Copy;
+
     type Flag: Copy;
+
     type Byte: Copy;
 
     ghost operations: { Operations Self.Word Self.Flag Self.Byte };

@@ -35,7 +35,7 @@ loop-state-preserved g c =
     let more : c.args.limit - c.loop-state.taken ≡ suc (c.args.limit - (c.loop-state.taken + 1)) = omega arith in
     record {
       same =
-      sym (machine-goes g.V.Values.operations _ _ (c.args.limit - (c.loop-state.taken + 1)) _ (ne_eqb _ _ c.if-state-eq-RETURN.false) (sym c.is_look.ensures ∙ c.if-is_look.false) c.in_default.ensures)
-      ∙ (rw more at c.loop-state.invariant.same);
-      counted = omega arith
-      }
+          sym (machine-goes g.V.Values.operations _ _ (c.args.limit - (c.loop-state.taken + 1)) _ (ne_eqb _ _ c.if-state-eq-RETURN.false) (sym c.is_look.ensures ∙ c.if-is_look.false) c.in_default.ensures)
+          ∙ (rw more at c.loop-state.invariant.same);
+      counted = omega arith;
+    }

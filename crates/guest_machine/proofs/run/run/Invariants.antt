@@ -10,8 +10,8 @@ invariant-loop-state g l =
     let memory = g.S.Space.memory in
     record {
       same : run machine (l.limit - l.taken) (left l.state (memory l.space)) ≡ run machine (l.limit - l.fn.taken) (left l.fn.state (memory l.fn.space));
-      counted : l.taken + (l.limit - l.taken) ≡ l.fn.taken + (l.limit - l.fn.taken)
-      }
+      counted : l.taken + (l.limit - l.taken) ≡ l.fn.taken + (l.limit - l.fn.taken);
+    }
 
 abbrev pub decreases-loop-state : goal.decreases-loop-state
 decreases-loop-state g l = l.limit - l.taken
