@@ -1,0 +1,5 @@
+pub mod Steps
+pub mod Fields
+pub mod Parts
+pub mod Marks
+pub mod Whole
