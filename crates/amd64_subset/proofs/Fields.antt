@@ -121,21 +121,24 @@ operated_takes prefixes row size bytes body rest e =
     let is = ok_is _ (body, rest) read.2 in
     let body-is : operand_body action prefixes selectors size read.0.0 ≡ body = ap (λ (p : Body × List ℕ). p.0) is in
     let rest-is : read.0.1 ≡ rest = ap (λ (p : Body × List ℕ). p.1) is in
-    let front = selectors.modrm ∷ (option_to_list selectors.sib ++ (numbers.first ++ numbers.second)) in
-    (front, regroup selectors.modrm (option_to_list selectors.sib) numbers.first numbers.second rest bytes selected.0.1 read.0.1 head.whole numbers.whole rest-is, record {
-      modrm = selectors.modrm;
-      sib = selectors.sib;
-      displacement = numbers.first;
-      immediate = numbers.second;
-      action = action;
-      whole = refl;
-      action-is = head.action-is;
-      allows = head.allows;
-      has_sib = head.has_sib;
-      displacement-length = numbers.first-length;
-      immediate-length = numbers.second-length;
-      body-is = sym body-is ∙ ap (λ (n : Numbers). operand_body action prefixes selectors size n) numbers.is;
-    })
+    let front = selectors.modrm ∷ (option_to_list selectors.sib ++ (numbers.first ++ numbers.second)) in (
+      front,
+      regroup selectors.modrm (option_to_list selectors.sib) numbers.first numbers.second rest bytes selected.0.1 read.0.1 head.whole numbers.whole rest-is,
+      record {
+        modrm = selectors.modrm;
+        sib = selectors.sib;
+        displacement = numbers.first;
+        immediate = numbers.second;
+        action = action;
+        whole = refl;
+        action-is = head.action-is;
+        allows = head.allows;
+        has_sib = head.has_sib;
+        displacement-length = numbers.first-length;
+        immediate-length = numbers.second-length;
+        body-is = sym body-is ∙ ap (λ (n : Numbers). operand_body action prefixes selectors size n) numbers.is;
+      },
+    )
 
 pub operated_again : (prefixes : Prefixes) (row : Row) (size : Size) (front : List ℕ) (body : Body) (rest : List ℕ) → IsOperated prefixes row size front body → operated_at prefixes row size (front ++ rest) ≡ Ok (body, rest)
 unfolding operated_at

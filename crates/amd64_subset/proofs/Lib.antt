@@ -3,3 +3,4 @@ pub mod Fields
 pub mod Parts
 pub mod Marks
 pub mod Whole
+pub mod Places

@@ -44,12 +44,12 @@ or_true false = refl
 
 none_taken : (t o c : Bool) (r : Option Rex) (bytes : List ℕ) (q : Prefixes) (rest : List ℕ) → prefixed t o c r ≡ q → bytes ≡ rest → MarksTaken t o c r bytes q rest
 none_taken t o c r bytes q rest is same = record {
-    marks = [];
-    whole = same;
-    each = refl;
-    once = elim t as (λ b. cond b 1 0 + 0 ≤ 1) [ true ↦ omega arith | false ↦ omega arith ];
-    is = sym is ∙ rw (or_false t, or_false o, or_false c) refl;
-  }
+  marks = [];
+  whole = same;
+  each = refl;
+  once = elim t as (λ b. cond b 1 0 + 0 ≤ 1) [ true ↦ omega arith | false ↦ omega arith ];
+  is = sym is ∙ rw (or_false t, or_false o, or_false c) refl;
+}
 
 fs_taken : (t o c : Bool) (r : Option Rex) (bytes : List ℕ) (q : Prefixes) (rest : List ℕ) → t ≡ false → MarksTaken true o c r bytes q rest → MarksTaken t o c r (0x64 ∷ bytes) q rest
 fs_taken true o c r bytes q rest e h = absurd cc
@@ -66,14 +66,14 @@ marks_takes t o c r [] q rest e = let is = ok_is _ (q, rest) e in none_taken t o
 marks_takes t o c r (b ∷ bytes) q rest e =
     elim (chosen (eqb b 0x64) _ _ _ e) [
       | inl fs ↦
-        let k = kept (t || c) Wrong _ (q, rest) fs.1 in
-        subst (λ (x : ℕ). MarksTaken t o c r (x ∷ bytes) q rest) (sym (eqb-true b 0x64 fs.0)) (fs_taken t o c r bytes q rest (or_parts t c k.0).0 (marks_takes true o c r bytes q rest k.1))
+          let k = kept (t || c) Wrong _ (q, rest) fs.1 in
+          subst (λ (x : ℕ). MarksTaken t o c r (x ∷ bytes) q rest) (sym (eqb-true b 0x64 fs.0)) (fs_taken t o c r bytes q rest (or_parts t c k.0).0 (marks_takes true o c r bytes q rest k.1))
       | inr h ↦ elim (chosen (eqb b 0x66) _ _ _ h.1) [
         | inl size ↦ subst (λ (x : ℕ). MarksTaken t o c r (x ∷ bytes) q rest) (sym (eqb-true b 0x66 size.0)) (operand_size_taken t o c r bytes q rest (marks_takes t true c r bytes q rest size.1))
         | inr k ↦ elim (chosen (eqb b 0x2e) _ _ _ k.1) [
           | inl cs ↦
-            let l = kept t Wrong _ (q, rest) cs.1 in
-            subst (λ (x : ℕ). MarksTaken t o c r (x ∷ bytes) q rest) (sym (eqb-true b 0x2e cs.0)) (code_segment_taken t o c r bytes q rest (marks_takes t o true r bytes q rest l.1))
+              let l = kept t Wrong _ (q, rest) cs.1 in
+              subst (λ (x : ℕ). MarksTaken t o c r (x ∷ bytes) q rest) (sym (eqb-true b 0x2e cs.0)) (code_segment_taken t o c r bytes q rest (marks_takes t o true r bytes q rest l.1))
           | inr l ↦ let is = ok_is _ (q, rest) l.1 in none_taken t o c r (b ∷ bytes) q rest (ap (λ (p : Prefixes × List ℕ). p.0) is) (ap (λ (p : Prefixes × List ℕ). p.1) is)
         ]
       ]
@@ -142,11 +142,11 @@ rex_takes t o c [] q rest e = absurd cc
 rex_takes t o c (b ∷ bytes) q rest e =
     elim (chosen (eqb (b / 16) 4) _ _ _ e) [
       | inl h ↦
-        let p = possible_takes (prefixed t o c (Some (rex_of b))) bytes q rest h.1 in
-        record { rex = Some b; whole = ap (λ (x : List ℕ). b ∷ x) p.1; is_rex = eqb-true (b / 16) 4 h.0; is = p.0 }
+          let p = possible_takes (prefixed t o c (Some (rex_of b))) bytes q rest h.1 in
+          record { rex = Some b; whole = ap (λ (x : List ℕ). b ∷ x) p.1; is_rex = eqb-true (b / 16) 4 h.0; is = p.0 }
       | inr h ↦
-        let p = possible_takes (prefixed t o c None) (b ∷ bytes) q rest h.1 in
-        record { rex = None; whole = p.1; is_rex = tt; is = p.0 }
+          let p = possible_takes (prefixed t o c None) (b ∷ bytes) q rest h.1 in
+          record { rex = None; whole = p.1; is_rex = tt; is = p.0 }
     ]
 
 -- the bytes begin with an opcode
@@ -208,4 +208,4 @@ pub prefixes_again : (marks : List ℕ) (rex : Option ℕ) (rest : List ℕ) →
 unfolding prefixes_at
 prefixes_again marks rex rest are is_rex begin possible =
     rw (marks_again false false false None marks (option_to_list rex ++ rest) are.0 (rex_starts rex rest is_rex begin) (omega (arith, are.1)) (apart_from (has 0x64 marks) (has 0x66 marks) (has 0x2e marks) (bits_of (prefixes_of marks rex)).wide possible))
-      (rex_again (has 0x64 marks) (has 0x66 marks) (has 0x2e marks) rex rest is_rex begin possible)
+    (rex_again (has 0x64 marks) (has 0x66 marks) (has 0x2e marks) rex rest is_rex begin possible)

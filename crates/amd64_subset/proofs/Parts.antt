@@ -47,10 +47,11 @@ body_takes prefixes (row.Number action wide) bytes body rest e =
     let is = ok_is _ (body, rest) read.2 in
     let none : numbers.first ≡ [] = empty numbers.first numbers.first-length in
     let same : read.0.1 ≡ rest = ap (λ (p : Body × List ℕ). p.1) is in
-    let number : read.0.0.immediate ≡ signed_of wide numbers.second = ap (λ (n : Numbers). n.immediate) numbers.is in
-    (numbers.second,
+    let number : read.0.0.immediate ≡ signed_of wide numbers.second = ap (λ (n : Numbers). n.immediate) numbers.is in (
+      numbers.second,
       numbers.whole ∙ ap (λ (t : List ℕ). t ++ (numbers.second ++ read.0.1)) none ∙ ap (λ (t : List ℕ). numbers.second ++ t) same,
-      (numbers.second-length, ap (λ (p : Body × List ℕ). p.0) (sym is) ∙ ap (λ (n : ℕ). numbered_body action (width_of prefixes) wide n) number))
+      (numbers.second-length, ap (λ (p : Body × List ℕ). p.0) (sym is) ∙ ap (λ (n : ℕ). numbered_body action (width_of prefixes) wide n) number),
+    )
 body_takes prefixes (row.Register action) bytes body rest e = operated_takes prefixes (row.Register action) size.Zero bytes body rest e
 body_takes prefixes (row.Group group wide) bytes body rest e = operated_takes prefixes (row.Group group wide) wide bytes body rest e
 
@@ -169,12 +170,12 @@ pub is_opcode : (rex : Rex) (opcode : List ℕ) (r : Row) → named rex opcode �
 unfolding named
 is_opcode rex [] r e = absurd cc
 is_opcode rex (a ∷ []) r e = record {
-    first = a;
-    more = [];
-    whole = refl;
-    no_mark = or_from _ _ (or_from _ _ (differs rex a 0x64 r (none_at rex).2 e) (differs rex a 0x66 r (none_at rex).3 e)) (differs rex a 0x2e r (none_at rex).4 e);
-    no_rex = not_rex rex a r e;
-  }
+  first = a;
+  more = [];
+  whole = refl;
+  no_mark = or_from _ _ (or_from _ _ (differs rex a 0x64 r (none_at rex).2 e) (differs rex a 0x66 r (none_at rex).3 e)) (differs rex a 0x2e r (none_at rex).4 e);
+  no_rex = not_rex rex a r e;
+}
 is_opcode rex (a ∷ b ∷ []) r e =
     elim (chosen (eqb a 0x0f) _ _ _ e) [
       | inl h ↦ rw (eqb-true a 0x0f h.0) (record { first = 0x0f; more = b ∷ []; whole = refl; no_mark = refl; no_rex = refl })
@@ -201,10 +202,10 @@ row_again prefixes (a ∷ b ∷ c ∷ []) r rest e fits = absurd cc
 row_again prefixes (a ∷ b ∷ c ∷ d ∷ []) r rest e fits =
     elim (chosen ((((eqb a 0xf3) && (eqb b 0x0f)) && (eqb c 0x1e)) && (eqb d 0xfa)) _ _ _ e) [
       | inl h ↦
-        let is = end_branch_bytes a b c d h.0 in
-        let same : row.EndBranch ≡ r = cc in
-        let fits' : takes row.EndBranch prefixes ≡ true = subst (λ (y : Row). takes y prefixes ≡ true) (sym same) fits in
-        rw (is.0, is.1, is.2, is.3, fits', same) refl
+          let is = end_branch_bytes a b c d h.0 in
+          let same : row.EndBranch ≡ r = cc in
+          let fits' : takes row.EndBranch prefixes ≡ true = subst (λ (y : Row). takes y prefixes ≡ true) (sym same) fits in
+          rw (is.0, is.1, is.2, is.3, fits', same) refl
       | inr h ↦ absurd (let n = h.1 in cc)
     ]
 row_again prefixes (a ∷ b ∷ c ∷ d ∷ x ∷ more) r rest e fits = absurd cc

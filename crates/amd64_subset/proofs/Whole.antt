@@ -35,20 +35,23 @@ instruction_takes bytes body rest e =
     let p = prefixes_takes bytes one.0.0 one.0.1 one.1 in
     let r = row_takes one.0.0 one.0.1 two.0.0 two.0.1 two.1 in
     let b = body_takes one.0.0 two.0.0 two.0.1 body rest two.2 in
-    let front = p.marks ++ (option_to_list p.rex ++ (r.opcode ++ b.0)) in
-    (front, regroup p.marks (option_to_list p.rex) r.opcode b.0 rest bytes one.0.1 two.0.1 p.whole r.whole b.1, record {
-      marks = p.marks;
-      rex = p.rex;
-      opcode = r.opcode;
-      row = two.0.0;
-      rest = b.0;
-      whole = refl;
-      are_marks = p.are_marks;
-      is_rex = p.is_rex;
-      row-is = subst (λ (q : Prefixes). named (bits_of q) r.opcode ≡ Some two.0.0) p.is r.row-is;
-      takes = subst (λ (q : Prefixes). takes two.0.0 q ≡ true) p.is r.takes;
-      has_body = subst (λ (q : Prefixes). HasBody q two.0.0 b.0 body) p.is b.2;
-    })
+    let front = p.marks ++ (option_to_list p.rex ++ (r.opcode ++ b.0)) in (
+      front,
+      regroup p.marks (option_to_list p.rex) r.opcode b.0 rest bytes one.0.1 two.0.1 p.whole r.whole b.1,
+      record {
+        marks = p.marks;
+        rex = p.rex;
+        opcode = r.opcode;
+        row = two.0.0;
+        rest = b.0;
+        whole = refl;
+        are_marks = p.are_marks;
+        is_rex = p.is_rex;
+        row-is = subst (λ (q : Prefixes). named (bits_of q) r.opcode ≡ Some two.0.0) p.is r.row-is;
+        takes = subst (λ (q : Prefixes). takes two.0.0 q ≡ true) p.is r.takes;
+        has_body = subst (λ (q : Prefixes). HasBody q two.0.0 b.0 body) p.is b.2;
+      },
+    )
 
 clear : (a b : Bool) → (a && (not b || false)) ≡ true → b ≡ false
 clear true true e = absurd cc
@@ -106,12 +109,12 @@ pub decoded_found : (bytes : List ℕ) (d : Decoded) → decoded bytes ≡ Some 
 unfolding decoded
 decoded_found bytes d e = read_found bytes d (instruction_at (take 15 bytes)) refl e
   where
-  read_found : (bytes : List ℕ) (d : Decoded) (r : Read Body) → instruction_at (take 15 bytes) ≡ r → finished (length (take 15 bytes)) r ≡ Some d → Found bytes d
-  read_found bytes d (Err fault) read e = absurd cc
-  read_found bytes d (Ok (body, rest)) read e =
-      let p = instruction_takes (take 15 bytes) body rest read in
-      let is : placed (length (take 15 bytes) - length rest) body ≡ d = cc in
-      found_front bytes d body p.0 rest p.1 p.2 is
+    read_found : (bytes : List ℕ) (d : Decoded) (r : Read Body) → instruction_at (take 15 bytes) ≡ r → finished (length (take 15 bytes)) r ≡ Some d → Found bytes d
+    read_found bytes d (Err fault) read e = absurd cc
+    read_found bytes d (Ok (body, rest)) read e =
+        let p = instruction_takes (take 15 bytes) body rest read in
+        let is : placed (length (take 15 bytes) - length rest) body ≡ d = cc in
+        found_front bytes d body p.0 rest p.1 p.2 is
 
 -- what spells is read, whatever follows
 pub decoded_again : (front : List ℕ) (d : Decoded) (tail : List ℕ) → Spells front d → decoded (front ++ tail) ≡ Some d

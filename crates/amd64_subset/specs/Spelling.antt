@@ -1,6 +1,6 @@
 -- Which bytes spell an instruction: whole lists of bytes, by the parts that they consist of (Intel's manual, volume 2,
 -- figure 2-1): prefixes, REX, opcode, ModRM, SIB, displacement, immediate.
-use Rattle.std.specs.Prelude.{◌≡◌, ℕ, suc, ◌/◌, ◌%◌, ◌≤◌, Bool, true, List, [], ◌∷◌, ◌++◌, length, Option, Some, None, IfSome, is_some, ◌&&◌, ◌||◌, ◌==◌, if◌then◌else◌}
+use Rattle.std.specs.Prelude.{◌≡◌, ℕ, suc, ◌+◌, ◌/◌, ◌%◌, ◌<◌, ◌≤◌, Bool, true, List, [], ◌∷◌, ◌++◌, length, Option, Some, None, IfSome, is_some, ◌&&◌, ◌||◌, ◌==◌, if◌then◌else◌}
 use Rattle.std.specs.Option.{option_map, option_to_list}
 use Rattle.std.specs.List.{list_any, list_all}
 use Rattle.amd64_subset.specs.declared.instr.Operation.TheVariants as operation
@@ -36,11 +36,11 @@ AreMarks marks = (list_all is_mark marks ≡ true) × (fs_count marks ≤ 1)
 -- what stands before the opcode
 abbrev pub prefixes_of : List ℕ → Option ℕ → Prefixes
 prefixes_of marks rex = record {
-    thread_pointer = list_any (λ byte. byte == 0x64) marks;
-    operand_size = list_any (λ byte. byte == 0x66) marks;
-    code_segment = list_any (λ byte. byte == 0x2e) marks;
-    rex = option_map rex_of rex
-  }
+  thread_pointer = list_any (λ byte. byte == 0x64) marks;
+  operand_size = list_any (λ byte. byte == 0x66) marks;
+  code_segment = list_any (λ byte. byte == 0x2e) marks;
+  rex = option_map rex_of rex;
+}
 
 -- the row of an opcode's own bytes
 unfoldable pub named : Rex → List ℕ → Option Row
@@ -93,3 +93,14 @@ pub record Spells (bytes : List ℕ) (decoded : Decoded) : Type 0 where
   pub short : length bytes ≤ 15
   pub parts : HasParts bytes body
   pub decoded-is : decoded ≡ placed (length bytes) body
+
+-- a four-byte field that begins here lies in so many bytes, and not at their start
+abbrev pub HasField : ℕ → ℕ → Type 0
+HasField len at = (0 < at) × (at + 4 ≤ len)
+
+-- an instruction has 1 to 15 bytes, and its fields lie in them
+pub record IsPlaced (decoded : Decoded) : Type 0 where
+  pub some : 0 < decoded.len
+  pub most : decoded.len ≤ 15
+  pub disp : IfSome decoded.disp (HasField decoded.len)
+  pub imm : IfSome decoded.imm (HasField decoded.len)
