@@ -4,3 +4,4 @@ pub mod Parts
 pub mod Marks
 pub mod Whole
 pub mod Places
+pub mod FieldLaws

@@ -17,7 +17,7 @@ use Rattle.amd64_subset.specs.declared.meaning.Body.{Body}
 use Rattle.amd64_subset.specs.Number.{count_of, signed_of}
 use Rattle.amd64_subset.specs.Prefix.{bits_of}
 use Rattle.amd64_subset.specs.Selectors.{displacement_size}
-use Rattle.amd64_subset.specs.Meaning.{width_of, place_of, alone_body, numbered_body, operand_body}
+use Rattle.amd64_subset.specs.Meaning.{width_of, place_of, takes_immediate, alone_body, numbered_body, operand_body}
 use Rattle.amd64_subset.specs.Decoding.{before, placed, decoded}
 use Rattle.amd64_subset.specs.Spelling.{prefixes_of, named, IsOperated, HasBody, HasParts, Spells, HasField, IsPlaced}
 use Rattle.amd64_subset.proofs.Parts.{IsOpcode, is_opcode}
@@ -26,10 +26,6 @@ use Rattle.amd64_subset.proofs.Whole.{Found, decoded_found}
 -- a place from the end that leaves so many bytes, four of them the field's own
 abbrev pub IsBack : ℕ → ℕ → Type 0
 IsBack len back = (4 ≤ back) × (back ≤ len)
-
-none_back : (len : ℕ) (o : Option ℕ) → o ≡ None → IfSome o (IsBack len)
-none_back len None e = tt
-none_back len (Some n) e = absurd cc
 
 -- a four-byte field of this size ends where so many bytes follow
 place_back : (s : Size) (behind len : ℕ) → count_of s + behind ≤ len → IfSome (place_of s behind) (IsBack len)
@@ -42,6 +38,10 @@ pub record HasBack (len : ℕ) (body : Body) : Type 0 where
   pub disp : IfSome body.disp (IsBack len)
   pub imm : IfSome body.imm (IsBack len)
 
+if_back : (b : Bool) (o : Option ℕ) (len : ℕ) → IfSome o (IsBack len) → IfSome (cond b o None) (IsBack len)
+if_back true o len h = h
+if_back false o len h = tt
+
 operated_back : (prefixes : Prefixes) (r : Row) (s : Size) (bytes : List ℕ) (body : Body) → IsOperated prefixes r s bytes body → HasBack (length bytes) body
 unfolding operand_body
 operated_back prefixes r s bytes body h =
@@ -49,7 +49,7 @@ operated_back prefixes r s bytes body h =
     let len : count_of (displacement_size selectors) + count_of s ≤ length bytes = rw (h.whole) (omega (arith, length-append (option_to_list h.sib) (h.displacement ++ h.immediate), length-append h.displacement h.immediate, h.displacement-length, h.immediate-length)) in
     rw (h.body-is) (record {
       disp = place_back (displacement_size selectors) (count_of s) (length bytes) len;
-      imm = place_back s 0 (length bytes) (omega arith);
+      imm = if_back (takes_immediate h.action) (place_of s 0) (length bytes) (place_back s 0 (length bytes) (omega arith));
     })
 
 numbered_back : (action : Numbered) (prefixes : Prefixes) (s : Size) (bytes : List ℕ) → length bytes ≡ count_of s → HasBack (length bytes) (numbered_body action (width_of prefixes) s (signed_of s bytes))
@@ -60,7 +60,7 @@ numbered_back (numbered.JumpIf c) prefixes s bytes len = record { disp = tt; imm
 numbered_back (numbered.Move r) prefixes s bytes len = record { disp = tt; imm = place_back s 0 (length bytes) (omega arith) }
 numbered_back (numbered.Compute a) prefixes s bytes len = record { disp = tt; imm = place_back s 0 (length bytes) (omega arith) }
 
-body_back : (prefixes : Prefixes) (r : Row) (bytes : List ℕ) (body : Body) → HasBody prefixes r bytes body → HasBack (length bytes) body
+pub body_back : (prefixes : Prefixes) (r : Row) (bytes : List ℕ) (body : Body) → HasBody prefixes r bytes body → HasBack (length bytes) body
 body_back prefixes (row.Alone operation) bytes body h = rw (h.1) (record { disp = tt; imm = tt })
 body_back prefixes row.Nop bytes body h = rw (h.1) (record { disp = tt; imm = tt })
 body_back prefixes row.EndBranch bytes body h = rw (h.1) (record { disp = tt; imm = tt })

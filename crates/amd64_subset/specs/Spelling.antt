@@ -104,3 +104,14 @@ pub record IsPlaced (decoded : Decoded) : Type 0 where
   pub most : decoded.len ≤ 15
   pub disp : IfSome decoded.disp (HasField decoded.len)
   pub imm : IfSome decoded.imm (HasField decoded.len)
+
+-- the number in a four-byte field, sign-extended
+abbrev pub field_of : List ℕ → ℕ
+field_of bytes = signed_of size.Four bytes
+
+-- the same instruction but for its displacement, and but for its immediate
+abbrev pub with_displacement : ℕ → Decoded → Decoded
+with_displacement number decoded = record decoded { instr = record decoded.instr { displacement = number } }
+
+abbrev pub with_immediate : ℕ → Decoded → Decoded
+with_immediate number decoded = record decoded { instr = record decoded.instr { immediate = number } }
