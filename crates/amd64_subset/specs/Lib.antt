@@ -6,3 +6,4 @@ pub mod Reading
 pub mod Register
 pub mod Row
 pub mod Selectors
+pub mod Spelling

@@ -3,6 +3,7 @@
 
 mod fault;
 mod instr;
+pub mod laws;
 mod meaning;
 mod operand;
 mod prefix;
