@@ -164,19 +164,22 @@ dynamic_bytes r = spelled (dynamic_fields r)
 abbrev pub FitsDynamicEntry : DynamicEntry → Type 0
 FitsDynamicEntry r = FitAll (dynamic_fields r)
 
--- ELF64_ST_BIND, ELF64_ST_TYPE and ELF64_ST_VISIBILITY
+-- ELF64_ST_BIND: the high four bits of info
 abbrev pub symbol_binding : SymbolEntry → ℕ
 symbol_binding r = r.info / 16
 
+-- ELF64_ST_TYPE: its low four bits
 abbrev pub symbol_kind : SymbolEntry → ℕ
 symbol_kind r = r.info % 16
 
+-- ELF64_ST_VISIBILITY: the low two bits of other
 abbrev pub symbol_visibility : SymbolEntry → ℕ
 symbol_visibility r = r.other % 4
 
--- ELF64_R_SYM and ELF64_R_TYPE
+-- ELF64_R_SYM: the high half of info
 abbrev pub rela_symbol : Rela → ℕ
 rela_symbol r = r.info / 2 ^ 32
 
+-- ELF64_R_TYPE: its low half
 abbrev pub rela_kind : Rela → ℕ
 rela_kind r = r.info % 2 ^ 32
