@@ -5,3 +5,4 @@ pub mod Order
 pub mod Parts
 pub mod Searches
 pub mod SymbolTables
+pub mod TargetsFound

@@ -13,6 +13,7 @@ mod section_tests;
 mod symbol_tests;
 mod symbols;
 mod tables;
+mod targets;
 
 pub use class::SectionClass;
 pub use fault::{FaultKind, ObjectFault};
