@@ -3,9 +3,10 @@ use Rattle.std.specs.Prelude.{◌≡◌, ◌↔◌, ◌+◌, ◌*◌, ◌<◌, �
 use Rattle.elf_object.specs.declared.class.SectionClass.TheVariants.{Executable}
 use Rattle.elf_object.specs.declared.symbols.Symbols.{Symbols}
 use Rattle.elf_object.specs.declared.relocs.RelocTable.{RelocTable}
-use Rattle.elf_object.specs.Parts.{header, section, symbol_table, symbol_count, entry_count, relocates, relocation_table, IsStrings, IsRela}
+use Rattle.elf_object.specs.Parts.{header, section, symbol_table, symbol_count, entry_count, rela, relocates, relocation_table, IsStrings, IsRela}
 use Rattle.elf_object.specs.Classes.{kept_class, IsKeptSection}
 use Rattle.elf_object.specs.Names.{IsEndOfNames}
+use Rattle.elf_object.specs.Relocations.{IsReloc, width_at}
 use Rattle.elf_object.specs.Firsts.{first_below}
 
 -- where the symbol table lies, and where its names end
@@ -33,3 +34,7 @@ AreTargetsBelow b n found = (t : ℕ) → t < (header b).e_shnum → slice_index
 -- the same of all sections
 abbrev pub AreTargets : List ℕ → List ℕ → Type 0
 AreTargets b found = (t : ℕ) → t < (header b).e_shnum → slice_index found t ≡ relocation_table b t
+
+-- the fields of the relocations in section r lie in the first n bytes of their target
+abbrev pub HasRoom : List ℕ → ℕ → ℕ → Type 0
+HasRoom b r n = (e : ℕ) → IsReloc b r e → (rela b r e).offset + width_at b r e ≤ n

@@ -6,6 +6,7 @@ mod elf;
 mod fault;
 mod headers;
 mod names;
+mod overlap;
 mod relocation;
 mod relocs;
 mod scan;
