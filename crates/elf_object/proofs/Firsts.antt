@@ -53,3 +53,22 @@ unfolding first_below
 first_least p zero k above h passes = absurd (omega arith)
 first_least p (suc n) k above h passes =
     least_of (first_below p n) n k (p n) (λ lt. first_least p n k above lt passes) (low_of p n) h above (λ same. rw (← same) passes)
+
+-- one number more: it does not pass, or something was found before, or it is what is found
+pub first_same : (p : ℕ → Bool) (n : ℕ) → p n ≡ false → first_below p (n + 1) ≡ first_below p n
+unfolding first_below
+first_same p n fails = rw (add-one, fails) (same_of (first_below p n))
+  where
+  same_of : (r : ℕ) → (if nat_lt 0 r then r else 0) ≡ r
+  same_of r = grind (arith, nat_tests)
+
+pub first_kept : (p : ℕ → Bool) (n : ℕ) → (first_below p n ≡ 0 → ⊥) → first_below p (n + 1) ≡ first_below p n
+unfolding first_below
+first_kept p n some = rw add-one (kept_of (first_below p n) (if p n then n else 0) some)
+  where
+  kept_of : (r m : ℕ) → (r ≡ 0 → ⊥) → (if nat_lt 0 r then r else m) ≡ r
+  kept_of r m some = grind (arith, nat_tests)
+
+pub first_new : (p : ℕ → Bool) (n : ℕ) → first_below p n ≡ 0 → p n ≡ true → first_below p (n + 1) ≡ n
+unfolding first_below
+first_new p n none passes = rw (add-one, none, passes) refl

@@ -148,3 +148,8 @@ first_of kind b s e below here sections entries = record {
     | inr same ↦ let P : ℕ → Type 0 = λ x. Stands kind b x f in entries f same.1 (subst P same.0 w) ];
   earlier_kinds = below;
 }
+
+-- a fault of a target stands at a section
+pub at_target : (b : List ℕ) (s e : ℕ) → Stands RelocTarget b s e → (e ≡ 0) × IsSection b s
+unfolding Stands
+at_target b s e h = (h.0, h.1.0)

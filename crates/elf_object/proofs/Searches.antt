@@ -1,12 +1,12 @@
 -- What the searches for the symbol table and for sections of relocations find.
-use Rattle.std.proofs.Common.{◌≡◌, ◌<◌, ◌≤◌, ◌+◌, ◌/◌, ◌*◌, ◌∙◌, length, ℕ, List, Bool, true, false, refl, sym, ap, arith, nat_lt, ◌==◌, ◌&&◌}
+use Rattle.std.proofs.Common.{◌≡◌, ◌<◌, ◌≤◌, ◌+◌, ◌/◌, ◌*◌, ◌∙◌, length, ℕ, List, Bool, true, false, refl, sym, ap, arith, nat_lt, not, IsTrue, ◌==◌, ◌&&◌}
 use Rattle.std.proofs.lemmas.Bool.Decides.{nat_tests}
 use Rattle.elf_records.specs.declared.section_header.SectionHeader.{SectionHeader}
 use Rattle.elf_object.specs.Parts.{header, section, IsTable, symbol_table, symbol_count, is_table, relocation_table, relocates}
 use Rattle.elf_object.specs.Firsts.{first_below}
-use Rattle.elf_object.specs.Faults.{HasPartPastEnd}
+use Rattle.elf_object.specs.Faults.{HasPartPastEnd, IsSecond}
 use Rattle.elf_object.proofs.Parts.{part_inside}
-use Rattle.elf_object.proofs.Firsts.{first_none, first_found, first_passes, first_least}
+use Rattle.elf_object.proofs.Firsts.{first_none, first_found, first_passes, first_least, first_same, first_kept, first_new}
 
 both : (s n k : ℕ) → 0 < s → n ≡ k → (nat_lt 0 s && (n == k)) ≡ true
 both s n k above same = grind (arith, nat_tests)
@@ -49,3 +49,55 @@ table_inside b s h same none table =
     let at = ap (λ x. x.offset) same in
     let size = ap (λ x. x.size) same in
     omega (arith, at, size, whole)
+
+three : (r n k m t : ℕ) → 0 < r → n ≡ k → m ≡ t → (nat_lt 0 r && ((n == k) && (m == t))) ≡ true
+three r n k m t above same target = grind (arith, nat_tests)
+
+not_three : (r n k m t : ℕ) → ((n ≡ k) → (m ≡ t) → ⊥) → (nat_lt 0 r && ((n == k) && (m == t))) ≡ false
+not_three r n k m t other = grind (arith, nat_tests)
+
+of_three : (r n k m t : ℕ) → (nat_lt 0 r && ((n == k) && (m == t))) ≡ true → (0 < r) × (n ≡ k) × (m ≡ t)
+of_three r n k m t h = grind (arith, nat_tests)
+
+-- where a section is found that holds relocations of the same target, there is an earlier one
+pub second_found : (b : List ℕ) (r x : ℕ) → x ≡ first_below (relocates b (section b r).info) r → (x ≡ 0 → ⊥) → r < (header b).e_shnum → IsSecond b r
+second_found b r x same some below =
+    let t = (section b r).info in
+    let q = first_below (relocates b t) r in
+    let found = first_passes (relocates b t) r (omega (arith, same)) in
+    let passes = of_three q (section b q).kind 4 (section b q).info t found.0 in
+    (q, found.1, ((passes.0, omega (arith, found.1)), passes.1), passes.2)
+
+-- an earlier section that holds relocations of the same target is found
+pub second_is : (b : List ℕ) (r x : ℕ) → x ≡ first_below (relocates b (section b r).info) r → IsSecond b r → x ≡ 0 → ⊥
+second_is b r x same second none =
+    let q = second.0 in
+    let t = (section b r).info in
+    let found = first_least (relocates b t) r q second.2.0.0 second.1 (three q (section b q).kind 4 (section b q).info t second.2.0.0 second.2.1 second.3) in
+    omega (arith, same, found.0)
+
+-- one section more, which holds no relocations of target t
+pub target_same : (b : List ℕ) (t s : ℕ) → ((section b s).kind ≡ 4 → (section b s).info ≡ t → ⊥) → first_below (relocates b t) (s + 1) ≡ first_below (relocates b t) s
+target_same b t s other = first_same (relocates b t) s (not_three s (section b s).kind 4 (section b s).info t other)
+
+-- one section more, where an earlier one holds relocations of target t
+pub target_kept : (b : List ℕ) (t s : ℕ) → (first_below (relocates b t) s ≡ 0 → ⊥) → first_below (relocates b t) (s + 1) ≡ first_below (relocates b t) s
+target_kept b t s some = first_kept (relocates b t) s some
+
+-- one section more, the first to hold relocations of target t
+pub target_new : (b : List ℕ) (t s : ℕ) → 0 < s → first_below (relocates b t) s ≡ 0 → (section b s).kind ≡ 4 → (section b s).info ≡ t → first_below (relocates b t) (s + 1) ≡ s
+target_new b t s above none same target = first_new (relocates b t) s none (three s (section b s).kind 4 (section b s).info t above same target)
+
+-- before the first section nothing is found
+pub target_none : (b : List ℕ) (t : ℕ) → first_below (relocates b t) 1 ≡ 0
+unfolding first_below
+target_none b t = refl
+
+-- a test for a number other than 0
+pub test_nonzero : (x : ℕ) (P : Type 0) → ((x ≡ 0 → ⊥) → P) → (P → x ≡ 0 → ⊥) → (IsTrue (not (x == 0)) → P) × (P → IsTrue (not (x == 0)))
+test_nonzero x P to from = (λ t. to (nonzero_of t), λ p. of_nonzero (from p))
+  where
+  nonzero_of : IsTrue (not (x == 0)) → x ≡ 0 → ⊥
+  nonzero_of t z = grind (arith, nat_tests)
+  of_nonzero : (x ≡ 0 → ⊥) → IsTrue (not (x == 0))
+  of_nonzero some = grind (arith, nat_tests)

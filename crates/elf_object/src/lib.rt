@@ -6,6 +6,7 @@ mod elf;
 mod fault;
 mod headers;
 mod names;
+mod overlap;
 mod relocation;
 mod relocs;
 mod scan;
@@ -13,6 +14,7 @@ mod section_tests;
 mod symbol_tests;
 mod symbols;
 mod tables;
+mod targets;
 
 pub use class::SectionClass;
 pub use fault::{FaultKind, ObjectFault};

@@ -67,7 +67,7 @@ fn symbol_of(rela: &Rela) -> u64
 }
 
 /// The number of an entry's type.
-fn type_of(rela: &Rela) -> u32
+pub fn type_of(rela: &Rela) -> u32
     ensures { result ≡ type_of rela.now }
 {
     (rela.info % (1 << 32)) as u32

@@ -1,0 +1,20 @@
+use Rattle.std.proofs.Common.{◌≡◌, ◌<◌, ◌≤◌, ℕ, slice_index, arith}
+use Rattle.elf_object.specs.declared.fault.FaultKind.TheVariants.{RelocOverlap}
+use Rattle.elf_object.specs.Faults.{Stands}
+use Rattle.elf_object.proofs.Order.{none_more}
+use Rattle.elf_object.proofs.Overlaps.{at_overlap}
+use Rattle.elf_object.proofs.overlap.ask_marked.Goals as goal
+
+pub loop-section-init : goal.loop-section-init
+loop-section-init c = record {
+  below = λ k. omega (arith, c.requires.unmarked k);
+  none = λ s h e w. let within = at_overlap c.args.tables.now.bytes.now s e w in omega (arith, within.0.0.0);
+}
+
+pub returns : goal.returns
+returns c =
+    let b = c.args.tables.now.bytes.now in
+    none_more RelocOverlap b c.requires.earlier
+      (λ s e w.
+        let within = at_overlap b s e w in
+        c.loop-section.invariant.none s (omega (arith, within.0.0.1, c.args.tables.now.count_is)) e w)
