@@ -1,2 +1,4 @@
 pub mod JobLemmas
+pub mod NumberLemmas
 pub mod TextLemmas
+pub mod WordLemmas

@@ -9,6 +9,8 @@ mod images;
 mod jobs;
 mod numbers;
 mod spelling;
+#[cfg(test)]
+mod tests;
 mod text;
 mod thread_lines;
 mod transcripts;

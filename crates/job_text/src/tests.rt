@@ -1,0 +1,251 @@
+//! Jobs and transcripts against the answers that the grammar gives.
+
+use super::*;
+use std::alloc::Global;
+use std::process::Abort;
+use std::test::Fail;
+
+/// What `read` finds wrong with a job, if anything.
+fn fault_of(alloc: Global, text: &str) -> Option<JobFault> {
+    Job::read(alloc, text.as_bytes()).err()
+}
+
+fn check_fault(rt: &impl Abort, alloc: Global, text: &str, line: u64, kind: JobFaultKind) {
+    match fault_of(alloc, text) {
+        Some(
+            JobFault::At {
+                line: at,
+                kind: found,
+            },
+        ) => {
+            assert_eq!(rt; at, line, "the line of {text:?}");
+            assert_eq!(rt; found, kind, "the kind of {text:?}");
+        }
+        Some(JobFault::OutOfMemory) => assert!(rt; false, "no memory for {text:?}"),
+        None => assert!(rt; false, "no fault in {text:?}"),
+    }
+}
+
+#[test]
+fn finds_the_first_fault(rt: HostRuntime) {
+    use JobFaultKind::{Count, Name, NoExe, NotText, Number, Twice, Word};
+    for (text, line, kind) in [
+        ("", 0, NoExe),
+        ("\n\n", 0, NoExe),
+        ("# image app exe a.o\n", 0, NoExe),
+        ("image m start a.o\n", 0, NoExe),
+        ("image app exe a.o\n1 call app f 0 0 zz\n", 2, Number),
+        ("image app exe a.o\t\n", 1, NotText),
+        ("nothing \u{7f}\n", 1, NotText),
+        ("image app exe a.o\r\n", 1, NotText),
+        (" # no comment\n", 1, Word),
+        ("images app exe a.o\n", 1, Word),
+        ("Image app exe a.o\n", 1, Word),
+        ("image app so a.o\n", 1, Word),
+        ("image app so\n", 1, Word),
+        ("1 run app f\n", 1, Word),
+        ("1 Call app f\n", 1, Word),
+        ("+1 open app\n", 1, Word),
+        ("image\n", 1, Count),
+        ("image app\n", 1, Count),
+        ("image app exe\n", 1, Count),
+        ("image a/b exe\n", 1, Count),
+        ("threads\n", 1, Count),
+        ("threads 1 2\n", 1, Count),
+        ("fuel\n", 1, Count),
+        ("order\n", 1, Count),
+        ("1\n", 1, Count),
+        ("0x\n", 1, Count),
+        ("1 open\n", 1, Count),
+        ("1 open a b\n", 1, Count),
+        ("1 call app f 0 0\n", 1, Count),
+        ("1 call app f 0 0 0 0\n", 1, Count),
+        ("1 peek app v\n", 1, Count),
+        ("threads 0\n", 1, Number),
+        ("threads 65\n", 1, Number),
+        ("threads 08\n", 1, Number),
+        ("threads -1\n", 1, Number),
+    ] {
+        check_fault(&rt, rt.alloc(), text, line, kind);
+    }
+    for (text, line, kind) in [
+        ("fuel 0\n", 1, Number),
+        ("fuel 4294967296\n", 1, Number),
+        ("fuel 0X10\n", 1, Number),
+        ("fuel 0x\n", 1, Number),
+        ("fuel 0x+1\n", 1, Number),
+        ("fuel +5\n", 1, Number),
+        ("order 2\nthreads 2\n", 1, Number),
+        ("threads 2\norder 1 3\n", 2, Number),
+        ("order 0\n", 1, Number),
+        ("image app exe a.o\n2 open app\n", 2, Number),
+        ("image app exe a.o\n0 open app\n", 2, Number),
+        ("image app exe a.o\n1x open app\n", 2, Number),
+        (
+            "image app exe a.o\n1 call app f 0 18446744073709551616 0\n",
+            2,
+            Number,
+        ),
+        ("image app exe a.o\n1 peek app v 4097\n", 2, Number),
+        ("1 peek app v 4097\n", 1, Number),
+        ("image a/b exe a.o\n", 1, Name),
+        ("1 open app\nimage app exe a.o\n", 1, Name),
+        ("image app exe a.o\n1 open App\n", 2, Name),
+        ("image a/b exe a.o\nthreads 0\n", 1, Name),
+        ("image app exe a.o\nimage app late b.o\n", 2, Twice),
+        ("image app exe a.o\nimage app2 exe b.o\n", 2, Twice),
+        ("image app exe a.o\nimage app2 pie b.o\n", 2, Twice),
+        ("threads 2\nthreads 2\n", 2, Twice),
+        ("threads 2\nthreads 65\n", 2, Number),
+        ("fuel 1\nfuel 1\n", 2, Twice),
+        ("order 1\norder 1\n", 2, Twice),
+        ("image app exe a.o\n\n#\nfuel 1\n  fuel   0x2  ", 5, Twice),
+    ] {
+        check_fault(&rt, rt.alloc(), text, line, kind);
+    }
+}
+
+/// A text that is repeated.
+fn repeated(alloc: Global, text: &str, count: usize) -> Result<String, Fail> {
+    let mut all = String::new(alloc);
+    for _ in 0..count {
+        all.push_str(text)?;
+    }
+    Ok(all)
+}
+
+#[test]
+fn keeps_the_limits(rt: HostRuntime) -> Result<(), Fail> {
+    let alloc = rt.alloc();
+    let mut images = String::new(alloc);
+    for number in 0..64 {
+        write!(images, "image i{number} late a.o\n")?;
+    }
+    check_fault(&rt, alloc, images.as_str(), 0, JobFaultKind::NoExe);
+    images.push_str("image app exe a/b\n")?;
+    check_fault(&rt, alloc, images.as_str(), 65, JobFaultKind::Count);
+
+    let name = repeated(alloc, "n", 64)?;
+    let good = format!(in alloc; "image {name} exe a.o\n")?;
+    assert!(rt; fault_of(alloc, good.as_str()).is_none());
+    let long = format!(in alloc; "image {name}n exe a.o\n")?;
+    check_fault(&rt, alloc, long.as_str(), 1, JobFaultKind::Name);
+
+    let object = repeated(alloc, "/", 255)?;
+    let good = format!(in alloc; "image app exe {object}\n1 call app {object} 0 0 0\n")?;
+    assert!(rt; fault_of(alloc, good.as_str()).is_none());
+    let long = format!(in alloc; "image app exe a.o {object}/\n")?;
+    check_fault(&rt, alloc, long.as_str(), 1, JobFaultKind::Name);
+    let long = format!(in alloc; "image app exe a.o\n1 peek app {object}/ 0\n")?;
+    check_fault(&rt, alloc, long.as_str(), 2, JobFaultKind::Name);
+
+    let mut lines = repeated(alloc, "\n", 65_535)?;
+    lines.push_str("image app exe a.o\n")?;
+    assert!(rt; fault_of(alloc, lines.as_str()).is_none());
+    lines.push_str("\n# skipped lines may follow\n")?;
+    assert!(rt; fault_of(alloc, lines.as_str()).is_none());
+    lines.push_str("fuel 0")?;
+    check_fault(&rt, alloc, lines.as_str(), 65_539, JobFaultKind::Count);
+    lines.push_str(" \t")?;
+    check_fault(&rt, alloc, lines.as_str(), 65_539, JobFaultKind::NotText);
+    Ok(())
+}
+
+const GOOD: &str = "# each group in the order of the job\nimage plug late p.o q.o\n\
+    image lib start l.o\nimage app pie a.o\n  threads 0x0002\nfuel 4294967295\norder 2 1 2\n\
+    2 call lib f 1 0xFFFFFFFFFFFFFFff 0\n1 open plug\n1 peek plug v 4096\n1 close plug\n\
+    image more late m.o\n2 open more\n0x1 call app main 0 0 0";
+
+/// A line of a thread, as text.
+fn line_of(alloc: Global, line: &ThreadLine) -> Result<String, Fail> {
+    let image = line.image;
+    let text = match &line.action {
+        Action::Call { symbol, a, b, c } => {
+            let symbol = symbol.as_str();
+            format!(in alloc; "call {image} {symbol} {a} {b} {c}")?
+        }
+        Action::Open => format!(in alloc; "open {image}")?,
+        Action::Close => format!(in alloc; "close {image}")?,
+        Action::Peek { symbol, length } => {
+            let symbol = symbol.as_str();
+            format!(in alloc; "peek {image} {symbol} {length}")?
+        }
+    };
+    Ok(text)
+}
+
+/// The lines of a thread, as one text.
+fn lines_of(alloc: Global, job: &Job, thread: u32) -> Result<String, Fail> {
+    let mut all = String::new(alloc);
+    for line in job.lines(thread) {
+        let text = line_of(alloc, line)?;
+        all.push_str(text.as_str())?;
+        all.push_str("; ")?;
+    }
+    Ok(all)
+}
+
+#[test]
+fn reads_a_job(rt: HostRuntime) -> Result<(), Fail> {
+    let alloc = rt.alloc();
+    let job = Job::read(alloc, GOOD.as_bytes())?;
+    let mut images = String::new(alloc);
+    for image in job.images() {
+        let name = image.name.as_str();
+        let kind = image.kind;
+        write!(images, "{name} {kind:?}")?;
+        for object in image.objects.as_slice() {
+            images.push_str(" ")?;
+            images.push_str(object.as_str())?;
+        }
+        images.push_str("; ")?;
+    }
+    assert_eq!(rt;
+        images.as_str(),
+        "app Pie a.o; lib Start l.o; plug Late p.o q.o; more Late m.o; "
+    );
+    assert_eq!(rt; job.threads(), 2);
+    assert_eq!(rt; job.fuel(), 4_294_967_295);
+    assert_eq!(rt; job.order(), [2, 1, 2].as_slice());
+    let first = lines_of(alloc, &job, 1)?;
+    assert_eq!(rt;
+        first.as_str(),
+        "open 3; peek 3 v 4096; close 3; call 1 main 0 0 0; "
+    );
+    let second = lines_of(alloc, &job, 2)?;
+    assert_eq!(rt;
+        second.as_str(),
+        "call 2 f 1 18446744073709551615 0; open 4; "
+    );
+    assert_eq!(rt; job.lines(0).len(), 0);
+    assert_eq!(rt; job.lines(3).len(), 0);
+
+    let small = Job::read(alloc, b"image app exe a.o\n1 call app f 0 0 0\n")?;
+    assert_eq!(rt; small.threads(), 1);
+    assert_eq!(rt; small.fuel(), 100_000);
+    assert_eq!(rt; small.order().len(), 0);
+    Ok(())
+}
+
+/// A line with one look.
+fn shown(alloc: Global, point: u64, outcome: Outcome) -> Result<Line, Fail> {
+    Ok(Line {
+        points: Points::new(vec![in alloc; point]?),
+        outcome,
+    })
+}
+
+#[test]
+fn writes_the_first_transcript(rt: HostRuntime) -> Result<(), Fail> {
+    let alloc = rt.alloc();
+    let job = Job::read(alloc, b"image app exe a.o\n1 call app f 0 0 0\n")?;
+    let mut transcript = Transcript::new(alloc);
+    transcript.push_thread(vec![in alloc; shown(alloc, 0, Outcome::Returned(42))?]?)?;
+    let mut text = vec![in alloc; b'>']?;
+    transcript.text(&job, &mut text)?;
+    assert_eq!(rt;
+        text.as_slice(),
+        b">t1 l1 g0 = 000000000000002a\n".as_slice()
+    );
+    Ok(())
+}
