@@ -1,5 +1,5 @@
 -- How a command's text reaches the sink, and with what status the program then ends.
-use Rattle.std.specs.Prelude.{◌≡◌, ℕ, List, Option, ◌⊎◌}
+use Rattle.std.specs.Prelude.{◌≡◌, ℕ, List, Option, ◌⊎◌, codes}
 use Rattle.ports.specs.Counts.{Counted}
 use Rattle.ports.specs.Pieces.{with_piece, AddsFront, next_piece}
 
@@ -41,3 +41,17 @@ abbrev pub Delivers : List ℕ → List ℕ → ℕ → SinkView → SinkView �
 Delivers text line own old new status = ((status ≡ own) × IsTaken text old new)
     ⊎ (((status ≡ 4) × IsRefused text old new)
     ⊎ ((between : SinkView) × (IsShort text old between × Says line 1 between new status)))
+
+-- what the program says where memory ran out
+abbrev pub memory_line : List ℕ
+memory_line = codes "out of memory\n"
+
+-- a text that goes with a number: the lines that do not depend on the input
+pub record IsTextOf (own : ℕ) (text : List ℕ) : Type 0 where
+  pub usage : own ≡ 2 → text ≡ codes "usage\n"
+  pub store : own ≡ 3 → text ≡ codes "store fault\n"
+
+-- the whole of what a command puts: one text that goes with its own number, or the line for want of memory
+abbrev pub Replied : SinkView → SinkView → ℕ → Type 0
+Replied old new code = Says memory_line 1 old new code
+    ⊎ ((own : ℕ) × ((text : List ℕ) × (IsTextOf own text × Delivers text memory_line own old new code)))

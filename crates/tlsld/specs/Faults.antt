@@ -10,3 +10,13 @@ StoreCounts before now (Ok x) = now ≡ before
 StoreCounts before now (Err fault.Store) = Counted before now
 StoreCounts before now (Err fault.OutOfMemory) = now ≡ before
 StoreCounts before now (Err (fault.Refused r)) = now ≡ before
+
+-- the command did not give up because of the store
+abbrev pub IsNoStoreFault : CommandFault → Type 0
+IsNoStoreFault fault.Store = ⊥
+IsNoStoreFault fault.OutOfMemory = Unit {0}
+IsNoStoreFault (fault.Refused r) = Unit {0}
+
+abbrev pub NoStoreFault : {T : Type 0} → Result T CommandFault → Type 0
+NoStoreFault (Ok x) = Unit {0}
+NoStoreFault (Err f) = IsNoStoreFault f

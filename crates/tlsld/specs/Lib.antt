@@ -3,3 +3,4 @@ pub mod Faults
 pub mod FetchFaults
 pub mod Statuses
 pub mod Replies
+pub mod Extents

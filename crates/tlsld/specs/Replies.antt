@@ -1,6 +1,7 @@
 -- What a command answers, and what that has to do with the store.
 use Rattle.std.specs.Prelude.{◌≡◌, ◌≢◌, ℕ, ◌⊎◌}
 use Rattle.tlsld.specs.Statuses.{code_of, IsLate}
+use Rattle.tlsld.specs.Delivery.{IsTextOf}
 use Rattle.ports.specs.Counts.{Counted}
 use Rattle.tlsld.specs.declared.status.Status.{Status}
 use Rattle.tlsld.specs.declared.status.Status.TheVariants as status
@@ -19,3 +20,9 @@ abbrev pub IsDelivered : Answer → ℕ → Type 0
 IsDelivered (Replies reply) code = (code ≡ code_of reply.status) ⊎ IsLate code
 IsDelivered StoreFails code = (code ≡ 3) ⊎ IsLate code
 IsDelivered NoMemory code = IsLate code
+
+-- a reply's text goes with its status
+abbrev pub IsOwnText : Answer → Type 0
+IsOwnText (Replies reply) = IsTextOf (code_of reply.status) reply.text.items
+IsOwnText StoreFails = Unit {0}
+IsOwnText NoMemory = Unit {0}

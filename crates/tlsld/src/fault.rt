@@ -1,6 +1,7 @@
 //! Why a command gives no output.
 ghost use Rattle.std.specs.Prelude.{◌≡◌};
 
+use elf_object::FaultKind;
 use ports::FetchFault;
 use std::alloc::{AllocError, AllocFailed};
 
@@ -20,6 +21,13 @@ pub enum CommandFault {
 pub enum Refusal {
     /// The path does not take this job yet.
     JobNotYet,
+    /// The object has a fault.
+    Object {
+        name: String,
+        section: u64,
+        entry: u64,
+        kind: FaultKind,
+    },
     /// The path does not take this object yet.
     ObjectNotYet { name: String },
 }

@@ -4,12 +4,14 @@
 mod command;
 mod fault;
 mod fetched;
+mod link;
 mod linked;
 mod not_yet;
 mod refusal;
 mod reply;
 mod status;
 mod task;
+mod thread;
 mod top;
 
 

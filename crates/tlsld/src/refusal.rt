@@ -1,9 +1,10 @@
 //! The line that a refusal puts in place of the output.
-ghost use Rattle.std.specs.Prelude.{◌≢◌, IfOk};
+ghost use Rattle.std.specs.Prelude.{◌≡◌, ◌≢◌, ◌++◌, IfOk, codes};
 
 use crate::fault::Refusal;
 use crate::reply::Reply;
 use crate::status::Status;
+use elf_object::FaultKind;
 use std::alloc::{AllocError, Global};
 
 /// The reply that refuses.
@@ -17,11 +18,33 @@ pub fn reply_of(alloc: Global, refusal: &Refusal) -> Result<Reply, AllocError>
         }),
         Refusal::ObjectNotYet { name } => Ok(Reply {
             status: Status::Object,
-            text: object_line(alloc, name.as_str())?,
+            text: not_yet_line(alloc, name.as_str())?,
+        }),
+        Refusal::Object {
+            name,
+            section,
+            entry,
+            kind,
+        } => Ok(Reply {
+            status: Status::Object,
+            text: object_line(alloc, name.as_str(), *section, *entry, *kind)?,
         }),
     }
 }
 
-fn object_line(alloc: Global, name: &str) -> Result<Vec<u8>, AllocError> {
+fn not_yet_line(alloc: Global, name: &str) -> Result<Vec<u8>, AllocError>
+    ensures { IfOk result (λ text. text.items ≡ (codes "object " ++ name.now) ++ codes " section 0 entry 0 NotYet\n") }
+{
     Ok(format!(in alloc; "object {name} section 0 entry 0 NotYet\n")?.into_bytes())
+}
+
+fn object_line(
+    alloc: Global,
+    name: &str,
+    section: u64,
+    entry: u64,
+    kind: FaultKind,
+) -> Result<Vec<u8>, AllocError>
+{
+    Ok(format!(in alloc; "object {name} section {section} entry {entry} {kind}\n")?.into_bytes())
 }

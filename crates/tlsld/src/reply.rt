@@ -1,8 +1,8 @@
 //! What a command answers, and how it reaches the sink.
 ghost use Rattle.std.specs.Prelude.{◌≡◌, ◌≤◌, ◌⊎◌, codes};
-ghost use Rattle.tlsld.specs.Delivery.{Says, Delivers};
+ghost use Rattle.tlsld.specs.Delivery.{Says, Delivers, Replied};
 ghost use Rattle.tlsld.specs.Statuses.{SinkShown, code_of};
-ghost use Rattle.tlsld.specs.Replies.{IsDelivered};
+ghost use Rattle.tlsld.specs.Replies.{IsDelivered, IsOwnText};
 
 use crate::status::Status;
 use ports::{PutFault, Sink};
@@ -62,8 +62,13 @@ pub fn say_no_memory<K: Sink>(out: &mut K) -> u8
 
 /// Puts the answer's text, and gives the status to end with.
 pub fn deliver<K: Sink>(out: &mut K, answer: &Answer) -> u8
+    requires { IsOwnText answer.now }
     ensures sink { SinkShown (K.faults out.old) (K.faults out.new) result }
     ensures own { IsDelivered answer.now result }
+    ensures replied { Replied
+        (record { bytes = K.bytes out.old; faults = K.faults out.old; shortages = K.shortages out.old; pieces = K.pieces out.old })
+        (record { bytes = K.bytes out.new; faults = K.faults out.new; shortages = K.shortages out.new; pieces = K.pieces out.new })
+        result }
 {
     match answer {
         Answer::Replies(reply) => say(out, reply.status, reply.text.as_slice()),
