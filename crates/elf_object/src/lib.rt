@@ -6,6 +6,7 @@ mod elf;
 mod fault;
 mod headers;
 mod names;
+mod object;
 mod overlap;
 mod part;
 mod relocation;
@@ -21,4 +22,8 @@ mod targets;
 
 pub use class::SectionClass;
 pub use fault::{FaultKind, ObjectFault};
-pub use relocation::RelocationKind;
+pub use object::Object;
+pub use part::{SectionPart, SymbolPart};
+pub use relocation::{Relocation, RelocationKind};
+pub use relocs::Relocs;
+pub use symbol::{SymbolBinding, SymbolPlace, SymbolType, Visibility};

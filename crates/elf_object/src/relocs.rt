@@ -1,1 +1,79 @@
 //! The relocations of one section, one after another.
+
+ghost use Rattle.std.specs.Prelude.{◌≡◌, ◌+◌, ◌*◌, ◌-◌, ◌≤◌, length};
+ghost use Rattle.std.specs.Iterator.{YieldsFirst, item_count};
+ghost use Rattle.elf_object.specs.Lent.{relocation_at, relocations_from};
+
+use crate::relocation::{Relocation, RelocationKind};
+use elf_records::read_rela;
+use std::marker::Model;
+
+/// The relocations of a section, in the order of the file. Contracts see the list of those that are left.
+#[derive(Drop)]
+pub struct Relocs<'a> {
+    bytes: &'a [u8],
+    at: u64,
+    next: u64,
+    end: u64,
+}
+
+impl<'a> Model for Relocs<'a> {
+    ghost use Rattle.std.specs.Prelude.{List, ◌+◌, ◌*◌, ◌-◌, ◌≤◌, length};
+    ghost use Rattle.elf_object.specs.declared.relocation.Relocation.{Relocation};
+    ghost use Rattle.elf_object.specs.Lent.{relocations_from};
+
+    ghost Value = { List Relocation };
+
+    ghost view = { λ r. relocations_from r.bytes.now r.at r.next (r.end - r.next) };
+
+    ghost invariant = { λ r. r.at + 24 * r.end ≤ length r.bytes.now };
+}
+
+/// The relocation at a place of the file.
+#[tactic(auto, unfolding(crate::specs::Lent::relocation_at))]
+fn relocation_at(bytes: &[u8], at: u64) -> Relocation
+    requires { at + 24 ≤ length bytes.now }
+    ensures { result ≡ relocation_at at bytes.now }
+{
+    match read_rela(bytes, at) {
+        Some(entry) => Relocation {
+            offset: entry.offset,
+            kind: RelocationKind::numbered((entry.info % (1 << 32)) as u32).unwrap_or(RelocationKind::Nothing),
+            symbol: (entry.info >> 32) as u32,
+            addend: entry.addend,
+        },
+        None => unreachable!(),
+    }
+}
+
+impl<'a> Relocs<'a> {
+    /// The entries of the table that begins at `at`.
+    pub fn of(bytes: &'a [u8], at: u64, count: u64) -> Relocs<'a>
+        requires { at + 24 * count ≤ length bytes.now }
+        ensures { result ≡ relocations_from bytes.now at 0 count }
+    {
+        Relocs {
+            bytes,
+            at,
+            next: 0,
+            end: count,
+        }
+    }
+}
+
+impl Iterator for Relocs<'_> {
+    type Item = Relocation;
+
+    ghost next_gives = { YieldsFirst (λ s. s) };
+
+    ghost remaining = { item_count (λ s. s) };
+
+    fn next(&mut self) -> Option<Relocation> {
+        if self.end <= self.next {
+            return None;
+        }
+        let relocation = relocation_at(self.bytes, self.at + 24 * self.next);
+        self.next += 1;
+        Some(relocation)
+    }
+}
