@@ -1,6 +1,7 @@
 pub mod File
 pub mod Firsts
 pub mod EndsOfNames
+pub mod Lists
 pub mod Order
 pub mod Overlaps
 pub mod Parts

@@ -1,34 +1,125 @@
--- What an object lends: names, bytes, symbols and relocations, as functions of the file's bytes (gABI, "Sections", "Symbol Table").
-use Rattle.std.specs.Prelude.{◌≡◌, ◌+◌, ◌*◌, ◌/◌, ◌%◌, ◌-◌, ◌<◌, ◌≤◌, ◌^◌, ◌==◌, ◌&&◌, ◌||◌, ℕ, Bool, not, List, [], map, drop, take_while, length, slice_range, Option, Some, None, IsSome, is_some, nat_lt, unwrap_or, if◌then◌else◌}
-use Rattle.std.specs.List.{range_with_len}
-use Rattle.elf_records.specs.declared.symbol.SymbolEntry.{SymbolEntry}
+-- What an object lends: names, bytes, symbols and relocations, as functions of the file's bytes (gABI, "Sections", "Symbol Table",
+-- "Relocation"). Number 0 of the sections and of the symbols is reserved, and nothing of it is looked at.
+use Rattle.std.specs.Prelude.{◌≡◌, ◌+◌, ◌*◌, ◌/◌, ◌%◌, ◌≤◌, ◌^◌, ◌==◌, ◌&&◌, ◌||◌, ℕ, Bool, not, List, [], map, drop, length, slice_range, Option, Some, None, is_some, nat_lt, unwrap_or, if◌then◌else◌}
+use Rattle.std.specs.List.{range_with_len, before_first}
 use Rattle.elf_records.specs.declared.relocation.Rela.{Rela}
 use Rattle.elf_records.specs.Records.{rela_at}
-use Rattle.elf_object.specs.declared.elf.TheConstants.{SHT_NULL, SHT_NOBITS, SHT_STRTAB, SHN_UNDEF, SHN_ABS}
+use Rattle.elf_object.specs.declared.elf.TheConstants.{SHT_NULL, SHT_NOBITS, SHN_UNDEF, SHN_ABS, STB_LOCAL, STB_GLOBAL, STT_NOTYPE, STT_OBJECT, STT_FUNC, STT_SECTION, STT_FILE}
+use Rattle.elf_object.specs.declared.class.SectionClass.{SectionClass}
 use Rattle.elf_object.specs.declared.symbol.SymbolBinding.{SymbolBinding}
 use Rattle.elf_object.specs.declared.symbol.SymbolBinding.TheVariants.{Local, Global, Weak}
 use Rattle.elf_object.specs.declared.symbol.SymbolType.{SymbolType}
-use Rattle.elf_object.specs.declared.symbol.SymbolType.TheVariants.{NoType, Data, Function, Section, File, Tls}
+use Rattle.elf_object.specs.declared.symbol.SymbolType.TheVariants.{NoType, Object, Func, Section, File, Tls}
 use Rattle.elf_object.specs.declared.symbol.Visibility.{Visibility}
 use Rattle.elf_object.specs.declared.symbol.Visibility.TheVariants.{Default, Internal, Hidden, Protected}
 use Rattle.elf_object.specs.declared.symbol.SymbolPlace.{SymbolPlace}
 use Rattle.elf_object.specs.declared.symbol.SymbolPlace.TheVariants.{Undefined, Absolute, InSection}
 use Rattle.elf_object.specs.declared.relocation.RelocationKind.TheVariants.{Nothing}
 use Rattle.elf_object.specs.declared.relocation.Relocation.{Relocation}
-use Rattle.elf_object.specs.Parts.{header, section, symbol, symbol_table, relocation_table, entry_count, is_section}
+use Rattle.elf_object.specs.declared.part.SectionPart.{SectionPart}
+use Rattle.elf_object.specs.declared.part.SymbolPart.{SymbolPart}
+use Rattle.elf_object.specs.Parts.{header, section, symbol, symbol_table, relocation_table, entry_count}
 use Rattle.elf_object.specs.Classes.{kept_class}
 use Rattle.elf_object.specs.Relocations.{symbol_of, type_of, relocation_kind}
 
+-- the binding, the type, the visibility and the place that numbers of the file stand for
+abbrev pub binding_numbered : ℕ → SymbolBinding
+binding_numbered n = if n == STB_LOCAL then Local else if n == STB_GLOBAL then Global else Weak
+
+abbrev pub type_numbered : ℕ → SymbolType
+type_numbered n =
+    if n == STT_NOTYPE then NoType else
+    if n == STT_OBJECT then Object else
+    if n == STT_FUNC then Func else
+    if n == STT_SECTION then Section else
+    if n == STT_FILE then File else
+    Tls
+
+abbrev pub visibility_numbered : ℕ → Visibility
+visibility_numbered n = if n % 4 == 0 then Default else if n % 4 == 1 then Internal else if n % 4 == 2 then Hidden else Protected
+
+abbrev pub place_numbered : ℕ → SymbolPlace
+place_numbered n = if n == SHN_UNDEF then Undefined else if n == SHN_ABS then Absolute else InSection n
+
 -- the text of a string table from a place up to the first zero byte
-abbrev pub text_at : List ℕ → ℕ → List ℕ
-text_at table at = take_while (λ byte. not (byte == 0)) (drop at table)
+unfoldable pub text_at : List ℕ → ℕ → List ℕ
+text_at table at = before_first (λ byte. byte == 0) (drop at table)
 
 -- the bytes of section s in the file
 unfoldable pub section_bytes : List ℕ → ℕ → List ℕ
 section_bytes b s =
-    if nat_lt 0 s && not (((section b s).kind == SHT_NULL) || ((section b s).kind == SHT_NOBITS))
+    if (nat_lt 0 s && not ((section b s).kind == SHT_NULL)) && not ((section b s).kind == SHT_NOBITS)
     then slice_range b (section b s).offset ((section b s).offset + (section b s).size) else []
 
--- the name of section s
+-- its name
 unfoldable pub section_name : List ℕ → ℕ → List ℕ
 section_name b s = if nat_lt 0 s then text_at (section_bytes b (header b).e_shstrndx) (section b s).name else []
+
+-- the class that linking keeps it in
+unfoldable pub section_class : List ℕ → ℕ → Option SectionClass
+section_class b s = if nat_lt 0 s then kept_class (section b s) else None
+
+-- how many bytes it has in memory
+unfoldable pub section_size : List ℕ → ℕ → ℕ
+section_size b s = if nat_lt 0 s then (section b s).size else 0
+
+-- what its address is to be a multiple of; 0 in the file counts as 1
+unfoldable pub section_alignment : List ℕ → ℕ → ℕ
+section_alignment b s = if nat_lt 0 s && not ((section b s).addralign == 0) then (section b s).addralign else 1
+
+-- what is lent of section s
+pub record IsSectionPart (b : List ℕ) (s : ℕ) (part : SectionPart) : Type 0 where
+  pub name_is : part.name.now ≡ section_name b s
+  pub class_is : part.class ≡ section_class b s
+  pub bytes_are : part.bytes.now ≡ section_bytes b s
+  pub size_is : part.size ≡ section_size b s
+  pub alignment_is : part.alignment ≡ section_alignment b s
+
+-- the name of symbol e
+unfoldable pub symbol_name : List ℕ → ℕ → List ℕ
+symbol_name b e = if nat_lt 0 e then text_at (section_bytes b (section b (symbol_table b)).link) (symbol b e).name else []
+
+-- its binding, type, visibility, place, value and size
+unfoldable pub symbol_binding : List ℕ → ℕ → SymbolBinding
+symbol_binding b e = if nat_lt 0 e then binding_numbered ((symbol b e).info / 16) else Local
+
+unfoldable pub symbol_type : List ℕ → ℕ → SymbolType
+symbol_type b e = if nat_lt 0 e then type_numbered ((symbol b e).info % 16) else NoType
+
+unfoldable pub symbol_visibility : List ℕ → ℕ → Visibility
+symbol_visibility b e = if nat_lt 0 e then visibility_numbered (symbol b e).other else Default
+
+unfoldable pub symbol_place : List ℕ → ℕ → SymbolPlace
+symbol_place b e = if nat_lt 0 e then place_numbered (symbol b e).shndx else Undefined
+
+unfoldable pub symbol_value : List ℕ → ℕ → ℕ
+symbol_value b e = if nat_lt 0 e then (symbol b e).value else 0
+
+unfoldable pub symbol_size : List ℕ → ℕ → ℕ
+symbol_size b e = if nat_lt 0 e then (symbol b e).size else 0
+
+-- what is lent of symbol e
+pub record IsSymbolPart (b : List ℕ) (e : ℕ) (part : SymbolPart) : Type 0 where
+  pub name_is : part.name.now ≡ symbol_name b e
+  pub binding_is : part.binding ≡ symbol_binding b e
+  pub kind_is : part.kind ≡ symbol_type b e
+  pub visibility_is : part.visibility ≡ symbol_visibility b e
+  pub place_is : part.place ≡ symbol_place b e
+  pub value_is : part.value ≡ symbol_value b e
+  pub size_is : part.size ≡ symbol_size b e
+
+-- the relocation at a place of the file
+unfoldable pub relocation_at : ℕ → List ℕ → Relocation
+relocation_at at b =
+    let entry = rela_at at b in
+    record { offset = entry.offset; kind = unwrap_or (relocation_kind (type_of entry)) Nothing; symbol = symbol_of entry; addend = entry.addend }
+
+-- n relocations from a place of the file on, beginning with number e
+unfoldable pub relocations_from : List ℕ → ℕ → ℕ → ℕ → List Relocation
+relocations_from b at e n = map (λ (k : ℕ). relocation_at (at + 24 * k) b) (range_with_len e n)
+
+-- the relocations of section t, where linking keeps it and a section holds some
+unfoldable pub relocations : List ℕ → ℕ → List Relocation
+relocations b t =
+    if is_some (section_class b t) && nat_lt 0 (relocation_table b t)
+    then relocations_from b (section b (relocation_table b t)).offset 0 (entry_count (section b (relocation_table b t))) else []

@@ -2,7 +2,7 @@
 use Rattle.std.specs.Prelude.{◌≡◌, ◌↔◌, ◌+◌, ◌*◌, ◌<◌, ◌≤◌, ℕ, List, Some, IsTrue, length, slice_index}
 use Rattle.elf_object.specs.declared.class.SectionClass.TheVariants.{Executable}
 use Rattle.elf_object.specs.declared.symbols.Symbols.{Symbols}
-use Rattle.elf_object.specs.declared.relocs.RelocTable.{RelocTable}
+use Rattle.elf_object.specs.declared.reloc_tests.RelocTable.{RelocTable}
 use Rattle.elf_object.specs.Parts.{header, section, symbol_table, symbol_count, entry_count, rela, relocates, relocation_table, IsStrings, IsRela}
 use Rattle.elf_object.specs.Classes.{kept_class, IsKeptSection}
 use Rattle.elf_object.specs.Names.{IsEndOfNames}

@@ -9,7 +9,7 @@ ghost use Rattle.elf_object.specs.Tables.{AreRelocs, HasRoom};
 ghost use Rattle.elf_object.specs.Faults.{Stands, IsFirstAt, NoneBelow, Answers};
 
 use crate::fault::{FaultKind, ObjectFault};
-use crate::relocs::{RelocTable, rela_in, relocs_in, type_of, width_of};
+use crate::reloc_tests::{RelocTable, rela_in, relocs_in, type_of, width_of};
 use crate::tables::Tables;
 use std::alloc::Global;
 

@@ -6,7 +6,7 @@ ghost use Rattle.elf_object.specs.Tables.{AreRelocs};
 ghost use Rattle.elf_object.specs.Faults.{Stands, number, NoneBelow, Answers, IsFirstAt, IsSymbol};
 
 use crate::fault::{FaultKind, ObjectFault};
-use crate::relocs::{RelocTable, reloc_kind, reloc_range, reloc_symbol, relocs_in};
+use crate::reloc_tests::{RelocTable, reloc_kind, reloc_range, reloc_symbol, relocs_in};
 use crate::section_tests::{section_align, section_kind, section_name, too_large};
 use crate::symbol_tests::{symbol_kind, symbol_name, symbol_order, symbol_range, symbol_section};
 use crate::tables::Tables;

@@ -1,0 +1,21 @@
+-- What a reader keeps of an object, and what callers may rely on.
+use Rattle.std.specs.Prelude.{◌≡◌, ◌<◌, ◌≤◌, ℕ, List, Some, length}
+use Rattle.elf_object.specs.declared.class.SectionClass.TheVariants.{Writable}
+use Rattle.elf_object.specs.Parts.{header, section, IsSection}
+use Rattle.elf_object.specs.Lent.{section_class}
+use Rattle.elf_object.specs.Tables.{AreTargets}
+use Rattle.elf_object.specs.Faults.{IsObject}
+
+-- the bytes stand for an object, and the targets of its relocations are known
+pub record IsRead (b targets : List ℕ) : Type 0 where
+  pub object : IsObject b
+  pub len : length targets ≡ (header b).e_shnum
+  pub found : AreTargets b targets
+
+-- how many sections there are, number 0 included
+abbrev pub section_count : List ℕ → ℕ
+section_count b = (header b).e_shnum
+
+-- section s is of the writable class, and holds bytes
+abbrev pub IsWritable : List ℕ → ℕ → Type 0
+IsWritable b s = section_class b s ≡ Some Writable
