@@ -1,5 +1,5 @@
 -- How a run begins: each way in which it can.
-use Rattle.std.proofs.Common.{◌≡◌, ℕ, zero, suc, ◌+◌, ◌-◌, ◌<◌, ◌≤◌, Bool, true, false, Some, None, Result, Ok, Err, refl, sym, ◌∙◌, ap, arith}
+use Rattle.std.proofs.Common.{◌≡◌, ℕ, zero, suc, ◌+◌, ◌-◌, true, false, Some, None, Ok, Err, refl}
 use Rattle.std.specs.Prelude.{◌==◌}
 use Rattle.guest_machine.specs.declared.stop.Stop.{Stop}
 use Rattle.guest_machine.specs.declared.stop.Stop.TheVariants.{Steps, Look}
@@ -7,7 +7,7 @@ use Rattle.guest_machine.specs.declared.state.State.{State}
 use Rattle.guest_machine.specs.Values.{Operations}
 use Rattle.guest_machine.specs.Ranges.{AddressSpace, range_accesses, is_field_of}
 use Rattle.guest_machine.specs.Machine.{Standing}
-use Rattle.guest_machine.specs.Run.{Next, Goes, Ends, Looks, Outcome, Ended, Waits, Stepping, run, machine, machine_of, is_look, returned, stop_of, state_after, steps_left, Runs}
+use Rattle.guest_machine.specs.Run.{Goes, Ends, Looks, Ended, Waits, Stepping, run, machine, machine_of, is_look, returned, Runs}
 use Rattle.guest_machine.specs.Step.{step_of}
 use Rattle.guest_machine.specs.Use.{After, left}
 

@@ -1,5 +1,5 @@
 -- What a memory lets a machine do, one byte at a time, and the accesses of several bytes that follow.
-use Rattle.std.specs.Prelude.{◌≡◌, ℕ, Bool, true, false, zero, suc, ◌+◌, ◌%◌, ◌^◌, List, [], ◌∷◌, Option, Some, None, Result, Ok, Err}
+use Rattle.std.specs.Prelude.{◌≡◌, ◌⊎◌, ℕ, Bool, true, false, zero, suc, ◌+◌, ◌%◌, ◌^◌, List, [], ◌∷◌, Option, Some, None, Result, Ok, Err}
 use Rattle.guest_machine.specs.Values.{Operations}
 
 -- why an access does not take place
@@ -19,6 +19,10 @@ pub record Accesses (M B : Type 0) : Type 0 where
   pub put : M → ℕ → B → M
   -- the byte of code at a place, where it may be run
   pub code : M → ℕ → Option ℕ
+
+-- how many bytes an access has
+abbrev pub IsSize : ℕ → Type 0
+IsSize size = (size ≡ 1) ⊎ ((size ≡ 4) ⊎ (size ≡ 8))
 
 -- the next place: addresses are taken modulo 2^64
 abbrev pub next_place : ℕ → ℕ

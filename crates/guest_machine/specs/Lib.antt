@@ -1,5 +1,6 @@
 pub mod Access
 pub mod Cause
+pub mod Four
 pub mod Machine
 pub mod Operand
 pub mod Plain

@@ -1,9 +1,7 @@
 -- What operands are: addresses, and words that are carried whole or in part.
-use Rattle.std.specs.Prelude.{ℕ, zero, ◌*◌, ◌%◌, ◌^◌, Result, Ok, Err, Option, Some, None, if◌then◌else◌}
-use Rattle.amd64_subset.specs.declared.register.Register.{Register}
+use Rattle.std.specs.Prelude.{ℕ, ◌*◌, ◌%◌, ◌^◌, Result, Ok, Err, Option, Some, None, if◌then◌else◌}
 use Rattle.amd64_subset.specs.declared.instr.Width.{Width}
 use Rattle.amd64_subset.specs.declared.instr.Width.TheVariants.{Long, Quad}
-use Rattle.amd64_subset.specs.declared.operand.Base as base
 use Rattle.amd64_subset.specs.declared.operand.Base.{Base}
 use Rattle.amd64_subset.specs.declared.operand.Base.TheVariants.{Absolute, NextInstruction, Register as OfRegister}
 use Rattle.amd64_subset.specs.declared.operand.Scale.{Scale}

@@ -1,5 +1,5 @@
 -- Plain numbers keep the laws.
-use Rattle.std.proofs.Common.{◌≡◌, ℕ, suc, zero, ◌+◌, ◌*◌, ◌/◌, ◌%◌, ◌^◌, ◌<◌, Bool, List, [], ◌∷◌, map, Ok, Some, refl, sym, ap, ◌∙◌, arith}
+use Rattle.std.proofs.Common.{◌≡◌, ℕ, suc, zero, ◌%◌, ◌^◌, ◌<◌, List, [], ◌∷◌, map, refl, ap, arith}
 use Rattle.guest_machine.specs.Values.{IsLawful, number_from, digit}
 use Rattle.guest_machine.specs.Plain.{plain_operations}
 

@@ -1,5 +1,5 @@
 -- A memory as two finite lists: ranges of bytes with their rights, and the places of offset fields.
-use Rattle.std.specs.Prelude.{ℕ, ◌-◌, ◌&&◌, ◌==◌, Bool, List, [], ◌∷◌, length, slice_get, slice_set, Option, Some, None, ok_or, option_and_then, nat_le, nat_lt, if◌then◌else◌}
+use Rattle.std.specs.Prelude.{ℕ, ◌-◌, ◌&&◌, ◌==◌, Bool, List, [], ◌∷◌, length, slice_get, slice_set, Option, None, ok_or, option_and_then, nat_le, nat_lt, if◌then◌else◌}
 use Rattle.std.specs.List.{list_any}
 use Rattle.guest_machine.specs.declared.space.Access.{Access}
 use Rattle.guest_machine.specs.declared.space.Access.TheVariants.{Read, Write, Run}

@@ -4,7 +4,6 @@ use Rattle.guest_machine.specs.declared.cause.Cause.{Cause}
 use Rattle.guest_machine.specs.declared.cause.Cause.TheVariants.{Answer}
 use Rattle.guest_machine.specs.declared.stop.Stop.{Stop}
 use Rattle.guest_machine.specs.declared.stop.Stop.TheVariants.{Returned, Look, Unclean, Steps}
-use Rattle.guest_machine.specs.declared.state.State.{State}
 use Rattle.guest_machine.specs.Values.{Operations}
 use Rattle.guest_machine.specs.Access.{Accesses}
 use Rattle.guest_machine.specs.Use.{After, left}

@@ -23,4 +23,4 @@ pub use run::{DESCRIPTOR, GET_ADDRESS, RETURN};
 pub use space::{Access, Space};
 pub use state::{Flags, Registers, State};
 pub use stop::Stop;
-pub use values::Values;
+pub use values::{Four, Values};

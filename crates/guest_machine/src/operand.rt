@@ -1,4 +1,5 @@
 ghost use Rattle.std.specs.Prelude.{◌≡◌, ◌<◌, ◌%◌, if◌then◌else◌};
+ghost use Rattle.guest_machine.specs.Access.{IsSize};
 ghost use Rattle.guest_machine.specs.Operand.{factor_of, size_of, charged, base_of, index_of, address_of, kept, kept_byte, carried_as, carried};
 ghost use Rattle.guest_machine.specs.Ranges.{range_accesses};
 
@@ -24,7 +25,8 @@ fn factor(scale: Scale) -> u64
 
 /// How many bytes an operand of the width has.
 pub(crate) fn size(width: Width) -> u8
-    ensures { result ≡ size_of width }
+    ensures value { result ≡ size_of width }
+    ensures size { IsSize result }
 {
     match width {
         Width::Long => 4,

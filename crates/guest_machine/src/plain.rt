@@ -1,10 +1,11 @@
-ghost use Rattle.std.specs.Prelude.{◌≡◌, ◌%◌, ◌^◌};
+ghost use Rattle.std.specs.Prelude.{◌≡◌, ◌%◌, ◌^◌, ◌++◌};
+ghost use Rattle.guest_machine.specs.Four.{bytes_of};
 ghost use Rattle.guest_machine.specs.Plain.{plain_operations};
 ghost use Rattle.guest_machine.specs.PlainLaws.{plain_laws};
 ghost use Rattle.guest_machine.specs.Values.{number_from};
 
 use crate::cause::Cause;
-use crate::values::Values;
+use crate::values::{Four, Values};
 
 /// Plain numbers: nothing is marked, and a flag that an instruction leaves undefined keeps its old
 /// value.
@@ -77,8 +78,31 @@ impl Values for Plain {
     }
 
     #[tactic(auto, unfolding(crate::specs::Plain::plain_operations))]
-    fn joined(bytes: &[u8]) -> u64 {
-        number(bytes)
+    fn joined_byte(byte: u8) -> u64 {
+        number(&[byte])
+    }
+
+    #[tactic(auto, unfolding(crate::specs::Plain::plain_operations))]
+    fn joined_long(bytes: Four<u8>) -> u64
+        ensures { result ≡ plain_operations.joined (bytes_of bytes) }
+    {
+        number(&[bytes.first, bytes.second, bytes.third, bytes.fourth])
+    }
+
+    #[tactic(auto, unfolding(crate::specs::Plain::plain_operations))]
+    fn joined_quad(low: Four<u8>, high: Four<u8>) -> u64
+        ensures { result ≡ plain_operations.joined (bytes_of low ++ bytes_of high) }
+    {
+        number(&[
+            low.first,
+            low.second,
+            low.third,
+            low.fourth,
+            high.first,
+            high.second,
+            high.third,
+            high.fourth,
+        ])
     }
 
     #[tactic(auto, unfolding(crate::specs::Plain::plain_operations))]

@@ -1,5 +1,5 @@
-ghost use Rattle.std.specs.Prelude.{◌≡◌, ◌<◌, ◌≤◌, length, take, ok_or};
-ghost use Rattle.guest_machine.specs.Access.{Refused, fetch_of, load_of, store_of, Stores};
+ghost use Rattle.std.specs.Prelude.{◌≡◌, length, take, ok_or};
+ghost use Rattle.guest_machine.specs.Access.{IsSize, Refused, fetch_of, load_of, store_of, Stores};
 ghost use Rattle.guest_machine.specs.Ranges.{AddressSpace, range_accesses, is_field_of};
 
 use crate::values::Values;
@@ -24,15 +24,13 @@ pub trait Space<V: Values> {
 
     /// The word of 1, 4 or 8 bytes, unless one of them may not be read.
     fn load(&self, place: u64, size: u8) -> Option<V::Word>
-        requires some { 0 < size }
-        requires most { size ≤ 8 }
+        requires { IsSize size }
         ensures { ok_or result Refused ≡ load_of V.operations (range_accesses V.operations) (memory self.now) place size };
 
     /// Writes the lowest 1, 4 or 8 bytes of the word, unless one of them may not be written: then
     /// none is.
     fn store(&mut self, place: u64, size: u8, word: V::Word) -> bool
-        requires some { 0 < size }
-        requires most { size ≤ 8 }
+        requires { IsSize size }
         ensures { Stores result (memory self.old) (memory self.new) (store_of V.operations (range_accesses V.operations) (memory self.old) place size word) };
 
     /// Whether an offset field begins at the place.

@@ -1,5 +1,5 @@
-ghost use Rattle.std.specs.Prelude.{◌≡◌, ◌<◌, ◌≤◌};
-ghost use Rattle.guest_machine.specs.Access.{load_of, store_of};
+ghost use Rattle.std.specs.Prelude.{◌≡◌};
+ghost use Rattle.guest_machine.specs.Access.{IsSize, load_of, store_of};
 ghost use Rattle.guest_machine.specs.Ranges.{range_accesses};
 ghost use Rattle.guest_machine.specs.Use.{both, clean, there, LeavesMemory};
 
@@ -40,8 +40,7 @@ pub(crate) fn load<V: Values, S: Space<V>>(
     place: u64,
     size: u8,
 ) -> Result<V::Word, Stop>
-    requires some { 0 < size }
-    requires most { size ≤ 8 }
+    requires { IsSize size }
     ensures { result ≡ there here (load_of V.operations (range_accesses V.operations) (S.memory space.now) place size) }
 {
     match space.load(place, size) {
@@ -58,8 +57,7 @@ pub(crate) fn store<V: Values, S: Space<V>>(
     size: u8,
     word: V::Word,
 ) -> Result<(), Stop>
-    requires some { 0 < size }
-    requires most { size ≤ 8 }
+    requires { IsSize size }
     ensures { LeavesMemory result (S.memory space.old) (S.memory space.new) (there here (store_of V.operations (range_accesses V.operations) (S.memory space.old) place size word)) }
 {
     if space.store(place, size, word) {

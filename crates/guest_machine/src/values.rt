@@ -1,7 +1,17 @@
-ghost use Rattle.std.specs.Prelude.{◌≡◌, ◌<◌, ◌≤◌, length};
+ghost use Rattle.std.specs.Prelude.{◌≡◌, ◌<◌, [], ◌∷◌, ◌++◌};
 ghost use Rattle.guest_machine.specs.Values.{Operations, IsLawful};
+ghost use Rattle.guest_machine.specs.Four.{bytes_of};
 
 use crate::cause::Cause;
+
+/// Four bytes in the order of memory. (An array of them would ask each caller for their size.)
+#[derive(Clone, Copy, Debug)]
+pub struct Four<B> {
+    pub first: B,
+    pub second: B,
+    pub third: B,
+    pub fourth: B,
+}
 
 /// What a machine computes with. A word is carried from place to place as it is, and used as a
 /// number where an instruction needs one.
@@ -50,10 +60,17 @@ pub trait Values {
     fn code(byte: Self::Byte) -> Option<u8>
         ensures { result ≡ operations.code byte };
 
-    /// The word that up to eight bytes spell, the lowest first.
-    fn joined(bytes: &[Self::Byte]) -> Self::Word
-        requires { length bytes.now ≤ 8 }
-        ensures { result ≡ operations.joined bytes.now };
+    /// The word that one byte spells.
+    fn joined_byte(byte: Self::Byte) -> Self::Word
+        ensures { result ≡ operations.joined (byte ∷ []) };
+
+    /// The word that four bytes spell, the lowest first.
+    fn joined_long(bytes: Four<Self::Byte>) -> Self::Word
+        ensures { result ≡ operations.joined (bytes_of bytes) };
+
+    /// The word that eight bytes spell, the lowest first.
+    fn joined_quad(low: Four<Self::Byte>, high: Four<Self::Byte>) -> Self::Word
+        ensures { result ≡ operations.joined (bytes_of low ++ bytes_of high) };
 
     /// One byte of a word, the lowest being byte 0.
     fn byte_of(word: Self::Word, index: u8) -> Self::Byte

@@ -1,9 +1,11 @@
-ghost use Rattle.std.specs.Prelude.{◌≡◌, ◌<◌, ◌≤◌, length, take, ok_or, is_some};
-ghost use Rattle.guest_machine.specs.Access.{Refused, fetch_of, load_of, store_of, Stores};
+ghost use Rattle.std.specs.Prelude.{◌≡◌, length, take, ok_or, is_some, option_map};
+ghost use Rattle.guest_machine.specs.Access.{IsSize, Refused, fetch_of, load_of, store_of, Stores};
+ghost use Rattle.guest_machine.specs.Four.{bytes_of};
 ghost use Rattle.guest_machine.specs.declared.space.Access.TheVariants.{Read, Write, Run};
 ghost use Rattle.guest_machine.specs.Ranges.{AddressSpace, range_accesses, is_field_of, byte_in, with_byte};
+ghost use Rattle.guest_memory.specs.Several.{bytes_in, all_writable};
 
-use guest_machine::Values;
+use guest_machine::{Four, Values};
 
 /// A memory that is reached one byte at a time. Where it can do this, `load`, `store` and `fetch`
 /// below do the rest of a `Space`.
@@ -29,4 +31,106 @@ pub trait Bytes<V: Values> {
     /// Whether an offset field begins at a place.
     fn is_field(&self, place: u64) -> bool
         ensures { result ≡ is_field_of (memory self.now) place };
+}
+
+/// Four bytes from a place on, unless one of them may not be read.
+fn four<V: Values, M: Bytes<V>>(memory: &M, place: u64) -> Option<Four<V::Byte>>
+    ensures { option_map bytes_of result ≡ bytes_in (M.memory memory.now).ranges place 4 }
+{
+    let first = memory.read(place)?;
+    let place = place.wrapping_add(1);
+    let second = memory.read(place)?;
+    let place = place.wrapping_add(1);
+    let third = memory.read(place)?;
+    let fourth = memory.read(place.wrapping_add(1))?;
+    Some(Four {
+        first,
+        second,
+        third,
+        fourth,
+    })
+}
+
+fn load_byte<V: Values, M: Bytes<V>>(memory: &M, place: u64) -> Option<V::Word>
+    ensures { result ≡ option_map V.operations.joined (bytes_in (M.memory memory.now).ranges place 1) }
+{
+    let byte = memory.read(place)?;
+    Some(V::joined_byte(byte))
+}
+
+fn load_long<V: Values, M: Bytes<V>>(memory: &M, place: u64) -> Option<V::Word>
+    ensures { result ≡ option_map V.operations.joined (bytes_in (M.memory memory.now).ranges place 4) }
+{
+    let bytes = four::<V, M>(memory, place)?;
+    Some(V::joined_long(bytes))
+}
+
+fn load_quad<V: Values, M: Bytes<V>>(memory: &M, place: u64) -> Option<V::Word>
+    ensures { result ≡ option_map V.operations.joined (bytes_in (M.memory memory.now).ranges place 8) }
+{
+    let low = four::<V, M>(memory, place)?;
+    let high = four::<V, M>(memory, place.wrapping_add(4))?;
+    Some(V::joined_quad(low, high))
+}
+
+/// The word of 1, 4 or 8 bytes at a place, unless one of them may not be read.
+#[tactic(auto, using(crate::proofs::Several::load_of_ranges))]
+pub fn load<V: Values, M: Bytes<V>>(memory: &M, place: u64, size: u8) -> Option<V::Word>
+    requires { IsSize size }
+    ensures { ok_or result Refused ≡ load_of V.operations (range_accesses V.operations) (M.memory memory.now) place size }
+{
+    match size {
+        1 => load_byte::<V, M>(memory, place),
+        4 => load_long::<V, M>(memory, place),
+        _ => load_quad::<V, M>(memory, place),
+    }
+}
+
+/// Writes the lowest bytes of a word at a place, unless one of them may not be written.
+pub fn store<V: Values, M: Bytes<V>>(memory: &mut M, place: u64, size: u8, word: V::Word) -> bool
+    requires { IsSize size }
+    ensures { Stores result (M.memory memory.old) (M.memory memory.new) (store_of V.operations (range_accesses V.operations) (M.memory memory.old) place size word) }
+{
+    if !may_write_all::<V, M>(memory, place, size) {
+        return false;
+    }
+    let mut at = place;
+    for index in 0..size {
+        memory.write(at, V::byte_of(word, index));
+        at = at.wrapping_add(1);
+    }
+    true
+}
+
+/// Whether so many bytes at a place may be written.
+fn may_write_all<V: Values, M: Bytes<V>>(memory: &M, place: u64, size: u8) -> bool
+    ensures { result ≡ all_writable (M.memory memory.now).ranges place size }
+{
+    let mut at = place;
+    for _index in 0..size {
+        if !memory.may_write(at) {
+            return false;
+        }
+        at = at.wrapping_add(1);
+    }
+    true
+}
+
+/// The next 15 bytes of code, or those up to the first that may not be run. Answers how many.
+pub fn fetch<V: Values, M: Bytes<V>>(memory: &M, place: u64, into: &mut [u8; 15]) -> u8
+    ensures count { result ≡ length (fetch_of (range_accesses V.operations) (M.memory memory.now) place) }
+    ensures bytes { take result into.new ≡ fetch_of (range_accesses V.operations) (M.memory memory.now) place }
+{
+    let mut at = place;
+    for index in 0..15 {
+        match memory.run(at) {
+            None => return index,
+            Some(byte) => match V::code(byte) {
+                None => return index,
+                Some(code) => into[usize::from(index)] = code,
+            },
+        }
+        at = at.wrapping_add(1);
+    }
+    15
 }

@@ -4,7 +4,9 @@
 mod bytes;
 mod memory;
 mod range;
+#[cfg(test)]
+mod tests;
 
-pub use bytes::{Bytes};
+pub use bytes::{Bytes, fetch, load, store};
 pub use memory::{GuestMemory, OutOfMemory};
 pub use range::{GuestRange, Rights};

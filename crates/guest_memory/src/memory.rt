@@ -3,9 +3,9 @@ ghost use Rattle.std.specs.List.{list_any};
 ghost use Rattle.guest_memory.specs.Writable.{first_writable};
 ghost use Rattle.guest_machine.specs.Ranges.{byte_in, with_byte};
 
-use crate::bytes::Bytes;
+use crate::bytes::{Bytes, fetch, load, store};
 use crate::range::GuestRange;
-use guest_machine::{Access, Values};
+use guest_machine::{Access, Space, Values};
 use std::alloc::{AllocFailed, Global};
 use std::marker::Model;
 
@@ -120,6 +120,27 @@ impl<V: Values> Bytes<V> for GuestMemory<V::Byte> {
 
     fn write(&mut self, place: u64, byte: V::Byte) {
         write_in(&mut self.ranges, place, byte);
+    }
+
+    #[tactic(auto, unfolding(guest_machine::specs::Ranges::is_field_of))]
+    fn is_field(&self, place: u64) -> bool {
+        is_among(&self.fields, place)
+    }
+}
+
+impl<V: Values> Space<V> for GuestMemory<V::Byte> {
+    ghost memory = { λ memory. memory };
+
+    fn fetch(&self, place: u64, into: &mut [u8; 15]) -> u8 {
+        fetch::<V, GuestMemory<V::Byte>>(self, place, into)
+    }
+
+    fn load(&self, place: u64, size: u8) -> Option<V::Word> {
+        load::<V, GuestMemory<V::Byte>>(self, place, size)
+    }
+
+    fn store(&mut self, place: u64, size: u8, word: V::Word) -> bool {
+        store::<V, GuestMemory<V::Byte>>(self, place, size, word)
     }
 
     #[tactic(auto, unfolding(guest_machine::specs::Ranges::is_field_of))]

@@ -55,7 +55,9 @@ impl<B: Copy + Drop> GuestRange<B> {
     pub fn byte(&self, place: u64) -> Option<B>
         ensures { result ≡ slice_get self.now.bytes (place - self.now.start) }
     {
-        self.bytes.get((place.saturating_sub(self.start)) as usize).copied()
+        self.bytes
+            .get((place.saturating_sub(self.start)) as usize)
+            .copied()
     }
 
     /// Writes the byte at a place in the range.

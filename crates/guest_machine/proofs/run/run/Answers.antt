@@ -1,5 +1,5 @@
-use Rattle.std.proofs.Common.{◌≡◌, ℕ, suc, ◌+◌, ◌-◌, false, sym, ◌∙◌, ap, arith, eq-eqb, ne_eqb}
-use Rattle.guest_machine.specs.Run.{Outcome, Ended, Waits, run, machine_of, returned, is_look}
+use Rattle.std.proofs.Common.{◌≡◌, suc, ◌+◌, ◌-◌, sym, ◌∙◌, ap, arith, eq-eqb, ne_eqb}
+use Rattle.guest_machine.specs.Run.{Ended, returned}
 use Rattle.guest_machine.specs.Use.{left}
 use Rattle.guest_machine.proofs.Runs.{machine-over, machine-spent, machine-looks, machine-ends, machine-goes, runs-ended, runs-waits}
 use Rattle.guest_machine.proofs.run.run.Goals as goal

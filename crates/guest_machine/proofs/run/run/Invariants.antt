@@ -1,4 +1,4 @@
-use Rattle.std.proofs.Common.{◌≡◌, ◌+◌, ◌-◌, ◌≤◌}
+use Rattle.std.proofs.Common.{◌≡◌, ◌+◌, ◌-◌}
 use Rattle.guest_machine.specs.Run.{machine_of, run}
 use Rattle.guest_machine.specs.Use.{left}
 use Rattle.guest_machine.proofs.run.run.Given as goal
