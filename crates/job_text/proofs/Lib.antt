@@ -1,4 +1,2 @@
 pub mod JobLemmas
-pub mod NumberLemmas
 pub mod TextLemmas
-pub mod WordLemmas

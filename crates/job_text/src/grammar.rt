@@ -1,8 +1,5 @@
 //! What the words of a line begin.
 
-ghost use Rattle.std.specs.Prelude.{◌≡◌};
-ghost use Rattle.job_text.specs.Grammar.{begins_with_digit, has_name_bytes, has_its_words, heading_of, is_image_name, is_name_byte, is_short_name, kind_heading, verb_heading};
-
 use crate::images::ImageKind;
 use crate::words::Words;
 
@@ -34,48 +31,34 @@ pub(crate) enum Heading {
 
 /// What a line is. None where the first word begins no line, or where the kind or the verb is
 /// there and unknown.
-#[tactic(auto, unfolding(crate::specs::Grammar::heading_of))]
-pub(crate) fn heading_of(words: &Words) -> Option<Heading>
-    ensures { result ≡ heading_of words.now }
-{
-    let first = words.at(0);
-    if first == "image" {
-        if words.count() < 3 {
-            Some(Heading::Short)
-        } else {
-            kind_heading(words.at(2))
+pub(crate) fn heading_of(words: &Words) -> Option<Heading> {
+    match words.at(0) {
+        "image" => image_heading(words),
+        "threads" => Some(Heading::Threads),
+        "fuel" => Some(Heading::Fuel),
+        "order" => Some(Heading::Order),
+        first => {
+            if begins_with_digit(first) {
+                thread_heading(words)
+            } else {
+                None
+            }
         }
-    } else if first == "threads" {
-        Some(Heading::Threads)
-    } else if first == "fuel" {
-        Some(Heading::Fuel)
-    } else if first == "order" {
-        Some(Heading::Order)
-    } else if begins_with_digit(first) {
-        if words.count() < 2 {
-            Some(Heading::Short)
-        } else {
-            verb_heading(words.at(1))
-        }
-    } else {
-        None
     }
 }
 
-fn begins_with_digit(word: &str) -> bool
-    ensures { result ≡ begins_with_digit word.now }
-{
-    match word.as_bytes() {
-        [first, ..] => b'0' <= *first && *first <= b'9',
-        [] => false,
+fn begins_with_digit(word: &str) -> bool {
+    match word.as_bytes().first() {
+        Some(byte) => byte.is_ascii_digit(),
+        None => false,
     }
 }
 
-#[tactic(auto, unfolding(crate::specs::Grammar::kind_heading))]
-fn kind_heading(word: &str) -> Option<Heading>
-    ensures { result ≡ kind_heading word.now }
-{
-    match word {
+fn image_heading(words: &Words) -> Option<Heading> {
+    if words.count() < 3 {
+        return Some(Heading::Short);
+    }
+    match words.at(2) {
         "exe" => Some(Heading::Image(ImageKind::Exe)),
         "pie" => Some(Heading::Image(ImageKind::Pie)),
         "start" => Some(Heading::Image(ImageKind::Start)),
@@ -84,11 +67,11 @@ fn kind_heading(word: &str) -> Option<Heading>
     }
 }
 
-#[tactic(auto, unfolding(crate::specs::Grammar::verb_heading))]
-fn verb_heading(word: &str) -> Option<Heading>
-    ensures { result ≡ verb_heading word.now }
-{
-    match word {
+fn thread_heading(words: &Words) -> Option<Heading> {
+    if words.count() < 2 {
+        return Some(Heading::Short);
+    }
+    match words.at(1) {
         "call" => Some(Heading::Thread(Verb::Call)),
         "open" => Some(Heading::Thread(Verb::Open)),
         "close" => Some(Heading::Thread(Verb::Close)),
@@ -98,9 +81,7 @@ fn verb_heading(word: &str) -> Option<Heading>
 }
 
 /// Whether a line has as many words as what it is takes.
-pub(crate) fn has_its_words(heading: Heading, count: usize) -> bool
-    ensures { result ≡ has_its_words heading count }
-{
+pub(crate) fn has_its_words(heading: Heading, count: usize) -> bool {
     match heading {
         Heading::Image(_) => 4 <= count,
         Heading::Threads | Heading::Fuel => count == 2,
@@ -113,21 +94,15 @@ pub(crate) fn has_its_words(heading: Heading, count: usize) -> bool
 }
 
 /// Whether a word may name an image: 1 to 64 letters, digits, `_`, `.` and `-`.
-pub(crate) fn is_image_name(word: &str) -> bool
-    ensures { result ≡ is_image_name word.now }
-{
+pub(crate) fn is_image_name(word: &str) -> bool {
     0 < word.len() && word.len() <= 64 && word.as_bytes().iter().all(|byte| is_name_byte(*byte))
 }
 
-fn is_name_byte(byte: u8) -> bool
-    ensures { result ≡ is_name_byte byte }
-{
+fn is_name_byte(byte: u8) -> bool {
     byte.is_ascii_alphanumeric() || byte == b'_' || byte == b'.' || byte == b'-'
 }
 
 /// Whether a word may name an object or a symbol: it has at most 255 bytes.
-pub(crate) fn is_short_name(word: &str) -> bool
-    ensures { result ≡ is_short_name word.now }
-{
+pub(crate) fn is_short_name(word: &str) -> bool {
     word.len() <= 255
 }
