@@ -18,7 +18,7 @@ use Rattle.elf_object.specs.declared.relocation.RelocationKind.TheVariants.{Noth
 use Rattle.elf_object.specs.declared.relocation.Relocation.{Relocation}
 use Rattle.elf_object.specs.declared.part.SectionPart.{SectionPart}
 use Rattle.elf_object.specs.declared.part.SymbolPart.{SymbolPart}
-use Rattle.elf_object.specs.Parts.{header, section, symbol, symbol_table, relocation_table, entry_count}
+use Rattle.elf_object.specs.Parts.{header, section, is_section, symbol, symbol_table, relocation_table, entry_count}
 use Rattle.elf_object.specs.Classes.{kept_class}
 use Rattle.elf_object.specs.Relocations.{symbol_of, type_of, relocation_kind}
 
@@ -48,24 +48,24 @@ text_at table at = before_first (λ byte. byte == 0) (drop at table)
 -- the bytes of section s in the file
 unfoldable pub section_bytes : List ℕ → ℕ → List ℕ
 section_bytes b s =
-    if (nat_lt 0 s && not ((section b s).kind == SHT_NULL)) && not ((section b s).kind == SHT_NOBITS)
+    if is_section b s && (not ((section b s).kind == SHT_NULL) && not ((section b s).kind == SHT_NOBITS))
     then slice_range b (section b s).offset ((section b s).offset + (section b s).size) else []
 
 -- its name
 unfoldable pub section_name : List ℕ → ℕ → List ℕ
-section_name b s = if nat_lt 0 s then text_at (section_bytes b (header b).e_shstrndx) (section b s).name else []
+section_name b s = if is_section b s then text_at (section_bytes b (header b).e_shstrndx) (section b s).name else []
 
 -- the class that linking keeps it in
 unfoldable pub section_class : List ℕ → ℕ → Option SectionClass
-section_class b s = if nat_lt 0 s then kept_class (section b s) else None
+section_class b s = if is_section b s then kept_class (section b s) else None
 
 -- how many bytes it has in memory
 unfoldable pub section_size : List ℕ → ℕ → ℕ
-section_size b s = if nat_lt 0 s then (section b s).size else 0
+section_size b s = if is_section b s then (section b s).size else 0
 
 -- what its address is to be a multiple of; 0 in the file counts as 1
 unfoldable pub section_alignment : List ℕ → ℕ → ℕ
-section_alignment b s = if nat_lt 0 s && not ((section b s).addralign == 0) then (section b s).addralign else 1
+section_alignment b s = if is_section b s && not ((section b s).addralign == 0) then (section b s).addralign else 1
 
 -- what is lent of section s
 pub record IsSectionPart (b : List ℕ) (s : ℕ) (part : SectionPart) : Type 0 where
@@ -118,8 +118,14 @@ relocation_at at b =
 unfoldable pub relocations_from : List ℕ → ℕ → ℕ → ℕ → List Relocation
 relocations_from b at e n = map (λ (k : ℕ). relocation_at (at + 24 * k) b) (range_with_len e n)
 
--- the relocations of section t, where linking keeps it and a section holds some
-unfoldable pub relocations : List ℕ → ℕ → List Relocation
-relocations b t =
-    if is_some (section_class b t) && nat_lt 0 (relocation_table b t)
-    then relocations_from b (section b (relocation_table b t)).offset 0 (entry_count (section b (relocation_table b t))) else []
+-- the section that holds the relocations of section t, where linking keeps t; 0 where none does
+unfoldable pub kept_relocation_table : List ℕ → ℕ → ℕ
+kept_relocation_table b t = if is_some (section_class b t) then relocation_table b t else 0
+
+-- the relocations in section r; none where r is 0
+unfoldable pub relocations_in : List ℕ → ℕ → List Relocation
+relocations_in b r = if nat_lt 0 r then relocations_from b (section b r).offset 0 (entry_count (section b r)) else []
+
+-- the relocations of section t, where linking keeps it
+abbrev pub relocations : List ℕ → ℕ → List Relocation
+relocations b t = relocations_in b (kept_relocation_table b t)

@@ -20,6 +20,9 @@ section b s = section_at ((header b).e_shoff + 64 * s) b
 abbrev pub IsSection : List ℕ → ℕ → Type 0
 IsSection b s = (0 < s) × (s < (header b).e_shnum)
 
+abbrev pub is_section : List ℕ → ℕ → Bool
+is_section b s = nat_lt 0 s && nat_lt s (header b).e_shnum
+
 -- the file holds bytes of the section
 abbrev pub HasBytes : SectionHeader → Type 0
 HasBytes h = (h.kind ≢ SHT_NULL) × (h.kind ≢ SHT_NOBITS)
