@@ -1,20 +1,37 @@
 //! The header that every ELF file begins with (gABI, "ELF Header").
 
-ghost use Rattle.elf_records.specs.Fields.{IsReadAt};
-ghost use Rattle.elf_records.specs.Records.{header_at};
+ghost use Rattle.std.specs.Prelude.{◌≡◌, ◌+◌, ◌≤◌, length, take, drop};
+ghost use Rattle.elf_records.specs.Fields.{IsReadAt, splice};
+ghost use Rattle.elf_records.specs.Records.{header_at, header_bytes};
 
-use crate::field::{fits, u16_at, u32_at, u64_at};
+use crate::field::{fits, put_bytes, put_u16, put_u32, put_u64, u16_at, u32_at, u64_at};
+
+// The first bytes of `ident`, in which every file for x86-64 agrees (gABI, "ELF Identification").
+/// The magic number, class 2 (64 bits), data encoding 1 (little-endian) and version 1.
+pub const ELF_IDENT: [u8; 7] = [0x7f, b'E', b'L', b'F', 2, 1, 1];
+
+// Values of `e_type`, `e_machine` and `e_version`.
+/// An object, to be linked.
+pub const ET_REL: u16 = 1;
+/// A program whose addresses are fixed.
+pub const ET_EXEC: u16 = 2;
+/// A shared object, or a program that may be loaded anywhere.
+pub const ET_DYN: u16 = 3;
+/// The x86-64 processor.
+pub const EM_X86_64: u16 = 62;
+/// The one version of the format that there is.
+pub const EV_CURRENT: u32 = 1;
 
 /// The header of an ELF file: what the file is, and where its two tables of headers lie.
 #[derive(Clone, Copy, PartialEq, Eq, Debug)]
 pub struct Header {
     /// The magic number 7f 45 4c 46, then the class, the data encoding, the version and what systems add.
     pub ident: [u8; 16],
-    /// What kind of file it is, as [`ET_REL`](crate::ET_REL).
+    /// What kind of file it is, as [`ET_REL`].
     pub e_type: u16,
-    /// The processor, as [`EM_X86_64`](crate::EM_X86_64).
+    /// The processor, as [`EM_X86_64`].
     pub e_machine: u16,
-    /// The version of the format, [`EV_CURRENT`](crate::EV_CURRENT).
+    /// The version of the format, [`EV_CURRENT`].
     pub e_version: u32,
     /// The address at which a program begins, or 0.
     pub e_entry: u64,
@@ -70,4 +87,29 @@ pub fn read_header(bytes: &[u8], at: u64) -> Option<Header>
         e_shnum: u16_at(bytes, at + 60),
         e_shstrndx: u16_at(bytes, at + 62),
     })
+}
+
+/// Writes the ELF header at place `at`, over the bytes that stand there.
+pub fn write_header(fields: &Header, bytes: &mut [u8], at: u64)
+    requires { at + Header.SIZE ≤ length bytes.old }
+    ensures bytes { bytes.new ≡ splice at (header_bytes fields.now) bytes.old }
+    ensures again { header_at at bytes.new ≡ fields.now }
+    ensures before { take at bytes.new ≡ take at bytes.old }
+    ensures after { drop (at + Header.SIZE) bytes.new ≡ drop (at + Header.SIZE) bytes.old }
+{
+    let at = at as usize;
+    put_bytes(bytes, at, &fields.ident);
+    put_u16(bytes, at + 16, fields.e_type);
+    put_u16(bytes, at + 18, fields.e_machine);
+    put_u32(bytes, at + 20, fields.e_version);
+    put_u64(bytes, at + 24, fields.e_entry);
+    put_u64(bytes, at + 32, fields.e_phoff);
+    put_u64(bytes, at + 40, fields.e_shoff);
+    put_u32(bytes, at + 48, fields.e_flags);
+    put_u16(bytes, at + 52, fields.e_ehsize);
+    put_u16(bytes, at + 54, fields.e_phentsize);
+    put_u16(bytes, at + 56, fields.e_phnum);
+    put_u16(bytes, at + 58, fields.e_shentsize);
+    put_u16(bytes, at + 60, fields.e_shnum);
+    put_u16(bytes, at + 62, fields.e_shstrndx);
 }

@@ -1,11 +1,59 @@
 //! Relocation entries with an addend (gABI, "Relocation").
 
-ghost use Rattle.elf_records.specs.Fields.{IsReadAt};
-ghost use Rattle.elf_records.specs.Records.{rela_at};
+ghost use Rattle.std.specs.Prelude.{◌≡◌, ◌+◌, ◌*◌, ◌^◌, ◌≤◌, length, take, drop};
+ghost use Rattle.elf_records.specs.Fields.{IsReadAt, splice};
+ghost use Rattle.elf_records.specs.Records.{rela_at, rela_bytes, rela_kind, rela_symbol};
 
-use crate::field::{fits, i64_at, u64_at};
+use crate::field::{fits, i64_at, put_i64, put_u64, u64_at};
 
-/// An entry of a section of type [`SHT_RELA`](crate::SHT_RELA): how to fill one field of the section that it applies to.
+// Relocation types, by what they write: S is the symbol's place, A the addend, P the place of the field, G the place of the
+// symbol's entry in the GOT (psABI, "Relocation Types"). TLS types: psABI, "Thread-Local Storage", and Drepper's TLS paper.
+/// Nothing.
+pub const R_X86_64_NONE: u32 = 0;
+/// S + A, in 64 bits.
+pub const R_X86_64_64: u32 = 1;
+/// S + A - P, in 32 bits.
+pub const R_X86_64_PC32: u32 = 2;
+/// As `R_X86_64_PC32`, to a function that may be called through a table.
+pub const R_X86_64_PLT32: u32 = 4;
+/// In an image: the address of a function of another image.
+pub const R_X86_64_JUMP_SLOT: u32 = 7;
+/// In an image: how far it was moved, plus A.
+pub const R_X86_64_RELATIVE: u32 = 8;
+/// G + A - P, in 32 bits.
+pub const R_X86_64_GOTPCREL: u32 = 9;
+/// S + A, in 32 bits without a sign.
+pub const R_X86_64_32: u32 = 10;
+/// S + A, in 32 bits with a sign.
+pub const R_X86_64_32S: u32 = 11;
+/// In an image: the number of the module that holds the symbol.
+pub const R_X86_64_DTPMOD64: u32 = 16;
+/// In an image: the symbol's offset in its module's TLS block.
+pub const R_X86_64_DTPOFF64: u32 = 17;
+/// In an image: the symbol's distance from the thread pointer.
+pub const R_X86_64_TPOFF64: u32 = 18;
+/// G + A - P, of a pair in the GOT: the symbol's module and its offset there.
+pub const R_X86_64_TLSGD: u32 = 19;
+/// G + A - P, of a pair in the GOT: this module, and 0.
+pub const R_X86_64_TLSLD: u32 = 20;
+/// The symbol's offset in this module's TLS block, plus A.
+pub const R_X86_64_DTPOFF32: u32 = 21;
+/// G + A - P, of a GOT entry with the symbol's distance from the thread pointer.
+pub const R_X86_64_GOTTPOFF: u32 = 22;
+/// The symbol's distance from the thread pointer, plus A.
+pub const R_X86_64_TPOFF32: u32 = 23;
+/// G + A - P, of the symbol's TLS descriptor.
+pub const R_X86_64_GOTPC32_TLSDESC: u32 = 34;
+/// No field: marks the call through a TLS descriptor.
+pub const R_X86_64_TLSDESC_CALL: u32 = 35;
+/// In an image: a TLS descriptor, two words.
+pub const R_X86_64_TLSDESC: u32 = 36;
+/// As `R_X86_64_GOTPCREL`, in an instruction that a linker may rewrite.
+pub const R_X86_64_GOTPCRELX: u32 = 41;
+/// The same, in an instruction with a REX prefix.
+pub const R_X86_64_REX_GOTPCRELX: u32 = 42;
+
+/// An entry of a section of type [`SHT_RELA`](crate::section_header::SHT_RELA): how to fill one field of the section that it applies to.
 #[derive(Clone, Copy, PartialEq, Eq, Debug)]
 pub struct Rela {
     /// Where the field begins: in an object a place in its section, in an image an address.
@@ -19,6 +67,27 @@ pub struct Rela {
 impl Rela {
     /// Bytes that an entry takes in a file.
     pub const SIZE: u64 = 24;
+
+    /// The `info` of an entry for this symbol, of this type.
+    pub fn info_of(symbol: u32, kind: u32) -> u64
+        ensures { result ≡ 2 ^ 32 * symbol + kind }
+    {
+        (1 << 32) * u64::from(symbol) + u64::from(kind)
+    }
+
+    /// The symbol's number in the symbol table.
+    pub fn symbol(self) -> u32
+        ensures { result ≡ rela_symbol self }
+    {
+        (self.info / (1 << 32)) as u32
+    }
+
+    /// The type, as [`R_X86_64_TPOFF32`].
+    pub fn kind(self) -> u32
+        ensures { result ≡ rela_kind self }
+    {
+        (self.info % (1 << 32)) as u32
+    }
 }
 
 /// Reads the relocation entry at place `at`. `None` exactly where it would pass the end of `bytes`.
@@ -35,4 +104,18 @@ pub fn read_rela(bytes: &[u8], at: u64) -> Option<Rela>
         info: u64_at(bytes, at + 8),
         addend: i64_at(bytes, at + 16),
     })
+}
+
+/// Writes the relocation entry at place `at`, over the bytes that stand there.
+pub fn write_rela(fields: &Rela, bytes: &mut [u8], at: u64)
+    requires { at + Rela.SIZE ≤ length bytes.old }
+    ensures bytes { bytes.new ≡ splice at (rela_bytes fields.now) bytes.old }
+    ensures again { rela_at at bytes.new ≡ fields.now }
+    ensures before { take at bytes.new ≡ take at bytes.old }
+    ensures after { drop (at + Rela.SIZE) bytes.new ≡ drop (at + Rela.SIZE) bytes.old }
+{
+    let at = at as usize;
+    put_u64(bytes, at, fields.offset);
+    put_u64(bytes, at + 8, fields.info);
+    put_i64(bytes, at + 16, fields.addend);
 }

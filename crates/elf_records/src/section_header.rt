@@ -1,24 +1,63 @@
 //! Section headers (gABI, "Sections").
 
-ghost use Rattle.elf_records.specs.Fields.{IsReadAt};
-ghost use Rattle.elf_records.specs.Records.{section_at};
+ghost use Rattle.std.specs.Prelude.{◌≡◌, ◌+◌, ◌≤◌, length, take, drop};
+ghost use Rattle.elf_records.specs.Fields.{IsReadAt, splice};
+ghost use Rattle.elf_records.specs.Records.{section_at, section_bytes};
 
-use crate::field::{fits, u32_at, u64_at};
+use crate::field::{fits, put_u32, put_u64, u32_at, u64_at};
+
+// Section types (gABI, "Section Types").
+/// The header names no section.
+pub const SHT_NULL: u32 = 0;
+/// Bytes whose meaning is the program's own.
+pub const SHT_PROGBITS: u32 = 1;
+/// A symbol table.
+pub const SHT_SYMTAB: u32 = 2;
+/// A string table: texts, each with a zero byte behind it.
+pub const SHT_STRTAB: u32 = 3;
+/// Relocation entries with an addend.
+pub const SHT_RELA: u32 = 4;
+/// Notes.
+pub const SHT_NOTE: u32 = 7;
+/// Zeros, which take no bytes of the file.
+pub const SHT_NOBITS: u32 = 8;
+/// Relocation entries without an addend.
+pub const SHT_REL: u32 = 9;
+/// A group of sections that are kept or dropped together.
+pub const SHT_GROUP: u32 = 17;
+/// Section numbers that do not fit a symbol's 16 bits.
+pub const SHT_SYMTAB_SHNDX: u32 = 18;
+/// Tables for unwinding the stack (psABI, "Special Sections").
+pub const SHT_X86_64_UNWIND: u32 = 0x7000_0001;
+
+// Section flags (gABI, "Section Attribute Flags").
+/// The program may write there.
+pub const SHF_WRITE: u64 = 0x1;
+/// The section takes memory while the program runs.
+pub const SHF_ALLOC: u64 = 0x2;
+/// The section holds code.
+pub const SHF_EXECINSTR: u64 = 0x4;
+/// A linker may keep equal entries once.
+pub const SHF_MERGE: u64 = 0x10;
+/// The entries are texts, each with a zero byte behind it.
+pub const SHF_STRINGS: u64 = 0x20;
+/// Each thread has a copy of the section of its own.
+pub const SHF_TLS: u64 = 0x400;
 
 /// An entry of the section header table: what a section is called, what it holds and where its bytes lie in the file.
 #[derive(Clone, Copy, PartialEq, Eq, Debug)]
 pub struct SectionHeader {
     /// Where the name begins in the string table of section names.
     pub name: u32,
-    /// The type, as [`SHT_PROGBITS`](crate::SHT_PROGBITS).
+    /// The type, as [`SHT_PROGBITS`].
     pub kind: u32,
-    /// Bits such as [`SHF_ALLOC`](crate::SHF_ALLOC).
+    /// Bits such as [`SHF_ALLOC`].
     pub flags: u64,
     /// The address at which the section is loaded; 0 in an object.
     pub addr: u64,
     /// Where the section's bytes begin in the file.
     pub offset: u64,
-    /// How many bytes the section has; those of [`SHT_NOBITS`](crate::SHT_NOBITS) take none of the file.
+    /// How many bytes the section has; those of [`SHT_NOBITS`] take none of the file.
     pub size: u64,
     /// Another section: of a symbol table its string table, of relocations their symbol table.
     pub link: u32,
@@ -56,4 +95,25 @@ pub fn read_section(bytes: &[u8], at: u64) -> Option<SectionHeader>
         addralign: u64_at(bytes, at + 48),
         entsize: u64_at(bytes, at + 56),
     })
+}
+
+/// Writes the section header at place `at`, over the bytes that stand there.
+pub fn write_section(fields: &SectionHeader, bytes: &mut [u8], at: u64)
+    requires { at + SectionHeader.SIZE ≤ length bytes.old }
+    ensures bytes { bytes.new ≡ splice at (section_bytes fields.now) bytes.old }
+    ensures again { section_at at bytes.new ≡ fields.now }
+    ensures before { take at bytes.new ≡ take at bytes.old }
+    ensures after { drop (at + SectionHeader.SIZE) bytes.new ≡ drop (at + SectionHeader.SIZE) bytes.old }
+{
+    let at = at as usize;
+    put_u32(bytes, at, fields.name);
+    put_u32(bytes, at + 4, fields.kind);
+    put_u64(bytes, at + 8, fields.flags);
+    put_u64(bytes, at + 16, fields.addr);
+    put_u64(bytes, at + 24, fields.offset);
+    put_u64(bytes, at + 32, fields.size);
+    put_u32(bytes, at + 40, fields.link);
+    put_u32(bytes, at + 44, fields.info);
+    put_u64(bytes, at + 48, fields.addralign);
+    put_u64(bytes, at + 56, fields.entsize);
 }

@@ -1,9 +1,58 @@
 //! Symbol table entries (gABI, "Symbol Table").
 
-ghost use Rattle.elf_records.specs.Fields.{IsReadAt};
-ghost use Rattle.elf_records.specs.Records.{symbol_at};
+ghost use Rattle.std.specs.Prelude.{◌≡◌, ◌+◌, ◌*◌, ◌<◌, ◌≤◌, length, take, drop};
+ghost use Rattle.elf_records.specs.Fields.{IsReadAt, splice};
+ghost use Rattle.elf_records.specs.Records.{symbol_at, symbol_binding, symbol_bytes, symbol_kind, symbol_visibility};
 
-use crate::field::{fits, u8_at, u16_at, u32_at, u64_at};
+use crate::field::{fits, put_u8, put_u16, put_u32, put_u64, u8_at, u16_at, u32_at, u64_at};
+
+// Bindings (gABI, "Symbol Binding").
+/// Seen in its object alone.
+pub const STB_LOCAL: u8 = 0;
+/// Seen by all objects that are linked together.
+pub const STB_GLOBAL: u8 = 1;
+/// As a global one, but a global definition goes before it.
+pub const STB_WEAK: u8 = 2;
+
+// Types (gABI, "Symbol Types").
+/// Nothing is said.
+pub const STT_NOTYPE: u8 = 0;
+/// Data.
+pub const STT_OBJECT: u8 = 1;
+/// Code.
+pub const STT_FUNC: u8 = 2;
+/// The section itself, as relocations name it.
+pub const STT_SECTION: u8 = 3;
+/// The source file.
+pub const STT_FILE: u8 = 4;
+/// Data that no object has defined yet.
+pub const STT_COMMON: u8 = 5;
+/// Data of which each thread has a copy.
+pub const STT_TLS: u8 = 6;
+/// A function that chooses the address to be called.
+pub const STT_GNU_IFUNC: u8 = 10;
+
+// Visibilities, the low two bits of `other` (gABI, "Symbol Visibility").
+/// As the binding says.
+pub const STV_DEFAULT: u8 = 0;
+/// Hidden, and free to be treated further.
+pub const STV_INTERNAL: u8 = 1;
+/// Not seen outside its image.
+pub const STV_HIDDEN: u8 = 2;
+/// Seen outside, but never replaced from there.
+pub const STV_PROTECTED: u8 = 3;
+
+// Section numbers with a meaning of their own (gABI, "Special Section Indexes").
+/// The symbol is defined elsewhere.
+pub const SHN_UNDEF: u16 = 0;
+/// The first number that names no section.
+pub const SHN_LORESERVE: u16 = 0xff00;
+/// The value is a number that no move changes.
+pub const SHN_ABS: u16 = 0xfff1;
+/// The symbol is common data, not yet placed.
+pub const SHN_COMMON: u16 = 0xfff2;
+/// The number stands in a section of type `SHT_SYMTAB_SHNDX`.
+pub const SHN_XINDEX: u16 = 0xffff;
 
 /// An entry of a symbol table.
 #[derive(Clone, Copy, PartialEq, Eq, Debug)]
@@ -14,7 +63,7 @@ pub struct SymbolEntry {
     pub info: u8,
     /// The visibility, in the low two bits.
     pub other: u8,
-    /// The section that the symbol is defined in, or a reserved number such as [`SHN_UNDEF`](crate::SHN_UNDEF).
+    /// The section that the symbol is defined in, or a reserved number such as [`SHN_UNDEF`].
     pub shndx: u16,
     /// In an object the offset in its section. Of a TLS symbol in an image, the offset in the TLS segment; else an address.
     pub value: u64,
@@ -25,6 +74,36 @@ pub struct SymbolEntry {
 impl SymbolEntry {
     /// Bytes that an entry takes in a file.
     pub const SIZE: u64 = 24;
+
+    /// The `info` of a symbol with this binding and this type.
+    pub fn info_of(binding: u8, kind: u8) -> u8
+        requires binding { binding < 16 }
+        requires kind { kind < 16 }
+        ensures { result ≡ 16 * binding + kind }
+    {
+        16 * binding + kind
+    }
+
+    /// The binding, as [`STB_GLOBAL`]; 0 to 15.
+    pub fn binding(self) -> u8
+        ensures { result ≡ symbol_binding self }
+    {
+        self.info / 16
+    }
+
+    /// The type, as [`STT_TLS`]; 0 to 15.
+    pub fn kind(self) -> u8
+        ensures { result ≡ symbol_kind self }
+    {
+        self.info % 16
+    }
+
+    /// The visibility, as [`STV_HIDDEN`]; 0 to 3.
+    pub fn visibility(self) -> u8
+        ensures { result ≡ symbol_visibility self }
+    {
+        self.other % 4
+    }
 }
 
 /// Reads the symbol table entry at place `at`. `None` exactly where it would pass the end of `bytes`.
@@ -44,4 +123,21 @@ pub fn read_symbol(bytes: &[u8], at: u64) -> Option<SymbolEntry>
         value: u64_at(bytes, at + 8),
         size: u64_at(bytes, at + 16),
     })
+}
+
+/// Writes the symbol table entry at place `at`, over the bytes that stand there.
+pub fn write_symbol(fields: &SymbolEntry, bytes: &mut [u8], at: u64)
+    requires { at + SymbolEntry.SIZE ≤ length bytes.old }
+    ensures bytes { bytes.new ≡ splice at (symbol_bytes fields.now) bytes.old }
+    ensures again { symbol_at at bytes.new ≡ fields.now }
+    ensures before { take at bytes.new ≡ take at bytes.old }
+    ensures after { drop (at + SymbolEntry.SIZE) bytes.new ≡ drop (at + SymbolEntry.SIZE) bytes.old }
+{
+    let at = at as usize;
+    put_u32(bytes, at, fields.name);
+    put_u8(bytes, at + 4, fields.info);
+    put_u8(bytes, at + 5, fields.other);
+    put_u16(bytes, at + 6, fields.shndx);
+    put_u64(bytes, at + 8, fields.value);
+    put_u64(bytes, at + 16, fields.size);
 }

@@ -1,4 +1,4 @@
-use Rattle.std.proofs.Common.{sym, ◌∙◌}
+use Rattle.std.proofs.Common.{◌∙◌}
 use Rattle.elf_records.specs.Laws.{number_at-rest}
 use Rattle.elf_records.proofs.field.u64_at.Goals as goal
 

@@ -1,0 +1,10 @@
+use Rattle.elf_records.specs.Fields.{bytes_of}
+use Rattle.elf_records.specs.Laws.{length-bytes_of}
+use Rattle.elf_records.proofs.Written.{put_mid-rest}
+use Rattle.elf_records.proofs.field.put_u64.Goals as goal
+
+pub returns-clause-written : goal.returns-clause-written
+unfolding bytes_of
+returns-clause-written c =
+    let size = length-bytes_of 8 c.args.value in
+    put_mid-rest c.args.at 8 (bytes_of 8 c.args.value) c.args.bytes.now c.write_u64.new.buf size c.requires c.write_u64.ensures

@@ -1,0 +1,336 @@
+-- What holds of each of the six records, which crates above cite: its size in bytes, that it is read again as it was written,
+-- and that it depends on its own bytes alone.
+use Rattle.std.proofs.Common.{ℕ, ◌+◌, ◌-◌, ◌^◌, ◌<◌, ◌≤◌, ◌≡◌, List, ◌++◌, length, take, drop, slice_range, refl, sym, ap, ◌∙◌, arith, add-zero, append_assoc, length-append}
+use Rattle.std.proofs.lemmas.List.{length-take-le}
+use Rattle.std.proofs.Math.Facts.{Fits-of_z, to_z-of_z}
+use Rattle.std.specs.Int.{w64, cast_unsigned}
+use Rattle.elf_records.specs.declared.file_header.Header.{Header}
+use Rattle.elf_records.specs.declared.section_header.SectionHeader.{SectionHeader}
+use Rattle.elf_records.specs.declared.symbol.SymbolEntry.{SymbolEntry}
+use Rattle.elf_records.specs.declared.relocation.Rela.{Rela}
+use Rattle.elf_records.specs.declared.program_header.Segment.{Segment}
+use Rattle.elf_records.specs.declared.dynamic.DynamicEntry.{DynamicEntry}
+use Rattle.elf_records.specs.Fields.{Reads, part_at, spelled, splice}
+use Rattle.elf_records.specs.Laws.{length-spelled, number_at-field, number_at-own, number_at-part, part_again, part_at-own, part_at-part, reads_all, reads_again}
+use Rattle.elf_records.specs.Records.{FitsHeader, FitsSectionHeader, FitsSymbolEntry, FitsRela, FitsSegment, FitsDynamicEntry, header_at, header_bytes, header_fields, section_at, section_bytes, section_fields, symbol_at, symbol_bytes, symbol_fields, rela_at, rela_bytes, rela_fields, segment_at, segment_bytes, segment_fields, dynamic_at, dynamic_bytes, dynamic_fields}
+
+-- the sizes, in bytes
+pub length-header_bytes : (r : Header) → length r.ident ≡ 16 → length (header_bytes r) ≡ 64
+unfolding header_bytes
+length-header_bytes r sixteen = length-append r.ident (spelled (header_fields r))
+    ∙ ap (λ k. k + length (spelled (header_fields r))) sixteen ∙ ap (λ k. 16 + k)
+    (length-spelled (header_fields r))
+
+pub length-section_bytes : (r : SectionHeader) → length (section_bytes r) ≡ 64
+unfolding section_bytes
+length-section_bytes r = length-spelled (section_fields r)
+
+pub length-symbol_bytes : (r : SymbolEntry) → length (symbol_bytes r) ≡ 24
+unfolding symbol_bytes
+length-symbol_bytes r = length-spelled (symbol_fields r)
+
+pub length-rela_bytes : (r : Rela) → length (rela_bytes r) ≡ 24
+unfolding rela_bytes
+length-rela_bytes r = length-spelled (rela_fields r)
+
+pub length-segment_bytes : (r : Segment) → length (segment_bytes r) ≡ 56
+unfolding segment_bytes
+length-segment_bytes r = length-spelled (segment_fields r)
+
+pub length-dynamic_bytes : (r : DynamicEntry) → length (dynamic_bytes r) ≡ 16
+unfolding dynamic_bytes
+length-dynamic_bytes r = length-spelled (dynamic_fields r)
+
+-- a record that was written behind `front` is read there again as itself
+pub header_again : (at : ℕ) (r : Header) (front back : List ℕ) → length front ≡ at → FitsHeader r
+    → header_at at (front ++ (header_bytes r ++ back)) ≡ r
+unfolding header_at header_bytes
+header_again at r front back place fits =
+    let inner : (r.ident ++ spelled (header_fields r)) ++ back ≡ r.ident
+    ++ (spelled (header_fields r) ++ back) = append_assoc r.ident (spelled (header_fields r)) back in
+    let outer : front ++ ((r.ident ++ spelled (header_fields r)) ++ back) ≡ (front ++ r.ident)
+    ++ (spelled (header_fields r) ++ back) =
+    ap (λ b. front ++ b) inner ∙ sym (append_assoc front r.ident (spelled (header_fields r) ++ back)) in
+    let sixteen : length r.ident ≡ 16 = fits.0 in
+    let joined : length (front ++ r.ident) ≡ at + 16 = length-append front r.ident
+    ∙ ap (λ k. k + length r.ident) place ∙ ap (λ k. at + k) sixteen in
+    let ident : part_at 16 at (front ++ ((r.ident ++ spelled (header_fields r)) ++ back)) ≡ r.ident =
+    ap (λ b. part_at 16 at (front ++ b)) inner ∙ ap (λ k. part_at k at (front ++ (r.ident
+    ++ (spelled (header_fields r) ++ back)))) (sym sixteen)
+    ∙ part_again at front r.ident (spelled (header_fields r) ++ back) place in
+    let all : Reads at 16 (header_fields r) (front ++ ((r.ident ++ spelled (header_fields r)) ++ back)) =
+    rw outer (reads_again at 16 (header_fields r) (front ++ r.ident) back joined fits.1) in
+    rw (
+      ident,
+      all.0,
+      all.1.0,
+      all.1.1.0,
+      all.1.1.1.0,
+      all.1.1.1.1.0,
+      all.1.1.1.1.1.0,
+      all.1.1.1.1.1.1.0,
+      all.1.1.1.1.1.1.1.0,
+      all.1.1.1.1.1.1.1.1.0,
+      all.1.1.1.1.1.1.1.1.1.0,
+      all.1.1.1.1.1.1.1.1.1.1.0,
+      all.1.1.1.1.1.1.1.1.1.1.1.0,
+      all.1.1.1.1.1.1.1.1.1.1.1.1.0,
+    ) refl
+
+pub section_again : (at : ℕ) (r : SectionHeader) (front back : List ℕ) → length front ≡ at → FitsSectionHeader r
+    → section_at at (front ++ (section_bytes r ++ back)) ≡ r
+unfolding section_at section_bytes
+section_again at r front back place fits =
+    let all = reads_all at (section_fields r) front back place fits in
+    rw (
+      all.0,
+      all.1.0,
+      all.1.1.0,
+      all.1.1.1.0,
+      all.1.1.1.1.0,
+      all.1.1.1.1.1.0,
+      all.1.1.1.1.1.1.0,
+      all.1.1.1.1.1.1.1.0,
+      all.1.1.1.1.1.1.1.1.0,
+      all.1.1.1.1.1.1.1.1.1.0,
+    ) refl
+
+pub symbol_again : (at : ℕ) (r : SymbolEntry) (front back : List ℕ) → length front ≡ at → FitsSymbolEntry r
+    → symbol_at at (front ++ (symbol_bytes r ++ back)) ≡ r
+unfolding symbol_at symbol_bytes
+symbol_again at r front back place fits =
+    let all = reads_all at (symbol_fields r) front back place fits in
+    rw (all.0, all.1.0, all.1.1.0, all.1.1.1.0, all.1.1.1.1.0, all.1.1.1.1.1.0) refl
+
+pub rela_again : (at : ℕ) (r : Rela) (front back : List ℕ) → length front ≡ at → FitsRela r
+    → rela_at at (front ++ (rela_bytes r ++ back)) ≡ r
+unfolding rela_at rela_bytes
+rela_again at r front back place fits =
+    let bits = Fits-of_z fits.1 in
+    let below : cast_unsigned w64 r.addend < 2 ^ 64 = omega (arith, bits) in
+    let all = reads_all at (rela_fields r) front back place (fits.0.0, (fits.0.1.0, (below, tt))) in
+    let addend = to_z-of_z fits.1 in
+    rw (all.0, all.1.0, all.1.1.0, addend) refl
+
+pub segment_again : (at : ℕ) (r : Segment) (front back : List ℕ) → length front ≡ at → FitsSegment r
+    → segment_at at (front ++ (segment_bytes r ++ back)) ≡ r
+unfolding segment_at segment_bytes
+segment_again at r front back place fits =
+    let all = reads_all at (segment_fields r) front back place fits in
+    rw (
+      all.0,
+      all.1.0,
+      all.1.1.0,
+      all.1.1.1.0,
+      all.1.1.1.1.0,
+      all.1.1.1.1.1.0,
+      all.1.1.1.1.1.1.0,
+      all.1.1.1.1.1.1.1.0,
+    ) refl
+
+pub dynamic_again : (at : ℕ) (r : DynamicEntry) (front back : List ℕ) → length front ≡ at → FitsDynamicEntry r
+    → dynamic_at at (front ++ (dynamic_bytes r ++ back)) ≡ r
+unfolding dynamic_at dynamic_bytes
+dynamic_again at r front back place fits =
+    let all = reads_all at (dynamic_fields r) front back place fits in
+    rw (all.0, all.1.0) refl
+
+-- a record that was written in place of other bytes is read again as itself
+pub header_at-splice : (at : ℕ) (r : Header) (bytes : List ℕ) → at ≤ length bytes → FitsHeader r
+    → header_at at (splice at (header_bytes r) bytes) ≡ r
+unfolding splice
+header_at-splice at r bytes inside fits = header_again at r (take at bytes)
+    (drop (at + length (header_bytes r)) bytes) (length-take-le at bytes inside) fits
+
+pub section_at-splice : (at : ℕ) (r : SectionHeader) (bytes : List ℕ) → at ≤ length bytes → FitsSectionHeader r
+    → section_at at (splice at (section_bytes r) bytes) ≡ r
+unfolding splice
+section_at-splice at r bytes inside fits = section_again at r (take at bytes)
+    (drop (at + length (section_bytes r)) bytes) (length-take-le at bytes inside) fits
+
+pub symbol_at-splice : (at : ℕ) (r : SymbolEntry) (bytes : List ℕ) → at ≤ length bytes → FitsSymbolEntry r
+    → symbol_at at (splice at (symbol_bytes r) bytes) ≡ r
+unfolding splice
+symbol_at-splice at r bytes inside fits = symbol_again at r (take at bytes)
+    (drop (at + length (symbol_bytes r)) bytes) (length-take-le at bytes inside) fits
+
+pub rela_at-splice : (at : ℕ) (r : Rela) (bytes : List ℕ) → at ≤ length bytes → FitsRela r
+    → rela_at at (splice at (rela_bytes r) bytes) ≡ r
+unfolding splice
+rela_at-splice at r bytes inside fits = rela_again at r (take at bytes)
+    (drop (at + length (rela_bytes r)) bytes) (length-take-le at bytes inside) fits
+
+pub segment_at-splice : (at : ℕ) (r : Segment) (bytes : List ℕ) → at ≤ length bytes → FitsSegment r
+    → segment_at at (splice at (segment_bytes r) bytes) ≡ r
+unfolding splice
+segment_at-splice at r bytes inside fits = segment_again at r (take at bytes)
+    (drop (at + length (segment_bytes r)) bytes) (length-take-le at bytes inside) fits
+
+pub dynamic_at-splice : (at : ℕ) (r : DynamicEntry) (bytes : List ℕ) → at ≤ length bytes → FitsDynamicEntry r
+    → dynamic_at at (splice at (dynamic_bytes r) bytes) ≡ r
+unfolding splice
+dynamic_at-splice at r bytes inside fits = dynamic_again at r (take at bytes)
+    (drop (at + length (dynamic_bytes r)) bytes) (length-take-le at bytes inside) fits
+
+-- a record depends on its own bytes alone
+pub header_at-own : (at : ℕ) (xs : List ℕ) → header_at 0 (part_at 64 at xs) ≡ header_at at xs
+unfolding header_at
+header_at-own at xs = rw (
+  part_at-own 16 0 64 at xs (omega arith),
+  number_at-own 2 16 64 at xs (omega arith),
+  number_at-own 2 18 64 at xs (omega arith),
+  number_at-own 4 20 64 at xs (omega arith),
+  number_at-own 8 24 64 at xs (omega arith),
+  number_at-own 8 32 64 at xs (omega arith),
+  number_at-own 8 40 64 at xs (omega arith),
+  number_at-own 4 48 64 at xs (omega arith),
+  number_at-own 2 52 64 at xs (omega arith),
+  number_at-own 2 54 64 at xs (omega arith),
+  number_at-own 2 56 64 at xs (omega arith),
+  number_at-own 2 58 64 at xs (omega arith),
+  number_at-own 2 60 64 at xs (omega arith),
+  number_at-own 2 62 64 at xs (omega arith),
+  add-zero at,
+) refl
+
+pub section_at-own : (at : ℕ) (xs : List ℕ) → section_at 0 (part_at 64 at xs) ≡ section_at at xs
+unfolding section_at
+section_at-own at xs = rw (
+  number_at-own 4 0 64 at xs (omega arith),
+  number_at-own 4 4 64 at xs (omega arith),
+  number_at-own 8 8 64 at xs (omega arith),
+  number_at-own 8 16 64 at xs (omega arith),
+  number_at-own 8 24 64 at xs (omega arith),
+  number_at-own 8 32 64 at xs (omega arith),
+  number_at-own 4 40 64 at xs (omega arith),
+  number_at-own 4 44 64 at xs (omega arith),
+  number_at-own 8 48 64 at xs (omega arith),
+  number_at-own 8 56 64 at xs (omega arith),
+  add-zero at,
+) refl
+
+pub symbol_at-own : (at : ℕ) (xs : List ℕ) → symbol_at 0 (part_at 24 at xs) ≡ symbol_at at xs
+unfolding symbol_at
+symbol_at-own at xs = rw (
+  number_at-own 4 0 24 at xs (omega arith),
+  number_at-own 1 4 24 at xs (omega arith),
+  number_at-own 1 5 24 at xs (omega arith),
+  number_at-own 2 6 24 at xs (omega arith),
+  number_at-own 8 8 24 at xs (omega arith),
+  number_at-own 8 16 24 at xs (omega arith),
+  add-zero at,
+) refl
+
+pub rela_at-own : (at : ℕ) (xs : List ℕ) → rela_at 0 (part_at 24 at xs) ≡ rela_at at xs
+unfolding rela_at
+rela_at-own at xs = rw (
+  number_at-own 8 0 24 at xs (omega arith),
+  number_at-own 8 8 24 at xs (omega arith),
+  number_at-own 8 16 24 at xs (omega arith),
+  add-zero at,
+) refl
+
+pub segment_at-own : (at : ℕ) (xs : List ℕ) → segment_at 0 (part_at 56 at xs) ≡ segment_at at xs
+unfolding segment_at
+segment_at-own at xs = rw (
+  number_at-own 4 0 56 at xs (omega arith),
+  number_at-own 4 4 56 at xs (omega arith),
+  number_at-own 8 8 56 at xs (omega arith),
+  number_at-own 8 16 56 at xs (omega arith),
+  number_at-own 8 24 56 at xs (omega arith),
+  number_at-own 8 32 56 at xs (omega arith),
+  number_at-own 8 40 56 at xs (omega arith),
+  number_at-own 8 48 56 at xs (omega arith),
+  add-zero at,
+) refl
+
+pub dynamic_at-own : (at : ℕ) (xs : List ℕ) → dynamic_at 0 (part_at 16 at xs) ≡ dynamic_at at xs
+unfolding dynamic_at
+dynamic_at-own at xs = rw (
+  number_at-own 8 0 16 at xs (omega arith),
+  number_at-own 8 8 16 at xs (omega arith),
+  add-zero at,
+) refl
+
+-- a record in the part from i to j is the record i bytes further on in the whole
+pub header_at-part : (at i j : ℕ) (xs : List ℕ) → at + 64 ≤ j - i
+    → header_at at (slice_range xs i j) ≡ header_at (i + at) xs
+unfolding header_at
+header_at-part at i j xs within =
+    rw (
+      part_at-part 16 at i j xs (omega arith),
+      number_at-field 2 16 at i j xs (omega arith),
+      number_at-field 2 18 at i j xs (omega arith),
+      number_at-field 4 20 at i j xs (omega arith),
+      number_at-field 8 24 at i j xs (omega arith),
+      number_at-field 8 32 at i j xs (omega arith),
+      number_at-field 8 40 at i j xs (omega arith),
+      number_at-field 4 48 at i j xs (omega arith),
+      number_at-field 2 52 at i j xs (omega arith),
+      number_at-field 2 54 at i j xs (omega arith),
+      number_at-field 2 56 at i j xs (omega arith),
+      number_at-field 2 58 at i j xs (omega arith),
+      number_at-field 2 60 at i j xs (omega arith),
+      number_at-field 2 62 at i j xs (omega arith),
+    ) refl
+
+pub section_at-part : (at i j : ℕ) (xs : List ℕ) → at + 64 ≤ j - i
+    → section_at at (slice_range xs i j) ≡ section_at (i + at) xs
+unfolding section_at
+section_at-part at i j xs within =
+    rw (
+      number_at-part 4 at i j xs (omega arith),
+      number_at-field 4 4 at i j xs (omega arith),
+      number_at-field 8 8 at i j xs (omega arith),
+      number_at-field 8 16 at i j xs (omega arith),
+      number_at-field 8 24 at i j xs (omega arith),
+      number_at-field 8 32 at i j xs (omega arith),
+      number_at-field 4 40 at i j xs (omega arith),
+      number_at-field 4 44 at i j xs (omega arith),
+      number_at-field 8 48 at i j xs (omega arith),
+      number_at-field 8 56 at i j xs (omega arith),
+    ) refl
+
+pub symbol_at-part : (at i j : ℕ) (xs : List ℕ) → at + 24 ≤ j - i
+    → symbol_at at (slice_range xs i j) ≡ symbol_at (i + at) xs
+unfolding symbol_at
+symbol_at-part at i j xs within =
+    rw (
+      number_at-part 4 at i j xs (omega arith),
+      number_at-field 1 4 at i j xs (omega arith),
+      number_at-field 1 5 at i j xs (omega arith),
+      number_at-field 2 6 at i j xs (omega arith),
+      number_at-field 8 8 at i j xs (omega arith),
+      number_at-field 8 16 at i j xs (omega arith),
+    ) refl
+
+pub rela_at-part : (at i j : ℕ) (xs : List ℕ) → at + 24 ≤ j - i
+    → rela_at at (slice_range xs i j) ≡ rela_at (i + at) xs
+unfolding rela_at
+rela_at-part at i j xs within =
+    rw (
+      number_at-part 8 at i j xs (omega arith),
+      number_at-field 8 8 at i j xs (omega arith),
+      number_at-field 8 16 at i j xs (omega arith),
+    ) refl
+
+pub segment_at-part : (at i j : ℕ) (xs : List ℕ) → at + 56 ≤ j - i
+    → segment_at at (slice_range xs i j) ≡ segment_at (i + at) xs
+unfolding segment_at
+segment_at-part at i j xs within =
+    rw (
+      number_at-part 4 at i j xs (omega arith),
+      number_at-field 4 4 at i j xs (omega arith),
+      number_at-field 8 8 at i j xs (omega arith),
+      number_at-field 8 16 at i j xs (omega arith),
+      number_at-field 8 24 at i j xs (omega arith),
+      number_at-field 8 32 at i j xs (omega arith),
+      number_at-field 8 40 at i j xs (omega arith),
+      number_at-field 8 48 at i j xs (omega arith),
+    ) refl
+
+pub dynamic_at-part : (at i j : ℕ) (xs : List ℕ) → at + 16 ≤ j - i
+    → dynamic_at at (slice_range xs i j) ≡ dynamic_at (i + at) xs
+unfolding dynamic_at
+dynamic_at-part at i j xs within =
+    rw (number_at-part 8 at i j xs (omega arith), number_at-field 8 8 at i j xs (omega arith)) refl
