@@ -137,9 +137,9 @@ pub fn symbol_part<'a>(tables: &Tables<'a>, number: u64) -> SymbolPart<'a>
     let symbol = tables.symbol(number);
     SymbolPart {
         name,
-        binding: binding_numbered(symbol.info / 16),
-        kind: type_numbered(symbol.info % 16),
-        visibility: visibility_numbered(symbol.other),
+        binding: binding_numbered(symbol.binding()),
+        kind: type_numbered(symbol.kind()),
+        visibility: visibility_numbered(symbol.visibility()),
         place: place_numbered(symbol.shndx),
         value: symbol.value,
         size: symbol.size,

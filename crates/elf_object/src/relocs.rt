@@ -42,8 +42,8 @@ fn relocation_at(bytes: &[u8], at: u64) -> Relocation
     match read_rela(bytes, at) {
         Some(entry) => Relocation {
             offset: entry.offset,
-            kind: RelocationKind::numbered((entry.info % (1 << 32)) as u32).unwrap_or(RelocationKind::Nothing),
-            symbol: (entry.info >> 32) as u32,
+            kind: RelocationKind::numbered(entry.kind()).unwrap_or(RelocationKind::Nothing),
+            symbol: entry.symbol(),
             addend: entry.addend,
         },
         None => unreachable!(),

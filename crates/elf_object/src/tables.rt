@@ -9,7 +9,7 @@ ghost use Rattle.elf_object.specs.Lent.{section_bytes};
 ghost use Rattle.elf_object.specs.Faults.{IsFault, IsFirstAt, HasPartPastEnd, Answers};
 
 use crate::class::kept_class;
-use crate::elf::{SHT_NOBITS, SHT_NULL, SHT_STRTAB, SHT_SYMTAB};
+use elf_records::section_header::{SHT_NOBITS, SHT_NULL, SHT_STRTAB, SHT_SYMTAB};
 use crate::fault::{FaultKind, ObjectFault};
 use crate::headers::{Headers, header_in, headers_of, lies_in};
 use crate::names::names_end;
