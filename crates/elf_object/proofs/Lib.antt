@@ -1,10 +1,8 @@
 pub mod File
-pub mod Firsts
 pub mod EndsOfNames
 pub mod Lists
 pub mod Order
 pub mod Overlaps
 pub mod Parts
-pub mod Searches
 pub mod SymbolTables
 pub mod TargetsFound

@@ -5,7 +5,7 @@ use Rattle.elf_object.specs.declared.fault.FaultKind.TheVariants.{SymbolTable}
 use Rattle.elf_object.specs.Parts.{header, section, symbol_table, IsTable}
 use Rattle.elf_object.specs.Faults.{Stands, Nowhere, NoneBelow, IsFirst, IsBadTable}
 use Rattle.elf_object.proofs.Order.{first_of}
-use Rattle.elf_object.proofs.Searches.{table_is, table_least}
+use Rattle.elf_object.specs.Searches.{table_is, table_least}
 
 -- the kind stands at no section before the symbol table, and behind it at sections of symbols alone
 in_tables : (b : List ℕ) (s e : ℕ) → Stands SymbolTable b s e

@@ -3,7 +3,7 @@ use Rattle.std.proofs.Common.{◌≡◌, ◌≢◌, ◌+◌, ◌<◌, ◌≤◌,
 use Rattle.elf_object.specs.Parts.{header, section, relocates}
 use Rattle.elf_object.specs.Firsts.{first_below}
 use Rattle.elf_object.specs.Tables.{AreTargetsBelow}
-use Rattle.elf_object.proofs.Searches.{target_same, target_kept, target_new}
+use Rattle.elf_object.specs.Searches.{target_same, target_kept, target_new}
 
 same_or_other : (m n : ℕ) → (m ≡ n) ⊎ (m ≡ n → ⊥)
 same_or_other m n = grind arith

@@ -3,8 +3,8 @@ use Rattle.std.specs.Prelude.{◌≡◌, ◌≢◌, ◌<◌, ◌≤◌, ◌^◌,
 use Rattle.elf_records.specs.declared.section_header.SectionHeader.{SectionHeader}
 use Rattle.elf_object.specs.declared.class.SectionClass.{SectionClass}
 use Rattle.elf_object.specs.declared.class.SectionClass.TheVariants.{Executable, ReadOnly, Tls, Writable}
-use Rattle.elf_object.specs.declared.class.TheConstants.{CLASS_FLAGS}
-use Rattle.elf_object.specs.declared.elf.TheConstants.{SHT_PROGBITS, SHT_NOTE, SHT_NOBITS, SHT_X86_64_UNWIND, SHF_WRITE, SHF_ALLOC, SHF_EXECINSTR, SHF_TLS, SHF_TLS_WRITE}
+use Rattle.elf_records.specs.declared.section_header.TheConstants.{SHT_PROGBITS, SHT_NOTE, SHT_NOBITS, SHT_X86_64_UNWIND, SHF_WRITE, SHF_ALLOC, SHF_EXECINSTR, SHF_TLS}
+use Rattle.elf_object.specs.declared.class.TheConstants.{CLASS_FLAGS, SHF_TLS_WRITE}
 use Rattle.elf_object.specs.Parts.{section, IsSection}
 
 -- the class of flags, those that all classes may have left out, and a type

@@ -7,14 +7,17 @@ use Rattle.elf_object.specs.declared.fault.FaultKind.{FaultKind}
 use Rattle.elf_object.specs.declared.fault.FaultKind.TheVariants.{Truncated, NotElf, NotRelocatable, SectionName, SectionKind, SectionAlign, TooLarge, SymbolTable, SymbolName, SymbolSection, SymbolRange, SymbolKind, RelocTarget, RelocSymbol, RelocKind, RelocRange, RelocOverlap, Sequence, StrayCall, WritableData}
 use Rattle.elf_object.specs.declared.fault.ObjectFault.{ObjectFault}
 use Rattle.elf_object.specs.declared.fault.ObjectFault.TheVariants.{OutOfMemory, At}
-use Rattle.elf_object.specs.declared.elf.TheConstants.{ELF_IDENT, SHT_SYMTAB, SHT_STRTAB, SHT_REL, SHT_GROUP, SHT_SYMTAB_SHNDX, SHT_NOBITS, SHF_ALLOC, SHF_TLS, SHN_UNDEF, SHN_ABS, STB_LOCAL, STB_GLOBAL, STB_WEAK, STT_FUNC, STT_FILE, STT_TLS, ET_REL, EM_X86_64, EV_CURRENT, SHN_LORESERVE}
+use Rattle.elf_records.specs.declared.file_header.TheConstants.{ELF_IDENT, ET_REL, EM_X86_64, EV_CURRENT}
+use Rattle.elf_records.specs.declared.section_header.TheConstants.{SHT_SYMTAB, SHT_STRTAB, SHT_REL, SHT_GROUP, SHT_SYMTAB_SHNDX, SHT_NOBITS, SHF_ALLOC, SHF_TLS}
+use Rattle.elf_records.specs.declared.symbol.TheConstants.{SHN_UNDEF, SHN_ABS, STB_LOCAL, STB_GLOBAL, STB_WEAK, STT_FUNC, STT_FILE, STT_TLS, SHN_LORESERVE}
 use Rattle.elf_object.specs.declared.class.SectionClass.{SectionClass}
 use Rattle.elf_object.specs.declared.class.SectionClass.TheVariants.{Executable}
 use Rattle.elf_object.specs.declared.relocation.RelocationKind.{RelocationKind}
 use Rattle.elf_object.specs.Parts.{header, section, symbol, rela, symbol_table, symbol_count, entry_count, HasBytes, IsSection, IsStrings, IsTable, IsRela}
 use Rattle.elf_object.specs.Classes.{class_of, kept_class, IsKept, IsKeptSection, IsTls, IsAlignment}
 use Rattle.elf_object.specs.Names.{byte_of, Ends}
-use Rattle.elf_object.specs.Relocations.{symbol_of, type_of, relocation_kind, width_at, IsOfCode, IsReloc, Covers}
+use Rattle.elf_records.specs.Records.{symbol_binding, symbol_kind, rela_symbol, rela_kind}
+use Rattle.elf_object.specs.Relocations.{relocation_kind, width_at, IsOfCode, IsReloc, Covers}
 
 -- the order of the kinds
 abbrev pub number : FaultKind → ℕ
@@ -74,17 +77,10 @@ IsBadTable b s =
 abbrev pub IsSymbol : List ℕ → ℕ → ℕ → Type 0
 IsSymbol b s e = (0 < s) × (s ≡ symbol_table b) × (0 < e) × (e < symbol_count b)
 
--- the binding and the type, which share a byte
-abbrev pub binding_of : SymbolEntry → ℕ
-binding_of symbol = symbol.info / 16
-
-abbrev pub kind_of : SymbolEntry → ℕ
-kind_of symbol = symbol.info % 16
-
 -- a LOCAL symbol among the others, or another among the LOCAL ones, which come first
 abbrev pub IsMisplaced : SymbolEntry → ℕ → ℕ → Type 0
 IsMisplaced symbol e first =
-    ((binding_of symbol ≡ STB_LOCAL) × (first ≤ e)) ⊎ ((binding_of symbol ≢ STB_LOCAL) × (e < first))
+    ((symbol_binding symbol ≡ STB_LOCAL) × (first ≤ e)) ⊎ ((symbol_binding symbol ≢ STB_LOCAL) × (e < first))
 
 -- the string table of the symbol table
 abbrev pub symbol_strings : List ℕ → ℕ
@@ -95,7 +91,7 @@ abbrev pub IsMisnamed : List ℕ → SymbolEntry → Type 0
 IsMisnamed b symbol =
     IsStrings b (symbol_strings b)
     × ((Ends b (symbol_strings b) symbol.name → ⊥)
-       ⊎ ((byte_of b (symbol_strings b) symbol.name ≡ 0) × (binding_of symbol ≢ STB_LOCAL)))
+       ⊎ ((byte_of b (symbol_strings b) symbol.name ≡ 0) × (symbol_binding symbol ≢ STB_LOCAL)))
 
 -- section s is one, but linking drops it
 abbrev pub IsDropped : List ℕ → ℕ → Type 0
@@ -105,8 +101,8 @@ IsDropped b s = IsSection b s × (IsKept (section b s) → ⊥)
 abbrev pub IsMisdefined : List ℕ → SymbolEntry → Type 0
 IsMisdefined b symbol =
     ((symbol.shndx ≢ SHN_UNDEF) × (symbol.shndx ≢ SHN_ABS) × (IsSection b symbol.shndx → ⊥))
-    ⊎ ((binding_of symbol ≡ STB_LOCAL) × (symbol.shndx ≡ SHN_UNDEF))
-    ⊎ (((binding_of symbol ≡ STB_GLOBAL) ⊎ (binding_of symbol ≡ STB_WEAK)) × ((symbol.shndx ≡ SHN_ABS) ⊎ IsDropped b symbol.shndx))
+    ⊎ ((symbol_binding symbol ≡ STB_LOCAL) × (symbol.shndx ≡ SHN_UNDEF))
+    ⊎ (((symbol_binding symbol ≡ STB_GLOBAL) ⊎ (symbol_binding symbol ≡ STB_WEAK)) × ((symbol.shndx ≡ SHN_ABS) ⊎ IsDropped b symbol.shndx))
 
 -- section s is one of thread-local storage
 abbrev pub IsTlsSection : List ℕ → ℕ → Type 0
@@ -119,9 +115,9 @@ IsUnknown kind = (kind ≡ 5) ⊎ (STT_TLS < kind)
 -- a binding or a type that linking does not know, or a type that does not fit the section
 abbrev pub IsMistyped : List ℕ → SymbolEntry → Type 0
 IsMistyped b symbol =
-    (STB_WEAK < binding_of symbol) ⊎ IsUnknown (kind_of symbol)
-    ⊎ (IsTlsSection b symbol.shndx × ((kind_of symbol ≡ STT_FUNC) ⊎ (kind_of symbol ≡ STT_FILE)))
-    ⊎ ((kind_of symbol ≡ STT_TLS) × (symbol.shndx ≢ SHN_UNDEF) × (IsTlsSection b symbol.shndx → ⊥))
+    (STB_WEAK < symbol_binding symbol) ⊎ IsUnknown (symbol_kind symbol)
+    ⊎ (IsTlsSection b symbol.shndx × ((symbol_kind symbol ≡ STT_FUNC) ⊎ (symbol_kind symbol ≡ STT_FILE)))
+    ⊎ ((symbol_kind symbol ≡ STT_TLS) × (symbol.shndx ≢ SHN_UNDEF) × (IsTlsSection b symbol.shndx → ⊥))
 
 -- another section of relocations before r has the same target
 abbrev pub IsSecond : List ℕ → ℕ → Type 0
@@ -176,9 +172,9 @@ Stands SymbolRange b s e =
     × ((section b (symbol b e).shndx).size < (symbol b e).value + (symbol b e).size)
 Stands SymbolKind b s e = IsSymbol b s e × IsMistyped b (symbol b e)
 Stands RelocTarget b s e = (e ≡ 0) × IsRela b s × IsMistargeted b s
-Stands RelocSymbol b s e = IsReloc b s e × (type_of (rela b s e) ≢ 0) × IsUnplaced b (symbol_of (rela b s e))
+Stands RelocSymbol b s e = IsReloc b s e × (rela_kind (rela b s e) ≢ 0) × IsUnplaced b (rela_symbol (rela b s e))
 Stands RelocKind b s e =
-    IsReloc b s e × IsMiskinded (relocation_kind (type_of (rela b s e))) (kept_class (section b (section b s).info))
+    IsReloc b s e × IsMiskinded (relocation_kind (rela_kind (rela b s e))) (kept_class (section b (section b s).info))
 Stands RelocRange b s e = IsReloc b s e × ((section b (section b s).info).size < (rela b s e).offset + width_at b s e)
 Stands RelocOverlap b s e = IsReloc b s e × Overlaps b s e
 Stands Sequence b s e = ⊥

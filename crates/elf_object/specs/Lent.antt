@@ -3,8 +3,9 @@
 use Rattle.std.specs.Prelude.{◌≡◌, ◌+◌, ◌*◌, ◌/◌, ◌%◌, ◌≤◌, ◌^◌, ◌==◌, ◌&&◌, ◌||◌, ℕ, Bool, not, List, [], map, drop, length, slice_range, Option, Some, None, is_some, nat_lt, unwrap_or, if◌then◌else◌}
 use Rattle.std.specs.List.{range_with_len, before_first}
 use Rattle.elf_records.specs.declared.relocation.Rela.{Rela}
-use Rattle.elf_records.specs.Records.{rela_at}
-use Rattle.elf_object.specs.declared.elf.TheConstants.{SHT_NULL, SHT_NOBITS, SHN_UNDEF, SHN_ABS, STB_LOCAL, STB_GLOBAL, STT_NOTYPE, STT_OBJECT, STT_FUNC, STT_SECTION, STT_FILE}
+use Rattle.elf_records.specs.Records.{rela_at, rela_symbol, rela_kind, symbol_binding as binding_number, symbol_kind as type_number, symbol_visibility as visibility_number}
+use Rattle.elf_records.specs.declared.section_header.TheConstants.{SHT_NULL, SHT_NOBITS}
+use Rattle.elf_records.specs.declared.symbol.TheConstants.{SHN_UNDEF, SHN_ABS, STB_LOCAL, STB_GLOBAL, STT_NOTYPE, STT_OBJECT, STT_FUNC, STT_SECTION, STT_FILE, STV_DEFAULT, STV_INTERNAL, STV_HIDDEN}
 use Rattle.elf_object.specs.declared.class.SectionClass.{SectionClass}
 use Rattle.elf_object.specs.declared.symbol.SymbolBinding.{SymbolBinding}
 use Rattle.elf_object.specs.declared.symbol.SymbolBinding.TheVariants.{Local, Global, Weak}
@@ -18,9 +19,9 @@ use Rattle.elf_object.specs.declared.relocation.RelocationKind.TheVariants.{Noth
 use Rattle.elf_object.specs.declared.relocation.Relocation.{Relocation}
 use Rattle.elf_object.specs.declared.part.SectionPart.{SectionPart}
 use Rattle.elf_object.specs.declared.part.SymbolPart.{SymbolPart}
-use Rattle.elf_object.specs.Parts.{header, section, symbol, symbol_table, relocation_table, entry_count}
+use Rattle.elf_object.specs.Parts.{header, section, is_section, symbol, symbol_table, relocation_table, entry_count}
 use Rattle.elf_object.specs.Classes.{kept_class}
-use Rattle.elf_object.specs.Relocations.{symbol_of, type_of, relocation_kind}
+use Rattle.elf_object.specs.Relocations.{relocation_kind}
 
 -- the binding, the type, the visibility and the place that numbers of the file stand for
 abbrev pub binding_numbered : ℕ → SymbolBinding
@@ -36,7 +37,7 @@ type_numbered n =
     Tls
 
 abbrev pub visibility_numbered : ℕ → Visibility
-visibility_numbered n = if n % 4 == 0 then Default else if n % 4 == 1 then Internal else if n % 4 == 2 then Hidden else Protected
+visibility_numbered n = if n == STV_DEFAULT then Default else if n == STV_INTERNAL then Internal else if n == STV_HIDDEN then Hidden else Protected
 
 abbrev pub place_numbered : ℕ → SymbolPlace
 place_numbered n = if n == SHN_UNDEF then Undefined else if n == SHN_ABS then Absolute else InSection n
@@ -48,24 +49,24 @@ text_at table at = before_first (λ byte. byte == 0) (drop at table)
 -- the bytes of section s in the file
 unfoldable pub section_bytes : List ℕ → ℕ → List ℕ
 section_bytes b s =
-    if (nat_lt 0 s && not ((section b s).kind == SHT_NULL)) && not ((section b s).kind == SHT_NOBITS)
+    if is_section b s && (not ((section b s).kind == SHT_NULL) && not ((section b s).kind == SHT_NOBITS))
     then slice_range b (section b s).offset ((section b s).offset + (section b s).size) else []
 
 -- its name
 unfoldable pub section_name : List ℕ → ℕ → List ℕ
-section_name b s = if nat_lt 0 s then text_at (section_bytes b (header b).e_shstrndx) (section b s).name else []
+section_name b s = if is_section b s then text_at (section_bytes b (header b).e_shstrndx) (section b s).name else []
 
 -- the class that linking keeps it in
 unfoldable pub section_class : List ℕ → ℕ → Option SectionClass
-section_class b s = if nat_lt 0 s then kept_class (section b s) else None
+section_class b s = if is_section b s then kept_class (section b s) else None
 
 -- how many bytes it has in memory
 unfoldable pub section_size : List ℕ → ℕ → ℕ
-section_size b s = if nat_lt 0 s then (section b s).size else 0
+section_size b s = if is_section b s then (section b s).size else 0
 
 -- what its address is to be a multiple of; 0 in the file counts as 1
 unfoldable pub section_alignment : List ℕ → ℕ → ℕ
-section_alignment b s = if nat_lt 0 s && not ((section b s).addralign == 0) then (section b s).addralign else 1
+section_alignment b s = if is_section b s && not ((section b s).addralign == 0) then (section b s).addralign else 1
 
 -- what is lent of section s
 pub record IsSectionPart (b : List ℕ) (s : ℕ) (part : SectionPart) : Type 0 where
@@ -81,13 +82,13 @@ symbol_name b e = if nat_lt 0 e then text_at (section_bytes b (section b (symbol
 
 -- its binding, type, visibility, place, value and size
 unfoldable pub symbol_binding : List ℕ → ℕ → SymbolBinding
-symbol_binding b e = if nat_lt 0 e then binding_numbered ((symbol b e).info / 16) else Local
+symbol_binding b e = if nat_lt 0 e then binding_numbered (binding_number (symbol b e)) else Local
 
 unfoldable pub symbol_type : List ℕ → ℕ → SymbolType
-symbol_type b e = if nat_lt 0 e then type_numbered ((symbol b e).info % 16) else NoType
+symbol_type b e = if nat_lt 0 e then type_numbered (type_number (symbol b e)) else NoType
 
 unfoldable pub symbol_visibility : List ℕ → ℕ → Visibility
-symbol_visibility b e = if nat_lt 0 e then visibility_numbered (symbol b e).other else Default
+symbol_visibility b e = if nat_lt 0 e then visibility_numbered (visibility_number (symbol b e)) else Default
 
 unfoldable pub symbol_place : List ℕ → ℕ → SymbolPlace
 symbol_place b e = if nat_lt 0 e then place_numbered (symbol b e).shndx else Undefined
@@ -112,14 +113,20 @@ pub record IsSymbolPart (b : List ℕ) (e : ℕ) (part : SymbolPart) : Type 0 wh
 unfoldable pub relocation_at : ℕ → List ℕ → Relocation
 relocation_at at b =
     let entry = rela_at at b in
-    record { offset = entry.offset; kind = unwrap_or (relocation_kind (type_of entry)) Nothing; symbol = symbol_of entry; addend = entry.addend }
+    record { offset = entry.offset; kind = unwrap_or (relocation_kind (rela_kind entry)) Nothing; symbol = rela_symbol entry; addend = entry.addend }
 
 -- n relocations from a place of the file on, beginning with number e
 unfoldable pub relocations_from : List ℕ → ℕ → ℕ → ℕ → List Relocation
 relocations_from b at e n = map (λ (k : ℕ). relocation_at (at + 24 * k) b) (range_with_len e n)
 
--- the relocations of section t, where linking keeps it and a section holds some
-unfoldable pub relocations : List ℕ → ℕ → List Relocation
-relocations b t =
-    if is_some (section_class b t) && nat_lt 0 (relocation_table b t)
-    then relocations_from b (section b (relocation_table b t)).offset 0 (entry_count (section b (relocation_table b t))) else []
+-- the section that holds the relocations of section t, where linking keeps t; 0 where none does
+unfoldable pub kept_relocation_table : List ℕ → ℕ → ℕ
+kept_relocation_table b t = if is_some (section_class b t) then relocation_table b t else 0
+
+-- the relocations in section r; none where r is 0
+unfoldable pub relocations_in : List ℕ → ℕ → List Relocation
+relocations_in b r = if nat_lt 0 r then relocations_from b (section b r).offset 0 (entry_count (section b r)) else []
+
+-- the relocations of section t, where linking keeps it
+abbrev pub relocations : List ℕ → ℕ → List Relocation
+relocations b t = relocations_in b (kept_relocation_table b t)

@@ -1,9 +1,12 @@
 pub mod Classes
 pub mod Faults
+pub mod FirstLaws
 pub mod Firsts
+pub mod Laws
 pub mod Lent
 pub mod Names
 pub mod Object
 pub mod Parts
 pub mod Relocations
+pub mod Searches
 pub mod Tables

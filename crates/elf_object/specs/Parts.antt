@@ -5,7 +5,7 @@ use Rattle.elf_records.specs.declared.section_header.SectionHeader.{SectionHeade
 use Rattle.elf_records.specs.declared.symbol.SymbolEntry.{SymbolEntry}
 use Rattle.elf_records.specs.declared.relocation.Rela.{Rela}
 use Rattle.elf_records.specs.Records.{header_at, section_at, symbol_at, rela_at}
-use Rattle.elf_object.specs.declared.elf.TheConstants.{SHT_NULL, SHT_SYMTAB, SHT_STRTAB, SHT_RELA, SHT_NOBITS}
+use Rattle.elf_records.specs.declared.section_header.TheConstants.{SHT_NULL, SHT_SYMTAB, SHT_STRTAB, SHT_RELA, SHT_NOBITS}
 use Rattle.elf_object.specs.Firsts.{first_below}
 
 -- the file's header
@@ -19,6 +19,9 @@ section b s = section_at ((header b).e_shoff + 64 * s) b
 -- s numbers a section; number 0 is reserved
 abbrev pub IsSection : List ℕ → ℕ → Type 0
 IsSection b s = (0 < s) × (s < (header b).e_shnum)
+
+abbrev pub is_section : List ℕ → ℕ → Bool
+is_section b s = nat_lt 0 s && nat_lt s (header b).e_shnum
 
 -- the file holds bytes of the section
 abbrev pub HasBytes : SectionHeader → Type 0

@@ -1,38 +1,31 @@
 -- The types of relocation that linking takes (psABI, "Relocation Types").
 use Rattle.std.specs.Prelude.{◌≡◌, ◌+◌, ◌<◌, ◌≤◌, ◌*◌, ◌^◌, ◌/◌, ◌%◌, ◌==◌, ℕ, List, Option, Some, None, if◌then◌else◌}
-use Rattle.elf_records.specs.declared.relocation.Rela.{Rela}
+use Rattle.elf_records.specs.Records.{rela_kind}
+use Rattle.elf_records.specs.declared.relocation.TheConstants.{R_X86_64_NONE, R_X86_64_64, R_X86_64_PC32, R_X86_64_PLT32, R_X86_64_GOTPCREL, R_X86_64_32, R_X86_64_32S, R_X86_64_TLSGD, R_X86_64_TLSLD, R_X86_64_DTPOFF32, R_X86_64_GOTTPOFF, R_X86_64_TPOFF32, R_X86_64_GOTPC32_TLSDESC, R_X86_64_TLSDESC_CALL, R_X86_64_GOTPCRELX, R_X86_64_REX_GOTPCRELX}
 use Rattle.elf_object.specs.declared.relocation.RelocationKind.{RelocationKind}
 use Rattle.elf_object.specs.declared.relocation.RelocationKind.TheVariants.{Nothing, Absolute64, Pc32, Plt32, GotPcRel, Absolute32, Absolute32Signed, TlsGd, TlsLd, DtpOff32, GotTpOff, TpOff32, GotPc32TlsDesc, TlsDescCall, GotPcRelX, RexGotPcRelX}
 use Rattle.elf_object.specs.Parts.{section, rela, entry_count, IsRela}
 use Rattle.elf_object.specs.Classes.{IsKeptSection}
 
--- the symbol that an entry names
-abbrev pub symbol_of : Rela → ℕ
-symbol_of r = r.info / 2 ^ 32
-
--- the number of its type
-abbrev pub type_of : Rela → ℕ
-type_of r = r.info % 2 ^ 32
-
 -- the type of a number
 abbrev pub relocation_kind : ℕ → Option RelocationKind
 relocation_kind n =
-    if n == 0 then Some Nothing else
-    if n == 1 then Some Absolute64 else
-    if n == 2 then Some Pc32 else
-    if n == 4 then Some Plt32 else
-    if n == 9 then Some GotPcRel else
-    if n == 10 then Some Absolute32 else
-    if n == 11 then Some Absolute32Signed else
-    if n == 19 then Some TlsGd else
-    if n == 20 then Some TlsLd else
-    if n == 21 then Some DtpOff32 else
-    if n == 22 then Some GotTpOff else
-    if n == 23 then Some TpOff32 else
-    if n == 34 then Some GotPc32TlsDesc else
-    if n == 35 then Some TlsDescCall else
-    if n == 41 then Some GotPcRelX else
-    if n == 42 then Some RexGotPcRelX else
+    if n == R_X86_64_NONE then Some Nothing else
+    if n == R_X86_64_64 then Some Absolute64 else
+    if n == R_X86_64_PC32 then Some Pc32 else
+    if n == R_X86_64_PLT32 then Some Plt32 else
+    if n == R_X86_64_GOTPCREL then Some GotPcRel else
+    if n == R_X86_64_32 then Some Absolute32 else
+    if n == R_X86_64_32S then Some Absolute32Signed else
+    if n == R_X86_64_TLSGD then Some TlsGd else
+    if n == R_X86_64_TLSLD then Some TlsLd else
+    if n == R_X86_64_DTPOFF32 then Some DtpOff32 else
+    if n == R_X86_64_GOTTPOFF then Some GotTpOff else
+    if n == R_X86_64_TPOFF32 then Some TpOff32 else
+    if n == R_X86_64_GOTPC32_TLSDESC then Some GotPc32TlsDesc else
+    if n == R_X86_64_TLSDESC_CALL then Some TlsDescCall else
+    if n == R_X86_64_GOTPCRELX then Some GotPcRelX else
+    if n == R_X86_64_REX_GOTPCRELX then Some RexGotPcRelX else
     None
 
 -- how many bytes the field has
@@ -63,7 +56,7 @@ IsReloc b r e = IsRela b r × IsKeptSection b (section b r).info × (e < entry_c
 
 -- the width of the field of entry e of section r
 abbrev pub width_at : List ℕ → ℕ → ℕ → ℕ
-width_at b r e = width_of (relocation_kind (type_of (rela b r e)))
+width_at b r e = width_of (relocation_kind (rela_kind (rela b r e)))
 
 -- byte k of the target lies in the field of entry e of section r
 abbrev pub Covers : List ℕ → ℕ → ℕ → ℕ → Type 0

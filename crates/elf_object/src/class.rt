@@ -3,10 +3,7 @@
 ghost use Rattle.std.specs.Prelude.{◌≡◌};
 ghost use Rattle.elf_object.specs.Classes.{class_row, class_of, kept_class};
 
-use crate::elf::{
-    SHF_ALLOC, SHF_EXECINSTR, SHF_MERGE, SHF_STRINGS, SHF_TLS, SHF_TLS_WRITE, SHF_WRITE, SHT_NOBITS,
-    SHT_NOTE, SHT_PROGBITS, SHT_X86_64_UNWIND,
-};
+use elf_records::section_header::{SHF_ALLOC, SHF_EXECINSTR, SHF_MERGE, SHF_STRINGS, SHF_TLS, SHF_WRITE, SHT_NOBITS, SHT_NOTE, SHT_PROGBITS, SHT_X86_64_UNWIND};
 use elf_records::SectionHeader;
 
 /// What a section that linking keeps becomes in an image.
@@ -23,7 +20,10 @@ pub enum SectionClass {
 }
 
 /// Flags that decide a class. SHF_ALLOC, which each class has, and SHF_MERGE and SHF_STRINGS, which each may have, do not.
-pub const CLASS_FLAGS: u64 = 0xffff_ffff_ffff_ffcd;
+pub const CLASS_FLAGS: u64 = !(SHF_ALLOC | SHF_MERGE | SHF_STRINGS);
+
+/// The flags of thread-local storage, which is written.
+pub const SHF_TLS_WRITE: u64 = SHF_TLS | SHF_WRITE;
 
 /// The class of these flags and this type.
 fn class_row(flags: u64, kind: u32) -> Option<SectionClass>

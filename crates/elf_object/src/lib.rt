@@ -2,7 +2,6 @@
 #![tactic(auto)]
 
 mod class;
-mod elf;
 mod fault;
 mod headers;
 mod names;

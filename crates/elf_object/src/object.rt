@@ -1,24 +1,19 @@
 //! An object: a file that was read and found without fault.
 
-ghost use Rattle.std.specs.Prelude.{◌≡◌, ◌<◌, ◌≤◌, ◌↔◌, ◌^◌, ℕ, IsNone, IfOk, IfErr, IfSome};
-ghost use Rattle.elf_object.specs.Parts.{symbol_count, symbol_table, relocation_table};
-ghost use Rattle.elf_object.specs.Lent.{IsSectionPart, IsSymbolPart, relocations, section_bytes, section_name as name_of_section, symbol_name as name_of_symbol};
-ghost use Rattle.elf_object.specs.Object.{section_count, IsWritable};
+ghost use Rattle.std.specs.Prelude.{◌≡◌, ◌<◌, ◌≤◌, ◌↔◌, ◌^◌, ℕ, length, IsNone, IfOk, IfErr, IfSome};
+ghost use Rattle.elf_object.specs.Parts.{symbol_count as count_of_symbols, symbol_table as table_of_symbols};
+ghost use Rattle.elf_object.specs.Lent.{IsSectionPart, IsSymbolPart, relocations as relocations_of, kept_relocation_table};
+ghost use Rattle.elf_object.specs.Object.{section_count as count_of_sections, IsWritable};
 ghost use Rattle.elf_object.specs.Faults.{IsObject, IsFault, IsFirstAt, NoneBelow, Answers};
 
-use crate::class::{SectionClass, kept_class};
+use crate::class::SectionClass;
 use crate::fault::{FaultKind, ObjectFault};
-use crate::names::text_at;
 use crate::overlap::ask_overlaps;
-use crate::part::{SectionPart, SymbolPart};
-use crate::relocs::Relocs;
+use crate::part::{SectionPart, SymbolPart, class_in, section_part, symbol_part};
+use crate::relocs::{Relocs, relocs_in, table_of};
 use crate::scan::{ask_relocs, ask_sections, ask_symbols};
-use crate::symbol::{
-    SymbolBinding, SymbolPlace, SymbolType, Visibility, binding_numbered, place_numbered,
-    type_numbered, visibility_numbered,
-};
 use crate::symbols::ask_symbol_table;
-use crate::tables::{Tables, has_bytes, tables_of};
+use crate::tables::{Tables, tables_of};
 use crate::targets::ask_targets;
 use std::alloc::Global;
 use std::marker::Model;
@@ -91,5 +86,101 @@ impl<'a> Object<'a> {
         let targets = ask_targets(alloc, &tables)?;
         ask_all_relocs(alloc, &tables)?;
         Ok(Object { tables, targets })
+    }
+}
+
+/// The lowest section of the writable class that has bytes.
+fn first_writable(tables: &Tables) -> Option<u32>
+    ensures { IsFirstAt (IsWritable tables.now.bytes.now) result }
+{
+    for section in 1..tables.count {
+        if class_in(tables, section) == Some(SectionClass::Writable) {
+            return Some(section as u32);
+        }
+    }
+    None
+}
+
+impl<'a> Object<'a> {
+    /// How many sections there are, number 0 included.
+    pub fn section_count(&self) -> u32
+        ensures count { result ≡ count_of_sections self.now }
+        ensures few { result < 2 ^ 16 }
+        ensures object { IsObject self.now }
+    {
+        self.tables.count as u32
+    }
+
+    /// How many symbols there are, number 0 included; 0 where there is no symbol table.
+    #[tactic(auto, using(crate::specs::Laws::symbols_few))]
+    pub fn symbol_count(&self) -> u32
+        ensures count { result ≡ count_of_symbols self.now }
+        ensures few { result ≤ 2 ^ 20 }
+        ensures object { IsObject self.now }
+    {
+        self.tables.symbols.count as u32
+    }
+
+    /// A section, by its number. `None` exactly past the table. Of number 0, which is reserved, nothing is lent.
+    pub fn section(&self, number: u32) -> Option<SectionPart<'a>>
+        ensures past { IsNone result ↔ (count_of_sections self.now ≤ number) }
+        ensures part { IfSome result (IsSectionPart self.now number) }
+        ensures object { IsObject self.now }
+    {
+        let number = u64::from(number);
+        if self.tables.count <= number {
+            return None;
+        }
+        Some(section_part(&self.tables, number))
+    }
+
+    /// A symbol, by its number. `None` exactly past the table. Of number 0, which is reserved, nothing is lent.
+    pub fn symbol(&self, number: u32) -> Option<SymbolPart<'a>>
+        ensures past { IsNone result ↔ (count_of_symbols self.now ≤ number) }
+        ensures part { IfSome result (IsSymbolPart self.now number) }
+        ensures object { IsObject self.now }
+    {
+        let number = u64::from(number);
+        if self.tables.symbols.count <= number {
+            return None;
+        }
+        Some(symbol_part(&self.tables, number))
+    }
+
+    /// The relocations of a section that linking keeps, in the order of the file. There are none where no section holds any.
+    #[tactic(auto, using(crate::specs::Laws::relocations_few))]
+    pub fn relocs(&self, section: u32) -> Relocs<'a>
+        ensures relocations { result ≡ relocations_of self.now section }
+        ensures few { length result ≤ 2 ^ 20 }
+        ensures object { IsObject self.now }
+    {
+        let table = table_of(&self.tables, &self.targets, u64::from(section));
+        relocs_in(&self.tables, table)
+    }
+
+    /// The section that holds the symbols, 0 where there is none.
+    pub fn symbol_table(&self) -> u32
+        ensures table { result ≡ table_of_symbols self.now }
+        ensures few { result < 2 ^ 16 }
+        ensures object { IsObject self.now }
+    {
+        self.tables.symbols.table as u32
+    }
+
+    /// The section that holds the relocations of a section that linking keeps, 0 where there is none.
+    pub fn relocation_table(&self, section: u32) -> u32
+        ensures table { result ≡ kept_relocation_table self.now section }
+        ensures few { result < 2 ^ 16 }
+        ensures object { IsObject self.now }
+    {
+        table_of(&self.tables, &self.targets, u64::from(section)) as u32
+    }
+
+    /// The lowest section of the writable class that has bytes, in memory or in the file.
+    pub fn writable(&self) -> Option<u32>
+        ensures first { IsFirstAt (IsWritable self.now) result }
+        ensures object { IsObject self.now }
+    {
+        first_writable(&self.tables)
     }
 }

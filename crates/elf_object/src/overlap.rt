@@ -9,7 +9,7 @@ ghost use Rattle.elf_object.specs.Tables.{AreRelocs, HasRoom};
 ghost use Rattle.elf_object.specs.Faults.{Stands, IsFirstAt, NoneBelow, Answers};
 
 use crate::fault::{FaultKind, ObjectFault};
-use crate::reloc_tests::{RelocTable, rela_in, relocs_in, type_of, width_of};
+use crate::reloc_tests::{RelocTable, rela_in, relocs_in, width_of};
 use crate::tables::Tables;
 use std::alloc::Global;
 
@@ -42,7 +42,7 @@ fn mark_field(tables: &Tables, section: u64, relocs: &RelocTable, entry: u64, ma
     ensures outside { (k : ℕ) → (Covers tables.now.bytes.now section entry k → ⊥) → slice_index marks.new k ≡ slice_index marks.old k }
 {
     let rela = rela_in(tables, section, relocs, entry);
-    let end = rela.offset + width_of(type_of(&rela));
+    let end = rela.offset + width_of(rela.kind());
     mark(marks, rela.offset as usize, end as usize, section as u32)
 }
 

@@ -1,7 +1,16 @@
 //! What an object lends of a section and of a symbol.
 
-use crate::class::SectionClass;
-use crate::symbol::{SymbolBinding, SymbolPlace, SymbolType, Visibility};
+ghost use Rattle.std.specs.Prelude.{◌≡◌, ◌<◌, OnSome};
+ghost use Rattle.elf_object.specs.Parts.{symbol_count, IsSection};
+ghost use Rattle.elf_object.specs.Lent.{IsSectionPart, IsSymbolPart, section_class, section_name, section_alignment, symbol_name};
+
+use crate::class::{SectionClass, kept_class};
+use crate::names::text_at;
+use crate::symbol::{
+    SymbolBinding, SymbolPlace, SymbolType, Visibility, binding_numbered, place_numbered,
+    type_numbered, visibility_numbered,
+};
+use crate::tables::{Tables, bytes_of};
 
 /// A section of an object. Name and bytes are the file's.
 #[derive(Clone, Copy, Debug)]
@@ -30,4 +39,109 @@ pub struct SymbolPart<'a> {
     pub value: u64,
     /// How many bytes it names.
     pub size: u64,
+}
+
+/// The class that linking keeps a section in.
+#[tactic(auto, unfolding(crate::specs::Lent::section_class))]
+pub fn class_in(tables: &Tables, number: u64) -> Option<SectionClass>
+    ensures class { result ≡ section_class tables.now.bytes.now number }
+    ensures section { OnSome result (IsSection tables.now.bytes.now number) }
+{
+    if !tables.has_section(number) {
+        return None;
+    }
+    kept_class(&tables.section(number))
+}
+
+/// The name of a section.
+#[tactic(auto, unfolding(crate::specs::Lent::section_name))]
+fn name_in<'a>(tables: &Tables<'a>, number: u64) -> &'a [u8]
+    requires { number < tables.now.count }
+    ensures { result.now ≡ section_name tables.now.bytes.now number }
+{
+    if number == 0 {
+        return &[];
+    }
+    text_at(
+        bytes_of(tables, tables.names),
+        tables.section(number).name as usize,
+    )
+}
+
+/// What the address of a section is to be a multiple of.
+#[tactic(auto, unfolding(crate::specs::Lent::section_alignment))]
+fn alignment_in(tables: &Tables, number: u64) -> u64
+    requires { number < tables.now.count }
+    ensures { result ≡ section_alignment tables.now.bytes.now number }
+{
+    match tables.section(number).addralign {
+        alignment if number != 0 && alignment != 0 => alignment,
+        _ => 1,
+    }
+}
+
+/// What is lent of a section.
+#[tactic(auto, unfolding(crate::specs::Lent::section_size))]
+pub fn section_part<'a>(tables: &Tables<'a>, number: u64) -> SectionPart<'a>
+    requires { number < tables.now.count }
+    ensures { IsSectionPart tables.now.bytes.now number result }
+{
+    let size = if number == 0 {
+        0
+    } else {
+        tables.section(number).size
+    };
+    SectionPart {
+        name: name_in(tables, number),
+        class: class_in(tables, number),
+        bytes: bytes_of(tables, number),
+        size,
+        alignment: alignment_in(tables, number),
+    }
+}
+
+/// The name of a symbol.
+#[tactic(auto, unfolding(crate::specs::Lent::symbol_name))]
+fn symbol_name_in<'a>(tables: &Tables<'a>, number: u64) -> &'a [u8]
+    requires { number < symbol_count tables.now.bytes.now }
+    ensures { result.now ≡ symbol_name tables.now.bytes.now number }
+{
+    if number == 0 {
+        return &[];
+    }
+    let strings = u64::from(tables.section(tables.symbols.table).link);
+    text_at(
+        bytes_of(tables, strings),
+        tables.symbol(number).name as usize,
+    )
+}
+
+/// What is lent of a symbol.
+#[tactic(auto, unfolding(crate::specs::Lent::symbol_binding, crate::specs::Lent::symbol_type, crate::specs::Lent::symbol_visibility, crate::specs::Lent::symbol_place, crate::specs::Lent::symbol_value, crate::specs::Lent::symbol_size))]
+pub fn symbol_part<'a>(tables: &Tables<'a>, number: u64) -> SymbolPart<'a>
+    requires { number < symbol_count tables.now.bytes.now }
+    ensures { IsSymbolPart tables.now.bytes.now number result }
+{
+    let name = symbol_name_in(tables, number);
+    if number == 0 {
+        return SymbolPart {
+            name,
+            binding: SymbolBinding::Local,
+            kind: SymbolType::NoType,
+            visibility: Visibility::Default,
+            place: SymbolPlace::Undefined,
+            value: 0,
+            size: 0,
+        };
+    }
+    let symbol = tables.symbol(number);
+    SymbolPart {
+        name,
+        binding: binding_numbered(symbol.binding()),
+        kind: type_numbered(symbol.kind()),
+        visibility: visibility_numbered(symbol.visibility()),
+        place: place_numbered(symbol.shndx),
+        value: symbol.value,
+        size: symbol.size,
+    }
 }

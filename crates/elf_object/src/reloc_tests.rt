@@ -3,15 +3,17 @@
 ghost use Rattle.std.specs.Prelude.{◌≡◌, ◌+◌, ◌*◌, ◌<◌, ◌≤◌, ◌↔◌, ℕ, IsTrue, MatchOption, length};
 ghost use Rattle.elf_object.specs.declared.fault.FaultKind.TheVariants.{RelocSymbol, RelocKind, RelocRange};
 ghost use Rattle.elf_object.specs.Parts.{IsSection, rela as entry_of, symbol_count};
-ghost use Rattle.elf_object.specs.Relocations.{IsReloc, symbol_of, type_of, width_of, relocation_kind};
+ghost use Rattle.elf_object.specs.Relocations.{IsReloc, width_of, relocation_kind};
 ghost use Rattle.elf_object.specs.Tables.{AreRelocs};
 ghost use Rattle.elf_object.specs.Faults.{Stands, IsUnplaced};
 
 use crate::class::{SectionClass, kept_class};
-use crate::elf::{SHN_ABS, SHT_RELA};
+use elf_records::symbol::{SHN_ABS};
+use elf_records::section_header::{SHT_RELA};
 use crate::relocation::RelocationKind;
 use crate::symbol_tests::is_dropped;
 use crate::tables::Tables;
+use elf_records::relocation::R_X86_64_NONE;
 use elf_records::{Rela, read_rela};
 
 /// A section of relocations whose target linking keeps.
@@ -59,20 +61,6 @@ pub fn rela_in(tables: &Tables, section: u64, relocs: &RelocTable, entry: u64) -
     }
 }
 
-/// The number of the symbol that an entry names.
-fn symbol_of(rela: &Rela) -> u64
-    ensures { result ≡ symbol_of rela.now }
-{
-    rela.info >> 32
-}
-
-/// The number of an entry's type.
-pub fn type_of(rela: &Rela) -> u32
-    ensures { result ≡ type_of rela.now }
-{
-    (rela.info % (1 << 32)) as u32
-}
-
 /// Whether this is no symbol, or one that has no place in the image.
 fn is_unplaced(tables: &Tables, symbol: u64) -> bool
     ensures { IsTrue result ↔ IsUnplaced tables.now.bytes.now symbol }
@@ -94,7 +82,7 @@ pub fn reloc_symbol(tables: &Tables, section: u64, relocs: &RelocTable, entry: u
     ensures { IsTrue result ↔ Stands RelocSymbol tables.now.bytes.now section entry }
 {
     let rela = rela_in(tables, section, relocs, entry);
-    type_of(&rela) != 0 && is_unplaced(tables, symbol_of(&rela))
+    rela.kind() != R_X86_64_NONE && is_unplaced(tables, u64::from(rela.symbol()))
 }
 
 /// The relocation is of a type that linking does not know, or that the target may not have.
@@ -104,7 +92,7 @@ pub fn reloc_kind(tables: &Tables, section: u64, relocs: &RelocTable, entry: u64
     requires entry { entry < relocs.now.count }
     ensures { IsTrue result ↔ Stands RelocKind tables.now.bytes.now section entry }
 {
-    match RelocationKind::numbered(type_of(&rela_in(tables, section, relocs, entry))) {
+    match RelocationKind::numbered(rela_in(tables, section, relocs, entry).kind()) {
         Some(kind) => kind.is_of_code() && !relocs.is_code,
         None => true,
     }
@@ -128,6 +116,6 @@ pub fn reloc_range(tables: &Tables, section: u64, relocs: &RelocTable, entry: u6
     ensures { IsTrue result ↔ Stands RelocRange tables.now.bytes.now section entry }
 {
     let rela = rela_in(tables, section, relocs, entry);
-    let width = width_of(type_of(&rela));
+    let width = width_of(rela.kind());
     relocs.target_size < width || relocs.target_size - width < rela.offset
 }

@@ -3,6 +3,10 @@
 ghost use Rattle.std.specs.Prelude.{◌≡◌, ◌↔◌, IsTrue};
 ghost use Rattle.elf_object.specs.Relocations.{relocation_kind, field_width, IsOfCode};
 
+use elf_records::relocation::{
+    R_X86_64_32, R_X86_64_32S, R_X86_64_64, R_X86_64_DTPOFF32, R_X86_64_GOTPC32_TLSDESC, R_X86_64_GOTPCREL, R_X86_64_GOTPCRELX, R_X86_64_GOTTPOFF, R_X86_64_NONE, R_X86_64_PC32, R_X86_64_PLT32, R_X86_64_REX_GOTPCRELX, R_X86_64_TLSDESC_CALL, R_X86_64_TLSGD, R_X86_64_TLSLD, R_X86_64_TPOFF32,
+};
+
 /// A type of relocation (psABI, "Relocation Types"), named without its R_X86_64.
 #[derive(Clone, Copy, PartialEq, Eq, Debug)]
 pub enum RelocationKind {
@@ -30,22 +34,22 @@ impl RelocationKind {
         ensures { result ≡ relocation_kind number }
     {
         match number {
-            0 => Some(RelocationKind::Nothing),
-            1 => Some(RelocationKind::Absolute64),
-            2 => Some(RelocationKind::Pc32),
-            4 => Some(RelocationKind::Plt32),
-            9 => Some(RelocationKind::GotPcRel),
-            10 => Some(RelocationKind::Absolute32),
-            11 => Some(RelocationKind::Absolute32Signed),
-            19 => Some(RelocationKind::TlsGd),
-            20 => Some(RelocationKind::TlsLd),
-            21 => Some(RelocationKind::DtpOff32),
-            22 => Some(RelocationKind::GotTpOff),
-            23 => Some(RelocationKind::TpOff32),
-            34 => Some(RelocationKind::GotPc32TlsDesc),
-            35 => Some(RelocationKind::TlsDescCall),
-            41 => Some(RelocationKind::GotPcRelX),
-            42 => Some(RelocationKind::RexGotPcRelX),
+            R_X86_64_NONE => Some(RelocationKind::Nothing),
+            R_X86_64_64 => Some(RelocationKind::Absolute64),
+            R_X86_64_PC32 => Some(RelocationKind::Pc32),
+            R_X86_64_PLT32 => Some(RelocationKind::Plt32),
+            R_X86_64_GOTPCREL => Some(RelocationKind::GotPcRel),
+            R_X86_64_32 => Some(RelocationKind::Absolute32),
+            R_X86_64_32S => Some(RelocationKind::Absolute32Signed),
+            R_X86_64_TLSGD => Some(RelocationKind::TlsGd),
+            R_X86_64_TLSLD => Some(RelocationKind::TlsLd),
+            R_X86_64_DTPOFF32 => Some(RelocationKind::DtpOff32),
+            R_X86_64_GOTTPOFF => Some(RelocationKind::GotTpOff),
+            R_X86_64_TPOFF32 => Some(RelocationKind::TpOff32),
+            R_X86_64_GOTPC32_TLSDESC => Some(RelocationKind::GotPc32TlsDesc),
+            R_X86_64_TLSDESC_CALL => Some(RelocationKind::TlsDescCall),
+            R_X86_64_GOTPCRELX => Some(RelocationKind::GotPcRelX),
+            R_X86_64_REX_GOTPCRELX => Some(RelocationKind::RexGotPcRelX),
             _ => None,
         }
     }

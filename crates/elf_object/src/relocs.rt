@@ -1,10 +1,14 @@
 //! The relocations of one section, one after another.
 
-ghost use Rattle.std.specs.Prelude.{◌≡◌, ◌+◌, ◌*◌, ◌-◌, ◌≤◌, length};
+ghost use Rattle.std.specs.Prelude.{◌≡◌, ◌+◌, ◌*◌, ◌-◌, ◌<◌, ◌≤◌, length};
 ghost use Rattle.std.specs.Iterator.{YieldsFirst, item_count};
-ghost use Rattle.elf_object.specs.Lent.{relocation_at, relocations_from};
+ghost use Rattle.elf_object.specs.Parts.{IsRela};
+ghost use Rattle.elf_object.specs.Tables.{AreTargets};
+ghost use Rattle.elf_object.specs.Lent.{relocation_at, relocations_in, relocations_from, kept_relocation_table};
 
+use crate::part::class_in;
 use crate::relocation::{Relocation, RelocationKind};
+use crate::tables::Tables;
 use elf_records::read_rela;
 use std::marker::Model;
 
@@ -38,8 +42,8 @@ fn relocation_at(bytes: &[u8], at: u64) -> Relocation
     match read_rela(bytes, at) {
         Some(entry) => Relocation {
             offset: entry.offset,
-            kind: RelocationKind::numbered((entry.info % (1 << 32)) as u32).unwrap_or(RelocationKind::Nothing),
-            symbol: (entry.info >> 32) as u32,
+            kind: RelocationKind::numbered(entry.kind()).unwrap_or(RelocationKind::Nothing),
+            symbol: entry.symbol(),
             addend: entry.addend,
         },
         None => unreachable!(),
@@ -76,4 +80,31 @@ impl Iterator for Relocs<'_> {
         self.next += 1;
         Some(relocation)
     }
+}
+
+/// The section that holds the relocations of a section that linking keeps, or 0. `targets` says of each section which one does.
+#[tactic(auto, using(crate::specs::Searches::relocates_is), unfolding(crate::specs::Lent::kept_relocation_table))]
+pub fn table_of(tables: &Tables, targets: &[u32], section: u64) -> u64
+    requires len { length targets.now ≡ tables.now.count }
+    requires found { AreTargets tables.now.bytes.now targets.now }
+    ensures table { result ≡ kept_relocation_table tables.now.bytes.now section }
+    ensures rela { 0 < result → IsRela tables.now.bytes.now result }
+{
+    let Some(_class) = class_in(tables, section) else {
+        return 0;
+    };
+    u64::from(targets[section as usize])
+}
+
+/// The relocations that a section holds.
+#[tactic(auto, unfolding(crate::specs::Lent::relocations_in, crate::specs::Lent::relocations_from))]
+pub fn relocs_in<'a>(tables: &Tables<'a>, table: u64) -> Relocs<'a>
+    requires { 0 < table → IsRela tables.now.bytes.now table }
+    ensures { result ≡ relocations_in tables.now.bytes.now table }
+{
+    if table == 0 {
+        return Relocs::of(tables.bytes, 0, 0);
+    }
+    let header = tables.section(table);
+    Relocs::of(tables.bytes, header.offset, header.size / 24)
 }

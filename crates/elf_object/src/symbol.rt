@@ -3,7 +3,7 @@
 ghost use Rattle.std.specs.Prelude.{◌≡◌};
 ghost use Rattle.elf_object.specs.Lent.{binding_numbered, type_numbered, visibility_numbered, place_numbered};
 
-use crate::elf::{SHN_ABS, SHN_UNDEF, STB_GLOBAL, STB_LOCAL, STT_FILE, STT_FUNC, STT_OBJECT, STT_NOTYPE, STT_SECTION};
+use elf_records::symbol::{SHN_ABS, SHN_UNDEF, STB_GLOBAL, STB_LOCAL, STT_FILE, STT_FUNC, STT_OBJECT, STT_NOTYPE, STT_SECTION, STV_DEFAULT, STV_HIDDEN, STV_INTERNAL};
 
 /// Which objects see a symbol.
 #[derive(Clone, Copy, PartialEq, Eq, Debug)]
@@ -72,14 +72,14 @@ pub fn type_numbered(number: u8) -> SymbolType
     }
 }
 
-/// The visibility of the byte that holds it in its low two bits.
+/// The visibility of a number.
 pub fn visibility_numbered(number: u8) -> Visibility
     ensures { result ≡ visibility_numbered number }
 {
-    match number % 4 {
-        0 => Visibility::Default,
-        1 => Visibility::Internal,
-        2 => Visibility::Hidden,
+    match number {
+        STV_DEFAULT => Visibility::Default,
+        STV_INTERNAL => Visibility::Internal,
+        STV_HIDDEN => Visibility::Hidden,
         _ => Visibility::Protected,
     }
 }

@@ -8,9 +8,8 @@ ghost use Rattle.elf_object.specs.Names.{Ends};
 ghost use Rattle.elf_object.specs.Faults.{Stands, IsSymbol, IsMisplaced, IsMisnamed, IsMisdefined, IsMistyped, IsDropped, IsTlsSection, symbol_strings};
 
 use crate::class::{SectionClass, kept_class};
-use crate::elf::{
-    SHN_ABS, SHN_UNDEF, SHT_STRTAB, STB_GLOBAL, STB_LOCAL, STB_WEAK, STT_FILE, STT_FUNC, STT_TLS,
-};
+use elf_records::symbol::{SHN_ABS, SHN_UNDEF, STB_GLOBAL, STB_LOCAL, STB_WEAK, STT_FILE, STT_FUNC, STT_TLS};
+use elf_records::section_header::{SHT_STRTAB};
 use crate::tables::Tables;
 use elf_records::SymbolEntry;
 
@@ -21,7 +20,7 @@ pub fn symbol_order(tables: &Tables, entry: u64) -> bool
     ensures { IsTrue result ↔ Stands SymbolTable tables.now.bytes.now tables.now.symbols.table entry }
 {
     let first = u64::from(tables.section(tables.symbols.table).info);
-    if tables.symbol(entry).info / 16 == STB_LOCAL {
+    if tables.symbol(entry).binding() == STB_LOCAL {
         first <= entry
     } else {
         entry < first
@@ -57,7 +56,7 @@ pub fn symbol_name(tables: &Tables, entry: u64) -> bool
     if !name_ends(tables, name) {
         return true;
     }
-    symbol.info / 16 != STB_LOCAL && tables.bytes[(strings.offset + name) as usize] == 0
+    symbol.binding() != STB_LOCAL && tables.bytes[(strings.offset + name) as usize] == 0
 }
 
 /// Whether this is a section, and linking drops it.
@@ -74,7 +73,7 @@ pub fn is_dropped(tables: &Tables, section: u64) -> bool
 fn is_misdefined(tables: &Tables, symbol: &SymbolEntry) -> bool
     ensures { IsTrue result ↔ IsMisdefined tables.now.bytes.now symbol.now }
 {
-    let binding = symbol.info / 16;
+    let binding = symbol.binding();
     let is_named = binding == STB_GLOBAL || binding == STB_WEAK;
     match symbol.shndx {
         SHN_UNDEF => binding == STB_LOCAL,
@@ -125,8 +124,8 @@ fn is_tls_section(tables: &Tables, section: u64) -> bool
 fn is_mistyped(tables: &Tables, symbol: &SymbolEntry) -> bool
     ensures { IsTrue result ↔ IsMistyped tables.now.bytes.now symbol.now }
 {
-    let kind = symbol.info % 16;
-    if symbol.info / 16 > STB_WEAK || kind == 5 || kind > STT_TLS {
+    let kind = symbol.kind();
+    if symbol.binding() > STB_WEAK || kind == 5 || kind > STT_TLS {
         return true;
     }
     if is_tls_section(tables, u64::from(symbol.shndx)) {

@@ -4,7 +4,7 @@ ghost use Rattle.std.specs.Prelude.{◌<◌, ◌↔◌, IsTrue};
 ghost use Rattle.elf_object.specs.Parts.{IsTable, IsStrings};
 ghost use Rattle.elf_object.specs.Faults.{IsBadTable, IsFirstAt, NoneBelow, Answers};
 
-use crate::elf::{SHT_STRTAB, SHT_SYMTAB};
+use elf_records::section_header::{SHT_STRTAB, SHT_SYMTAB};
 use crate::fault::{FaultKind, ObjectFault};
 use crate::scan::first_symbol;
 use crate::tables::Tables;

@@ -5,10 +5,11 @@ ghost use Rattle.elf_object.specs.Parts.{header, section as section_header, symb
 ghost use Rattle.elf_object.specs.Classes.{IsKeptSection};
 ghost use Rattle.elf_object.specs.Names.{IsEndOfNames, Ends};
 ghost use Rattle.elf_object.specs.Tables.{AreSymbols};
+ghost use Rattle.elf_object.specs.Lent.{section_bytes};
 ghost use Rattle.elf_object.specs.Faults.{IsFault, IsFirstAt, HasPartPastEnd, Answers};
 
 use crate::class::kept_class;
-use crate::elf::{SHT_NOBITS, SHT_NULL, SHT_STRTAB, SHT_SYMTAB};
+use elf_records::section_header::{SHT_NOBITS, SHT_NULL, SHT_STRTAB, SHT_SYMTAB};
 use crate::fault::{FaultKind, ObjectFault};
 use crate::headers::{Headers, header_in, headers_of, lies_in};
 use crate::names::names_end;
@@ -191,4 +192,19 @@ impl Tables<'_> {
             None => unreachable!(),
         }
     }
+}
+
+/// The bytes of a section in the file.
+#[tactic(auto, unfolding(crate::specs::Lent::section_bytes))]
+pub fn bytes_of<'a>(tables: &Tables<'a>, number: u64) -> &'a [u8]
+    ensures { result.now ≡ section_bytes tables.now.bytes.now number }
+{
+    if !tables.has_section(number) {
+        return &[];
+    }
+    let header = tables.section(number);
+    if !has_bytes(&header) {
+        return &[];
+    }
+    &tables.bytes[header.offset as usize..(header.offset + header.size) as usize]
 }

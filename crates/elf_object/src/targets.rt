@@ -7,7 +7,7 @@ ghost use Rattle.elf_object.specs.Tables.{AreTargets, AreTargetsBelow};
 ghost use Rattle.elf_object.specs.Faults.{Stands, IsFirstAt, IsSecond, NoneBelow, Answers};
 
 use crate::class::kept_class;
-use crate::elf::{SHT_NOBITS, SHT_RELA, SHT_SYMTAB};
+use elf_records::section_header::{SHT_NOBITS, SHT_RELA, SHT_SYMTAB};
 use crate::fault::{FaultKind, ObjectFault};
 use crate::tables::Tables;
 use std::alloc::Global;
@@ -23,7 +23,7 @@ fn is_table(tables: &Tables, section: u64) -> bool
 }
 
 /// Whether an earlier section holds relocations of the same target. `found` says of each target which one does.
-#[tactic(auto, using(crate::proofs::Searches::second_found, crate::proofs::Searches::second_is))]
+#[tactic(auto, using(crate::specs::Searches::second_found, crate::specs::Searches::second_is))]
 fn is_second(tables: &Tables, section: u64, found: &[u32]) -> bool
     requires section { IsSection tables.now.bytes.now section }
     requires target { IsSection tables.now.bytes.now (section_header tables.now.bytes.now section).info }

@@ -1,7 +1,7 @@
 use Rattle.std.proofs.Common.{◌≡◌, ◌<◌, ◌≤◌, ◌∙◌, refl, sym, ap, arith}
 use Rattle.elf_object.specs.Parts.{header, section, symbol_table, is_table}
 use Rattle.elf_object.specs.Firsts.{first_below}
-use Rattle.elf_object.proofs.Searches.{no_table_more, table_found}
+use Rattle.elf_object.specs.Searches.{no_table_more, table_found}
 use Rattle.elf_object.proofs.tables.symbol_table.Goals as goal
 
 pub loop-section-init : goal.loop-section-init

@@ -2,7 +2,7 @@ use Rattle.std.proofs.Common.{◌≡◌, ◌+◌, ◌<◌, ◌≤◌, ◌∙◌,
 use Rattle.elf_object.specs.Parts.{header, relocates, relocation_table}
 use Rattle.elf_object.specs.Firsts.{first_below}
 use Rattle.elf_object.proofs.Order.{at_target}
-use Rattle.elf_object.proofs.Searches.{target_none}
+use Rattle.elf_object.specs.Searches.{target_none}
 use Rattle.elf_object.proofs.targets.first_mistargeted.Goals as goal
 
 pub loop-section-init : goal.loop-section-init

@@ -1,7 +1,7 @@
 use Rattle.std.proofs.Common.{◌≡◌, ◌<◌, ℕ, slice_index}
 use Rattle.elf_object.specs.Parts.{section}
 use Rattle.elf_object.specs.Faults.{IsSecond}
-use Rattle.elf_object.proofs.Searches.{second_found, second_is, test_nonzero}
+use Rattle.elf_object.specs.Searches.{second_found, second_is, test_nonzero}
 use Rattle.elf_object.proofs.targets.is_second.Goals as goal
 
 pub returns : goal.returns

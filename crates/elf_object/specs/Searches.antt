@@ -1,12 +1,14 @@
 -- What the searches for the symbol table and for sections of relocations find.
-use Rattle.std.proofs.Common.{◌≡◌, ◌<◌, ◌≤◌, ◌+◌, ◌/◌, ◌*◌, ◌∙◌, length, ℕ, List, Bool, true, false, refl, sym, ap, arith, nat_lt, not, IsTrue, ◌==◌, ◌&&◌}
+use Rattle.std.proofs.Common.{◌≡◌, ◌<◌, ◌≤◌, ◌+◌, ◌/◌, ◌*◌, ◌∙◌, length, ℕ, List, Bool, true, false, refl, sym, ap, arith, nat_lt, not, IsTrue, IsSome, Option, Some, None, is_none, if◌then◌else◌, ◌==◌, ◌&&◌}
 use Rattle.std.proofs.lemmas.Bool.Decides.{nat_tests}
 use Rattle.elf_records.specs.declared.section_header.SectionHeader.{SectionHeader}
-use Rattle.elf_object.specs.Parts.{header, section, IsTable, symbol_table, symbol_count, is_table, relocation_table, relocates}
+use Rattle.elf_object.specs.Parts.{header, section, IsSection, IsTable, IsRela, is_section, symbol_table, symbol_count, is_table, relocation_table, relocates}
+use Rattle.elf_object.specs.declared.class.SectionClass.{SectionClass}
+use Rattle.elf_object.specs.Classes.{kept_class, IsKeptSection}
+use Rattle.elf_object.specs.Lent.{section_class}
 use Rattle.elf_object.specs.Firsts.{first_below}
-use Rattle.elf_object.specs.Faults.{HasPartPastEnd, IsSecond}
-use Rattle.elf_object.proofs.Parts.{part_inside}
-use Rattle.elf_object.proofs.Firsts.{first_none, first_found, first_passes, first_least, first_same, first_kept, first_new}
+use Rattle.elf_object.specs.Faults.{IsSecond}
+use Rattle.elf_object.specs.FirstLaws.{first_none, first_found, first_passes, first_least, first_same, first_kept, first_new}
 
 both : (s n k : ℕ) → 0 < s → n ≡ k → (nat_lt 0 s && (n == k)) ≡ true
 both s n k above same = grind (arith, nat_tests)
@@ -41,14 +43,6 @@ table_least b s above below same = first_least (is_table b) (header b).e_shnum s
 -- where there is a symbol table, its entries are counted
 pub count_of_table : (b : List ℕ) (t : ℕ) → t ≡ symbol_table b → 0 < t → symbol_count b ≡ (section b t).size / 24
 count_of_table b t same some = let above : 0 < symbol_table b = omega arith in grind (arith, nat_tests, ap (section b) same)
-
--- the entries of the symbol table lie in the file
-pub table_inside : (b : List ℕ) (s : ℕ) (h : SectionHeader) → h ≡ section b s → ((t : ℕ) → HasPartPastEnd b t → ⊥) → IsTable b s → h.offset + 24 * (h.size / 24) ≤ length b
-table_inside b s h same none table =
-    let whole = part_inside b s none table.0 (λ null. omega arith, λ empty. omega arith) in
-    let at = ap (λ x. x.offset) same in
-    let size = ap (λ x. x.size) same in
-    omega (arith, at, size, whole)
 
 three : (r n k m t : ℕ) → 0 < r → n ≡ k → m ≡ t → (nat_lt 0 r && ((n == k) && (m == t))) ≡ true
 three r n k m t above same target = grind (arith, nat_tests)
@@ -101,3 +95,24 @@ test_nonzero x P to from = (λ t. to (nonzero_of t), λ p. of_nonzero (from p))
   nonzero_of t z = grind (arith, nat_tests)
   of_nonzero : (x ≡ 0 → ⊥) → IsTrue (not (x == 0))
   of_nonzero some = grind (arith, nat_tests)
+
+-- a section that linking keeps is one, and what holds its relocations holds relocations
+pub kept_is : (b : List ℕ) (s : ℕ) → is_none (section_class b s) ≡ false → IsKeptSection b s × (section_class b s ≡ kept_class (section b s))
+unfolding section_class
+kept_is b s h = kept_of (is_section b s) (kept_class (section b s)) (IsSection b s) (λ t. of_section s (header b).e_shnum t) h
+  where
+  of_section : (s n : ℕ) → (nat_lt 0 s && nat_lt s n) ≡ true → (0 < s) × (s < n)
+  of_section s n h = grind (arith, nat_tests)
+  kept_of : (t : Bool) (class : Option SectionClass) (P : Type 0) → (t ≡ true → P) → is_none (if t then class else None) ≡ false
+      → (P × IsSome class) × ((if t then class else None) ≡ class)
+  kept_of true (Some c) P p h = ((p refl, refl), refl)
+  kept_of true None P p h = absurd (cc)
+  kept_of false class P p h = absurd (cc)
+
+-- the section that holds the relocations of another one
+pub relocates_is : (b : List ℕ) (t : ℕ) → 0 < relocation_table b t → IsRela b (relocation_table b t) × ((section b (relocation_table b t)).info ≡ t)
+unfolding relocation_table
+relocates_is b t some =
+    let found = first_passes (relocates b t) (header b).e_shnum some in
+    let passes = of_three (relocation_table b t) (section b (relocation_table b t)).kind 4 (section b (relocation_table b t)).info t found.0 in
+    (((passes.0, found.1), passes.1), passes.2)
