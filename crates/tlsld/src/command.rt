@@ -1,7 +1,7 @@
 //! The commands: for each one the steps from its words to its output, in the order in which their faults come.
 ghost use Rattle.std.specs.Prelude.{◌≡◌, [], IfOk};
 ghost use Rattle.tlsld.specs.Faults.{StoreCounts, NoStoreFault, IsNoStoreFault};
-ghost use Rattle.tlsld.specs.Replies.{AnswerCounts};
+ghost use Rattle.tlsld.specs.Replies.{AnswerCounts, IsOwnText};
 
 use crate::fault::{CommandFault, Refusal};
 use crate::fetched::whole_file;
@@ -21,6 +21,7 @@ use std::alloc::{AllocError, Global};
 pub fn answer<S: Store>(alloc: Global, task: &Task, store: &mut S) -> Answer
     ensures files { S.files store.new ≡ S.files store.old }
     ensures cause { AnswerCounts (S.faults store.old) (S.faults store.new) result }
+    ensures text { IsOwnText result }
 {
     let Task::Run { job, no_relax: _ } = task;
     match run(alloc, store, job.as_str()) {

@@ -1,5 +1,7 @@
 //! The line that a refusal puts in place of the output.
 ghost use Rattle.std.specs.Prelude.{◌≡◌, ◌≢◌, ◌++◌, IfOk, codes};
+ghost use Rattle.tlsld.specs.Delivery.{IsTextOf};
+ghost use Rattle.tlsld.specs.Statuses.{code_of};
 
 use crate::fault::Refusal;
 use crate::reply::Reply;
@@ -9,7 +11,8 @@ use std::alloc::{AllocError, Global};
 
 /// The reply that refuses.
 pub fn reply_of(alloc: Global, refusal: &Refusal) -> Result<Reply, AllocError>
-    ensures { IfOk result (λ reply. reply.status ≢ Status.Store) }
+    ensures status { IfOk result (λ reply. reply.status ≢ Status.Store) }
+    ensures text { IfOk result (λ reply. IsTextOf (code_of reply.status) reply.text.items) }
 {
     match refusal {
         Refusal::JobNotYet => Ok(Reply {
@@ -46,5 +49,5 @@ fn object_line(
     kind: FaultKind,
 ) -> Result<Vec<u8>, AllocError>
 {
-    Ok(format!(in alloc; "object {name} section {section} entry {entry} {kind}\n")?.into_bytes())
+    Ok(format!(in alloc; "object {name} section {section} entry {entry} {kind:?}\n")?.into_bytes())
 }

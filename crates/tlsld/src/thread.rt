@@ -4,6 +4,7 @@
 //! little below it (variant II of Drepper's "ELF Handling For Thread-Local Storage", section 3), and the word at the
 //! thread pointer holds the thread pointer itself. Its stack is the 65,536 bytes before t * 2^40 + 2^39.
 ghost use Rattle.std.specs.Prelude.{◌≤◌, ◌<◌, ◌^◌};
+ghost use Rattle.tlsld.specs.Faults.{NoStoreFault};
 
 use crate::fault::CommandFault;
 use crate::linked::{BASE, Linked, TlsSegment};
@@ -49,6 +50,7 @@ pub fn outcome_of(
     call: Call,
 ) -> Result<Outcome, CommandFault>
     requires { thread ≤ 64 }
+    ensures { NoStoreFault result }
 {
     let mut memory = memory_of(alloc, linked, thread)?;
     let (a, b, c) = call.arguments;
@@ -89,6 +91,7 @@ fn memory_of(
     thread: u32,
 ) -> Result<GuestMemory<u8>, CommandFault>
     requires { thread ≤ 64 }
+    ensures { NoStoreFault result }
 {
     let mut memory = GuestMemory::new(alloc);
     let code = linked.code.clone()?;

@@ -1,5 +1,6 @@
 //! The top calls, which `main` makes.
 ghost use Rattle.std.specs.Prelude.{◌≡◌};
+ghost use Rattle.tlsld.specs.Delivery.{Replied};
 ghost use Rattle.tlsld.specs.Statuses.{StoreShown, SinkShown};
 
 use crate::command::answer;
@@ -13,6 +14,10 @@ pub fn tlsld_plain<S: Store, K: Sink>(alloc: Global, task: &Task, store: &mut S,
     ensures store { StoreShown (S.faults store.old) (S.faults store.new) result }
     ensures sink { SinkShown (K.faults out.old) (K.faults out.new) result }
     ensures files { S.files store.new ≡ S.files store.old }
+    ensures replied { Replied
+        (record { bytes = K.bytes out.old; faults = K.faults out.old; shortages = K.shortages out.old; pieces = K.pieces out.old })
+        (record { bytes = K.bytes out.new; faults = K.faults out.new; shortages = K.shortages out.new; pieces = K.pieces out.new })
+        result }
 {
     let answer = answer(alloc, task, store);
     deliver(out, &answer)
