@@ -13,11 +13,14 @@ pub record StoreState : Type 0 where
   pub faults : ℕ
   pub fails_in : ℕ
 
+abbrev files_code : Coded Files
+files_code = map.code (coded_list coded_ℕ) (coded_list coded_ℕ)
+
 -- a store's state is coded as the tuple of its fields
 abbrev pub store_code : Coded StoreState
 store_code =
-    code_by (Files × (ℕ × ℕ)) (coded× (map.code (coded_list coded_ℕ) (coded_list coded_ℕ)) (coded× coded_ℕ coded_ℕ))
-    (λ s. (s.files, (s.faults, s.fails_in))) (λ p. record { files = p.0; faults = p.1.0; fails_in = p.1.1 }) (λ _. refl)
+    code_by (Files × (ℕ × ℕ)) (coded× files_code (coded× coded_ℕ coded_ℕ)) (λ s. (s.files, (s.faults, s.fails_in)))
+    (λ p. record { files = p.0; faults = p.1.0; fails_in = p.1.1 }) (λ _. refl)
 
 -- the bytes, how often the sink has failed, how often it had no memory, which call fails next,
 -- counted from 1, 0 being none, and how many bytes of its piece that call still appends

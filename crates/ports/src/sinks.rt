@@ -16,10 +16,11 @@ pub trait Sink {
     // How often the sink has answered that there was no memory.
     ghost shortages: { Self → ℕ };
 
-    // How many pieces were put so far, refused ones among them, where the sink tells that.
+    // How many pieces were put so far, refused ones too, where the sink tells that. No sink has to; code over
+    // any sink is proved for one that does, so its clauses can say in how many pieces it puts its output.
     ghost pieces: { Self → Option ℕ };
 
-    /// Appends the piece. On a refusal a front of it may have been appended.
+    /// Appends the whole piece. On a refusal a front of it may have been appended, or nothing.
     fn put(&mut self, piece: &[u8]) -> Result<(), PutFault>
         ensures ok { OnOk result (bytes self.new ≡ with_piece piece.now (bytes self.old)) }
         ensures err { OnErr result (AddsFront (bytes self.old) piece.now (bytes self.new)) }

@@ -1,11 +1,15 @@
 //! Files by name.
-ghost use Rattle.std.specs.Prelude.{◌≡◌, ℕ, List, ◌++◌, length, take, Option, IsErr, OnOk, OnErr, IfSome, MatchOption};
+ghost use Rattle.std.specs.Prelude.{◌≡◌, ℕ, List, ◌++◌, length, take};
+ghost use Rattle.std.specs.Prelude.{Option, IsErr, OnOk, OnErr, IfSome, MatchOption};
 ghost use Rattle.ports.specs.Counts.{FetchCounts, PutCounts};
 ghost use Rattle.ports.specs.Files.{Files, file_at, with_file, with_name};
 
 use crate::{FetchFault, PutFault};
 
-/// Files by name: where the jobs and objects come from, and where an image goes.
+/// Files by name: where jobs and objects come from, and where an image goes.
+///
+/// A store that tells its files (`files` is `Some`) has exactly those: a name that is not among them cannot
+/// be fetched, a fetch changes none, and a put changes the file of that name alone.
 pub trait Store {
     // The files by name, where the store tells them.
     ghost files: { Self → Option Files };
@@ -13,10 +17,12 @@ pub trait Store {
     // How often the store has failed.
     ghost faults: { Self → ℕ };
 
-    // The names of the fetches so far, in order, where the store tells them.
+    // The names of the fetches so far, refused ones too, in order, where the store tells them. No store has
+    // to; code over any store is proved for one that does, so its clauses can say which names it asks for.
     ghost asked: { Self → Option (List (List ℕ)) };
 
-    /// Appends the bytes of the file of that name, and leaves `into` as it was on a refusal.
+    /// Appends the bytes of the file of that name, and leaves `into` as it was on a refusal. Where the store
+    /// tells its files, a name that is not among them is refused.
     fn fetch(&mut self, name: &str, into: &mut Vec<u8>) -> Result<(), FetchFault>
         ensures files { files self.new ≡ files self.old }
         ensures bytes { IfSome (files self.old) (λ fs. MatchOption (file_at fs name.now)
@@ -26,7 +32,8 @@ pub trait Store {
         ensures cause { FetchCounts (faults self.old) (faults self.new) result }
         ensures asked { asked self.new ≡ with_name name.now (asked self.old) };
 
-    /// Makes these bytes the whole content of the file of that name, whether it was there or not.
+    /// Makes these bytes the whole content of the file of that name, whether it was there or not. On a refusal
+    /// the files are as they were.
     fn put(&mut self, name: &str, bytes: &[u8]) -> Result<(), PutFault>
         ensures ok { OnOk result (files self.new ≡ with_file name.now bytes.now (files self.old)) }
         ensures err { OnErr result (files self.new ≡ files self.old) }

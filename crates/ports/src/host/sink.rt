@@ -2,7 +2,7 @@
 ghost use Rattle.std.specs.Prelude.{◌≡◌, [], OnOk, OnErr, IsOk};
 ghost use Rattle.std.specs.Io.KnownBytes.{Appends};
 ghost use Rattle.ports.specs.Counts.{PutCounts, MemoryCounts};
-ghost use Rattle.ports.specs.Pieces.{with_piece, AddsFront, next_piece, untold_bytes, untold_pieces};
+ghost use Rattle.ports.specs.Pieces.{with_piece, AddsFront, next_piece};
 ghost use Rattle.ports.specs.Streams.{AppendsFront};
 
 use super::streams::write_all;
@@ -10,11 +10,13 @@ use crate::{PutFault, Sink};
 use std::io::Write;
 use std::marker::Model;
 
-/// A writer, such as `io::writer(&rt)` for standard output. It tells a caller no bytes.
+/// A writer, such as `io::writer(&rt)` for standard output. A caller that knows only [`Sink`] learns no
+/// bytes of it, only its counts.
 ///
-/// A put is done when the writer has taken and flushed the whole piece. A writer that fails, that takes nothing of what is
-/// left, or that a signal interrupts a thousand times in a row, is a fault; then a front of the piece has been written. A
-/// closed pipe is such a fault where the process lives on, that is where it holds off SIGPIPE.
+/// A put is done when the writer has taken and flushed the whole piece. It is a fault where the writer
+/// fails, takes nothing of what is left, or is interrupted by a signal a thousand times in a row; a front
+/// of the piece has then been written. A closed pipe is such a fault in a process that lives on then,
+/// which is one that ignores SIGPIPE.
 #[derive(Drop)]
 pub struct HostSink<W: Write + Drop> {
     to: W,
@@ -31,6 +33,7 @@ impl<W: Write + Drop> Model for HostSink<W> {
 }
 
 impl<W: Write + Drop> HostSink<W> {
+    /// A sink that writes to `to`.
     pub fn new(to: W) -> Self
         ensures { result ≡ record { written = W.contents to; faults = 0; shortages = 0 } }
     {

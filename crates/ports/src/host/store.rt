@@ -1,7 +1,8 @@
 //! The host's file system as a store.
-ghost use Rattle.std.specs.Prelude.{◌≡◌, ◌+◌, ◌++◌, ◌≤◌, length, take, IsErr, OnOk, OnErr, IfSome, MatchOption};
+ghost use Rattle.std.specs.Prelude.{◌≡◌, ◌+◌, ◌++◌, ◌≤◌, length, take};
+ghost use Rattle.std.specs.Prelude.{IsErr, OnOk, OnErr, IfSome, MatchOption};
 ghost use Rattle.ports.specs.Counts.{FetchCounts, PutCounts};
-ghost use Rattle.ports.specs.Files.{file_at, with_file, with_name, untold_files, untold_names};
+ghost use Rattle.ports.specs.Files.{file_at, with_file, with_name};
 
 use super::streams::{read_all, write_all};
 use crate::{FetchFault, PutFault, Store};
@@ -18,7 +19,18 @@ pub const LARGEST_FILE: usize = 1 << 28;
 /// How many names are tried for the new file that a put writes first.
 const NAMES: u32 = 100;
 
-/// The files of the host, by path. It tells a caller neither files nor names, but only counts its faults.
+/// The files of the host, by path. A clause learns neither files nor names of it, only the count of its
+/// faults, as which a contract sees the whole store.
+///
+/// A fetch reads the file to its end. A path that cannot be opened or read is a fault, and so is a file of
+/// more than [`LARGEST_FILE`] bytes. A read or write that a signal interrupts is asked again, up to a
+/// thousand times in a row, and then is a fault too. Where the host itself lacks memory, the answer is
+/// `OutOfMemory` and no fault.
+///
+/// A put writes a new file `PATH.partN` beside the old one, waits until the disk has it, and then gives it
+/// the path. So a file that a put has answered `Ok` for is whole, and after a refused put the old file
+/// stands as it was and the new one is gone. Only where something stands there that is no plain file, such
+/// as a device, a pipe or a link, are the bytes written to it in place; a refused put may then leave a part.
 #[derive(Drop)]
 pub struct HostStore<'a, R: Files> {
     rt: &'a R,
@@ -35,6 +47,7 @@ impl<'a, R: Files> Model for HostStore<'a, R> {
 }
 
 impl<'a, R: Files> HostStore<'a, R> {
+    /// The files that `rt` reaches. `alloc` serves the names of new files.
     pub fn new(rt: &'a R, alloc: Global) -> Self
         ensures { result ≡ 0 }
     {
@@ -51,15 +64,6 @@ impl<'a, R: Files> HostStore<'a, R> {
     {
         self.faults
     }
-}
-
-fn read_file<R: Files>(rt: &R, name: &str, into: &mut Vec<u8>) -> Result<(), FetchFault>
-    ensures fits { OnOk result (length into.new.items ≤ length into.old.items + LARGEST_FILE) }
-    ensures begins { take (length into.old.items) into.new.items ≡ into.old.items }
-    ensures kept { OnErr result (into.new.items ≡ into.old.items) }
-{
-    let mut file = fs::open(rt, name)?;
-    read_all(&mut file, into, LARGEST_FILE)
 }
 
 impl<'a, R: Files> Store for HostStore<'a, R> {
@@ -107,6 +111,17 @@ impl<'a, R: Files> Store for HostStore<'a, R> {
     }
 }
 
+/// Appends the file's bytes, and leaves `into` as it was on a refusal.
+fn read_file<R: Files>(rt: &R, name: &str, into: &mut Vec<u8>) -> Result<(), FetchFault>
+    ensures fits { OnOk result (length into.new.items ≤ length into.old.items + LARGEST_FILE) }
+    ensures begins { take (length into.old.items) into.new.items ≡ into.old.items }
+    ensures kept { OnErr result (into.new.items ≡ into.old.items) }
+{
+    let mut file = fs::open(rt, name)?;
+    read_all(&mut file, into, LARGEST_FILE)
+}
+
+/// Makes the bytes the content of the file.
 fn write_file<R: Files>(rt: &R, alloc: Global, name: &str, bytes: &[u8]) -> Result<(), PutFault> {
     if is_special(rt, name)? {
         write_all(&mut fs::create(rt, name)?, bytes)

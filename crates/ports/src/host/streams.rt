@@ -8,7 +8,7 @@ use crate::{FetchFault, PutFault};
 use std::io;
 use std::io::{ErrorKind, Read, Write};
 
-/// How often a call is asked again that a signal interrupted.
+/// How often in a row a call is asked again that a signal interrupted.
 const RETRIES: u32 = 1000;
 
 /// How many bytes are read at a time.
@@ -46,7 +46,8 @@ fn write_some<W: Write>(to: &mut W, bytes: &[u8]) -> io::Result<usize>
 
 /// Appends what the reader has left, chunk by chunk. After a refusal some of it has been appended.
 fn read_rest<R: Read>(from: &mut R, into: &mut Vec<u8>, mut room: usize) -> Result<(), FetchFault>
-    ensures bytes { OnOk result (IfSome (R.remaining from.old) (λ bytes. into.new.items ≡ into.old.items ++ bytes)) }
+    ensures bytes { OnOk result (IfSome (R.remaining from.old)
+        (λ bytes. into.new.items ≡ into.old.items ++ bytes)) }
     ensures fits { OnOk result (length into.new.items ≤ length into.old.items + room) }
     ensures begins { take (length into.old.items) into.new.items ≡ into.old.items }
 {
@@ -64,13 +65,15 @@ fn read_rest<R: Read>(from: &mut R, into: &mut Vec<u8>, mut room: usize) -> Resu
     }
 }
 
-/// Appends what the reader has left, and leaves `into` as it was where that fails, or is more than `room` bytes.
+/// Appends what the reader has left. It leaves `into` as it was where a read fails, and where more than
+/// `room` bytes are left, which is a fault.
 pub(super) fn read_all<R: Read>(
     from: &mut R,
     into: &mut Vec<u8>,
     room: usize,
 ) -> Result<(), FetchFault>
-    ensures bytes { OnOk result (IfSome (R.remaining from.old) (λ bytes. into.new.items ≡ into.old.items ++ bytes)) }
+    ensures bytes { OnOk result (IfSome (R.remaining from.old)
+        (λ bytes. into.new.items ≡ into.old.items ++ bytes)) }
     ensures fits { OnOk result (length into.new.items ≤ length into.old.items + room) }
     ensures begins { take (length into.old.items) into.new.items ≡ into.old.items }
     ensures kept { OnErr result (into.new.items ≡ into.old.items) }

@@ -1,5 +1,5 @@
 //! A stream in memory.
-ghost use Rattle.std.specs.Prelude.{◌≡◌, ◌≢◌, ◌↔◌, [], ◌++◌, take, min, length, OnOk, OnErr, IsOk, IsErrOf, IfOk, IfErr};
+ghost use Rattle.std.specs.Prelude.{◌≡◌, ◌≢◌, [], ◌++◌, take, OnOk, OnErr, IsErrOf, IfErr};
 ghost use Rattle.ports.specs.Counts.{PutCounts, MemoryCounts, counted};
 ghost use Rattle.ports.specs.Pieces.{with_piece, AddsFront, next_piece};
 ghost use Rattle.ports.specs.States.{appended, sink_after_put};
@@ -9,7 +9,9 @@ use crate::{PutFault, Sink};
 use std::alloc::{AllocError, Global};
 use std::marker::Model;
 
-/// A stream of bytes in memory, for tests.
+/// A stream of bytes in memory, for tests: it tells them all, and fails at the call that
+/// [`fail_at`](Self::fail_at) or [`fail_part`](Self::fail_part) names and at no other. A contract sees it as
+/// its bytes, its two counts, the number of the call that fails next, and what that call still appends.
 #[derive(Drop)]
 pub struct MemorySink {
     bytes: Vec<u8>,
@@ -66,15 +68,16 @@ impl MemorySink {
         self.shortages
     }
 
-    /// Makes the n-th call from now on fail and append nothing, the next one being the first; 0 is none.
+    /// Makes the n-th call from now on fail and append nothing, where 1 is the next one and 0 is none.
     pub fn fail_at(&mut self, n: u64)
         ensures { self.new ≡ record self.old { fails_in = n; part = 0 } }
     {
         self.fail_part(n, 0);
     }
 
-    /// Makes the n-th call from now on append the first `k` bytes of its piece, or all where it has fewer, and
-    /// then fail. It stands in the place of what `fail_at` or `fail_part` said before.
+    /// Makes the n-th call from now on append the first `k` bytes of its piece, or all where it has fewer,
+    /// and then fail. Only the number that was given last, here or to `fail_at`, stands. The call that fails
+    /// answers `OutOfMemory` where there is no memory for those `k` bytes.
     pub fn fail_part(&mut self, n: u64, k: u64)
         ensures { self.new ≡ record self.old { fails_in = n; part = k } }
     {

@@ -1,5 +1,6 @@
 //! Files in memory.
-ghost use Rattle.std.specs.Prelude.{◌≡◌, ◌-◌, ◌⊎◌, ◌++◌, length, take, None, IsErr, OnOk, OnErr, IsErrOf, IfSome, MatchOption, ◌↔◌};
+ghost use Rattle.std.specs.Prelude.{◌≡◌, ◌-◌, ◌⊎◌, ◌↔◌, ◌++◌, length, take};
+ghost use Rattle.std.specs.Prelude.{None, IsErr, OnOk, OnErr, IsErrOf, IfSome, MatchOption};
 ghost use Rattle.std.specs.Option.{option_copied};
 ghost use Rattle.std.specs.FinMap as map;
 ghost use Rattle.ports.specs.Counts.{FetchCounts, PutCounts, faults_after_fetch, faults_after_put};
@@ -11,7 +12,9 @@ use std::alloc::{AllocError, Global};
 use std::collections::BTreeMap;
 use std::marker::Model;
 
-/// Files in memory, for tests.
+/// Files in memory, for tests: it tells them all, and fails at the call that [`fail_at`](Self::fail_at)
+/// names, at each fetch of a name that is not there, and at no other call. A contract sees it as its files,
+/// the count of its faults, and the number of the call that fails next.
 #[derive(Drop)]
 pub struct MemoryStore {
     alloc: Global,
@@ -27,7 +30,11 @@ impl Model for MemoryStore {
 
     ghost coded = { store_code };
 
-    ghost view = { λ a. record { files = files_of a.files.entries; faults = a.plan.faults; fails_in = a.plan.fails_in } };
+    ghost view = { λ a. record {
+      files = files_of a.files.entries;
+      faults = a.plan.faults;
+      fails_in = a.plan.fails_in;
+    } };
 }
 
 impl MemoryStore {
@@ -42,9 +49,10 @@ impl MemoryStore {
         }
     }
 
-    /// Puts a file of that name, or new bytes for it, which is no call that may fail.
+    /// Makes these bytes the file of that name. It is not counted among the calls, and cannot fail but for memory.
     pub fn add(&mut self, name: &str, bytes: &[u8]) -> Result<(), AllocError>
-        ensures ok { OnOk result (self.new ≡ record self.old { files = map.insert self.old.files name.now bytes.now }) }
+        ensures ok { OnOk result (self.new
+            ≡ record self.old { files = map.insert self.old.files name.now bytes.now }) }
         ensures err { OnErr result (self.new ≡ self.old) }
     {
         let name = String::from_str(self.alloc, name)?;
@@ -70,7 +78,8 @@ impl MemoryStore {
         self.plan.faults
     }
 
-    /// Makes the n-th call from now on fail, the next one being the first; 0 is none. Fetches and puts count together.
+    /// Makes the n-th call from now on fail, where 1 is the next one and 0 is none. Fetches and puts count
+    /// together, and only the number that was given last stands.
     pub fn fail_at(&mut self, n: u64)
         ensures { self.new ≡ record self.old { fails_in = n } }
     {

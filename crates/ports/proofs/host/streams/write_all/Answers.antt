@@ -1,5 +1,4 @@
 use Rattle.std.proofs.Common.{arith, length-drop}
-use Rattle.std.proofs.lemmas.List.{take_rest}
 use Rattle.ports.proofs.StreamLemmas.{Appends-more}
 use Rattle.ports.proofs.host.streams.write_all.Goals as goal
 
