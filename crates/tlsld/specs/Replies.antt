@@ -1,5 +1,5 @@
 -- What a command answers, and what that has to do with the store.
-use Rattle.std.specs.Prelude.{◌≡◌, ◌≢◌, ℕ, ◌⊎◌}
+use Rattle.std.specs.Prelude.{◌≡◌, ℕ, ◌⊎◌}
 use Rattle.tlsld.specs.Statuses.{code_of, IsLate}
 use Rattle.tlsld.specs.Delivery.{IsTextOf}
 use Rattle.ports.specs.Counts.{Counted}
@@ -8,10 +8,17 @@ use Rattle.tlsld.specs.declared.status.Status.TheVariants as status
 use Rattle.tlsld.specs.declared.reply.Answer.{Answer}
 use Rattle.tlsld.specs.declared.reply.Answer.TheVariants.{Replies, StoreFails, NoMemory}
 
--- the store's count of faults rose where the answer is that the store failed, and only there; and a reply's own status is
--- not that of a store that failed
+-- a status that a command gives over files that it got: not that of the words, nor that of a store that failed
+abbrev pub IsOfFiles : Status → Type 0
+IsOfFiles status.Done = Unit {0}
+IsOfFiles status.Usage = ⊥
+IsOfFiles status.Store = ⊥
+IsOfFiles status.Job = Unit {0}
+IsOfFiles status.Object = Unit {0}
+
+-- the store's count of faults rose where the answer is that the store failed, and only there
 abbrev pub AnswerCounts : ℕ → ℕ → Answer → Type 0
-AnswerCounts before now (Replies reply) = (now ≡ before) × (reply.status ≢ status.Store)
+AnswerCounts before now (Replies reply) = (now ≡ before) × IsOfFiles reply.status
 AnswerCounts before now StoreFails = Counted before now
 AnswerCounts before now NoMemory = now ≡ before
 

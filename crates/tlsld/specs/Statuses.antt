@@ -1,5 +1,5 @@
 -- The statuses that the program ends with, and what they say of the store and of the sink.
-use Rattle.std.specs.Prelude.{◌≡◌, ℕ, ◌<◌, ◌≤◌, ◌⊎◌}
+use Rattle.std.specs.Prelude.{◌≡◌, ℕ, ◌<◌, ◌≤◌, ◌⊎◌, Bool, false}
 use Rattle.ports.specs.Counts.{Rose}
 use Rattle.tlsld.specs.declared.status.Status.{Status}
 use Rattle.tlsld.specs.declared.status.Status.TheVariants.{Done, Usage, Store, Job, Object}
@@ -27,3 +27,8 @@ pub record SinkShown (before now code : ℕ) : Type 0 where
   pub later : before ≤ now
   pub cause : code ≡ 4 → Rose before now
   pub shown : before < now → code ≡ 4
+
+-- 2 comes only where the words are not taken, and where they are not taken, 2 or a late number comes
+pub record UsageShown (taken : Bool) (code : ℕ) : Type 0 where
+  pub cause : code ≡ 2 → taken ≡ false
+  pub shown : taken ≡ false → (code ≡ 2) ⊎ IsLate code

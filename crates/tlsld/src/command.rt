@@ -3,15 +3,15 @@ ghost use Rattle.std.specs.Prelude.{◌≡◌, [], IfOk};
 ghost use Rattle.tlsld.specs.Faults.{StoreCounts, NoStoreFault, IsNoStoreFault};
 ghost use Rattle.tlsld.specs.Replies.{AnswerCounts, IsOwnText};
 
-use crate::fault::{CommandFault, Refusal};
+use crate::fault::{CommandFault, Reason, Refusal};
 use crate::fetched::whole_file;
 use crate::link::{function_place, link};
 use crate::not_yet::{SmallJob, small_job, small_object};
 use crate::refusal::reply_of;
 use crate::reply::{Answer, Reply};
 use crate::status::Status;
-use crate::task::Task;
 use crate::thread::outcome_of;
+use command_line::Task;
 use elf_object::{FaultKind, Object, ObjectFault};
 use job_text::{Job, JobFault, Line, Outcome, Points, Transcript};
 use ports::Store;
@@ -71,10 +71,10 @@ fn transcript_of(alloc: Global, job: &SmallJob, bytes: &[u8]) -> Result<Transcri
 {
     let object = object_of(alloc, job.object, bytes)?;
     let Some(sections) = small_object(&object) else {
-        return Err(object_not_yet(alloc, job.object));
+        return Err(refused_object(alloc, job.object, Reason::NotYet));
     };
     let Some(linked) = link(alloc, &object, &sections)? else {
-        return Err(object_not_yet(alloc, job.object));
+        return Err(refused_object(alloc, job.object, Reason::NotYet));
     };
     let outcome = match function_place(&object, &sections, job.symbol.as_bytes()) {
         Some(place) => outcome_of(alloc, &linked, 1, job.call_at(place))?,
@@ -91,43 +91,34 @@ fn object_of<'a>(alloc: Global, name: &str, bytes: &'a [u8]) -> Result<Object<'a
         Ok(object) => object,
         Err(ObjectFault::OutOfMemory) => return Err(CommandFault::OutOfMemory),
         Err(ObjectFault::At { section, entry, kind }) => {
-            return Err(object_fault(alloc, name, section, entry, kind));
+            let reason = Reason::Fault {
+                section,
+                entry,
+                kind,
+            };
+            return Err(refused_object(alloc, name, reason));
         }
     };
     match object.writable() {
-        Some(section) => {
-            let section = u64::from(section);
-            Err(object_fault(alloc, name, section, 0, FaultKind::WritableData))
-        }
+        Some(section) => Err(refused_object(alloc, name, writable_data(section))),
         None => Ok(object),
     }
 }
 
-fn object_fault(
-    alloc: Global,
-    name: &str,
-    section: u64,
-    entry: u64,
-    kind: FaultKind,
-) -> CommandFault
-    ensures { IsNoStoreFault result }
-{
-    match String::from_str(alloc, name) {
-        Ok(name) => CommandFault::Refused(Refusal::Object {
-            name,
-            section,
-            entry,
-            kind,
-        }),
-        Err(AllocError) => CommandFault::OutOfMemory,
+/// No command takes data that programs write yet.
+fn writable_data(section: u32) -> Reason {
+    Reason::Fault {
+        section: u64::from(section),
+        entry: 0,
+        kind: FaultKind::WritableData,
     }
 }
 
-fn object_not_yet(alloc: Global, name: &str) -> CommandFault
+fn refused_object(alloc: Global, name: &str, reason: Reason) -> CommandFault
     ensures { IsNoStoreFault result }
 {
     match String::from_str(alloc, name) {
-        Ok(name) => CommandFault::Refused(Refusal::ObjectNotYet { name }),
+        Ok(name) => CommandFault::Refused(Refusal::Object { name, reason }),
         Err(AllocError) => CommandFault::OutOfMemory,
     }
 }

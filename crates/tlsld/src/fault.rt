@@ -21,15 +21,20 @@ pub enum CommandFault {
 pub enum Refusal {
     /// The path does not take this job yet.
     JobNotYet,
-    /// The object has a fault.
-    Object {
-        name: String,
+    /// The object of this name.
+    Object { name: String, reason: Reason },
+}
+
+/// Why an object is refused.
+#[derive(Clone, Copy, Debug)]
+pub enum Reason {
+    Fault {
         section: u64,
         entry: u64,
         kind: FaultKind,
     },
-    /// The path does not take this object yet.
-    ObjectNotYet { name: String },
+    /// It has no fault, but the path does not take it yet.
+    NotYet,
 }
 
 impl From<FetchFault> for CommandFault {

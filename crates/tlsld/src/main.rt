@@ -1,4 +1,4 @@
-//! A static linker for thread-local storage on x86-64.
+//! A static linker for thread-local storage on x86-64, with a run time that shows what the linked images do.
 #![tactic(auto)]
 
 mod command;
@@ -10,11 +10,24 @@ mod not_yet;
 mod refusal;
 mod reply;
 mod status;
-mod task;
+#[cfg(test)]
+mod tests;
 mod thread;
 mod top;
 
+pub use top::{tlsld, tlsld_plain};
 
-fn main(rt: HostRuntime) {
-    let _ = rt;
+use ports::{HostSink, HostStore};
+use std::process::ExitCode;
+use std::{env, io};
+
+fn main(rt: HostRuntime) -> io::Result<ExitCode> {
+    let mut words = Vec::new(rt.alloc());
+    for word in env::args(&rt)?.skip(1) {
+        words.push(word)?;
+    }
+    let mut store = HostStore::new(&rt, rt.alloc());
+    let mut out = HostSink::new(io::writer(&rt));
+    let status = tlsld(&rt, rt.alloc(), words.as_slice(), &mut store, &mut out);
+    Ok(ExitCode::from(status))
 }

@@ -1,9 +1,10 @@
 //! The line that a refusal puts in place of the output.
-ghost use Rattle.std.specs.Prelude.{◌≡◌, ◌≢◌, ◌++◌, IfOk, codes};
+ghost use Rattle.std.specs.Prelude.{IfOk};
 ghost use Rattle.tlsld.specs.Delivery.{IsTextOf};
+ghost use Rattle.tlsld.specs.Replies.{IsOfFiles};
 ghost use Rattle.tlsld.specs.Statuses.{code_of};
 
-use crate::fault::Refusal;
+use crate::fault::{Reason, Refusal};
 use crate::reply::Reply;
 use crate::status::Status;
 use elf_object::FaultKind;
@@ -11,7 +12,7 @@ use std::alloc::{AllocError, Global};
 
 /// The reply that refuses.
 pub fn reply_of(alloc: Global, refusal: &Refusal) -> Result<Reply, AllocError>
-    ensures status { IfOk result (λ reply. reply.status ≢ Status.Store) }
+    ensures status { IfOk result (λ reply. IsOfFiles reply.status) }
     ensures text { IfOk result (λ reply. IsTextOf (code_of reply.status) reply.text.items) }
 {
     match refusal {
@@ -19,35 +20,34 @@ pub fn reply_of(alloc: Global, refusal: &Refusal) -> Result<Reply, AllocError>
             status: Status::Job,
             text: Vec::from_slice(alloc, b"job 0 NotYet\n")?,
         }),
-        Refusal::ObjectNotYet { name } => Ok(Reply {
+        Refusal::Object { name, reason } => Ok(Reply {
             status: Status::Object,
-            text: not_yet_line(alloc, name.as_str())?,
-        }),
-        Refusal::Object {
-            name,
-            section,
-            entry,
-            kind,
-        } => Ok(Reply {
-            status: Status::Object,
-            text: object_line(alloc, name.as_str(), *section, *entry, *kind)?,
+            text: object_line(alloc, name.as_str(), *reason)?,
         }),
     }
 }
 
-fn not_yet_line(alloc: Global, name: &str) -> Result<Vec<u8>, AllocError>
-    ensures { IfOk result (λ text. text.items ≡ (codes "object " ++ name.now) ++ codes " section 0 entry 0 NotYet\n") }
-{
-    Ok(format!(in alloc; "object {name} section 0 entry 0 NotYet\n")?.into_bytes())
+fn object_line(alloc: Global, name: &str, reason: Reason) -> Result<Vec<u8>, AllocError> {
+    match reason {
+        Reason::Fault {
+            section,
+            entry,
+            kind,
+        } => fault_line(alloc, name, section, entry, kind),
+        Reason::NotYet => not_yet_line(alloc, name),
+    }
 }
 
-fn object_line(
+fn fault_line(
     alloc: Global,
     name: &str,
     section: u64,
     entry: u64,
     kind: FaultKind,
-) -> Result<Vec<u8>, AllocError>
-{
+) -> Result<Vec<u8>, AllocError> {
     Ok(format!(in alloc; "object {name} section {section} entry {entry} {kind:?}\n")?.into_bytes())
+}
+
+fn not_yet_line(alloc: Global, name: &str) -> Result<Vec<u8>, AllocError> {
+    Ok(format!(in alloc; "object {name} section 0 entry 0 NotYet\n")?.into_bytes())
 }

@@ -1,16 +1,46 @@
 //! The top calls, which `main` makes.
-ghost use Rattle.std.specs.Prelude.{◌≡◌};
+ghost use Rattle.std.specs.Prelude.{◌≡◌, ◌≢◌, false, map, string_bytes};
+ghost use Rattle.command_line.specs.Words.{takes_words};
 ghost use Rattle.tlsld.specs.Delivery.{Replied};
-ghost use Rattle.tlsld.specs.Statuses.{StoreShown, SinkShown};
+ghost use Rattle.tlsld.specs.Statuses.{UsageShown, StoreShown, SinkShown};
 
 use crate::command::answer;
-use crate::reply::deliver;
-use crate::task::Task;
+use crate::reply::{deliver, say, say_no_memory};
+use crate::status::Status;
+use command_line::{Task, WordsFault, read_words};
 use ports::{Sink, Store};
 use std::alloc::Global;
+use std::sync::Wait;
+use std::thread::Threads;
 
-/// Answers a command: puts its output, or the one line that says why there is none, and gives the status to end with.
+/// Reads the words, which hold no program name, and answers the command that they are: puts its output, or the one line that
+/// says why there is none, and gives the status to end with.
+pub fn tlsld<R: Threads + Wait + Sync, S: Store, K: Sink>(
+    _rt: &R,
+    alloc: Global,
+    words: &[String],
+    store: &mut S,
+    out: &mut K,
+) -> u8
+    ensures usage { UsageShown (takes_words (map string_bytes words.now)) result }
+    ensures store { StoreShown (S.faults store.old) (S.faults store.new) result }
+    ensures sink { SinkShown (K.faults out.old) (K.faults out.new) result }
+    ensures files { S.files store.new ≡ S.files store.old }
+    ensures replied { Replied
+        (record { bytes = K.bytes out.old; faults = K.faults out.old; shortages = K.shortages out.old; pieces = K.pieces out.old })
+        (record { bytes = K.bytes out.new; faults = K.faults out.new; shortages = K.shortages out.new; pieces = K.pieces out.new })
+        result }
+{
+    match read_words(alloc, words) {
+        Ok(task) => tlsld_plain(alloc, &task, store, out),
+        Err(WordsFault::Usage) => say_usage(out),
+        Err(WordsFault::OutOfMemory) => say_no_memory(out),
+    }
+}
+
+/// Answers a command that waits for nobody.
 pub fn tlsld_plain<S: Store, K: Sink>(alloc: Global, task: &Task, store: &mut S, out: &mut K) -> u8
+    ensures taken { result ≢ 2 }
     ensures store { StoreShown (S.faults store.old) (S.faults store.new) result }
     ensures sink { SinkShown (K.faults out.old) (K.faults out.new) result }
     ensures files { S.files store.new ≡ S.files store.old }
@@ -21,4 +51,16 @@ pub fn tlsld_plain<S: Store, K: Sink>(alloc: Global, task: &Task, store: &mut S,
 {
     let answer = answer(alloc, task, store);
     deliver(out, &answer)
+}
+
+/// Puts the line for words that are not taken.
+fn say_usage<K: Sink>(out: &mut K) -> u8
+    ensures usage { UsageShown false result }
+    ensures sink { SinkShown (K.faults out.old) (K.faults out.new) result }
+    ensures replied { Replied
+        (record { bytes = K.bytes out.old; faults = K.faults out.old; shortages = K.shortages out.old; pieces = K.pieces out.old })
+        (record { bytes = K.bytes out.new; faults = K.faults out.new; shortages = K.shortages out.new; pieces = K.pieces out.new })
+        result }
+{
+    say(out, Status::Usage, b"usage\n")
 }

@@ -1,4 +1,0 @@
-#[derive(Drop)]
-pub enum Task {
-    Run { job: String, no_relax: bool },
-}

@@ -1,0 +1,95 @@
+//! Whole commands over a store and a sink in memory: the words, the files, the output and the status.
+
+mod object;
+
+use crate::tlsld;
+use object::OBJECT;
+use ports::{MemorySink, MemoryStore};
+use std::alloc::Global;
+use std::test::Fail;
+
+const JOB: &[u8] = b"image app exe a.o\n1 call app f 0 0 0\n";
+
+fn words_of(alloc: Global, line: &[&str]) -> Result<Vec<String>, Fail> {
+    let mut words = Vec::new(alloc);
+    for word in line {
+        words.push(String::from_str(alloc, word)?)?;
+    }
+    Ok(words)
+}
+
+/// A store with the job, in the file `job`, and the object of the first example, in `a.o`.
+fn store_of(alloc: Global, job: &[u8], object: &[u8]) -> Result<MemoryStore, Fail> {
+    let mut store = MemoryStore::new(alloc);
+    store.add("job", job)?;
+    store.add("a.o", object)?;
+    Ok(store)
+}
+
+#[test]
+fn runs_the_first_example_in_both_settings(rt: HostRuntime) -> Result<(), Fail> {
+    let lines: [&[&str]; 2] = [&["run", "job"], &["run", "job", "--no-relax"]];
+    for line in lines {
+        let words = words_of(rt.alloc(), line)?;
+        let mut store = store_of(rt.alloc(), JOB, OBJECT)?;
+        let mut out = MemorySink::new(rt.alloc());
+        let status = tlsld(&rt, rt.alloc(), words.as_slice(), &mut store, &mut out);
+        // A call that always wants memory is proved as well: with ample memory the answer is 0.
+        assert_eq!(rt; status, 0, "{line:?}");
+        assert!(rt; out.bytes() == b"t1 l1 g0 = 000000000000002a\n".as_slice());
+    }
+    Ok(())
+}
+
+#[test]
+fn says_what_it_cannot_do(rt: HostRuntime) -> Result<(), Fail> {
+    let lines: [(&[&str], u8, &[u8]); 3] = [
+        (&[], 2, b"usage\n"),
+        (&["run"], 2, b"usage\n"),
+        (&["run", "nojob"], 3, b"store fault\n"),
+    ];
+    for (line, status, text) in lines {
+        let words = words_of(rt.alloc(), line)?;
+        let mut store = store_of(rt.alloc(), JOB, OBJECT)?;
+        let mut out = MemorySink::new(rt.alloc());
+        let ended = tlsld(&rt, rt.alloc(), words.as_slice(), &mut store, &mut out);
+        assert_eq!(rt; ended, status, "{line:?}");
+        assert!(rt; out.bytes() == text, "{line:?}");
+    }
+    Ok(())
+}
+
+#[test]
+fn ends_with_4_where_the_sink_fails(rt: HostRuntime) -> Result<(), Fail> {
+    let words = words_of(rt.alloc(), &["run", "job"])?;
+    let mut store = store_of(rt.alloc(), JOB, OBJECT)?;
+    let mut out = MemorySink::new(rt.alloc());
+    out.fail_at(1);
+    let status = tlsld(&rt, rt.alloc(), words.as_slice(), &mut store, &mut out);
+    assert_eq!(rt; status, 4);
+    assert!(rt; out.bytes().is_empty());
+    Ok(())
+}
+
+#[test]
+fn refuses_jobs_and_objects(rt: HostRuntime) -> Result<(), Fail> {
+    let cut = &OBJECT[..746];
+    let rows: [(&[u8], &[u8], u8, &[u8]); 7] = [
+        (b"", OBJECT, 5, b"job 0 NotYet\n"),
+        (b"image app exe a.o\n1 call app f 0 0 zz\n", OBJECT, 5, b"job 0 NotYet\n"),
+        (b"image app pie a.o\n1 call app f 0 0 0\n", OBJECT, 5, b"job 0 NotYet\n"),
+        (b"image app exe a.o\n1 call app f 0 0 0\n1 call app f 0 0 0\n", OBJECT, 5, b"job 0 NotYet\n"),
+        (b"image app exe a.o\n1 call app g 0 0 0\n", OBJECT, 0, b"t1 l1 g0 refused symbol\n"),
+        (JOB, cut, 6, b"object a.o section 2 entry 0 Truncated\n"),
+        (JOB, b"", 6, b"object a.o section 0 entry 0 Truncated\n"),
+    ];
+    for (job, object, status, text) in rows {
+        let words = words_of(rt.alloc(), &["run", "job"])?;
+        let mut store = store_of(rt.alloc(), job, object)?;
+        let mut out = MemorySink::new(rt.alloc());
+        let ended = tlsld(&rt, rt.alloc(), words.as_slice(), &mut store, &mut out);
+        assert_eq!(rt; ended, status);
+        assert!(rt; out.bytes() == text);
+    }
+    Ok(())
+}
