@@ -1,0 +1,31 @@
+-- The commands of the linker, as values that say what `clap` reads: a subcommand for each command.
+use Rattle.std.specs.Prelude.{ℕ, List, true, Some, codes}
+use Rattle.clap.specs.Walk.{Rule, Text}
+use Rattle.clap.specs.Simple.{App, Shape, new_app, new_rule, on_top, with_rule, with_subcommand}
+use Rattle.clap.specs.declared.builder.action.ArgAction.TheVariants.{SetTrue}
+
+-- a word that must stand there, any text
+abbrev pub text_rule : Text → Rule
+text_rule id = record (new_rule id) { required = true }
+
+-- `--no-relax`, at most once
+abbrev pub no_relax_rule : Rule
+no_relax_rule = record (new_rule (codes "no-relax")) {
+  long = Some (codes "no-relax");
+  action = Some SetTrue;
+}
+
+-- run JOB [--no-relax]
+abbrev pub run_app : App
+run_app = with_rule (with_rule (new_app (codes "run")) (text_rule (codes "JOB"))) no_relax_rule
+
+-- the words begin with a command, and there is no command `help`
+abbrev pub top_settings : Shape → Shape
+top_settings s = record s { no_binary_name = true; subcommand_required = true; disable_help_subcommand = true }
+
+abbrev pub bare_tool : App
+bare_tool = on_top top_settings (new_app (codes "tlsld"))
+
+-- all the commands
+abbrev pub tool_app : App
+tool_app = with_subcommand bare_tool run_app.top

@@ -1,0 +1,2 @@
+pub mod CommandSet
+pub mod Words

@@ -1,0 +1,40 @@
+-- Which words are taken, and the task that they give.
+use Rattle.std.specs.Prelude.{Bool, true, false, List, [], ◌∷◌, Option, Some, None, codes, unwrap_or, if◌then◌else◌}
+use Rattle.std.specs.Option.{option_and_then}
+use Rattle.std.specs.Str.{bytes_eq}
+use Rattle.clap.specs.Walk.{Row, Text, first_of}
+use Rattle.clap.specs.Kinds.{Kinds}
+use Rattle.clap.specs.Faults.{fault_of}
+use Rattle.clap.specs.Simple.{subcommand_of}
+use Rattle.command_line.specs.declared.tasks.Task.{Task}
+use Rattle.command_line.specs.declared.tasks.Task.TheVariants as task
+use Rattle.command_line.specs.CommandSet.{tool_app}
+
+-- nothing is wrong with the words
+abbrev pub has_no_fault : Kinds → Bool
+has_no_fault [] = true
+has_no_fault (k ∷ ks) = false
+
+-- `clap` takes the words
+unfoldable pub takes_words : List Text → Bool
+takes_words words = has_no_fault (fault_of tool_app words)
+
+-- the text of an argument; a required one has its own, and the empty text is never taken
+abbrev pub text_at : Text → List Row → Text
+text_at id rows = unwrap_or (first_of id rows) []
+
+-- whether a flag is set, which reads as `true`
+abbrev pub flag_at : Text → List Row → Bool
+flag_at id rows = bytes_eq (text_at id rows) (codes "true")
+
+-- run JOB [--no-relax]
+abbrev pub run_task : List Row → Task
+run_task rows = task.Run (text_at (codes "JOB") rows) (flag_at (codes "no-relax") rows)
+
+-- the task that a command and the values of its arguments give
+abbrev pub task_of : Text × List Row → Option Task
+task_of command = if bytes_eq command.0 (codes "run") then Some (run_task command.1) else None
+
+-- the task that the words give, where they are taken
+unfoldable pub asked : List Text → Option Task
+asked words = if takes_words words then option_and_then task_of (subcommand_of tool_app words) else None

@@ -1,0 +1,54 @@
+//! The commands, as `clap` reads them: a subcommand for each.
+ghost use Rattle.std.specs.Prelude.{◌≡◌, false, IfOk};
+ghost use Rattle.clap.specs.Walk.{rule_of};
+ghost use Rattle.clap.specs.Simple.{app_of};
+ghost use Rattle.clap.specs.declared.builder.command.Command.TheViews.{out-Command};
+ghost use Rattle.command_line.specs.CommandSet.{text_rule, no_relax_rule, run_app, bare_tool, tool_app};
+
+use clap::{Arg, ArgAction, Command};
+use std::alloc::{AllocError, Global};
+
+/// A word that must stand there.
+fn text_argument<'a>(alloc: Global, id: &'a str) -> Arg<'a>
+    ensures rule { rule_of result ≡ text_rule id.entry.now }
+    ensures local { result.global ≡ false }
+{
+    Arg::new(alloc, id).required(true)
+}
+
+/// `--no-relax`.
+fn no_relax_flag<'a>(alloc: Global) -> Arg<'a>
+    ensures rule { rule_of result ≡ no_relax_rule }
+    ensures local { result.global ≡ false }
+{
+    Arg::new(alloc, "no-relax")
+        .long("no-relax")
+        .action(ArgAction::SetTrue)
+}
+
+/// `run JOB [--no-relax]`.
+fn run_command<'a>(alloc: Global) -> Result<Command<'a>, AllocError>
+    ensures app { IfOk result (λ command. app_of command ≡ run_app) }
+    ensures local { IfOk result (λ command. (out-Command command).has_globals ≡ false) }
+{
+    Command::new(alloc, "run")
+        .arg(text_argument(alloc, "JOB"))?
+        .arg(no_relax_flag(alloc))
+}
+
+/// The linker's command line without its commands: the first word is one.
+fn bare_command<'a>(alloc: Global) -> Command<'a>
+    ensures { app_of result ≡ bare_tool }
+{
+    Command::new(alloc, "tlsld")
+        .no_binary_name(true)
+        .subcommand_required(true)
+        .disable_help_subcommand(true)
+}
+
+/// The linker's command line.
+pub(crate) fn tool_command<'a>(alloc: Global) -> Result<Command<'a>, AllocError>
+    ensures { IfOk result (λ command. app_of command ≡ tool_app) }
+{
+    bare_command(alloc).subcommand(run_command(alloc)?)
+}

@@ -1,0 +1,26 @@
+//! What a user can ask for.
+use crate::Text;
+use thiserror::Error;
+
+/// What a user asks for, with the values of the command's words.
+#[derive(Drop)]
+pub enum Task {
+    /// `run JOB [--no-relax]`: link the images of the job, run its threads, and print what they did.
+    Run {
+        /// The name of the job's file.
+        job: Text,
+        /// Whether each code sequence stays as the compiler wrote it.
+        no_relax: bool,
+    },
+}
+
+/// Why words give no task.
+#[derive(Clone, Copy, Debug, PartialEq, Eq, Error)]
+pub enum WordsFault {
+    /// The words are not those of a command, or wish for help.
+    #[error("usage")]
+    Usage,
+    /// There was no memory to read them.
+    #[error("out of memory")]
+    OutOfMemory,
+}

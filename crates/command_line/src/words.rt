@@ -1,0 +1,75 @@
+//! From words to a task.
+ghost use Rattle.std.specs.Prelude.{◌≡◌, true, false, Some, None, map, string_bytes, IfOk, OnOk, IsErrOf};
+ghost use Rattle.std.specs.Option.{option_and_then};
+ghost use Rattle.clap.specs.Matches.{found_of};
+ghost use Rattle.clap.specs.Walk.{rows_of};
+ghost use Rattle.clap.specs.Simple.{subcommand_rows_of};
+ghost use Rattle.command_line.specs.Words.{takes_words, asked, task_of, run_task, text_at, flag_at};
+
+use crate::command_set::tool_command;
+use crate::{Task, Text, WordsFault};
+use clap::ArgMatches;
+use clap::error::ErrorKind;
+use std::alloc::{AllocError, Global};
+
+impl From<AllocError> for WordsFault {
+    ghost use Rattle.std.specs.Prelude.{◌≡◌};
+    ghost use Rattle.command_line.specs.declared.tasks.WordsFault.TheVariants as fault;
+
+    ghost from_gives = { λ _ e. e ≡ fault.OutOfMemory };
+
+    fn from(_error: AllocError) -> WordsFault {
+        WordsFault::OutOfMemory
+    }
+}
+
+/// The text of the argument, which is there where it is required.
+fn text_of<'a>(matches: &ArgMatches<'a>, id: &str) -> &'a str
+    ensures { result.now ≡ text_at id.now (rows_of (found_of matches.now)) }
+{
+    matches.get_str(id).unwrap_or("")
+}
+
+/// Whether the flag is set.
+fn flag_of(matches: &ArgMatches<'_>, id: &str) -> bool
+    ensures { result ≡ flag_at id.now (rows_of (found_of matches.now)) }
+{
+    text_of(matches, id) == "true"
+}
+
+fn run_of(alloc: Global, matches: &ArgMatches<'_>) -> Result<Task, AllocError>
+    ensures { IfOk result (λ task. task ≡ run_task (rows_of (found_of matches.now))) }
+{
+    Ok(Task::Run {
+        job: Text::copy_of(alloc, text_of(matches, "JOB"))?,
+        no_relax: flag_of(matches, "no-relax"),
+    })
+}
+
+/// The task of the command that `clap` found, with the values of its words.
+fn task_of_matches(alloc: Global, matches: &ArgMatches<'_>) -> Result<Task, WordsFault>
+    ensures ok { IfOk result (λ task. option_and_then task_of (subcommand_rows_of matches.now) ≡ Some task) }
+    ensures usage { IsErrOf result WordsFault.Usage
+        → option_and_then task_of (subcommand_rows_of matches.now) ≡ None }
+{
+    match matches.subcommand() {
+        Some(("run", values)) => Ok(run_of(alloc, values)?),
+        _ => Err(WordsFault::Usage),
+    }
+}
+
+/// Reads the words that follow the program's name.
+pub fn read_words(alloc: Global, words: &[String]) -> Result<Task, WordsFault>
+    ensures ok { IfOk result (λ task. asked (map string_bytes words.now) ≡ Some task) }
+    ensures taken { OnOk result (takes_words (map string_bytes words.now) ≡ true) }
+    ensures usage { IsErrOf result WordsFault.Usage → takes_words (map string_bytes words.now) ≡ false }
+{
+    let command = tool_command(alloc)?;
+    match command.try_get_matches_from(words) {
+        Ok(matches) => task_of_matches(alloc, &matches),
+        Err(error) => match error.kind() {
+            ErrorKind::OutOfMemory => Err(WordsFault::OutOfMemory),
+            _ => Err(WordsFault::Usage),
+        },
+    }
+}
