@@ -14,7 +14,8 @@ class_row flags kind =
     if flags == 0 then (if (kind == SHT_PROGBITS) || (kind == SHT_NOTE) || (kind == SHT_X86_64_UNWIND) then Some ReadOnly else None) else
     if (flags == SHF_TLS) || (flags == SHF_TLS_WRITE) then
         (if kind == SHT_PROGBITS then Some (Tls true) else if kind == SHT_NOBITS then Some (Tls false) else None) else
-    if flags == SHF_WRITE then (if (kind == SHT_PROGBITS) || (kind == SHT_NOBITS) then Some Writable else None) else
+    if flags == SHF_WRITE then
+        (if kind == SHT_PROGBITS then Some (Writable true) else if kind == SHT_NOBITS then Some (Writable false) else None) else
     None
 
 -- the class that a section's flags and type give it
@@ -23,7 +24,7 @@ class_of h = if bit_and h.flags SHF_ALLOC == 0 then None else class_row (bit_and
 
 -- a class, but for a writable section of no bytes
 abbrev pub kept_of : Option SectionClass → ℕ → Option SectionClass
-kept_of (Some Writable) size = if size == 0 then None else Some Writable
+kept_of (Some (Writable initial)) size = if size == 0 then None else Some (Writable initial)
 kept_of class size = class
 
 -- the class that linking keeps the section in

@@ -9,6 +9,7 @@ use Rattle.elf_object.specs.declared.relocation.Relocation.{Relocation}
 use Rattle.elf_object.specs.Parts.{header, section, symbol_table, symbol_count, relocation_table, entry_count, IsTable, IsRela, IsSection}
 use Rattle.elf_object.specs.Classes.{kept_class, IsKept, IsKeptSection}
 use Rattle.elf_object.specs.Lent.{section_class, relocation_at, relocations_from, relocations_in, relocations, kept_relocation_table}
+use Rattle.elf_object.specs.Object.{IsOfData, IsWritable}
 use Rattle.elf_object.specs.Faults.{Stands, IsObject}
 use Rattle.elf_object.specs.Searches.{table_is, kept_is, relocates_is}
 
@@ -82,5 +83,13 @@ relocations_few b object t =
   few_none r xs h = let zero : r ≡ 0 = omega arith in rw zero (omega arith)
 
 -- a section that linking keeps is one
-pub class_in_table : (b : List ℕ) (s : ℕ) (class : SectionClass) → section_class b s ≡ Some class → IsSection b s
-class_in_table b s class h = (kept_is b s (rw h refl)).0.0
+pub class_in_table : (b : List ℕ) (s : ℕ) → is_none (section_class b s) ≡ false → IsSection b s
+class_in_table b s h = (kept_is b s h).0.0
+
+-- so is one of the writable class
+pub writable_in_table : (b : List ℕ) (s : ℕ) → IsWritable b s → IsSection b s
+writable_in_table b s writable = class_in_table b s (some_of (section_class b s) writable)
+  where
+  some_of : (class : Option SectionClass) → IsOfData class → is_none class ≡ false
+  some_of None h = absurd h
+  some_of (Some class) h = refl

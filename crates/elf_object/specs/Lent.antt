@@ -4,7 +4,7 @@ use Rattle.std.specs.Prelude.{◌≡◌, ◌+◌, ◌*◌, ◌/◌, ◌%◌, ◌
 use Rattle.std.specs.List.{range_with_len, before_first}
 use Rattle.elf_records.specs.declared.relocation.Rela.{Rela}
 use Rattle.elf_records.specs.Records.{rela_at, rela_symbol, rela_kind, symbol_binding as binding_number, symbol_kind as type_number, symbol_visibility as visibility_number}
-use Rattle.elf_records.specs.declared.section_header.TheConstants.{SHT_NULL, SHT_NOBITS}
+use Rattle.elf_records.specs.declared.section_header.TheConstants.{SHT_NULL, SHT_RELA, SHT_NOBITS}
 use Rattle.elf_records.specs.declared.symbol.TheConstants.{SHN_UNDEF, SHN_ABS, STB_LOCAL, STB_GLOBAL, STT_NOTYPE, STT_OBJECT, STT_FUNC, STT_SECTION, STT_FILE, STV_DEFAULT, STV_INTERNAL, STV_HIDDEN}
 use Rattle.elf_object.specs.declared.class.SectionClass.{SectionClass}
 use Rattle.elf_object.specs.declared.symbol.SymbolBinding.{SymbolBinding}
@@ -130,3 +130,8 @@ relocations_in b r = if nat_lt 0 r then relocations_from b (section b r).offset 
 -- the relocations of section t, where linking keeps it
 abbrev pub relocations : List ℕ → ℕ → List Relocation
 relocations b t = relocations_in b (kept_relocation_table b t)
+
+-- the section, one that linking keeps, whose relocations section r holds; 0 where it holds none of such a section
+unfoldable pub relocation_target : List ℕ → ℕ → ℕ
+relocation_target b r =
+    if (is_section b r && ((section b r).kind == SHT_RELA)) && is_some (section_class b (section b r).info) then (section b r).info else 0

@@ -1,7 +1,10 @@
 pub mod Classes
+pub mod FaultNames
 pub mod Faults
 pub mod FirstLaws
 pub mod Firsts
+pub mod Lawful
+pub mod LawsOfParts
 pub mod Laws
 pub mod Lent
 pub mod Names

@@ -1,5 +1,6 @@
 -- What a reader keeps of an object, and what callers may rely on.
-use Rattle.std.specs.Prelude.{◌≡◌, ◌<◌, ◌≤◌, ℕ, List, Some, length}
+use Rattle.std.specs.Prelude.{◌≡◌, ◌<◌, ◌≤◌, ℕ, List, Option, Some, length}
+use Rattle.elf_object.specs.declared.class.SectionClass.{SectionClass}
 use Rattle.elf_object.specs.declared.class.SectionClass.TheVariants.{Writable}
 use Rattle.elf_object.specs.Parts.{header, section, IsSection}
 use Rattle.elf_object.specs.Lent.{section_class}
@@ -16,6 +17,11 @@ pub record IsRead (b targets : List ℕ) : Type 0 where
 abbrev pub section_count : List ℕ → ℕ
 section_count b = (header b).e_shnum
 
--- section s is of the writable class, and holds bytes
+-- the class is that of data that programs write
+abbrev pub IsOfData : Option SectionClass → Type 0
+IsOfData (Some (Writable _)) = Unit {0}
+IsOfData _ = ⊥
+
+-- section s is of that class; such a section of no bytes is of none
 abbrev pub IsWritable : List ℕ → ℕ → Type 0
-IsWritable b s = section_class b s ≡ Some Writable
+IsWritable b s = IsOfData (section_class b s)

@@ -15,8 +15,8 @@ pub enum SectionClass {
     ReadOnly,
     /// Thread-local storage: the initial image, or zeros that take no bytes of the file.
     Tls { initial: bool },
-    /// Data that programs write.
-    Writable,
+    /// Data that programs write: bytes of the file, or zeros that take none.
+    Writable { initial: bool },
 }
 
 /// Flags that decide a class. SHF_ALLOC, which each class has, and SHF_MERGE and SHF_STRINGS, which each may have, do not.
@@ -34,7 +34,8 @@ fn class_row(flags: u64, kind: u32) -> Option<SectionClass>
         (0, SHT_PROGBITS | SHT_NOTE | SHT_X86_64_UNWIND) => Some(SectionClass::ReadOnly),
         (SHF_TLS | SHF_TLS_WRITE, SHT_PROGBITS) => Some(SectionClass::Tls { initial: true }),
         (SHF_TLS | SHF_TLS_WRITE, SHT_NOBITS) => Some(SectionClass::Tls { initial: false }),
-        (SHF_WRITE, SHT_PROGBITS | SHT_NOBITS) => Some(SectionClass::Writable),
+        (SHF_WRITE, SHT_PROGBITS) => Some(SectionClass::Writable { initial: true }),
+        (SHF_WRITE, SHT_NOBITS) => Some(SectionClass::Writable { initial: false }),
         _ => None,
     }
 }
@@ -56,7 +57,7 @@ pub fn kept_class(header: &SectionHeader) -> Option<SectionClass>
     ensures { result ≡ kept_class header.now }
 {
     match class_of(header) {
-        Some(SectionClass::Writable) if header.size == 0 => None,
+        Some(SectionClass::Writable { .. }) if header.size == 0 => None,
         class => class,
     }
 }

@@ -1,4 +1,33 @@
-//! Relocatable objects of ELF64, read and checked.
+//! Relocatable objects, read and checked.
+//!
+//! An assembler turns each source file into an *object*: a file of *sections* (code, constants, data), of *symbols*, which name
+//! places in them, and of *relocations*, which say what a linker has to write where once it knows the places. Linking joins
+//! objects into one image. What an object holds is found by numbers in its headers: where a table lies, how long it is, which
+//! section a symbol is defined in. Any of these numbers may lie, by a truncated download, a broken tool or an attacker.
+//!
+//! [`Object::read`] asks every one of them once. It answers an [`Object`] exactly where the bytes stand for one, and else the
+//! first [`FaultKind`] that stands, with the section and the entry that it stands at. After that the parts are lent with no test
+//! and no refusal: names and bytes of sections, symbols, relocations.
+//!
+//! The rule that the crate keeps: **an object is exactly what no fault stands in**, and the fault that is answered is the first:
+//! no earlier kind stands anywhere, and this one at no lower section and, there, at no lower entry. `specs/Faults` says what
+//! each kind means, one line each; it knows nothing of how the code looks for it. Reading takes one pass for each kind, and
+//! time and memory that grow with what the tables hold: a mark on each byte finds fields that overlap, the last zero byte of a
+//! string table tells which names end.
+//!
+//! An example. In an object of one variable the section headers may say
+//!
+//! ```text
+//! .text   offset 0x240 size 9   flags AX      64 8b 04 25 00 00 00 00 c3      mov %fs:0, %eax; ret
+//! .rela.text                    info 1        04 00 00 00 00 00 00 00  17 00 00 00 02 00 00 00  00 ..
+//! ```
+//!
+//! The relocation fills the four bytes at offset 4 with the offset of symbol 2 from the thread pointer (type 0x17,
+//! R_X86_64_TPOFF32). With offset 6 in its place the field would pass the nine bytes of `.text`: `RelocRange` at section 2,
+//! entry 0.
+//!
+//! The format is that of the System V ABI (gABI, "Object Files") and of its supplement for x86-64 (psABI, "Relocation"). Which
+//! sections linking keeps, and the limits on sizes, are this project's own: `specs/Classes` has the table.
 #![tactic(auto)]
 
 mod class;
@@ -8,8 +37,8 @@ mod names;
 mod object;
 mod overlap;
 mod part;
-mod relocation;
 mod reloc_tests;
+mod relocation;
 mod relocs;
 mod scan;
 mod section_tests;
@@ -18,6 +47,8 @@ mod symbol_tests;
 mod symbols;
 mod tables;
 mod targets;
+#[cfg(test)]
+mod tests;
 
 pub use class::SectionClass;
 pub use fault::{FaultKind, ObjectFault};

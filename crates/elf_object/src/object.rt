@@ -2,7 +2,7 @@
 
 ghost use Rattle.std.specs.Prelude.{◌≡◌, ◌<◌, ◌≤◌, ◌↔◌, ◌^◌, ℕ, length, IsNone, IfOk, IfErr, IfSome};
 ghost use Rattle.elf_object.specs.Parts.{symbol_count as count_of_symbols, symbol_table as table_of_symbols};
-ghost use Rattle.elf_object.specs.Lent.{IsSectionPart, IsSymbolPart, relocations as relocations_of, kept_relocation_table};
+ghost use Rattle.elf_object.specs.Lent.{IsSectionPart, IsSymbolPart, relocations as relocations_of, kept_relocation_table, relocation_target as target_of_relocations};
 ghost use Rattle.elf_object.specs.Object.{section_count as count_of_sections, IsWritable};
 ghost use Rattle.elf_object.specs.Faults.{IsObject, IsFault, IsFirstAt, NoneBelow, Answers};
 
@@ -10,7 +10,7 @@ use crate::class::SectionClass;
 use crate::fault::{FaultKind, ObjectFault};
 use crate::overlap::ask_overlaps;
 use crate::part::{SectionPart, SymbolPart, class_in, section_part, symbol_part};
-use crate::relocs::{Relocs, relocs_in, table_of};
+use crate::relocs::{Relocs, relocs_in, table_of, target_of};
 use crate::scan::{ask_relocs, ask_sections, ask_symbols};
 use crate::symbols::ask_symbol_table;
 use crate::tables::{Tables, tables_of};
@@ -94,7 +94,7 @@ fn first_writable(tables: &Tables) -> Option<u32>
     ensures { IsFirstAt (IsWritable tables.now.bytes.now) result }
 {
     for section in 1..tables.count {
-        if class_in(tables, section) == Some(SectionClass::Writable) {
+        if matches!(class_in(tables, section), Some(SectionClass::Writable { .. })) {
             return Some(section as u32);
         }
     }
@@ -174,6 +174,14 @@ impl<'a> Object<'a> {
         ensures object { IsObject self.now }
     {
         table_of(&self.tables, &self.targets, u64::from(section)) as u32
+    }
+
+    /// The section, one that linking keeps, whose relocations a section holds; 0 where it holds none of such a section.
+    pub fn relocation_target(&self, table: u32) -> u32
+        ensures target { result ≡ target_of_relocations self.now table }
+        ensures object { IsObject self.now }
+    {
+        target_of(&self.tables, u64::from(table)) as u32
     }
 
     /// The lowest section of the writable class that has bytes, in memory or in the file.

@@ -1,15 +1,16 @@
 //! The relocations of one section, one after another.
 
-ghost use Rattle.std.specs.Prelude.{◌≡◌, ◌+◌, ◌*◌, ◌-◌, ◌<◌, ◌≤◌, length};
+ghost use Rattle.std.specs.Prelude.{◌≡◌, ◌+◌, ◌*◌, ◌-◌, ◌^◌, ◌<◌, ◌≤◌, length};
 ghost use Rattle.std.specs.Iterator.{YieldsFirst, item_count};
 ghost use Rattle.elf_object.specs.Parts.{IsRela};
 ghost use Rattle.elf_object.specs.Tables.{AreTargets};
-ghost use Rattle.elf_object.specs.Lent.{relocation_at, relocations_in, relocations_from, kept_relocation_table};
+ghost use Rattle.elf_object.specs.Lent.{relocation_at, relocations_in, relocations_from, relocation_target, kept_relocation_table};
 
 use crate::part::class_in;
 use crate::relocation::{Relocation, RelocationKind};
 use crate::tables::Tables;
 use elf_records::read_rela;
+use elf_records::section_header::SHT_RELA;
 use std::marker::Model;
 
 /// The relocations of a section, in the order of the file. Contracts see the list of those that are left.
@@ -107,4 +108,20 @@ pub fn relocs_in<'a>(tables: &Tables<'a>, table: u64) -> Relocs<'a>
     }
     let header = tables.section(table);
     Relocs::of(tables.bytes, header.offset, header.size / 24)
+}
+
+/// The section, one that linking keeps, whose relocations a section holds, or 0.
+#[tactic(auto, unfolding(crate::specs::Lent::relocation_target))]
+pub fn target_of(tables: &Tables, table: u64) -> u64
+    ensures target { result ≡ relocation_target tables.now.bytes.now table }
+    ensures few { result < 2 ^ 32 }
+{
+    let Some(header) = tables.section_at(table) else {
+        return 0;
+    };
+    let target = u64::from(header.info);
+    if header.kind != SHT_RELA || class_in(tables, target).is_none() {
+        return 0;
+    }
+    target
 }
