@@ -1,3 +1,4 @@
+pub mod Beginning
 pub mod Decoding
 pub mod Meaning
 pub mod Number
