@@ -1,4 +1,6 @@
 use super::*;
+use std::alloc::Global;
+use std::process::Abort;
 use std::test::Fail;
 
 mod corners;
@@ -6,18 +8,16 @@ mod listing;
 mod text;
 
 use corners::CORNERS;
-use listing::LISTING;
 
 /// Each instruction of the listing is read with its length and its text, and each of its fronts
 /// begins a spelling and is none.
-#[test]
-fn reads_the_listing(rt: HostRuntime) -> Result<(), Fail> {
-    for (place, bytes, text) in &LISTING {
+fn reads(rt: &impl Abort, alloc: Global, listing: &[(u64, &[u8], &str)]) -> Result<(), Fail> {
+    for (place, bytes, text) in listing {
         let read = decode(bytes).ok_or("it is read")?;
         let len = read.len as usize;
         assert_eq!(rt; len, bytes.len(), "at {place:x}");
         let next = place.wrapping_add(read.len as u64);
-        let printed = text::text(rt.alloc(), read.instr, next)?;
+        let printed = text::text(alloc, read.instr, next)?;
         assert_eq!(rt; printed.as_str(), *text, "at {place:x}");
         assert!(rt; !begins(bytes), "at {place:x}");
         for (end, _) in bytes.iter().enumerate() {
@@ -27,6 +27,56 @@ fn reads_the_listing(rt: HostRuntime) -> Result<(), Fail> {
         }
     }
     Ok(())
+}
+
+#[test]
+fn reads_the_first_part(rt: HostRuntime) -> Result<(), Fail> {
+    reads(&rt, rt.alloc(), &listing::FIRST)
+}
+
+#[test]
+fn reads_the_second_part(rt: HostRuntime) -> Result<(), Fail> {
+    reads(&rt, rt.alloc(), &listing::SECOND)
+}
+
+#[test]
+fn reads_the_third_part(rt: HostRuntime) -> Result<(), Fail> {
+    reads(&rt, rt.alloc(), &listing::THIRD)
+}
+
+#[test]
+fn reads_the_fourth_part(rt: HostRuntime) -> Result<(), Fail> {
+    reads(&rt, rt.alloc(), &listing::FOURTH)
+}
+
+#[test]
+fn reads_the_fifth_part(rt: HostRuntime) -> Result<(), Fail> {
+    reads(&rt, rt.alloc(), &listing::FIFTH)
+}
+
+#[test]
+fn reads_the_sixth_part(rt: HostRuntime) -> Result<(), Fail> {
+    reads(&rt, rt.alloc(), &listing::SIXTH)
+}
+
+#[test]
+fn reads_the_seventh_part(rt: HostRuntime) -> Result<(), Fail> {
+    reads(&rt, rt.alloc(), &listing::SEVENTH)
+}
+
+#[test]
+fn reads_the_eighth_part(rt: HostRuntime) -> Result<(), Fail> {
+    reads(&rt, rt.alloc(), &listing::EIGHTH)
+}
+
+#[test]
+fn reads_the_ninth_part(rt: HostRuntime) -> Result<(), Fail> {
+    reads(&rt, rt.alloc(), &listing::NINTH)
+}
+
+#[test]
+fn reads_the_tenth_part(rt: HostRuntime) -> Result<(), Fail> {
+    reads(&rt, rt.alloc(), &listing::TENTH)
 }
 
 #[test]

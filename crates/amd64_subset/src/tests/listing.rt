@@ -2,7 +2,7 @@
 //! Left out of the text is what an instruction does not keep: prefixes that only pad (data16, cs, rex), a displacement of 0,
 //! an index %riz that stands for none, which nop it is (endbr64, xchgw %ax,%ax), and which of two spellings it has (movabsq, jmp, .s, nopl, a shift by 1 without its count).
 
-pub(super) static LISTING: [(u64, &[u8], &str); 290] = [
+pub(super) static FIRST: [(u64, &[u8], &str); 29] = [
     (0x0, &[0x88, 0x42, 0x05], "movb %al,0x5(%rdx)"),
     (0x3, &[0x88, 0x4a, 0x05], "movb %cl,0x5(%rdx)"),
     (0x6, &[0x88, 0x52, 0x05], "movb %dl,0x5(%rdx)"),
@@ -52,6 +52,9 @@ pub(super) static LISTING: [(u64, &[u8], &str); 290] = [
         "movq 0x1002(%rdx),%rdx",
     ),
     (0x73, &[0x48, 0x89, 0x33], "movq %rsi,(%rbx)"),
+];
+
+pub(super) static SECOND: [(u64, &[u8], &str); 29] = [
     (0x76, &[0x44, 0x8b, 0x43, 0xd8], "movl -0x28(%rbx),%r8d"),
     (
         0x7a,
@@ -129,6 +132,9 @@ pub(super) static LISTING: [(u64, &[u8], &str); 290] = [
         &[0x4d, 0x8b, 0xa4, 0x24, 0x0c, 0x10, 0x00, 0x00],
         "movq 0x100c(%r12),%r12",
     ),
+];
+
+pub(super) static THIRD: [(u64, &[u8], &str); 29] = [
     (0x105, &[0x49, 0x89, 0x45, 0x00], "movq %rax,(%r13)"),
     (0x109, &[0x41, 0x8b, 0x55, 0x28], "movl 0x28(%r13),%edx"),
     (
@@ -198,6 +204,9 @@ pub(super) static LISTING: [(u64, &[u8], &str); 290] = [
         &[0x64, 0x48, 0x8b, 0x0c, 0x25, 0xf8, 0xff, 0xff, 0xff],
         "movq %fs:0xfffffffffffffff8,%rcx",
     ),
+];
+
+pub(super) static FOURTH: [(u64, &[u8], &str); 29] = [
     (0x195, &[0x64, 0x8b, 0x02], "movl %fs:(%rdx),%eax"),
     (
         0x198,
@@ -303,6 +312,9 @@ pub(super) static LISTING: [(u64, &[u8], &str); 290] = [
         &[0x44, 0x0f, 0xb6, 0x04, 0x10],
         "movzbl (%rax,%rdx,1),%r8d",
     ),
+];
+
+pub(super) static FIFTH: [(u64, &[u8], &str); 29] = [
     (
         0x23b,
         &[0x64, 0x0f, 0xb6, 0x41, 0x01],
@@ -396,6 +408,9 @@ pub(super) static LISTING: [(u64, &[u8], &str); 290] = [
         &[0x49, 0x83, 0x09, 0xfe],
         "orq $0xfffffffffffffffe,(%r9)",
     ),
+];
+
+pub(super) static SIXTH: [(u64, &[u8], &str); 29] = [
     (
         0x2d5,
         &[0x81, 0xce, 0x71, 0x56, 0x34, 0x12],
@@ -493,6 +508,9 @@ pub(super) static LISTING: [(u64, &[u8], &str); 290] = [
     ),
     (0x368, &[0x42, 0x33, 0x0c, 0xa7], "xorl (%rdi,%r12,4),%ecx"),
     (0x36c, &[0x48, 0x83, 0xf3, 0x05], "xorq $0x5,%rbx"),
+];
+
+pub(super) static SEVENTH: [(u64, &[u8], &str); 29] = [
     (
         0x370,
         &[0x49, 0x83, 0x34, 0x24, 0xfb],
@@ -574,6 +592,9 @@ pub(super) static LISTING: [(u64, &[u8], &str); 290] = [
     (0x3ed, &[0x48, 0xd1, 0x26], "shlq $0x1,(%rsi)"),
     (0x3f0, &[0x48, 0xc1, 0xe3, 0xc8], "shlq $0xc8,%rbx"),
     (0x3f4, &[0x48, 0xc1, 0xe8, 0x04], "shrq $0x4,%rax"),
+];
+
+pub(super) static EIGHTH: [(u64, &[u8], &str); 29] = [
     (0x3f8, &[0xc1, 0x6a, 0x08, 0x1f], "shrl $0x1f,0x8(%rdx)"),
     (0x3fc, &[0x49, 0xc1, 0xea, 0x3f], "shrq $0x3f,%r10"),
     (0x400, &[0xd1, 0xe9], "shrl $0x1,%ecx"),
@@ -611,6 +632,9 @@ pub(super) static LISTING: [(u64, &[u8], &str); 290] = [
         "callq *%fs:0x8(%rax,%rbx,2)",
     ),
     (0x447, &[0xeb, 0x00], "jmpq 0x449"),
+];
+
+pub(super) static NINTH: [(u64, &[u8], &str); 29] = [
     (0x449, &[0xeb, 0xea], "jmpq 0x435"),
     (0x44b, &[0xe9, 0xe3, 0x03, 0x00, 0x00], "jmpq 0x833"),
     (0x450, &[0xff, 0xe2], "jmpq *%rdx"),
@@ -644,6 +668,9 @@ pub(super) static LISTING: [(u64, &[u8], &str); 290] = [
     (0x4b0, &[0x0f, 0x8c, 0x12, 0xfc, 0xff, 0xff], "jl 0xc8"),
     (0x4b6, &[0x7d, 0x08], "jge 0x4c0"),
     (0x4b8, &[0x0f, 0x8d, 0x12, 0xfc, 0xff, 0xff], "jge 0xd0"),
+];
+
+pub(super) static TENTH: [(u64, &[u8], &str); 29] = [
     (0x4be, &[0x7e, 0x08], "jle 0x4c8"),
     (0x4c0, &[0x0f, 0x8e, 0x12, 0xfc, 0xff, 0xff], "jle 0xd8"),
     (0x4c6, &[0x7f, 0x08], "jg 0x4d0"),

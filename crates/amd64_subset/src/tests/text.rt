@@ -77,29 +77,42 @@ fn signed(alloc: Global, number: u64) -> Result<String, AllocError> {
     }
 }
 
-fn memory(alloc: Global, place: Memory, displacement: u64) -> Result<String, AllocError> {
-    let segment = if place.from_thread_pointer {
-        "%fs:"
-    } else {
-        ""
-    };
-    let number = signed(alloc, displacement)?;
-    let number = number.as_str();
-    let base = match place.base {
+fn base_name(base: Base) -> &'static str {
+    match base {
         Base::Register(register) => name(register, Width::Quad),
         Base::NextInstruction => "%rip",
         Base::Absolute => "",
-    };
-    match (place.base, place.index) {
-        (Base::Absolute, None) => format!(in alloc; "{segment}{displacement:#x}"),
-        (_, None) => format!(in alloc; "{segment}{number}({base})"),
-        (_, Some(index)) => {
-            let scale = match index.scale {
-                Scale::One => 1,
-                Scale::Two => 2,
-                Scale::Four => 4,
-                Scale::Eight => 8,
-            };
+    }
+}
+
+fn factor(scale: Scale) -> u8 {
+    match scale {
+        Scale::One => 1,
+        Scale::Two => 2,
+        Scale::Four => 4,
+        Scale::Eight => 8,
+    }
+}
+
+fn segment(place: Memory) -> &'static str {
+    if place.from_thread_pointer {
+        "%fs:"
+    } else {
+        ""
+    }
+}
+
+fn memory(alloc: Global, place: Memory, displacement: u64) -> Result<String, AllocError> {
+    let segment = segment(place);
+    if place.base == Base::Absolute && place.index == None {
+        return format!(in alloc; "{segment}{displacement:#x}");
+    }
+    let number = signed(alloc, displacement)?;
+    let base = base_name(place.base);
+    match place.index {
+        None => format!(in alloc; "{segment}{number}({base})"),
+        Some(index) => {
+            let scale = factor(index.scale);
             let index = name(index.register, Width::Quad);
             format!(in alloc; "{segment}{number}({base},{index},{scale})")
         }
