@@ -2,6 +2,7 @@
 #![tactic(auto)]
 
 mod fault;
+mod form;
 mod instr;
 pub mod laws;
 mod meaning;
