@@ -5,3 +5,7 @@ pub mod Marks
 pub mod Whole
 pub mod Places
 pub mod FieldLaws
+pub mod Missing
+pub mod MissingCode
+pub mod MissingStart
+pub mod Beginning

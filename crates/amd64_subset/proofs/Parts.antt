@@ -69,7 +69,7 @@ body_again prefixes (row.Group group wide) front body rest h = operated_again pr
 
 -- ---- the opcode
 
-accepted_takes : (prefixes : Prefixes) (o : Option Row) (bytes : List ℕ) (r : Row) (rest : List ℕ) → accepted_at prefixes o bytes ≡ Ok (r, rest) → (o ≡ Some r) × (takes r prefixes ≡ true) × (bytes ≡ rest)
+pub accepted_takes : (prefixes : Prefixes) (o : Option Row) (bytes : List ℕ) (r : Row) (rest : List ℕ) → accepted_at prefixes o bytes ≡ Ok (r, rest) → (o ≡ Some r) × (takes r prefixes ≡ true) × (bytes ≡ rest)
 accepted_takes prefixes None bytes r rest e = absurd cc
 accepted_takes prefixes (Some x) bytes r rest e =
     let fits = kept_if (takes x prefixes) Wrong _ (r, rest) e in

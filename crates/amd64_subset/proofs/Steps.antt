@@ -1,7 +1,7 @@
 -- Steps of reading: what did not fail.
 use Rattle.std.proofs.Common.{◌≡◌, ℕ, Bool, true, false, cond, List, Option, Some, None, Result, Ok, Err, refl, inl, inr, ◌⊎◌}
 use Rattle.amd64_subset.specs.declared.fault.Fault.{Fault}
-use Rattle.amd64_subset.specs.declared.fault.Fault.TheVariants.{Wrong}
+use Rattle.amd64_subset.specs.declared.fault.Fault.TheVariants.{Short, Wrong}
 use Rattle.amd64_subset.specs.Reading.{◌>>=◌}
 use Rattle.amd64_subset.specs.Selectors.{or_wrong}
 
@@ -33,3 +33,21 @@ done x = Ok x
 
 pub ok_is : {A : Type 0} (x y : A) → done x ≡ done y → x ≡ y
 ok_is x y e = cc
+
+-- a reading that lacks bytes lacks them in one of its steps
+pub bind_short : {A B : Type 0} (r : Result A Fault) (f : A → Result B Fault) (n : ℕ) → (r >>= f) ≡ Err (Short n) → (r ≡ Err (Short n)) ⊎ ((x : A) × (r ≡ Ok x) × (f x ≡ Err (Short n)))
+bind_short (Ok x) f n e = inr (x, refl, e)
+bind_short (Err d) f n e = inl cc
+
+-- a test that did not refuse a reading which lacks bytes
+pub kept_short : {A : Type 0} (b : Bool) (x : Result A Fault) (n : ℕ) → cond b (Err Wrong) x ≡ Err (Short n) → (b ≡ false) × (x ≡ Err (Short n))
+kept_short true x n e = absurd cc
+kept_short false x n e = (refl, e)
+
+pub kept_if_short : {A : Type 0} (b : Bool) (x : Result A Fault) (n : ℕ) → cond b x (Err Wrong) ≡ Err (Short n) → (b ≡ true) × (x ≡ Err (Short n))
+kept_if_short true x n e = (refl, e)
+kept_if_short false x n e = absurd cc
+
+pub or_wrong_short : {A : Type 0} (o : Option A) (n : ℕ) → or_wrong o ≡ Err (Short n) → ⊥
+or_wrong_short None n e = cc
+or_wrong_short (Some x) n e = cc

@@ -1,4 +1,6 @@
+pub mod Beginning
 pub mod Decoding
+pub mod Form
 pub mod Meaning
 pub mod Number
 pub mod Prefix

@@ -1,8 +1,9 @@
 //! Laws of spelling, for those who reason about code that they read in parts. Each is a function that does nothing; its
 //! clause is the law.
 
-ghost use Rattle.std.specs.Prelude.{◌≡◌, ◌≤◌, ◌++◌, ℕ, List, Some, length, take};
+ghost use Rattle.std.specs.Prelude.{◌≡◌, ◌≤◌, ◌++◌, ◌↔◌, ℕ, true, false, List, Some, None, length, take};
 ghost use Rattle.amd64_subset.specs.declared.instr.Decoded.{Decoded};
+ghost use Rattle.amd64_subset.specs.Beginning.{BeginsSpelling, begins_of};
 ghost use Rattle.amd64_subset.specs.Decoding.{decoded};
 ghost use Rattle.amd64_subset.specs.Spelling.{Spells, IsPlaced, field_of, with_displacement, with_immediate};
 
@@ -44,4 +45,14 @@ pub fn immediate_field()
         → d.instr.immediate ≡ field_of four }
     ensures other { (bytes four other tail : List ℕ) (d : Decoded) → length four ≡ 4 → length other ≡ 4 → decoded (bytes ++ (four ++ tail)) ≡ Some d → d.imm ≡ Some (length bytes)
         → decoded (bytes ++ (other ++ tail)) ≡ Some (with_immediate (field_of other) d) }
+{}
+
+/// What is no instruction and begins none is none whatever follows.
+pub fn none()
+    ensures { (bytes tail : List ℕ) → decoded bytes ≡ None → begins_of bytes ≡ false → decoded (bytes ++ tail) ≡ None }
+{}
+
+/// What begins a spelling as a function of a list.
+pub fn beginning()
+    ensures { (bytes : List ℕ) → (begins_of bytes ≡ true) ↔ BeginsSpelling bytes }
 {}

@@ -2,6 +2,7 @@
 #![tactic(auto)]
 
 mod fault;
+mod form;
 mod instr;
 pub mod laws;
 mod meaning;
@@ -15,7 +16,7 @@ mod size;
 
 pub use instr::{Arithmetic, Condition, Decoded, Instr, Operation, Shift, Target, Width};
 pub use operand::{Base, Index, Memory, Operand, Operands, Scale};
-pub use reading::decode;
+pub use reading::{begins, decode};
 pub use register::Register;
 
 #[cfg(test)]

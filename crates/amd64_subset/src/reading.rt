@@ -1,6 +1,7 @@
-ghost use Rattle.std.specs.Prelude.{◌≡◌, ◌≤◌, ℕ, Some, IfSome, take, length};
+ghost use Rattle.std.specs.Prelude.{◌≡◌, ◌≤◌, ◌↔◌, ℕ, Some, IfSome, IsTrue, take, length};
 ghost use Rattle.amd64_subset.specs.Reading.{Gives};
 ghost use Rattle.amd64_subset.specs.declared.instr.Decoded.{Decoded};
+ghost use Rattle.amd64_subset.specs.Beginning.{BeginsSpelling, begins_of};
 ghost use Rattle.amd64_subset.specs.Spelling.{Spells, IsPlaced};
 ghost use Rattle.amd64_subset.specs.Decoding.{accepted_at, end_branch_at, escaped_at, row_at, operated_at, body_at, instruction_at, before, decoded};
 
@@ -164,4 +165,28 @@ pub fn decode(bytes: &[u8]) -> Option<Decoded>
     ensures exact { result ≡ decoded bytes.now }
 {
     read(bytes)
+}
+
+/// Whether the bytes are too few for an instruction, and with some more spell one.
+#[tactic(auto, unfolding(crate::specs::Beginning::begins_of))]
+fn lacks_some(bytes: &[u8]) -> bool
+    ensures { result ≡ begins_of bytes.now }
+{
+    if bytes.len() >= 15 {
+        return false;
+    }
+    match read_instruction(bytes) {
+        Err(Fault::Short(missing)) => bytes.len() + missing as usize <= 15,
+        _ => false,
+    }
+}
+
+/// Whether the bytes are a proper prefix of what spells an instruction.
+pub fn begins(bytes: &[u8]) -> bool
+    // With some bytes more they spell one.
+    ensures exactly { IsTrue result ↔ BeginsSpelling bytes.now }
+    // The same as a function of the list.
+    ensures exact { result ≡ begins_of bytes.now }
+{
+    lacks_some(bytes)
 }
