@@ -1,7 +1,9 @@
 //! A small x86-64 machine.
 #![tactic(auto)]
 
+mod arithmetic;
 mod cause;
+mod effect;
 mod frame;
 mod machine;
 mod moves;
