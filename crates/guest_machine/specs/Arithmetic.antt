@@ -20,6 +20,10 @@ abbrev pub span_of : Width → ℕ
 span_of Long = 2 ^ 32
 span_of Quad = 2 ^ 64
 
+-- a number modulo those of the width
+abbrev pub low : Width → ℕ → ℕ
+low width number = number % span_of width
+
 -- the least number whose top bit is set
 abbrev pub half_of : Width → ℕ
 half_of Long = 2 ^ 31

@@ -13,19 +13,10 @@ use Rattle.guest_machine.specs.declared.state.State.{State}
 use Rattle.guest_machine.specs.declared.frame.Frame.{Frame}
 use Rattle.guest_machine.specs.Values.{Operations}
 use Rattle.guest_machine.specs.Access.{Accesses, load_of, fetch_of}
-use Rattle.guest_machine.specs.State.{with_register}
+use Rattle.guest_machine.specs.State.{with_word, with_stack, at_place}
 use Rattle.guest_machine.specs.Use.{◌>>=◌, plus, clean, there, After, left}
 use Rattle.guest_machine.specs.Operand.{carried}
 use Rattle.amd64_subset.specs.Decoding.{decoded}
-
-abbrev pub with_word : {W F : Type 0} → State W F → Register → W → State W F
-with_word state register word = record state { registers = with_register state.registers register word }
-
-abbrev pub with_stack : {W F : Type 0} → State W F → W → State W F
-with_stack state word = record state { registers = record state.registers { rsp = word } }
-
-abbrev pub at_place : {W F : Type 0} → State W F → ℕ → State W F
-at_place state place = record state { place = place }
 
 module _ {W F B M : Type 0} (ops : Operations W F B) (acc : Accesses M B) where
   -- mov r, r/m

@@ -10,6 +10,7 @@ mod moves;
 mod operand;
 mod plain;
 mod run;
+mod slot;
 mod space;
 mod stack;
 mod state;
