@@ -100,8 +100,8 @@ shifted Left width number count = number * 2 ^ count % span_of width
 shifted Right width number count = number / 2 ^ count
 shifted RightSigned width number count =
     if is_negative width number
-      then number / 2 ^ count + (greatest width - greatest width / 2 ^ count)
-      else number / 2 ^ count
+    then number / 2 ^ count + (greatest width - greatest width / 2 ^ count)
+    else number / 2 ^ count
 
 -- the last bit that went out, where the count is not 0
 unfoldable pub bit_out : Shift → Width → ℕ → ℕ → Bool
@@ -122,5 +122,5 @@ shift_effect shift width number count =
     if count == 0 then record { number = number; changes = record { zero = Kept; sign = Kept; carry = Kept; overflow = Kept } }
     else record {
       number = result;
-      changes = by_result width result (Set (bit_out shift width number count)) (if count == 1 then Set (shift_overflows shift width number) else Unsettled)
-      }
+      changes = by_result width result (Set (bit_out shift width number count)) (if count == 1 then Set (shift_overflows shift width number) else Unsettled);
+    }

@@ -23,8 +23,8 @@ module _ {W F B : Type 0} (ops : Operations W F B) where
     zero = changed changes.zero flags.zero;
     sign = changed changes.sign flags.sign;
     carry = changed changes.carry flags.carry;
-    overflow = changed changes.overflow flags.overflow
-    }
+    overflow = changed changes.overflow flags.overflow;
+  }
 
   -- SF and OF differ: the left number was below the right one, as signed numbers
   unfoldable pub is_less : Flags F → Result Bool Cause

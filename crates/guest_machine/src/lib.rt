@@ -3,8 +3,10 @@
 
 mod arithmetic;
 mod cause;
+mod compute;
 mod effect;
 mod frame;
+mod jump;
 mod machine;
 mod moves;
 mod operand;

@@ -35,7 +35,7 @@ pub(crate) fn size(width: Width) -> u8
 }
 
 /// Where an offset field stands, any other cause is a misuse of the field.
-fn charged<A: Copy>(field: Option<u64>, answer: Result<A, Cause>) -> Result<A, Cause>
+pub(crate) fn charged<A: Copy>(field: Option<u64>, answer: Result<A, Cause>) -> Result<A, Cause>
     ensures { result ≡ charged field answer }
 {
     match (field, answer) {
