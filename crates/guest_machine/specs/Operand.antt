@@ -54,17 +54,14 @@ carried_as ops f (Ok number) = ops.word (f number)
 carried_as ops f (Err cause) = ops.unknown
 
 module _ {W F B : Type 0} (ops : Operations W F B) where
-  -- a base register and the displacement, which may be an offset field at a place
-  unfoldable pub base_of : Frame → Registers W → Base → Result ℕ Cause
-  base_of frame registers base = based frame.displacement_field base
-    where
-      based : Option ℕ → Base → Result ℕ Cause
-      based None Absolute = Ok frame.displacement
-      based None (OfRegister register) = used (λ number. plus number frame.displacement) (ops.number_of (register_of registers register))
-      based None NextInstruction = Ok (plus frame.next frame.displacement)
-      based (Some at) (OfRegister register) = ops.moved (register_of registers register) frame.displacement at
-      based (Some at) Absolute = Err Field
-      based (Some at) NextInstruction = Err Field
+  -- a base and the displacement, which may be an offset field at a place; behind it is where the next instruction begins
+  unfoldable pub base_of : Option ℕ → ℕ → ℕ → Registers W → Base → Result ℕ Cause
+  base_of None displacement next registers Absolute = Ok displacement
+  base_of None displacement next registers (OfRegister register) = used (plus displacement) (ops.number_of (register_of registers register))
+  base_of None displacement next registers NextInstruction = Ok (plus displacement next)
+  base_of (Some at) displacement next registers (OfRegister register) = ops.moved (register_of registers register) displacement at
+  base_of (Some at) displacement next registers Absolute = Err Field
+  base_of (Some at) displacement next registers NextInstruction = Err Field
 
   -- an index register times its factor
   unfoldable pub index_of : Registers W → Option Index → Result ℕ Cause
@@ -74,9 +71,8 @@ module _ {W F B : Type 0} (ops : Operations W F B) where
   -- where a memory operand lies (Intel's manual, volume 1, section 3.7.5): the uses of its registers come with it
   unfoldable pub address_of : Frame → State W F → Memory → Result ℕ Cause
   address_of frame state memory =
-      let segment = if memory.from_thread_pointer then state.thread_pointer else 0 in
-      used (λ parts. plus (plus parts.0 parts.1) segment) (charged frame.displacement_field
-      (both (base_of frame state.registers memory.base) (index_of state.registers memory.index)))
+      used (λ parts. plus (plus parts.0 parts.1) (if memory.from_thread_pointer then state.thread_pointer else 0)) (charged frame.displacement_field
+      (both (base_of frame.displacement_field frame.displacement frame.next state.registers memory.base) (index_of state.registers memory.index)))
 
   -- a register's word as it is carried at a width
   unfoldable pub kept : Width → W → W
@@ -102,7 +98,7 @@ module _ {W F B M : Type 0} (ops : Operations W F B) (acc : Accesses M B) where
   -- the use of a loaded word beside another use
   abbrev pub weighed : Width → ℕ → Result W Refusal → Result ℕ Cause → Result (ℕ × ℕ) Stop
   weighed width here (Ok word) other = clean here (both (number_at ops width word) other)
-  weighed width here (Err refusal) other = Err (refused_with here refusal other)
+  weighed width here (Err why) other = Err (refused_with here why other)
 
   -- the same at an address, whose use comes first
   unfoldable pub taken_at : Width → ℕ → M → Result ℕ Cause → Result ℕ Cause → Result Taken Stop

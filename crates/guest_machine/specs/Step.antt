@@ -29,7 +29,7 @@ use Rattle.guest_machine.specs.declared.slot.Slot.{Slot}
 use Rattle.guest_machine.specs.declared.slot.Slot.TheVariants.{Register as OfSlot}
 use Rattle.guest_machine.specs.declared.state.State.{State}
 use Rattle.guest_machine.specs.declared.stop.Stop.{Stop}
-use Rattle.guest_machine.specs.declared.stop.Stop.TheVariants.{Code}
+use Rattle.guest_machine.specs.declared.stop.Stop.TheVariants.{Code, Unclean}
 use Rattle.guest_machine.specs.Access.{Accesses, load_of, store_of, fetch_of}
 use Rattle.guest_machine.specs.Arithmetic.{low, span_of, bits_of, compute_effect, product_effect, shift_effect}
 use Rattle.guest_machine.specs.Effect.{with_changes, condition_of}
@@ -38,13 +38,10 @@ use Rattle.guest_machine.specs.State.{register_of, with_word, with_stack, at_pla
 use Rattle.guest_machine.specs.Use.{◌>>=◌, plus, both, clean, there, After, left}
 use Rattle.guest_machine.specs.Values.{Operations}
 
--- an immediate at a width; an offset field may not stand there
-unfoldable pub immediate_of : Width → Frame → Result ℕ Cause
-immediate_of width frame = unmoved frame.immediate_field
-  where
-    unmoved : Option ℕ → Result ℕ Cause
-    unmoved None = Ok (low width frame.immediate)
-    unmoved (Some at) = Err Field
+-- an immediate at a width, which may not be an offset field
+unfoldable pub immediate_of : Width → Option ℕ → ℕ → Result ℕ Cause
+immediate_of width None immediate = Ok (low width immediate)
+immediate_of width (Some at) immediate = Err Field
 
 -- the lower half as a signed number of 64 bits
 abbrev pub sign_extended : ℕ → ℕ
@@ -98,10 +95,10 @@ module _ {W F B M : Type 0} (ops : Operations W F B) (acc : Accesses M B) where
   -- mov r/m, imm
   unfoldable pub move_number : Width → Frame → State W F → M → Operand → Result (After W F M) Stop
   move_number width frame state memory (InRegister to) = do
-    number ← clean state.place (immediate_of width frame)
+    number ← clean state.place (immediate_of width frame.immediate_field frame.immediate)
     Ok (left (at_place (with_word state to (ops.word number)) frame.next) memory)
   move_number width frame state memory (InMemory to) = do
-    number ← clean state.place (immediate_of width frame)
+    number ← clean state.place (immediate_of width frame.immediate_field frame.immediate)
     stored (size_of width) frame state memory to (ops.word number)
 
   unfoldable pub move_of : Width → Frame → State W F → M → Operands → Result (After W F M) Stop
@@ -150,20 +147,22 @@ module _ {W F B M : Type 0} (ops : Operations W F B) (acc : Accesses M B) where
     number ← clean state.place (charged (Some at) (ops.moved (register_of state.registers to) frame.immediate at))
     finished Quad (OfSlot to) (record { number = number; changes = all_unsettled }) frame state memory
 
+  -- where the immediate is an offset field, it is added to a base in a register, or misused
+  unfoldable pub compute_field : Arithmetic → Width → ℕ → Frame → State W F → M → Operand → Result (After W F M) Stop
+  compute_field Add Quad at frame state memory (InRegister to) = add_field frame state memory to at
+  compute_field arithmetic width at frame state memory to = Err (Unclean state.place Field)
+
   -- the same with an immediate
-  unfoldable pub compute_number : Arithmetic → Width → Frame → State W F → M → Operand → Result (After W F M) Stop
-  compute_number arithmetic width frame state memory to = by_field arithmetic width to frame.immediate_field
-    where
-      by_field : Arithmetic → Width → Operand → Option ℕ → Result (After W F M) Stop
-      by_field Add Quad (InRegister register) (Some at) = add_field frame state memory register at
-      by_field some long operand field = do
-        it ← taken ops acc long frame state memory operand (immediate_of long frame)
-        concluded some long it.slot (compute_effect some long it.number it.other) frame state memory
+  unfoldable pub compute_number : Arithmetic → Width → Option ℕ → Frame → State W F → M → Operand → Result (After W F M) Stop
+  compute_number arithmetic width None frame state memory to = do
+    it ← taken ops acc width frame state memory to (Ok (low width frame.immediate))
+    concluded arithmetic width it.slot (compute_effect arithmetic width it.number it.other) frame state memory
+  compute_number arithmetic width (Some at) frame state memory to = compute_field arithmetic width at frame state memory to
 
   unfoldable pub compute_of : Arithmetic → Width → Frame → State W F → M → Operands → Result (After W F M) Stop
   compute_of arithmetic width frame state memory (IntoRegister to from) = compute_in arithmetic width frame state memory to from
   compute_of arithmetic width frame state memory (IntoMemory to from) = compute_out arithmetic width frame state memory to from
-  compute_of arithmetic width frame state memory (Immediate to) = compute_number arithmetic width frame state memory to
+  compute_of arithmetic width frame state memory (Immediate to) = compute_number arithmetic width frame.immediate_field frame state memory to
 
   -- test r/m, r
   unfoldable pub test_of : Width → Frame → State W F → M → Operand → Register → Result (After W F M) Stop

@@ -1,6 +1,5 @@
-ghost use Rattle.std.specs.Prelude.{◌≡◌, IfOk, ◌<◌};
+ghost use Rattle.std.specs.Prelude.{◌≡◌};
 ghost use Rattle.guest_machine.specs.Access.{IsSize};
-ghost use Rattle.guest_machine.specs.Arithmetic.{span_of};
 ghost use Rattle.guest_machine.specs.Operand.{carried_as};
 ghost use Rattle.guest_machine.specs.Ranges.{range_accesses};
 ghost use Rattle.guest_machine.specs.Step.{immediate_of, sign_extended, move_in, stored, move_number, move_of, extend_byte, extend_long, load_address};
@@ -19,9 +18,8 @@ use amd64_subset::{Memory, Operand, Operands, Register, Width};
 
 /// The immediate at a width. An offset field may not stand there.
 #[tactic(auto, unfolding(crate::specs::Step::immediate_of))]
-pub(crate) fn immediate(width: Width, frame: &Frame) -> Result<u64, Cause>
-    ensures value { result ≡ immediate_of width frame.now }
-    ensures small { IfOk result (λ number. number < span_of width) }
+fn immediate(width: Width, frame: &Frame) -> Result<u64, Cause>
+    ensures { result ≡ immediate_of width frame.now.immediate_field frame.now.immediate }
 {
     match frame.immediate_field {
         None => Ok(low(width, frame.immediate)),

@@ -47,15 +47,15 @@ pub(crate) fn charged<A: Copy>(field: Option<u64>, answer: Result<A, Cause>) -> 
 /// The base of an address with the displacement.
 #[tactic(auto, unfolding(crate::specs::Operand::base_of))]
 fn base<V: Values>(frame: &Frame, registers: &Registers<V::Word>, base: Base) -> Result<u64, Cause>
-    ensures { result ≡ base_of V.operations frame.now registers.now base }
+    ensures { result ≡ base_of V.operations frame.now.displacement_field frame.now.displacement frame.now.next registers.now base }
 {
     match (frame.displacement_field, base) {
         (None, Base::Absolute) => Ok(frame.displacement),
         (None, Base::Register(name)) => {
             let number = V::number_of(register(registers, name))?;
-            Ok(number.wrapping_add(frame.displacement))
+            Ok(frame.displacement.wrapping_add(number))
         }
-        (None, Base::NextInstruction) => Ok(frame.next.wrapping_add(frame.displacement)),
+        (None, Base::NextInstruction) => Ok(frame.displacement.wrapping_add(frame.next)),
         (Some(place), Base::Register(name)) => {
             V::moved(register(registers, name), frame.displacement, place)
         }

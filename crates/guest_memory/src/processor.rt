@@ -50,7 +50,7 @@ fn bytes(alloc: Global, word: Option<&str>) -> Result<Vec<u8>, AllocError> {
     for pair in word.unwrap_or("").as_bytes().chunks(2) {
         let mut byte = 0u64;
         for half in pair {
-            byte = (byte * 16 + digit(*half)) % 256;
+            byte = byte.wrapping_mul(16).wrapping_add(digit(*half)) % 256;
         }
         bytes.push(byte as u8)?;
     }
