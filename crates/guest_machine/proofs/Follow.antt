@@ -22,8 +22,8 @@ use Rattle.guest_machine.specs.declared.stop.Stop.{Stop}
 use Rattle.guest_machine.specs.declared.stop.Stop.TheVariants.{Returned, Look, Address, Code, Unclean, Steps}
 use Rattle.guest_machine.specs.Access.{Refusal, Refused, Shut, Accesses, IsSize, next_place, both_reached, reached, cons, bytes_from, bytes_at, all_write, put_all, load_of, store_of}
 use Rattle.guest_machine.specs.Arithmetic.{low}
-use Rattle.guest_machine.specs.Follow.{Uses, Reaches, StopsAlike, Follows, All2, Alike, moved_by, IsFollowed, IsKept, SameRegisters, SameFlags, SameState, SameFrame, SameAfter}
-use Rattle.guest_machine.specs.Operand.{size_of, factor_of, used, charged, carried_as, base_of, index_of, address_of, kept, kept_byte, number_at, carried, weighed, taken_at, taken, put}
+use Rattle.guest_machine.specs.Follow.{Uses, Reaches, StopsAlike, Follows, All2, Alike, IsFollowed, IsKept, SameRegisters, SameFlags, SameState, SameFrame, SameAfter}
+use Rattle.guest_machine.specs.Operand.{size_of, factor_of, used, charged, carried_as, unmoved, moved_by, base_of, index_of, address_of, kept, kept_byte, number_at, carried, weighed, taken_at, taken, put}
 use Rattle.guest_machine.specs.State.{register_of, with_register, with_word, with_stack, at_place}
 use Rattle.guest_machine.specs.Use.{◌>>=◌, plus, both, clean, there, cause_with, refused_with, After, left}
 use Rattle.guest_machine.specs.Values.{Operations}
@@ -95,6 +95,9 @@ uses-charged R None field' (Ok a) (Err cause) h = absurd h
 uses-charged R (Some at) field' (Ok a) (Err cause) h = absurd h
 uses-charged R None field' (Err cause) r' h = tt
 uses-charged R (Some at) field' (Err cause) r' h = tt
+
+both_sums : (a b c d : ℕ) → a ≡ b → c ≡ d → plus a c ≡ plus b d
+both_sums a b c d e f = cc
 
 sums : (a a' b b' c c' : ℕ) → a ≡ a' → b ≡ b' → c ≡ c' → plus (plus a b) c ≡ plus (plus a' b') c'
 sums a a' b b' c c' d e f = cc
@@ -186,24 +189,23 @@ module _ {W F B W' F' B' : Type 0} (same : Alike W F B W' F' B') (ops : Operatio
   unfolding number_at
   number_at-uses width w w' h = uses-same (low width) (ops.number_of w) (ops'.number_of w') (followed.number_of w w' h)
 
-  base-register : (field : Option ℕ) (n next : ℕ) (r : Registers W') (name : Register) → base_of ops' field n next r (OfRegister name) ≡ moved_by ops' field n (register_of r name)
-  unfolding base_of
-  base-register None n next r name = refl
-  base-register (Some at) n next r name = refl
+  pub unmoved-uses : (field field' : Option ℕ) (n n' : ℕ) → same.field field field' n n' → Uses (λ p q. p ≡ q) (unmoved ops field n) (unmoved ops' field' n')
+  unmoved-uses None field' n n' f = let p = followed.plain field' n n' f in rw (p.0, p.1) refl
+  unmoved-uses (Some at) field' n n' f = followed.misused at field' n n' f
+
+  pub moved_by-uses : (field field' : Option ℕ) (n n' : ℕ) → same.field field field' n n' → (w : W) (w' : W') → same.word w w' → Uses (λ p q. p ≡ q) (moved_by ops field n w) (moved_by ops' field' n' w')
+  moved_by-uses None field' n n' f w w' h =
+      let p = followed.plain field' n n' f in
+      rw (p.0, p.1) (uses-same (plus n) (ops.number_of w) (ops'.number_of w') (followed.number_of w w' h))
+  moved_by-uses (Some at) field' n n' f w w' h = followed.moved at field' n n' f w w' h
 
   base-uses : (field field' : Option ℕ) (n n' next next' : ℕ) (r : Registers W) (r' : Registers W') (base : Base) → same.field field field' n n' → next ≡ next' → SameRegisters same r r'
       → Uses (λ p q. p ≡ q) (base_of ops field n next r base) (base_of ops' field' n' next' r' base)
   unfolding base_of
-  base-uses None field' n n' next next' r r' Absolute f e h = let p = followed.plain field' n n' f in rw (p.0, p.1) refl
-  base-uses None field' n n' next next' r r' (OfRegister name) f e h =
-      let p = followed.plain field' n n' f in
-      rw (p.0, p.1) (uses-same (plus n) (ops.number_of (register_of r name)) (ops'.number_of (register_of r' name))
-      (followed.number_of (register_of r name) (register_of r' name) (same_register same r r' h name)))
-  base-uses None field' n n' next next' r r' NextInstruction f e h = let p = followed.plain field' n n' f in rw (p.0, p.1) (ap (plus n) e)
-  base-uses (Some at) field' n n' next next' r r' Absolute f e h = tt
-  base-uses (Some at) field' n n' next next' r r' (OfRegister name) f e h =
-      rw (base-register field' n' next' r' name) (followed.moved at field' n n' f (register_of r name) (register_of r' name) (same_register same r r' h name))
-  base-uses (Some at) field' n n' next next' r r' NextInstruction f e h = tt
+  base-uses field field' n n' next next' r r' Absolute f e h = unmoved-uses field field' n n' f
+  base-uses field field' n n' next next' r r' (OfRegister name) f e h = moved_by-uses field field' n n' f _ _ (same_register same r r' h name)
+  base-uses field field' n n' next next' r r' NextInstruction f e h =
+      uses-used (λ p q. p ≡ q) (λ p q. p ≡ q) (λ number. plus number next) (λ number. plus number next') _ _ (unmoved-uses field field' n n' f) (λ p q g. both_sums p q next next' g e)
 
   index-uses : (r : Registers W) (r' : Registers W') (index : Option Index) → SameRegisters same r r' → Uses (λ p q. p ≡ q) (index_of ops r index) (index_of ops' r' index)
   unfolding index_of

@@ -34,13 +34,13 @@ use Rattle.guest_machine.specs.declared.stop.Stop.TheVariants.{Address, Code, Un
 use Rattle.guest_machine.specs.Access.{Refusal, Refused, Shut, Accesses, IsSize, load_of, store_of}
 use Rattle.guest_machine.specs.Arithmetic.{low, differ, bits_of, sum_effect, compute_effect, product_effect, shift_effect}
 use Rattle.guest_machine.specs.Effect.{changed, with_changes, is_less, is_less_or_equal, is_below_or_equal, condition_of}
-use Rattle.guest_machine.specs.Follow.{Uses, Reaches, StopsAlike, Follows, Alike, moved_by, IsFollowed, IsKept, SameRegisters, SameFlags, SameState, SameFrame, SameAfter}
+use Rattle.guest_machine.specs.Follow.{Uses, Reaches, StopsAlike, Follows, Alike, IsFollowed, IsKept, SameRegisters, SameFlags, SameState, SameFrame, SameAfter}
 use Rattle.guest_machine.specs.Operand.{size_of, used, charged, carried_as, address_of, kept, kept_byte, number_at, carried, weighed, taken_at, taken, put}
 use Rattle.guest_machine.specs.State.{register_of, with_register, with_word, with_stack, at_place}
-use Rattle.guest_machine.specs.Step.{immediate_of, sign_extended, all_unsettled, is_cleared, settled, nop_use, finished, concluded, move_in, stored, move_number, move_of, extend_byte, extend_long, load_address, compute_in, compute_out, add_field, compute_field, compute_number, compute_of, test_of, multiply_of, shift_of, pushed, push_of, pop_of, leave_of, return_of, call_of, jump_of, jump_if, nop_of, act}
+use Rattle.guest_machine.specs.Step.{immediate_of, sign_extended, all_unsettled, is_cleared, settled, nop_use, finished, concluded, move_in, stored, move_number, move_of, extend_byte, extend_long, load_address, compute_in, compute_out, add_field, compute_plain, compute_number, compute_of, test_of, multiply_of, shift_of, pushed, push_of, pop_of, leave_of, return_of, call_of, jump_of, jump_if, nop_of, act}
 use Rattle.guest_machine.specs.Use.{◌>>=◌, plus, both, clean, there, cause_with, refused_with, After, left}
 use Rattle.guest_machine.specs.Values.{Operations}
-use Rattle.guest_machine.proofs.Follow.{follows-then, follows-same, follows-clean, follows-there, follows-if, uses-used, uses-same, uses-both, uses-charged, same_register, same_with, same_word, same_stack, same_place, carried-same, kept-same, kept_byte-same, number_at-uses, address-uses}
+use Rattle.guest_machine.proofs.Follow.{follows-then, follows-same, follows-clean, follows-there, follows-if, uses-used, uses-same, uses-both, uses-charged, same_register, same_with, same_word, same_stack, same_place, carried-same, kept-same, kept_byte-same, number_at-uses, address-uses, unmoved-uses}
 use Rattle.guest_machine.proofs.FollowMemory.{load-reach, store-reach}
 
 size_of-is : (width : Width) → IsSize (size_of width)
@@ -129,10 +129,9 @@ module _ {W F B W' F' B' : Type 0} (same : Alike W F B W' F' B') (ops : Operatio
   condition-uses LessOrEqual f f' h = is_less_or_equal-uses f f' h
   condition-uses Greater f f' h = negated _ _ (is_less_or_equal-uses f f' h)
 
-  immediate-uses : (width : Width) (field field' : Option ℕ) (n n' : ℕ) → same.field field field' n n' → Uses (λ p q. p ≡ q) (immediate_of width field n) (immediate_of width field' n')
+  immediate-uses : (width : Width) (field field' : Option ℕ) (n n' : ℕ) → same.field field field' n n' → Uses (λ p q. p ≡ q) (immediate_of ops width field n) (immediate_of ops' width field' n')
   unfolding immediate_of
-  immediate-uses width None field' n n' h = let p = followed.plain field' n n' h in rw (p.0, p.1) refl
-  immediate-uses width (Some at) field' n n' h = tt
+  immediate-uses width field field' n n' f = uses-same (low width) _ _ (unmoved-uses same ops ops' followed field field' n n' f)
 
   nop-uses : (f f' : Frame) (s : State W F) (s' : State W' F') (field field' : Option ℕ) (operand : Option Operand) → (field ≡ None → field' ≡ None) → SameFrame same f f' → SameState same s s'
       → Uses (λ (a : ℕ) (b : ℕ). Unit {0}) (nop_use ops f s field operand) (nop_use ops' f' s' field' operand)
@@ -325,7 +324,7 @@ module _ {W F B W' F' B' : Type 0} (same : Alike W F B W' F' B') (ops : Operatio
   add_field-follows : (at : ℕ) (field' : Option ℕ) (to : Register) (f f' : Frame) (s : State W F) (s' : State W' F') (m : M) (m' : M')
       → same.field (Some at) field' f.immediate f'.immediate → SameFrame same f f' → SameState same s s' → Same m m'
       → Follows Then (add_field ops acc f s m to at) (compute_number ops' acc' Add Quad field' f' s' m' (InRegister to))
-  unfolding add_field compute_number compute_field taken number_at
+  unfolding add_field compute_number compute_plain immediate_of taken number_at
   add_field-follows at (Some at') to f f' s s' m m' x g h k =
       follows-same Then _ _ _ _ (follows-clean (λ p q. p ≡ q) s.place s'.place _ _
       (uses-charged (λ p q. p ≡ q) (Some at) (Some at') _ _
@@ -335,22 +334,32 @@ module _ {W F B W' F' B' : Type 0} (same : Alike W F B W' F' B') (ops : Operatio
       field_added at f'.immediate (followed.free at f.immediate f'.immediate x) to f f' s s' m m' g h k _ _
       (followed.moved at None f.immediate f'.immediate x (register_of s.registers to) (register_of s'.registers to) (same_register same s.registers s'.registers h.registers to))
 
+  compute_plain-follows : (arithmetic : Arithmetic) (width : Width) (field field' : Option ℕ) (f f' : Frame) (s : State W F) (s' : State W' F') (m : M) (m' : M') (to : Operand)
+      → same.field field field' f.immediate f'.immediate → SameFrame same f f' → SameState same s s' → Same m m'
+      → Follows Then (compute_plain ops acc arithmetic width field f s m to) (compute_plain ops' acc' arithmetic width field' f' s' m' to)
+  unfolding compute_plain
+  compute_plain-follows arithmetic width field field' f f' s s' m m' to x g h k =
+      follows-same Then _ _ _ _ (taken-follows width f f' s s' m m' to _ _ g h k (immediate-uses same ops ops' followed width field field' f.immediate f'.immediate x))
+      (λ it. concluded-follows arithmetic width it.slot (compute_effect arithmetic width it.number it.other) f f' s s' m m' g h k)
+
   compute_number-follows : (arithmetic : Arithmetic) (width : Width) (field field' : Option ℕ) (f f' : Frame) (s : State W F) (s' : State W' F') (m : M) (m' : M') (to : Operand)
       → same.field field field' f.immediate f'.immediate → SameFrame same f f' → SameState same s s' → Same m m'
       → Follows Then (compute_number ops acc arithmetic width field f s m to) (compute_number ops' acc' arithmetic width field' f' s' m' to)
-  unfolding compute_number compute_field
-  compute_number-follows arithmetic width None field' f f' s s' m m' to x g h k =
-      let p = followed.plain field' f.immediate f'.immediate x in
-      rw p.0 (follows-same Then _ _ _ _ (taken-follows width f f' s s' m m' to (Ok (low width f.immediate)) (Ok (low width f'.immediate)) g h k (ap (low width) (sym p.1)))
-      (λ it. concluded-follows arithmetic width it.slot (compute_effect arithmetic width it.number it.other) f f' s s' m m' g h k))
+  unfolding compute_number
   compute_number-follows Add Quad (Some at) field' f f' s s' m m' (InRegister to) x g h k = add_field-follows at field' to f f' s s' m m' x g h k
-  compute_number-follows Add Quad (Some at) field' f f' s s' m m' (InMemory to) x g h k = tt
-  compute_number-follows Add Long (Some at) field' f f' s s' m m' to x g h k = tt
-  compute_number-follows Or width (Some at) field' f f' s s' m m' to x g h k = tt
-  compute_number-follows And width (Some at) field' f f' s s' m m' to x g h k = tt
-  compute_number-follows Sub width (Some at) field' f f' s s' m m' to x g h k = tt
-  compute_number-follows Xor width (Some at) field' f f' s s' m m' to x g h k = tt
-  compute_number-follows Compare width (Some at) field' f f' s s' m m' to x g h k = tt
+  compute_number-follows Add Quad None field' f f' s s' m m' (InRegister to) x g h k =
+      rw (followed.plain field' f.immediate f'.immediate x).0 (compute_plain-follows Add Quad None None f f' s s' m m' (InRegister to)
+      (subst (λ field. same.field None field f.immediate f'.immediate) (followed.plain field' f.immediate f'.immediate x).0 x) g h k)
+  compute_number-follows Add Quad None None f f' s s' m m' (InMemory to) x g h k = compute_plain-follows Add Quad None None f f' s s' m m' (InMemory to) x g h k
+  compute_number-follows Add Quad None (Some at') f f' s s' m m' (InMemory to) x g h k = compute_plain-follows Add Quad None (Some at') f f' s s' m m' (InMemory to) x g h k
+  compute_number-follows Add Quad (Some at) None f f' s s' m m' (InMemory to) x g h k = compute_plain-follows Add Quad (Some at) None f f' s s' m m' (InMemory to) x g h k
+  compute_number-follows Add Quad (Some at) (Some at') f f' s s' m m' (InMemory to) x g h k = compute_plain-follows Add Quad (Some at) (Some at') f f' s s' m m' (InMemory to) x g h k
+  compute_number-follows Add Long field field' f f' s s' m m' to x g h k = compute_plain-follows Add Long field field' f f' s s' m m' to x g h k
+  compute_number-follows Or width field field' f f' s s' m m' to x g h k = compute_plain-follows Or width field field' f f' s s' m m' to x g h k
+  compute_number-follows And width field field' f f' s s' m m' to x g h k = compute_plain-follows And width field field' f f' s s' m m' to x g h k
+  compute_number-follows Sub width field field' f f' s s' m m' to x g h k = compute_plain-follows Sub width field field' f f' s s' m m' to x g h k
+  compute_number-follows Xor width field field' f f' s s' m m' to x g h k = compute_plain-follows Xor width field field' f f' s s' m m' to x g h k
+  compute_number-follows Compare width field field' f f' s s' m m' to x g h k = compute_plain-follows Compare width field field' f f' s s' m m' to x g h k
 
   compute_of-follows : (arithmetic : Arithmetic) (width : Width) (f f' : Frame) (s : State W F) (s' : State W' F') (m : M) (m' : M') (operands : Operands)
       → SameFrame same f f' → SameState same s s' → Same m m' → Follows Then (compute_of ops acc arithmetic width f s m operands) (compute_of ops' acc' arithmetic width f' s' m' operands)

@@ -9,8 +9,8 @@ use Rattle.guest_machine.specs.declared.state.State.{State}
 use Rattle.guest_machine.specs.declared.stop.Stop.{Stop}
 use Rattle.guest_machine.specs.declared.stop.Stop.TheVariants.{Returned, Look, Address, Code, Unclean, Steps}
 use Rattle.guest_machine.specs.Access.{Refusal, Refused, Shut, Accesses, IsSize}
-use Rattle.guest_machine.specs.Operand.{used}
-use Rattle.guest_machine.specs.Use.{After, plus}
+use Rattle.guest_machine.specs.Operand.{unmoved, moved_by}
+use Rattle.guest_machine.specs.Use.{After}
 use Rattle.guest_machine.specs.Values.{Operations}
 
 -- a use in the first is that use in the second; where the first may not be used, anything may stand
@@ -57,11 +57,6 @@ pub record Alike (W F B W' F' B' : Type 0) : Type 1 where
   -- the places of an offset field in the one and in the other, if there is one, and the numbers that stand there
   pub field : Option ℕ → Option ℕ → ℕ → ℕ → Type 0
 
--- a word with a number that stands in an instruction, which may be an offset field
-abbrev pub moved_by : {W F B : Type 0} → Operations W F B → Option ℕ → ℕ → W → Result ℕ Cause
-moved_by ops None number word = used (plus number) (ops.number_of word)
-moved_by ops (Some at) number word = ops.moved word number at
-
 module _ {W F B W' F' B' : Type 0} (same : Alike W F B W' F' B') where
   -- operations of the first, and those of the second on related values
   pub record IsFollowed (ops : Operations W F B) (ops' : Operations W' F' B') : Type 0 where
@@ -76,6 +71,7 @@ module _ {W F B W' F' B' : Type 0} (same : Alike W F B W' F' B') where
     pub plain : (field' : Option ℕ) (n n' : ℕ) → same.field None field' n n' → (field' ≡ None) × (n' ≡ n)
     pub moved : (at : ℕ) (field' : Option ℕ) (n n' : ℕ) → same.field (Some at) field' n n' → (w : W) (w' : W') → same.word w w'
         → Uses (λ p q. p ≡ q) (ops.moved w n at) (moved_by ops' field' n' w')
+    pub misused : (at : ℕ) (field' : Option ℕ) (n n' : ℕ) → same.field (Some at) field' n n' → Uses (λ p q. p ≡ q) (ops.misused n) (unmoved ops' field' n')
     -- where a field is added that is none for the second, the flags of the first say nothing
     pub free : (at n n' : ℕ) → same.field (Some at) None n n' → (f : F) (f' : F') → same.flag (ops.unsettled f) f'
     pub joined : (bs : List B) (bs' : List B') → All2 same.byte bs bs' → IsSize (length bs) → same.word (ops.joined bs) (ops'.joined bs')

@@ -54,14 +54,21 @@ carried_as ops f (Ok number) = ops.word (f number)
 carried_as ops f (Err cause) = ops.unknown
 
 module _ {W F B : Type 0} (ops : Operations W F B) where
-  -- a base and the displacement, which may be an offset field at a place; behind it is where the next instruction begins
+  -- a number that stands in an instruction, where no base is added; it may be an offset field at a place
+  abbrev pub unmoved : Option ℕ → ℕ → Result ℕ Cause
+  unmoved None number = Ok number
+  unmoved (Some at) number = ops.misused number
+
+  -- the same with a base
+  abbrev pub moved_by : Option ℕ → ℕ → W → Result ℕ Cause
+  moved_by None number word = used (plus number) (ops.number_of word)
+  moved_by (Some at) number word = ops.moved word number at
+
+  -- a base and the displacement; where the next instruction begins is a base too, but not one of offset fields
   unfoldable pub base_of : Option ℕ → ℕ → ℕ → Registers W → Base → Result ℕ Cause
-  base_of None displacement next registers Absolute = Ok displacement
-  base_of None displacement next registers (OfRegister register) = used (plus displacement) (ops.number_of (register_of registers register))
-  base_of None displacement next registers NextInstruction = Ok (plus displacement next)
-  base_of (Some at) displacement next registers (OfRegister register) = ops.moved (register_of registers register) displacement at
-  base_of (Some at) displacement next registers Absolute = Err Field
-  base_of (Some at) displacement next registers NextInstruction = Err Field
+  base_of field displacement next registers Absolute = unmoved field displacement
+  base_of field displacement next registers (OfRegister register) = moved_by field displacement (register_of registers register)
+  base_of field displacement next registers NextInstruction = used (λ number. plus number next) (unmoved field displacement)
 
   -- an index register times its factor
   unfoldable pub index_of : Registers W → Option Index → Result ℕ Cause

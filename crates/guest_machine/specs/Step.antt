@@ -29,19 +29,14 @@ use Rattle.guest_machine.specs.declared.slot.Slot.{Slot}
 use Rattle.guest_machine.specs.declared.slot.Slot.TheVariants.{Register as OfSlot}
 use Rattle.guest_machine.specs.declared.state.State.{State}
 use Rattle.guest_machine.specs.declared.stop.Stop.{Stop}
-use Rattle.guest_machine.specs.declared.stop.Stop.TheVariants.{Code, Unclean}
+use Rattle.guest_machine.specs.declared.stop.Stop.TheVariants.{Code}
 use Rattle.guest_machine.specs.Access.{Accesses, load_of, store_of, fetch_of}
 use Rattle.guest_machine.specs.Arithmetic.{low, span_of, bits_of, compute_effect, product_effect, shift_effect}
 use Rattle.guest_machine.specs.Effect.{with_changes, condition_of}
-use Rattle.guest_machine.specs.Operand.{size_of, used, charged, carried_as, address_of, kept, kept_byte, number_at, carried, taken, put}
+use Rattle.guest_machine.specs.Operand.{size_of, used, charged, unmoved, carried_as, address_of, kept, kept_byte, number_at, carried, taken, put}
 use Rattle.guest_machine.specs.State.{register_of, with_word, with_stack, at_place}
 use Rattle.guest_machine.specs.Use.{◌>>=◌, plus, both, clean, there, After, left}
 use Rattle.guest_machine.specs.Values.{Operations}
-
--- an immediate at a width, which may not be an offset field
-unfoldable pub immediate_of : Width → Option ℕ → ℕ → Result ℕ Cause
-immediate_of width None immediate = Ok (low width immediate)
-immediate_of width (Some at) immediate = Err Field
 
 -- the lower half as a signed number of 64 bits
 abbrev pub sign_extended : ℕ → ℕ
@@ -58,6 +53,10 @@ is_cleared Xor to (InRegister from) = number_of to == number_of from
 is_cleared other to from = false
 
 module _ {W F B : Type 0} (ops : Operations W F B) where
+  -- an immediate at a width
+  unfoldable pub immediate_of : Width → Option ℕ → ℕ → Result ℕ Cause
+  immediate_of width field immediate = used (low width) (unmoved ops field immediate)
+
   -- the flags after an instruction, and the place
   abbrev pub settled : Changes → Frame → State W F → State W F
   settled changes frame state = record state { flags = with_changes ops changes state.flags; place = frame.next }
@@ -95,10 +94,10 @@ module _ {W F B M : Type 0} (ops : Operations W F B) (acc : Accesses M B) where
   -- mov r/m, imm
   unfoldable pub move_number : Width → Frame → State W F → M → Operand → Result (After W F M) Stop
   move_number width frame state memory (InRegister to) = do
-    number ← clean state.place (immediate_of width frame.immediate_field frame.immediate)
+    number ← clean state.place (immediate_of ops width frame.immediate_field frame.immediate)
     Ok (left (at_place (with_word state to (ops.word number)) frame.next) memory)
   move_number width frame state memory (InMemory to) = do
-    number ← clean state.place (immediate_of width frame.immediate_field frame.immediate)
+    number ← clean state.place (immediate_of ops width frame.immediate_field frame.immediate)
     stored (size_of width) frame state memory to (ops.word number)
 
   unfoldable pub move_of : Width → Frame → State W F → M → Operands → Result (After W F M) Stop
@@ -147,17 +146,16 @@ module _ {W F B M : Type 0} (ops : Operations W F B) (acc : Accesses M B) where
     number ← clean state.place (charged (Some at) (ops.moved (register_of state.registers to) frame.immediate at))
     finished Quad (OfSlot to) (record { number = number; changes = all_unsettled }) frame state memory
 
-  -- where the immediate is an offset field, it is added to a base in a register, or misused
-  unfoldable pub compute_field : Arithmetic → Width → ℕ → Frame → State W F → M → Operand → Result (After W F M) Stop
-  compute_field Add Quad at frame state memory (InRegister to) = add_field frame state memory to at
-  compute_field arithmetic width at frame state memory to = Err (Unclean state.place Field)
-
   -- the same with an immediate
-  unfoldable pub compute_number : Arithmetic → Width → Option ℕ → Frame → State W F → M → Operand → Result (After W F M) Stop
-  compute_number arithmetic width None frame state memory to = do
-    it ← taken ops acc width frame state memory to (Ok (low width frame.immediate))
+  unfoldable pub compute_plain : Arithmetic → Width → Option ℕ → Frame → State W F → M → Operand → Result (After W F M) Stop
+  compute_plain arithmetic width field frame state memory to = do
+    it ← taken ops acc width frame state memory to (immediate_of ops width field frame.immediate)
     concluded arithmetic width it.slot (compute_effect arithmetic width it.number it.other) frame state memory
-  compute_number arithmetic width (Some at) frame state memory to = compute_field arithmetic width at frame state memory to
+
+  -- an immediate that is an offset field may be added to a base in a register
+  unfoldable pub compute_number : Arithmetic → Width → Option ℕ → Frame → State W F → M → Operand → Result (After W F M) Stop
+  compute_number Add Quad (Some at) frame state memory (InRegister to) = add_field frame state memory to at
+  compute_number arithmetic width field frame state memory to = compute_plain arithmetic width field frame state memory to
 
   unfoldable pub compute_of : Arithmetic → Width → Frame → State W F → M → Operands → Result (After W F M) Stop
   compute_of arithmetic width frame state memory (IntoRegister to from) = compute_in arithmetic width frame state memory to from

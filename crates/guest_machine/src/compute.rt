@@ -1,13 +1,13 @@
 ghost use Rattle.std.specs.Prelude.{◌≡◌};
 ghost use Rattle.guest_machine.specs.Ranges.{range_accesses};
 ghost use Rattle.guest_machine.specs.Effect.{with_changes};
-ghost use Rattle.guest_machine.specs.Step.{is_cleared, finished, concluded, settled, compute_in, compute_out, add_field, compute_field, compute_number, compute_of, test_of, multiply_of, shift_of, all_unsettled};
+ghost use Rattle.guest_machine.specs.Step.{is_cleared, finished, concluded, settled, compute_in, compute_out, add_field, compute_plain, compute_number, compute_of, test_of, multiply_of, shift_of, all_unsettled};
 ghost use Rattle.guest_machine.specs.Use.{Leaves, left};
 
-use crate::arithmetic::{compute, low, product, shift};
-use crate::cause::Cause;
+use crate::arithmetic::{compute, product, shift};
 use crate::effect::{Change, Changes, Effect, with_changes};
 use crate::frame::Frame;
+use crate::moves::immediate;
 use crate::operand::charged;
 use crate::slot::{Slot, number_at, put, take_operand};
 use crate::space::Space;
@@ -157,28 +157,25 @@ fn add_field<V: Values, S: Space<V>>(
     )
 }
 
-/// An immediate that is an offset field is added to a base in a register, or misused.
-#[tactic(auto, unfolding(crate::specs::Step::compute_field))]
-fn compute_field<V: Values, S: Space<V>>(
+/// add, or, and, sub, xor, cmp with an immediate
+#[tactic(auto, unfolding(crate::specs::Step::compute_plain))]
+fn compute_plain<V: Values, S: Space<V>>(
     arithmetic: Arithmetic,
     width: Width,
-    at: u64,
     frame: &Frame,
     to: &Operand,
     state: &mut State<V::Word, V::Flag>,
     space: &mut S,
 ) -> Result<(), Stop>
-    ensures { Leaves result (left state.old (S.memory space.old)) (left state.new (S.memory space.new)) (compute_field V.operations (range_accesses V.operations) arithmetic width at frame.now state.old (S.memory space.old) to.now) }
+    ensures { Leaves result (left state.old (S.memory space.old)) (left state.new (S.memory space.new)) (compute_plain V.operations (range_accesses V.operations) arithmetic width frame.now.immediate_field frame.now state.old (S.memory space.old) to.now) }
 {
-    match (arithmetic, width, to) {
-        (Arithmetic::Add, Width::Quad, Operand::Register(to)) => {
-            add_field::<V, S>(frame, *to, at, state, space)
-        }
-        _ => Err(Stop::Unclean(state.place, Cause::Field)),
-    }
+    let right = immediate::<V>(width, frame);
+    let it = take_operand::<V, S>(width, frame, state, space, to, right)?;
+    let effect = compute(arithmetic, width, it.number, it.other);
+    conclude::<V, S>(arithmetic, width, it.slot, &effect, frame, state, space)
 }
 
-/// add, or, and, sub, xor, cmp with an immediate
+/// The same, but that an offset field may be added to a base in a register.
 #[tactic(auto, unfolding(crate::specs::Step::compute_number))]
 fn compute_number<V: Values, S: Space<V>>(
     arithmetic: Arithmetic,
@@ -190,14 +187,11 @@ fn compute_number<V: Values, S: Space<V>>(
 ) -> Result<(), Stop>
     ensures { Leaves result (left state.old (S.memory space.old)) (left state.new (S.memory space.new)) (compute_number V.operations (range_accesses V.operations) arithmetic width frame.now.immediate_field frame.now state.old (S.memory space.old) to.now) }
 {
-    match frame.immediate_field {
-        Some(at) => compute_field::<V, S>(arithmetic, width, at, frame, to, state, space),
-        None => {
-            let right = Ok(low(width, frame.immediate));
-            let it = take_operand::<V, S>(width, frame, state, space, to, right)?;
-            let effect = compute(arithmetic, width, it.number, it.other);
-            conclude::<V, S>(arithmetic, width, it.slot, &effect, frame, state, space)
+    match (arithmetic, width, frame.immediate_field, to) {
+        (Arithmetic::Add, Width::Quad, Some(at), Operand::Register(to)) => {
+            add_field::<V, S>(frame, *to, at, state, space)
         }
+        _ => compute_plain::<V, S>(arithmetic, width, frame, to, state, space),
     }
 }
 

@@ -1,5 +1,6 @@
-ghost use Rattle.std.specs.Prelude.{◌≡◌};
+ghost use Rattle.std.specs.Prelude.{◌≡◌, ◌<◌, IfOk};
 ghost use Rattle.guest_machine.specs.Access.{IsSize};
+ghost use Rattle.guest_machine.specs.Arithmetic.{span_of};
 ghost use Rattle.guest_machine.specs.Operand.{carried_as};
 ghost use Rattle.guest_machine.specs.Ranges.{range_accesses};
 ghost use Rattle.guest_machine.specs.Step.{immediate_of, sign_extended, move_in, stored, move_number, move_of, extend_byte, extend_long, load_address};
@@ -8,7 +9,7 @@ ghost use Rattle.guest_machine.specs.Use.{Leaves, left};
 use crate::arithmetic::low;
 use crate::cause::Cause;
 use crate::frame::Frame;
-use crate::operand::{address, carried, kept, kept_byte, size};
+use crate::operand::{address, carried, kept, kept_byte, size, unmoved};
 use crate::space::Space;
 use crate::state::{State, register, set_register};
 use crate::stop::Stop;
@@ -16,15 +17,14 @@ use crate::uses::{load, store, used};
 use crate::values::Values;
 use amd64_subset::{Memory, Operand, Operands, Register, Width};
 
-/// The immediate at a width. An offset field may not stand there.
+/// The immediate at a width.
 #[tactic(auto, unfolding(crate::specs::Step::immediate_of))]
-fn immediate(width: Width, frame: &Frame) -> Result<u64, Cause>
-    ensures { result ≡ immediate_of width frame.now.immediate_field frame.now.immediate }
+pub(crate) fn immediate<V: Values>(width: Width, frame: &Frame) -> Result<u64, Cause>
+    ensures value { result ≡ immediate_of V.operations width frame.now.immediate_field frame.now.immediate }
+    ensures small { IfOk result (λ number. number < span_of width) }
 {
-    match frame.immediate_field {
-        None => Ok(low(width, frame.immediate)),
-        Some(_) => Err(Cause::Field),
-    }
+    let number = unmoved::<V>(frame.immediate_field, frame.immediate)?;
+    Ok(low(width, number))
 }
 
 /// The lower half as a signed number of 64 bits.
@@ -87,7 +87,7 @@ fn move_number<V: Values, S: Space<V>>(
 ) -> Result<(), Stop>
     ensures { Leaves result (left state.old (S.memory space.old)) (left state.new (S.memory space.new)) (move_number V.operations (range_accesses V.operations) width frame.now state.old (S.memory space.old) to.now) }
 {
-    let number = used(state.place, immediate(width, frame))?;
+    let number = used(state.place, immediate::<V>(width, frame))?;
     match to {
         Operand::Register(to) => {
             set_register(&mut state.registers, *to, V::word(number));
