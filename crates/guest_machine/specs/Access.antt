@@ -31,14 +31,14 @@ next_place place = (place + 1) % 2 ^ 64
 -- a byte and those behind it: of two refusals, the linker's is given
 abbrev pub both_reached : {A C D : Type 0} → (A → C → D) → Result A Refusal → Result C Refusal → Result D Refusal
 both_reached f (Ok a) (Ok c) = Ok (f a c)
-both_reached f (Ok a) (Err refusal) = Err refusal
+both_reached f (Ok a) (Err why) = Err why
 both_reached f (Err Shut) c = Err Shut
 both_reached f (Err Refused) (Ok c) = Err Refused
-both_reached f (Err Refused) (Err refusal) = Err refusal
+both_reached f (Err Refused) (Err why) = Err why
 
 abbrev pub reached : {A C : Type 0} → (A → C) → Result A Refusal → Result C Refusal
 reached f (Ok a) = Ok (f a)
-reached f (Err refusal) = Err refusal
+reached f (Err why) = Err why
 
 -- a byte before others
 abbrev pub cons : {A : Type 0} → A → List A → List A

@@ -1,5 +1,8 @@
 pub mod Access
+pub mod Arithmetic
 pub mod Cause
+pub mod Effect
+pub mod Follow
 pub mod Four
 pub mod Machine
 pub mod Operand

@@ -1,4 +1,4 @@
--- What operands are: addresses, and words that are carried whole or in part.
+-- What operands are: addresses, words that are carried whole or in part, numbers that are used, places for results.
 use Rattle.std.specs.Prelude.{ℕ, ◌*◌, ◌%◌, ◌^◌, Result, Ok, Err, Option, Some, None, if◌then◌else◌}
 use Rattle.amd64_subset.specs.declared.instr.Width.{Width}
 use Rattle.amd64_subset.specs.declared.instr.Width.TheVariants.{Long, Quad}
@@ -13,13 +13,18 @@ use Rattle.amd64_subset.specs.declared.operand.Operand.TheVariants.{InMemory, Re
 use Rattle.guest_machine.specs.declared.cause.Cause.{Cause}
 use Rattle.guest_machine.specs.declared.cause.Cause.TheVariants.{Field}
 use Rattle.guest_machine.specs.declared.stop.Stop.{Stop}
+use Rattle.guest_machine.specs.declared.stop.Stop.TheVariants.{Unclean}
 use Rattle.guest_machine.specs.declared.state.Registers.{Registers}
 use Rattle.guest_machine.specs.declared.state.State.{State}
 use Rattle.guest_machine.specs.declared.frame.Frame.{Frame}
 use Rattle.guest_machine.specs.Values.{Operations}
-use Rattle.guest_machine.specs.Access.{Accesses, load_of}
-use Rattle.guest_machine.specs.State.{register_of}
-use Rattle.guest_machine.specs.Use.{◌>>=◌, plus, both, clean, there}
+use Rattle.guest_machine.specs.Access.{Refusal, Accesses, load_of, store_of}
+use Rattle.guest_machine.specs.declared.slot.Slot.{Slot}
+use Rattle.guest_machine.specs.declared.slot.Slot.TheVariants.{Place, Register as OfSlot}
+use Rattle.guest_machine.specs.declared.slot.Taken.{Taken}
+use Rattle.guest_machine.specs.Arithmetic.{low}
+use Rattle.guest_machine.specs.State.{register_of, with_word}
+use Rattle.guest_machine.specs.Use.{◌>>=◌, plus, both, clean, there, cause_with, refused_with, After, left}
 
 abbrev pub factor_of : Scale → ℕ
 factor_of One = 1
@@ -49,17 +54,21 @@ carried_as ops f (Ok number) = ops.word (f number)
 carried_as ops f (Err cause) = ops.unknown
 
 module _ {W F B : Type 0} (ops : Operations W F B) where
-  -- a base register and the displacement, which may be an offset field at a place
-  unfoldable pub base_of : Frame → Registers W → Base → Result ℕ Cause
-  base_of frame registers base = based frame.displacement_field base
-    where
-      based : Option ℕ → Base → Result ℕ Cause
-      based None Absolute = Ok frame.displacement
-      based None (OfRegister register) = used (λ number. plus number frame.displacement) (ops.number_of (register_of registers register))
-      based None NextInstruction = Ok (plus frame.next frame.displacement)
-      based (Some at) (OfRegister register) = ops.moved (register_of registers register) frame.displacement at
-      based (Some at) Absolute = Err Field
-      based (Some at) NextInstruction = Err Field
+  -- a number that stands in an instruction, where no base is added; it may be an offset field at a place
+  abbrev pub unmoved : Option ℕ → ℕ → Result ℕ Cause
+  unmoved None number = Ok number
+  unmoved (Some at) number = ops.misused number
+
+  -- the same with a base
+  abbrev pub moved_by : Option ℕ → ℕ → W → Result ℕ Cause
+  moved_by None number word = used (plus number) (ops.number_of word)
+  moved_by (Some at) number word = ops.moved word number at
+
+  -- a base and the displacement; where the next instruction begins is a base too, but not one of offset fields
+  unfoldable pub base_of : Option ℕ → ℕ → ℕ → Registers W → Base → Result ℕ Cause
+  base_of field displacement next registers Absolute = unmoved field displacement
+  base_of field displacement next registers (OfRegister register) = moved_by field displacement (register_of registers register)
+  base_of field displacement next registers NextInstruction = used (λ number. plus number next) (unmoved field displacement)
 
   -- an index register times its factor
   unfoldable pub index_of : Registers W → Option Index → Result ℕ Cause
@@ -69,9 +78,8 @@ module _ {W F B : Type 0} (ops : Operations W F B) where
   -- where a memory operand lies (Intel's manual, volume 1, section 3.7.5): the uses of its registers come with it
   unfoldable pub address_of : Frame → State W F → Memory → Result ℕ Cause
   address_of frame state memory =
-      let segment = if memory.from_thread_pointer then state.thread_pointer else 0 in
-      used (λ parts. plus (plus parts.0 parts.1) segment) (charged frame.displacement_field
-      (both (base_of frame state.registers memory.base) (index_of state.registers memory.index)))
+      used (λ parts. plus (plus parts.0 parts.1) (if memory.from_thread_pointer then state.thread_pointer else 0)) (charged frame.displacement_field
+      (both (base_of frame.displacement_field frame.displacement frame.next state.registers memory.base) (index_of state.registers memory.index)))
 
   -- a register's word as it is carried at a width
   unfoldable pub kept : Width → W → W
@@ -82,6 +90,10 @@ module _ {W F B : Type 0} (ops : Operations W F B) where
   unfoldable pub kept_byte : W → W
   kept_byte word = carried_as ops (λ number. number % 256) (ops.number_of word)
 
+  -- a register's number as it is used at a width
+  unfoldable pub number_at : Width → W → Result ℕ Cause
+  number_at width word = used (low width) (ops.number_of word)
+
 module _ {W F B M : Type 0} (ops : Operations W F B) (acc : Accesses M B) where
   -- what an operand holds, to be carried
   unfoldable pub carried : Width → Frame → State W F → M → Operand → Result W Stop
@@ -89,3 +101,29 @@ module _ {W F B M : Type 0} (ops : Operations W F B) (acc : Accesses M B) where
   carried width frame state memory (InMemory operand) = do
     place ← clean state.place (address_of ops frame state operand)
     there state.place (load_of ops acc memory place (size_of width))
+
+  -- the use of a loaded word beside another use
+  abbrev pub weighed : Width → ℕ → Result W Refusal → Result ℕ Cause → Result (ℕ × ℕ) Stop
+  weighed width here (Ok word) other = clean here (both (number_at ops width word) other)
+  weighed width here (Err why) other = Err (refused_with here why other)
+
+  -- the same at an address, whose use comes first
+  unfoldable pub taken_at : Width → ℕ → M → Result ℕ Cause → Result ℕ Cause → Result Taken Stop
+  taken_at width here memory (Err cause) other = Err (Unclean here (cause_with cause other))
+  taken_at width here memory (Ok place) other = do
+    parts ← weighed width here (load_of ops acc memory place (size_of width)) other
+    Ok (record { slot = Place place; number = parts.0; other = parts.1 })
+
+  -- what an operand holds, to be used, beside another use: the first cause is given where several stand
+  unfoldable pub taken : Width → Frame → State W F → M → Operand → Result ℕ Cause → Result Taken Stop
+  taken width frame state memory (InRegister register) other = do
+    parts ← clean state.place (both (number_at ops width (register_of state.registers register)) other)
+    Ok (record { slot = OfSlot register; number = parts.0; other = parts.1 })
+  taken width frame state memory (InMemory operand) other = taken_at width state.place memory (address_of ops frame state operand) other
+
+  -- a result in its place
+  unfoldable pub put : Width → Slot → W → State W F → M → Result (After W F M) Stop
+  put width (OfSlot register) word state memory = Ok (left (with_word state register word) memory)
+  put width (Place place) word state memory = do
+    after ← there state.place (store_of ops acc memory place (size_of width) word)
+    Ok (left state after)

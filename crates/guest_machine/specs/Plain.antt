@@ -11,6 +11,7 @@ plain_operations = record {
   truth_of = λ flag. Ok flag;
   unsettled = λ flag. flag;
   moved = λ word field place. Ok ((word + field) % 2 ^ 64);
+  misused = λ number. Ok number;
   byte = λ number. number;
   code = λ byte. Some byte;
   joined = λ bytes. number_from bytes % 2 ^ 64;

@@ -42,6 +42,15 @@ with_register registers R13 word = record registers { r13 = word }
 with_register registers R14 word = record registers { r14 = word }
 with_register registers R15 word = record registers { r15 = word }
 
+abbrev pub with_word : {W F : Type 0} → State W F → Register → W → State W F
+with_word state register word = record state { registers = with_register state.registers register word }
+
+abbrev pub with_stack : {W F : Type 0} → State W F → W → State W F
+with_stack state word = record state { registers = record state.registers { rsp = word } }
+
+abbrev pub at_place : {W F : Type 0} → State W F → ℕ → State W F
+at_place state place = record state { place = place }
+
 -- each register 0 but for %rsp and the three arguments of a call (psABI, section 3.2.3)
 unfoldable pub start_of : {W F B : Type 0} → Operations W F B → ℕ → ℕ → W → W → W → State W F
 start_of ops place stack a b c =

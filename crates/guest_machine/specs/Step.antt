@@ -1,38 +1,211 @@
--- One instruction, and one step of the machine.
-use Rattle.std.specs.Prelude.{ℕ, Bool, Result, Ok, Err, Option, Some, None, if◌then◌else◌}
+-- One instruction, and one step of the machine (Intel's manual, volume 2). A stop is found before anything changes.
+use Rattle.std.specs.Prelude.{ℕ, ◌+◌, ◌-◌, ◌%◌, ◌^◌, Bool, true, false, ◌==◌, nat_lt, Result, Ok, Err, Option, Some, None, if◌then◌else◌}
 use Rattle.amd64_subset.specs.declared.register.Register.{Register}
+use Rattle.amd64_subset.specs.Register.{number_of}
 use Rattle.amd64_subset.specs.declared.instr.Width.{Width}
+use Rattle.amd64_subset.specs.declared.instr.Width.TheVariants.{Long, Quad}
+use Rattle.amd64_subset.specs.declared.instr.Arithmetic.{Arithmetic}
+use Rattle.amd64_subset.specs.declared.instr.Arithmetic.TheVariants.{Add, Or, And, Sub, Xor, Compare}
+use Rattle.amd64_subset.specs.declared.instr.Shift.{Shift}
+use Rattle.amd64_subset.specs.declared.instr.Condition.{Condition}
+use Rattle.amd64_subset.specs.declared.instr.Target.{Target}
+use Rattle.amd64_subset.specs.declared.instr.Target.TheVariants.{Relative, Indirect}
+use Rattle.amd64_subset.specs.declared.operand.Memory.{Memory}
 use Rattle.amd64_subset.specs.declared.operand.Operand.{Operand}
-use Rattle.amd64_subset.specs.declared.operand.Operands.TheVariants.{IntoRegister}
+use Rattle.amd64_subset.specs.declared.operand.Operand.TheVariants.{InMemory, Register as InRegister}
+use Rattle.amd64_subset.specs.declared.operand.Operands.{Operands}
+use Rattle.amd64_subset.specs.declared.operand.Operands.TheVariants.{IntoRegister, IntoMemory, Immediate}
 use Rattle.amd64_subset.specs.declared.instr.Operation.{Operation}
-use Rattle.amd64_subset.specs.declared.instr.Operation.TheVariants.{Move, Return}
+use Rattle.amd64_subset.specs.declared.instr.Operation.TheVariants.{Move, StoreByte, ExtendByte, ExtendLong, LoadAddress, Compute, Test, Multiply, Shift as ShiftBy, Push, Pop, Leave, Call, Jump, JumpIf, Return, Nop, Undefined}
 use Rattle.amd64_subset.specs.declared.instr.Decoded.{Decoded}
+use Rattle.amd64_subset.specs.Decoding.{decoded}
+use Rattle.guest_machine.specs.declared.cause.Cause.{Cause}
+use Rattle.guest_machine.specs.declared.cause.Cause.TheVariants.{Field}
+use Rattle.guest_machine.specs.declared.effect.Change.TheVariants.{Unsettled}
+use Rattle.guest_machine.specs.declared.effect.Changes.{Changes}
+use Rattle.guest_machine.specs.declared.effect.Effect.{Effect}
+use Rattle.guest_machine.specs.declared.frame.Frame.{Frame}
+use Rattle.guest_machine.specs.declared.slot.Slot.{Slot}
+use Rattle.guest_machine.specs.declared.slot.Slot.TheVariants.{Register as OfSlot}
+use Rattle.guest_machine.specs.declared.state.State.{State}
 use Rattle.guest_machine.specs.declared.stop.Stop.{Stop}
 use Rattle.guest_machine.specs.declared.stop.Stop.TheVariants.{Code}
-use Rattle.guest_machine.specs.declared.state.State.{State}
-use Rattle.guest_machine.specs.declared.frame.Frame.{Frame}
+use Rattle.guest_machine.specs.Access.{Accesses, load_of, store_of, fetch_of}
+use Rattle.guest_machine.specs.Arithmetic.{low, span_of, bits_of, compute_effect, product_effect, shift_effect}
+use Rattle.guest_machine.specs.Effect.{with_changes, condition_of}
+use Rattle.guest_machine.specs.Operand.{size_of, used, charged, unmoved, carried_as, address_of, kept, kept_byte, number_at, carried, taken, put}
+use Rattle.guest_machine.specs.State.{register_of, with_word, with_stack, at_place}
+use Rattle.guest_machine.specs.Use.{◌>>=◌, plus, both, clean, there, After, left}
 use Rattle.guest_machine.specs.Values.{Operations}
-use Rattle.guest_machine.specs.Access.{Accesses, load_of, fetch_of}
-use Rattle.guest_machine.specs.State.{with_register}
-use Rattle.guest_machine.specs.Use.{◌>>=◌, plus, clean, there, After, left}
-use Rattle.guest_machine.specs.Operand.{carried}
-use Rattle.amd64_subset.specs.Decoding.{decoded}
 
-abbrev pub with_word : {W F : Type 0} → State W F → Register → W → State W F
-with_word state register word = record state { registers = with_register state.registers register word }
+-- the lower half as a signed number of 64 bits
+abbrev pub sign_extended : ℕ → ℕ
+sign_extended number = if nat_lt (low Long number) (2 ^ 31) then low Long number else low Long number + (2 ^ 64 - 2 ^ 32)
 
-abbrev pub with_stack : {W F : Type 0} → State W F → W → State W F
-with_stack state word = record state { registers = record state.registers { rsp = word } }
+-- each flag is left undefined
+abbrev pub all_unsettled : Changes
+all_unsettled = record { zero = Unsettled; sign = Unsettled; carry = Unsettled; overflow = Unsettled }
 
-abbrev pub at_place : {W F : Type 0} → State W F → ℕ → State W F
-at_place state place = record state { place = place }
+-- sub or xor of a register with itself, which is 0 whatever it held
+unfoldable pub is_cleared : Arithmetic → Register → Operand → Bool
+is_cleared Sub to (InRegister from) = number_of to == number_of from
+is_cleared Xor to (InRegister from) = number_of to == number_of from
+is_cleared other to from = false
+
+module _ {W F B : Type 0} (ops : Operations W F B) where
+  -- an immediate at a width
+  unfoldable pub immediate_of : Width → Option ℕ → ℕ → Result ℕ Cause
+  immediate_of width field immediate = used (low width) (unmoved ops field immediate)
+
+  -- the flags after an instruction, and the place
+  abbrev pub settled : Changes → Frame → State W F → State W F
+  settled changes frame state = record state { flags = with_changes ops changes state.flags; place = frame.next }
+
+  -- what a nop uses: nothing, but where an offset field stands in its operand it must be one that lea could have
+  abbrev pub nop_use : Frame → State W F → Option ℕ → Option Operand → Result ℕ Cause
+  nop_use frame state (Some at) (Some (InMemory operand)) = address_of ops frame state operand
+  nop_use frame state field operand = Ok 0
 
 module _ {W F B M : Type 0} (ops : Operations W F B) (acc : Accesses M B) where
+  -- a result with its flags
+  unfoldable pub finished : Width → Slot → Effect → Frame → State W F → M → Result (After W F M) Stop
+  finished width slot effect frame state memory = do
+    after ← put ops acc width slot (ops.word effect.number) state memory
+    Ok (left (settled ops effect.changes frame after.state) after.memory)
+
+  -- cmp drops the result
+  unfoldable pub concluded : Arithmetic → Width → Slot → Effect → Frame → State W F → M → Result (After W F M) Stop
+  concluded Compare width slot effect frame state memory = Ok (left (settled ops effect.changes frame state) memory)
+  concluded arithmetic width slot effect frame state memory = finished width slot effect frame state memory
+
   -- mov r, r/m
   unfoldable pub move_in : Width → Frame → State W F → M → Register → Operand → Result (After W F M) Stop
   move_in width frame state memory to from = do
     word ← carried ops acc width frame state memory from
     Ok (left (at_place (with_word state to word) frame.next) memory)
+
+  -- a word into a memory operand
+  unfoldable pub stored : ℕ → Frame → State W F → M → Memory → W → Result (After W F M) Stop
+  stored size frame state memory to word = do
+    place ← clean state.place (address_of ops frame state to)
+    after ← there state.place (store_of ops acc memory place size word)
+    Ok (left (at_place state frame.next) after)
+
+  -- mov r/m, imm
+  unfoldable pub move_number : Width → Frame → State W F → M → Operand → Result (After W F M) Stop
+  move_number width frame state memory (InRegister to) = do
+    number ← clean state.place (immediate_of ops width frame.immediate_field frame.immediate)
+    Ok (left (at_place (with_word state to (ops.word number)) frame.next) memory)
+  move_number width frame state memory (InMemory to) = do
+    number ← clean state.place (immediate_of ops width frame.immediate_field frame.immediate)
+    stored (size_of width) frame state memory to (ops.word number)
+
+  unfoldable pub move_of : Width → Frame → State W F → M → Operands → Result (After W F M) Stop
+  move_of width frame state memory (IntoRegister to from) = move_in width frame state memory to from
+  move_of width frame state memory (IntoMemory to from) = stored (size_of width) frame state memory to (kept ops width (register_of state.registers from))
+  move_of width frame state memory (Immediate to) = move_number width frame state memory to
+
+  -- movzx r, r/m8
+  unfoldable pub extend_byte : Frame → State W F → M → Register → Operand → Result (After W F M) Stop
+  extend_byte frame state memory to (InRegister from) =
+      Ok (left (at_place (with_word state to (kept_byte ops (register_of state.registers from))) frame.next) memory)
+  extend_byte frame state memory to (InMemory from) = do
+    place ← clean state.place (address_of ops frame state from)
+    word ← there state.place (load_of ops acc memory place 1)
+    Ok (left (at_place (with_word state to word) frame.next) memory)
+
+  -- movslq r, r/m
+  unfoldable pub extend_long : Frame → State W F → M → Register → Operand → Result (After W F M) Stop
+  extend_long frame state memory to from = do
+    word ← carried ops acc Long frame state memory from
+    Ok (left (at_place (with_word state to (carried_as ops sign_extended (ops.number_of word))) frame.next) memory)
+
+  -- lea r, m
+  unfoldable pub load_address : Width → Frame → State W F → M → Register → Memory → Result (After W F M) Stop
+  load_address width frame state memory to from = do
+    place ← clean state.place (address_of ops frame state from)
+    Ok (left (at_place (with_word state to (ops.word (low width place))) frame.next) memory)
+
+  -- add, or, and, sub, xor, cmp into a register
+  unfoldable pub compute_in : Arithmetic → Width → Frame → State W F → M → Register → Operand → Result (After W F M) Stop
+  compute_in arithmetic width frame state memory to from =
+      if is_cleared arithmetic to from then finished width (OfSlot to) (compute_effect arithmetic width 0 0) frame state memory
+      else (do
+        it ← taken ops acc width frame state memory from (number_at ops width (register_of state.registers to))
+        concluded arithmetic width (OfSlot to) (compute_effect arithmetic width it.other it.number) frame state memory)
+
+  -- the same into a memory operand
+  unfoldable pub compute_out : Arithmetic → Width → Frame → State W F → M → Memory → Register → Result (After W F M) Stop
+  compute_out arithmetic width frame state memory to from = do
+    it ← taken ops acc width frame state memory (InMemory to) (number_at ops width (register_of state.registers from))
+    concluded arithmetic width it.slot (compute_effect arithmetic width it.number it.other) frame state memory
+
+  -- a base with an offset field added
+  unfoldable pub add_field : Frame → State W F → M → Register → ℕ → Result (After W F M) Stop
+  add_field frame state memory to at = do
+    number ← clean state.place (charged (Some at) (ops.moved (register_of state.registers to) frame.immediate at))
+    finished Quad (OfSlot to) (record { number = number; changes = all_unsettled }) frame state memory
+
+  -- the same with an immediate
+  unfoldable pub compute_plain : Arithmetic → Width → Option ℕ → Frame → State W F → M → Operand → Result (After W F M) Stop
+  compute_plain arithmetic width field frame state memory to = do
+    it ← taken ops acc width frame state memory to (immediate_of ops width field frame.immediate)
+    concluded arithmetic width it.slot (compute_effect arithmetic width it.number it.other) frame state memory
+
+  -- an immediate that is an offset field may be added to a base in a register
+  unfoldable pub compute_number : Arithmetic → Width → Option ℕ → Frame → State W F → M → Operand → Result (After W F M) Stop
+  compute_number Add Quad (Some at) frame state memory (InRegister to) = add_field frame state memory to at
+  compute_number arithmetic width field frame state memory to = compute_plain arithmetic width field frame state memory to
+
+  unfoldable pub compute_of : Arithmetic → Width → Frame → State W F → M → Operands → Result (After W F M) Stop
+  compute_of arithmetic width frame state memory (IntoRegister to from) = compute_in arithmetic width frame state memory to from
+  compute_of arithmetic width frame state memory (IntoMemory to from) = compute_out arithmetic width frame state memory to from
+  compute_of arithmetic width frame state memory (Immediate to) = compute_number arithmetic width frame.immediate_field frame state memory to
+
+  -- test r/m, r
+  unfoldable pub test_of : Width → Frame → State W F → M → Operand → Register → Result (After W F M) Stop
+  test_of width frame state memory left_operand right = do
+    it ← taken ops acc width frame state memory left_operand (number_at ops width (register_of state.registers right))
+    Ok (left (settled ops (compute_effect And width it.number it.other).changes frame state) memory)
+
+  -- imul r, r/m
+  unfoldable pub multiply_of : Width → Frame → State W F → M → Register → Operand → Result (After W F M) Stop
+  multiply_of width frame state memory to from = do
+    it ← taken ops acc width frame state memory from (number_at ops width (register_of state.registers to))
+    finished width (OfSlot to) (product_effect width it.other it.number) frame state memory
+
+  -- shl, shr, sar r/m, count
+  unfoldable pub shift_of : Shift → Width → Frame → State W F → M → Operand → ℕ → Result (After W F M) Stop
+  shift_of shift width frame state memory to count = do
+    it ← taken ops acc width frame state memory to (Ok 0)
+    finished width it.slot (shift_effect shift width it.number (count % bits_of width)) frame state memory
+
+  -- a word onto the stack, from where %rsp points
+  unfoldable pub pushed : ℕ → W → State W F → M → Result (After W F M) Stop
+  pushed stack word state memory = do
+    after ← there state.place (store_of ops acc memory (plus stack (2 ^ 64 - 8)) 8 word)
+    Ok (left (with_stack state (ops.word (plus stack (2 ^ 64 - 8)))) after)
+
+  -- push r
+  unfoldable pub push_of : Frame → State W F → M → Register → Result (After W F M) Stop
+  push_of frame state memory from = do
+    stack ← clean state.place (ops.number_of state.registers.rsp)
+    after ← pushed stack (register_of state.registers from) state memory
+    Ok (left (at_place after.state frame.next) after.memory)
+
+  -- pop r
+  unfoldable pub pop_of : Frame → State W F → M → Register → Result (After W F M) Stop
+  pop_of frame state memory to = do
+    stack ← clean state.place (ops.number_of state.registers.rsp)
+    word ← there state.place (load_of ops acc memory stack 8)
+    Ok (left (at_place (with_word (with_stack state (ops.word (plus stack 8))) to word) frame.next) memory)
+
+  -- leave
+  unfoldable pub leave_of : Frame → State W F → M → Result (After W F M) Stop
+  leave_of frame state memory = do
+    base ← clean state.place (ops.number_of state.registers.rbp)
+    word ← there state.place (load_of ops acc memory base 8)
+    Ok (left (record state { registers = record state.registers { rsp = ops.word (plus base 8); rbp = word }; place = frame.next }) memory)
 
   -- ret
   unfoldable pub return_of : State W F → M → Result (After W F M) Stop
@@ -42,11 +215,57 @@ module _ {W F B M : Type 0} (ops : Operations W F B) (acc : Accesses M B) where
     place ← clean state.place (ops.number_of word)
     Ok (left (at_place (with_stack state (ops.word (plus stack 8))) place) memory)
 
+  -- call: the target is loaded before the return address is pushed
+  unfoldable pub call_of : Frame → State W F → M → Target → Result (After W F M) Stop
+  call_of frame state memory (Relative distance) = do
+    stack ← clean state.place (ops.number_of state.registers.rsp)
+    after ← pushed stack (ops.word frame.next) state memory
+    Ok (left (at_place after.state (plus frame.next distance)) after.memory)
+  call_of frame state memory (Indirect operand) = do
+    it ← taken ops acc Quad frame state memory operand (ops.number_of state.registers.rsp)
+    after ← pushed it.other (ops.word frame.next) state memory
+    Ok (left (at_place after.state it.number) after.memory)
+
+  -- jmp
+  unfoldable pub jump_of : Frame → State W F → M → Target → Result (After W F M) Stop
+  jump_of frame state memory (Relative distance) = Ok (left (at_place state (plus frame.next distance)) memory)
+  jump_of frame state memory (Indirect operand) = do
+    it ← taken ops acc Quad frame state memory operand (Ok 0)
+    Ok (left (at_place state it.number) memory)
+
+  -- jcc
+  unfoldable pub jump_if : Frame → State W F → M → Condition → ℕ → Result (After W F M) Stop
+  jump_if frame state memory condition distance = do
+    holds ← clean state.place (condition_of ops condition state.flags)
+    Ok (left (at_place state (if holds then plus frame.next distance else frame.next)) memory)
+
+  -- nop and endbr64
+  unfoldable pub nop_of : Frame → State W F → M → Option Operand → Result (After W F M) Stop
+  nop_of frame state memory operand = do
+    unused ← clean state.place (nop_use ops frame state frame.displacement_field operand)
+    Ok (left (at_place state frame.next) memory)
+
   -- one instruction
   unfoldable pub act : Frame → Operation → State W F → M → Result (After W F M) Stop
-  act frame (Move width (IntoRegister to from)) state memory = move_in width frame state memory to from
+  act frame (Move width operands) state memory = move_of width frame state memory operands
+  act frame (StoreByte to from) state memory = stored 1 frame state memory to (kept_byte ops (register_of state.registers from))
+  act frame (ExtendByte width to from) state memory = extend_byte frame state memory to from
+  act frame (ExtendLong to from) state memory = extend_long frame state memory to from
+  act frame (LoadAddress width to from) state memory = load_address width frame state memory to from
+  act frame (Compute arithmetic width operands) state memory = compute_of arithmetic width frame state memory operands
+  act frame (Test width left_operand right) state memory = test_of width frame state memory left_operand right
+  act frame (Multiply width to from) state memory = multiply_of width frame state memory to from
+  act frame (ShiftBy shift width to count) state memory = shift_of shift width frame state memory to count
+  act frame (Push from) state memory = push_of frame state memory from
+  act frame (Pop to) state memory = pop_of frame state memory to
+  act frame Leave state memory = leave_of frame state memory
+  act frame (Call target) state memory = call_of frame state memory target
+  act frame (Jump target) state memory = jump_of frame state memory target
+  act frame (JumpIf condition distance) state memory = jump_if frame state memory condition distance
   act frame Return state memory = return_of state memory
-  act frame other state memory = Err (Code state.place)
+  act frame (Nop operand) state memory = nop_of frame state memory operand
+  -- ud2
+  act frame Undefined state memory = Err (Code state.place)
 
 -- an offset field that begins in an instruction
 abbrev pub field_at : (ℕ → Bool) → ℕ → Option ℕ → Option ℕ

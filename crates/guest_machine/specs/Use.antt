@@ -36,6 +36,17 @@ there here (Ok x) = Ok x
 there here (Err Refused) = Err (Address here)
 there here (Err Shut) = Err (Unclean here Linker)
 
+-- a cause beside another use
+abbrev pub cause_with : {A : Type 0} → Cause → Result A Cause → Cause
+cause_with cause (Ok x) = cause
+cause_with cause (Err other) = first_cause cause other
+
+-- a refused access beside another use, which was asked before
+abbrev pub refused_with : {A : Type 0} → ℕ → Refusal → Result A Cause → Stop
+refused_with here Refused (Ok x) = Address here
+refused_with here Refused (Err cause) = Unclean here cause
+refused_with here Shut other = Unclean here (cause_with Linker other)
+
 -- M: a memory
 pub record After (W F M : Type 0) : Type 0 where
   pub state : State W F

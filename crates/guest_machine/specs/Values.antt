@@ -25,6 +25,8 @@ pub record Operations (W F B : Type 0) : Type 0 where
   pub unsettled : F → F
   -- the address that a word and an offset field give: the word, the field's value, the field's place
   pub moved : W → ℕ → ℕ → Result ℕ Cause
+  -- the number of an offset field that is not added to a base
+  pub misused : ℕ → Result ℕ Cause
   -- a number as a byte
   pub byte : ℕ → B
   -- a byte as a byte of code, where it may be fetched

@@ -1,13 +1,18 @@
 //! A small x86-64 machine.
 #![tactic(auto)]
 
+mod arithmetic;
 mod cause;
+mod compute;
+mod effect;
 mod frame;
+mod jump;
 mod machine;
 mod moves;
 mod operand;
 mod plain;
 mod run;
+mod slot;
 mod space;
 mod stack;
 mod state;

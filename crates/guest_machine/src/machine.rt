@@ -73,6 +73,12 @@ impl<V: Values> Machine<V> {
         set_register(&mut self.state.registers, Register::numbered(number), word);
     }
 
+    pub fn flags(&self) -> Flags<V::Flag>
+        ensures { result ≡ self.now.state.flags }
+    {
+        self.state.flags
+    }
+
     pub fn set_flags(&mut self, zf: V::Flag, sf: V::Flag, cf: V::Flag, of: V::Flag)
         ensures { self.new ≡ record self.old { state = record self.old.state { flags = record { zero = zf; sign = sf; carry = cf; overflow = of } } } }
     {

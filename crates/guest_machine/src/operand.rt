@@ -1,6 +1,6 @@
 ghost use Rattle.std.specs.Prelude.{◌≡◌, ◌<◌, ◌%◌, if◌then◌else◌};
 ghost use Rattle.guest_machine.specs.Access.{IsSize};
-ghost use Rattle.guest_machine.specs.Operand.{factor_of, size_of, charged, base_of, index_of, address_of, kept, kept_byte, carried_as, carried};
+ghost use Rattle.guest_machine.specs.Operand.{factor_of, size_of, charged, unmoved, moved_by, base_of, index_of, address_of, kept, kept_byte, carried_as, carried};
 ghost use Rattle.guest_machine.specs.Ranges.{range_accesses};
 
 use crate::cause::Cause;
@@ -35,7 +35,7 @@ pub(crate) fn size(width: Width) -> u8
 }
 
 /// Where an offset field stands, any other cause is a misuse of the field.
-fn charged<A: Copy>(field: Option<u64>, answer: Result<A, Cause>) -> Result<A, Cause>
+pub(crate) fn charged<A: Copy>(field: Option<u64>, answer: Result<A, Cause>) -> Result<A, Cause>
     ensures { result ≡ charged field answer }
 {
     match (field, answer) {
@@ -44,23 +44,46 @@ fn charged<A: Copy>(field: Option<u64>, answer: Result<A, Cause>) -> Result<A, C
     }
 }
 
+/// A number that stands in an instruction, where no base is added.
+pub(crate) fn unmoved<V: Values>(field: Option<u64>, number: u64) -> Result<u64, Cause>
+    ensures { result ≡ unmoved V.operations field number }
+{
+    match field {
+        None => Ok(number),
+        Some(_) => V::misused(number),
+    }
+}
+
+/// A base with a number that stands in an instruction.
+fn moved_by<V: Values>(field: Option<u64>, number: u64, word: V::Word) -> Result<u64, Cause>
+    ensures { result ≡ moved_by V.operations field number word }
+{
+    match field {
+        None => Ok(number.wrapping_add(V::number_of(word)?)),
+        Some(place) => V::moved(word, number, place),
+    }
+}
+
 /// The base of an address with the displacement.
 #[tactic(auto, unfolding(crate::specs::Operand::base_of))]
-fn base<V: Values>(frame: &Frame, registers: &Registers<V::Word>, base: Base) -> Result<u64, Cause>
-    ensures { result ≡ base_of V.operations frame.now registers.now base }
+fn base<V: Values>(
+    frame: &Frame,
+    registers: &Registers<V::Word>,
+    base: Base,
+) -> Result<u64, Cause>
+    ensures { result ≡ base_of V.operations frame.now.displacement_field frame.now.displacement frame.now.next registers.now base }
 {
-    match (frame.displacement_field, base) {
-        (None, Base::Absolute) => Ok(frame.displacement),
-        (None, Base::Register(name)) => {
-            let number = V::number_of(register(registers, name))?;
-            Ok(number.wrapping_add(frame.displacement))
+    match base {
+        Base::Absolute => unmoved::<V>(frame.displacement_field, frame.displacement),
+        Base::Register(name) => moved_by::<V>(
+            frame.displacement_field,
+            frame.displacement,
+            register(registers, name),
+        ),
+        Base::NextInstruction => {
+            let number = unmoved::<V>(frame.displacement_field, frame.displacement)?;
+            Ok(number.wrapping_add(frame.next))
         }
-        (None, Base::NextInstruction) => Ok(frame.next.wrapping_add(frame.displacement)),
-        (Some(place), Base::Register(name)) => {
-            V::moved(register(registers, name), frame.displacement, place)
-        }
-        (Some(_), Base::Absolute) => Err(Cause::Field),
-        (Some(_), Base::NextInstruction) => Err(Cause::Field),
     }
 }
 

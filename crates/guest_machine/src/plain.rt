@@ -68,6 +68,11 @@ impl Values for Plain {
     }
 
     #[tactic(auto, unfolding(crate::specs::Plain::plain_operations))]
+    fn misused(number: u64) -> Result<u64, Cause> {
+        Ok(number)
+    }
+
+    #[tactic(auto, unfolding(crate::specs::Plain::plain_operations))]
     fn byte(number: u8) -> u8 {
         number
     }

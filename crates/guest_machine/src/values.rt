@@ -52,6 +52,10 @@ pub trait Values {
     fn moved(base: Self::Word, field: u64, place: u64) -> Result<u64, Cause>
         ensures { result ≡ operations.moved base field place };
 
+    /// The number of an offset field that is used otherwise than added to a base.
+    fn misused(number: u64) -> Result<u64, Cause>
+        ensures { result ≡ operations.misused number };
+
     /// A number as a byte.
     fn byte(number: u8) -> Self::Byte
         ensures { result ≡ operations.byte number };

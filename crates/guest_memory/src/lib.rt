@@ -3,7 +3,11 @@
 
 mod bytes;
 mod memory;
+#[cfg(test)]
+mod processor;
 mod range;
+#[cfg(test)]
+mod rows;
 #[cfg(test)]
 mod tests;
 

@@ -1,0 +1,88 @@
+ghost use Rattle.std.specs.Prelude.{◌≡◌};
+ghost use Rattle.guest_machine.specs.Ranges.{range_accesses};
+ghost use Rattle.guest_machine.specs.Step.{jump_of, jump_if, nop_use, nop_of};
+ghost use Rattle.guest_machine.specs.Use.{Leaves, left};
+
+use crate::cause::Cause;
+use crate::effect::condition;
+use crate::frame::Frame;
+use crate::operand::address;
+use crate::slot::take_operand;
+use crate::space::Space;
+use crate::state::State;
+use crate::stop::Stop;
+use crate::uses::used;
+use crate::values::Values;
+use amd64_subset::{Condition, Operand, Target, Width};
+
+/// jmp
+#[tactic(auto, unfolding(crate::specs::Step::jump_of))]
+pub(crate) fn jump<V: Values, S: Space<V>>(
+    frame: &Frame,
+    target: &Target,
+    state: &mut State<V::Word, V::Flag>,
+    space: &S,
+) -> Result<(), Stop>
+    ensures { Leaves result (left state.old (S.memory space.now)) (left state.new (S.memory space.now)) (jump_of V.operations (range_accesses V.operations) frame.now state.old (S.memory space.now) target.now) }
+{
+    match target {
+        Target::Relative(distance) => {
+            state.place = frame.next.wrapping_add(*distance);
+            Ok(())
+        }
+        Target::Indirect(operand) => {
+            let it = take_operand::<V, S>(Width::Quad, frame, state, space, operand, Ok(0))?;
+            state.place = it.number;
+            Ok(())
+        }
+    }
+}
+
+/// jcc
+#[tactic(auto, unfolding(crate::specs::Step::jump_if))]
+pub(crate) fn jump_if<V: Values, S: Space<V>>(
+    frame: &Frame,
+    when: Condition,
+    distance: u64,
+    state: &mut State<V::Word, V::Flag>,
+    space: &S,
+) -> Result<(), Stop>
+    ensures { Leaves result (left state.old (S.memory space.now)) (left state.new (S.memory space.now)) (jump_if V.operations (range_accesses V.operations) frame.now state.old (S.memory space.now) when distance) }
+{
+    let holds = used(state.place, condition::<V>(when, &state.flags))?;
+    state.place = if holds {
+        frame.next.wrapping_add(distance)
+    } else {
+        frame.next
+    };
+    Ok(())
+}
+
+/// What a nop uses: nothing, but where an offset field stands in its operand.
+fn nop_use<V: Values>(
+    frame: &Frame,
+    state: &State<V::Word, V::Flag>,
+    operand: &Option<Operand>,
+) -> Result<u64, Cause>
+    ensures { result ≡ nop_use V.operations frame.now state.now frame.now.displacement_field operand.now }
+{
+    match (frame.displacement_field, operand) {
+        (Some(_), Some(Operand::InMemory(memory))) => address::<V>(frame, state, memory),
+        _ => Ok(0),
+    }
+}
+
+/// nop and endbr64
+#[tactic(auto, unfolding(crate::specs::Step::nop_of))]
+pub(crate) fn nop<V: Values, S: Space<V>>(
+    frame: &Frame,
+    operand: &Option<Operand>,
+    state: &mut State<V::Word, V::Flag>,
+    space: &S,
+) -> Result<(), Stop>
+    ensures { Leaves result (left state.old (S.memory space.now)) (left state.new (S.memory space.now)) (nop_of V.operations (range_accesses V.operations) frame.now state.old (S.memory space.now) operand.now) }
+{
+    let _unused = used(state.place, nop_use::<V>(frame, state, operand))?;
+    state.place = frame.next;
+    Ok(())
+}

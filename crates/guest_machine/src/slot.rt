@@ -1,0 +1,148 @@
+ghost use Rattle.std.specs.Prelude.{◌≡◌, ◌<◌, IfOk};
+ghost use Rattle.guest_machine.specs.Arithmetic.{span_of};
+ghost use Rattle.guest_machine.specs.Operand.{size_of, number_at, weighed, taken_at, taken, put};
+ghost use Rattle.guest_machine.specs.Access.{load_of};
+ghost use Rattle.guest_machine.specs.Ranges.{range_accesses};
+ghost use Rattle.guest_machine.specs.Use.{cause_with, Leaves, left};
+
+use crate::arithmetic::low;
+use crate::cause::Cause;
+use crate::frame::Frame;
+use crate::operand::{address, size};
+use crate::space::Space;
+use crate::state::{State, register, set_register};
+use crate::stop::Stop;
+use crate::uses::{both, store, used};
+use crate::values::Values;
+use amd64_subset::{Operand, Register, Width};
+
+/// Where a result goes.
+#[derive(Clone, Copy, Debug)]
+pub enum Slot {
+    Register(Register),
+    /// An address.
+    Place(u64),
+}
+
+/// An operand that was read to be used, with what was used beside it.
+#[derive(Clone, Copy, Debug)]
+pub struct Taken {
+    pub slot: Slot,
+    pub number: u64,
+    pub other: u64,
+}
+
+/// A word's use at a width.
+#[tactic(auto, unfolding(crate::specs::Operand::number_at))]
+pub(crate) fn number_at<V: Values>(width: Width, word: V::Word) -> Result<u64, Cause>
+    ensures value { result ≡ number_at V.operations width word }
+    ensures small { IfOk result (λ number. number < span_of width) }
+{
+    Ok(low(width, V::number_of(word)?))
+}
+
+/// A cause beside another use.
+fn with(cause: Cause, other: Result<u64, Cause>) -> Cause
+    ensures { result ≡ cause_with cause other }
+{
+    match other {
+        Ok(_) => cause,
+        Err(other) => cause.first(other),
+    }
+}
+
+/// The use of a word that is loaded, beside another use.
+fn weighed<V: Values, S: Space<V>>(
+    width: Width,
+    here: u64,
+    space: &S,
+    place: u64,
+    other: Result<u64, Cause>,
+) -> Result<(u64, u64), Stop>
+    ensures value { result ≡ weighed V.operations (range_accesses V.operations) width here (load_of V.operations (range_accesses V.operations) (S.memory space.now) place (size_of width)) other }
+    ensures small { IfOk result (λ parts. parts.0 < span_of width) }
+    ensures other { IfOk result (λ parts. other ≡ Ok parts.1) }
+{
+    match (space.load(place, size(width)), other) {
+        (Some(word), other) => used(here, both(number_at::<V>(width, word), other)),
+        (None, Ok(_)) => Err(Stop::Address(here)),
+        (None, Err(cause)) => Err(Stop::Unclean(here, cause)),
+    }
+}
+
+/// What stands at an address, to be used beside another use.
+#[tactic(auto, unfolding(crate::specs::Operand::taken_at))]
+fn take_at<V: Values, S: Space<V>>(
+    width: Width,
+    here: u64,
+    space: &S,
+    address: Result<u64, Cause>,
+    other: Result<u64, Cause>,
+) -> Result<Taken, Stop>
+    ensures value { result ≡ taken_at V.operations (range_accesses V.operations) width here (S.memory space.now) address other }
+    ensures small { IfOk result (λ it. it.number < span_of width) }
+    ensures other { IfOk result (λ it. other ≡ Ok it.other) }
+{
+    match address {
+        Err(cause) => Err(Stop::Unclean(here, with(cause, other))),
+        Ok(place) => {
+            let (number, other) = weighed::<V, S>(width, here, space, place, other)?;
+            Ok(Taken {
+                slot: Slot::Place(place),
+                number,
+                other,
+            })
+        }
+    }
+}
+
+/// What an operand holds, to be used beside another use.
+#[tactic(auto, unfolding(crate::specs::Operand::taken))]
+pub(crate) fn take_operand<V: Values, S: Space<V>>(
+    width: Width,
+    frame: &Frame,
+    state: &State<V::Word, V::Flag>,
+    space: &S,
+    operand: &Operand,
+    other: Result<u64, Cause>,
+) -> Result<Taken, Stop>
+    ensures value { result ≡ taken V.operations (range_accesses V.operations) width frame.now state.now (S.memory space.now) operand.now other }
+    ensures small { IfOk result (λ it. it.number < span_of width) }
+    ensures other { IfOk result (λ it. other ≡ Ok it.other) }
+{
+    match operand {
+        Operand::Register(name) => {
+            let number = number_at::<V>(width, register(&state.registers, *name));
+            let (number, other) = used(state.place, both(number, other))?;
+            Ok(Taken {
+                slot: Slot::Register(*name),
+                number,
+                other,
+            })
+        }
+        Operand::InMemory(memory) => {
+            let address = address::<V>(frame, state, memory);
+            take_at::<V, S>(width, state.place, space, address, other)
+        }
+    }
+}
+
+/// Puts a result into its place.
+#[tactic(auto, unfolding(crate::specs::Operand::put))]
+pub(crate) fn put<V: Values, S: Space<V>>(
+    width: Width,
+    slot: Slot,
+    word: V::Word,
+    state: &mut State<V::Word, V::Flag>,
+    space: &mut S,
+) -> Result<(), Stop>
+    ensures { Leaves result (left state.old (S.memory space.old)) (left state.new (S.memory space.new)) (put V.operations (range_accesses V.operations) width slot word state.old (S.memory space.old)) }
+{
+    match slot {
+        Slot::Register(name) => {
+            set_register(&mut state.registers, name, word);
+            Ok(())
+        }
+        Slot::Place(place) => store::<V, S>(space, state.place, place, size(width), word),
+    }
+}
