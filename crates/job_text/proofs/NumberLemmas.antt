@@ -36,8 +36,8 @@ fits base ds = is_numeral base ds && nat_lt (digits_value base ds) (2 ^ 64)
 fits_tested : (base : ℕ) (ds : List ℕ) → IsNumeral base ds × (digits_value base ds < 2 ^ 64) → fits base ds ≡ true
 fits_tested base ds h =
     together (is_numeral base ds) (nat_lt (digits_value base ds) (2 ^ 64))
-      (together (not (length ds == 0)) (list_all (λ c. nat_lt (digit_value c) base) ds) (some_bytes (length ds) h.0.0) (digits_tested base ds h.0.1))
-      (lt-ltb (digits_value base ds) (2 ^ 64) h.1)
+    (together (not (length ds == 0)) (list_all (λ c. nat_lt (digit_value c) base) ds) (some_bytes (length ds) h.0.0) (digits_tested base ds h.0.1))
+    (lt-ltb (digits_value base ds) (2 ^ 64) h.1)
 
 fits_meant : (base : ℕ) (ds : List ℕ) → fits base ds ≡ true → IsNumeral base ds × (digits_value base ds < 2 ^ 64)
 fits_meant base ds e =
@@ -61,9 +61,9 @@ unfolding numeral
 numeral_plus base [] b e = absurd (false≢true e)
 numeral_plus base (c ∷ cs) b e =
     none_unless (fits base (c ∷ cs)) (digits_value base (c ∷ cs)) (λ t.
-      let digit = (fits_meant base (c ∷ cs) t).0.1.0 in
-      let plus : c ≡ 43 = grind (arith, nat_tests) in
-      plus_no_digit base c b plus digit)
+    let digit = (fits_meant base (c ∷ cs) t).0.1.0 in
+    let plus : c ≡ 43 = grind (arith, nat_tests) in
+    plus_no_digit base c b plus digit)
   where
     plus_no_digit : (base c : ℕ) → base ≤ 36 → c ≡ 43 → digit_value c < base → ⊥
     plus_no_digit base c b e h = let small : 36 < base = subst (λ (x : ℕ). digit_value x < base) e h in omega arith

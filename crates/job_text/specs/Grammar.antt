@@ -69,9 +69,13 @@ is_name_byte b =
 abbrev pub has_name_bytes : List ℕ → Bool
 has_name_bytes word = list_all is_name_byte word
 
+-- 1 to 64 bytes
+abbrev pub has_name_length : List ℕ → Bool
+has_name_length word = nat_le 1 (length word) && nat_le (length word) 64
+
 -- the name of an image: 1 to 64 such bytes
 abbrev pub is_image_name : List ℕ → Bool
-is_image_name word = nat_le 1 (length word) && nat_le (length word) 64 && has_name_bytes word
+is_image_name word = has_name_length word && has_name_bytes word
 
 -- the name of an object or a symbol: at most 255 bytes
 abbrev pub is_short_name : List ℕ → Bool

@@ -1,7 +1,7 @@
 //! What the words of a line begin.
 
 ghost use Rattle.std.specs.Prelude.{◌≡◌};
-ghost use Rattle.job_text.specs.Grammar.{begins_with_digit, has_name_bytes, has_its_words, heading_of, is_image_name, is_name_byte, is_short_name, kind_heading, verb_heading};
+ghost use Rattle.job_text.specs.Grammar.{begins_with_digit, has_name_bytes, has_name_length, has_its_words, heading_of, is_image_name, is_name_byte, is_short_name, kind_heading, verb_heading};
 
 use crate::images::ImageKind;
 use crate::words::Words;
@@ -116,7 +116,19 @@ pub(crate) fn has_its_words(heading: Heading, count: usize) -> bool
 pub(crate) fn is_image_name(word: &str) -> bool
     ensures { result ≡ is_image_name word.now }
 {
-    0 < word.len() && word.len() <= 64 && word.as_bytes().iter().all(|byte| is_name_byte(*byte))
+    has_name_length(word) && has_name_bytes(word)
+}
+
+fn has_name_length(word: &str) -> bool
+    ensures { result ≡ has_name_length word.now }
+{
+    1 <= word.len() && word.len() <= 64
+}
+
+fn has_name_bytes(word: &str) -> bool
+    ensures { result ≡ has_name_bytes word.now }
+{
+    word.as_bytes().iter().all(|byte| is_name_byte(*byte))
 }
 
 fn is_name_byte(byte: u8) -> bool

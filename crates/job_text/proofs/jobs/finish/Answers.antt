@@ -7,7 +7,7 @@ use Rattle.job_text.proofs.jobs.finish.Goals as goal
 
 pub invariant_of-result : goal.invariant_of-result
 invariant_of-result c =
-    job_sizes _ c.in-Some.program _ _ _ c.draft.invariant c.in-Some.is c.in_ok-images.ensures c.unwrap_or.ensures (c.in_ok-lines.ensures.len ∙ sym (length-map c.draft.inside.lines.items (λ lines. lines.items)))
+    job_sizes _ c.in-Some.program _ _ _ c.draft.invariant.within c.in-Some.is c.in_ok-images.ensures c.unwrap_or.ensures (c.in_ok-lines.ensures.len ∙ sym (length-map c.draft.inside.lines.items (λ lines. lines.items)))
 
 pub returns : goal.returns
 returns c =
