@@ -1,7 +1,7 @@
 //! A job as far as it is read.
 
 ghost use Rattle.std.specs.Prelude.{◌≡◌, ◌≤◌, ◌<◌, ◌++◌, ◌∷◌, ◌||◌, ◌&&◌, [], false, Some, is_some, IfOk, IfSome, IsTrue, OnOk, None, length, map, replicate, drop};
-ghost use Rattle.job_text.specs.Drafts.{IsLineAnswer, IsOrderAnswer, IsRead, action_fault, action_of, fault_in_words, fault_under, has_long_object, image_count, is_image, is_miscounted, is_program, nothing_declared, place_of, symbol_fault, thread_named, with_heading, with_image, with_words};
+ghost use Rattle.job_text.specs.Drafts.{IsLineAnswer, IsOrderAnswer, IsRead, action_fault, action_of, fault_in_words, fault_under, has_long_object, image_count, is_image, is_miscounted, is_program, nothing_declared, place_of, symbol_fault, thread_named, with_heading, with_image, with_line, with_words};
 ghost use Rattle.job_text.specs.Grammar.{heading_of};
 ghost use Rattle.job_text.specs.Words.{word_at, words_of};
 ghost use Rattle.job_text.specs.declared.grammar.Heading.TheVariants as heading;
@@ -293,8 +293,18 @@ impl<'a> Draft<'a> {
         let Some(place) = self.place_of(words.at(2)) else {
             return Err(Flaw::Kind(JobFaultKind::Name));
         };
+        self.add_line(thread, Plan { place, action })?;
+        Ok(())
+    }
+
+    /// Adds a line to those of its thread.
+    fn add_line(&mut self, thread: u32, plan: Plan) -> Result<(), AllocError>
+        requires some { 1 ≤ thread }
+        requires declared { thread ≤ length self.old.lines }
+        ensures { OnOk result (self.new ≡ with_line thread plan self.old) }
+    {
         let lines = &mut self.lines[thread as usize - 1];
-        lines.push(Plan { place, action })?;
+        lines.push(plan)?;
         Ok(())
     }
 
