@@ -9,7 +9,7 @@ use Rattle.std.specs.declared.alloc.Global.{Global}
 use Rattle.std.specs.Str.{bytes_eq}
 use Rattle.job_text.specs.Grammar.{has_its_words, heading_of, is_image_name, is_short_name}
 use Rattle.job_text.specs.Numbers.{number, number_within}
-use Rattle.job_text.specs.Words.{is_text, word_at, words_of}
+use Rattle.job_text.specs.Words.{is_skipped, is_text, word_at, words_of}
 use Rattle.job_text.specs.declared.draft.Place.{Place}
 use Rattle.job_text.specs.declared.draft.Place.TheVariants as place
 use Rattle.job_text.specs.declared.draft.Plan.{Plan}
@@ -182,9 +182,12 @@ fault_under d number None words = Some kind.Word
 fault_under d number (Some heading) words =
     if is_miscounted d number heading (length words) then Some kind.Count else fault_in_words d heading words
 
--- the fault of a line that is not skipped, if it has one: the first of the kinds
+-- the fault of a line, if it has one: the first of the kinds; a skipped line has none
 unfoldable pub fault_of : Declared → ℕ → List ℕ → Option JobFaultKind
-fault_of d number line = if is_text line then fault_under d number (heading_of (words_of line)) (words_of line) else Some kind.NotText
+fault_of d number line =
+    if is_skipped line then None
+    else if is_text line then fault_under d number (heading_of (words_of line)) (words_of line)
+    else Some kind.NotText
 
 -- the number that a word of a line without fault writes
 abbrev pub number_at : ℕ → List (List ℕ) → ℕ
@@ -234,9 +237,9 @@ abbrev pub with_heading : Option Heading → List (List ℕ) → Declared → De
 with_heading None words d = d
 with_heading (Some heading) words d = with_words heading words d
 
--- what a line without fault adds
+-- what a line without fault adds; a skipped line adds nothing
 unfoldable pub with_text : List ℕ → Declared → Declared
-with_text line d = with_heading (heading_of (words_of line)) (words_of line) d
+with_text line d = if is_skipped line then d else with_heading (heading_of (words_of line)) (words_of line) d
 
 -- a value is read where there is no fault; want of memory may come in place of any answer
 abbrev pub IsRead : {X : Type 0} → Option JobFaultKind → X → Result X Flaw → Type 0

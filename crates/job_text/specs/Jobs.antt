@@ -1,11 +1,13 @@
 -- A job, as contracts see it, and how it is made of what its lines declare.
 use Rattle.std.specs.Prelude.{◌≡◌, ℕ, ◌+◌, ◌≤◌, ◌<◌, ◌^◌, List, [], ◌∷◌, ◌++◌, length, map, Option, Some, None, unwrap_or, Result, Ok, Err}
-use Rattle.job_text.specs.Drafts.{Declared}
+use Rattle.job_text.specs.Drafts.{Declared, fault_of, nothing_declared, with_text}
+use Rattle.job_text.specs.Words.{lines_of}
 use Rattle.job_text.specs.declared.draft.Place.{Place}
 use Rattle.job_text.specs.declared.draft.Place.TheVariants.{Program, Start, Late}
 use Rattle.job_text.specs.declared.draft.Plan.{Plan}
 use Rattle.job_text.specs.declared.fault.JobFault.{JobFault}
 use Rattle.job_text.specs.declared.fault.JobFault.TheVariants.{At, OutOfMemory}
+use Rattle.job_text.specs.declared.fault.JobFaultKind.{JobFaultKind}
 use Rattle.job_text.specs.declared.fault.JobFaultKind.TheVariants.{NoExe}
 use Rattle.job_text.specs.declared.images.Image.{Image}
 use Rattle.job_text.specs.declared.thread_lines.ThreadLine.{ThreadLine}
@@ -59,6 +61,21 @@ job_of_program (Some program) d = Ok (job_with program d)
 -- the job that the lines declare
 abbrev pub job_declared : Declared → Result JobParts JobFault
 job_declared d = job_of_program d.program d
+
+-- the fault, if there is one; else the rest
+abbrev pub fault_or : ℕ → Option JobFaultKind → Result JobParts JobFault → Result JobParts JobFault
+fault_or number None rest = rest
+fault_or number (Some kind) rest = Err (At number kind)
+
+-- the job that these lines make, the first of them with its number, after others that declared d; or
+-- the fault of the first faulty line
+unfoldable pub job_from : Declared → ℕ → List (List ℕ) → Result JobParts JobFault
+job_from d number [] = job_declared d
+job_from d number (line ∷ more) = fault_or number (fault_of d number line) (job_from (with_text line d) (number + 1) more)
+
+-- the job that a text spells, or its first fault
+unfoldable pub job_of : List ℕ → Result JobParts JobFault
+job_of text = job_from nothing_declared 1 (lines_of text)
 
 -- an answer is what it should be, but that want of memory may come in place of any
 abbrev pub IsAnswer : Result JobParts JobFault → Result JobParts JobFault → Type 0

@@ -1,4 +1,5 @@
 pub mod Drafts
+pub mod Flaws
 pub mod Grammar
 pub mod Jobs
 pub mod Kinds

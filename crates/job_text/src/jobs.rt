@@ -2,7 +2,8 @@
 
 ghost use Rattle.std.specs.Prelude.{◌≡◌, ◌≤◌, ◌<◌, ◌^◌, [], IfOk, length, map, unwrap_or};
 ghost use Rattle.std.specs.Option.{option_map};
-ghost use Rattle.job_text.specs.Jobs.{IsAnswer, in_image_order, job_declared, number_of, numbered_line};
+ghost use Rattle.job_text.specs.Drafts.{IsLineAnswer, fault_of, with_text};
+ghost use Rattle.job_text.specs.Jobs.{IsAnswer, in_image_order, job_declared, job_of, number_of, numbered_line};
 
 use crate::draft::{Draft, Place, Plan};
 use crate::fault::{Flaw, JobFault, JobFaultKind};
@@ -42,7 +43,9 @@ impl Model for Job {
 
 impl Job {
     /// Reads a job.
-    pub fn read(alloc: Global, bytes: &[u8]) -> Result<Job, JobFault> {
+    pub fn read(alloc: Global, bytes: &[u8]) -> Result<Job, JobFault>
+        ensures { IsAnswer (job_of bytes.now) result }
+    {
         let mut draft = Draft::new(alloc)?;
         for (index, line) in bytes.split(|byte| *byte == b'\n').enumerate() {
             let number = index as u64 + 1;
@@ -99,12 +102,16 @@ impl Job {
     }
 }
 
+/// Reads the next line.
+#[tactic(auto, unfolding(crate::specs::Drafts::fault_of, crate::specs::Drafts::with_text))]
 fn read_line<'a>(
     alloc: Global,
     draft: &mut Draft<'a>,
     number: u64,
     line: &'a [u8],
-) -> Result<(), Flaw> {
+) -> Result<(), Flaw>
+    ensures { IsLineAnswer (fault_of draft.old number line.now) (with_text line.now draft.old) draft.new result }
+{
     if is_skipped(line) {
         return Ok(());
     }
