@@ -1,12 +1,13 @@
 -- What the lines of a job that were read so far declare, what is wrong with the next line, and what
 -- it adds.
-use Rattle.std.specs.Prelude.{◌≡◌, ℕ, ◌+◌, ◌-◌, ◌^◌, ◌≤◌, ◌<◌, ◌==◌, Bool, true, false, not, ◌&&◌, ◌||◌, nat_lt, if◌then◌else◌, List, [], ◌∷◌, ◌++◌, length, drop, map, replicate, slice_set, slice_index_or, Option, Some, None, is_some, is_none, unwrap_or, Result, Ok, Err, Vec}
+use Rattle.std.specs.Prelude.{◌≡◌, ℕ, ◌+◌, ◌-◌, ◌^◌, ◌≤◌, ◌<◌, ◌==◌, Bool, true, false, not, ◌&&◌, ◌||◌, nat_lt, if◌then◌else◌, IsTrue, List, [], ◌∷◌, ◌++◌, length, drop, map, replicate, slice_set, slice_index_or, Option, Some, None, is_some, is_none, unwrap_or, Result, Ok, Err, Vec}
 use Rattle.std.specs.Borrow.{Bor}
 use Rattle.std.specs.HashMap.{HashMap, get_by}
-use Rattle.std.specs.List.{list_any, filter_map, position_from}
+use Rattle.std.specs.List.{All, list_any, filter_map, position_from}
 use Rattle.std.specs.Option.{option_map}
 use Rattle.std.specs.declared.alloc.Global.{Global}
 use Rattle.std.specs.Str.{bytes_eq}
+use Rattle.job_text.specs.Actions.{IsAction, IsThread}
 use Rattle.job_text.specs.Grammar.{has_its_words, heading_of, is_image_name, is_short_name}
 use Rattle.job_text.specs.Numbers.{number, number_within}
 use Rattle.job_text.specs.Words.{is_skipped, is_text, word_at, words_of}
@@ -86,10 +87,31 @@ place_of d name = place_among d.program d.starts d.lates name
 abbrev pub FindsPlaces : {S : Type 0} → HashMap (Bor (List ℕ)) Place S → Declared → Type 0
 FindsPlaces names d = (name : List ℕ) → get_by (λ key. bytes_eq name key.now) names ≡ place_of d name
 
+-- a place where an image stands
+abbrev pub IsPlace : Option Image → List Image → List Image → Place → Type 0
+IsPlace program starts lates place.Program = IsTrue (is_some program)
+IsPlace program starts lates (place.Start index) = index < length starts
+IsPlace program starts lates (place.Late index) = index < length lates
+
+-- a line of a thread whose image is declared
+pub record IsPlan (program : Option Image) (starts lates : List Image) (plan : Plan) : Type 0 where
+  pub placed : IsPlace program starts lates plan.place
+  pub shown : IsAction plan.action
+
+-- the lines of all threads are such
+abbrev pub ArePlans : Declared → Type 0
+ArePlans d = All (All (IsPlan d.program d.starts d.lates)) d.lines
+
+-- an order names declared threads
+abbrev pub IsOrder : Declared → Type 0
+IsOrder d = (order : List ℕ) → d.order ≡ Some order → All (IsThread (length d.lines)) order
+
 -- what is true of a draft at any time
 pub record IsDraft {S : Type 0} (names : HashMap (Bor (List ℕ)) Place S) (d : Declared) : Type 0 where
   pub within : IsWithinLimits d
   pub places : FindsPlaces names d
+  pub plans : ArePlans d
+  pub order_named : IsOrder d
 
 -- the thread that a word names: it is one of those declared so far
 abbrev pub thread_named : Declared → List ℕ → Option ℕ

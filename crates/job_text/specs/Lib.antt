@@ -1,6 +1,8 @@
+pub mod Actions
 pub mod Drafts
 pub mod Flaws
 pub mod Grammar
+pub mod Images
 pub mod Jobs
 pub mod Kinds
 pub mod Numbers

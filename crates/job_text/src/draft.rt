@@ -1,7 +1,8 @@
 //! A job as far as it is read.
 
-ghost use Rattle.std.specs.Prelude.{◌≡◌, ◌≤◌, ◌<◌, ◌++◌, ◌∷◌, ◌||◌, ◌&&◌, [], false, Some, is_some, IfOk, IfSome, IsTrue, OnOk, None, length, map, replicate, drop};
-ghost use Rattle.job_text.specs.Drafts.{IsLineAnswer, IsOrderAnswer, IsRead, action_fault, action_of, fault_in_words, fault_under, has_long_object, image_count, is_image, is_miscounted, is_program, nothing_declared, place_of, symbol_fault, thread_named, with_heading, with_image, with_line, with_words};
+ghost use Rattle.std.specs.Prelude.{All, ◌≡◌, ◌≤◌, ◌<◌, ◌++◌, ◌∷◌, ◌||◌, ◌&&◌, [], false, Some, is_some, IfOk, IfSome, IsTrue, OnOk, None, length, map, replicate, drop};
+ghost use Rattle.job_text.specs.Actions.{IsAction, IsThread};
+ghost use Rattle.job_text.specs.Drafts.{IsLineAnswer, IsOrderAnswer, IsPlace, IsPlan, IsRead, action_fault, action_of, fault_in_words, fault_under, has_long_object, image_count, is_image, is_miscounted, is_program, nothing_declared, place_of, symbol_fault, thread_named, with_heading, with_image, with_line, with_words};
 ghost use Rattle.job_text.specs.Grammar.{heading_of};
 ghost use Rattle.job_text.specs.Words.{word_at, words_of};
 ghost use Rattle.job_text.specs.declared.grammar.Heading.TheVariants as heading;
@@ -172,7 +173,8 @@ impl<'a> Draft<'a> {
 
     /// The place of the image of a name.
     fn place_of(&self, name: &'a str) -> Option<Place>
-        ensures { result ≡ place_of self.now name.now }
+        ensures value { result ≡ place_of self.now name.now }
+        ensures place { IfSome result (IsPlace self.now.program self.now.starts self.now.lates) }
     {
         self.names.get(&name).copied()
     }
@@ -271,7 +273,8 @@ impl<'a> Draft<'a> {
 
     /// The threads that an order names.
     fn threads_of(&self, alloc: Global, words: &Words<'a>) -> Result<Vec<u32>, Flaw>
-        ensures { IsOrderAnswer self.now words.now result }
+        ensures answer { IsOrderAnswer self.now words.now result }
+        ensures named { IfOk result (λ order. All (IsThread (length self.now.lines)) order.items) }
     {
         let mut order = Vec::new(alloc);
         for place in 1..words.count() {
@@ -301,6 +304,7 @@ impl<'a> Draft<'a> {
     fn add_line(&mut self, thread: u32, plan: Plan) -> Result<(), AllocError>
         requires some { 1 ≤ thread }
         requires declared { thread ≤ length self.old.lines }
+        requires plan { IsPlan self.old.program self.old.starts self.old.lates plan }
         ensures { OnOk result (self.new ≡ with_line thread plan self.old) }
     {
         let lines = &mut self.lines[thread as usize - 1];
@@ -350,7 +354,8 @@ fn is_program(kind: ImageKind) -> bool
 
 /// What a line of a thread does, but for its image.
 fn read_action(alloc: Global, verb: Verb, words: &Words) -> Result<Action, Flaw>
-    ensures { IsRead (action_fault verb words.now) (action_of verb words.now) result }
+    ensures answer { IsRead (action_fault verb words.now) (action_of verb words.now) result }
+    ensures shown { IfOk result IsAction }
 {
     match verb {
         Verb::Call => read_call(alloc, words),
@@ -361,7 +366,8 @@ fn read_action(alloc: Global, verb: Verb, words: &Words) -> Result<Action, Flaw>
 }
 
 fn read_call(alloc: Global, words: &Words) -> Result<Action, Flaw>
-    ensures { IsRead (action_fault verb.Call words.now) (action_of verb.Call words.now) result }
+    ensures answer { IsRead (action_fault verb.Call words.now) (action_of verb.Call words.now) result }
+    ensures shown { IfOk result IsAction }
 {
     let Some(a) = number(words.at(4)) else {
         return Err(Flaw::Kind(JobFaultKind::Number));
@@ -377,7 +383,8 @@ fn read_call(alloc: Global, words: &Words) -> Result<Action, Flaw>
 }
 
 fn read_peek(alloc: Global, words: &Words) -> Result<Action, Flaw>
-    ensures { IsRead (action_fault verb.Peek words.now) (action_of verb.Peek words.now) result }
+    ensures answer { IsRead (action_fault verb.Peek words.now) (action_of verb.Peek words.now) result }
+    ensures shown { IfOk result IsAction }
 {
     let Some(length) = number_within(words.at(4), 0, MAX_PEEK) else {
         return Err(Flaw::Kind(JobFaultKind::Number));
