@@ -144,9 +144,9 @@ pub place_found : (program : Option Image) (starts lates : List Image) (name : L
 unfolding place_among
 place_found program starts lates name place e =
     program_found program name _ place starts lates
-      (λ h. start_found (position_from (is_named name) 0 starts) _ place program starts lates (λ k f. omega (arith, position_inside (is_named name) 0 k starts f))
-        (λ r. late_found (position_from (is_named name) 0 lates) place program starts lates (λ k f. omega (arith, position_inside (is_named name) 0 k lates f)) r) h)
-      e
+    (λ h. start_found (position_from (is_named name) 0 starts) _ place program starts lates (λ k f. omega (arith, position_inside (is_named name) 0 k starts f))
+    (λ r. late_found (position_from (is_named name) 0 lates) place program starts lates (λ k f. omega (arith, position_inside (is_named name) 0 k lates f)) r) h)
+    e
 
 pub if_found : (o : Option Place) (program : Option Image) (starts lates : List Image) (name : List ℕ) → o ≡ place_among program starts lates name → IfSome o (IsPlace program starts lates)
 if_found None program starts lates name e = tt
@@ -158,7 +158,7 @@ plans_kept : (program program' : Option Image) (starts starts' lates lates' : Li
     → All (All (IsPlan program starts lates)) lines → All (All (IsPlan program' starts' lates')) lines
 plans_kept program program' starts starts' lates lates' lines keep all =
     All-weaker (All (IsPlan program starts lates)) (All (IsPlan program' starts' lates'))
-      (λ plans h. All-weaker (IsPlan program starts lates) (IsPlan program' starts' lates') (λ plan p. record { placed = keep plan.place p.placed; shown = p.shown }) plans h) lines all
+    (λ plans h. All-weaker (IsPlan program starts lates) (IsPlan program' starts' lates') (λ plan p. record { placed = keep plan.place p.placed; shown = p.shown }) plans h) lines all
 
 kept_by_start : (program : Option Image) (starts now lates : List Image) (image : Image) → now ≡ starts ++ image ∷ [] → (place : Place) → IsPlace program starts lates place → IsPlace program now lates place
 kept_by_start program starts now lates image e Program h = h

@@ -9,6 +9,7 @@ use Rattle.std.specs.declared.alloc.Global.{Global}
 use Rattle.std.specs.Str.{bytes_eq}
 use Rattle.job_text.specs.Actions.{IsAction, IsThread}
 use Rattle.job_text.specs.Grammar.{has_its_words, heading_of, is_image_name, is_short_name}
+pub use Rattle.job_text.specs.Images.{is_named}
 use Rattle.job_text.specs.Numbers.{number, number_within}
 use Rattle.job_text.specs.Words.{is_skipped, is_text, word_at, words_of}
 use Rattle.job_text.specs.declared.draft.Place.{Place}
@@ -59,10 +60,6 @@ pub record IsWithinLimits (d : Declared) : Type 0 where
   pub few_threads : length d.lines ≤ 64
   pub one_thread : d.has_threads ≡ false → length d.lines ≡ 1
   pub fuel_within : (steps : ℕ) → d.fuel ≡ Some steps → (1 ≤ steps) × (steps < 2 ^ 32)
-
--- whether this is the image's name
-abbrev pub is_named : List ℕ → Image → Bool
-is_named name image = bytes_eq name image.name
 
 -- the first of two that is there
 abbrev pub or_else : Option Place → Option Place → Option Place

@@ -1,6 +1,9 @@
 -- A job, as contracts see it, and how it is made of what its lines declare.
-use Rattle.std.specs.Prelude.{◌≡◌, ℕ, ◌+◌, ◌≤◌, ◌<◌, ◌^◌, List, [], ◌∷◌, ◌++◌, length, map, Option, Some, None, unwrap_or, Result, Ok, Err}
+use Rattle.std.specs.List.{All}
+use Rattle.std.specs.Prelude.{◌≡◌, ℕ, ◌+◌, ◌-◌, ◌≤◌, nat_lt, if◌then◌else◌, slice_index_or, ◌<◌, ◌^◌, List, [], ◌∷◌, ◌++◌, length, map, Option, Some, None, unwrap_or, Result, Ok, Err}
+use Rattle.job_text.specs.Actions.{IsAction, IsThread}
 use Rattle.job_text.specs.Drafts.{Declared, fault_of, nothing_declared, with_text}
+use Rattle.job_text.specs.Images.{IsImageNumber}
 use Rattle.job_text.specs.Words.{lines_of}
 use Rattle.job_text.specs.declared.draft.Place.{Place}
 use Rattle.job_text.specs.declared.draft.Place.TheVariants.{Program, Start, Late}
@@ -20,14 +23,29 @@ pub record JobParts : Type 0 where
   pub order : List ℕ
   pub lines : List (List ThreadLine)
 
--- what is true of each job: its sizes
-pub record HasJobSizes (images : List Image) (fuel : ℕ) (threads : ℕ) : Type 0 where
-  pub some_image : 1 ≤ length images
-  pub few_images : length images ≤ 64
-  pub some_thread : 1 ≤ threads
-  pub few_threads : threads ≤ 64
-  pub some_fuel : 1 ≤ fuel
-  pub little_fuel : fuel < 2 ^ 32
+-- the record of these parts
+abbrev pub job_parts : List Image → ℕ → List ℕ → List (List ThreadLine) → JobParts
+job_parts images fuel order lines = record { images = images; fuel = fuel; order = order; lines = lines }
+
+-- a line of a thread is about an image of the job
+pub record IsLineOf (images : List Image) (line : ThreadLine) : Type 0 where
+  pub image : IsImageNumber images line.image
+  pub shown : IsAction line.action
+
+-- what is true of each job
+pub record IsJob (job : JobParts) : Type 0 where
+  pub some_image : 1 ≤ length job.images
+  pub few_images : length job.images ≤ 64
+  pub some_thread : 1 ≤ length job.lines
+  pub few_threads : length job.lines ≤ 64
+  pub some_fuel : 1 ≤ job.fuel
+  pub little_fuel : job.fuel < 2 ^ 32
+  pub order_named : All (IsThread (length job.lines)) job.order
+  pub lines_placed : All (All (IsLineOf job.images)) job.lines
+
+-- the lines of a thread, and none of a thread that there is not
+abbrev pub lines_of_thread : JobParts → ℕ → List ThreadLine
+lines_of_thread job thread = if nat_lt 0 thread then slice_index_or job.lines (thread - 1) [] else []
 
 -- the number of an image, where so many images start with the program: the program is 1, then come
 -- the start images, then the late ones

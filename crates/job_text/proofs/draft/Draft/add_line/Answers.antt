@@ -12,7 +12,7 @@ invariant_of-self c =
     let inside : c.args.thread - 1 < length c.self.inside.lines.items = omega (arith, length-map c.self.inside.lines.items (λ lines. lines.items)) in
     let plans = plans_of_thread (λ lines. lines.items) (IsPlan c.self.inside.program c.self.inside.starts.items c.self.inside.lates.items) c.self.inside.lines.items (c.args.thread - 1) c.index_mut-lines.result.now inside c.index_mut-lines.ensures.value c.self.invariant.plans in
     draft_with_line (λ lines. lines.items) c.self.inside.names _ c.self.inside.lines.items (c.args.thread - 1) c.push.new.self refl c.self.invariant
-      (rw c.in_err-push.ensures.items plans)
+    (rw c.in_err-push.ensures.items plans)
 
 pub invariant_of-self-2 : goal.invariant_of-self-2
 invariant_of-self-2 c =
@@ -21,7 +21,7 @@ invariant_of-self-2 c =
     let plans = plans_of_thread (λ lines. lines.items) (IsPlan c.self.inside.program c.self.inside.starts.items c.self.inside.lates.items) c.self.inside.lines.items (c.args.thread - 1) c.index_mut-lines.result.now inside c.index_mut-lines.ensures.value c.self.invariant.plans in
     let plan = subst (λ (d : Declared). IsPlan d.program d.starts d.lates c.args.plan) (sym c.self.view_is) c.requires.plan in
     draft_with_line (λ lines. lines.items) c.self.inside.names _ c.self.inside.lines.items (c.args.thread - 1) c.push.new.self refl c.self.invariant
-      (rw c.in_ok-push.ensures.items (All-push (IsPlan c.self.inside.program c.self.inside.starts.items c.self.inside.lates.items) _ _ plans plan))
+    (rw c.in_ok-push.ensures.items (All-push (IsPlan c.self.inside.program c.self.inside.starts.items c.self.inside.lates.items) _ _ plans plan))
 
 pub returns : goal.returns
 returns c =
