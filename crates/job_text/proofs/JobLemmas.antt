@@ -7,7 +7,7 @@ use Rattle.std.proofs.lemmas.List.Elements.{All-get_or, All-map, All-nil, All-we
 use Rattle.std.specs.Borrow.{Bor}
 use Rattle.std.specs.HashMap.{HashMap}
 use Rattle.std.specs.List.{All, enumerate_from}
-use Rattle.job_text.specs.Actions.{IsThread}
+use Rattle.job_text.specs.Threads.{IsThread}
 use Rattle.job_text.specs.Drafts.{Declared, IsDraft, IsLineAnswer, IsPlace, IsPlan, fault_of, image_count, with_text}
 use Rattle.job_text.specs.Flaws.{fault_at}
 use Rattle.job_text.specs.Images.{IsImageNumber}
@@ -130,6 +130,7 @@ thread_placed job thread h = by_test (nat_lt 0 thread)
     by_place : (t : Bool) → ltb (thread - 1) (length job.lines) ≡ t → All (IsLineOf job.images) (slice_index_or job.lines (thread - 1) [])
     by_place true e = All-get_or (All (IsLineOf job.images)) job.lines (thread - 1) [] (ltb-true (thread - 1) (length job.lines) e) h.lines_placed
     by_place false e = subst (All (IsLineOf job.images)) (sym (get_or_past job.lines (thread - 1) [] (ltb-false (thread - 1) (length job.lines) e))) (All-nil (IsLineOf job.images))
+
     by_test : (t : Bool) → All (IsLineOf job.images) (cond t (slice_index_or job.lines (thread - 1) []) [])
     by_test true = by_place (ltb (thread - 1) (length job.lines)) refl
     by_test false = All-nil (IsLineOf job.images)

@@ -9,7 +9,3 @@ IsAction (Call symbol a b c) = Unit {0}
 IsAction Open = Unit {0}
 IsAction Close = Unit {0}
 IsAction (Peek symbol length) = length ≤ 4096
-
--- one of so many threads, which count from 1
-abbrev pub IsThread : ℕ → ℕ → Type 0
-IsThread threads thread = (1 ≤ thread) × (thread ≤ threads)

@@ -7,7 +7,8 @@ use Rattle.std.specs.List.{All, list_any, filter_map, position_from}
 use Rattle.std.specs.Option.{option_map}
 use Rattle.std.specs.declared.alloc.Global.{Global}
 use Rattle.std.specs.Str.{bytes_eq}
-use Rattle.job_text.specs.Actions.{IsAction, IsThread}
+use Rattle.job_text.specs.Actions.{IsAction}
+use Rattle.job_text.specs.Threads.{IsThread}
 use Rattle.job_text.specs.Grammar.{has_its_words, heading_of, is_image_name, is_short_name}
 pub use Rattle.job_text.specs.Images.{is_named}
 use Rattle.job_text.specs.Numbers.{number, number_within}

@@ -1,7 +1,8 @@
 -- A job, as contracts see it, and how it is made of what its lines declare.
 use Rattle.std.specs.List.{All}
 use Rattle.std.specs.Prelude.{◌≡◌, ℕ, ◌+◌, ◌-◌, ◌≤◌, nat_lt, if◌then◌else◌, slice_index_or, ◌<◌, ◌^◌, List, [], ◌∷◌, ◌++◌, length, map, Option, Some, None, unwrap_or, Result, Ok, Err}
-use Rattle.job_text.specs.Actions.{IsAction, IsThread}
+use Rattle.job_text.specs.Actions.{IsAction}
+use Rattle.job_text.specs.Threads.{IsThread, of_thread}
 use Rattle.job_text.specs.Drafts.{Declared, fault_of, nothing_declared, with_text}
 use Rattle.job_text.specs.Images.{IsImageNumber}
 use Rattle.job_text.specs.Words.{lines_of}
@@ -45,7 +46,7 @@ pub record IsJob (job : JobParts) : Type 0 where
 
 -- the lines of a thread, and none of a thread that there is not
 abbrev pub lines_of_thread : JobParts → ℕ → List ThreadLine
-lines_of_thread job thread = if nat_lt 0 thread then slice_index_or job.lines (thread - 1) [] else []
+lines_of_thread job thread = of_thread job.lines thread
 
 -- the number of an image, where so many images start with the program: the program is 1, then come
 -- the start images, then the late ones

@@ -8,4 +8,5 @@ pub mod Kinds
 pub mod Numbers
 pub mod OutcomeWords
 pub mod Texts
+pub mod Threads
 pub mod Words

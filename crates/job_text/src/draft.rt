@@ -1,7 +1,8 @@
 //! A job as far as it is read.
 
 ghost use Rattle.std.specs.Prelude.{All, ◌≡◌, ◌≤◌, ◌<◌, ◌++◌, ◌∷◌, ◌||◌, ◌&&◌, [], false, Some, is_some, IfOk, IfSome, IsTrue, OnOk, None, length, map, replicate, drop};
-ghost use Rattle.job_text.specs.Actions.{IsAction, IsThread};
+ghost use Rattle.job_text.specs.Actions.{IsAction};
+ghost use Rattle.job_text.specs.Threads.{IsThread};
 ghost use Rattle.job_text.specs.Drafts.{IsLineAnswer, IsOrderAnswer, IsPlace, IsPlan, IsRead, action_fault, action_of, fault_in_words, fault_under, has_long_object, image_count, is_image, is_miscounted, is_program, nothing_declared, place_of, symbol_fault, thread_named, with_heading, with_image, with_line, with_words};
 ghost use Rattle.job_text.specs.Grammar.{heading_of};
 ghost use Rattle.job_text.specs.Words.{word_at, words_of};
@@ -9,10 +10,11 @@ ghost use Rattle.job_text.specs.declared.grammar.Heading.TheVariants as heading;
 ghost use Rattle.job_text.specs.declared.grammar.Verb.TheVariants as verb;
 
 use crate::fault::{Flaw, JobFaultKind};
-use crate::grammar::{Heading, Verb, has_its_words, heading_of, is_image_name, is_short_name};
+use crate::grammar::{Heading, Verb, has_its_words, heading_of, is_image_name};
 use crate::images::{Image, ImageKind};
-use crate::numbers::{number, number_within};
-use crate::spelling::{Name, Names};
+use crate::numbers::number_within;
+use crate::operands::{has_long_object, objects_of, read_action};
+use crate::spelling::Name;
 use crate::thread_lines::Action;
 use crate::words::Words;
 use std::alloc::{AllocError, Global};
@@ -27,8 +29,6 @@ const MAX_LINES: u64 = 65_536;
 const MAX_THREADS: u64 = 64;
 
 const MAX_FUEL: u64 = 0xffff_ffff;
-
-const MAX_PEEK: u64 = 4_096;
 
 /// Where an image stands: each group of images is counted from 0 in the order of the job.
 #[derive(Clone, Copy, PartialEq, Eq, Debug)]
@@ -350,80 +350,4 @@ fn is_program(kind: ImageKind) -> bool
         ImageKind::Exe | ImageKind::Pie => true,
         ImageKind::Start | ImageKind::Late => false,
     }
-}
-
-/// What a line of a thread does, but for its image.
-fn read_action(alloc: Global, verb: Verb, words: &Words) -> Result<Action, Flaw>
-    ensures answer { IsRead (action_fault verb words.now) (action_of verb words.now) result }
-    ensures shown { IfOk result IsAction }
-{
-    match verb {
-        Verb::Call => read_call(alloc, words),
-        Verb::Open => Ok(Action::Open),
-        Verb::Close => Ok(Action::Close),
-        Verb::Peek => read_peek(alloc, words),
-    }
-}
-
-fn read_call(alloc: Global, words: &Words) -> Result<Action, Flaw>
-    ensures answer { IsRead (action_fault verb.Call words.now) (action_of verb.Call words.now) result }
-    ensures shown { IfOk result IsAction }
-{
-    let Some(a) = number(words.at(4)) else {
-        return Err(Flaw::Kind(JobFaultKind::Number));
-    };
-    let Some(b) = number(words.at(5)) else {
-        return Err(Flaw::Kind(JobFaultKind::Number));
-    };
-    let Some(c) = number(words.at(6)) else {
-        return Err(Flaw::Kind(JobFaultKind::Number));
-    };
-    let symbol = read_symbol(alloc, words)?;
-    Ok(Action::Call { symbol, a, b, c })
-}
-
-fn read_peek(alloc: Global, words: &Words) -> Result<Action, Flaw>
-    ensures answer { IsRead (action_fault verb.Peek words.now) (action_of verb.Peek words.now) result }
-    ensures shown { IfOk result IsAction }
-{
-    let Some(length) = number_within(words.at(4), 0, MAX_PEEK) else {
-        return Err(Flaw::Kind(JobFaultKind::Number));
-    };
-    let symbol = read_symbol(alloc, words)?;
-    Ok(Action::Peek {
-        symbol,
-        length: length as u32,
-    })
-}
-
-fn read_symbol(alloc: Global, words: &Words) -> Result<Name, Flaw>
-    ensures { IsRead (symbol_fault words.now) (word_at 3 words.now) result }
-{
-    if !is_short_name(words.at(3)) {
-        return Err(Flaw::Kind(JobFaultKind::Name));
-    }
-    Ok(Name::new(alloc, words.at(3))?)
-}
-
-/// Whether one of the objects has too long a name.
-fn has_long_object(words: &Words) -> bool
-    ensures { result ≡ has_long_object words.now }
-{
-    for place in 3..words.count() {
-        if !is_short_name(words.at(place)) {
-            return true;
-        }
-    }
-    false
-}
-
-/// The names of an image's objects.
-fn objects_of(alloc: Global, words: &Words) -> Result<Names, AllocError>
-    ensures { IfOk result (λ names. names ≡ drop 3 words.now) }
-{
-    let mut names = Names::new(alloc);
-    for place in 3..words.count() {
-        names.push(Name::new(alloc, words.at(place))?)?;
-    }
-    Ok(names)
 }

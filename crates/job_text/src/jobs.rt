@@ -38,7 +38,7 @@ impl Model for Job {
 }
 
 impl Job {
-    ghost use Rattle.job_text.specs.Actions.{IsThread};
+    ghost use Rattle.job_text.specs.Threads.{IsThread};
     ghost use Rattle.job_text.specs.Jobs.{IsLineOf, lines_of_thread};
 
     /// Reads a job.

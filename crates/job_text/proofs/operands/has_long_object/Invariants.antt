@@ -1,7 +1,7 @@
 use Rattle.std.proofs.Common.{◌≡◌, ◌≤◌, drop, not}
 use Rattle.std.specs.List.{list_any}
 use Rattle.job_text.specs.Grammar.{is_short_name}
-use Rattle.job_text.proofs.draft.has_long_object.Given as goal
+use Rattle.job_text.proofs.operands.has_long_object.Given as goal
 
 -- the names so far are short
 abbrev pub invariant-loop-place : goal.invariant-loop-place

@@ -1,5 +1,5 @@
 use Rattle.std.proofs.Common.{◌≡◌, ◌++◌, drop}
-use Rattle.job_text.proofs.draft.objects_of.Given as goal
+use Rattle.job_text.proofs.operands.objects_of.Given as goal
 
 -- the names so far, and then those that are left
 abbrev pub invariant-loop-place : goal.invariant-loop-place
