@@ -10,7 +10,8 @@ use Rattle.std.specs.List.{All, position_from}
 use Rattle.std.specs.Option.{IfSome, option_map}
 use Rattle.std.specs.Str.{bytes_eq}
 use Rattle.job_text.specs.Threads.{IsThread}
-use Rattle.job_text.specs.Drafts.{Declared, IsDraft, IsPlace, IsPlan, IsWithinLimits, declared, image_count, is_named, or_else, place_among, program_place, with_line}
+use Rattle.job_text.specs.Drafts.{Declared, IsDraft, IsPlace, IsPlan, IsWithinLimits, declared, image_count, is_named, or_else, place_among, program_place}
+use Rattle.job_text.specs.LineEffects.{with_line}
 use Rattle.job_text.specs.declared.draft.Place.{Place}
 use Rattle.job_text.specs.declared.draft.Place.TheVariants.{Program, Start, Late}
 use Rattle.job_text.specs.declared.draft.Plan.{Plan}

@@ -8,7 +8,10 @@ use Rattle.std.specs.Borrow.{Bor}
 use Rattle.std.specs.HashMap.{HashMap}
 use Rattle.std.specs.List.{All, enumerate_from}
 use Rattle.job_text.specs.Threads.{IsThread}
-use Rattle.job_text.specs.Drafts.{Declared, IsDraft, IsLineAnswer, IsPlace, IsPlan, fault_of, image_count, with_text}
+use Rattle.job_text.specs.Drafts.{Declared, IsDraft, IsPlace, IsPlan, image_count}
+use Rattle.job_text.specs.LineAnswers.{IsLineAnswer}
+use Rattle.job_text.specs.LineEffects.{with_text}
+use Rattle.job_text.specs.LineFaults.{fault_of}
 use Rattle.job_text.specs.Flaws.{fault_at}
 use Rattle.job_text.specs.Images.{IsImageNumber}
 use Rattle.job_text.specs.Jobs.{JobParts, IsAnswer, IsJob, IsLineOf, fault_or, in_image_order, job_declared, job_from, job_parts, lines_of_thread, number_of, numbered_line}

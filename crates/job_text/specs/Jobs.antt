@@ -3,7 +3,9 @@ use Rattle.std.specs.List.{All}
 use Rattle.std.specs.Prelude.{◌≡◌, ℕ, ◌+◌, ◌-◌, ◌≤◌, nat_lt, if◌then◌else◌, slice_index_or, ◌<◌, ◌^◌, List, [], ◌∷◌, ◌++◌, length, map, Option, Some, None, unwrap_or, Result, Ok, Err}
 use Rattle.job_text.specs.Actions.{IsAction}
 use Rattle.job_text.specs.Threads.{IsThread, of_thread}
-use Rattle.job_text.specs.Drafts.{Declared, fault_of, nothing_declared, with_text}
+use Rattle.job_text.specs.Drafts.{Declared, nothing_declared}
+use Rattle.job_text.specs.LineEffects.{with_text}
+use Rattle.job_text.specs.LineFaults.{fault_of}
 use Rattle.job_text.specs.Images.{IsImageNumber}
 use Rattle.job_text.specs.Words.{lines_of}
 use Rattle.job_text.specs.declared.draft.Place.{Place}

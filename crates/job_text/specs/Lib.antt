@@ -5,6 +5,9 @@ pub mod Grammar
 pub mod Images
 pub mod Jobs
 pub mod Kinds
+pub mod LineAnswers
+pub mod LineEffects
+pub mod LineFaults
 pub mod Numbers
 pub mod OutcomeWords
 pub mod Texts

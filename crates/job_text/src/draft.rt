@@ -3,7 +3,10 @@
 ghost use Rattle.std.specs.Prelude.{All, ◌≡◌, ◌≤◌, ◌<◌, ◌++◌, ◌∷◌, ◌||◌, ◌&&◌, [], false, Some, is_some, IfOk, IfSome, IsTrue, OnOk, None, length, map, replicate, drop};
 ghost use Rattle.job_text.specs.Actions.{IsAction};
 ghost use Rattle.job_text.specs.Threads.{IsThread};
-ghost use Rattle.job_text.specs.Drafts.{IsLineAnswer, IsOrderAnswer, IsPlace, IsPlan, IsRead, action_fault, action_of, fault_in_words, fault_under, has_long_object, image_count, is_image, is_miscounted, is_program, nothing_declared, place_of, symbol_fault, thread_named, with_heading, with_image, with_line, with_words};
+ghost use Rattle.job_text.specs.Drafts.{IsPlace, IsPlan, image_count, nothing_declared, place_of};
+ghost use Rattle.job_text.specs.LineAnswers.{IsLineAnswer, IsOrderAnswer, IsRead};
+ghost use Rattle.job_text.specs.LineEffects.{action_of, with_heading, with_image, with_line, with_words};
+ghost use Rattle.job_text.specs.LineFaults.{action_fault, fault_in_words, fault_under, has_long_object, is_image, is_miscounted, is_program, symbol_fault, thread_named};
 ghost use Rattle.job_text.specs.Grammar.{heading_of};
 ghost use Rattle.job_text.specs.Words.{word_at, words_of};
 ghost use Rattle.job_text.specs.declared.grammar.Heading.TheVariants as heading;

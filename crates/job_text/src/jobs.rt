@@ -2,7 +2,9 @@
 
 ghost use Rattle.std.specs.Prelude.{All, ◌≡◌, ◌-◌, ◌≤◌, IfSome, Some, slice_get, ◌<◌, ◌^◌, [], IfOk, length, map, unwrap_or};
 ghost use Rattle.std.specs.Option.{option_map};
-ghost use Rattle.job_text.specs.Drafts.{IsLineAnswer, fault_of, with_text};
+ghost use Rattle.job_text.specs.LineAnswers.{IsLineAnswer};
+ghost use Rattle.job_text.specs.LineEffects.{with_text};
+ghost use Rattle.job_text.specs.LineFaults.{fault_of};
 ghost use Rattle.job_text.specs.Images.{IsImageNumber, image_number};
 ghost use Rattle.job_text.specs.Jobs.{IsAnswer, in_image_order, job_declared, job_of, number_of, numbered_line};
 
@@ -136,7 +138,7 @@ fn image_number(images: &[Image], name: &str) -> Option<u32>
 }
 
 /// Reads the next line.
-#[tactic(auto, unfolding(crate::specs::Drafts::fault_of, crate::specs::Drafts::with_text))]
+#[tactic(auto, unfolding(crate::specs::LineFaults::fault_of, crate::specs::LineEffects::with_text))]
 fn read_line<'a>(
     alloc: Global,
     draft: &mut Draft<'a>,

@@ -2,7 +2,9 @@
 
 ghost use Rattle.std.specs.Prelude.{◌≡◌, IfOk, drop};
 ghost use Rattle.job_text.specs.Actions.{IsAction};
-ghost use Rattle.job_text.specs.Drafts.{IsRead, action_fault, action_of, has_long_object, symbol_fault};
+ghost use Rattle.job_text.specs.LineAnswers.{IsRead};
+ghost use Rattle.job_text.specs.LineEffects.{action_of};
+ghost use Rattle.job_text.specs.LineFaults.{action_fault, has_long_object, symbol_fault};
 ghost use Rattle.job_text.specs.Words.{word_at};
 ghost use Rattle.job_text.specs.declared.grammar.Verb.TheVariants as verb;
 

@@ -2,7 +2,7 @@ use Rattle.std.proofs.Common.{◌≡◌, ◌++◌, drop, length}
 use Rattle.std.specs.List.{All, filter_map, list_any}
 use Rattle.std.specs.Option.{is_none}
 use Rattle.job_text.specs.Threads.{IsThread}
-use Rattle.job_text.specs.Drafts.{thread_named}
+use Rattle.job_text.specs.LineFaults.{thread_named}
 use Rattle.job_text.specs.Numbers.{number}
 use Rattle.job_text.proofs.draft.Draft.threads_of.Given as goal
 

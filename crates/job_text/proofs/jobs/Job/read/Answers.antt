@@ -4,7 +4,7 @@ use Rattle.std.proofs.lemmas.Iterator.Splits.{YieldsList-from_slice_split}
 use Rattle.std.proofs.lemmas.List.{length_push}
 use Rattle.std.proofs.lemmas.List.FromFn.{length-enumerate_from}
 use borrow.Author.Tests.{tests}
-use Rattle.job_text.specs.Drafts.{with_text}
+use Rattle.job_text.specs.LineEffects.{with_text}
 use Rattle.job_text.specs.Jobs.{JobParts, IsAnswer, job_from, job_of}
 use Rattle.job_text.specs.declared.fault.JobFault.{JobFault}
 use Rattle.job_text.specs.Words.{lines_of}
