@@ -1,2 +1,5 @@
+pub mod DraftLemmas
 pub mod JobLemmas
+pub mod NumberLemmas
 pub mod TextLemmas
+pub mod WordLemmas

@@ -1,11 +1,19 @@
 -- A job, as contracts see it, and how it is made of what its lines declare.
-use Rattle.std.specs.Prelude.{◌≡◌, ℕ, ◌+◌, ◌≤◌, ◌<◌, ◌^◌, List, [], ◌∷◌, ◌++◌, length, map, Option, Some, None, unwrap_or, Result, Ok, Err}
-use Rattle.job_text.specs.Drafts.{Declared}
+use Rattle.std.specs.List.{All}
+use Rattle.std.specs.Prelude.{◌≡◌, ℕ, ◌+◌, ◌-◌, ◌≤◌, nat_lt, if◌then◌else◌, slice_index_or, ◌<◌, ◌^◌, List, [], ◌∷◌, ◌++◌, length, map, Option, Some, None, unwrap_or, Result, Ok, Err}
+use Rattle.job_text.specs.Actions.{IsAction}
+use Rattle.job_text.specs.Threads.{IsThread, of_thread}
+use Rattle.job_text.specs.Drafts.{Declared, nothing_declared}
+use Rattle.job_text.specs.LineEffects.{with_text}
+use Rattle.job_text.specs.LineFaults.{fault_of}
+use Rattle.job_text.specs.Images.{IsImageNumber}
+use Rattle.job_text.specs.Words.{lines_of}
 use Rattle.job_text.specs.declared.draft.Place.{Place}
 use Rattle.job_text.specs.declared.draft.Place.TheVariants.{Program, Start, Late}
 use Rattle.job_text.specs.declared.draft.Plan.{Plan}
 use Rattle.job_text.specs.declared.fault.JobFault.{JobFault}
 use Rattle.job_text.specs.declared.fault.JobFault.TheVariants.{At, OutOfMemory}
+use Rattle.job_text.specs.declared.fault.JobFaultKind.{JobFaultKind}
 use Rattle.job_text.specs.declared.fault.JobFaultKind.TheVariants.{NoExe}
 use Rattle.job_text.specs.declared.images.Image.{Image}
 use Rattle.job_text.specs.declared.thread_lines.ThreadLine.{ThreadLine}
@@ -18,14 +26,29 @@ pub record JobParts : Type 0 where
   pub order : List ℕ
   pub lines : List (List ThreadLine)
 
--- what is true of each job: its sizes
-pub record HasJobSizes (images : List Image) (fuel : ℕ) (threads : ℕ) : Type 0 where
-  pub some_image : 1 ≤ length images
-  pub few_images : length images ≤ 64
-  pub some_thread : 1 ≤ threads
-  pub few_threads : threads ≤ 64
-  pub some_fuel : 1 ≤ fuel
-  pub little_fuel : fuel < 2 ^ 32
+-- the record of these parts
+abbrev pub job_parts : List Image → ℕ → List ℕ → List (List ThreadLine) → JobParts
+job_parts images fuel order lines = record { images = images; fuel = fuel; order = order; lines = lines }
+
+-- a line of a thread is about an image of the job
+pub record IsLineOf (images : List Image) (line : ThreadLine) : Type 0 where
+  pub image : IsImageNumber images line.image
+  pub shown : IsAction line.action
+
+-- what is true of each job
+pub record IsJob (job : JobParts) : Type 0 where
+  pub some_image : 1 ≤ length job.images
+  pub few_images : length job.images ≤ 64
+  pub some_thread : 1 ≤ length job.lines
+  pub few_threads : length job.lines ≤ 64
+  pub some_fuel : 1 ≤ job.fuel
+  pub little_fuel : job.fuel < 2 ^ 32
+  pub order_named : All (IsThread (length job.lines)) job.order
+  pub lines_placed : All (All (IsLineOf job.images)) job.lines
+
+-- the lines of a thread, and none of a thread that there is not
+abbrev pub lines_of_thread : JobParts → ℕ → List ThreadLine
+lines_of_thread job thread = of_thread job.lines thread
 
 -- the number of an image, where so many images start with the program: the program is 1, then come
 -- the start images, then the late ones
@@ -59,6 +82,21 @@ job_of_program (Some program) d = Ok (job_with program d)
 -- the job that the lines declare
 abbrev pub job_declared : Declared → Result JobParts JobFault
 job_declared d = job_of_program d.program d
+
+-- the fault, if there is one; else the rest
+abbrev pub fault_or : ℕ → Option JobFaultKind → Result JobParts JobFault → Result JobParts JobFault
+fault_or number None rest = rest
+fault_or number (Some kind) rest = Err (At number kind)
+
+-- the job that these lines make, the first of them with its number, after others that declared d; or
+-- the fault of the first faulty line
+unfoldable pub job_from : Declared → ℕ → List (List ℕ) → Result JobParts JobFault
+job_from d number [] = job_declared d
+job_from d number (line ∷ more) = fault_or number (fault_of d number line) (job_from (with_text line d) (number + 1) more)
+
+-- the job that a text spells, or its first fault
+unfoldable pub job_of : List ℕ → Result JobParts JobFault
+job_of text = job_from nothing_declared 1 (lines_of text)
 
 -- an answer is what it should be, but that want of memory may come in place of any
 abbrev pub IsAnswer : Result JobParts JobFault → Result JobParts JobFault → Type 0

@@ -1,5 +1,15 @@
+pub mod Actions
 pub mod Drafts
+pub mod Flaws
+pub mod Grammar
+pub mod Images
 pub mod Jobs
 pub mod Kinds
+pub mod LineAnswers
+pub mod LineEffects
+pub mod LineFaults
+pub mod Numbers
 pub mod OutcomeWords
 pub mod Texts
+pub mod Threads
+pub mod Words

@@ -4,6 +4,7 @@ use Rattle.std.specs.List.{flat_map}
 use Rattle.std.specs.Option.{option_map_or}
 use Rattle.std.specs.Fmt.{decimal, digits, padded_integral, format_spec}
 use Rattle.hex.specs.Hex.{encode_lower}
+pub use Rattle.job_text.specs.Images.{IsImageNumber, image_name}
 use Rattle.job_text.specs.OutcomeWords.{refusal_text, fault_text}
 use Rattle.job_text.specs.declared.event.Event.{Event}
 use Rattle.job_text.specs.declared.images.Image.{Image}
@@ -53,14 +54,6 @@ lines_text thread k (line ∷ more) = line_text thread k line ++ lines_text thre
 unfoldable pub threads_text : ℕ → List (List Line) → List ℕ
 threads_text thread [] = []
 threads_text thread (lines ∷ more) = lines_text thread 1 lines ++ threads_text (thread + 1) more
-
--- a number of an image
-abbrev pub IsImageNumber : List Image → ℕ → Type 0
-IsImageNumber images number = (1 ≤ number) × (number ≤ length images)
-
--- the name of an image, by its number
-abbrev pub image_name : List Image → ℕ → List ℕ
-image_name images number = option_map_or (λ image. image.name) (slice_get images (number - 1)) []
 
 -- the word for what an event did
 abbrev pub event_word : Bool → List ℕ

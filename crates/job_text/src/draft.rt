@@ -1,18 +1,37 @@
 //! A job as far as it is read.
 
-ghost use Rattle.std.specs.Prelude.{◌≡◌, ◌≤◌, ◌<◌, IfOk, IfSome, length, vec_len};
-ghost use Rattle.job_text.specs.Drafts.{image_count};
+ghost use Rattle.std.specs.Prelude.{All, ◌≡◌, ◌≤◌, ◌<◌, ◌++◌, ◌∷◌, ◌||◌, ◌&&◌, [], false, Some, is_some, IfOk, IfSome, IsTrue, OnOk, None, length, map, replicate, drop};
+ghost use Rattle.job_text.specs.Actions.{IsAction};
+ghost use Rattle.job_text.specs.Threads.{IsThread};
+ghost use Rattle.job_text.specs.Drafts.{IsPlace, IsPlan, image_count, nothing_declared, place_of};
+ghost use Rattle.job_text.specs.LineAnswers.{IsLineAnswer, IsOrderAnswer, IsRead};
+ghost use Rattle.job_text.specs.LineEffects.{action_of, with_heading, with_image, with_line, with_words};
+ghost use Rattle.job_text.specs.LineFaults.{action_fault, fault_in_words, fault_under, has_long_object, is_image, is_miscounted, is_program, symbol_fault, thread_named};
+ghost use Rattle.job_text.specs.Grammar.{heading_of};
+ghost use Rattle.job_text.specs.Words.{word_at, words_of};
+ghost use Rattle.job_text.specs.declared.grammar.Heading.TheVariants as heading;
+ghost use Rattle.job_text.specs.declared.grammar.Verb.TheVariants as verb;
 
 use crate::fault::{Flaw, JobFaultKind};
-use crate::grammar::{Heading, Verb, has_its_words, heading_of, is_image_name, is_short_name};
+use crate::grammar::{Heading, Verb, has_its_words, heading_of, is_image_name};
 use crate::images::{Image, ImageKind};
-use crate::numbers::{number, number_within};
-use crate::spelling::{Name, Names};
+use crate::numbers::number_within;
+use crate::operands::{has_long_object, objects_of, read_action};
+use crate::spelling::Name;
 use crate::thread_lines::Action;
 use crate::words::Words;
 use std::alloc::{AllocError, Global};
 use std::collections::HashMap;
 use std::marker::Model;
+
+/// The limits of a job.
+const MAX_IMAGES: usize = 64;
+
+const MAX_LINES: u64 = 65_536;
+
+const MAX_THREADS: u64 = 64;
+
+const MAX_FUEL: u64 = 0xffff_ffff;
 
 /// Where an image stands: each group of images is counted from 0 in the order of the job.
 #[derive(Clone, Copy, PartialEq, Eq, Debug)]
@@ -45,18 +64,20 @@ pub(crate) struct Draft<'a> {
 impl<'a> Model for Draft<'a> {
     ghost use Rattle.std.specs.Prelude.{map};
     ghost use Rattle.std.specs.Option.{option_map};
-    ghost use Rattle.job_text.specs.Drafts.{Declared, IsWithinLimits, declared};
+    ghost use Rattle.job_text.specs.Drafts.{Declared, IsDraft, declared};
 
     ghost Value = { Declared };
 
     ghost view = { λ d. declared d.program d.starts.items d.lates.items d.has_threads d.fuel (option_map (λ threads. threads.items) d.order) (map (λ lines. lines.items) d.lines.items) };
 
-    ghost invariant = { λ d. IsWithinLimits (declared d.program d.starts.items d.lates.items d.has_threads d.fuel (option_map (λ threads. threads.items) d.order) (map (λ lines. lines.items) d.lines.items)) };
+    ghost invariant = { λ d. IsDraft d.names (declared d.program d.starts.items d.lates.items d.has_threads d.fuel (option_map (λ threads. threads.items) d.order) (map (λ lines. lines.items) d.lines.items)) };
 }
 
 impl<'a> Draft<'a> {
     /// A job of which no line is read: it has one thread.
-    pub(crate) fn new(alloc: Global) -> Result<Draft<'a>, AllocError> {
+    pub(crate) fn new(alloc: Global) -> Result<Draft<'a>, AllocError>
+        ensures { IfOk result (λ draft. draft ≡ nothing_declared) }
+    {
         let mut lines = Vec::new(alloc);
         lines.push(Vec::new(alloc))?;
         Ok(Draft {
@@ -77,47 +98,44 @@ impl<'a> Draft<'a> {
         alloc: Global,
         number: u64,
         text: &'a str,
-    ) -> Result<(), Flaw> {
+    ) -> Result<(), Flaw>
+        ensures { IsLineAnswer (fault_under self.old number (heading_of (words_of text.now)) (words_of text.now)) (with_heading (heading_of (words_of text.now)) (words_of text.now) self.old) self.new result }
+    {
         let words = Words::of(alloc, text)?;
-        let Some(heading) = heading_of(&words) else {
-            return Err(Flaw::Kind(JobFaultKind::Word));
-        };
-        if 65_536 < number || !has_its_words(heading, words.count()) {
+        match heading_of(&words) {
+            Some(heading) => self.read_words(alloc, number, heading, &words),
+            None => Err(Flaw::Kind(JobFaultKind::Word)),
+        }
+    }
+
+    fn read_words(
+        &mut self,
+        alloc: Global,
+        number: u64,
+        heading: Heading,
+        words: &Words<'a>,
+    ) -> Result<(), Flaw>
+        ensures { IsLineAnswer (fault_under self.old number (Some heading) words.now) (with_words heading words.now self.old) self.new result }
+    {
+        if self.is_miscounted(number, heading, words.count()) {
             return Err(Flaw::Kind(JobFaultKind::Count));
         }
         match heading {
-            Heading::Image(kind) => self.read_image(alloc, kind, &words),
-            Heading::Threads => self.read_threads(alloc, &words),
-            Heading::Fuel => self.read_fuel(&words),
-            Heading::Order => self.read_order(alloc, &words),
-            Heading::Thread(verb) => self.read_thread_line(alloc, verb, &words),
+            Heading::Image(kind) => self.read_image(alloc, kind, words),
+            Heading::Threads => self.read_threads(alloc, words),
+            Heading::Fuel => self.read_fuel(words),
+            Heading::Order => self.read_order(alloc, words),
+            Heading::Thread(verb) => self.read_thread_line(alloc, verb, words),
             Heading::Short => Err(Flaw::Kind(JobFaultKind::Count)),
         }
     }
 
-    fn read_image(
-        &mut self,
-        alloc: Global,
-        kind: ImageKind,
-        words: &Words<'a>,
-    ) -> Result<(), Flaw> {
-        if self.image_count() == 64 {
-            return Err(Flaw::Kind(JobFaultKind::Count));
-        }
-        if !is_image_name(words.at(1)) || !are_short_names(words, 3) {
-            return Err(Flaw::Kind(JobFaultKind::Name));
-        }
-        let is_program = kind == ImageKind::Exe || kind == ImageKind::Pie;
-        if self.names.contains_key(&words.at(1)) || (is_program && self.program.is_some()) {
-            return Err(Flaw::Kind(JobFaultKind::Twice));
-        }
-        let image = Image {
-            name: Name::new(alloc, words.at(1))?,
-            kind,
-            objects: names_of(alloc, words, 3)?,
-        };
-        self.declare(words.at(1), image)?;
-        Ok(())
+    fn is_miscounted(&self, number: u64, heading: Heading, count: usize) -> bool
+        ensures value { result ≡ is_miscounted self.now number heading count }
+        ensures room { result ≡ false → IsTrue (is_image heading) → image_count self.now < 64 }
+    {
+        let full = is_image(heading) && self.image_count() == MAX_IMAGES;
+        !has_its_words(heading, count) || full || MAX_LINES < number
     }
 
     /// How many images there are, at most 64.
@@ -129,34 +147,98 @@ impl<'a> Draft<'a> {
         programs + self.starts.len() + self.lates.len()
     }
 
-    /// Adds an image of a new name to its group.
-    fn declare(&mut self, name: &'a str, image: Image) -> Result<(), AllocError>
+    fn read_image(&mut self, alloc: Global, kind: ImageKind, words: &Words<'a>) -> Result<(), Flaw>
         requires { image_count self.old < 64 }
+        ensures { IsLineAnswer (fault_in_words self.old (heading.Image kind) words.now) (with_words (heading.Image kind) words.now self.old) self.new result }
     {
-        self.names.reserve(1)?;
-        match image.kind {
-            ImageKind::Exe | ImageKind::Pie => {
-                self.names.insert(name, Place::Program)?;
-                self.program = Some(image);
-            }
-            ImageKind::Start => {
-                self.starts.reserve(1)?;
-                self.names
-                    .insert(name, Place::Start(self.starts.len() as u8))?;
-                self.starts.push(image)?;
-            }
-            ImageKind::Late => {
-                self.lates.reserve(1)?;
-                self.names
-                    .insert(name, Place::Late(self.lates.len() as u8))?;
-                self.lates.push(image)?;
-            }
+        let name = words.at(1);
+        if !is_image_name(name) || has_long_object(words) {
+            return Err(Flaw::Kind(JobFaultKind::Name));
         }
+        if self.is_declared(kind, name) {
+            return Err(Flaw::Kind(JobFaultKind::Twice));
+        }
+        let image = Image {
+            name: Name::new(alloc, name)?,
+            kind,
+            objects: objects_of(alloc, words)?,
+        };
+        self.declare(name, image)?;
         Ok(())
     }
 
-    fn read_threads(&mut self, alloc: Global, words: &Words<'a>) -> Result<(), Flaw> {
-        let Some(count) = number_within(words.at(1), 1, 64) else {
+    /// Whether an image of the name, or a program as this one, is declared.
+    fn is_declared(&self, kind: ImageKind, name: &'a str) -> bool
+        ensures { result ≡ (is_some (place_of self.now name.now) || (is_program kind && is_some self.now.program)) }
+    {
+        self.place_of(name).is_some() || (is_program(kind) && self.program.is_some())
+    }
+
+    /// The place of the image of a name.
+    fn place_of(&self, name: &'a str) -> Option<Place>
+        ensures value { result ≡ place_of self.now name.now }
+        ensures place { IfSome result (IsPlace self.now.program self.now.starts self.now.lates) }
+    {
+        self.names.get(&name).copied()
+    }
+
+    /// Adds an image of a new name to its group.
+    fn declare(&mut self, name: &'a str, image: Image) -> Result<(), AllocError>
+        requires room { image_count self.old < 64 }
+        requires named { image.name ≡ name.now }
+        requires undeclared { place_of self.old name.now ≡ None }
+        requires program { IsTrue (is_program image.kind) → self.old.program ≡ None }
+        ensures { OnOk result (self.new ≡ with_image image image.kind self.old) }
+    {
+        match image.kind {
+            ImageKind::Exe | ImageKind::Pie => self.declare_program(name, image),
+            ImageKind::Start => self.declare_start(name, image),
+            ImageKind::Late => self.declare_late(name, image),
+        }
+    }
+
+    fn declare_program(&mut self, name: &'a str, image: Image) -> Result<(), AllocError>
+        requires room { image_count self.old < 64 }
+        requires named { image.name ≡ name.now }
+        requires undeclared { place_of self.old name.now ≡ None }
+        requires program { self.old.program ≡ None }
+        ensures { OnOk result (self.new ≡ record self.old { program = Some image }) }
+    {
+        self.names.insert(name, Place::Program)?;
+        self.program = Some(image);
+        Ok(())
+    }
+
+    fn declare_start(&mut self, name: &'a str, image: Image) -> Result<(), AllocError>
+        requires room { image_count self.old < 64 }
+        requires named { image.name ≡ name.now }
+        requires undeclared { place_of self.old name.now ≡ None }
+        ensures { OnOk result (self.new ≡ record self.old { starts = self.old.starts ++ image ∷ [] }) }
+    {
+        self.starts.reserve(1)?;
+        self.names
+            .insert(name, Place::Start(self.starts.len() as u8))?;
+        self.starts.push(image).unwrap();
+        Ok(())
+    }
+
+    fn declare_late(&mut self, name: &'a str, image: Image) -> Result<(), AllocError>
+        requires room { image_count self.old < 64 }
+        requires named { image.name ≡ name.now }
+        requires undeclared { place_of self.old name.now ≡ None }
+        ensures { OnOk result (self.new ≡ record self.old { lates = self.old.lates ++ image ∷ [] }) }
+    {
+        self.lates.reserve(1)?;
+        self.names
+            .insert(name, Place::Late(self.lates.len() as u8))?;
+        self.lates.push(image).unwrap();
+        Ok(())
+    }
+
+    fn read_threads(&mut self, alloc: Global, words: &Words<'a>) -> Result<(), Flaw>
+        ensures { IsLineAnswer (fault_in_words self.old heading.Threads words.now) (with_words heading.Threads words.now self.old) self.new result }
+    {
+        let Some(count) = number_within(words.at(1), 1, MAX_THREADS) else {
             return Err(Flaw::Kind(JobFaultKind::Number));
         };
         if self.has_threads {
@@ -168,8 +250,10 @@ impl<'a> Draft<'a> {
         Ok(())
     }
 
-    fn read_fuel(&mut self, words: &Words<'a>) -> Result<(), Flaw> {
-        let Some(steps) = number_within(words.at(1), 1, 0xffff_ffff) else {
+    fn read_fuel(&mut self, words: &Words<'a>) -> Result<(), Flaw>
+        ensures { IsLineAnswer (fault_in_words self.old heading.Fuel words.now) (with_words heading.Fuel words.now self.old) self.new result }
+    {
+        let Some(steps) = number_within(words.at(1), 1, MAX_FUEL) else {
             return Err(Flaw::Kind(JobFaultKind::Number));
         };
         if self.fuel.is_some() {
@@ -179,14 +263,10 @@ impl<'a> Draft<'a> {
         Ok(())
     }
 
-    fn read_order(&mut self, alloc: Global, words: &Words<'a>) -> Result<(), Flaw> {
-        let mut order = Vec::new(alloc);
-        for place in 1..words.count() {
-            let Some(thread) = self.thread(words.at(place)) else {
-                return Err(Flaw::Kind(JobFaultKind::Number));
-            };
-            order.push(thread)?;
-        }
+    fn read_order(&mut self, alloc: Global, words: &Words<'a>) -> Result<(), Flaw>
+        ensures { IsLineAnswer (fault_in_words self.old heading.Order words.now) (with_words heading.Order words.now self.old) self.new result }
+    {
+        let order = self.threads_of(alloc, words)?;
         if self.order.is_some() {
             return Err(Flaw::Kind(JobFaultKind::Twice));
         }
@@ -194,27 +274,50 @@ impl<'a> Draft<'a> {
         Ok(())
     }
 
-    fn read_thread_line(
-        &mut self,
-        alloc: Global,
-        verb: Verb,
-        words: &Words<'a>,
-    ) -> Result<(), Flaw> {
-        let Some(thread) = self.thread(words.at(0)) else {
+    /// The threads that an order names.
+    fn threads_of(&self, alloc: Global, words: &Words<'a>) -> Result<Vec<u32>, Flaw>
+        ensures answer { IsOrderAnswer self.now words.now result }
+        ensures named { IfOk result (λ order. All (IsThread (length self.now.lines)) order.items) }
+    {
+        let mut order = Vec::new(alloc);
+        for place in 1..words.count() {
+            let Some(thread) = self.thread_named(words.at(place)) else {
+                return Err(Flaw::Kind(JobFaultKind::Number));
+            };
+            order.push(thread)?;
+        }
+        Ok(order)
+    }
+
+    fn read_thread_line(&mut self, alloc: Global, verb: Verb, words: &Words<'a>) -> Result<(), Flaw>
+        ensures { IsLineAnswer (fault_in_words self.old (heading.Thread verb) words.now) (with_words (heading.Thread verb) words.now self.old) self.new result }
+    {
+        let Some(thread) = self.thread_named(words.at(0)) else {
             return Err(Flaw::Kind(JobFaultKind::Number));
         };
         let action = read_action(alloc, verb, words)?;
-        let Some(place) = self.names.get(&words.at(2)) else {
+        let Some(place) = self.place_of(words.at(2)) else {
             return Err(Flaw::Kind(JobFaultKind::Name));
         };
-        let place = *place;
+        self.add_line(thread, Plan { place, action })?;
+        Ok(())
+    }
+
+    /// Adds a line to those of its thread.
+    fn add_line(&mut self, thread: u32, plan: Plan) -> Result<(), AllocError>
+        requires some { 1 ≤ thread }
+        requires declared { thread ≤ length self.old.lines }
+        requires plan { IsPlan self.old.program self.old.starts self.old.lates plan }
+        ensures { OnOk result (self.new ≡ with_line thread plan self.old) }
+    {
         let lines = &mut self.lines[thread as usize - 1];
-        lines.push(Plan { place, action })?;
+        lines.push(plan)?;
         Ok(())
     }
 
     /// The thread that a word names, where it is declared so far.
-    fn thread(&self, word: &str) -> Option<u32>
+    fn thread_named(&self, word: &str) -> Option<u32>
+        ensures value { result ≡ thread_named self.now word.now }
         ensures some { IfSome result (λ thread. 1 ≤ thread) }
         ensures declared { IfSome result (λ thread. thread ≤ length self.now.lines) }
     {
@@ -225,70 +328,29 @@ impl<'a> Draft<'a> {
 
 /// The lines of so many threads, none yet.
 fn empty_lines(alloc: Global, count: u64) -> Result<Vec<Vec<Plan>>, AllocError>
-    ensures { IfOk result (λ lines. vec_len lines ≡ count) }
+    ensures { IfOk result (λ all. map (λ lines. lines.items) all.items ≡ replicate count []) }
 {
-    let mut lines = Vec::new(alloc);
+    let mut all = Vec::new(alloc);
     for _thread in 0..count {
-        lines.push(Vec::new(alloc))?;
+        all.push(Vec::new(alloc))?;
     }
-    Ok(lines)
+    Ok(all)
 }
 
-/// What a line of a thread does, but for its image.
-fn read_action(alloc: Global, verb: Verb, words: &Words) -> Result<Action, Flaw> {
-    match verb {
-        Verb::Call => read_call(alloc, words),
-        Verb::Open => Ok(Action::Open),
-        Verb::Close => Ok(Action::Close),
-        Verb::Peek => read_peek(alloc, words),
+fn is_image(heading: Heading) -> bool
+    ensures { result ≡ is_image heading }
+{
+    match heading {
+        Heading::Image(_) => true,
+        _ => false,
     }
 }
 
-fn read_call(alloc: Global, words: &Words) -> Result<Action, Flaw> {
-    let (Some(a), Some(b), Some(c)) = (
-        number(words.at(4)),
-        number(words.at(5)),
-        number(words.at(6)),
-    ) else {
-        return Err(Flaw::Kind(JobFaultKind::Number));
-    };
-    let symbol = read_symbol(alloc, words)?;
-    Ok(Action::Call { symbol, a, b, c })
-}
-
-fn read_peek(alloc: Global, words: &Words) -> Result<Action, Flaw> {
-    let Some(length) = number_within(words.at(4), 0, 4_096) else {
-        return Err(Flaw::Kind(JobFaultKind::Number));
-    };
-    let symbol = read_symbol(alloc, words)?;
-    Ok(Action::Peek {
-        symbol,
-        length: length as u32,
-    })
-}
-
-fn read_symbol(alloc: Global, words: &Words) -> Result<Name, Flaw> {
-    if !is_short_name(words.at(3)) {
-        return Err(Flaw::Kind(JobFaultKind::Name));
+fn is_program(kind: ImageKind) -> bool
+    ensures { result ≡ is_program kind }
+{
+    match kind {
+        ImageKind::Exe | ImageKind::Pie => true,
+        ImageKind::Start | ImageKind::Late => false,
     }
-    Ok(Name::new(alloc, words.at(3))?)
-}
-
-/// Whether the words from a place on may name objects.
-fn are_short_names(words: &Words, from: usize) -> bool {
-    for place in from..words.count() {
-        if !is_short_name(words.at(place)) {
-            return false;
-        }
-    }
-    true
-}
-
-/// The words from a place on, as names.
-fn names_of(alloc: Global, words: &Words, from: usize) -> Result<Names, AllocError> {
-    let mut names = Names::new(alloc);
-    for place in from..words.count() {
-        names.push(Name::new(alloc, words.at(place))?)?;
-    }
-    Ok(names)
 }

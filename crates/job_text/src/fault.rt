@@ -94,8 +94,13 @@ pub(crate) enum Flaw {
 }
 
 impl Flaw {
+    ghost use Rattle.std.specs.Prelude.{◌≡◌};
+    ghost use Rattle.job_text.specs.Flaws.{fault_at};
+
     /// The same at a line.
-    pub(crate) fn at(self, line: u64) -> JobFault {
+    pub(crate) fn at(self, line: u64) -> JobFault
+        ensures { result ≡ fault_at line self }
+    {
         match self {
             Flaw::OutOfMemory => JobFault::OutOfMemory,
             Flaw::Kind(kind) => JobFault::At { line, kind },

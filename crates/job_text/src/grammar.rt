@@ -1,5 +1,8 @@
 //! What the words of a line begin.
 
+ghost use Rattle.std.specs.Prelude.{◌≡◌};
+ghost use Rattle.job_text.specs.Grammar.{begins_with_digit, has_name_bytes, has_name_length, has_its_words, heading_of, is_image_name, is_name_byte, is_short_name, kind_heading, verb_heading};
+
 use crate::images::ImageKind;
 use crate::words::Words;
 
@@ -31,34 +34,48 @@ pub(crate) enum Heading {
 
 /// What a line is. None where the first word begins no line, or where the kind or the verb is
 /// there and unknown.
-pub(crate) fn heading_of(words: &Words) -> Option<Heading> {
-    match words.at(0) {
-        "image" => image_heading(words),
-        "threads" => Some(Heading::Threads),
-        "fuel" => Some(Heading::Fuel),
-        "order" => Some(Heading::Order),
-        first => {
-            if begins_with_digit(first) {
-                thread_heading(words)
-            } else {
-                None
-            }
+#[tactic(auto, unfolding(crate::specs::Grammar::heading_of))]
+pub(crate) fn heading_of(words: &Words) -> Option<Heading>
+    ensures { result ≡ heading_of words.now }
+{
+    let first = words.at(0);
+    if first == "image" {
+        if words.count() < 3 {
+            Some(Heading::Short)
+        } else {
+            kind_heading(words.at(2))
         }
+    } else if first == "threads" {
+        Some(Heading::Threads)
+    } else if first == "fuel" {
+        Some(Heading::Fuel)
+    } else if first == "order" {
+        Some(Heading::Order)
+    } else if begins_with_digit(first) {
+        if words.count() < 2 {
+            Some(Heading::Short)
+        } else {
+            verb_heading(words.at(1))
+        }
+    } else {
+        None
     }
 }
 
-fn begins_with_digit(word: &str) -> bool {
-    match word.as_bytes().first() {
-        Some(byte) => byte.is_ascii_digit(),
-        None => false,
+fn begins_with_digit(word: &str) -> bool
+    ensures { result ≡ begins_with_digit word.now }
+{
+    match word.as_bytes() {
+        [first, ..] => b'0' <= *first && *first <= b'9',
+        [] => false,
     }
 }
 
-fn image_heading(words: &Words) -> Option<Heading> {
-    if words.count() < 3 {
-        return Some(Heading::Short);
-    }
-    match words.at(2) {
+#[tactic(auto, unfolding(crate::specs::Grammar::kind_heading))]
+fn kind_heading(word: &str) -> Option<Heading>
+    ensures { result ≡ kind_heading word.now }
+{
+    match word {
         "exe" => Some(Heading::Image(ImageKind::Exe)),
         "pie" => Some(Heading::Image(ImageKind::Pie)),
         "start" => Some(Heading::Image(ImageKind::Start)),
@@ -67,11 +84,11 @@ fn image_heading(words: &Words) -> Option<Heading> {
     }
 }
 
-fn thread_heading(words: &Words) -> Option<Heading> {
-    if words.count() < 2 {
-        return Some(Heading::Short);
-    }
-    match words.at(1) {
+#[tactic(auto, unfolding(crate::specs::Grammar::verb_heading))]
+fn verb_heading(word: &str) -> Option<Heading>
+    ensures { result ≡ verb_heading word.now }
+{
+    match word {
         "call" => Some(Heading::Thread(Verb::Call)),
         "open" => Some(Heading::Thread(Verb::Open)),
         "close" => Some(Heading::Thread(Verb::Close)),
@@ -81,7 +98,9 @@ fn thread_heading(words: &Words) -> Option<Heading> {
 }
 
 /// Whether a line has as many words as what it is takes.
-pub(crate) fn has_its_words(heading: Heading, count: usize) -> bool {
+pub(crate) fn has_its_words(heading: Heading, count: usize) -> bool
+    ensures { result ≡ has_its_words heading count }
+{
     match heading {
         Heading::Image(_) => 4 <= count,
         Heading::Threads | Heading::Fuel => count == 2,
@@ -94,15 +113,33 @@ pub(crate) fn has_its_words(heading: Heading, count: usize) -> bool {
 }
 
 /// Whether a word may name an image: 1 to 64 letters, digits, `_`, `.` and `-`.
-pub(crate) fn is_image_name(word: &str) -> bool {
-    0 < word.len() && word.len() <= 64 && word.as_bytes().iter().all(|byte| is_name_byte(*byte))
+pub(crate) fn is_image_name(word: &str) -> bool
+    ensures { result ≡ is_image_name word.now }
+{
+    has_name_length(word) && has_name_bytes(word)
 }
 
-fn is_name_byte(byte: u8) -> bool {
+fn has_name_length(word: &str) -> bool
+    ensures { result ≡ has_name_length word.now }
+{
+    1 <= word.len() && word.len() <= 64
+}
+
+fn has_name_bytes(word: &str) -> bool
+    ensures { result ≡ has_name_bytes word.now }
+{
+    word.as_bytes().iter().all(|byte| is_name_byte(*byte))
+}
+
+fn is_name_byte(byte: u8) -> bool
+    ensures { result ≡ is_name_byte byte }
+{
     byte.is_ascii_alphanumeric() || byte == b'_' || byte == b'.' || byte == b'-'
 }
 
 /// Whether a word may name an object or a symbol: it has at most 255 bytes.
-pub(crate) fn is_short_name(word: &str) -> bool {
+pub(crate) fn is_short_name(word: &str) -> bool
+    ensures { result ≡ is_short_name word.now }
+{
     word.len() <= 255
 }

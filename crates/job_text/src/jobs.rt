@@ -1,8 +1,12 @@
 //! The job.
 
-ghost use Rattle.std.specs.Prelude.{◌≡◌, ◌≤◌, ◌<◌, ◌^◌, [], IfOk, length, map, unwrap_or};
+ghost use Rattle.std.specs.Prelude.{All, ◌≡◌, ◌-◌, ◌≤◌, IfSome, Some, slice_get, ◌<◌, ◌^◌, [], IfOk, length, map, unwrap_or};
 ghost use Rattle.std.specs.Option.{option_map};
-ghost use Rattle.job_text.specs.Jobs.{IsAnswer, in_image_order, job_declared, number_of, numbered_line};
+ghost use Rattle.job_text.specs.LineAnswers.{IsLineAnswer};
+ghost use Rattle.job_text.specs.LineEffects.{with_text};
+ghost use Rattle.job_text.specs.LineFaults.{fault_of};
+ghost use Rattle.job_text.specs.Images.{IsImageNumber, image_number};
+ghost use Rattle.job_text.specs.Jobs.{IsAnswer, in_image_order, job_declared, job_of, number_of, numbered_line};
 
 use crate::draft::{Draft, Place, Plan};
 use crate::fault::{Flaw, JobFault, JobFaultKind};
@@ -25,24 +29,24 @@ pub struct Job {
 }
 
 impl Model for Job {
-    ghost use Rattle.std.specs.Prelude.{map, length};
-    ghost use Rattle.job_text.specs.Jobs.{JobParts, HasJobSizes};
+    ghost use Rattle.std.specs.Prelude.{map};
+    ghost use Rattle.job_text.specs.Jobs.{JobParts, IsJob, job_parts};
 
     ghost Value = { JobParts };
 
-    ghost view = { λ job. record {
-      images = job.images.items;
-      fuel = job.fuel;
-      order = job.order.items;
-      lines = map (λ lines. lines.items) job.lines.items;
-    } };
+    ghost view = { λ job. job_parts job.images.items job.fuel job.order.items (map (λ lines. lines.items) job.lines.items) };
 
-    ghost invariant = { λ job. HasJobSizes job.images.items job.fuel (length job.lines.items) };
+    ghost invariant = { λ job. IsJob (job_parts job.images.items job.fuel job.order.items (map (λ lines. lines.items) job.lines.items)) };
 }
 
 impl Job {
+    ghost use Rattle.job_text.specs.Threads.{IsThread};
+    ghost use Rattle.job_text.specs.Jobs.{IsLineOf, lines_of_thread};
+
     /// Reads a job.
-    pub fn read(alloc: Global, bytes: &[u8]) -> Result<Job, JobFault> {
+    pub fn read(alloc: Global, bytes: &[u8]) -> Result<Job, JobFault>
+        ensures { IsAnswer (job_of bytes.now) result }
+    {
         let mut draft = Draft::new(alloc)?;
         for (index, line) in bytes.split(|byte| *byte == b'\n').enumerate() {
             let number = index as u64 + 1;
@@ -60,6 +64,22 @@ impl Job {
         ensures few { length result.now ≤ 64 }
     {
         self.images.as_slice()
+    }
+
+    /// An image by its number, which counts from 1 in image order.
+    pub fn image(&self, number: u32) -> &Image
+        requires { IsImageNumber self.now.images number }
+        ensures { slice_get self.now.images (number - 1) ≡ Some result.now }
+    {
+        &self.images[number as usize - 1]
+    }
+
+    /// The number of the image of a name, if there is one.
+    pub fn number(&self, name: &str) -> Option<u32>
+        ensures value { result ≡ image_number self.now.images name.now }
+        ensures within { IfSome result (IsImageNumber self.now.images) }
+    {
+        image_number(self.images.as_slice(), name)
     }
 
     /// How many threads there are, 1 to 64.
@@ -82,13 +102,17 @@ impl Job {
 
     /// The threads in the order in which they take their first turns.
     pub fn order(&self) -> &[u32]
-        ensures { result.now ≡ self.now.order }
+        ensures value { result.now ≡ self.now.order }
+        ensures named { All (IsThread (length self.now.lines)) result.now }
     {
         self.order.as_slice()
     }
 
     /// The lines of a thread, and none of a thread that there is not.
-    pub fn lines(&self, thread: u32) -> &[ThreadLine] {
+    pub fn lines(&self, thread: u32) -> &[ThreadLine]
+        ensures value { result.now ≡ lines_of_thread self.now thread }
+        ensures placed { All (IsLineOf self.now.images) result.now }
+    {
         if thread == 0 {
             return &[];
         }
@@ -99,12 +123,30 @@ impl Job {
     }
 }
 
+/// The number of the image of a name.
+fn image_number(images: &[Image], name: &str) -> Option<u32>
+    requires { length images.now ≤ 64 }
+    ensures value { result ≡ image_number images.now name.now }
+    ensures within { IfSome result (IsImageNumber images.now) }
+{
+    for (index, image) in images.iter().enumerate() {
+        if name == image.name.as_str() {
+            return Some(index as u32 + 1);
+        }
+    }
+    None
+}
+
+/// Reads the next line.
+#[tactic(auto, unfolding(crate::specs::LineFaults::fault_of, crate::specs::LineEffects::with_text))]
 fn read_line<'a>(
     alloc: Global,
     draft: &mut Draft<'a>,
     number: u64,
     line: &'a [u8],
-) -> Result<(), Flaw> {
+) -> Result<(), Flaw>
+    ensures { IsLineAnswer (fault_of draft.old number line.now) (with_text line.now draft.old) draft.new result }
+{
     if is_skipped(line) {
         return Ok(());
     }
@@ -178,8 +220,7 @@ fn numbered_lines(
     plans: Vec<Vec<Plan>>,
     starts: u8,
 ) -> Result<Vec<Vec<ThreadLine>>, AllocError>
-    ensures lines { IfOk result (λ all. map (λ lines. lines.items) all.items ≡ map (λ lines. map (numbered_line starts) lines.items) plans.items) }
-    ensures len { IfOk result (λ all. length all.items ≡ length plans.items) }
+    ensures { IfOk result (λ all. map (λ lines. lines.items) all.items ≡ map (λ lines. map (numbered_line starts) lines.items) plans.items) }
 {
     let mut all = Vec::new(alloc);
     for lines in plans {

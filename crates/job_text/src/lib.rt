@@ -8,6 +8,7 @@ mod grammar;
 mod images;
 mod jobs;
 mod numbers;
+mod operands;
 mod spelling;
 #[cfg(test)]
 mod tests;

@@ -1,35 +1,60 @@
 //! Numbers, as the job writes them.
 
-ghost use Rattle.std.specs.Prelude.{◌≤◌, IfSome};
+ghost use Rattle.std.specs.Prelude.{◌≡◌, ◌==◌, ◌≤◌, IfSome, slice_index};
+ghost use Rattle.job_text.specs.Numbers.{has_leading_zero, number, number_within, numeral};
 
 /// The number that a word writes: decimal digits without a leading zero, or `0x` and hexadecimal
 /// digits of either case. None where it writes none, or one that does not fit 64 bits.
-pub(crate) fn number(word: &str) -> Option<u64> {
-    if let Some(digits) = word.strip_prefix("0x") {
-        hexadecimal(digits)
-    } else {
-        decimal(word)
+#[tactic(auto, unfolding(crate::specs::Numbers::number))]
+pub(crate) fn number(word: &str) -> Option<u64>
+    ensures { result ≡ number word.now }
+{
+    match word.strip_prefix("0x") {
+        Some(digits) => numeral(digits, 16),
+        None => {
+            if has_leading_zero(word) {
+                None
+            } else {
+                numeral(word, 10)
+            }
+        }
     }
 }
 
-fn hexadecimal(digits: &str) -> Option<u64> {
-    if digits.as_bytes().first() == Some(&b'+') {
+/// The number that digits of a base write.
+fn numeral(digits: &str, base: u32) -> Option<u64>
+    requires low { 2 ≤ base }
+    requires high { base ≤ 36 }
+    ensures { result ≡ numeral base digits.now }
+{
+    // A sign is no digit.
+    if begins_with_plus(digits) {
         return None;
     }
-    u64::from_str_radix(digits, 16).ok()
+    u64::from_str_radix(digits, base).ok()
 }
 
-fn decimal(word: &str) -> Option<u64> {
-    let bytes = word.as_bytes();
-    match bytes.first() {
-        Some(b'+') => None,
-        Some(b'0') if bytes.len() > 1 => None,
-        _ => word.parse::<u64>().ok(),
+fn begins_with_plus(word: &str) -> bool
+    ensures { result ≡ (slice_index word.now 0 == 43) }
+{
+    match word.as_bytes() {
+        [first, ..] => *first == b'+',
+        [] => false,
+    }
+}
+
+fn has_leading_zero(word: &str) -> bool
+    ensures { result ≡ has_leading_zero word.now }
+{
+    match word.as_bytes() {
+        [first, _, ..] => *first == b'0',
+        _ => false,
     }
 }
 
 /// The number that a word writes, where it lies between two bounds.
 pub(crate) fn number_within(word: &str, low: u64, high: u64) -> Option<u64>
+    ensures value { result ≡ number_within low high word.now }
     ensures low { IfSome result (λ value. low ≤ value) }
     ensures high { IfSome result (λ value. value ≤ high) }
 {

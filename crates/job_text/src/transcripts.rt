@@ -179,6 +179,7 @@ impl Model for Transcript {
 
 impl Transcript {
     ghost use Rattle.job_text.specs.Texts.{IsImageNumber, transcript_text};
+    ghost use Rattle.job_text.specs.Threads.{of_thread};
 
     /// The transcript of no thread and no event.
     pub fn new(alloc: Global) -> Transcript
@@ -213,7 +214,9 @@ impl Transcript {
     }
 
     /// The lines of a thread, from 1, and none of a thread that there is not.
-    pub fn lines(&self, thread: u32) -> &[Line] {
+    pub fn lines(&self, thread: u32) -> &[Line]
+        ensures { result.now ≡ of_thread self.now.threads thread }
+    {
         if thread == 0 {
             return &[];
         }

@@ -1,9 +1,6 @@
-use Rattle.std.proofs.Common.{◌≡◌, length, map}
+use Rattle.std.proofs.Common.{◌≡◌, map}
 use Rattle.job_text.specs.Jobs.{numbered_line}
 use Rattle.job_text.proofs.jobs.numbered_lines.Given as goal
 
 abbrev pub invariant-loop-lines : goal.invariant-loop-lines
-invariant-loop-lines l = record {
-  lines : map (λ lines. lines.items) l.all.items ≡ map (λ lines. map (numbered_line l.starts) lines.items) l.yielded;
-  len : length l.all.items ≡ length l.yielded;
-}
+invariant-loop-lines l = map (λ lines. lines.items) l.all.items ≡ map (λ lines. map (numbered_line l.starts) lines.items) l.yielded
