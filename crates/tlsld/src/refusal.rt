@@ -45,7 +45,7 @@ fn fault_line(
     entry: u64,
     kind: FaultKind,
 ) -> Result<Vec<u8>, AllocError> {
-    Ok(format!(in alloc; "object {name} section {section} entry {entry} {kind:?}\n")?.into_bytes())
+    Ok(format!(in alloc; "object {name} section {section} entry {entry} {kind}\n")?.into_bytes())
 }
 
 fn not_yet_line(alloc: Global, name: &str) -> Result<Vec<u8>, AllocError> {
