@@ -1,5 +1,5 @@
 -- The commands of the linker, as values that say what `clap` reads: a subcommand for each command.
-use Rattle.std.specs.Prelude.{ℕ, List, true, Some, codes}
+use Rattle.std.specs.Prelude.{true, Some, codes}
 use Rattle.clap.specs.Walk.{Rule, Text}
 use Rattle.clap.specs.Simple.{App, Shape, new_app, new_rule, on_top, with_rule, with_subcommand}
 use Rattle.clap.specs.declared.builder.action.ArgAction.TheVariants.{SetTrue}

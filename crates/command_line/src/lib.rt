@@ -1,4 +1,35 @@
 //! The words of a command line, read as a task.
+//!
+//! A linker is asked for its work by words: a command, the names of files, and options that may stand
+//! before, between or after them. This crate reads the words that follow the program's name, and answers
+//! with a [`Task`], or with `Usage` where they are not those of a command:
+//!
+//! | words | task |
+//! |---|---|
+//! | `run JOB [--no-relax]` | link the images of the job in the file JOB, and run its threads |
+//!
+//! ```text
+//! run a.job                    Run { job: "a.job", no_relax: false }
+//! run --no-relax a.job         Run { job: "a.job", no_relax: true }
+//! run -- --no-relax            Run { job: "--no-relax", no_relax: false }
+//! run -                        Run { job: "-", no_relax: false }
+//! run                          usage: there is no JOB
+//! run a.job b.job              usage: there is one word too many
+//! run a.job --no-rel           usage: an option has no shorter forms
+//! --help                       usage: a wish for help is no task
+//! ```
+//!
+//! `--no-relax` is the name that linkers give to the option that keeps each code sequence for thread-local
+//! storage as the compiler wrote it, where a shorter one would do.
+//!
+//! **The rule that the crate keeps.** The words are read as one simple command of `clap`, with a subcommand
+//! for each row of the table, and the contract says so in `clap`'s own definitions: `takes_words` says
+//! which words are taken, and `asked` which task they give. [`read_words`] answers `Ok` only for words that
+//! are taken, with the task that they ask for, and `Usage` only for words that are not. What is left open
+//! is `OutOfMemory`, which may come in place of each answer.
+//!
+//! No other crate stands on `clap`: those above see a [`Task`], whose texts are an own type, [`Text`], that
+//! their contracts read as bytes.
 #![tactic(auto)]
 
 mod command_set;
