@@ -20,7 +20,9 @@ fn print_section(rt: &impl Print, number: u32, section: &SectionPart) -> io::Res
     let held = section.bytes.len();
     let size = section.size;
     let alignment = section.alignment;
-    println!(rt; "  section {number} {name} {class:?}: {held} of {size} bytes, alignment {alignment}")
+    println!(rt;
+        "  section {number} {name} {class:?}: {held} of {size} bytes, alignment {alignment}"
+    )
 }
 
 fn print_relocation(rt: &impl Print, relocation: &Relocation) -> io::Result<()> {
@@ -38,7 +40,9 @@ fn print_symbol(rt: &impl Print, number: u32, symbol: &SymbolPart) -> io::Result
     let place = symbol.place;
     let value = symbol.value;
     let size = symbol.size;
-    println!(rt; "  symbol {number} {name} {binding:?} {kind:?} {place:?}: value {value}, size {size}")
+    println!(rt;
+        "  symbol {number} {name} {binding:?} {kind:?} {place:?}: value {value}, size {size}"
+    )
 }
 
 /// Prints an object: its sections, each with its relocations, and its symbols.

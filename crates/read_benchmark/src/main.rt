@@ -22,12 +22,16 @@ use std::time::Instant;
 
 /// How many bytes, relocations and symbols there are for each section of code. A section may have 2^20 bytes.
 const TEXT_SIZE: u64 = 800_000;
+
 const RELOCATIONS: u64 = 200_000;
+
 const SYMBOLS: u64 = 50_000;
 
 /// Bytes of a relocation entry and of a symbol, of a symbol's name, and of a section header.
 const ENTRY: u64 = 24;
+
 const NAME: u64 = 8;
+
 const HEADER: u64 = 64;
 
 /// Where the parts of an object with this many sections of code lie. The tables stand in the order in which they are written.
@@ -108,7 +112,9 @@ fn put_sections(bytes: &mut Vec<u8>, layout: &Layout) -> Result<(), AllocError> 
     put_section(bytes, &section(0, 0, 0))?;
     for number in 0..layout.texts.min(8) {
         let text = layout.texts_at.saturating_add(number * TEXT_SIZE);
-        let relocations = layout.relocations_at.saturating_add(number * RELOCATIONS * ENTRY);
+        let relocations = layout
+            .relocations_at
+            .saturating_add(number * RELOCATIONS * ENTRY);
         let mut header = section(SHT_PROGBITS, text, TEXT_SIZE);
         header.flags = SHF_ALLOC | SHF_EXECINSTR;
         put_section(bytes, &header)?;
@@ -201,12 +207,19 @@ fn main(rt: HostRuntime) -> Result<()> {
     let start = Instant::now(&rt)?;
     let object = Object::read(rt.alloc(), &bytes)?;
     let reading = start.elapsed(&rt)?;
-    println!(rt; "{} symbols, {} relocations in section 1", object.symbol_count(), object.relocs(1).count())?;
+    println!(rt;
+        "{} symbols, {} relocations in section 1",
+        object.symbol_count(),
+        object.relocs(1).count()
+    )?;
     if words.next().is_some() {
         let start = Instant::now(&rt)?;
         let sum = sum_of(&bytes);
         let adding = start.elapsed(&rt)?;
-        println!(rt; "{} bytes: read in {reading:?}, added in {adding:?} (sum {sum})", bytes.len())?;
+        println!(rt;
+            "{} bytes: read in {reading:?}, added in {adding:?} (sum {sum})",
+            bytes.len()
+        )?;
     }
     Ok(())
 }
