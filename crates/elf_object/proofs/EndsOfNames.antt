@@ -1,9 +1,8 @@
 -- A name ends exactly where it begins before the end of names.
-use Rattle.std.proofs.Common.{◌≡◌, ◌==◌, ◌+◌, ◌-◌, ◌<◌, ◌≤◌, ℕ, Bool, true, false, not, List, length, get_or, arith}
+use Rattle.std.proofs.Common.{◌≡◌, ◌==◌, ◌-◌, ◌<◌, ◌≤◌, ℕ, true, false, not, List, length, get_or, arith}
 use Rattle.std.specs.List.{position_or_len}
 use Rattle.std.proofs.lemmas.Bool.Decides.{nat_tests}
 use Rattle.std.proofs.lemmas.List.Sums.{prefix_len_is}
-use Rattle.elf_object.specs.Parts.{section}
 use Rattle.elf_object.specs.Names.{Ends, IsEndOfNames}
 
 pub ends_before : (b : List ℕ) (s n at : ℕ) → IsEndOfNames b s n → at < n → Ends b s at
@@ -20,7 +19,8 @@ pub text_len_is : (xs : List ℕ) (n : ℕ) → n ≤ length xs → ((k : ℕ) �
 text_len_is xs n inside before at =
     prefix_len_is (λ (byte : ℕ). not (byte == 0)) xs n 0 inside (λ k h. other (get_or xs k 0) (before k h)) (λ h. same (get_or xs n 0) (at h))
   where
-  other : (x : ℕ) → (x ≡ 0 → ⊥) → not (x == 0) ≡ true
-  other x h = grind (arith, nat_tests)
-  same : (x : ℕ) → x ≡ 0 → not (x == 0) ≡ false
-  same x h = grind (arith, nat_tests)
+    other : (x : ℕ) → (x ≡ 0 → ⊥) → not (x == 0) ≡ true
+    other x h = grind (arith, nat_tests)
+
+    same : (x : ℕ) → x ≡ 0 → not (x == 0) ≡ false
+    same x h = grind (arith, nat_tests)

@@ -1,9 +1,8 @@
 -- The faults of the file as a whole: its length, its header, the table of section headers, the bytes of sections.
-use Rattle.std.proofs.Common.{◌≡◌, ◌+◌, ◌*◌, ◌<◌, ◌≤◌, ◌⊎◌, ℕ, List, length, inl, inr, refl, arith}
-use Rattle.elf_object.specs.declared.fault.FaultKind.{FaultKind}
+use Rattle.std.proofs.Common.{◌+◌, ◌*◌, ◌<◌, ◌≤◌, ℕ, List, length, inl, inr, refl, arith}
 use Rattle.elf_object.specs.declared.fault.FaultKind.TheVariants.{Truncated, NotElf, NotRelocatable}
 use Rattle.elf_object.specs.Parts.{header}
-use Rattle.elf_object.specs.Faults.{IsElf, IsRelocatable, HasPartPastEnd, Stands, Nowhere, NoneBelow, IsFirst}
+use Rattle.elf_object.specs.Faults.{IsElf, IsRelocatable, HasPartPastEnd, Stands, NoneBelow, IsFirst}
 use Rattle.elf_object.proofs.Order.{none_at_first, none_more}
 
 -- a file shorter than its header
@@ -37,8 +36,8 @@ not_relocatable b long elf other = record {
   here = (refl, refl, long, other);
   nowhere_earlier = λ t f h _. absurd (omega arith);
   earlier_kinds =
-    let first = none_more Truncated b (none_at_first b) (λ s e h. elim h.1 [ inl short ↦ absurd (omega arith) | inr w ↦ other w.2 ]) in
-    none_more NotElf b first (λ s e h. h.3 elf);
+      let first = none_more Truncated b (none_at_first b) (λ s e h. elim h.1 [ inl short ↦ absurd (omega arith) | inr w ↦ other w.2 ]) in
+      none_more NotElf b first (λ s e h. h.3 elf);
 }
 
 -- an object whose table of section headers passes the end
@@ -59,8 +58,9 @@ unfolding Stands
 section_passes b s long elf object inside past none = record {
   here = (refl, inr (long, elf, object, inr past));
   nowhere_earlier = λ t f h w. elim h [
-      inl lt ↦ elim w.1 [ inl short ↦ omega arith | inr v ↦ elim v.3 [ inl table ↦ omega arith | inr part ↦ none t lt part ] ]
-    | inr same ↦ omega arith ];
+    | inl lt ↦ elim w.1 [ inl short ↦ omega arith | inr v ↦ elim v.3 [ inl table ↦ omega arith | inr part ↦ none t lt part ] ]
+    | inr same ↦ omega arith
+  ];
   earlier_kinds = none_at_first b;
 }
 
@@ -71,7 +71,7 @@ pub none_passes : (b : List ℕ) → 64 ≤ length b → IsElf (header b) → Is
 unfolding Stands
 none_passes b long elf object inside none =
     let whole : NoneBelow 1 b =
-      none_more Truncated b (none_at_first b)
-        (λ s e h. elim h.1 [ inl short ↦ omega arith | inr v ↦ elim v.3 [ inl table ↦ omega arith | inr part ↦ none s part ] ]) in
+    none_more Truncated b (none_at_first b)
+    (λ s e h. elim h.1 [ inl short ↦ omega arith | inr v ↦ elim v.3 [ inl table ↦ omega arith | inr part ↦ none s part ] ]) in
     let known : NoneBelow 2 b = none_more NotElf b whole (λ s e h. h.3 elf) in
     none_more NotRelocatable b known (λ s e h. h.3 object)

@@ -1,6 +1,5 @@
 -- The relocations that are left, one after another.
-use Rattle.std.proofs.Common.{◌≡◌, ◌+◌, ◌*◌, ◌-◌, ◌<◌, ◌≤◌, ◌∙◌, ℕ, suc, List, [], ◌∷◌, refl, ap, arith, add-one}
-use Rattle.elf_object.specs.declared.relocation.Relocation.{Relocation}
+use Rattle.std.proofs.Common.{◌≡◌, ◌+◌, ◌*◌, ◌-◌, ◌<◌, ◌≤◌, ℕ, suc, List, [], ◌∷◌, refl, arith, add-one}
 use Rattle.elf_object.specs.Lent.{relocation_at, relocations_from}
 
 -- none is left

@@ -4,7 +4,7 @@ use Rattle.elf_object.specs.declared.fault.FaultKind.{FaultKind}
 use Rattle.elf_object.specs.declared.fault.FaultKind.TheVariants.{Truncated, NotElf, NotRelocatable, SectionName, SectionKind, SectionAlign, TooLarge, SymbolTable, SymbolName, SymbolSection, SymbolRange, SymbolKind, RelocTarget, RelocSymbol, RelocKind, RelocRange, RelocOverlap, Sequence, StrayCall, WritableData}
 use Rattle.elf_object.specs.Parts.{IsSection}
 use Rattle.elf_object.specs.Relocations.{IsReloc}
-use Rattle.elf_object.specs.Faults.{number, Stands, Nowhere, NoneBelow, IsObject, IsFirst, Earlier, IsSymbol}
+use Rattle.elf_object.specs.Faults.{number, Stands, Nowhere, NoneBelow, IsObject, IsFirst, IsSymbol}
 
 -- the kinds in their order
 abbrev pub kinds : List FaultKind
@@ -44,11 +44,12 @@ none_at_first b kind h = absurd (omega arith)
 pub none_more : (k : FaultKind) (b : List ℕ) → NoneBelow (number k) b → Nowhere k b → NoneBelow (number k + 1) b
 none_more k b below here kind h =
     elim (cases_of (number kind) (number k) h) [
-      inl lt ↦ below kind lt
-    | inr eq ↦ let P : FaultKind → Type 0 = λ j. Nowhere j b in subst P (sym (same_kind kind k eq)) here ]
+      | inl lt ↦ below kind lt
+      | inr eq ↦ let P : FaultKind → Type 0 = λ j. Nowhere j b in subst P (sym (same_kind kind k eq)) here
+    ]
   where
-  cases_of : (m n : ℕ) → m < n + 1 → (m < n) ⊎ (m ≡ n)
-  cases_of m n h = grind arith
+    cases_of : (m n : ℕ) → m < n + 1 → (m < n) ⊎ (m ≡ n)
+    cases_of m n h = grind arith
 
 -- with no kind up to the last one that is asked of an object alone, the bytes stand for an object
 pub object_of : (b : List ℕ) → NoneBelow 17 b → IsObject b
@@ -144,8 +145,9 @@ pub first_of : (kind : FaultKind) (b : List ℕ) (s e : ℕ) → NoneBelow (numb
 first_of kind b s e below here sections entries = record {
   here = here;
   nowhere_earlier = λ t f h w. elim h [
-      inl lt ↦ sections t lt f w
-    | inr same ↦ let P : ℕ → Type 0 = λ x. Stands kind b x f in entries f same.1 (subst P same.0 w) ];
+    | inl lt ↦ sections t lt f w
+    | inr same ↦ let P : ℕ → Type 0 = λ x. Stands kind b x f in entries f same.1 (subst P same.0 w)
+  ];
   earlier_kinds = below;
 }
 

@@ -1,5 +1,5 @@
 -- Marks on the bytes of a target say which fields cover them, entry after entry.
-use Rattle.std.proofs.Common.{◌≡◌, ◌+◌, ◌<◌, ◌≤◌, ◌⊎◌, ◌↔◌, ◌∙◌, ℕ, List, Bool, true, false, IsTrue, slice_index, sym, subst, inl, inr, refl, arith}
+use Rattle.std.proofs.Common.{◌≡◌, ◌+◌, ◌<◌, ◌≤◌, ◌⊎◌, ◌↔◌, ◌∙◌, ℕ, List, slice_index, sym, subst, inl, inr, arith}
 use Rattle.std.proofs.lemmas.Bool.{cases_lt}
 use Rattle.elf_object.specs.declared.fault.FaultKind.TheVariants.{RelocRange, RelocOverlap}
 use Rattle.elf_object.specs.Parts.{section, rela}
@@ -14,8 +14,8 @@ AreMarked b s n marks = (k : ℕ) → (slice_index marks k ≡ s) ↔ ((f : ℕ)
 covers_or_not : (b : List ℕ) (s e k : ℕ) → Covers b s e k ⊎ (Covers b s e k → ⊥)
 covers_or_not b s e k = between (rela b s e).offset ((rela b s e).offset + width_at b s e) k
   where
-  between : (from to k : ℕ) → ((from ≤ k) × (k < to)) ⊎ ((from ≤ k) × (k < to) → ⊥)
-  between from to k = grind arith
+    between : (from to k : ℕ) → ((from ≤ k) × (k < to)) ⊎ ((from ≤ k) × (k < to) → ⊥)
+    between from to k = grind arith
 
 -- the field of entry e had a marked byte
 pub overlap_found : (b : List ℕ) (s e : ℕ) (old : List ℕ) → IsReloc b s e → AreMarked b s e old
@@ -39,13 +39,15 @@ pub marked_more : (b : List ℕ) (s e : ℕ) (old new : List ℕ) → AreMarked 
     → ((k : ℕ) → (Covers b s e k → ⊥) → slice_index new k ≡ slice_index old k) → AreMarked b s (e + 1) new
 marked_more b s e old new marked within outside k =
     elim (covers_or_not b s e k) [
-      inl covers ↦ (λ _. (e, omega arith, covers), λ _. within k covers)
-    | inr bare ↦
-        (λ has. let before = (marked k).0 (sym (outside k bare) ∙ has) in (before.0, omega (arith, before.1), before.2),
-         λ by.
-           let P : ℕ → Type 0 = λ x. Covers b s x k in
-           let apart : by.0 ≡ e → ⊥ = λ same. bare (subst P same by.2) in
-           outside k bare ∙ (marked k).1 (by.0, omega (arith, by.1), by.2)) ]
+      | inl covers ↦ (λ _. (e, omega arith, covers), λ _. within k covers)
+      | inr bare ↦ (
+        λ has. let before = (marked k).0 (sym (outside k bare) ∙ has) in (before.0, omega (arith, before.1), before.2),
+        λ by.
+            let P : ℕ → Type 0 = λ x. Covers b s x k in
+            let apart : by.0 ≡ e → ⊥ = λ same. bare (subst P same by.2) in
+            outside k bare ∙ (marked k).1 (by.0, omega (arith, by.1), by.2),
+      )
+    ]
 
 -- marks stay at most s
 pub marks_below : (b : List ℕ) (s e : ℕ) (old new : List ℕ) → ((k : ℕ) → slice_index old k < s + 1)
@@ -53,8 +55,9 @@ pub marks_below : (b : List ℕ) (s e : ℕ) (old new : List ℕ) → ((k : ℕ)
     → ((k : ℕ) → (Covers b s e k → ⊥) → slice_index new k ≡ slice_index old k) → (k : ℕ) → slice_index new k < s + 1
 marks_below b s e old new below within outside k =
     elim (covers_or_not b s e k) [
-      inl covers ↦ omega (arith, within k covers)
-    | inr bare ↦ omega (arith, outside k bare, below k) ]
+      | inl covers ↦ omega (arith, within k covers)
+      | inr bare ↦ omega (arith, outside k bare, below k)
+    ]
 
 -- the kind stands at relocations alone
 pub at_overlap : (b : List ℕ) (s e : ℕ) → Stands RelocOverlap b s e → IsReloc b s e
@@ -67,5 +70,6 @@ pub room_of : (b : List ℕ) (r e n : ℕ) → NoneBelow 16 b → IsReloc b r e 
 unfolding Stands
 room_of b r e n below reloc size =
     elim (cases_lt (section b (section b r).info).size ((rela b r e).offset + width_at b r e)) [
-      inl past ↦ absurd (below RelocRange (omega arith) r e (reloc, past))
-    | inr inside ↦ omega arith ]
+      | inl past ↦ absurd (below RelocRange (omega arith) r e (reloc, past))
+      | inr inside ↦ omega arith
+    ]

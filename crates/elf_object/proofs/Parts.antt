@@ -1,5 +1,5 @@
 -- The bytes of sections lie in the file.
-use Rattle.std.proofs.Common.{◌≡◌, ◌*◌, ◌/◌, ap, ◌+◌, ◌<◌, ◌≤◌, ◌⊎◌, ℕ, List, length, inl, inr, arith}
+use Rattle.std.proofs.Common.{◌≡◌, ◌*◌, ◌/◌, ap, ◌+◌, ◌≤◌, ℕ, List, length, inl, inr, arith}
 use Rattle.std.proofs.lemmas.Bool.{cases_lt}
 use Rattle.elf_records.specs.declared.section_header.SectionHeader.{SectionHeader}
 use Rattle.elf_object.specs.Parts.{section, IsSection, IsTable, HasBytes}
@@ -8,8 +8,9 @@ use Rattle.elf_object.specs.Faults.{HasPartPastEnd}
 pub part_inside : (b : List ℕ) (s : ℕ) → ((t : ℕ) → HasPartPastEnd b t → ⊥) → IsSection b s → HasBytes (section b s) → (section b s).offset + (section b s).size ≤ length b
 part_inside b s none within some =
     elim (cases_lt (length b) ((section b s).offset + (section b s).size)) [
-      inl past ↦ absurd (none s (within, some, past))
-    | inr inside ↦ inside ]
+      | inl past ↦ absurd (none s (within, some, past))
+      | inr inside ↦ inside
+    ]
 
 -- the entries of the symbol table lie in the file
 pub table_inside : (b : List ℕ) (s : ℕ) (h : SectionHeader) → h ≡ section b s → ((t : ℕ) → HasPartPastEnd b t → ⊥) → IsTable b s → h.offset + 24 * (h.size / 24) ≤ length b

@@ -1,6 +1,5 @@
 -- The faults of the symbol table: those of the first section of symbols come before a second such section.
-use Rattle.std.proofs.Common.{◌≡◌, ◌≢◌, ◌+◌, ◌<◌, ◌≤◌, ◌⊎◌, ◌∙◌, ℕ, List, refl, sym, subst, inl, inr, arith}
-use Rattle.std.proofs.lemmas.Bool.{cases_lt}
+use Rattle.std.proofs.Common.{◌≡◌, ◌<◌, ◌≤◌, ℕ, List, refl, sym, subst, inl, inr, arith}
 use Rattle.elf_object.specs.declared.fault.FaultKind.TheVariants.{SymbolTable}
 use Rattle.elf_object.specs.Parts.{header, section, symbol_table, IsTable}
 use Rattle.elf_object.specs.Faults.{Stands, Nowhere, NoneBelow, IsFirst, IsBadTable}
@@ -12,8 +11,9 @@ in_tables : (b : List ℕ) (s e : ℕ) → Stands SymbolTable b s e
     → (0 < symbol_table b) × (symbol_table b ≤ s) × (symbol_table b < s → (e ≡ 0) × IsTable b s)
 unfolding Stands
 in_tables b s e h = elim h [
-    inl table ↦ let least = table_least b s table.1.0.0 table.1.0.1 table.1.1 in (least.0, least.1, λ _. (table.0, table.1))
-  | inr symbol ↦ (omega (arith, symbol.0.0, symbol.0.1), omega (arith, symbol.0.1), λ past. absurd (omega (arith, symbol.0.1))) ]
+  | inl table ↦ let least = table_least b s table.1.0.0 table.1.0.1 table.1.1 in (least.0, least.1, λ _. (table.0, table.1))
+  | inr symbol ↦ (omega (arith, symbol.0.0, symbol.0.1), omega (arith, symbol.0.1), λ past. absurd (omega (arith, symbol.0.1)))
+]
 
 -- without a section of symbols
 pub no_table : (b : List ℕ) → symbol_table b ≡ 0 → Nowhere SymbolTable b
@@ -54,9 +54,9 @@ only_second : (b : List ℕ) (t u f : ℕ) → t ≡ symbol_table b → (IsBadTa
 only_second b t u f same fine none w =
     let found = in_tables b u f w in
     let not_at : (u ≡ t → ⊥) = λ at.
-      let P : ℕ → Type 0 = λ x. Stands SymbolTable b x f in
-      let here : P t = subst P at w in
-      none f (at_table b t f fine here, here) in
+    let P : ℕ → Type 0 = λ x. Stands SymbolTable b x f in
+    let here : P t = subst P at w in
+    none f (at_table b t f fine here, here) in
     let past : t < u = omega (arith, found.1) in
     let behind : symbol_table b < u = omega arith in
     (past, (found.2 behind).1)
@@ -69,7 +69,7 @@ unfolding Stands
 second_table b t s same below fine none here first =
     let other : s ≡ symbol_table b → ⊥ = λ at. omega (arith, here.0) in
     first_of SymbolTable b s 0 below (inl (refl, here.1, inl other))
-      (λ u h f w. first u h (only_second b t u f same fine none w)) (λ f h w. omega arith)
+    (λ u h f w. first u h (only_second b t u f same fine none w)) (λ f h w. omega arith)
 
 -- no fault of the kind
 pub tables_fine : (b : List ℕ) (t : ℕ) → t ≡ symbol_table b → (IsBadTable b t → ⊥)

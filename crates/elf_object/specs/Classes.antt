@@ -1,5 +1,5 @@
 -- The classes of sections that linking keeps, by flags and type (gABI, "Sections"; psABI, "Special Sections").
-use Rattle.std.specs.Prelude.{◌≡◌, ◌≢◌, ◌<◌, ◌≤◌, ◌^◌, ◌==◌, ◌&&◌, ◌||◌, ◌⊎◌, ℕ, Bool, true, false, List, Option, Some, None, IsSome, bit_and, if◌then◌else◌}
+use Rattle.std.specs.Prelude.{◌≡◌, ◌≤◌, ◌^◌, ◌==◌, ◌||◌, ◌⊎◌, ℕ, true, false, List, Option, Some, None, IsSome, bit_and, if◌then◌else◌}
 use Rattle.elf_records.specs.declared.section_header.SectionHeader.{SectionHeader}
 use Rattle.elf_object.specs.declared.class.SectionClass.{SectionClass}
 use Rattle.elf_object.specs.declared.class.SectionClass.TheVariants.{Executable, ReadOnly, Tls, Writable}
@@ -13,9 +13,9 @@ class_row flags kind =
     if flags == SHF_EXECINSTR then (if kind == SHT_PROGBITS then Some Executable else None) else
     if flags == 0 then (if (kind == SHT_PROGBITS) || (kind == SHT_NOTE) || (kind == SHT_X86_64_UNWIND) then Some ReadOnly else None) else
     if (flags == SHF_TLS) || (flags == SHF_TLS_WRITE) then
-        (if kind == SHT_PROGBITS then Some (Tls true) else if kind == SHT_NOBITS then Some (Tls false) else None) else
+    (if kind == SHT_PROGBITS then Some (Tls true) else if kind == SHT_NOBITS then Some (Tls false) else None) else
     if flags == SHF_WRITE then
-        (if kind == SHT_PROGBITS then Some (Writable true) else if kind == SHT_NOBITS then Some (Writable false) else None) else
+    (if kind == SHT_PROGBITS then Some (Writable true) else if kind == SHT_NOBITS then Some (Writable false) else None) else
     None
 
 -- the class that a section's flags and type give it

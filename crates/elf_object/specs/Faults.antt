@@ -1,5 +1,5 @@
 -- When an object is at fault: what each kind means, and which fault is the first (gABI; psABI).
-use Rattle.std.specs.Prelude.{◌≡◌, ◌≢◌, ◌+◌, ◌*◌, ◌/◌, ◌%◌, ◌^◌, ◌<◌, ◌≤◌, ◌⊎◌, ◌==◌, ℕ, List, Option, Result, Ok, Err, Some, None, IsNone, length, take, bit_and}
+use Rattle.std.specs.Prelude.{◌≡◌, ◌≢◌, ◌+◌, ◌*◌, ◌%◌, ◌^◌, ◌<◌, ◌≤◌, ◌⊎◌, ℕ, List, Option, Result, Ok, Err, Some, None, IsNone, length, take, bit_and}
 use Rattle.elf_records.specs.declared.file_header.Header.{Header}
 use Rattle.elf_records.specs.declared.section_header.SectionHeader.{SectionHeader}
 use Rattle.elf_records.specs.declared.symbol.SymbolEntry.{SymbolEntry}
@@ -8,7 +8,7 @@ use Rattle.elf_object.specs.declared.fault.FaultKind.TheVariants.{Truncated, Not
 use Rattle.elf_object.specs.declared.fault.ObjectFault.{ObjectFault}
 use Rattle.elf_object.specs.declared.fault.ObjectFault.TheVariants.{OutOfMemory, At}
 use Rattle.elf_records.specs.declared.file_header.TheConstants.{ELF_IDENT, ET_REL, EM_X86_64, EV_CURRENT}
-use Rattle.elf_records.specs.declared.section_header.TheConstants.{SHT_SYMTAB, SHT_STRTAB, SHT_REL, SHT_GROUP, SHT_SYMTAB_SHNDX, SHT_NOBITS, SHF_ALLOC, SHF_TLS}
+use Rattle.elf_records.specs.declared.section_header.TheConstants.{SHT_STRTAB, SHT_REL, SHT_GROUP, SHT_SYMTAB_SHNDX, SHT_NOBITS, SHF_ALLOC, SHF_TLS}
 use Rattle.elf_records.specs.declared.symbol.TheConstants.{SHN_UNDEF, SHN_ABS, STB_LOCAL, STB_GLOBAL, STB_WEAK, STT_FUNC, STT_FILE, STT_TLS, SHN_LORESERVE}
 use Rattle.elf_object.specs.declared.class.SectionClass.{SectionClass}
 use Rattle.elf_object.specs.declared.class.SectionClass.TheVariants.{Executable}
@@ -91,7 +91,7 @@ abbrev pub IsMisnamed : List ℕ → SymbolEntry → Type 0
 IsMisnamed b symbol =
     IsStrings b (symbol_strings b)
     × ((Ends b (symbol_strings b) symbol.name → ⊥)
-       ⊎ ((byte_of b (symbol_strings b) symbol.name ≡ 0) × (symbol_binding symbol ≢ STB_LOCAL)))
+    ⊎ ((byte_of b (symbol_strings b) symbol.name ≡ 0) × (symbol_binding symbol ≢ STB_LOCAL)))
 
 -- section s is one, but linking drops it
 abbrev pub IsDropped : List ℕ → ℕ → Type 0
@@ -128,10 +128,10 @@ abbrev pub IsMistargeted : List ℕ → ℕ → Type 0
 IsMistargeted b r =
     (IsSection b (section b r).info → ⊥)
     ⊎ (IsKeptSection b (section b r).info
-       × (((section b r).entsize ≢ 24) ⊎ ((section b r).size % 24 ≢ 0)
-          ⊎ (IsTable b (section b r).link → ⊥)
-          ⊎ (((section b (section b r).info).kind ≡ SHT_NOBITS) × ((section b r).size ≢ 0))
-          ⊎ IsSecond b r))
+    × (((section b r).entsize ≢ 24) ⊎ ((section b r).size % 24 ≢ 0)
+    ⊎ (IsTable b (section b r).link → ⊥)
+    ⊎ (((section b (section b r).info).kind ≡ SHT_NOBITS) × ((section b r).size ≢ 0))
+    ⊎ IsSecond b r))
 
 -- the symbol that a relocation names is none, or one that has no place
 abbrev pub IsUnplaced : List ℕ → ℕ → Type 0
@@ -157,7 +157,7 @@ Stands NotRelocatable b s e = (s ≡ 0) × (e ≡ 0) × (64 ≤ length b) × (Is
 Stands SectionName b s e =
     (e ≡ 0) × IsSection b s
     × (((s ≡ (header b).e_shstrndx) × ((section b s).kind ≢ SHT_STRTAB))
-       ⊎ (IsStrings b (header b).e_shstrndx × (Ends b (header b).e_shstrndx (section b s).name → ⊥)))
+    ⊎ (IsStrings b (header b).e_shstrndx × (Ends b (header b).e_shstrndx (section b s).name → ⊥)))
 Stands SectionKind b s e = (e ≡ 0) × IsSection b s × IsRefused (section b s)
 Stands SectionAlign b s e = (e ≡ 0) × IsKeptSection b s × (IsAlignment (section b s).addralign → ⊥)
 Stands TooLarge b s e =

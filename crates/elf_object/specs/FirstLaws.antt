@@ -24,8 +24,9 @@ unfolding first_below
 first_found p n zero above none passes h = absurd (omega arith)
 first_found p n (suc m) above none passes h =
     elim (below_or_at n m h) [
-      inl lt ↦ later (first_below p m) m n (p m) above (first_found p n m above none passes lt)
-    | inr same ↦ rw (← same) (here (first_below p n) n (p n) none passes) ]
+      | inl lt ↦ later (first_below p m) m n (p m) above (first_found p n m above none passes lt)
+      | inr same ↦ rw (← same) (here (first_below p n) n (p n) none passes)
+    ]
 
 -- what is found passes, and lies below the end
 passes_of : (p : ℕ → Bool) (r n : ℕ) → (0 < r → (p r ≡ true) × (r < n)) → 0 < (if nat_lt 0 r then r else (if p n then n else 0))
@@ -45,8 +46,8 @@ least_of r n k q known low h above passes = grind (arith, nat_tests)
 low_of : (p : ℕ → Bool) (n : ℕ) → (first_below p n < n) ⊎ (first_below p n ≡ 0)
 low_of p n = elim (positive (first_below p n)) [ inl h ↦ inl (first_passes p n h).1 | inr z ↦ inr z ]
   where
-  positive : (r : ℕ) → (0 < r) ⊎ (r ≡ 0)
-  positive r = grind arith
+    positive : (r : ℕ) → (0 < r) ⊎ (r ≡ 0)
+    positive r = grind arith
 
 pub first_least : (p : ℕ → Bool) (n k : ℕ) → 0 < k → k < n → p k ≡ true → (0 < first_below p n) × (first_below p n ≤ k)
 unfolding first_below
@@ -59,15 +60,15 @@ pub first_same : (p : ℕ → Bool) (n : ℕ) → p n ≡ false → first_below 
 unfolding first_below
 first_same p n fails = rw (add-one, fails) (same_of (first_below p n))
   where
-  same_of : (r : ℕ) → (if nat_lt 0 r then r else 0) ≡ r
-  same_of r = grind (arith, nat_tests)
+    same_of : (r : ℕ) → (if nat_lt 0 r then r else 0) ≡ r
+    same_of r = grind (arith, nat_tests)
 
 pub first_kept : (p : ℕ → Bool) (n : ℕ) → (first_below p n ≡ 0 → ⊥) → first_below p (n + 1) ≡ first_below p n
 unfolding first_below
 first_kept p n some = rw add-one (kept_of (first_below p n) (if p n then n else 0) some)
   where
-  kept_of : (r m : ℕ) → (r ≡ 0 → ⊥) → (if nat_lt 0 r then r else m) ≡ r
-  kept_of r m some = grind (arith, nat_tests)
+    kept_of : (r m : ℕ) → (r ≡ 0 → ⊥) → (if nat_lt 0 r then r else m) ≡ r
+    kept_of r m some = grind (arith, nat_tests)
 
 pub first_new : (p : ℕ → Bool) (n : ℕ) → first_below p n ≡ 0 → p n ≡ true → first_below p (n + 1) ≡ n
 unfolding first_below

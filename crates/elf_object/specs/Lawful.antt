@@ -1,15 +1,14 @@
 -- What callers may rely on of the parts that an object lends.
-use Rattle.std.specs.Prelude.{◌≡◌, ◌≢◌, ◌+◌, ◌<◌, ◌≤◌, ◌^◌, ℕ, Bool, true, List, [], length, Option, Some, IsSome, if◌then◌else◌}
+use Rattle.std.specs.Prelude.{◌≡◌, ◌≢◌, ◌+◌, ◌<◌, ◌≤◌, ◌^◌, ℕ, Bool, true, List, length, Some, IsSome, if◌then◌else◌}
 use Rattle.elf_object.specs.declared.class.SectionClass.{SectionClass}
 use Rattle.elf_object.specs.declared.class.SectionClass.TheVariants.{Executable, Tls, Writable}
-use Rattle.elf_object.specs.declared.symbol.SymbolBinding.TheVariants.{Local}
 use Rattle.elf_object.specs.declared.symbol.SymbolType.TheVariants.{Func, File, Tls as ThreadLocal}
 use Rattle.elf_object.specs.declared.symbol.SymbolPlace.TheVariants.{Absolute, InSection}
 use Rattle.elf_object.specs.declared.relocation.RelocationKind.TheVariants.{Nothing}
 use Rattle.elf_object.specs.declared.relocation.Relocation.{Relocation}
 use Rattle.elf_object.specs.Parts.{symbol_count, IsSection}
 use Rattle.elf_object.specs.Classes.{IsTls}
-use Rattle.elf_object.specs.Lent.{section_class, section_size, section_alignment, section_bytes, symbol_name, symbol_binding, symbol_type, symbol_place, symbol_value, symbol_size}
+use Rattle.elf_object.specs.Lent.{section_class, section_size, section_alignment, section_bytes, symbol_type, symbol_place, symbol_value, symbol_size}
 use Rattle.elf_object.specs.Relocations.{field_width, IsOfCode}
 
 -- whether a section of this class has bytes in the file
@@ -35,9 +34,8 @@ pub record IsPlaced (b : List ℕ) (e : ℕ) : Type 0 where
   pub no_code : (s : ℕ) → symbol_place b e ≡ InSection s → IsTls (section_class b s) → (symbol_type b e ≢ Func) × (symbol_type b e ≢ File)
   pub thread_local : (s : ℕ) → symbol_type b e ≡ ThreadLocal → symbol_place b e ≡ InSection s → IsTls (section_class b s)
 
--- symbol e, which is not LOCAL, has a name, and it is undefined or lies in a section that linking keeps
+-- symbol e, which is not LOCAL, is undefined or lies in a section that linking keeps
 pub record IsShared (b : List ℕ) (e : ℕ) : Type 0 where
-  pub named : symbol_name b e ≢ []
   pub relative : symbol_place b e ≢ Absolute
   pub kept : (s : ℕ) → symbol_place b e ≡ InSection s → IsSome (section_class b s)
 

@@ -5,6 +5,8 @@ pub mod FirstLaws
 pub mod Firsts
 pub mod Lawful
 pub mod LawsOfParts
+pub mod LawsOfRelocations
+pub mod LawsOfSections
 pub mod Laws
 pub mod Lent
 pub mod Names

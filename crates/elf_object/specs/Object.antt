@@ -1,8 +1,8 @@
 -- What a reader keeps of an object, and what callers may rely on.
-use Rattle.std.specs.Prelude.{◌≡◌, ◌<◌, ◌≤◌, ℕ, List, Option, Some, length}
+use Rattle.std.specs.Prelude.{◌≡◌, ℕ, List, Option, Some, length}
 use Rattle.elf_object.specs.declared.class.SectionClass.{SectionClass}
 use Rattle.elf_object.specs.declared.class.SectionClass.TheVariants.{Writable}
-use Rattle.elf_object.specs.Parts.{header, section, IsSection}
+use Rattle.elf_object.specs.Parts.{header}
 use Rattle.elf_object.specs.Lent.{section_class}
 use Rattle.elf_object.specs.Tables.{AreTargets}
 use Rattle.elf_object.specs.Faults.{IsObject}

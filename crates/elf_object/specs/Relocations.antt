@@ -1,5 +1,5 @@
 -- The types of relocation that linking takes (psABI, "Relocation Types").
-use Rattle.std.specs.Prelude.{◌≡◌, ◌+◌, ◌<◌, ◌≤◌, ◌*◌, ◌^◌, ◌/◌, ◌%◌, ◌==◌, ℕ, List, Option, Some, None, if◌then◌else◌}
+use Rattle.std.specs.Prelude.{◌+◌, ◌<◌, ◌≤◌, ◌==◌, ℕ, List, Option, Some, None, if◌then◌else◌}
 use Rattle.elf_records.specs.Records.{rela_kind}
 use Rattle.elf_records.specs.declared.relocation.TheConstants.{R_X86_64_NONE, R_X86_64_64, R_X86_64_PC32, R_X86_64_PLT32, R_X86_64_GOTPCREL, R_X86_64_32, R_X86_64_32S, R_X86_64_TLSGD, R_X86_64_TLSLD, R_X86_64_DTPOFF32, R_X86_64_GOTTPOFF, R_X86_64_TPOFF32, R_X86_64_GOTPC32_TLSDESC, R_X86_64_TLSDESC_CALL, R_X86_64_GOTPCRELX, R_X86_64_REX_GOTPCRELX}
 use Rattle.elf_object.specs.declared.relocation.RelocationKind.{RelocationKind}

@@ -1,8 +1,7 @@
 -- What the searches for the symbol table and for sections of relocations find.
-use Rattle.std.proofs.Common.{◌≡◌, ◌<◌, ◌≤◌, ◌+◌, ◌/◌, ◌*◌, ◌∙◌, length, ℕ, List, Bool, true, false, refl, sym, ap, arith, nat_lt, not, IsTrue, IsSome, Option, Some, None, is_none, if◌then◌else◌, ◌==◌, ◌&&◌}
+use Rattle.std.proofs.Common.{◌≡◌, ◌<◌, ◌≤◌, ◌+◌, ◌/◌, ℕ, List, Bool, true, false, refl, ap, arith, nat_lt, not, IsTrue, IsSome, Option, Some, None, is_none, if◌then◌else◌, ◌==◌, ◌&&◌}
 use Rattle.std.proofs.lemmas.Bool.Decides.{nat_tests}
-use Rattle.elf_records.specs.declared.section_header.SectionHeader.{SectionHeader}
-use Rattle.elf_object.specs.Parts.{header, section, IsSection, IsTable, IsRela, is_section, symbol_table, symbol_count, is_table, relocation_table, relocates}
+use Rattle.elf_object.specs.Parts.{header, section, IsSection, IsRela, is_section, symbol_table, symbol_count, is_table, relocation_table, relocates}
 use Rattle.elf_object.specs.declared.class.SectionClass.{SectionClass}
 use Rattle.elf_object.specs.Classes.{kept_class, IsKeptSection}
 use Rattle.elf_object.specs.Lent.{section_class}
@@ -91,23 +90,25 @@ target_none b t = refl
 pub test_nonzero : (x : ℕ) (P : Type 0) → ((x ≡ 0 → ⊥) → P) → (P → x ≡ 0 → ⊥) → (IsTrue (not (x == 0)) → P) × (P → IsTrue (not (x == 0)))
 test_nonzero x P to from = (λ t. to (nonzero_of t), λ p. of_nonzero (from p))
   where
-  nonzero_of : IsTrue (not (x == 0)) → x ≡ 0 → ⊥
-  nonzero_of t z = grind (arith, nat_tests)
-  of_nonzero : (x ≡ 0 → ⊥) → IsTrue (not (x == 0))
-  of_nonzero some = grind (arith, nat_tests)
+    nonzero_of : IsTrue (not (x == 0)) → x ≡ 0 → ⊥
+    nonzero_of t z = grind (arith, nat_tests)
+
+    of_nonzero : (x ≡ 0 → ⊥) → IsTrue (not (x == 0))
+    of_nonzero some = grind (arith, nat_tests)
 
 -- a section that linking keeps is one, and what holds its relocations holds relocations
 pub kept_is : (b : List ℕ) (s : ℕ) → is_none (section_class b s) ≡ false → IsKeptSection b s × (section_class b s ≡ kept_class (section b s))
 unfolding section_class
 kept_is b s h = kept_of (is_section b s) (kept_class (section b s)) (IsSection b s) (λ t. of_section s (header b).e_shnum t) h
   where
-  of_section : (s n : ℕ) → (nat_lt 0 s && nat_lt s n) ≡ true → (0 < s) × (s < n)
-  of_section s n h = grind (arith, nat_tests)
-  kept_of : (t : Bool) (class : Option SectionClass) (P : Type 0) → (t ≡ true → P) → is_none (if t then class else None) ≡ false
-      → (P × IsSome class) × ((if t then class else None) ≡ class)
-  kept_of true (Some c) P p h = ((p refl, refl), refl)
-  kept_of true None P p h = absurd (cc)
-  kept_of false class P p h = absurd (cc)
+    of_section : (s n : ℕ) → (nat_lt 0 s && nat_lt s n) ≡ true → (0 < s) × (s < n)
+    of_section s n h = grind (arith, nat_tests)
+
+    kept_of : (t : Bool) (class : Option SectionClass) (P : Type 0) → (t ≡ true → P) → is_none (if t then class else None) ≡ false
+        → (P × IsSome class) × ((if t then class else None) ≡ class)
+    kept_of true (Some c) P p h = ((p refl, refl), refl)
+    kept_of true None P p h = absurd (cc)
+    kept_of false class P p h = absurd (cc)
 
 -- the section that holds the relocations of another one
 pub relocates_is : (b : List ℕ) (t : ℕ) → 0 < relocation_table b t → IsRela b (relocation_table b t) × ((section b (relocation_table b t)).info ≡ t)

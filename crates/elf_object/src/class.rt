@@ -3,8 +3,11 @@
 ghost use Rattle.std.specs.Prelude.{◌≡◌};
 ghost use Rattle.elf_object.specs.Classes.{class_row, class_of, kept_class};
 
-use elf_records::section_header::{SHF_ALLOC, SHF_EXECINSTR, SHF_MERGE, SHF_STRINGS, SHF_TLS, SHF_WRITE, SHT_NOBITS, SHT_NOTE, SHT_PROGBITS, SHT_X86_64_UNWIND};
 use elf_records::SectionHeader;
+use elf_records::section_header::{
+    SHF_ALLOC, SHF_EXECINSTR, SHF_MERGE, SHF_STRINGS, SHF_TLS, SHF_WRITE, SHT_NOBITS, SHT_NOTE,
+    SHT_PROGBITS, SHT_X86_64_UNWIND,
+};
 
 /// What a section that linking keeps becomes in an image.
 #[derive(Clone, Copy, PartialEq, Eq, Debug)]

@@ -5,9 +5,9 @@ ghost use Rattle.elf_records.specs.Records.{section_at};
 ghost use Rattle.elf_object.specs.Parts.{header, section as section_header};
 ghost use Rattle.elf_object.specs.Faults.{IsElf, IsRelocatable, IsFault};
 
-use elf_records::file_header::{ELF_IDENT, EM_X86_64, ET_REL, EV_CURRENT};
-use elf_records::symbol::{SHN_LORESERVE};
 use crate::fault::{FaultKind, ObjectFault};
+use elf_records::file_header::{ELF_IDENT, EM_X86_64, ET_REL, EV_CURRENT};
+use elf_records::symbol::SHN_LORESERVE;
 use elf_records::{Header, SectionHeader, fits, read_header, read_section};
 
 /// The bytes of a relocatable file whose table of section headers lies in it.

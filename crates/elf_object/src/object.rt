@@ -1,8 +1,9 @@
 //! An object: a file that was read and found without fault.
 
-ghost use Rattle.std.specs.Prelude.{◌≡◌, ◌<◌, ◌≤◌, ◌↔◌, ◌^◌, ℕ, length, IsNone, IfOk, IfErr, IfSome};
+ghost use Rattle.std.specs.Prelude.{◌≡◌, ◌≢◌, ◌<◌, ◌≤◌, ◌↔◌, ◌^◌, ℕ, length, All, IsNone, IfOk, IfErr, IfSome, OnSome};
 ghost use Rattle.elf_object.specs.Parts.{symbol_count as count_of_symbols, symbol_table as table_of_symbols};
 ghost use Rattle.elf_object.specs.Lent.{IsSectionPart, IsSymbolPart, relocations as relocations_of, kept_relocation_table, relocation_target as target_of_relocations};
+ghost use Rattle.elf_object.specs.Lawful.{IsKeptAs, IsLawful, IsPlaced, IsShared};
 ghost use Rattle.elf_object.specs.Object.{section_count as count_of_sections, IsWritable};
 ghost use Rattle.elf_object.specs.Faults.{IsObject, IsFault, IsFirstAt, NoneBelow, Answers};
 
@@ -12,6 +13,7 @@ use crate::overlap::ask_overlaps;
 use crate::part::{SectionPart, SymbolPart, class_in, section_part, symbol_part};
 use crate::relocs::{Relocs, relocs_in, table_of, target_of};
 use crate::scan::{ask_relocs, ask_sections, ask_symbols};
+use crate::symbol::SymbolBinding;
 use crate::symbols::ask_symbol_table;
 use crate::tables::{Tables, tables_of};
 use crate::targets::ask_targets;
@@ -27,6 +29,7 @@ pub struct Object<'a> {
 
 impl<'a> Model for Object<'a> {
     ghost use Rattle.std.specs.Prelude.{ℕ, List};
+    ghost use Rattle.elf_object.specs.Lawful.{IsKeptAs, IsLawful, IsPlaced, IsShared};
     ghost use Rattle.elf_object.specs.Object.{IsRead};
 
     ghost Value = { List ℕ };
@@ -94,7 +97,10 @@ fn first_writable(tables: &Tables) -> Option<u32>
     ensures { IsFirstAt (IsWritable tables.now.bytes.now) result }
 {
     for section in 1..tables.count {
-        if matches!(class_in(tables, section), Some(SectionClass::Writable { .. })) {
+        if matches!(
+            class_in(tables, section),
+            Some(SectionClass::Writable { .. })
+        ) {
             return Some(section as u32);
         }
     }
@@ -122,9 +128,11 @@ impl<'a> Object<'a> {
     }
 
     /// A section, by its number. `None` exactly past the table. Of number 0, which is reserved, nothing is lent.
+    #[tactic(auto, using(crate::specs::LawsOfSections::kept_as))]
     pub fn section(&self, number: u32) -> Option<SectionPart<'a>>
         ensures past { IsNone result ↔ (count_of_sections self.now ≤ number) }
         ensures part { IfSome result (IsSectionPart self.now number) }
+        ensures kept { IfSome result (λ part. IfSome part.class (IsKeptAs self.now number)) }
         ensures object { IsObject self.now }
     {
         let number = u64::from(number);
@@ -135,9 +143,12 @@ impl<'a> Object<'a> {
     }
 
     /// A symbol, by its number. `None` exactly past the table. Of number 0, which is reserved, nothing is lent.
+    #[tactic(auto, using(crate::specs::LawsOfParts::placed, crate::specs::LawsOfParts::shared))]
     pub fn symbol(&self, number: u32) -> Option<SymbolPart<'a>>
         ensures past { IsNone result ↔ (count_of_symbols self.now ≤ number) }
         ensures part { IfSome result (IsSymbolPart self.now number) }
+        ensures placed { OnSome result (IsPlaced self.now number) }
+        ensures shared { IfSome result (λ part. part.binding ≢ SymbolBinding.Local → IsShared self.now number) }
         ensures object { IsObject self.now }
     {
         let number = u64::from(number);
@@ -148,10 +159,11 @@ impl<'a> Object<'a> {
     }
 
     /// The relocations of a section that linking keeps, in the order of the file. There are none where no section holds any.
-    #[tactic(auto, using(crate::specs::Laws::relocations_few))]
+    #[tactic(auto, using(crate::specs::Laws::relocations_few, crate::specs::LawsOfRelocations::lawful))]
     pub fn relocs(&self, section: u32) -> Relocs<'a>
         ensures relocations { result ≡ relocations_of self.now section }
         ensures few { length result ≤ 2 ^ 20 }
+        ensures lawful { All (IsLawful self.now section) result }
         ensures object { IsObject self.now }
     {
         let table = table_of(&self.tables, &self.targets, u64::from(section));

@@ -32,7 +32,13 @@ fn mark(marks: &mut [u32], from: usize, to: usize, mark: u32) -> bool
 }
 
 /// Marks the bytes of an entry's field, and says whether one of them had the section's mark already.
-fn mark_field(tables: &Tables, section: u64, relocs: &RelocTable, entry: u64, marks: &mut [u32]) -> bool
+fn mark_field(
+    tables: &Tables,
+    section: u64,
+    relocs: &RelocTable,
+    entry: u64,
+    marks: &mut [u32],
+) -> bool
     requires section { IsSection tables.now.bytes.now section }
     requires relocs { AreRelocs tables.now.bytes.now section relocs.now }
     requires entry { entry < relocs.now.count }

@@ -8,12 +8,12 @@ ghost use Rattle.elf_object.specs.Tables.{AreRelocs};
 ghost use Rattle.elf_object.specs.Faults.{Stands, IsUnplaced};
 
 use crate::class::{SectionClass, kept_class};
-use elf_records::symbol::{SHN_ABS};
-use elf_records::section_header::{SHT_RELA};
 use crate::relocation::RelocationKind;
 use crate::symbol_tests::is_dropped;
 use crate::tables::Tables;
 use elf_records::relocation::R_X86_64_NONE;
+use elf_records::section_header::SHT_RELA;
+use elf_records::symbol::SHN_ABS;
 use elf_records::{Rela, read_rela};
 
 /// A section of relocations whose target linking keeps.

@@ -98,7 +98,13 @@ pub fn ask_symbols(kind: FaultKind, tables: &Tables) -> Result<(), ObjectFault>
 
 /// Whether a kind of fault of relocations stands at an entry of a section.
 #[tactic(auto, using(crate::proofs::Order::of_relocs))]
-fn reloc_stands(kind: FaultKind, tables: &Tables, section: u64, relocs: &RelocTable, entry: u64) -> bool
+fn reloc_stands(
+    kind: FaultKind,
+    tables: &Tables,
+    section: u64,
+    relocs: &RelocTable,
+    entry: u64,
+) -> bool
     requires kind { (13 ≤ number kind) × (number kind ≤ 15) }
     requires relocs { AreRelocs tables.now.bytes.now section relocs.now }
     requires entry { entry < relocs.now.count }

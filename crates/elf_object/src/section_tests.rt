@@ -8,9 +8,11 @@ ghost use Rattle.elf_object.specs.Names.{Ends};
 ghost use Rattle.elf_object.specs.Faults.{Stands, IsRefused};
 
 use crate::class::{class_of, kept_class};
-use elf_records::section_header::{SHF_ALLOC, SHF_TLS, SHT_GROUP, SHT_REL, SHT_RELA, SHT_STRTAB, SHT_SYMTAB, SHT_SYMTAB_SHNDX};
 use crate::tables::Tables;
 use elf_records::SectionHeader;
+use elf_records::section_header::{
+    SHF_ALLOC, SHF_TLS, SHT_GROUP, SHT_REL, SHT_RELA, SHT_STRTAB, SHT_SYMTAB, SHT_SYMTAB_SHNDX,
+};
 
 /// Whether a name that begins at this place of the section names ends.
 #[tactic(auto, using(crate::proofs::EndsOfNames::ends_before, crate::proofs::EndsOfNames::no_end_after))]

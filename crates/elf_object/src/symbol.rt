@@ -3,7 +3,10 @@
 ghost use Rattle.std.specs.Prelude.{◌≡◌};
 ghost use Rattle.elf_object.specs.Lent.{binding_numbered, type_numbered, visibility_numbered, place_numbered};
 
-use elf_records::symbol::{SHN_ABS, SHN_UNDEF, STB_GLOBAL, STB_LOCAL, STT_FILE, STT_FUNC, STT_OBJECT, STT_NOTYPE, STT_SECTION, STV_DEFAULT, STV_HIDDEN, STV_INTERNAL};
+use elf_records::symbol::{
+    SHN_ABS, SHN_UNDEF, STB_GLOBAL, STB_LOCAL, STT_FILE, STT_FUNC, STT_NOTYPE, STT_OBJECT,
+    STT_SECTION, STV_DEFAULT, STV_HIDDEN, STV_INTERNAL,
+};
 
 /// Which objects see a symbol.
 #[derive(Clone, Copy, PartialEq, Eq, Debug)]

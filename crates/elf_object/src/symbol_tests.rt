@@ -8,10 +8,12 @@ ghost use Rattle.elf_object.specs.Names.{Ends};
 ghost use Rattle.elf_object.specs.Faults.{Stands, IsSymbol, IsMisplaced, IsMisnamed, IsMisdefined, IsMistyped, IsDropped, IsTlsSection, symbol_strings};
 
 use crate::class::{SectionClass, kept_class};
-use elf_records::symbol::{SHN_ABS, SHN_UNDEF, STB_GLOBAL, STB_LOCAL, STB_WEAK, STT_FILE, STT_FUNC, STT_TLS};
-use elf_records::section_header::{SHT_STRTAB};
 use crate::tables::Tables;
 use elf_records::SymbolEntry;
+use elf_records::section_header::SHT_STRTAB;
+use elf_records::symbol::{
+    SHN_ABS, SHN_UNDEF, STB_GLOBAL, STB_LOCAL, STB_WEAK, STT_FILE, STT_FUNC, STT_TLS,
+};
 
 /// A LOCAL symbol stands among the others, or another among the LOCAL ones.
 #[tactic(auto, unfolding(crate::specs::Faults::Stands))]
@@ -43,8 +45,7 @@ pub fn symbol_name(tables: &Tables, entry: u64) -> bool
     requires { IsSymbol tables.now.bytes.now tables.now.symbols.table entry }
     ensures { IsTrue result ↔ Stands SymbolName tables.now.bytes.now tables.now.symbols.table entry }
 {
-    let Some(strings) =
-        tables.section_at(u64::from(tables.section(tables.symbols.table).link))
+    let Some(strings) = tables.section_at(u64::from(tables.section(tables.symbols.table).link))
     else {
         return false;
     };

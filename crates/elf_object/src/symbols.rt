@@ -4,10 +4,10 @@ ghost use Rattle.std.specs.Prelude.{◌<◌, ◌↔◌, IsTrue};
 ghost use Rattle.elf_object.specs.Parts.{IsTable, IsStrings};
 ghost use Rattle.elf_object.specs.Faults.{IsBadTable, IsFirstAt, NoneBelow, Answers};
 
-use elf_records::section_header::{SHT_STRTAB, SHT_SYMTAB};
 use crate::fault::{FaultKind, ObjectFault};
 use crate::scan::first_symbol;
 use crate::tables::Tables;
+use elf_records::section_header::{SHT_STRTAB, SHT_SYMTAB};
 
 /// The symbol table of an object, if it has one.
 #[derive(Clone, Copy)]

@@ -9,11 +9,11 @@ ghost use Rattle.elf_object.specs.Lent.{section_bytes};
 ghost use Rattle.elf_object.specs.Faults.{IsFault, IsFirstAt, HasPartPastEnd, Answers};
 
 use crate::class::kept_class;
-use elf_records::section_header::{SHT_NOBITS, SHT_NULL, SHT_STRTAB, SHT_SYMTAB};
 use crate::fault::{FaultKind, ObjectFault};
 use crate::headers::{Headers, header_in, headers_of, lies_in};
 use crate::names::names_end;
 use crate::symbols::Symbols;
+use elf_records::section_header::{SHT_NOBITS, SHT_NULL, SHT_STRTAB, SHT_SYMTAB};
 use elf_records::{SectionHeader, SymbolEntry, read_symbol};
 
 /// The sections of an object: the table of headers and the bytes of each section lie in the file.

@@ -7,9 +7,9 @@ ghost use Rattle.elf_object.specs.Tables.{AreTargets, AreTargetsBelow};
 ghost use Rattle.elf_object.specs.Faults.{Stands, IsFirstAt, IsSecond, NoneBelow, Answers};
 
 use crate::class::kept_class;
-use elf_records::section_header::{SHT_NOBITS, SHT_RELA, SHT_SYMTAB};
 use crate::fault::{FaultKind, ObjectFault};
 use crate::tables::Tables;
+use elf_records::section_header::{SHT_NOBITS, SHT_RELA, SHT_SYMTAB};
 use std::alloc::Global;
 
 /// Whether the section holds symbols.

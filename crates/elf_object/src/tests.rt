@@ -1,7 +1,9 @@
 //! Tests of what no clause says: whether the definitions say what the standard means. Each case changes some numbers of one
 //! small object and gives the answer that a reader of the gABI expects.
 
-use crate::{FaultKind, Object, ObjectFault, RelocationKind, SectionClass, SymbolPlace, SymbolType};
+use crate::{
+    FaultKind, Object, ObjectFault, RelocationKind, SectionClass, SymbolPlace, SymbolType,
+};
 use std::alloc::{AllocError, Global};
 use std::process::Abort;
 use std::test::Fail;
@@ -217,11 +219,13 @@ fn answer(alloc: Global, bytes: &[u8]) -> Result<String, AllocError> {
     match Object::read(alloc, bytes) {
         Ok(_) => String::from_str(alloc, "ok"),
         Err(ObjectFault::OutOfMemory) => String::from_str(alloc, "out of memory"),
-        Err(ObjectFault::At {
-            section,
-            entry,
-            kind,
-        }) => format!(in alloc; "{section} {entry} {kind}"),
+        Err(
+            ObjectFault::At {
+                section,
+                entry,
+                kind,
+            },
+        ) => format!(in alloc; "{section} {entry} {kind}"),
     }
 }
 
@@ -258,7 +262,10 @@ fn finds_the_first_fault(rt: HostRuntime) -> Result<(), Fail> {
 fn every_shorter_file_is_truncated(rt: HostRuntime) -> Result<(), Fail> {
     for len in 0..EXAMPLE.len() {
         let found = answer(rt.alloc(), &EXAMPLE[..len])?;
-        assert!(rt; found.as_str().ends_with("Truncated"), "{len} bytes: {found}");
+        assert!(rt;
+            found.as_str().ends_with("Truncated"),
+            "{len} bytes: {found}"
+        );
     }
     Ok(())
 }
@@ -282,7 +289,10 @@ fn lends_the_parts(rt: HostRuntime) -> Result<(), Fail> {
     let mut relocations = object.relocs(1);
     let relocation = relocations.next().ok_or("there is one")?;
     assert_eq!(rt; relocation.kind, RelocationKind::TpOff32);
-    assert_eq!(rt; (relocation.offset, relocation.symbol, relocation.addend), (4, 2, 0));
+    assert_eq!(rt;
+        (relocation.offset, relocation.symbol, relocation.addend),
+        (4, 2, 0)
+    );
     assert!(rt; relocations.next().is_none());
     Ok(())
 }
@@ -298,8 +308,14 @@ fn numbers_sections(rt: HostRuntime) -> Result<(), Fail> {
     let object = Object::read(rt.alloc(), &bytes)?;
     assert_eq!(rt; object.writable(), Some(3));
     assert_eq!(rt; object.symbol_table(), 5);
-    assert_eq!(rt; (object.relocation_table(1), object.relocation_table(3)), (2, 0));
-    assert_eq!(rt; (object.relocation_target(2), object.relocation_target(5)), (1, 0));
+    assert_eq!(rt;
+        (object.relocation_table(1), object.relocation_table(3)),
+        (2, 0)
+    );
+    assert_eq!(rt;
+        (object.relocation_target(2), object.relocation_target(5)),
+        (1, 0)
+    );
     assert_eq!(rt; object.relocs(0).count(), 0);
     let reserved = object.section(0).ok_or("there is number 0")?;
     assert_eq!(rt; (reserved.name.len(), reserved.bytes.len()), (0, 0));

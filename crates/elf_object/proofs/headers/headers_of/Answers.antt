@@ -1,4 +1,4 @@
-use Rattle.std.proofs.Common.{◌≡◌, ◌+◌, ◌*◌, ◌<◌, ◌≤◌, length, arith, sym}
+use Rattle.std.proofs.Common.{◌+◌, ◌*◌, ◌<◌, length, arith}
 use Rattle.elf_object.specs.Parts.{header}
 use Rattle.elf_object.specs.Faults.{IsElf, IsRelocatable}
 use Rattle.elf_object.proofs.File.{truncated_short, not_elf, not_relocatable, table_passes}

@@ -1,4 +1,4 @@
-use Rattle.std.proofs.Common.{◌≡◌, ◌<◌, ◌≤◌, length, sym, arith}
+use Rattle.std.proofs.Common.{length, sym, arith}
 use Rattle.elf_object.proofs.EndsOfNames.{text_len_is}
 use Rattle.elf_object.proofs.names.text_len.Goals as goal
 

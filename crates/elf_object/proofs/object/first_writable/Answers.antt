@@ -1,4 +1,4 @@
-use Rattle.std.proofs.Common.{◌≡◌, ◌<◌, ◌≤◌, ℕ, arith}
+use Rattle.std.proofs.Common.{arith}
 use Rattle.elf_object.specs.Laws.{writable_in_table}
 use Rattle.elf_object.proofs.object.first_writable.Goals as goal
 

@@ -1,6 +1,5 @@
-use Rattle.std.proofs.Common.{◌≡◌, ◌<◌, ◌≤◌, ℕ, slice_index, arith}
+use Rattle.std.proofs.Common.{arith}
 use Rattle.elf_object.specs.declared.fault.FaultKind.TheVariants.{RelocOverlap}
-use Rattle.elf_object.specs.Faults.{Stands}
 use Rattle.elf_object.proofs.Order.{none_more}
 use Rattle.elf_object.proofs.Overlaps.{at_overlap}
 use Rattle.elf_object.proofs.overlap.ask_marked.Goals as goal
@@ -15,6 +14,6 @@ pub returns : goal.returns
 returns c =
     let b = c.args.tables.now.bytes.now in
     none_more RelocOverlap b c.requires.earlier
-      (λ s e w.
-        let within = at_overlap b s e w in
-        c.loop-section.invariant.none s (omega (arith, within.0.0.1, c.args.tables.now.count_is)) e w)
+    (λ s e w.
+    let within = at_overlap b s e w in
+    c.loop-section.invariant.none s (omega (arith, within.0.0.1, c.args.tables.now.count_is)) e w)

@@ -1,4 +1,4 @@
-use Rattle.std.proofs.Common.{◌≡◌, ◌<◌, ◌≤◌, ℕ, length, arith}
+use Rattle.std.proofs.Common.{length, arith}
 use Rattle.elf_object.proofs.Overlaps.{room_of}
 use Rattle.elf_object.proofs.overlap.ask_overlaps.Goals as goal
 

@@ -1,4 +1,4 @@
-use Rattle.std.proofs.Common.{◌≡◌, ◌+◌, ◌<◌, ◌≤◌, ℕ, max, below_more, arith}
+use Rattle.std.proofs.Common.{◌≤◌, ℕ, below_more, arith}
 use Rattle.elf_object.specs.Parts.{section}
 use Rattle.elf_object.specs.Relocations.{IsReloc}
 use Rattle.elf_object.proofs.overlap.largest_target.Goals as goal
@@ -8,8 +8,8 @@ loop-section-preserved c =
     let b = c.args.tables.now.bytes.now in
     let P : ℕ → Type 0 = λ r. (e : ℕ) → IsReloc b r e → (section b (section b r).info).size ≤ c.max-largest.result in
     below_more P c.loop-section.section
-      (λ r h e reloc. omega (arith, c.loop-section.invariant r h e reloc, c.max-largest.ensures))
-      (λ e reloc. omega (arith, c.target_size.ensures e reloc, c.max-largest.ensures))
+    (λ r h e reloc. omega (arith, c.loop-section.invariant r h e reloc, c.max-largest.ensures))
+    (λ e reloc. omega (arith, c.target_size.ensures e reloc, c.max-largest.ensures))
 
 pub returns : goal.returns
 returns c = λ r e reloc. c.loop-section.invariant r (omega (arith, reloc.0.0.1, c.args.tables.now.count_is)) e reloc

@@ -1,4 +1,4 @@
-use Rattle.std.proofs.Common.{◌≡◌, ◌+◌, ◌<◌, ◌≤◌, ℕ, IsTrue, slice_index, below_more, arith}
+use Rattle.std.proofs.Common.{◌≡◌, ℕ, slice_index, below_more, arith}
 use Rattle.elf_object.specs.declared.fault.FaultKind.TheVariants.{RelocOverlap}
 use Rattle.elf_object.specs.Relocations.{Covers, IsReloc}
 use Rattle.elf_object.specs.Faults.{Stands}
@@ -12,10 +12,11 @@ returns-in_err-relocs-clause-first c =
 pub returns-then-mark_field-clause-first : goal.returns-then-mark_field-clause-first
 returns-then-mark_field-clause-first c =
     let relocs = c.in_ok-relocs.ensures in
-    let reloc : IsReloc c.args.tables.now.bytes.now c.args.section c.loop-entry.entry = (relocs.of_kept.0, relocs.of_kept.1, omega (arith, relocs.count_is)) in
-    (overlap_found c.args.tables.now.bytes.now c.args.section c.loop-entry.entry c.loop-entry.marks reloc c.loop-entry.invariant.marked
-       (c.mark_field.ensures.had.0 c.if-mark_field.true),
-     c.loop-entry.invariant.none)
+    let reloc : IsReloc c.args.tables.now.bytes.now c.args.section c.loop-entry.entry = (relocs.of_kept.0, relocs.of_kept.1, omega (arith, relocs.count_is)) in (
+      overlap_found c.args.tables.now.bytes.now c.args.section c.loop-entry.entry c.loop-entry.marks reloc c.loop-entry.invariant.marked
+          (c.mark_field.ensures.had.0 c.if-mark_field.true),
+      c.loop-entry.invariant.none,
+    )
 
 pub loop-entry-preserved : goal.loop-entry-preserved
 loop-entry-preserved c =

@@ -1,4 +1,4 @@
-use Rattle.std.proofs.Common.{◌≡◌, ◌+◌, ◌<◌, ℕ, slice_index}
+use Rattle.std.proofs.Common.{◌+◌, ◌<◌, ℕ, slice_index}
 use Rattle.elf_object.specs.Faults.{Stands}
 use Rattle.elf_object.specs.declared.fault.FaultKind.TheVariants.{RelocOverlap}
 use Rattle.elf_object.proofs.Overlaps.{AreMarked}

@@ -1,5 +1,5 @@
-use Rattle.std.proofs.Common.{◌≡◌, ◌+◌, ◌<◌, ◌≤◌, ℕ, below_more, subst, arith}
-use Rattle.elf_object.specs.Faults.{Stands, number}
+use Rattle.std.proofs.Common.{ℕ, below_more, subst, arith}
+use Rattle.elf_object.specs.Faults.{Stands}
 use Rattle.elf_object.proofs.Order.{in_section, none_more, first_of}
 use Rattle.elf_object.proofs.scan.ask_sections.Goals as goal
 
@@ -11,20 +11,20 @@ loop-section-preserved c =
     let b = c.args.tables.now.bytes.now in
     let P : ℕ → Type 0 = λ s. (e : ℕ) → Stands c.args.kind b s e → ⊥ in
     below_more P c.loop-section.section c.loop-section.invariant
-      (λ e w.
-        let within = in_section c.args.kind b c.loop-section.section e c.requires.kind.0 c.requires.kind.1 w in
-        let At : ℕ → Type 0 = λ x. Stands c.args.kind b c.loop-section.section x in
-        let wrong = c.if-section_stands.ensures.1 (subst At within.0 w) in cc)
+    (λ e w.
+    let within = in_section c.args.kind b c.loop-section.section e c.requires.kind.0 c.requires.kind.1 w in
+    let At : ℕ → Type 0 = λ x. Stands c.args.kind b c.loop-section.section x in
+    let wrong = c.if-section_stands.ensures.1 (subst At within.0 w) in cc)
 
 pub returns-then-section_stands : goal.returns-then-section_stands
 returns-then-section_stands c =
     first_of c.args.kind c.args.tables.now.bytes.now c.loop-section.section 0 c.requires.earlier
-      (c.section_stands.ensures.0 c.if-section_stands.true) c.loop-section.invariant (λ f h w. omega arith)
+    (c.section_stands.ensures.0 c.if-section_stands.true) c.loop-section.invariant (λ f h w. omega arith)
 
 pub returns : goal.returns
 returns c =
     let b = c.args.tables.now.bytes.now in
     none_more c.args.kind b c.requires.earlier
-      (λ s e w.
-        let within = in_section c.args.kind b s e c.requires.kind.0 c.requires.kind.1 w in
-        c.loop-section.invariant s (omega (arith, within.1.1, c.args.tables.now.count_is)) e w)
+    (λ s e w.
+    let within = in_section c.args.kind b s e c.requires.kind.0 c.requires.kind.1 w in
+    c.loop-section.invariant s (omega (arith, within.1.1, c.args.tables.now.count_is)) e w)

@@ -1,12 +1,11 @@
-use Rattle.std.proofs.Common.{◌≡◌, ◌<◌, ◌≤◌, ℕ, arith}
-use Rattle.elf_object.specs.Faults.{Stands}
+use Rattle.std.proofs.Common.{arith}
 use Rattle.elf_object.proofs.Order.{at_reloc}
 use Rattle.elf_object.proofs.scan.first_reloc.Goals as goal
 
 pub returns-in_err-relocs : goal.returns-in_err-relocs
 returns-in_err-relocs c =
     rw c.from_residual.ensures
-      (λ e w. c.in_err-relocs.ensures e (at_reloc c.args.kind c.args.tables.now.bytes.now c.args.section e c.requires.kind.0 c.requires.kind.1 w))
+    (λ e w. c.in_err-relocs.ensures e (at_reloc c.args.kind c.args.tables.now.bytes.now c.args.section e c.requires.kind.0 c.requires.kind.1 w))
 
 pub returns : goal.returns
 returns c = λ e w.

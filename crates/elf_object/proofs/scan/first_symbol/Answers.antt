@@ -1,5 +1,4 @@
-use Rattle.std.proofs.Common.{◌≡◌, ◌<◌, ◌≤◌, ℕ, arith}
-use Rattle.elf_object.specs.Faults.{Stands}
+use Rattle.std.proofs.Common.{arith}
 use Rattle.elf_object.proofs.Order.{in_symbols}
 use Rattle.elf_object.proofs.scan.first_symbol.Goals as goal
 

@@ -1,7 +1,6 @@
-use Rattle.std.proofs.Common.{◌≡◌, ◌<◌, ◌≤◌, ◌∙◌, sym, arith}
+use Rattle.std.proofs.Common.{◌∙◌, sym, arith}
 use Rattle.elf_object.specs.declared.fault.FaultKind.TheVariants.{SymbolTable}
-use Rattle.elf_object.specs.Parts.{header, section}
-use Rattle.elf_object.specs.Faults.{Stands, IsBadTable}
+use Rattle.elf_object.specs.Faults.{IsBadTable}
 use Rattle.elf_object.proofs.Order.{none_more}
 use Rattle.elf_object.proofs.SymbolTables.{no_table, is_table_of, bad_table, bad_symbol, second_table, tables_fine}
 use Rattle.elf_object.proofs.symbols.ask_symbol_table.Goals as goal
@@ -35,7 +34,7 @@ returns-in-Some-second_table c =
     let t = c.args.tables.now.symbols.table in
     let fine : IsBadTable b t → ⊥ = λ bad. let wrong = c.if-is_bad_table.ensures.1 bad in cc in
     second_table b t c.in-Some-second_table.section c.args.tables.now.symbols_are.table_is c.requires fine c.in_default.ensures
-      c.in-Some-second_table.ensures.0 c.in-Some-second_table.ensures.1
+    c.in-Some-second_table.ensures.0 c.in-Some-second_table.ensures.1
 
 pub returns-in-None : goal.returns-in-None
 returns-in-None c =

@@ -1,5 +1,5 @@
-use Rattle.std.proofs.Common.{◌≡◌, ◌<◌, ◌≤◌, ◌∙◌, refl, sym, ap, arith}
-use Rattle.elf_object.specs.Parts.{header, section, symbol_table, is_table}
+use Rattle.std.proofs.Common.{◌≡◌, refl, sym, arith}
+use Rattle.elf_object.specs.Parts.{symbol_table}
 use Rattle.elf_object.specs.Firsts.{first_below}
 use Rattle.elf_object.specs.Searches.{no_table_more, table_found}
 use Rattle.elf_object.proofs.tables.symbol_table.Goals as goal
@@ -11,12 +11,12 @@ loop-section-init c = refl
 pub returns-then-section-eq-SHT_SYMTAB-clause-first : goal.returns-then-section-eq-SHT_SYMTAB-clause-first
 returns-then-section-eq-SHT_SYMTAB-clause-first c =
     sym (table_found c.args.headers.now.bytes.now c.loop-section.section (omega arith) (omega (arith, c.args.headers.now.count_is)) c.loop-section.invariant
-      (rw (← c.section.ensures) c.if-section-eq-SHT_SYMTAB.true))
+    (rw (← c.section.ensures) c.if-section-eq-SHT_SYMTAB.true))
 
 pub loop-section-preserved : goal.loop-section-preserved
 loop-section-preserved c =
     no_table_more c.args.headers.now.bytes.now c.loop-section.section c.loop-section.invariant
-      (rw (← c.section.ensures) c.if-section-eq-SHT_SYMTAB.false)
+    (rw (← c.section.ensures) c.if-section-eq-SHT_SYMTAB.false)
 
 pub returns-clause-first : goal.returns-clause-first
 unfolding symbol_table

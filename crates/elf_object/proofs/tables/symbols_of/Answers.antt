@@ -1,6 +1,4 @@
-use Rattle.std.proofs.Common.{◌≡◌, ◌+◌, ◌*◌, ◌/◌, ◌<◌, ◌≤◌, ◌∙◌, length, refl, sym, ap, arith}
-use Rattle.elf_object.specs.Parts.{section, symbol_count}
-use Rattle.elf_object.specs.Tables.{AreSymbols}
+use Rattle.std.proofs.Common.{◌/◌, ◌<◌, ◌∙◌, sym, ap, arith}
 use Rattle.elf_object.specs.Searches.{count_of_table}
 use Rattle.elf_object.proofs.Parts.{table_inside}
 use Rattle.elf_object.proofs.tables.symbols_of.Goals as goal

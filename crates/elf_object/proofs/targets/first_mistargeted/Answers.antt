@@ -1,4 +1,4 @@
-use Rattle.std.proofs.Common.{◌≡◌, ◌+◌, ◌<◌, ◌≤◌, ◌∙◌, ℕ, sym, ap, arith}
+use Rattle.std.proofs.Common.{◌≡◌, ◌∙◌, sym, ap, arith}
 use Rattle.elf_object.specs.Parts.{header, relocates, relocation_table}
 use Rattle.elf_object.specs.Firsts.{first_below}
 use Rattle.elf_object.proofs.Order.{at_target}

@@ -1,4 +1,4 @@
-use Rattle.std.proofs.Common.{◌≡◌, ◌<◌, ℕ, slice_index}
+use Rattle.std.proofs.Common.{slice_index}
 use Rattle.elf_object.specs.Parts.{section}
 use Rattle.elf_object.specs.Faults.{IsSecond}
 use Rattle.elf_object.specs.Searches.{second_found, second_is, test_nonzero}
@@ -11,4 +11,4 @@ returns c =
     let x = slice_index c.args.found.now (section b s).info in
     let same = c.requires.found (section b s).info c.requires.target.1 in
     rw c.section.ensures
-      (test_nonzero x (IsSecond b s) (λ some. second_found b s x same some c.requires.section.1) (λ second. second_is b s x same second))
+    (test_nonzero x (IsSecond b s) (λ some. second_found b s x same some c.requires.section.1) (λ second. second_is b s x same second))

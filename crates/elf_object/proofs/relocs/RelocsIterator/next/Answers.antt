@@ -1,5 +1,4 @@
-use Rattle.std.proofs.Common.{◌≡◌, ◌+◌, ◌*◌, ◌-◌, ◌<◌, ◌≤◌, ◌∙◌, List, [], ◌∷◌, sym, ap, arith, rules}
-use Rattle.elf_object.specs.Lent.{relocation_at, relocations_from}
+use Rattle.std.proofs.Common.{◌∙◌, sym, rules}
 use Rattle.elf_object.proofs.Lists.{relocations_none, relocations_first}
 use Rattle.elf_object.proofs.relocs.RelocsIterator.next.Goals as goal
 
@@ -18,4 +17,4 @@ pub returns-clause-goes : goal.returns-clause-goes
 returns-clause-goes c =
     let r = c.self.inside in
     rw (sym c.self.view_is ∙ relocations_first r.bytes.now r.at r.next r.end c.if-self.false)
-      (record { on = λ _. search rules; keeps = search rules; rests = λ _. search rules; })
+    (record { on = λ _. search rules; keeps = search rules; rests = λ _. search rules })
