@@ -249,3 +249,120 @@ fn writes_the_first_transcript(rt: HostRuntime) -> Result<(), Fail> {
     );
     Ok(())
 }
+
+/// A line with these looks.
+fn looked(alloc: Global, points: &[u64], outcome: Outcome) -> Result<Line, Fail> {
+    Ok(Line {
+        points: Points::new(points.to_vec(alloc)?),
+        outcome,
+    })
+}
+
+#[test]
+fn writes_each_outcome(rt: HostRuntime) -> Result<(), Fail> {
+    let alloc = rt.alloc();
+    let job = Job::read(
+        alloc,
+        b"image app exe a.o\nimage plug late p.o\nthreads 2\n",
+    )?;
+    assert_eq!(rt; job.number("plug"), Some(2));
+    assert_eq!(rt; job.number("plu"), None);
+    let mut first = Vec::new(alloc);
+    first.push(looked(alloc, [0].as_slice(), Outcome::Opened(2))?)?;
+    first.push(looked(
+        alloc,
+        [1, 1].as_slice(),
+        Outcome::Returned(0x0000_0100_0200_0000),
+    )?)?;
+    first.push(looked(
+        alloc,
+        [1, 1, 2].as_slice(),
+        Outcome::Fault(LineFault::Unloaded),
+    )?)?;
+    first.push(looked(alloc, [12].as_slice(), Outcome::Closed)?)?;
+    for refusal in [
+        Refusal::Unknown,
+        Refusal::Full,
+        Refusal::StaticFull,
+        Refusal::Permanent,
+        Refusal::NotOpen,
+        Refusal::Symbol,
+        Refusal::Length,
+    ] {
+        first.push(looked(alloc, [3].as_slice(), Outcome::Refused(refusal))?)?;
+    }
+    for fault in [LineFault::Address, LineFault::Code, LineFault::Steps] {
+        first.push(looked(alloc, [3].as_slice(), Outcome::Fault(fault))?)?;
+    }
+    let shown = Bytes::new([0x07, 0xab, 0, 0xff].to_vec(alloc)?);
+    let none = Bytes::new(Vec::new(alloc));
+    let mut second = Vec::new(alloc);
+    second.push(looked(alloc, [0].as_slice(), Outcome::Bytes(shown))?)?;
+    second.push(looked(alloc, [1].as_slice(), Outcome::Bytes(none))?)?;
+
+    let mut transcript = Transcript::new(alloc);
+    transcript.push_thread(first)?;
+    transcript.push_thread(second)?;
+    let opened = Event {
+        thread: 1,
+        line: 1,
+        opens: true,
+        image: 2,
+    };
+    let closed = Event {
+        thread: 1,
+        line: 4,
+        opens: false,
+        image: 2,
+    };
+    transcript.push_event(opened)?;
+    transcript.push_event(closed)?;
+    assert_eq!(rt; transcript.threads(), 2);
+    assert_eq!(rt; transcript.lines(2).len(), 2);
+    assert_eq!(rt; transcript.lines(3).len(), 0);
+    assert_eq!(rt; transcript.events().len(), 2);
+    assert!(rt; 2 <= job.images().len());
+    let mut text = Vec::new(alloc);
+    transcript.text(&job, &mut text)?;
+    let text = String::from_utf8(text).ok().ok_or("no text")?;
+    assert_eq!(rt;
+        text.as_str(),
+        "t1 l1 g0 opened 2\n\
+         t1 l2 g1,1 = 0000010002000000\n\
+         t1 l3 g1,1,2 fault unloaded\n\
+         t1 l4 g12 closed\n\
+         t1 l5 g3 refused unknown\n\
+         t1 l6 g3 refused full\n\
+         t1 l7 g3 refused static-full\n\
+         t1 l8 g3 refused permanent\n\
+         t1 l9 g3 refused not-open\n\
+         t1 l10 g3 refused symbol\n\
+         t1 l11 g3 refused length\n\
+         t1 l12 g3 fault address\n\
+         t1 l13 g3 fault code\n\
+         t1 l14 g3 fault steps\n\
+         t2 l1 g0 bytes 07ab00ff\n\
+         t2 l2 g1 bytes\n\
+         e0 t1 l1 open plug\n\
+         e1 t1 l4 close plug\n"
+    );
+    Ok(())
+}
+
+#[test]
+fn prints_each_kind(rt: HostRuntime) -> Result<(), Fail> {
+    let mut all = String::new(rt.alloc());
+    for kind in [
+        JobFaultKind::NotText,
+        JobFaultKind::Word,
+        JobFaultKind::Count,
+        JobFaultKind::Number,
+        JobFaultKind::Name,
+        JobFaultKind::Twice,
+        JobFaultKind::NoExe,
+    ] {
+        write!(all, "{kind} ")?;
+    }
+    assert_eq!(rt; all.as_str(), "NotText Word Count Number Name Twice NoExe ");
+    Ok(())
+}
