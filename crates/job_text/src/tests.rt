@@ -2,107 +2,105 @@
 
 use super::*;
 use std::alloc::Global;
-use std::process::Abort;
 use std::test::Fail;
 
-/// What `read` finds wrong with a job, if anything.
-fn fault_of(alloc: Global, text: &str) -> Option<JobFault> {
-    Job::read(alloc, text.as_bytes()).err()
+/// Jobs and what is wrong with them: the line, the kind, and the job's text with `|` for each line's
+/// end.
+const FAULTS: &str = "\
+0 NoExe: \n\
+0 NoExe: |\n\
+0 NoExe: # image app exe a.o\n\
+0 NoExe: image m start a.o\n\
+2 Number: image app exe a.o|1 call app f 0 0 zz\n\
+1 NotText: image app exe a.o\t\n\
+1 NotText: nothing \u{7f}\n\
+1 NotText: image app exe\r a.o\n\
+1 NotText: imag\t\n\
+1 Word:  # no comment\n\
+1 Word: images app exe a.o\n\
+1 Word: Image app exe a.o\n\
+1 Word: image app so a.o\n\
+1 Word: image app so\n\
+1 Word: 1 run app f\n\
+1 Word: 1 Call app f\n\
+1 Word: +1 open app\n\
+1 Count: image\n\
+1 Count: image app\n\
+1 Count: image app exe\n\
+1 Count: image a/b exe\n\
+1 Count: threads\n\
+1 Count: threads 1 2\n\
+1 Count: fuel\n\
+1 Count: order\n\
+1 Count: 1\n\
+1 Count: 0x\n\
+1 Count: 1 open\n\
+1 Count: 1 open a b\n\
+1 Count: 1 call app f 0 0\n\
+1 Count: 1 call app f 0 0 0 0\n\
+1 Count: 1 peek app v\n\
+1 Number: threads 0\n\
+1 Number: threads 65\n\
+1 Number: threads 08\n\
+1 Number: threads -1\n\
+1 Number: fuel 0\n\
+1 Number: fuel 4294967296\n\
+1 Number: fuel 0X10\n\
+1 Number: fuel 0x\n\
+1 Number: fuel 0x+1\n\
+1 Number: fuel +5\n\
+1 Number: order 2|threads 2\n\
+2 Number: threads 2|order 1 3\n\
+1 Number: order 0\n\
+2 Number: image app exe a.o|2 open app\n\
+2 Number: image app exe a.o|0 open app\n\
+2 Number: image app exe a.o|1x open app\n\
+2 Number: image app exe a.o|1 call app f 0 18446744073709551616 0\n\
+2 Number: image app exe a.o|1 peek app v 4097\n\
+1 Number: 1 peek app v 4097\n\
+1 Name: image a/b exe a.o\n\
+1 Name: 1 open app|image app exe a.o\n\
+2 Name: image app exe a.o|1 open App\n\
+1 Name: image a/b exe a.o|threads 0\n\
+2 Name: image app exe a.o|image a/b exe b.o\n\
+2 Twice: image app exe a.o|image app late b.o\n\
+2 Twice: image app exe a.o|image app2 exe b.o\n\
+2 Twice: image app exe a.o|image app2 pie b.o\n\
+2 Twice: threads 2|threads 2\n\
+2 Number: threads 2|threads 65\n\
+2 Twice: fuel 1|fuel 1\n\
+2 Twice: order 1|order 1\n\
+5 Twice: image app exe a.o||#|fuel 1|  fuel   0x2  \n";
+
+/// What is wrong with a job, as the command prints it, or nothing.
+fn fault_text(alloc: Global, job: &str) -> Result<String, Fail> {
+    match Job::read(alloc, job.as_bytes()) {
+        Ok(_) => Ok(String::new(alloc)),
+        Err(JobFault::OutOfMemory) => Ok(String::from_str(alloc, "out of memory")?),
+        Err(JobFault::At { line, kind }) => Ok(format!(in alloc; "{line} {kind}")?),
+    }
 }
 
-fn check_fault(rt: &impl Abort, alloc: Global, text: &str, line: u64, kind: JobFaultKind) {
-    match fault_of(alloc, text) {
-        Some(
-            JobFault::At {
-                line: at,
-                kind: found,
-            },
-        ) => {
-            assert_eq!(rt; at, line, "the line of {text:?}");
-            assert_eq!(rt; found, kind, "the kind of {text:?}");
-        }
-        Some(JobFault::OutOfMemory) => assert!(rt; false, "no memory for {text:?}"),
-        None => assert!(rt; false, "no fault in {text:?}"),
+/// The text of a job that a table has on one line.
+fn job_text(alloc: Global, row: &str) -> Result<String, Fail> {
+    let mut text = String::new(alloc);
+    for line in row.split('|') {
+        text.push_str(line)?;
+        text.push_str("\n")?;
     }
+    Ok(text)
 }
 
 #[test]
-fn finds_the_first_fault(rt: HostRuntime) {
-    use JobFaultKind::{Count, Name, NoExe, NotText, Number, Twice, Word};
-    for (text, line, kind) in [
-        ("", 0, NoExe),
-        ("\n\n", 0, NoExe),
-        ("# image app exe a.o\n", 0, NoExe),
-        ("image m start a.o\n", 0, NoExe),
-        ("image app exe a.o\n1 call app f 0 0 zz\n", 2, Number),
-        ("image app exe a.o\t\n", 1, NotText),
-        ("nothing \u{7f}\n", 1, NotText),
-        ("image app exe a.o\r\n", 1, NotText),
-        (" # no comment\n", 1, Word),
-        ("images app exe a.o\n", 1, Word),
-        ("Image app exe a.o\n", 1, Word),
-        ("image app so a.o\n", 1, Word),
-        ("image app so\n", 1, Word),
-        ("1 run app f\n", 1, Word),
-        ("1 Call app f\n", 1, Word),
-        ("+1 open app\n", 1, Word),
-        ("image\n", 1, Count),
-        ("image app\n", 1, Count),
-        ("image app exe\n", 1, Count),
-        ("image a/b exe\n", 1, Count),
-        ("threads\n", 1, Count),
-        ("threads 1 2\n", 1, Count),
-        ("fuel\n", 1, Count),
-        ("order\n", 1, Count),
-        ("1\n", 1, Count),
-        ("0x\n", 1, Count),
-        ("1 open\n", 1, Count),
-        ("1 open a b\n", 1, Count),
-        ("1 call app f 0 0\n", 1, Count),
-        ("1 call app f 0 0 0 0\n", 1, Count),
-        ("1 peek app v\n", 1, Count),
-        ("threads 0\n", 1, Number),
-        ("threads 65\n", 1, Number),
-        ("threads 08\n", 1, Number),
-        ("threads -1\n", 1, Number),
-    ] {
-        check_fault(&rt, rt.alloc(), text, line, kind);
+fn finds_the_first_fault(rt: HostRuntime) -> Result<(), Fail> {
+    let alloc = rt.alloc();
+    for row in FAULTS.lines() {
+        let (want, job) = row.split_once(": ").ok_or("a row")?;
+        let job = job_text(alloc, job)?;
+        let found = fault_text(alloc, job.as_str())?;
+        assert_eq!(rt; found.as_str(), want, "in {job:?}");
     }
-    for (text, line, kind) in [
-        ("fuel 0\n", 1, Number),
-        ("fuel 4294967296\n", 1, Number),
-        ("fuel 0X10\n", 1, Number),
-        ("fuel 0x\n", 1, Number),
-        ("fuel 0x+1\n", 1, Number),
-        ("fuel +5\n", 1, Number),
-        ("order 2\nthreads 2\n", 1, Number),
-        ("threads 2\norder 1 3\n", 2, Number),
-        ("order 0\n", 1, Number),
-        ("image app exe a.o\n2 open app\n", 2, Number),
-        ("image app exe a.o\n0 open app\n", 2, Number),
-        ("image app exe a.o\n1x open app\n", 2, Number),
-        (
-            "image app exe a.o\n1 call app f 0 18446744073709551616 0\n",
-            2,
-            Number,
-        ),
-        ("image app exe a.o\n1 peek app v 4097\n", 2, Number),
-        ("1 peek app v 4097\n", 1, Number),
-        ("image a/b exe a.o\n", 1, Name),
-        ("1 open app\nimage app exe a.o\n", 1, Name),
-        ("image app exe a.o\n1 open App\n", 2, Name),
-        ("image a/b exe a.o\nthreads 0\n", 1, Name),
-        ("image app exe a.o\nimage app late b.o\n", 2, Twice),
-        ("image app exe a.o\nimage app2 exe b.o\n", 2, Twice),
-        ("image app exe a.o\nimage app2 pie b.o\n", 2, Twice),
-        ("threads 2\nthreads 2\n", 2, Twice),
-        ("threads 2\nthreads 65\n", 2, Number),
-        ("fuel 1\nfuel 1\n", 2, Twice),
-        ("order 1\norder 1\n", 2, Twice),
-        ("image app exe a.o\n\n#\nfuel 1\n  fuel   0x2  ", 5, Twice),
-    ] {
-        check_fault(&rt, rt.alloc(), text, line, kind);
-    }
+    Ok(())
 }
 
 /// A text that is repeated.
@@ -115,39 +113,53 @@ fn repeated(alloc: Global, text: &str, count: usize) -> Result<String, Fail> {
 }
 
 #[test]
-fn keeps_the_limits(rt: HostRuntime) -> Result<(), Fail> {
+fn takes_64_images(rt: HostRuntime) -> Result<(), Fail> {
     let alloc = rt.alloc();
     let mut images = String::new(alloc);
     for number in 0..64 {
         write!(images, "image i{number} late a.o\n")?;
     }
-    check_fault(&rt, alloc, images.as_str(), 0, JobFaultKind::NoExe);
+    let found = fault_text(alloc, images.as_str())?;
+    assert_eq!(rt; found.as_str(), "0 NoExe");
     images.push_str("image app exe a/b\n")?;
-    check_fault(&rt, alloc, images.as_str(), 65, JobFaultKind::Count);
+    let found = fault_text(alloc, images.as_str())?;
+    assert_eq!(rt; found.as_str(), "65 Count");
+    Ok(())
+}
 
+#[test]
+fn takes_names_up_to_their_limits(rt: HostRuntime) -> Result<(), Fail> {
+    let alloc = rt.alloc();
     let name = repeated(alloc, "n", 64)?;
-    let good = format!(in alloc; "image {name} exe a.o\n")?;
-    assert!(rt; fault_of(alloc, good.as_str()).is_none());
-    let long = format!(in alloc; "image {name}n exe a.o\n")?;
-    check_fault(&rt, alloc, long.as_str(), 1, JobFaultKind::Name);
-
     let object = repeated(alloc, "/", 255)?;
-    let good = format!(in alloc; "image app exe {object}\n1 call app {object} 0 0 0\n")?;
-    assert!(rt; fault_of(alloc, good.as_str()).is_none());
-    let long = format!(in alloc; "image app exe a.o {object}/\n")?;
-    check_fault(&rt, alloc, long.as_str(), 1, JobFaultKind::Name);
-    let long = format!(in alloc; "image app exe a.o\n1 peek app {object}/ 0\n")?;
-    check_fault(&rt, alloc, long.as_str(), 2, JobFaultKind::Name);
+    let good = format!(in alloc; "image {name} exe a.o {object}\n1 call {name} {object} 0 0 0\n")?;
+    let found = fault_text(alloc, good.as_str())?;
+    assert_eq!(rt; found.as_str(), "");
+    for (front, back) in [
+        ("image n", " exe a.o"),
+        ("image app exe a.o n", " b.o"),
+        ("image app exe a.o /", ""),
+    ] {
+        let long = format!(in alloc; "{front}{name}{name}{name}{name}{back}\n")?;
+        let found = fault_text(alloc, long.as_str())?;
+        assert_eq!(rt; found.as_str(), "1 Name", "in {long:?}");
+    }
+    Ok(())
+}
 
+#[test]
+fn takes_65536_lines(rt: HostRuntime) -> Result<(), Fail> {
+    let alloc = rt.alloc();
     let mut lines = repeated(alloc, "\n", 65_535)?;
-    lines.push_str("image app exe a.o\n")?;
-    assert!(rt; fault_of(alloc, lines.as_str()).is_none());
-    lines.push_str("\n# skipped lines may follow\n")?;
-    assert!(rt; fault_of(alloc, lines.as_str()).is_none());
+    lines.push_str("image app exe a.o\n\n# skipped lines may follow\n")?;
+    let found = fault_text(alloc, lines.as_str())?;
+    assert_eq!(rt; found.as_str(), "");
     lines.push_str("fuel 0")?;
-    check_fault(&rt, alloc, lines.as_str(), 65_539, JobFaultKind::Count);
+    let found = fault_text(alloc, lines.as_str())?;
+    assert_eq!(rt; found.as_str(), "65539 Count");
     lines.push_str(" \t")?;
-    check_fault(&rt, alloc, lines.as_str(), 65_539, JobFaultKind::NotText);
+    let found = fault_text(alloc, lines.as_str())?;
+    assert_eq!(rt; found.as_str(), "65539 NotText");
     Ok(())
 }
 
