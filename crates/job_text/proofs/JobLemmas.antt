@@ -1,5 +1,5 @@
 -- The job that a draft declares, part by part.
-use Rattle.std.proofs.Common.{◌≡◌, ℕ, Bool, ltb, nat_lt, slice_index_or, ◌-◌, ◌+◌, ◌<◌, ◌≤◌, ◌^◌, List, [], ◌∷◌, ◌++◌, Option, Some, None, Result, Ok, Err, is_some, get_or, drop, length, map, refl, sym, ap, ◌∙◌, subst, arith, lit<, lit≤, length-append, unwrap_or, cond, true, false}
+use Rattle.std.proofs.Common.{◌≡◌, ℕ, Bool, ltb, nat_lt, slice_index_or, ◌-◌, ◌+◌, ◌<◌, ◌≤◌, ◌^◌, List, [], Option, Some, None, Result, Ok, Err, is_some, get_or, drop, length, map, refl, sym, ap, ◌∙◌, subst, arith, lit<, lit≤, length-append, unwrap_or, cond, true, false}
 use Rattle.std.proofs.lemmas.Bool.{ltb-true, ltb-false}
 use Rattle.std.proofs.lemmas.List.{at_drop_more, at_drop_all, get_or_past, length-map}
 use Rattle.std.proofs.lemmas.List.FromFn.{length-enumerate_from, get_or-enumerate_from}
@@ -8,7 +8,7 @@ use Rattle.std.specs.Borrow.{Bor}
 use Rattle.std.specs.HashMap.{HashMap}
 use Rattle.std.specs.List.{All, enumerate_from}
 use Rattle.job_text.specs.Threads.{IsThread}
-use Rattle.job_text.specs.Drafts.{Declared, IsDraft, IsPlace, IsPlan, image_count}
+use Rattle.job_text.specs.Drafts.{Declared, IsDraft, IsPlace, IsPlan}
 use Rattle.job_text.specs.LineAnswers.{IsLineAnswer}
 use Rattle.job_text.specs.LineEffects.{with_text}
 use Rattle.job_text.specs.LineFaults.{fault_of}

@@ -1,5 +1,5 @@
 -- What a thread may be told.
-use Rattle.std.specs.Prelude.{ℕ, ◌≤◌}
+use Rattle.std.specs.Prelude.{◌≤◌}
 use Rattle.job_text.specs.declared.thread_lines.Action.{Action}
 use Rattle.job_text.specs.declared.thread_lines.Action.TheVariants.{Call, Open, Close, Peek}
 

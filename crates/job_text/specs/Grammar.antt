@@ -1,13 +1,11 @@
 -- What the words of a line begin, and how many there are to be.
-use Rattle.std.specs.Prelude.{ℕ, Bool, true, false, ◌&&◌, ◌||◌, ◌==◌, nat_lt, nat_le, List, length, slice_index, codes, Option, Some, None, if◌then◌else◌}
+use Rattle.std.specs.Prelude.{ℕ, Bool, false, ◌&&◌, ◌||◌, ◌==◌, nat_lt, nat_le, List, length, slice_index, codes, Option, Some, None, if◌then◌else◌}
 use Rattle.std.specs.List.{list_all}
 use Rattle.std.specs.Str.{bytes_eq}
 use Rattle.job_text.specs.Words.{word_at}
 use Rattle.job_text.specs.declared.grammar.Heading.{Heading}
 use Rattle.job_text.specs.declared.grammar.Heading.TheVariants as heading
-use Rattle.job_text.specs.declared.grammar.Verb.{Verb}
 use Rattle.job_text.specs.declared.grammar.Verb.TheVariants.{Call, Open, Close, Peek}
-use Rattle.job_text.specs.declared.images.ImageKind.{ImageKind}
 use Rattle.job_text.specs.declared.images.ImageKind.TheVariants.{Exe, Pie, Start, Late}
 
 -- a digit

@@ -1,6 +1,6 @@
 -- A job, as contracts see it, and how it is made of what its lines declare.
 use Rattle.std.specs.List.{All}
-use Rattle.std.specs.Prelude.{◌≡◌, ℕ, ◌+◌, ◌-◌, ◌≤◌, nat_lt, if◌then◌else◌, slice_index_or, ◌<◌, ◌^◌, List, [], ◌∷◌, ◌++◌, length, map, Option, Some, None, unwrap_or, Result, Ok, Err}
+use Rattle.std.specs.Prelude.{◌≡◌, ℕ, ◌+◌, ◌≤◌, ◌<◌, ◌^◌, List, [], ◌∷◌, ◌++◌, length, map, Option, Some, None, unwrap_or, Result, Ok, Err}
 use Rattle.job_text.specs.Actions.{IsAction}
 use Rattle.job_text.specs.Threads.{IsThread, of_thread}
 use Rattle.job_text.specs.Drafts.{Declared, nothing_declared}

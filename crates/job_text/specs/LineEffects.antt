@@ -1,6 +1,6 @@
 -- What a line without fault adds to what is declared.
 use Rattle.std.specs.List.{filter_map}
-use Rattle.std.specs.Prelude.{ℕ, ◌+◌, ◌-◌, true, if◌then◌else◌, List, [], ◌∷◌, ◌++◌, drop, replicate, slice_set, slice_index_or, Option, Some, None, unwrap_or}
+use Rattle.std.specs.Prelude.{ℕ, ◌-◌, true, if◌then◌else◌, List, [], ◌∷◌, ◌++◌, drop, replicate, slice_set, slice_index_or, Option, Some, None, unwrap_or}
 use Rattle.job_text.specs.Drafts.{Declared, place_of}
 use Rattle.job_text.specs.Grammar.{heading_of}
 use Rattle.job_text.specs.Numbers.{number}

@@ -44,6 +44,11 @@ impl Job {
     ghost use Rattle.job_text.specs.Jobs.{IsLineOf, lines_of_thread};
 
     /// Reads a job.
+    ///
+    /// The answer is the job that the bytes spell, or their first fault: the number of the first
+    /// faulty line, counted from 1, and the first of the kinds that it has. Where all lines are good
+    /// and no program is declared, it is `NoExe` at line 0. Want of memory is its own answer.
+    /// The cost is linear in the bytes.
     pub fn read(alloc: Global, bytes: &[u8]) -> Result<Job, JobFault>
         ensures { IsAnswer (job_of bytes.now) result }
     {

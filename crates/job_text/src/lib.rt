@@ -1,4 +1,43 @@
 //! The job that a user writes, and the transcript that a run prints.
+//!
+//! A linker's work is seen only when its images run. A **job** says what to link and what to run: a
+//! text with a line for each image, and a line for each thing that a thread does.
+//!
+//! ```text
+//! image app exe main.o counter.o      the program, linked from two objects
+//! image plug late plugin.o            a module that a thread may open while the program runs
+//! threads 2
+//! 1 open plug                         thread 1 opens the module,
+//! 1 call plug bump 1 0 0              calls its function `bump`,
+//! 2 peek plug total 4                 thread 2 looks at 4 bytes of its own copy of `total`
+//! ```
+//!
+//! The program is an `exe` or a `pie`, and there is one of them; `start` modules are loaded with it,
+//! `late` ones are opened by a thread. Images are numbered in *image order*: the program is 1, then
+//! come the start modules and then the late ones, each group in the order of the job. An image is
+//! named before a line speaks of it. `fuel N` bounds the steps of a call, and `order T T ..` says
+//! which threads take the first turns. Numbers are decimal without leading zeros, or `0x` and
+//! hexadecimal digits. A line that begins with `#`, or has no word, is passed over and counted.
+//!
+//! [`Job::read`] gives the job that a text spells, or its **first fault**: that of the first faulty
+//! line, and in it the first of the kinds of [`JobFaultKind`], in their order. So a user is told one
+//! thing that is wrong, and always the same one. `specs/` has the grammar as definitions: a line is
+//! text (`Words`), has a heading (`Grammar`) and a fault or none (`LineFaults`), adds to what is
+//! declared (`LineEffects`), and the lines together make a job (`Jobs`).
+//!
+//! A **transcript** is what a run shows. Each line of each thread has its *points*: for each look at
+//! the module history, how many events it saw. The history's events follow. [`Transcript::text`]
+//! writes
+//!
+//! ```text
+//! t1 l1 g0 opened 2
+//! t1 l2 g1,1 = 0000000000000007
+//! t2 l1 g1 bytes 00000000
+//! e0 t1 l1 open plug
+//! ```
+//!
+//! The text is a function of the transcript and the job's names alone (`specs/Texts.antt`). Both the
+//! grammar and the text are this project's own; names and bytes in them are those of the objects.
 #![tactic(auto)]
 
 mod draft;

@@ -1,4 +1,4 @@
-use Rattle.std.proofs.Common.{◌≡◌, ◌≤◌, drop, not}
+use Rattle.std.proofs.Common.{◌≡◌, drop, not}
 use Rattle.std.specs.List.{list_any}
 use Rattle.job_text.specs.Grammar.{is_short_name}
 use Rattle.job_text.proofs.operands.has_long_object.Given as goal

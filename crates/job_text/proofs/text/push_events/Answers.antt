@@ -1,4 +1,3 @@
-use Rattle.std.proofs.Common.{get_or}
 use Rattle.job_text.proofs.TextLemmas.{events_more, events_end}
 use Rattle.job_text.proofs.text.push_events.Goals as goal
 

@@ -1,4 +1,3 @@
-use Rattle.std.proofs.Common.{subst}
 use Rattle.job_text.proofs.TextLemmas.{threads_more, threads_end}
 use Rattle.job_text.proofs.text.push_threads.Goals as goal
 

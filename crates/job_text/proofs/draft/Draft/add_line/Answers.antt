@@ -1,7 +1,6 @@
-use Rattle.std.proofs.Common.{◌≡◌, ◌++◌, ◌∷◌, [], ◌-◌, ◌<◌, ◌≤◌, ◌∙◌, ap, refl, sym, subst, map, length, arith}
+use Rattle.std.proofs.Common.{◌-◌, ◌<◌, ◌≤◌, ◌∙◌, ap, refl, sym, subst, map, length, arith}
 use Rattle.std.proofs.lemmas.List.{length-map}
 use Rattle.std.proofs.lemmas.List.Elements.{All-push}
-use Rattle.std.specs.List.{All}
 use Rattle.job_text.specs.Drafts.{Declared, IsPlan}
 use Rattle.job_text.specs.LineEffects.{with_line}
 use Rattle.job_text.proofs.DraftLemmas.{draft_with_line, line_added, plans_of_thread}

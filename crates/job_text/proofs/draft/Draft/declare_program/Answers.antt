@@ -1,4 +1,4 @@
-use Rattle.std.proofs.Common.{◌≡◌, ◌∙◌, ap, cond, Some, None, rules}
+use Rattle.std.proofs.Common.{◌∙◌, ap, cond, Some, rules}
 use Rattle.std.proofs.lemmas.Map.Text.{hash_map_updates_str}
 use Rattle.std.specs.Str.{bytes_eq}
 use Rattle.job_text.specs.declared.draft.Place.TheVariants.{Program}
