@@ -7,6 +7,7 @@ mod compute;
 mod effect;
 mod frame;
 mod jump;
+pub mod laws;
 mod machine;
 mod moves;
 mod operand;

@@ -29,10 +29,10 @@ const WRITABLE: Rights = Rights {
 };
 
 /// A digit's value; a text that is no number gives some number.
-fn digit(byte: u8) -> u64 {
+fn digit(byte: u8) -> u8 {
     match byte {
-        b'0'..=b'9' => u64::from(byte - b'0'),
-        b'a'..=b'f' => u64::from(byte - b'a') + 10,
+        b'0'..=b'9' => byte - b'0',
+        b'a'..=b'f' => byte - b'a' + 10,
         _ => 0,
     }
 }
@@ -40,7 +40,9 @@ fn digit(byte: u8) -> u64 {
 fn number(word: Option<&str>) -> u64 {
     let mut number = 0u64;
     for byte in word.unwrap_or("").as_bytes() {
-        number = number.wrapping_mul(16).wrapping_add(digit(*byte));
+        number = number
+            .wrapping_mul(16)
+            .wrapping_add(u64::from(digit(*byte)));
     }
     number
 }
@@ -48,11 +50,11 @@ fn number(word: Option<&str>) -> u64 {
 fn bytes(alloc: Global, word: Option<&str>) -> Result<Vec<u8>, AllocError> {
     let mut bytes = Vec::new(alloc);
     for pair in word.unwrap_or("").as_bytes().chunks(2) {
-        let mut byte = 0u64;
+        let mut byte = 0u8;
         for half in pair {
-            byte = byte.wrapping_mul(16).wrapping_add(digit(*half)) % 256;
+            byte = byte.wrapping_mul(16).wrapping_add(digit(*half));
         }
-        bytes.push(byte as u8)?;
+        bytes.push(byte)?;
     }
     Ok(bytes)
 }
