@@ -1,5 +1,5 @@
 -- A machine whose values may always be used, over ranges, never stops unclean.
-use Rattle.std.proofs.Common.{◌≡◌, ℕ, zero, suc, ◌+◌, ◌-◌, ◌%◌, ◌^◌, Bool, true, false, not, ◌||◌, List, [], ◌∷◌, Option, Some, None, Result, Ok, Err, refl, arith}
+use Rattle.std.proofs.Common.{ℕ, zero, suc, Bool, true, false, not, Option, Some, None, Result, Ok, Err}
 use Rattle.std.specs.Prelude.{ok_or, if◌then◌else◌, ◌==◌}
 use Rattle.amd64_subset.specs.declared.register.Register.{Register}
 use Rattle.amd64_subset.specs.declared.instr.Width.{Width}
@@ -31,17 +31,16 @@ use Rattle.guest_machine.specs.declared.state.Flags.{Flags}
 use Rattle.guest_machine.specs.declared.state.Registers.{Registers}
 use Rattle.guest_machine.specs.declared.state.State.{State}
 use Rattle.guest_machine.specs.declared.stop.Stop.{Stop}
-use Rattle.guest_machine.specs.declared.stop.Stop.TheVariants.{Returned, Look, Address, Code, Unclean, Steps}
 use Rattle.guest_machine.specs.declared.space.Access.TheVariants.{Read, Write}
 use Rattle.guest_machine.specs.Access.{Refusal, Refused, Shut, Accesses, next_place, both_reached, reached, cons, bytes_from, bytes_at, all_write, put_all, load_of, store_of, fetch_of}
 use Rattle.guest_machine.specs.Clean.{IsClean, PlainIsClean}
 use Rattle.guest_machine.specs.Effect.{is_less, is_less_or_equal, is_below_or_equal, condition_of}
 use Rattle.guest_machine.specs.Operand.{size_of, used, charged, unmoved, moved_by, base_of, index_of, address_of, number_at, carried, weighed, taken_at, taken, put}
 use Rattle.guest_machine.specs.Plain.{plain_operations}
-use Rattle.guest_machine.specs.Ranges.{AddressSpace, byte_in, range_accesses, is_field_of}
-use Rattle.guest_machine.specs.Run.{Next, Goes, Ends, Looks, Outcome, Ended, Waits, Stepping, run, over_or, go_on, next_of, returned, is_look, machine, machine_of, stop_of}
+use Rattle.guest_machine.specs.Ranges.{byte_in, range_accesses, is_field_of}
+use Rattle.guest_machine.specs.Run.{Next, Goes, Ends, Looks, Outcome, run, over_or, go_on, next_of, returned, is_look, machine, stop_of}
 use Rattle.guest_machine.specs.Step.{immediate_of, is_cleared, nop_use, finished, concluded, move_in, stored, move_number, move_of, extend_byte, extend_long, load_address, compute_in, compute_out, add_field, compute_plain, compute_number, compute_of, test_of, multiply_of, shift_of, pushed, push_of, pop_of, leave_of, return_of, call_of, jump_of, jump_if, nop_of, act, frame_of, act_if, step_of}
-use Rattle.guest_machine.specs.Use.{◌>>=◌, both, clean, there, refused_with, After, left}
+use Rattle.guest_machine.specs.Use.{◌>>=◌, both, clean, there, After, left}
 use Rattle.guest_machine.specs.Values.{Operations}
 
 abbrev IsUsed : {A : Type 0} → Result A Cause → Type 0
@@ -392,8 +391,8 @@ ranges-open : {W F B : Type 0} (ops : Operations W F B) → AlwaysOpen (range_ac
 unfolding range_accesses
 ranges-open ops = record {
   byte = λ memory place. or-open (byte_in Read memory.ranges place);
-  writes = λ memory place. reached-is (λ byte. tt {0}) _ (or-open (byte_in Write memory.ranges place))
-  }
+  writes = λ memory place. reached-is (λ byte. tt {0}) _ (or-open (byte_in Write memory.ranges place));
+}
 
 pub plain-clean : PlainIsClean
 plain-clean n state memory = run-clean plain_operations (range_accesses plain_operations) plain-used (ranges-open plain_operations) is_field_of n (left state memory)

@@ -1,6 +1,5 @@
 -- Runs follow runs.
-use Rattle.std.proofs.Common.{◌≡◌, ℕ, zero, suc, ◌+◌, ◌-◌, ◌*◌, ◌<◌, ◌≤◌, Option, Some, None, refl, sym, ap, subst, ◌∙◌, inl, inr, arith}
-use Rattle.std.specs.Prelude.{◌⊎◌}
+use Rattle.std.proofs.Common.{◌≡◌, ℕ, zero, suc, ◌-◌, ◌*◌, ◌≤◌, Some, None, refl, sym, ap, ◌∙◌, inl, inr, arith}
 use Rattle.guest_machine.specs.declared.stop.Stop.{Stop}
 use Rattle.guest_machine.specs.Run.{Next, Goes, Ends, Looks, Outcome, Ended, Waits, Stepping, run, over_or, go_on}
 use Rattle.guest_machine.specs.Simulate.{IsUnclean, Moves, Advances, OverAlike, IsSimulated, SameOut, GoesThrough, IsThrough, Joined}
@@ -40,13 +39,15 @@ module _ {S S' : Type 0} (x : Stepping S) (y : Stepping S') (Rel Wait Last : S �
   -- the law: with four times the steps the second run comes to what the first comes to
   pub same_run : (n n' : ℕ) (s : S) (s' : S') → 4 * n ≤ n' → Rel s s' → SameOut Wait Last (run x n s) (run y n' s')
   same_run zero n' s s' enough related =
-      (elim (x.over s) as (λ over. x.over s ≡ over → OverAlike Last s s' over (y.over s') → SameOut Wait Last (over_or zero s over (Ended (x.spent s) zero s)) (run y n' s'))
-      [ None ↦ λ e alike. unclean_out (x.spent s) zero s (run y n' s') (simulated.spent s)
-      | Some stop ↦ λ e alike. over_out zero n' s s' stop alike ]) refl (simulated.over s s' related)
+      (elim (x.over s) as (λ over. x.over s ≡ over → OverAlike Last s s' over (y.over s') → SameOut Wait Last (over_or zero s over (Ended (x.spent s) zero s)) (run y n' s')) [
+        | None ↦ λ e alike. unclean_out (x.spent s) zero s (run y n' s') (simulated.spent s)
+        | Some stop ↦ λ e alike. over_out zero n' s s' stop alike
+      ]) refl (simulated.over s s' related)
   same_run (suc n) n' s s' enough related =
-      (elim (x.over s) as (λ over. x.over s ≡ over → OverAlike Last s s' over (y.over s') → SameOut Wait Last (over_or (suc n) s over (go_on (suc n) s (run x n) (x.step s))) (run y n' s'))
-      [ None ↦ λ e alike. step_out n n' enough (λ m t b. same_run n m t b) s s' (x.step s) (simulated.step s s' related e)
-      | Some stop ↦ λ e alike. over_out (suc n) n' s s' stop alike ]) refl (simulated.over s s' related)
+      (elim (x.over s) as (λ over. x.over s ≡ over → OverAlike Last s s' over (y.over s') → SameOut Wait Last (over_or (suc n) s over (go_on (suc n) s (run x n) (x.step s))) (run y n' s')) [
+        | None ↦ λ e alike. step_out n n' enough (λ m t b. same_run n m t b) s s' (x.step s) (simulated.step s s' related e)
+        | Some stop ↦ λ e alike. over_out (suc n) n' s s' stop alike
+      ]) refl (simulated.over s s' related)
 
 module _ {S : Type 0} (g y : Stepping S) (is_through : IsThrough g y) where
   step_joined : (n : ℕ) (s : S) → y.over s ≡ None → ((t : S) → Joined y (run g n t) (run y n t)) → (next : Next S) → GoesThrough next (y.step s) s
@@ -58,10 +59,12 @@ module _ {S : Type 0} (g y : Stepping S) (is_through : IsThrough g y) where
   -- the law that joins runs across a look
   pub through : (n : ℕ) (s : S) → Joined y (run g n s) (run y n s)
   through zero s =
-      (elim (g.over s) as (λ over. g.over s ≡ over → Joined y (over_or zero s over (Ended (g.spent s) zero s)) (run y zero s))
-      [ None ↦ λ e. run-spent y s (is_through.over s ∙ e) ∙ ap (λ stop. Ended stop zero s) (is_through.spent s)
-      | Some stop ↦ λ e. run-over y zero s stop (is_through.over s ∙ e) ]) refl
+      (elim (g.over s) as (λ over. g.over s ≡ over → Joined y (over_or zero s over (Ended (g.spent s) zero s)) (run y zero s)) [
+        | None ↦ λ e. run-spent y s (is_through.over s ∙ e) ∙ ap (λ stop. Ended stop zero s) (is_through.spent s)
+        | Some stop ↦ λ e. run-over y zero s stop (is_through.over s ∙ e)
+      ]) refl
   through (suc n) s =
-      (elim (g.over s) as (λ over. g.over s ≡ over → Joined y (over_or (suc n) s over (go_on (suc n) s (run g n) (g.step s))) (run y (suc n) s))
-      [ None ↦ λ e. step_joined n s (is_through.over s ∙ e) (λ t. through n t) (g.step s) (is_through.step s e)
-      | Some stop ↦ λ e. run-over y (suc n) s stop (is_through.over s ∙ e) ]) refl
+      (elim (g.over s) as (λ over. g.over s ≡ over → Joined y (over_or (suc n) s over (go_on (suc n) s (run g n) (g.step s))) (run y (suc n) s)) [
+        | None ↦ λ e. step_joined n s (is_through.over s ∙ e) (λ t. through n t) (g.step s) (is_through.step s e)
+        | Some stop ↦ λ e. run-over y (suc n) s stop (is_through.over s ∙ e)
+      ]) refl

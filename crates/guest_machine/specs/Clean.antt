@@ -1,6 +1,5 @@
 -- Machines that never stop unclean.
-use Rattle.std.specs.Prelude.{ℕ, Bool, Result, Ok, Err}
-use Rattle.guest_machine.specs.declared.cause.Cause.{Cause}
+use Rattle.std.specs.Prelude.{ℕ, Bool}
 use Rattle.guest_machine.specs.declared.state.State.{State}
 use Rattle.guest_machine.specs.declared.stop.Stop.{Stop}
 use Rattle.guest_machine.specs.declared.stop.Stop.TheVariants.{Returned, Look, Address, Code, Unclean, Steps}

@@ -5,5 +5,4 @@ ghost use Rattle.guest_machine.specs.Clean.{PlainIsClean};
 /// No run over plain numbers stops unclean.
 pub fn plain_is_clean()
     ensures { PlainIsClean }
-{
-}
+{}

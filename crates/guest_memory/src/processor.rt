@@ -1,8 +1,9 @@
 //! The machine against the processor.
 
 use crate::memory::GuestMemory;
-use crate::range::{GuestRange, Rights};
+use crate::range::GuestRange;
 use crate::rows::{ROWS_1, ROWS_2, ROWS_3, ROWS_4};
+use crate::tests::{RUNNABLE, WRITABLE, add};
 use guest_machine::{Machine, Plain, RETURN, Space, Stop};
 use std::alloc::{AllocError, Global};
 use std::process::Abort;
@@ -15,18 +16,6 @@ const DATA: u64 = 0x2000_0000;
 const STACK: u64 = 0x3000_0000;
 
 const TOP: u64 = STACK + 4096 - 64;
-
-const RUNNABLE: Rights = Rights {
-    readable: true,
-    writable: false,
-    runnable: true,
-};
-
-const WRITABLE: Rights = Rights {
-    readable: true,
-    writable: true,
-    runnable: false,
-};
 
 /// A digit's value; a text that is no number gives some number.
 fn digit(byte: u8) -> u8 {
@@ -57,10 +46,6 @@ fn bytes(alloc: Global, word: Option<&str>) -> Result<Vec<u8>, AllocError> {
         bytes.push(byte)?;
     }
     Ok(bytes)
-}
-
-fn add(memory: &mut GuestMemory<u8>, range: GuestRange<u8>) -> Result<(), &'static str> {
-    memory.add_range(range).ok().ok_or("memory")
 }
 
 /// A memory as the program that made the rows has it.
