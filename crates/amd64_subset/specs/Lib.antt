@@ -1,3 +1,4 @@
+pub mod Beginning
 pub mod Decoding
 pub mod Meaning
 pub mod Number
@@ -6,3 +7,4 @@ pub mod Reading
 pub mod Register
 pub mod Row
 pub mod Selectors
+pub mod Spelling

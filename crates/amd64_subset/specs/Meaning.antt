@@ -98,5 +98,5 @@ operand_body action prefixes selectors size numbers = record {
     immediate = if takes_immediate action then numbers.immediate else 0;
   };
   disp = place_of (displacement_size selectors) (count_of size);
-  imm = place_of size 0;
+  imm = if takes_immediate action then place_of size 0 else None;
 }

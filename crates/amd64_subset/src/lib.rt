@@ -3,6 +3,7 @@
 
 mod fault;
 mod instr;
+pub mod laws;
 mod meaning;
 mod operand;
 mod prefix;
@@ -14,7 +15,7 @@ mod size;
 
 pub use instr::{Arithmetic, Condition, Decoded, Instr, Operation, Shift, Target, Width};
 pub use operand::{Base, Index, Memory, Operand, Operands, Scale};
-pub use reading::decode;
+pub use reading::{begins, decode};
 pub use register::Register;
 
 #[cfg(test)]

@@ -247,6 +247,10 @@ pub(crate) fn operand_body(
     Body {
         instr,
         disp: place(selectors.displacement_size(), size.count()),
-        imm: place(size, 0),
+        imm: if takes_immediate(action) {
+            place(size, 0)
+        } else {
+            None
+        },
     }
 }

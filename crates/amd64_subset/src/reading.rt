@@ -1,5 +1,8 @@
-ghost use Rattle.std.specs.Prelude.{◌≡◌, ◌≤◌, take, length};
+ghost use Rattle.std.specs.Prelude.{◌≡◌, ◌≤◌, ◌↔◌, ℕ, Some, IfSome, IsTrue, take, length};
 ghost use Rattle.amd64_subset.specs.Reading.{Gives};
+ghost use Rattle.amd64_subset.specs.declared.instr.Decoded.{Decoded};
+ghost use Rattle.amd64_subset.specs.Beginning.{BeginsSpelling, begins_of};
+ghost use Rattle.amd64_subset.specs.Spelling.{Spells, IsPlaced};
 ghost use Rattle.amd64_subset.specs.Decoding.{accepted_at, end_branch_at, escaped_at, row_at, operated_at, body_at, instruction_at, before, decoded};
 
 use crate::fault::Fault;
@@ -129,9 +132,9 @@ fn before(end: u8, back: Option<u8>) -> Option<u8>
     }
 }
 
-/// Reads the instruction that begins the bytes. `None` exactly where none does.
+/// Reads the instruction that begins the bytes.
 #[tactic(auto, unfolding(crate::specs::Decoding::decoded))]
-pub fn decode(bytes: &[u8]) -> Option<Decoded>
+fn read(bytes: &[u8]) -> Option<Decoded>
     ensures { result ≡ decoded bytes.now }
 {
     let bytes = longest(bytes);
@@ -147,4 +150,43 @@ pub fn decode(bytes: &[u8]) -> Option<Decoded>
             })
         }
     }
+}
+
+/// The instruction that begins the bytes. `None` exactly where no spelling of one does.
+pub fn decode(bytes: &[u8]) -> Option<Decoded>
+    // The bytes that it takes spell it.
+    ensures found { IfSome result (λ d. Spells (take d.len bytes.now) d) }
+    // Whatever a front of the bytes spells, is read.
+    ensures only { (n : ℕ) (d : Decoded) → Spells (take n bytes.now) d → result ≡ Some d }
+    // It has 1 to 15 bytes, all of them among these, and its fields lie in it.
+    ensures length { IfSome result (λ d. d.len ≤ length bytes.now) }
+    ensures inside { IfSome result IsPlaced }
+    // The same as a function of the list.
+    ensures exact { result ≡ decoded bytes.now }
+{
+    read(bytes)
+}
+
+/// Whether the bytes are too few for an instruction, and with some more spell one.
+#[tactic(auto, unfolding(crate::specs::Beginning::begins_of))]
+fn lacks_some(bytes: &[u8]) -> bool
+    ensures { result ≡ begins_of bytes.now }
+{
+    if bytes.len() >= 15 {
+        return false;
+    }
+    match read_instruction(bytes) {
+        Err(Fault::Short(missing)) => bytes.len() + missing as usize <= 15,
+        _ => false,
+    }
+}
+
+/// Whether the bytes are a proper prefix of what spells an instruction.
+pub fn begins(bytes: &[u8]) -> bool
+    // With some bytes more they spell one.
+    ensures exactly { IsTrue result ↔ BeginsSpelling bytes.now }
+    // The same as a function of the list.
+    ensures exact { result ≡ begins_of bytes.now }
+{
+    lacks_some(bytes)
 }

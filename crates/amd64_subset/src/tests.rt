@@ -1,14 +1,89 @@
 use super::*;
+use std::alloc::Global;
+use std::process::Abort;
+use std::test::Fail;
+
+mod corners;
+mod listing;
+mod text;
+
+use corners::CORNERS;
+
+/// Each instruction of the listing is read with its length and its text, and each of its fronts
+/// begins a spelling and is none.
+fn reads(rt: &impl Abort, alloc: Global, listing: &[(u64, &[u8], &str)]) -> Result<(), Fail> {
+    for (place, bytes, text) in listing {
+        let read = decode(bytes).ok_or("it is read")?;
+        let len = read.len as usize;
+        assert_eq!(rt; len, bytes.len(), "at {place:x}");
+        let next = place.wrapping_add(read.len as u64);
+        let printed = text::text(alloc, read.instr, next)?;
+        assert_eq!(rt; printed.as_str(), *text, "at {place:x}");
+        assert!(rt; !begins(bytes), "at {place:x}");
+        for (end, _) in bytes.iter().enumerate() {
+            let front = &bytes[..end];
+            assert!(rt; begins(front), "{end} bytes at {place:x}");
+            assert_eq!(rt; decode(front), None, "{end} bytes at {place:x}");
+        }
+    }
+    Ok(())
+}
 
 #[test]
-fn reads_a_move_and_a_return(rt: HostRuntime) {
-    // mov %fs:0x0, %rax
-    let bytes = [0x64, 0x48, 0x8b, 0x04, 0x25, 0, 0, 0, 0];
-    let read = decode(&bytes).expect(&rt, "it is read");
-    assert_eq!(rt; read.len, 9);
-    assert_eq!(rt; read.disp, Some(5));
-    assert_eq!(rt; read.imm, None);
-    let ret = decode(&[0xc3]).expect(&rt, "it is read");
-    assert_eq!(rt; ret.len, 1);
-    assert_eq!(rt; ret.instr.operation, Operation::Return);
+fn reads_the_first_part(rt: HostRuntime) -> Result<(), Fail> {
+    reads(&rt, rt.alloc(), &listing::FIRST)
+}
+
+#[test]
+fn reads_the_second_part(rt: HostRuntime) -> Result<(), Fail> {
+    reads(&rt, rt.alloc(), &listing::SECOND)
+}
+
+#[test]
+fn reads_the_third_part(rt: HostRuntime) -> Result<(), Fail> {
+    reads(&rt, rt.alloc(), &listing::THIRD)
+}
+
+#[test]
+fn reads_the_fourth_part(rt: HostRuntime) -> Result<(), Fail> {
+    reads(&rt, rt.alloc(), &listing::FOURTH)
+}
+
+#[test]
+fn reads_the_fifth_part(rt: HostRuntime) -> Result<(), Fail> {
+    reads(&rt, rt.alloc(), &listing::FIFTH)
+}
+
+#[test]
+fn reads_the_sixth_part(rt: HostRuntime) -> Result<(), Fail> {
+    reads(&rt, rt.alloc(), &listing::SIXTH)
+}
+
+#[test]
+fn reads_the_seventh_part(rt: HostRuntime) -> Result<(), Fail> {
+    reads(&rt, rt.alloc(), &listing::SEVENTH)
+}
+
+#[test]
+fn reads_the_eighth_part(rt: HostRuntime) -> Result<(), Fail> {
+    reads(&rt, rt.alloc(), &listing::EIGHTH)
+}
+
+#[test]
+fn reads_the_ninth_part(rt: HostRuntime) -> Result<(), Fail> {
+    reads(&rt, rt.alloc(), &listing::NINTH)
+}
+
+#[test]
+fn reads_the_tenth_part(rt: HostRuntime) -> Result<(), Fail> {
+    reads(&rt, rt.alloc(), &listing::TENTH)
+}
+
+#[test]
+fn keeps_to_the_corners(rt: HostRuntime) {
+    for (bytes, len, starts) in &CORNERS {
+        let read = decode(bytes);
+        assert_eq!(rt; read.map(|read| read.len), *len, "{bytes:?}");
+        assert_eq!(rt; begins(bytes), *starts, "{bytes:?}");
+    }
 }

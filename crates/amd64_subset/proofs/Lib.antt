@@ -1,0 +1,11 @@
+pub mod Steps
+pub mod Fields
+pub mod Parts
+pub mod Marks
+pub mod Whole
+pub mod Places
+pub mod FieldLaws
+pub mod Missing
+pub mod MissingCode
+pub mod MissingStart
+pub mod Beginning

@@ -1,0 +1,5 @@
+use Rattle.amd64_subset.proofs.Whole.{decoded_again}
+use Rattle.amd64_subset.proofs.laws.spelled.Goals as goal
+
+pub returns : goal.returns
+returns c = λ bytes tail d spells. decoded_again bytes d tail spells
