@@ -1,6 +1,6 @@
 -- The parts of a step, over related operations and memories: uses, accesses, registers.
-use Rattle.std.proofs.Common.{◌≡◌, ℕ, zero, suc, ◌+◌, ◌-◌, ◌*◌, ◌%◌, ◌^◌, ◌<◌, ◌≤◌, Bool, true, false, List, [], ◌∷◌, length, Option, Some, None, Result, Ok, Err, refl, sym, ap, subst, ◌∙◌, inl, inr, arith}
-use Rattle.std.specs.Prelude.{◌⊎◌, if◌then◌else◌}
+use Rattle.std.proofs.Common.{◌≡◌, ℕ, ◌*◌, ◌%◌, ◌^◌, Bool, true, false, Option, Some, None, Result, Ok, Err, refl, sym, ap, subst}
+use Rattle.std.specs.Prelude.{if◌then◌else◌}
 use Rattle.amd64_subset.specs.declared.register.Register.{Register}
 use Rattle.amd64_subset.specs.declared.register.Register.TheVariants.{Rax, Rcx, Rdx, Rbx, Rsp, Rbp, Rsi, Rdi, R8, R9, R10, R11, R12, R13, R14, R15}
 use Rattle.amd64_subset.specs.declared.instr.Width.{Width}
@@ -9,23 +9,18 @@ use Rattle.amd64_subset.specs.declared.operand.Base.{Base}
 use Rattle.amd64_subset.specs.declared.operand.Base.TheVariants.{Absolute, NextInstruction, Register as OfRegister}
 use Rattle.amd64_subset.specs.declared.operand.Index.{Index}
 use Rattle.amd64_subset.specs.declared.operand.Memory.{Memory}
-use Rattle.amd64_subset.specs.declared.operand.Operand.{Operand}
-use Rattle.amd64_subset.specs.declared.operand.Operand.TheVariants.{InMemory, Register as InRegister}
 use Rattle.guest_machine.specs.declared.cause.Cause.{Cause}
 use Rattle.guest_machine.specs.declared.frame.Frame.{Frame}
-use Rattle.guest_machine.specs.declared.slot.Slot.{Slot}
-use Rattle.guest_machine.specs.declared.slot.Slot.TheVariants.{Place, Register as OfSlot}
-use Rattle.guest_machine.specs.declared.slot.Taken.{Taken}
 use Rattle.guest_machine.specs.declared.state.Registers.{Registers}
 use Rattle.guest_machine.specs.declared.state.State.{State}
 use Rattle.guest_machine.specs.declared.stop.Stop.{Stop}
 use Rattle.guest_machine.specs.declared.stop.Stop.TheVariants.{Returned, Look, Address, Code, Unclean, Steps}
-use Rattle.guest_machine.specs.Access.{Refusal, Refused, Shut, Accesses, IsSize, next_place, both_reached, reached, cons, bytes_from, bytes_at, all_write, put_all, load_of, store_of}
+use Rattle.guest_machine.specs.Access.{Refusal, Refused, Shut}
 use Rattle.guest_machine.specs.Arithmetic.{low}
-use Rattle.guest_machine.specs.Follow.{Uses, Reaches, StopsAlike, Follows, All2, Alike, IsFollowed, IsKept, SameRegisters, SameFlags, SameState, SameFrame, SameAfter}
-use Rattle.guest_machine.specs.Operand.{size_of, factor_of, used, charged, carried_as, unmoved, moved_by, base_of, index_of, address_of, kept, kept_byte, number_at, carried, weighed, taken_at, taken, put}
+use Rattle.guest_machine.specs.Follow.{Uses, Reaches, Follows, Alike, IsFollowed, SameRegisters, SameState, SameFrame}
+use Rattle.guest_machine.specs.Operand.{factor_of, used, charged, carried_as, unmoved, moved_by, base_of, index_of, address_of, kept, kept_byte, number_at}
 use Rattle.guest_machine.specs.State.{register_of, with_register, with_word, with_stack, at_place}
-use Rattle.guest_machine.specs.Use.{◌>>=◌, plus, both, clean, there, cause_with, refused_with, After, left}
+use Rattle.guest_machine.specs.Use.{◌>>=◌, plus, both, clean, there}
 use Rattle.guest_machine.specs.Values.{Operations}
 
 -- ** stops
@@ -154,16 +149,16 @@ module _ {W F B W' F' B' : Type 0} (same : Alike W F B W' F' B') where
     registers = same_with s.registers s'.registers h.registers name w w' x;
     flags = h.flags;
     place = h.place;
-    thread_pointer = h.thread_pointer
-    }
+    thread_pointer = h.thread_pointer;
+  }
 
   pub same_stack : (s : State W F) (s' : State W' F') → SameState same s s' → (w : W) (w' : W') → same.word w w' → SameState same (with_stack s w) (with_stack s' w')
   same_stack s s' h w w' x = record {
     registers = record { rax = h.registers.rax; rcx = h.registers.rcx; rdx = h.registers.rdx; rbx = h.registers.rbx; rsp = x; rbp = h.registers.rbp; rsi = h.registers.rsi; rdi = h.registers.rdi; r8 = h.registers.r8; r9 = h.registers.r9; r10 = h.registers.r10; r11 = h.registers.r11; r12 = h.registers.r12; r13 = h.registers.r13; r14 = h.registers.r14; r15 = h.registers.r15 };
     flags = h.flags;
     place = h.place;
-    thread_pointer = h.thread_pointer
-    }
+    thread_pointer = h.thread_pointer;
+  }
 
   pub same_place : (s : State W F) (s' : State W' F') → SameState same s s' → (p p' : ℕ) → p ≡ p' → SameState same (at_place s p) (at_place s' p')
   same_place s s' h p p' e = record { registers = h.registers; flags = h.flags; place = e; thread_pointer = h.thread_pointer }

@@ -1,6 +1,6 @@
 -- One instruction from related states: what the first machine does the second does too.
-use Rattle.std.proofs.Common.{◌≡◌, ℕ, ◌+◌, ◌-◌, ◌%◌, ◌^◌, ◌<◌, ◌≤◌, Bool, true, false, not, ◌||◌, Option, Some, None, Result, Ok, Err, refl, sym, ap, subst, ◌∙◌, inl, inr, arith}
-use Rattle.std.specs.Prelude.{◌⊎◌, if◌then◌else◌}
+use Rattle.std.proofs.Common.{◌≡◌, ℕ, ◌+◌, ◌-◌, ◌%◌, ◌^◌, Bool, not, ◌||◌, Option, Some, None, Result, Ok, Err, refl, sym, ap, subst, ◌∙◌, inl, inr, arith}
+use Rattle.std.specs.Prelude.{if◌then◌else◌}
 use Rattle.amd64_subset.specs.declared.register.Register.{Register}
 use Rattle.amd64_subset.specs.declared.instr.Width.{Width}
 use Rattle.amd64_subset.specs.declared.instr.Width.TheVariants.{Long, Quad}
@@ -29,16 +29,15 @@ use Rattle.guest_machine.specs.declared.slot.Slot.TheVariants.{Place, Register a
 use Rattle.guest_machine.specs.declared.slot.Taken.{Taken}
 use Rattle.guest_machine.specs.declared.state.Flags.{Flags}
 use Rattle.guest_machine.specs.declared.state.State.{State}
-use Rattle.guest_machine.specs.declared.stop.Stop.{Stop}
-use Rattle.guest_machine.specs.declared.stop.Stop.TheVariants.{Address, Code, Unclean}
-use Rattle.guest_machine.specs.Access.{Refusal, Refused, Shut, Accesses, IsSize, load_of, store_of}
+use Rattle.guest_machine.specs.declared.stop.Stop.TheVariants.{Address, Code}
+use Rattle.guest_machine.specs.Access.{Refusal, Refused, Shut, Accesses, IsSize, load_of}
 use Rattle.guest_machine.specs.Arithmetic.{low, differ, bits_of, sum_effect, compute_effect, product_effect, shift_effect}
 use Rattle.guest_machine.specs.Effect.{changed, with_changes, is_less, is_less_or_equal, is_below_or_equal, condition_of}
-use Rattle.guest_machine.specs.Follow.{Uses, Reaches, StopsAlike, Follows, Alike, IsFollowed, IsKept, SameRegisters, SameFlags, SameState, SameFrame, SameAfter}
-use Rattle.guest_machine.specs.Operand.{size_of, used, charged, carried_as, address_of, kept, kept_byte, number_at, carried, weighed, taken_at, taken, put}
-use Rattle.guest_machine.specs.State.{register_of, with_register, with_word, with_stack, at_place}
+use Rattle.guest_machine.specs.Follow.{Uses, Reaches, Follows, Alike, IsFollowed, IsKept, SameFlags, SameState, SameFrame, SameAfter}
+use Rattle.guest_machine.specs.Operand.{size_of, used, charged, address_of, number_at, carried, weighed, taken_at, taken, put}
+use Rattle.guest_machine.specs.State.{register_of}
 use Rattle.guest_machine.specs.Step.{immediate_of, sign_extended, all_unsettled, is_cleared, settled, nop_use, finished, concluded, move_in, stored, move_number, move_of, extend_byte, extend_long, load_address, compute_in, compute_out, add_field, compute_plain, compute_number, compute_of, test_of, multiply_of, shift_of, pushed, push_of, pop_of, leave_of, return_of, call_of, jump_of, jump_if, nop_of, act}
-use Rattle.guest_machine.specs.Use.{◌>>=◌, plus, both, clean, there, cause_with, refused_with, After, left}
+use Rattle.guest_machine.specs.Use.{◌>>=◌, plus, both, clean, there, After, left}
 use Rattle.guest_machine.specs.Values.{Operations}
 use Rattle.guest_machine.proofs.Follow.{follows-then, follows-same, follows-clean, follows-there, follows-if, uses-used, uses-same, uses-both, uses-charged, same_register, same_with, same_word, same_stack, same_place, carried-same, kept-same, kept_byte-same, number_at-uses, address-uses, unmoved-uses}
 use Rattle.guest_machine.proofs.FollowMemory.{load-reach, store-reach}
@@ -78,16 +77,16 @@ module _ {W F B W' F' B' : Type 0} (same : Alike W F B W' F' B') (ops : Operatio
     zero = changed-same changes.zero f.zero f'.zero h.zero;
     sign = changed-same changes.sign f.sign f'.sign h.sign;
     carry = changed-same changes.carry f.carry f'.carry h.carry;
-    overflow = changed-same changes.overflow f.overflow f'.overflow h.overflow
-    }
+    overflow = changed-same changes.overflow f.overflow f'.overflow h.overflow;
+  }
 
   settled-same : (changes : Changes) (f f' : Frame) (s : State W F) (s' : State W' F') → f.next ≡ f'.next → SameState same s s' → SameState same (settled ops changes f s) (settled ops' changes f' s')
   settled-same changes f f' s s' e h = record {
     registers = h.registers;
     flags = changes-same changes s.flags s'.flags h.flags;
     place = e;
-    thread_pointer = h.thread_pointer
-    }
+    thread_pointer = h.thread_pointer;
+  }
 
   two-flags : (f : Bool → Bool → Bool) (a b : F) (a' b' : F') → same.flag a a' → same.flag b b'
       → Uses (λ x y. x ≡ y) (used (λ parts. f parts.0 parts.1) (both (ops.truth_of a) (ops.truth_of b))) (used (λ parts. f parts.0 parts.1) (both (ops'.truth_of a') (ops'.truth_of b')))
@@ -263,8 +262,8 @@ module _ {W F B W' F' B' : Type 0} (same : Alike W F B W' F' B') (ops : Operatio
   unfolding extend_byte
   extend_byte-follows f f' s s' m m' to (InRegister from) g h k = record {
     state = same_place same _ _ (same_word same s s' h to _ _ (kept_byte-same same ops ops' followed _ _ (same_register same s.registers s'.registers h.registers from))) f.next f'.next g.next;
-    memory = k
-    }
+    memory = k;
+  }
   extend_byte-follows f f' s s' m m' to (InMemory from) g h k =
       follows-same Then _ _ _ _ (follows-clean (λ p q. p ≡ q) s.place s'.place _ _ (address-uses same ops ops' followed f f' s s' from g h))
       (λ place. follows-then same.word Then _ _ _ _ (follows-there same.word s.place s'.place _ _ h.place (load-reach same acc acc' Same kept ops ops' followed m m' k place 1 (inl refl)))
@@ -276,8 +275,8 @@ module _ {W F B W' F' B' : Type 0} (same : Alike W F B W' F' B') (ops : Operatio
   extend_long-follows f f' s s' m m' to from g h k =
       follows-then same.word Then _ _ _ _ (carried-follows Long f f' s s' m m' from g h k)
       (λ w w' x. record {
-      state = same_place same _ _ (same_word same s s' h to _ _ (carried-same same ops ops' followed sign_extended (ops.number_of w) (ops'.number_of w') (followed.number_of w w' x))) f.next f'.next g.next;
-      memory = k
+        state = same_place same _ _ (same_word same s s' h to _ _ (carried-same same ops ops' followed sign_extended (ops.number_of w) (ops'.number_of w') (followed.number_of w w' x))) f.next f'.next g.next;
+        memory = k;
       })
 
   load_address-follows : (width : Width) (f f' : Frame) (s : State W F) (s' : State W' F') (m : M) (m' : M') (to : Register) (from : Memory) → SameFrame same f f' → SameState same s s' → Same m m'
@@ -314,10 +313,10 @@ module _ {W F B W' F' B' : Type 0} (same : Alike W F B W' F' B') (ops : Operatio
       registers = same_with same s.registers s'.registers h.registers to _ _ (subst (λ number. same.word (ops.word p) (ops'.word number)) (same_sum p n' x e) (followed.word p));
       flags = record { zero = free _ _; sign = free _ _; carry = free _ _; overflow = free _ _ };
       place = g.next;
-      thread_pointer = h.thread_pointer
-      };
-    memory = k
-    }
+      thread_pointer = h.thread_pointer;
+    };
+    memory = k;
+  }
   field_added at n' free to f f' s s' m m' g h k (Ok p) (Err cause) e = absurd e
   field_added at n' free to f f' s s' m m' g h k (Err cause) r' e = tt
 
@@ -429,8 +428,8 @@ module _ {W F B W' F' B' : Type 0} (same : Alike W F B W' F' B') (ops : Operatio
     registers = record { rax = h.registers.rax; rcx = h.registers.rcx; rdx = h.registers.rdx; rbx = h.registers.rbx; rsp = x; rbp = y; rsi = h.registers.rsi; rdi = h.registers.rdi; r8 = h.registers.r8; r9 = h.registers.r9; r10 = h.registers.r10; r11 = h.registers.r11; r12 = h.registers.r12; r13 = h.registers.r13; r14 = h.registers.r14; r15 = h.registers.r15 };
     flags = h.flags;
     place = e;
-    thread_pointer = h.thread_pointer
-    }
+    thread_pointer = h.thread_pointer;
+  }
 
   leave_of-follows : (f f' : Frame) (s : State W F) (s' : State W' F') (m : M) (m' : M') → SameFrame same f f' → SameState same s s' → Same m m'
       → Follows Then (leave_of ops acc f s m) (leave_of ops' acc' f' s' m')

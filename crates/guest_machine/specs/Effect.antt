@@ -1,5 +1,5 @@
 -- How flags change, and when a condition holds.
-use Rattle.std.specs.Prelude.{Bool, true, false, not, ◌||◌, Result, Ok, Err}
+use Rattle.std.specs.Prelude.{Bool, not, ◌||◌, Result}
 use Rattle.amd64_subset.specs.declared.instr.Condition.{Condition}
 use Rattle.amd64_subset.specs.declared.instr.Condition.TheVariants.{Overflow, NotOverflow, Below, NotBelow, Equal, NotEqual, BelowOrEqual, Above, Sign, NotSign, Less, NotLess, LessOrEqual, Greater}
 use Rattle.guest_machine.specs.declared.cause.Cause.{Cause}

@@ -1,6 +1,6 @@
 -- That one machine follows another: what the first does from related states the second does too, but that an unclean stop of the
 -- first allows anything. What words, flags, bytes and offset fields have to do with each other is a parameter.
-use Rattle.std.specs.Prelude.{◌≡◌, ℕ, zero, suc, ◌*◌, ◌+◌, ◌<◌, ◌≤◌, Bool, List, [], ◌∷◌, length, Option, Some, None, Result, Ok, Err}
+use Rattle.std.specs.Prelude.{◌≡◌, ℕ, ◌<◌, Bool, List, [], ◌∷◌, length, Option, Some, None, Result, Ok, Err}
 use Rattle.guest_machine.specs.declared.cause.Cause.{Cause}
 use Rattle.guest_machine.specs.declared.frame.Frame.{Frame}
 use Rattle.guest_machine.specs.declared.state.Registers.{Registers}

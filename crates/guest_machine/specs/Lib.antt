@@ -1,6 +1,7 @@
 pub mod Access
 pub mod Arithmetic
 pub mod Cause
+pub mod Clean
 pub mod Effect
 pub mod Follow
 pub mod Four
@@ -10,6 +11,7 @@ pub mod Plain
 pub mod PlainLaws
 pub mod Ranges
 pub mod Run
+pub mod Simulate
 pub mod State
 pub mod Step
 pub mod Use

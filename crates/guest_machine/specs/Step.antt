@@ -1,11 +1,11 @@
 -- One instruction, and one step of the machine (Intel's manual, volume 2). A stop is found before anything changes.
-use Rattle.std.specs.Prelude.{ℕ, ◌+◌, ◌-◌, ◌%◌, ◌^◌, Bool, true, false, ◌==◌, nat_lt, Result, Ok, Err, Option, Some, None, if◌then◌else◌}
+use Rattle.std.specs.Prelude.{ℕ, ◌+◌, ◌-◌, ◌%◌, ◌^◌, Bool, false, ◌==◌, nat_lt, Result, Ok, Err, Option, Some, None, if◌then◌else◌}
 use Rattle.amd64_subset.specs.declared.register.Register.{Register}
 use Rattle.amd64_subset.specs.Register.{number_of}
 use Rattle.amd64_subset.specs.declared.instr.Width.{Width}
 use Rattle.amd64_subset.specs.declared.instr.Width.TheVariants.{Long, Quad}
 use Rattle.amd64_subset.specs.declared.instr.Arithmetic.{Arithmetic}
-use Rattle.amd64_subset.specs.declared.instr.Arithmetic.TheVariants.{Add, Or, And, Sub, Xor, Compare}
+use Rattle.amd64_subset.specs.declared.instr.Arithmetic.TheVariants.{Add, And, Sub, Xor, Compare}
 use Rattle.amd64_subset.specs.declared.instr.Shift.{Shift}
 use Rattle.amd64_subset.specs.declared.instr.Condition.{Condition}
 use Rattle.amd64_subset.specs.declared.instr.Target.{Target}
@@ -20,7 +20,6 @@ use Rattle.amd64_subset.specs.declared.instr.Operation.TheVariants.{Move, StoreB
 use Rattle.amd64_subset.specs.declared.instr.Decoded.{Decoded}
 use Rattle.amd64_subset.specs.Decoding.{decoded}
 use Rattle.guest_machine.specs.declared.cause.Cause.{Cause}
-use Rattle.guest_machine.specs.declared.cause.Cause.TheVariants.{Field}
 use Rattle.guest_machine.specs.declared.effect.Change.TheVariants.{Unsettled}
 use Rattle.guest_machine.specs.declared.effect.Changes.{Changes}
 use Rattle.guest_machine.specs.declared.effect.Effect.{Effect}
@@ -31,11 +30,11 @@ use Rattle.guest_machine.specs.declared.state.State.{State}
 use Rattle.guest_machine.specs.declared.stop.Stop.{Stop}
 use Rattle.guest_machine.specs.declared.stop.Stop.TheVariants.{Code}
 use Rattle.guest_machine.specs.Access.{Accesses, load_of, store_of, fetch_of}
-use Rattle.guest_machine.specs.Arithmetic.{low, span_of, bits_of, compute_effect, product_effect, shift_effect}
+use Rattle.guest_machine.specs.Arithmetic.{low, bits_of, compute_effect, product_effect, shift_effect}
 use Rattle.guest_machine.specs.Effect.{with_changes, condition_of}
 use Rattle.guest_machine.specs.Operand.{size_of, used, charged, unmoved, carried_as, address_of, kept, kept_byte, number_at, carried, taken, put}
 use Rattle.guest_machine.specs.State.{register_of, with_word, with_stack, at_place}
-use Rattle.guest_machine.specs.Use.{◌>>=◌, plus, both, clean, there, After, left}
+use Rattle.guest_machine.specs.Use.{◌>>=◌, plus, clean, there, After, left}
 use Rattle.guest_machine.specs.Values.{Operations}
 
 -- the lower half as a signed number of 64 bits

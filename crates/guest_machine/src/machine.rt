@@ -1,4 +1,4 @@
-ghost use Rattle.std.specs.Prelude.{◌≡◌, ◌-◌, ◌^◌, ◌<◌};
+ghost use Rattle.std.specs.Prelude.{◌≡◌, ◌-◌, ◌^◌, ◌<◌, ◌≤◌, max};
 ghost use Rattle.amd64_subset.specs.Register.{register_of};
 ghost use Rattle.guest_machine.specs.Machine.{Answers, answer_of};
 ghost use Rattle.guest_machine.specs.Ranges.{range_accesses};
@@ -52,7 +52,9 @@ impl<V: Values> Machine<V> {
     /// Runs up to a stop. At 0x2000 the call is over; else the limit is asked, then whether another
     /// has to answer; then one step is made, and so on.
     pub fn run<S: Space<V>>(&mut self, space: &mut S, limit: u64) -> Stop
-        ensures { Runs V.operations limit result self.old (S.memory space.old) self.new (S.memory space.new) }
+        ensures runs { Runs V.operations limit result self.old (S.memory space.old) self.new (S.memory space.new) }
+        // No step is made past the limit.
+        ensures within { self.new.taken ≤ max self.old.taken limit }
     {
         run::<V, S>(&mut self.state, &mut self.taken, space, limit)
     }

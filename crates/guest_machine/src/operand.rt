@@ -66,11 +66,7 @@ fn moved_by<V: Values>(field: Option<u64>, number: u64, word: V::Word) -> Result
 
 /// The base of an address with the displacement.
 #[tactic(auto, unfolding(crate::specs::Operand::base_of))]
-fn base<V: Values>(
-    frame: &Frame,
-    registers: &Registers<V::Word>,
-    base: Base,
-) -> Result<u64, Cause>
+fn base<V: Values>(frame: &Frame, registers: &Registers<V::Word>, base: Base) -> Result<u64, Cause>
     ensures { result ≡ base_of V.operations frame.now.displacement_field frame.now.displacement frame.now.next registers.now base }
 {
     match base {

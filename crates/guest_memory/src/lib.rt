@@ -1,4 +1,24 @@
-//! A thread's memory in owned bytes.
+//! Memory for a `guest_machine`, one byte at a time.
+//!
+//! A thread of a linked program sees a few ranges of addresses: its stack, its blocks of thread-local
+//! storage, the parts of the images that are loaded. Each byte of a range may be read, written or run,
+//! or not, and an access of several bytes takes place where each of its bytes allows it: eight bytes
+//! at the end of one range and the start of the next are one load, and a store that reaches one byte too
+//! far stores nothing. Bytes that are fetched as code end at the first that may not be run.
+//!
+//! That an access of several bytes is made of its bytes is said and proved here once. A memory of any
+//! kind says what one byte is (the trait `Bytes`: read, run, may_write, write, is_field); `load`, `store`
+//! and `fetch` are then those of the machine's `Space`, with its very contracts, so a `Space` of one's own
+//! is four lines that call them.
+//!
+//! `GuestMemory` is such a memory in owned bytes: a list of ranges with their rights, of which the first
+//! that allows an access counts, and the places of offset fields. For example
+//!
+//!     code  at 0x400000, read and run:    64 48 8b 04 25 08 00 00 00 c3   mov %fs:8, %rax; ret
+//!     stack at 0x7f0000, read and write:  00 20 00 00 00 00 00 00 e9 01 02 03 04 05 06 07
+//!
+//! With the thread pointer and %rsp at 0x7f0000 the machine loads the eight bytes at 0x7f0008, the
+//! lowest first, and returns to 0x2000 with 0x07060504030201e9 in %rax.
 #![tactic(auto)]
 
 mod bytes;

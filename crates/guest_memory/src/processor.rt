@@ -1,8 +1,9 @@
 //! The machine against the processor.
 
 use crate::memory::GuestMemory;
-use crate::range::{GuestRange, Rights};
+use crate::range::GuestRange;
 use crate::rows::{ROWS_1, ROWS_2, ROWS_3, ROWS_4};
+use crate::tests::{RUNNABLE, WRITABLE, add};
 use guest_machine::{Machine, Plain, RETURN, Space, Stop};
 use std::alloc::{AllocError, Global};
 use std::process::Abort;
@@ -16,23 +17,11 @@ const STACK: u64 = 0x3000_0000;
 
 const TOP: u64 = STACK + 4096 - 64;
 
-const RUNNABLE: Rights = Rights {
-    readable: true,
-    writable: false,
-    runnable: true,
-};
-
-const WRITABLE: Rights = Rights {
-    readable: true,
-    writable: true,
-    runnable: false,
-};
-
 /// A digit's value; a text that is no number gives some number.
-fn digit(byte: u8) -> u64 {
+fn digit(byte: u8) -> u8 {
     match byte {
-        b'0'..=b'9' => u64::from(byte - b'0'),
-        b'a'..=b'f' => u64::from(byte - b'a') + 10,
+        b'0'..=b'9' => byte - b'0',
+        b'a'..=b'f' => byte - b'a' + 10,
         _ => 0,
     }
 }
@@ -40,7 +29,9 @@ fn digit(byte: u8) -> u64 {
 fn number(word: Option<&str>) -> u64 {
     let mut number = 0u64;
     for byte in word.unwrap_or("").as_bytes() {
-        number = number.wrapping_mul(16).wrapping_add(digit(*byte));
+        number = number
+            .wrapping_mul(16)
+            .wrapping_add(u64::from(digit(*byte)));
     }
     number
 }
@@ -48,17 +39,13 @@ fn number(word: Option<&str>) -> u64 {
 fn bytes(alloc: Global, word: Option<&str>) -> Result<Vec<u8>, AllocError> {
     let mut bytes = Vec::new(alloc);
     for pair in word.unwrap_or("").as_bytes().chunks(2) {
-        let mut byte = 0u64;
+        let mut byte = 0u8;
         for half in pair {
-            byte = byte.wrapping_mul(16).wrapping_add(digit(*half)) % 256;
+            byte = byte.wrapping_mul(16).wrapping_add(digit(*half));
         }
-        bytes.push(byte as u8)?;
+        bytes.push(byte)?;
     }
     Ok(bytes)
-}
-
-fn add(memory: &mut GuestMemory<u8>, range: GuestRange<u8>) -> Result<(), &'static str> {
-    memory.add_range(range).ok().ok_or("memory")
 }
 
 /// A memory as the program that made the rows has it.

@@ -1,37 +1,38 @@
 use crate::memory::GuestMemory;
 use crate::range::{GuestRange, Rights};
-use guest_machine::{Machine, Plain, RETURN, Stop};
+use guest_machine::{GET_ADDRESS, Machine, Plain, RETURN, Stop};
+use std::alloc::Global;
 use std::test::Fail;
 
 const CODE: u64 = 0x40_0000;
 
 const STACK: u64 = 0x7f_0000;
 
+pub(crate) const RUNNABLE: Rights = Rights {
+    readable: true,
+    writable: false,
+    runnable: true,
+};
+
+pub(crate) const WRITABLE: Rights = Rights {
+    readable: true,
+    writable: true,
+    runnable: false,
+};
+
+pub(crate) fn add(memory: &mut GuestMemory<u8>, range: GuestRange<u8>) -> Result<(), &'static str> {
+    memory.add_range(range).ok().ok_or("memory")
+}
+
 #[test]
 fn a_call_reads_and_returns(rt: HostRuntime) -> Result<(), Fail> {
     let mut memory: GuestMemory<u8> = GuestMemory::new(rt.alloc());
     // mov %fs:8, %rax; ret
     let code = [0x64, 0x48, 0x8b, 0x04, 0x25, 8, 0, 0, 0, 0xc3].to_vec(rt.alloc())?;
-    let runnable = Rights {
-        readable: true,
-        writable: false,
-        runnable: true,
-    };
-    memory
-        .add_range(GuestRange::new(CODE, code, runnable))
-        .ok()
-        .ok_or("memory")?;
-    let writable = Rights {
-        readable: true,
-        writable: true,
-        runnable: false,
-    };
+    add(&mut memory, GuestRange::new(CODE, code, RUNNABLE))?;
     // the return address, and the word that is read
     let stack = [0, 0x20, 0, 0, 0, 0, 0, 0, 0xe9, 1, 2, 3, 4, 5, 6, 7].to_vec(rt.alloc())?;
-    memory
-        .add_range(GuestRange::new(STACK, stack, writable))
-        .ok()
-        .ok_or("memory")?;
+    add(&mut memory, GuestRange::new(STACK, stack, WRITABLE))?;
     let mut machine: Machine<Plain> = Machine::start(CODE, STACK, 3, 5, 7);
     machine.set_thread_pointer(STACK);
     let stop = machine.run(&mut memory, 4);
@@ -39,5 +40,75 @@ fn a_call_reads_and_returns(rt: HostRuntime) -> Result<(), Fail> {
     assert_eq!(rt; machine.taken(), 2);
     assert_eq!(rt; machine.place(), RETURN);
     assert_eq!(rt; machine.register(4), STACK + 8);
+    Ok(())
+}
+
+/// A memory with code and a stack that returns to 0x2000.
+fn with_code(alloc: Global, code: &[u8]) -> Result<GuestMemory<u8>, Fail> {
+    let mut memory = GuestMemory::new(alloc);
+    add(
+        &mut memory,
+        GuestRange::new(CODE, code.to_vec(alloc)?, RUNNABLE),
+    )?;
+    let stack = [0, 0x20, 0, 0, 0, 0, 0, 0].to_vec(alloc)?;
+    add(&mut memory, GuestRange::new(STACK, stack, WRITABLE))?;
+    Ok(memory)
+}
+
+#[test]
+fn arithmetic(rt: HostRuntime) -> Result<(), Fail> {
+    // mov %rdi, %rax; imul %rsi, %rax; shl $4, %rax; sub %rdx, %rax; ret: 3 * 5 * 16 - 7
+    let code = [
+        0x48, 0x89, 0xf8, 0x48, 0x0f, 0xaf, 0xc6, 0x48, 0xc1, 0xe0, 4, 0x48, 0x29, 0xd0, 0xc3,
+    ];
+    let mut memory = with_code(rt.alloc(), &code)?;
+    let mut machine: Machine<Plain> = Machine::start(CODE, STACK, 3, 5, 7);
+    assert_eq!(rt; machine.run(&mut memory, 100), Stop::Returned(0xe9));
+    Ok(())
+}
+
+#[test]
+fn a_loop_and_its_limit(rt: HostRuntime) -> Result<(), Fail> {
+    // xor %eax, %eax; 1: add %rdi, %rax; sub $1, %rdi; jne 1b; ret: 4 + 3 + 2 + 1, in 1 + 3 * 4 + 1 steps
+    let code = [
+        0x31, 0xc0, 0x48, 1, 0xf8, 0x48, 0x83, 0xef, 1, 0x75, 0xf7, 0xc3,
+    ];
+    let mut memory = with_code(rt.alloc(), &code)?;
+    let mut machine: Machine<Plain> = Machine::start(CODE, STACK, 4, 0, 0);
+    assert_eq!(rt; machine.run(&mut memory, 12), Stop::Steps(CODE + 9));
+    assert_eq!(rt; machine.taken(), 12);
+    assert_eq!(rt; machine.run(&mut memory, 14), Stop::Returned(10));
+    assert_eq!(rt; machine.taken(), 14);
+    Ok(())
+}
+
+#[test]
+fn a_look_and_its_answer(rt: HostRuntime) -> Result<(), Fail> {
+    // call 0x1000 from 0x400000; ret
+    let code = [0xe8, 0xfb, 0x0f, 0xc0, 0xff, 0xc3];
+    let mut memory = with_code(rt.alloc(), &code)?;
+    let below = [0; 8].to_vec(rt.alloc())?;
+    add(&mut memory, GuestRange::new(STACK - 8, below, WRITABLE))?;
+    let mut machine: Machine<Plain> = Machine::start(CODE, STACK, 0, 0, 0);
+    assert_eq!(rt; machine.run(&mut memory, 9), Stop::Look(GET_ADDRESS));
+    assert!(rt; machine.answer(&mut memory, 0x77));
+    assert_eq!(rt; machine.run(&mut memory, 9), Stop::Returned(0x77));
+    assert_eq!(rt; machine.taken(), 3);
+    Ok(())
+}
+
+#[test]
+fn stops(rt: HostRuntime) -> Result<(), Fail> {
+    // mov (%rdi), %rax; mov %rax, (%rdi); ud2
+    let code = [0x48, 0x8b, 7, 0x48, 0x89, 7, 0x0f, 0x0b];
+    let mut memory = with_code(rt.alloc(), &code)?;
+    let mut unreadable: Machine<Plain> = Machine::start(CODE, STACK, STACK + 1, 0, 0);
+    assert_eq!(rt; unreadable.run(&mut memory, 9), Stop::Address(CODE));
+    let mut unwritable: Machine<Plain> = Machine::start(CODE, STACK, CODE, 0, 0);
+    assert_eq!(rt; unwritable.run(&mut memory, 9), Stop::Address(CODE + 3));
+    let mut undefined: Machine<Plain> = Machine::start(CODE, STACK, STACK, 0, 0);
+    assert_eq!(rt; undefined.run(&mut memory, 9), Stop::Code(CODE + 6));
+    let mut elsewhere: Machine<Plain> = Machine::start(STACK, STACK, 0, 0, 0);
+    assert_eq!(rt; elsewhere.run(&mut memory, 9), Stop::Code(STACK));
     Ok(())
 }
