@@ -1,6 +1,5 @@
 pub mod Beginning
 pub mod Decoding
-pub mod Form
 pub mod Meaning
 pub mod Number
 pub mod Prefix

@@ -1,6 +1,6 @@
 -- Numbers in an instruction's bytes: little-endian, and sign-extended to 64 bits (Intel's manual, volume 2, 2.1.5 and 2.2.1.3).
-use Rattle.std.specs.Prelude.{ℕ, ◌+◌, ◌%◌, ◌^◌, Bool, ◌||◌, nat_le, List, [], ◌∷◌, slice_index, nat_lt, if◌then◌else◌}
-use Rattle.std.specs.Int.{w32, w64, from_le_bytes, to_le_bytes}
+use Rattle.std.specs.Prelude.{ℕ, ◌+◌, List, [], ◌∷◌, slice_index, nat_lt, if◌then◌else◌}
+use Rattle.std.specs.Int.{w32, w64, from_le_bytes}
 use Rattle.amd64_subset.specs.declared.size.Size.{Size}
 use Rattle.amd64_subset.specs.declared.size.Size.TheVariants.{Zero, One, Four, Eight}
 
@@ -22,17 +22,3 @@ signed_of Zero bytes = 0
 signed_of One bytes = signed_byte_of (slice_index bytes 0)
 signed_of Four bytes = signed_long_of (from_le_bytes w32 bytes)
 signed_of Eight bytes = from_le_bytes w64 bytes
-
--- a sign-extended byte gives the number, and four sign-extended bytes do
-abbrev pub fits_byte : ℕ → Bool
-fits_byte number = nat_lt number 0x80 || nat_le 0xffff_ffff_ffff_ff80 number
-
-abbrev pub fits_long : ℕ → Bool
-fits_long number = nat_lt number 0x8000_0000 || nat_le 0xffff_ffff_8000_0000 number
-
--- so many bytes that hold the number
-unfoldable pub bytes_of : Size → ℕ → List ℕ
-bytes_of Zero number = []
-bytes_of One number = number % 256 ∷ []
-bytes_of Four number = to_le_bytes w32 (number % 2 ^ 32)
-bytes_of Eight number = to_le_bytes w64 number

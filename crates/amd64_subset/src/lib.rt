@@ -2,7 +2,6 @@
 #![tactic(auto)]
 
 mod fault;
-mod form;
 mod instr;
 pub mod laws;
 mod meaning;
