@@ -90,7 +90,13 @@ fn object_of<'a>(alloc: Global, name: &str, bytes: &'a [u8]) -> Result<Object<'a
     let object = match Object::read(alloc, bytes) {
         Ok(object) => object,
         Err(ObjectFault::OutOfMemory) => return Err(CommandFault::OutOfMemory),
-        Err(ObjectFault::At { section, entry, kind }) => {
+        Err(
+            ObjectFault::At {
+                section,
+                entry,
+                kind,
+            },
+        ) => {
             let reason = Reason::Fault {
                 section,
                 entry,

@@ -8,7 +8,11 @@ use ports::Store;
 use std::alloc::Global;
 
 /// The bytes of the file of that name.
-pub fn whole_file<S: Store>(alloc: Global, store: &mut S, name: &str) -> Result<Vec<u8>, CommandFault>
+pub fn whole_file<S: Store>(
+    alloc: Global,
+    store: &mut S,
+    name: &str,
+) -> Result<Vec<u8>, CommandFault>
     ensures files { S.files store.new ≡ S.files store.old }
     ensures asked { S.asked store.new ≡ with_name name.now (S.asked store.old) }
     ensures cause { StoreCounts (S.faults store.old) (S.faults store.new) result }

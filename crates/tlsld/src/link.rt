@@ -58,8 +58,11 @@ pub fn link(
 /// Where the function of that name stands, if the object defines it for all objects, in its code.
 pub fn function_place(object: &Object, small: &SmallObject, name: &[u8]) -> Option<u64> {
     let code = object.section(small.code)?;
-    let definition = definition_of(object, SymbolBinding::Global, name)
-        .or(definition_of(object, SymbolBinding::Weak, name))?;
+    let definition = definition_of(object, SymbolBinding::Global, name).or(definition_of(
+        object,
+        SymbolBinding::Weak,
+        name,
+    ))?;
     if definition.place == SymbolPlace::InSection(small.code) && definition.value < code.size {
         BASE.checked_add(definition.value)
     } else {
@@ -75,7 +78,9 @@ fn definition_of<'a>(
 ) -> Option<SymbolPart<'a>> {
     for number in 1..object.symbol_count() {
         let symbol = object.symbol(number)?;
-        if symbol.binding == binding && symbol.place != SymbolPlace::Undefined && symbol.name == name
+        if symbol.binding == binding
+            && symbol.place != SymbolPlace::Undefined
+            && symbol.name == name
         {
             return Some(symbol);
         }

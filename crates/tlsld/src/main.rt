@@ -31,11 +31,10 @@ mod tests;
 mod thread;
 mod top;
 
-pub use top::{tlsld, tlsld_plain};
-
 use ports::{HostSink, HostStore};
 use std::process::ExitCode;
 use std::{env, io};
+pub use top::{tlsld, tlsld_plain};
 
 fn main(rt: HostRuntime) -> io::Result<ExitCode> {
     let mut words = Vec::new(rt.alloc());

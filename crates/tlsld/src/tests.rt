@@ -76,10 +76,30 @@ fn refuses_jobs_and_objects(rt: HostRuntime) -> Result<(), Fail> {
     let cut = &OBJECT[..746];
     let rows: [(&[u8], &[u8], u8, &[u8]); 7] = [
         (b"", OBJECT, 5, b"job 0 NotYet\n"),
-        (b"image app exe a.o\n1 call app f 0 0 zz\n", OBJECT, 5, b"job 0 NotYet\n"),
-        (b"image app pie a.o\n1 call app f 0 0 0\n", OBJECT, 5, b"job 0 NotYet\n"),
-        (b"image app exe a.o\n1 call app f 0 0 0\n1 call app f 0 0 0\n", OBJECT, 5, b"job 0 NotYet\n"),
-        (b"image app exe a.o\n1 call app g 0 0 0\n", OBJECT, 0, b"t1 l1 g0 refused symbol\n"),
+        (
+            b"image app exe a.o\n1 call app f 0 0 zz\n",
+            OBJECT,
+            5,
+            b"job 0 NotYet\n",
+        ),
+        (
+            b"image app pie a.o\n1 call app f 0 0 0\n",
+            OBJECT,
+            5,
+            b"job 0 NotYet\n",
+        ),
+        (
+            b"image app exe a.o\n1 call app f 0 0 0\n1 call app f 0 0 0\n",
+            OBJECT,
+            5,
+            b"job 0 NotYet\n",
+        ),
+        (
+            b"image app exe a.o\n1 call app g 0 0 0\n",
+            OBJECT,
+            0,
+            b"t1 l1 g0 refused symbol\n",
+        ),
         (JOB, cut, 6, b"object a.o section 2 entry 0 Truncated\n"),
         (JOB, b"", 6, b"object a.o section 0 entry 0 Truncated\n"),
     ];

@@ -23,11 +23,13 @@ const CODE: Rights = Rights {
     writable: false,
     runnable: true,
 };
+
 const CONSTANT: Rights = Rights {
     readable: true,
     writable: false,
     runnable: false,
 };
+
 const VARIABLE: Rights = Rights {
     readable: true,
     writable: true,
@@ -85,11 +87,7 @@ fn stack_end(thread: u32) -> u64
 }
 
 /// A thread's memory before a call.
-fn memory_of(
-    alloc: Global,
-    linked: &Linked,
-    thread: u32,
-) -> Result<GuestMemory<u8>, CommandFault>
+fn memory_of(alloc: Global, linked: &Linked, thread: u32) -> Result<GuestMemory<u8>, CommandFault>
     requires { thread ≤ 64 }
     ensures { NoStoreFault result }
 {
