@@ -39,7 +39,7 @@ use Rattle.guest_machine.specs.Operand.{size_of, used, charged, unmoved, moved_b
 use Rattle.guest_machine.specs.Plain.{plain_operations}
 use Rattle.guest_machine.specs.Ranges.{byte_in, range_accesses, is_field_of}
 use Rattle.guest_machine.specs.Run.{Next, Goes, Ends, Looks, Outcome, run, over_or, go_on, next_of, returned, is_look, machine, stop_of}
-use Rattle.guest_machine.specs.Step.{immediate_of, is_cleared, nop_use, finished, concluded, move_in, stored, move_number, move_of, extend_byte, extend_long, load_address, compute_in, compute_out, add_field, compute_plain, compute_number, compute_of, test_of, multiply_of, shift_of, pushed, push_of, pop_of, leave_of, return_of, call_of, jump_of, jump_if, nop_of, act, frame_of, act_if, step_of}
+use Rattle.guest_machine.specs.Step.{immediate_of, is_cleared, nop_use, finished, concluded, move_in, stored, store_byte, move_number, move_of, extend_byte, extend_long, load_address, compute_in, compute_out, add_field, compute_plain, compute_number, compute_of, test_of, multiply_of, shift_of, pushed, push_of, pop_of, leave_of, return_of, call_of, jump_of, jump_if, nop_of, act, frame_of, act_if, step_of}
 use Rattle.guest_machine.specs.Use.{◌>>=◌, both, clean, there, After, left}
 use Rattle.guest_machine.specs.Values.{Operations}
 
@@ -301,7 +301,7 @@ module _ {W F B M : Type 0} (ops : Operations W F B) (acc : Accesses M B) (alway
   nop_use-is f s None None = tt
 
   act-stays : (f : Frame) (operation : Operation) (s : State W F) (m : M) → Stays (act ops acc f operation s m)
-  unfolding act extend_long load_address test_of multiply_of shift_of push_of pop_of leave_of return_of jump_of jump_if nop_of
+  unfolding act store_byte extend_long load_address test_of multiply_of shift_of push_of pop_of leave_of return_of jump_of jump_if nop_of
   act-stays f (Move width operands) s m = move-stays width f s m operands
   act-stays f (StoreByte to from) s m = stored-stays 1 f s m to _
   act-stays f (ExtendByte width to from) s m = extend_byte-stays f s m to from

@@ -36,7 +36,7 @@ use Rattle.guest_machine.specs.Effect.{changed, with_changes, is_less, is_less_o
 use Rattle.guest_machine.specs.Follow.{Uses, Reaches, Follows, Alike, IsFollowed, IsKept, SameFlags, SameState, SameFrame, SameAfter}
 use Rattle.guest_machine.specs.Operand.{size_of, used, charged, address_of, number_at, carried, weighed, taken_at, taken, put}
 use Rattle.guest_machine.specs.State.{register_of}
-use Rattle.guest_machine.specs.Step.{immediate_of, sign_extended, all_unsettled, is_cleared, settled, nop_use, finished, concluded, move_in, stored, move_number, move_of, extend_byte, extend_long, load_address, compute_in, compute_out, add_field, compute_plain, compute_number, compute_of, test_of, multiply_of, shift_of, pushed, push_of, pop_of, leave_of, return_of, call_of, jump_of, jump_if, nop_of, act}
+use Rattle.guest_machine.specs.Step.{immediate_of, sign_extended, all_unsettled, is_cleared, settled, nop_use, finished, concluded, move_in, stored, store_byte, move_number, move_of, extend_byte, extend_long, load_address, compute_in, compute_out, add_field, compute_plain, compute_number, compute_of, test_of, multiply_of, shift_of, pushed, push_of, pop_of, leave_of, return_of, call_of, jump_of, jump_if, nop_of, act}
 use Rattle.guest_machine.specs.Use.{◌>>=◌, plus, both, clean, there, After, left}
 use Rattle.guest_machine.specs.Values.{Operations}
 use Rattle.guest_machine.proofs.Follow.{follows-then, follows-same, follows-clean, follows-there, follows-if, uses-used, uses-same, uses-both, uses-charged, same_register, same_with, same_word, same_stack, same_place, carried-same, kept-same, kept_byte-same, number_at-uses, address-uses, unmoved-uses}
@@ -490,13 +490,18 @@ module _ {W F B W' F' B' : Type 0} (same : Alike W F B W' F' B') (ops : Operatio
       (follows-clean (λ (a : ℕ) (b : ℕ). Unit {0}) s.place s'.place _ _ (nop-uses same ops ops' followed f f' s s' f.displacement_field f'.displacement_field operand (none_of f f' g) g h))
       (λ a b x. record { state = same_place same s s' h f.next f'.next g.next; memory = k })
 
+  store_byte-follows : (f f' : Frame) (s : State W F) (s' : State W' F') (m : M) (m' : M') (to : Memory) (from : Register) → SameFrame same f f' → SameState same s s' → Same m m'
+      → Follows Then (store_byte ops acc f s m to from) (store_byte ops' acc' f' s' m' to from)
+  unfolding store_byte
+  store_byte-follows f f' s s' m m' to from g h k =
+      stored-follows 1 (inl refl) f f' s s' m m' to _ _ (kept_byte-same same ops ops' followed _ _ (same_register same s.registers s'.registers h.registers from)) g h k
+
   -- the law: operations and memories that are related keep related states related through one instruction
   pub act_follows : (f f' : Frame) → SameFrame same f f' → (operation : Operation) (s : State W F) (s' : State W' F') (m : M) (m' : M') → SameState same s s' → Same m m'
       → Follows Then (act ops acc f operation s m) (act ops' acc' f' operation s' m')
   unfolding act
   act_follows f f' g (Move width operands) s s' m m' h k = move_of-follows width f f' s s' m m' operands g h k
-  act_follows f f' g (StoreByte to from) s s' m m' h k =
-      stored-follows 1 (inl refl) f f' s s' m m' to _ _ (kept_byte-same same ops ops' followed _ _ (same_register same s.registers s'.registers h.registers from)) g h k
+  act_follows f f' g (StoreByte to from) s s' m m' h k = store_byte-follows f f' s s' m m' to from g h k
   act_follows f f' g (ExtendByte width to from) s s' m m' h k = extend_byte-follows f f' s s' m m' to from g h k
   act_follows f f' g (ExtendLong to from) s s' m m' h k = extend_long-follows f f' s s' m m' to from g h k
   act_follows f f' g (LoadAddress width to from) s s' m m' h k = load_address-follows width f f' s s' m m' to from g h k

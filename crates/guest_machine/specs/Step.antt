@@ -90,6 +90,10 @@ module _ {W F B M : Type 0} (ops : Operations W F B) (acc : Accesses M B) where
     after ← there state.place (store_of ops acc memory place size word)
     Ok (left (at_place state frame.next) after)
 
+  -- mov r8 to memory
+  unfoldable pub store_byte : Frame → State W F → M → Memory → Register → Result (After W F M) Stop
+  store_byte frame state memory to from = stored 1 frame state memory to (kept_byte ops (register_of state.registers from))
+
   -- mov r/m, imm
   unfoldable pub move_number : Width → Frame → State W F → M → Operand → Result (After W F M) Stop
   move_number width frame state memory (InRegister to) = do
@@ -247,7 +251,7 @@ module _ {W F B M : Type 0} (ops : Operations W F B) (acc : Accesses M B) where
   -- one instruction
   unfoldable pub act : Frame → Operation → State W F → M → Result (After W F M) Stop
   act frame (Move width operands) state memory = move_of width frame state memory operands
-  act frame (StoreByte to from) state memory = stored 1 frame state memory to (kept_byte ops (register_of state.registers from))
+  act frame (StoreByte to from) state memory = store_byte frame state memory to from
   act frame (ExtendByte width to from) state memory = extend_byte frame state memory to from
   act frame (ExtendLong to from) state memory = extend_long frame state memory to from
   act frame (LoadAddress width to from) state memory = load_address width frame state memory to from

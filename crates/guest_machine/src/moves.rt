@@ -3,7 +3,7 @@ ghost use Rattle.guest_machine.specs.Access.{IsSize};
 ghost use Rattle.guest_machine.specs.Arithmetic.{span_of};
 ghost use Rattle.guest_machine.specs.Operand.{carried_as};
 ghost use Rattle.guest_machine.specs.Ranges.{range_accesses};
-ghost use Rattle.guest_machine.specs.Step.{immediate_of, sign_extended, move_in, stored, move_number, move_of, extend_byte, extend_long, load_address};
+ghost use Rattle.guest_machine.specs.Step.{immediate_of, sign_extended, move_in, stored, store_byte, move_number, move_of, extend_byte, extend_long, load_address};
 ghost use Rattle.guest_machine.specs.Use.{Leaves, left};
 
 use crate::arithmetic::low;
@@ -59,7 +59,7 @@ fn move_in<V: Values, S: Space<V>>(
 
 /// A word's lowest bytes into a memory operand.
 #[tactic(auto, unfolding(crate::specs::Step::stored))]
-pub(crate) fn stored<V: Values, S: Space<V>>(
+fn stored<V: Values, S: Space<V>>(
     size: u8,
     frame: &Frame,
     to: &Memory,
@@ -74,6 +74,21 @@ pub(crate) fn stored<V: Values, S: Space<V>>(
     store::<V, S>(space, state.place, place, size, word)?;
     state.place = frame.next;
     Ok(())
+}
+
+/// mov r8 to memory
+#[tactic(auto, unfolding(crate::specs::Step::store_byte))]
+pub(crate) fn store_byte<V: Values, S: Space<V>>(
+    frame: &Frame,
+    to: &Memory,
+    from: Register,
+    state: &mut State<V::Word, V::Flag>,
+    space: &mut S,
+) -> Result<(), Stop>
+    ensures { Leaves result (left state.old (S.memory space.old)) (left state.new (S.memory space.new)) (store_byte V.operations (range_accesses V.operations) frame.now state.old (S.memory space.old) to.now from) }
+{
+    let byte = kept_byte::<V>(register(&state.registers, from));
+    stored::<V, S>(1, frame, to, byte, state, space)
 }
 
 /// mov r/m, imm

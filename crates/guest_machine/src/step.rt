@@ -6,13 +6,16 @@ ghost use Rattle.guest_machine.specs.Use.{Leaves, left};
 use crate::compute::{compute_operands, multiply, shift_operand, test};
 use crate::frame::{Frame, frame_at};
 use crate::jump::{jump, jump_if, nop};
-use crate::moves::{extend_byte, extend_long, load_address, move_operands, stored};
-use crate::operand::kept_byte;
+use crate::moves::{extend_byte, extend_long, load_address, move_operands, store_byte};
 use crate::space::Space;
 use crate::stack::{call, leave, pop, push, return_from};
-use crate::state::{State, register};
+use crate::state::State;
 use crate::stop::Stop;
 use crate::values::Values;
+use amd64_subset::Operation::{
+    Call, Compute, ExtendByte, ExtendLong, Jump, JumpIf, Leave, LoadAddress, Move, Multiply, Nop,
+    Pop, Push, Return, Shift, StoreByte, Test, Undefined,
+};
 use amd64_subset::{Operation, decode};
 
 /// One instruction.
@@ -26,49 +29,38 @@ fn act<V: Values, S: Space<V>>(
     ensures { Leaves result (left state.old (S.memory space.old)) (left state.new (S.memory space.new)) (act V.operations (range_accesses V.operations) frame.now operation.now state.old (S.memory space.old)) }
 {
     match operation {
-        Operation::Move { width, operands } => {
-            move_operands::<V, S>(*width, frame, operands, state, space)
-        }
-        Operation::StoreByte { to, from } => {
-            let byte = kept_byte::<V>(register(&state.registers, *from));
-            stored::<V, S>(1, frame, to, byte, state, space)
-        }
-        Operation::ExtendByte { width: _, to, from } => {
-            extend_byte::<V, S>(frame, *to, from, state, space)
-        }
-        Operation::ExtendLong { to, from } => extend_long::<V, S>(frame, *to, from, state, space),
-        Operation::LoadAddress { width, to, from } => {
+        Move { width, operands } => move_operands::<V, S>(*width, frame, operands, state, space),
+        StoreByte { to, from } => store_byte::<V, S>(frame, to, *from, state, space),
+        ExtendByte { to, from, .. } => extend_byte::<V, S>(frame, *to, from, state, space),
+        ExtendLong { to, from } => extend_long::<V, S>(frame, *to, from, state, space),
+        LoadAddress { width, to, from } => {
             load_address::<V, S>(*width, frame, *to, from, state, space)
         }
-        Operation::Compute {
+        Compute {
             arithmetic,
             width,
             operands,
         } => compute_operands::<V, S>(*arithmetic, *width, frame, operands, state, space),
-        Operation::Test { width, left, right } => {
-            test::<V, S>(*width, frame, left, *right, state, space)
-        }
-        Operation::Multiply { width, to, from } => {
-            multiply::<V, S>(*width, frame, *to, from, state, space)
-        }
-        Operation::Shift {
+        Test { width, left, right } => test::<V, S>(*width, frame, left, *right, state, space),
+        Multiply { width, to, from } => multiply::<V, S>(*width, frame, *to, from, state, space),
+        Shift {
             shift,
             width,
             to,
             count,
         } => shift_operand::<V, S>(*shift, *width, frame, to, *count, state, space),
-        Operation::Push { from } => push::<V, S>(frame, *from, state, space),
-        Operation::Pop { to } => pop::<V, S>(frame, *to, state, space),
-        Operation::Leave => leave::<V, S>(frame, state, space),
-        Operation::Call { target } => call::<V, S>(frame, target, state, space),
-        Operation::Jump { target } => jump::<V, S>(frame, target, state, space),
-        Operation::JumpIf {
+        Push { from } => push::<V, S>(frame, *from, state, space),
+        Pop { to } => pop::<V, S>(frame, *to, state, space),
+        Leave => leave::<V, S>(frame, state, space),
+        Call { target } => call::<V, S>(frame, target, state, space),
+        Jump { target } => jump::<V, S>(frame, target, state, space),
+        JumpIf {
             condition,
             distance,
         } => jump_if::<V, S>(frame, *condition, *distance, state, space),
-        Operation::Return => return_from::<V, S>(state, space),
-        Operation::Nop { operand } => nop::<V, S>(frame, operand, state, space),
-        Operation::Undefined => Err(Stop::Code(state.place)),
+        Return => return_from::<V, S>(state, space),
+        Nop { operand } => nop::<V, S>(frame, operand, state, space),
+        Undefined => Err(Stop::Code(state.place)),
     }
 }
 
