@@ -1,0 +1,53 @@
+-- What the tables of the code hold, and how they stand to what a history leaves.
+use Rattle.std.specs.Prelude.{◌≡◌, ◌≤◌, ◌<◌, ◌+◌, ◌^◌, ℕ, Bool, true, if◌then◌else◌, List, length, All, slice_index, slice_index_or, vec_len, Some, None}
+use Rattle.std.specs.Int.{bit_at}
+use Rattle.std.specs.List.{list_any}
+use Rattle.module_table.specs.declared.TheConstants.{MOST_INSTANCES}
+use Rattle.module_table.specs.declared.modules.Module.{Module}
+use Rattle.module_table.specs.declared.table.ModuleTable.TheInside.{Inside}
+use Rattle.module_table.specs.Modules.{IsInfo, no_module, is_loaded}
+use Rattle.module_table.specs.Past.{Past, module_of, image_of, instance_of, has_instance, has_id}
+
+abbrev pub past_of : Inside → Past
+past_of t = record { seen = t.seen; made = t.made; taken = t.taken; limit = t.limit; modules = t.modules.items }
+
+-- what a loaded image's numbers keep: its instance was made, and its id is 1 to 64
+pub record IsNumbered (made : ℕ) (m : Module) : Type 0 where
+  pub instance : is_loaded m ≡ true → m.instance ≤ made
+  pub id_low : is_loaded m ≡ true → 1 ≤ m.id
+  pub id_high : is_loaded m ≡ true → m.id ≤ 64
+
+-- what every history leaves keeps
+pub record IsPast (p : Past) : Type 0 where
+  pub few : length p.modules ≤ 65
+  pub none : module_of p 0 ≡ no_module
+  pub made : p.made ≤ MOST_INSTANCES
+  pub taken : p.taken ≤ p.limit
+  pub limit : p.limit < 2 ^ 28
+  pub infos : All (λ (m : Module). IsInfo m.info) p.modules
+  pub uses : All (λ (m : Module). m.uses ≤ p.seen + 1) p.modules
+  pub numbered : All (IsNumbered p.made) p.modules
+
+-- each loaded image stands in the table under its key
+pub record Finds (key : Module → ℕ) (places : List ℕ) (modules : List Module) : Type 0 where
+  pub at : (image : ℕ) → is_loaded (slice_index_or modules image no_module) ≡ true → slice_index places (key (slice_index_or modules image no_module)) ≡ image
+
+-- bit k is set where a live instance has the id k + 1
+pub record MarksIds (marks : ℕ) (modules : List Module) : Type 0 where
+  pub at : (k : ℕ) → k < 64 → bit_at marks k ≡ (if list_any (has_id (k + 1)) modules then 1 else 0)
+
+pub record AreTables (t : Inside) : Type 0 where
+  pub past : IsPast (past_of t)
+  pub instances : vec_len t.image_by_instance ≡ 4096
+  pub ids : vec_len t.image_by_id ≡ 65
+  pub by_instance : Finds (λ m. m.instance) t.image_by_instance.items t.modules.items
+  pub by_id : Finds (λ m. m.id) t.image_by_id.items t.modules.items
+  pub marks : MarksIds t.ids_in_use t.modules.items
+
+-- no other image is loaded as the instance
+abbrev pub IsTheImage : Past → ℕ → ℕ → Type 0
+IsTheImage p instance image = image_of p instance ≡ (if has_instance instance (module_of p image) then Some image else None)
+
+-- no other image is loaded under the id
+abbrev pub IsTheImageUnder : Past → ℕ → ℕ → Type 0
+IsTheImageUnder p id image = instance_of p id ≡ (if has_id id (module_of p image) then Some (module_of p image).instance else None)

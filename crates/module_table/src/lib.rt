@@ -1,0 +1,16 @@
+//! Which modules are loaded, as a function of what was opened and closed.
+#![tactic(auto)]
+
+mod events;
+mod modules;
+mod table;
+
+pub use crate::events::{CloseRefusal, Event, OpenRefusal};
+pub use crate::modules::{ImageInfo, Module};
+pub use crate::table::ModuleTable;
+
+/// How many instances of modules are made at most, startup ones counted.
+pub const MOST_INSTANCES: u32 = 4095;
+
+/// How many bytes of a thread's static block are kept for modules that come late.
+pub const SURPLUS: u64 = 4096;
