@@ -1,3 +1,4 @@
+pub mod Marks
 pub mod Modules
 pub mod Past
 pub mod Tables

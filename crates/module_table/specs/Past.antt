@@ -1,6 +1,6 @@
 -- What a history of opens and closes leaves: a walk along the list of events, one step an event.
 -- Nothing here is a table of the code: no slot by id or by instance, no set of free ids.
-use Rattle.std.specs.Prelude.{◌≡◌, ◌≢◌, ◌==◌, ◌+◌, ◌-◌, ◌<◌, ◌≤◌, ℕ, Bool, true, false, not, ◌&&◌, nat_lt, nat_le, zero, suc, if◌then◌else◌, List, [], ◌∷◌, length, slice_index_or, slice_set, fold, count_by, position, Option, Some, None, is_some, is_none, option_map, option_and_then}
+use Rattle.std.specs.Prelude.{◌≡◌, ◌≢◌, ◌==◌, ◌+◌, ◌-◌, ◌<◌, ◌≤◌, ℕ, Bool, true, false, not, ◌&&◌, nat_lt, nat_le, zero, suc, if◌then◌else◌, List, [], ◌∷◌, length, slice_index_or, slice_set, fold, count_by, position, Option, Some, None, is_some, is_none, option_map, option_and_then, unwrap_or}
 use Rattle.std.specs.Int.{next_multiple_of}
 use Rattle.std.specs.List.{list_any}
 use Rattle.module_table.specs.declared.TheConstants.{MOST_INSTANCES, SURPLUS}
@@ -115,6 +115,12 @@ least_from modules (suc more) id = if list_any (has_id id) modules then least_fr
 unfoldable pub least_free : List Module → ℕ
 least_free modules = least_from modules (length modules) 1
 
+-- no live instance has the id, and one has each id from 1 on below it
+pub record IsLeastFree (modules : List Module) (id : ℕ) : Type 0 where
+  pub low : 1 ≤ id
+  pub free : list_any (has_id id) modules ≡ false
+  pub least : (k : ℕ) → 1 ≤ k → k < id → list_any (has_id k) modules ≡ true
+
 -- a new instance of an image: the next number, the least free id, and a place in the surplus if its blocks are static
 abbrev pub new_instance : Past → Module → Module
 new_instance p m = record {
@@ -130,20 +136,22 @@ unfoldable pub loaded : Past → ℕ → Past
 loaded p image = let m = module_of p image in record {
   seen = p.seen + 1;
   made = p.made + 1;
-  taken = if m.info.statics then next_offset p m else p.taken;
+  taken = unwrap_or (new_instance p m).offset p.taken;
   limit = p.limit;
   modules = slice_set p.modules image (new_instance p m);
 }
 
+-- the image, held open so often
+abbrev pub with_uses : Past → ℕ → ℕ → Past
+with_uses p image uses = record p { seen = p.seen + 1; modules = slice_set p.modules image (record (module_of p image) { uses = uses }) }
+
 -- an open of a loaded image, which makes no instance
 unfoldable pub retained : Past → ℕ → Past
-retained p image = let m = module_of p image in
-  record p { seen = p.seen + 1; modules = slice_set p.modules image (record m { uses = m.uses + 1 }) }
+retained p image = with_uses p image ((module_of p image).uses + 1)
 
 -- a close; what the surplus gave is not given back
 unfoldable pub released : Past → ℕ → Past
-released p image = let m = module_of p image in
-  record p { seen = p.seen + 1; modules = slice_set p.modules image (record m { uses = m.uses - 1 }) }
+released p image = with_uses p image ((module_of p image).uses - 1)
 
 unfoldable pub after_one : Past → Event → Past
 after_one p e = if e.opens

@@ -1,12 +1,12 @@
 -- What the tables of the code hold, and how they stand to what a history leaves.
-use Rattle.std.specs.Prelude.{◌≡◌, ◌≤◌, ◌<◌, ◌+◌, ◌^◌, ℕ, Bool, true, if◌then◌else◌, List, length, All, slice_index, slice_index_or, vec_len, Some, None}
+use Rattle.std.specs.Prelude.{◌≡◌, ◌≤◌, ◌<◌, ◌+◌, ◌^◌, ℕ, count_by, Bool, true, false, if◌then◌else◌, List, length, All, slice_index, slice_index_or, Some, None}
 use Rattle.std.specs.Int.{bit_at}
 use Rattle.std.specs.List.{list_any}
 use Rattle.module_table.specs.declared.TheConstants.{MOST_INSTANCES}
 use Rattle.module_table.specs.declared.modules.Module.{Module}
 use Rattle.module_table.specs.declared.table.ModuleTable.TheInside.{Inside}
 use Rattle.module_table.specs.Modules.{IsInfo, no_module, is_loaded}
-use Rattle.module_table.specs.Past.{Past, module_of, image_of, instance_of, has_instance, has_id}
+use Rattle.module_table.specs.Past.{Past, module_of, image_of, instance_of, has_instance, has_id, next_offset}
 
 abbrev pub past_of : Inside → Past
 past_of t = record { seen = t.seen; made = t.made; taken = t.taken; limit = t.limit; modules = t.modules.items }
@@ -36,13 +36,28 @@ pub record Finds (key : Module → ℕ) (places : List ℕ) (modules : List Modu
 pub record MarksIds (marks : ℕ) (modules : List Module) : Type 0 where
   pub at : (k : ℕ) → k < 64 → bit_at marks k ≡ (if list_any (has_id (k + 1)) modules then 1 else 0)
 
-pub record AreTables (t : Inside) : Type 0 where
-  pub past : IsPast (past_of t)
-  pub instances : vec_len t.image_by_instance ≡ 4096
-  pub ids : vec_len t.image_by_id ≡ 65
-  pub by_instance : Finds (λ m. m.instance) t.image_by_instance.items t.modules.items
-  pub by_id : Finds (λ m. m.id) t.image_by_id.items t.modules.items
-  pub marks : MarksIds t.ids_in_use t.modules.items
+-- the tables of what a history leaves: images by instance and by id, and the ids in use
+pub record AreTables (p : Past) (by_instance by_id : List ℕ) (word : ℕ) : Type 0 where
+  pub past : IsPast p
+  pub instances : length by_instance ≡ MOST_INSTANCES + 1
+  pub ids : length by_id ≡ 65
+  pub instance_places : Finds (λ m. m.instance) by_instance p.modules
+  pub id_places : Finds (λ m. m.id) by_id p.modules
+  pub marks : MarksIds word p.modules
+
+abbrev pub HoldsTables : Inside → Type 0
+HoldsTables t = AreTables (past_of t) t.image_by_instance.items t.image_by_id.items t.ids.word
+
+-- two places for images are not loaded: the one of no image, and another
+abbrev pub HasFreeId : Past → Type 0
+HasFreeId p = count_by is_loaded p.modules + 2 ≤ length p.modules
+
+-- an open of the image is accepted, and makes an instance
+pub record CanLoad (p : Past) (image : ℕ) : Type 0 where
+  pub late : (module_of p image).info.late ≡ true
+  pub unloaded : is_loaded (module_of p image) ≡ false
+  pub below : p.made < MOST_INSTANCES
+  pub room : (module_of p image).info.statics ≡ true → next_offset p (module_of p image) ≤ p.limit
 
 -- no other image is loaded as the instance
 abbrev pub IsTheImage : Past → ℕ → ℕ → Type 0

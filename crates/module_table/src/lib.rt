@@ -2,6 +2,7 @@
 #![tactic(auto)]
 
 mod events;
+mod ids;
 mod modules;
 mod table;
 

@@ -1,10 +1,11 @@
 //! The tables that answer every question about a history without a walk along it.
 
-ghost use Rattle.std.specs.Prelude.{◌≡◌, ◌<◌, ◌^◌, true, IfOk, slice_index};
+ghost use Rattle.std.specs.Prelude.{◌≡◌, ◌<◌, ◌^◌, true, ◌+◌, ◌≤◌, IfOk, nat_lt, slice_index};
 ghost use Rattle.module_table.specs.Modules.{AreInfos};
-ghost use Rattle.module_table.specs.Past.{start, live, offset, current, instance_of, image_of, module_of, open_refusal, close_refusal, accepts, after_one, loaded, retained, released};
+ghost use Rattle.module_table.specs.Past.{start, live, offset, current, instance_of, image_of, module_of, open_refusal, close_refusal, accepts, after_one, loaded, retained, released, next_offset};
 
 use crate::events::{CloseRefusal, Event, OpenRefusal};
+use crate::ids::IdSet;
 use crate::modules::Module;
 use crate::{MOST_INSTANCES, SURPLUS};
 use std::marker::Model;
@@ -19,7 +20,7 @@ pub struct ModuleTable {
     modules: Vec<Module>,
     image_by_instance: Vec<u32>,
     image_by_id: Vec<u32>,
-    ids_in_use: u64,
+    ids: IdSet,
 }
 
 impl Model for ModuleTable {
@@ -27,11 +28,11 @@ impl Model for ModuleTable {
 
     ghost Value = { Past };
 
-    ghost use Rattle.module_table.specs.Tables.{past_of, AreTables};
+    ghost use Rattle.module_table.specs.Tables.{past_of, HoldsTables};
 
     ghost view = { past_of };
 
-    ghost invariant = { AreTables };
+    ghost invariant = { HoldsTables };
 }
 
 /// The image that a table names under a key; 0, which is no image, past the table's end.
@@ -42,7 +43,9 @@ fn place(images: &[u32], key: usize) -> u32
 }
 
 impl ModuleTable {
-    ghost use Rattle.module_table.specs.Tables.{IsTheImage, IsTheImageUnder};
+    ghost use Rattle.module_table.specs.Modules.{is_loaded};
+    ghost use Rattle.module_table.specs.Past.{new_instance, least_free, IsLeastFree};
+    ghost use Rattle.module_table.specs.Tables.{IsTheImage, IsTheImageUnder, CanLoad, HasFreeId};
 
     /// How many events there were.
     pub fn seen(&self) -> u64
@@ -56,6 +59,67 @@ impl ModuleTable {
         ensures { result ≡ module_of self.now image }
     {
         self.modules.get(image as usize).copied().unwrap_or(Module::NONE)
+    }
+
+    /// Where a block of the image would begin in the static surplus: past what was given, at a multiple of its alignment.
+    fn next_offset(&self, image: u32) -> u64
+        ensures value { result ≡ next_offset self.now (module_of self.now image) }
+    {
+        let info = self.module(image).info;
+        (self.taken + info.size).next_multiple_of(info.align)
+    }
+
+    /// Whether what is left of the static surplus has no room for a block of the image.
+    fn lacks_room(&self, image: u32) -> bool
+        ensures { result ≡ nat_lt self.now.limit (next_offset self.now (module_of self.now image)) }
+    {
+        self.next_offset(image) > self.limit
+    }
+
+    /// The least module id from 1 on that no live instance has.
+    fn least_free(&self) -> u64
+        requires { HasFreeId self.now }
+        ensures value { result ≡ least_free self.now.modules }
+        ensures low { 1 ≤ result }
+        ensures high { result ≤ 64 }
+    {
+        self.ids.least_absent()
+    }
+
+    /// Why an open of the image is refused, memory apart: the first of `Unknown`, `Full` and `StaticFull`.
+    #[tactic(auto, unfolding(crate::specs::Past::open_refusal))]
+    pub fn open_refusal(&self, image: u32) -> Option<OpenRefusal>
+        ensures { result ≡ open_refusal self.now image }
+    {
+        let module = self.module(image);
+        if !module.info.late {
+            return Some(OpenRefusal::Unknown);
+        }
+        if module.is_loaded() {
+            return None;
+        }
+        if self.made >= MOST_INSTANCES {
+            return Some(OpenRefusal::Full);
+        }
+        if module.info.statics && self.lacks_room(image) {
+            return Some(OpenRefusal::StaticFull);
+        }
+        None
+    }
+
+    /// Why a close of the image is refused, memory apart: the first of `Permanent` and `NotOpen`.
+    #[tactic(auto, unfolding(crate::specs::Past::close_refusal))]
+    pub fn close_refusal(&self, image: u32) -> Option<CloseRefusal>
+        ensures { result ≡ close_refusal self.now image }
+    {
+        let module = self.module(image);
+        if module.is_permanent() {
+            return Some(CloseRefusal::Permanent);
+        }
+        if !module.is_loaded() {
+            return Some(CloseRefusal::NotOpen);
+        }
+        None
     }
 
     /// The live instance of an image.
@@ -112,5 +176,77 @@ impl ModuleTable {
     {
         let image = self.image_of(instance)?;
         self.module(image).offset
+    }
+
+    /// A new instance of an image that is not loaded: the next number, the least free id, and a place in the static surplus if
+    /// its blocks are static.
+    fn new_instance(&self, image: u32) -> Module
+        requires { CanLoad self.now image }
+        ensures value { result ≡ new_instance self.now (module_of self.now image) }
+        ensures low { 1 ≤ result.id }
+        ensures high { result.id ≤ 64 }
+    {
+        let info = self.module(image).info;
+        let offset = if info.statics { Some(self.next_offset(image)) } else { None };
+        Module {
+            info,
+            uses: 1,
+            instance: self.made + 1,
+            id: self.least_free(),
+            offset,
+        }
+    }
+
+    /// Takes an open of an image that is not loaded.
+    fn load(&mut self, image: u32)
+        requires can { CanLoad self.old image }
+        requires room { self.old.seen < 2 ^ 63 }
+        ensures { self.new ≡ loaded self.old image }
+    {
+        let module = self.new_instance(image);
+        self.seen += 1;
+        self.made += 1;
+        self.taken = module.offset.unwrap_or(self.taken);
+        self.ids.insert(module.id);
+        self.image_by_instance[module.instance as usize] = image;
+        self.image_by_id[module.id as usize] = image;
+        self.modules[image as usize] = module;
+    }
+
+    /// Takes an open of a loaded image, which makes no instance.
+    fn retain(&mut self, image: u32)
+        requires loaded { is_loaded (module_of self.old image) ≡ true }
+        requires room { self.old.seen < 2 ^ 63 }
+        ensures { self.new ≡ retained self.old image }
+    {
+        let mut module = self.module(image);
+        module.uses += 1;
+        self.seen += 1;
+        self.modules[image as usize] = module;
+    }
+
+    /// Takes a close of an image that stays loaded.
+    fn release(&mut self, image: u32)
+        requires more { 1 < (module_of self.old image).uses }
+        requires room { self.old.seen < 2 ^ 63 }
+        ensures { self.new ≡ released self.old image }
+    {
+        let mut module = self.module(image);
+        module.uses -= 1;
+        self.seen += 1;
+        self.modules[image as usize] = module;
+    }
+
+    /// Takes the last close of an image. Its id is free from then on; what the static surplus gave is not given back.
+    fn unload(&mut self, image: u32)
+        requires last { (module_of self.old image).uses ≡ 1 }
+        requires room { self.old.seen < 2 ^ 63 }
+        ensures { self.new ≡ released self.old image }
+    {
+        let mut module = self.module(image);
+        module.uses -= 1;
+        self.seen += 1;
+        self.ids.remove(module.id);
+        self.modules[image as usize] = module;
     }
 }
