@@ -3,4 +3,7 @@ pub mod LeastId
 pub mod Infos
 pub mod Lookups
 pub mod MoreLists
+pub mod Refusals
+pub mod StartLemmas
+pub mod Starting
 pub mod Steps

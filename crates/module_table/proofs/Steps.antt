@@ -13,7 +13,8 @@ use Rattle.module_table.specs.declared.modules.Module.{Module}
 use Rattle.module_table.specs.Modules.{IsInfo, no_module, is_loaded}
 use Rattle.module_table.specs.Past.{Past, module_of, has_id, has_instance, least_free, IsLeastFree, new_instance, next_offset, loaded, retained, released, with_uses}
 use Rattle.module_table.specs.Marks.{AddsId, RemovesId, HasRoom, IsLeastAbsent}
-use Rattle.module_table.specs.Tables.{IsPast, IsNumbered, Finds, MarksIds, AreTables, CanLoad, HasFreeId}
+use Rattle.module_table.specs.Start.{HasSmallId, MarksIds}
+use Rattle.module_table.specs.Tables.{IsPast, IsNumbered, Finds, AreTables, CanLoad, HasFreeId}
 use Rattle.module_table.proofs.LeastId.{least_free_is, least_free_le, same_least}
 use Rattle.module_table.proofs.Infos.{info_of}
 use Rattle.module_table.proofs.MoreLists.{list_any-set_alike, list_any-set_here, count_by-fails_twice}
@@ -60,15 +61,14 @@ past_with p q image m is low modules seen limit more made taken info uses number
   uses = rw modules (All-set (λ (x : Module). x.uses ≤ q.seen + 1) p.modules image m uses (λ k d l. let old : (get_or p.modules k d).uses ≤ p.seen + 1 = is.uses k d l in omega arith));
   numbered = rw modules (All-set (λ (x : Module). IsNumbered q.made x) p.modules image m numbered (λ k d l. let old = is.numbered k d l in record {
     instance = λ t. let l' : (get_or p.modules k d).instance ≤ p.made = old.instance t in omega arith;
-    id_low = old.id_low;
-    id_high = old.id_high;
+    id = old.id;
   }));
 }
 
 numbered_at : (p : Past) (image : ℕ) → IsPast p → IsNumbered p.made (module_of p image)
 numbered_at p image is = elim (cases_lt image (length p.modules)) [
     inl l ↦ is.numbered image no_module l
-  | inr past ↦ subst (λ (m : Module). IsNumbered p.made m) (sym (get_or_past p.modules image no_module past)) (record { instance = λ t. absurd (false≢true t); id_low = λ t. absurd (false≢true t); id_high = λ t. absurd (false≢true t) })
+  | inr past ↦ subst (λ (m : Module). IsNumbered p.made m) (sym (get_or_past p.modules image no_module past)) (record { instance = λ t. absurd (false≢true t); id = record { low = λ t. absurd (false≢true t); high = λ t. absurd (false≢true t) } })
 ]
 
 -- ---- tables by a key
@@ -142,7 +142,7 @@ past_with_uses : (p : Past) (image uses : ℕ) → IsPast p → is_loaded (modul
 past_with_uses p image uses is loaded few =
     let within = loaded_within p image is loaded in
     let old = is.numbered image no_module within.0 in
-    past_with p (with_uses p image uses) image (record (module_of p image) { uses = uses }) is within.1 refl refl refl (omega arith) is.made is.taken (info_of p image is) (omega arith) (record { instance = λ _. old.instance loaded; id_low = λ _. old.id_low loaded; id_high = λ _. old.id_high loaded })
+    past_with p (with_uses p image uses) image (record (module_of p image) { uses = uses }) is within.1 refl refl refl (omega arith) is.made is.taken (info_of p image is) (omega arith) (record { instance = λ _. old.instance loaded; id = record { low = λ _. old.id.low loaded; high = λ _. old.id.high loaded } })
 
 -- it stays loaded
 kept_loaded : (p : Past) (a b : List ℕ) (word image uses : ℕ) → AreTables p a b word → is_loaded (module_of p image) ≡ true → 1 ≤ uses → uses ≤ p.seen + 2 → AreTables (with_uses p image uses) a b word
@@ -205,7 +205,7 @@ loaded_kept p a b word word' image is can adds =
     let long : MOST_INSTANCES + 1 ≤ length a = omega (arith, is.instances) in
     let wide : 65 ≤ length b = omega (arith, is.ids) in
     record {
-      past = past_with p (loaded p image) image (new_instance p (module_of p image)) is.past within.1 refl refl refl (omega arith) (omega arith) (taken_kept p image is.past can) (info_of p image is.past) (omega arith) (record { instance = λ _. omega arith; id_low = λ _. low; id_high = λ _. high });
+      past = past_with p (loaded p image) image (new_instance p (module_of p image)) is.past within.1 refl refl refl (omega arith) (omega arith) (taken_kept p image is.past can) (info_of p image is.past) (omega arith) (record { instance = λ _. omega arith; id = record { low = λ _. low; high = λ _. high } });
       instances = rw length-set is.instances;
       ids = rw length-set is.ids;
       instance_places = finds_new (λ x. x.instance) a p.modules image (new_instance p (module_of p image)) within.0 (omega arith) is.instance_places (λ k t e. let old : (get_or p.modules k no_module).instance ≤ p.made = (numbered_at p k is.past).instance t in omega arith);

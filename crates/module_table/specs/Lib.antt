@@ -1,4 +1,6 @@
 pub mod Marks
 pub mod Modules
 pub mod Past
+pub mod Start
 pub mod Tables
+pub mod Walks

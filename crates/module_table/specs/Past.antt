@@ -153,10 +153,12 @@ retained p image = with_uses p image ((module_of p image).uses + 1)
 unfoldable pub released : Past → ℕ → Past
 released p image = with_uses p image ((module_of p image).uses - 1)
 
+-- an open; only one of an image that is not loaded makes an instance
+unfoldable pub opened : Past → ℕ → Past
+opened p image = if is_loaded (module_of p image) then retained p image else loaded p image
+
 unfoldable pub after_one : Past → Event → Past
-after_one p e = if e.opens
-  then (if is_loaded (module_of p e.image) then retained p e.image else loaded p e.image)
-  else released p e.image
+after_one p e = if e.opens then opened p e.image else released p e.image
 
 -- ---- a list of events
 

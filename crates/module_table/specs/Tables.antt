@@ -2,10 +2,11 @@
 use Rattle.std.specs.Prelude.{◌≡◌, ◌≤◌, ◌<◌, ◌+◌, ◌^◌, ℕ, count_by, Bool, true, false, if◌then◌else◌, List, length, All, slice_index, slice_index_or, Some, None}
 use Rattle.std.specs.Int.{bit_at}
 use Rattle.std.specs.List.{list_any}
-use Rattle.module_table.specs.declared.TheConstants.{MOST_INSTANCES}
+use Rattle.module_table.specs.declared.TheConstants.{MOST_INSTANCES, MOST_IDS}
 use Rattle.module_table.specs.declared.modules.Module.{Module}
 use Rattle.module_table.specs.declared.table.ModuleTable.TheInside.{Inside}
 use Rattle.module_table.specs.Modules.{IsInfo, no_module, is_loaded}
+use Rattle.module_table.specs.Start.{HasSmallId, MarksIds}
 use Rattle.module_table.specs.Past.{Past, module_of, image_of, instance_of, has_instance, has_id, next_offset}
 
 abbrev pub past_of : Inside → Past
@@ -14,8 +15,7 @@ past_of t = record { seen = t.seen; made = t.made; taken = t.taken; limit = t.li
 -- what a loaded image's numbers keep: its instance was made, and its id is 1 to 64
 pub record IsNumbered (made : ℕ) (m : Module) : Type 0 where
   pub instance : is_loaded m ≡ true → m.instance ≤ made
-  pub id_low : is_loaded m ≡ true → 1 ≤ m.id
-  pub id_high : is_loaded m ≡ true → m.id ≤ 64
+  pub id : HasSmallId m
 
 -- what every history leaves keeps
 pub record IsPast (p : Past) : Type 0 where
@@ -32,15 +32,11 @@ pub record IsPast (p : Past) : Type 0 where
 pub record Finds (key : Module → ℕ) (places : List ℕ) (modules : List Module) : Type 0 where
   pub at : (image : ℕ) → is_loaded (slice_index_or modules image no_module) ≡ true → slice_index places (key (slice_index_or modules image no_module)) ≡ image
 
--- bit k is set where a live instance has the id k + 1
-pub record MarksIds (marks : ℕ) (modules : List Module) : Type 0 where
-  pub at : (k : ℕ) → k < 64 → bit_at marks k ≡ (if list_any (has_id (k + 1)) modules then 1 else 0)
-
 -- the tables of what a history leaves: images by instance and by id, and the ids in use
 pub record AreTables (p : Past) (by_instance by_id : List ℕ) (word : ℕ) : Type 0 where
   pub past : IsPast p
   pub instances : length by_instance ≡ MOST_INSTANCES + 1
-  pub ids : length by_id ≡ 65
+  pub ids : length by_id ≡ MOST_IDS + 1
   pub instance_places : Finds (λ m. m.instance) by_instance p.modules
   pub id_places : Finds (λ m. m.id) by_id p.modules
   pub marks : MarksIds word p.modules

@@ -4,6 +4,7 @@
 mod events;
 mod ids;
 mod modules;
+mod start;
 mod table;
 
 pub use crate::events::{CloseRefusal, Event, OpenRefusal};
@@ -12,6 +13,9 @@ pub use crate::table::ModuleTable;
 
 /// How many instances of modules are made at most, startup ones counted.
 pub const MOST_INSTANCES: u32 = 4095;
+
+/// The greatest module id: no more images are loaded at a time.
+pub const MOST_IDS: u32 = 64;
 
 /// How many bytes of a thread's static block are kept for modules that come late.
 pub const SURPLUS: u64 = 4096;

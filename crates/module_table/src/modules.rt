@@ -32,7 +32,7 @@ pub struct Module {
 
 impl Module {
     ghost use Rattle.module_table.specs.Modules.{is_loaded, is_permanent};
-    ghost use Rattle.module_table.specs.Past.{has_instance, has_id};
+    ghost use Rattle.module_table.specs.Past.{first_module, has_instance, has_id};
 
     /// The module of a number that no image has: it is not loaded, and cannot be.
     pub const NONE: Module = Module {
@@ -47,6 +47,25 @@ impl Module {
         id: 0,
         offset: None,
     };
+
+    /// An image before any event. A startup image is loaded once and for all, and its number is its instance's and its module id.
+    pub(crate) fn at_start(info: ImageInfo, image: u32) -> Module
+        ensures { result ≡ first_module info image }
+    {
+        if info.late {
+            return Module {
+                info,
+                ..Module::NONE
+            };
+        }
+        Module {
+            info,
+            uses: 1,
+            instance: image,
+            id: u64::from(image),
+            offset: None,
+        }
+    }
 
     /// Whether it is held open, or started with the program.
     pub fn is_loaded(&self) -> bool

@@ -1,13 +1,15 @@
 //! The tables that answer every question about a history without a walk along it.
 
-ghost use Rattle.std.specs.Prelude.{◌≡◌, ◌<◌, ◌^◌, true, ◌+◌, ◌≤◌, IfOk, nat_lt, slice_index};
+ghost use Rattle.std.specs.Prelude.{◌≡◌, ◌<◌, ◌^◌, true, ◌+◌, ◌≤◌, IfOk, None, length, nat_lt, slice_index};
 ghost use Rattle.module_table.specs.Modules.{AreInfos};
-ghost use Rattle.module_table.specs.Past.{start, live, offset, current, instance_of, image_of, module_of, open_refusal, close_refusal, accepts, after_one, loaded, retained, released, next_offset};
+ghost use Rattle.module_table.specs.Past.{start, live, offset, current, instance_of, image_of, module_of, open_refusal, close_refusal, accepts, after_one, loaded, retained, released, next_offset, opened, after, is_legal};
 
 use crate::events::{CloseRefusal, Event, OpenRefusal};
 use crate::ids::IdSet;
-use crate::modules::Module;
-use crate::{MOST_INSTANCES, SURPLUS};
+use crate::modules::{ImageInfo, Module};
+use crate::start::{first_modules, ids_of, own_numbers, startup_count};
+use crate::{MOST_IDS, MOST_INSTANCES, SURPLUS};
+use std::alloc::{AllocError, Global};
 use std::marker::Model;
 
 /// What a history leaves. Contracts see a `Past`.
@@ -46,6 +48,44 @@ impl ModuleTable {
     ghost use Rattle.module_table.specs.Modules.{is_loaded};
     ghost use Rattle.module_table.specs.Past.{new_instance, least_free, IsLeastFree};
     ghost use Rattle.module_table.specs.Tables.{IsTheImage, IsTheImageUnder, CanLoad, HasFreeId};
+
+    /// The tables before any event, of these images, where the last startup image's block begins so far below the thread pointer.
+    pub fn new(alloc: Global, infos: &[ImageInfo], last_offset: u64) -> Result<ModuleTable, AllocError>
+        requires infos { AreInfos infos.now }
+        requires low { last_offset < 2 ^ 27 }
+        ensures { IfOk result (λ table. table ≡ start infos.now last_offset) }
+    {
+        let modules = first_modules(alloc, infos)?;
+        let image_by_instance = own_numbers(alloc, MOST_INSTANCES + 1)?;
+        let image_by_id = own_numbers(alloc, MOST_IDS + 1)?;
+        let ids = ids_of(&modules);
+        Ok(ModuleTable {
+            seen: 0,
+            made: startup_count(infos),
+            taken: last_offset,
+            limit: last_offset + SURPLUS,
+            modules,
+            image_by_instance,
+            image_by_id,
+            ids,
+        })
+    }
+
+    /// The same tables once more.
+    pub fn copy(&self) -> Result<ModuleTable, AllocError>
+        ensures { IfOk result (λ table. table ≡ self.now) }
+    {
+        Ok(ModuleTable {
+            seen: self.seen,
+            made: self.made,
+            taken: self.taken,
+            limit: self.limit,
+            modules: self.modules.clone()?,
+            image_by_instance: self.image_by_instance.clone()?,
+            image_by_id: self.image_by_id.clone()?,
+            ids: self.ids,
+        })
+    }
 
     /// How many events there were.
     pub fn seen(&self) -> u64
@@ -248,5 +288,46 @@ impl ModuleTable {
         self.seen += 1;
         self.ids.remove(module.id);
         self.modules[image as usize] = module;
+    }
+
+    /// Takes an open.
+    #[tactic(auto, using(crate::proofs::Refusals::can_load), unfolding(crate::specs::Past::opened))]
+    fn open(&mut self, image: u32)
+        requires accepted { open_refusal self.old image ≡ None }
+        requires room { self.old.seen < 2 ^ 63 }
+        ensures { self.new ≡ opened self.old image }
+    {
+        if self.module(image).is_loaded() { self.retain(image) } else { self.load(image) }
+    }
+
+    /// Takes a close.
+    #[tactic(auto, using(crate::proofs::Refusals::held))]
+    fn close(&mut self, image: u32)
+        requires accepted { close_refusal self.old image ≡ None }
+        requires room { self.old.seen < 2 ^ 63 }
+        ensures { self.new ≡ released self.old image }
+    {
+        if self.module(image).uses > 1 { self.release(image) } else { self.unload(image) }
+    }
+
+    /// Takes an event that is accepted. It takes no memory, and its cost does not grow with the history.
+    #[tactic(auto, using(crate::proofs::Refusals::accepts_open, crate::proofs::Refusals::accepts_close), unfolding(crate::specs::Past::after_one))]
+    pub fn accept(&mut self, event: Event)
+        requires accepted { accepts self.old event ≡ true }
+        requires room { self.old.seen < 2 ^ 63 }
+        ensures { self.new ≡ after_one self.old event }
+    {
+        if event.opens { self.open(event.image) } else { self.close(event.image) }
+    }
+
+    /// Takes the events that follow those it has seen, each accepted after those before it. It takes no memory.
+    pub fn accept_all(&mut self, events: &[Event])
+        requires legal { is_legal self.old events.now ≡ true }
+        requires room { self.old.seen + length events.now ≤ 2 ^ 63 }
+        ensures { self.new ≡ after self.old events.now }
+    {
+        for event in events {
+            self.accept(*event);
+        }
     }
 }
