@@ -1,6 +1,6 @@
 //! The tables before any event.
 
-ghost use Rattle.std.specs.Prelude.{◌≡◌, ℕ, ◌<◌, ◌≤◌, ◌∷◌, ◌^◌, All, IfOk, length, slice_index, vec_len};
+ghost use Rattle.std.specs.Prelude.{◌≡◌, ℕ, ◌<◌, ◌≤◌, ◌∷◌, ◌^◌, All, IfOk, length, slice_index};
 ghost use Rattle.module_table.specs.Modules.{no_module};
 ghost use Rattle.module_table.specs.Past.{first_modules, startup_count};
 ghost use Rattle.module_table.specs.Start.{HasSmallId, MarksIds};
@@ -47,7 +47,7 @@ pub(crate) fn ids_of(modules: &[Module]) -> IdSet
 /// A table whose every key names the image of its own number: right for startup images, and read for no other key, since
 /// a key counts only where the image that it names is loaded under it.
 pub(crate) fn own_numbers(alloc: Global, count: u32) -> Result<Vec<u32>, AllocError>
-    ensures len { IfOk result (λ places. vec_len places ≡ count) }
+    ensures len { IfOk result (λ places. length places.items ≡ count) }
     ensures each { IfOk result (λ places. (k : ℕ) → k < count → slice_index places.items k ≡ k) }
 {
     let mut places = Vec::with_capacity(alloc, count as usize)?;
