@@ -1,4 +1,5 @@
 pub mod Bits
+pub mod HistoryLemmas
 pub mod LeastId
 pub mod Infos
 pub mod Lookups

@@ -4,11 +4,13 @@
 mod events;
 mod ids;
 mod modules;
+mod registry;
 mod start;
 mod table;
 
-pub use crate::events::{CloseRefusal, Event, OpenRefusal};
+pub use crate::events::{CloseRefusal, Closed, Event, OpenRefusal, Opened, OutOfMemory};
 pub use crate::modules::{ImageInfo, Module};
+pub use crate::registry::Registry;
 pub use crate::table::ModuleTable;
 
 /// How many instances of modules are made at most, startup ones counted.

@@ -4,12 +4,12 @@ ghost use Rattle.std.specs.Prelude.{◌≡◌, ◌<◌, ◌^◌, true, ◌+◌, 
 ghost use Rattle.module_table.specs.Modules.{AreInfos};
 ghost use Rattle.module_table.specs.Past.{start, live, offset, current, instance_of, image_of, module_of, open_refusal, close_refusal, accepts, after_one, loaded, retained, released, next_offset, opened, after, is_legal};
 
-use crate::events::{CloseRefusal, Event, OpenRefusal};
+use crate::events::{CloseRefusal, Event, OpenRefusal, OutOfMemory};
 use crate::ids::IdSet;
 use crate::modules::{ImageInfo, Module};
 use crate::start::{first_modules, ids_of, own_numbers, startup_count};
 use crate::{MOST_IDS, MOST_INSTANCES, SURPLUS};
-use std::alloc::{AllocError, Global};
+use std::alloc::Global;
 use std::marker::Model;
 
 /// What a history leaves. Contracts see a `Past`.
@@ -50,7 +50,7 @@ impl ModuleTable {
     ghost use Rattle.module_table.specs.Tables.{IsTheImage, IsTheImageUnder, CanLoad, HasFreeId};
 
     /// The tables before any event, of these images, where the last startup image's block begins so far below the thread pointer.
-    pub fn new(alloc: Global, infos: &[ImageInfo], last_offset: u64) -> Result<ModuleTable, AllocError>
+    pub fn new(alloc: Global, infos: &[ImageInfo], last_offset: u64) -> Result<ModuleTable, OutOfMemory>
         requires infos { AreInfos infos.now }
         requires low { last_offset < 2 ^ 27 }
         ensures { IfOk result (λ table. table ≡ start infos.now last_offset) }
@@ -72,7 +72,7 @@ impl ModuleTable {
     }
 
     /// The same tables once more.
-    pub fn copy(&self) -> Result<ModuleTable, AllocError>
+    pub fn copy(&self) -> Result<ModuleTable, OutOfMemory>
         ensures { IfOk result (λ table. table ≡ self.now) }
     {
         Ok(ModuleTable {
@@ -95,7 +95,7 @@ impl ModuleTable {
     }
 
     /// An image as the history leaves it; none of a number that no image has.
-    fn module(&self, image: u32) -> Module
+    pub fn module(&self, image: u32) -> Module
         ensures { result ≡ module_of self.now image }
     {
         self.modules.get(image as usize).copied().unwrap_or(Module::NONE)
