@@ -21,7 +21,7 @@ past_more infos last_offset events e = past-append infos last_offset events (e �
 
 pub legal_more : (infos : List ImageInfo) (last_offset : ℕ) (events : List Event) (e : Event) → IsLegal infos last_offset events → accepts (past infos last_offset events) e ≡ true → IsLegal infos last_offset (events ++ e ∷ [])
 unfolding past
-legal_more infos last_offset events e is accepted = record { legal = legal_push (start infos last_offset) events e is.legal accepted }
+legal_more infos last_offset events e is accepted = record { images = is.images; low = is.low; each = legal_push (start infos last_offset) events e is.each accepted }
 
 pub left_more : (h h' : History) (e : Event) → Adds h e h' → left h' ≡ after_one (left h) e
 unfolding left

@@ -83,7 +83,7 @@ numbered_all infos are = All-from_get_or (IsNumbered (startup_count infos)) (no_
 pub small_ids : (infos : List ImageInfo) → AreInfos infos → All HasSmallId (no_module ∷ first_modules infos 1)
 small_ids infos are = λ k d l. (numbered_all infos are k d l).id
 
-past_start : (infos : List ImageInfo) (last_offset : ℕ) → AreInfos infos → last_offset < 2 ^ 27 → IsPast (start infos last_offset)
+pub past_start : (infos : List ImageInfo) (last_offset : ℕ) → AreInfos infos → last_offset < 2 ^ 27 → IsPast (start infos last_offset)
 unfolding start
 past_start infos last_offset are low = record {
   few = omega (arith, length-first_modules infos 1, are.few);

@@ -65,7 +65,7 @@ past_with p q image m is low modules seen limit more made taken info uses number
   }));
 }
 
-numbered_at : (p : Past) (image : ℕ) → IsPast p → IsNumbered p.made (module_of p image)
+pub numbered_at : (p : Past) (image : ℕ) → IsPast p → IsNumbered p.made (module_of p image)
 numbered_at p image is = elim (cases_lt image (length p.modules)) [
     inl l ↦ is.numbered image no_module l
   | inr past ↦ subst (λ (m : Module). IsNumbered p.made m) (sym (get_or_past p.modules image no_module past)) (record { instance = λ t. absurd (false≢true t); id = record { low = λ t. absurd (false≢true t); high = λ t. absurd (false≢true t) } })
@@ -192,6 +192,30 @@ taken_kept p image is can = elim (cases_Bool (module_of p image).info.statics) [
   | inr f ↦ rw f is.taken
 ]
 
+pub past_loaded : (p : Past) (image : ℕ) → IsPast p → CanLoad p image → IsPast (loaded p image)
+unfolding loaded
+past_loaded p image is can =
+    let within = late_within p image is can.late in
+    let few = few_loaded p image is can in
+    let least = least_of p few in
+    let high : least_free p.modules ≤ 64 = least_high p is few in
+    let low : 1 ≤ least_free p.modules = least.low in
+    let below : p.made < MOST_INSTANCES = can.below in
+    past_with p (loaded p image) image (new_instance p (module_of p image)) is within.1 refl refl refl (omega arith) (omega arith) (taken_kept p image is can) (info_of p image is) (omega arith) (record { instance = λ _. omega arith; id = record { low = λ _. low; high = λ _. high } })
+
+pub past_retained : (p : Past) (image : ℕ) → IsPast p → is_loaded (module_of p image) ≡ true → IsPast (retained p image)
+unfolding retained
+past_retained p image is loaded =
+    let uses : (module_of p image).uses ≤ p.seen + 1 = uses_at p image is (loaded_within p image is loaded).0 in
+    past_with_uses p image ((module_of p image).uses + 1) is loaded (omega arith)
+
+pub past_released : (p : Past) (image : ℕ) → IsPast p → 0 < (module_of p image).uses → IsPast (released p image)
+unfolding released
+past_released p image is held =
+    let loaded : is_loaded (module_of p image) ≡ true = lt-ltb 0 (module_of p image).uses held in
+    let uses : (module_of p image).uses ≤ p.seen + 1 = uses_at p image is (loaded_within p image is loaded).0 in
+    past_with_uses p image ((module_of p image).uses - 1) is loaded (omega arith)
+
 pub loaded_kept : (p : Past) (a b : List ℕ) (word word' image : ℕ) → AreTables p a b word → CanLoad p image → AddsId word (least_free p.modules) word' → AreTables (loaded p image) (set a (p.made + 1) image) (set b (least_free p.modules) image) word'
 unfolding loaded
 loaded_kept p a b word word' image is can adds =
@@ -205,7 +229,7 @@ loaded_kept p a b word word' image is can adds =
     let long : MOST_INSTANCES + 1 ≤ length a = omega (arith, is.instances) in
     let wide : 65 ≤ length b = omega (arith, is.ids) in
     record {
-      past = past_with p (loaded p image) image (new_instance p (module_of p image)) is.past within.1 refl refl refl (omega arith) (omega arith) (taken_kept p image is.past can) (info_of p image is.past) (omega arith) (record { instance = λ _. omega arith; id = record { low = λ _. low; high = λ _. high } });
+      past = past_loaded p image is.past can;
       instances = rw length-set is.instances;
       ids = rw length-set is.ids;
       instance_places = finds_new (λ x. x.instance) a p.modules image (new_instance p (module_of p image)) within.0 (omega arith) is.instance_places (λ k t e. let old : (get_or p.modules k no_module).instance ≤ p.made = (numbered_at p k is.past).instance t in omega arith);

@@ -8,7 +8,7 @@ use Rattle.module_table.specs.declared.events.OpenRefusal.{OpenRefusal}
 use Rattle.module_table.specs.declared.events.OpenRefusal.TheVariants.{OutOfMemory as NoRoomToOpen}
 use Rattle.module_table.specs.declared.events.CloseRefusal.{CloseRefusal}
 use Rattle.module_table.specs.declared.events.CloseRefusal.TheVariants.{OutOfMemory as NoRoomToClose}
-use Rattle.module_table.specs.Modules.{is_loaded}
+use Rattle.module_table.specs.Modules.{AreInfos, is_loaded}
 use Rattle.module_table.specs.Past.{Past, module_of, start, past, opened, released, open_refusal, close_refusal, is_legal}
 
 -- the images, how far below the thread pointer the last startup image's block begins, the events so far, and for how many
@@ -23,9 +23,11 @@ pub record History : Type 0 where
 unfoldable pub left : History → Past
 left h = past h.infos h.last_offset h.events
 
--- each event is accepted after those before it
+-- a history of images that may stand in a registry: each event is accepted after those before it
 pub record IsLegal (infos : List ImageInfo) (last_offset : ℕ) (events : List Event) : Type 0 where
-  pub legal : is_legal (start infos last_offset) events ≡ true
+  pub images : AreInfos infos
+  pub low : last_offset < 2 ^ 27
+  pub each : is_legal (start infos last_offset) events ≡ true
 
 -- ---- changes; the memory that is there is left out of them
 

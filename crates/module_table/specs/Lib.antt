@@ -1,4 +1,5 @@
 pub mod History
+pub mod Laws
 pub mod Marks
 pub mod Modules
 pub mod Past

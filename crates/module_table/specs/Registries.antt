@@ -1,7 +1,6 @@
 -- What a registry holds.
-use Rattle.std.specs.Prelude.{◌≡◌, ◌-◌, ◌<◌, ◌^◌, ℕ, List, vec_len, vec_capacity}
+use Rattle.std.specs.Prelude.{◌≡◌, ◌-◌, vec_len, vec_capacity}
 use Rattle.module_table.specs.declared.registry.Registry.TheInside.{Inside}
-use Rattle.module_table.specs.Modules.{AreInfos}
 use Rattle.module_table.specs.Past.{past}
 use Rattle.module_table.specs.History.{History, IsLegal}
 
@@ -14,7 +13,5 @@ history_of r = record {
 }
 
 pub record HoldsHistory (r : Inside) : Type 0 where
-  pub infos : AreInfos r.infos.items
-  pub low : r.last_offset < 2 ^ 27
   pub legal : IsLegal r.infos.items r.last_offset r.events.items
   pub table : r.table ≡ past r.infos.items r.last_offset r.events.items

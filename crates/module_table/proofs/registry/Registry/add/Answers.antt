@@ -23,8 +23,6 @@ unfolding left
 invariant_of-self-2 c =
     let accepted : accepts (past c.self.inside.infos.items c.self.inside.last_offset c.self.inside.events.items) c.args.event ≡ true = subst (λ (h : History). accepts (left h) c.args.event ≡ true) (sym c.self.view_is) c.requires in
     record {
-      infos = c.self.invariant.infos;
-      low = c.self.invariant.low;
       legal = subst (λ (events : List Event). IsLegal c.self.inside.infos.items c.self.inside.last_offset events) (sym c.in_ok-push.ensures.items) (legal_more c.self.inside.infos.items c.self.inside.last_offset c.self.inside.events.items c.args.event c.self.invariant.legal accepted);
       table = c.accept.ensures ∙ ap (λ (p : Past). after_one p c.args.event) c.self.invariant.table ∙ sym (past_more c.self.inside.infos.items c.self.inside.last_offset c.self.inside.events.items c.args.event) ∙ ap (λ (events : List Event). past c.self.inside.infos.items c.self.inside.last_offset events) (sym c.in_ok-push.ensures.items);
     }
