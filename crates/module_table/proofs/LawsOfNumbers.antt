@@ -10,15 +10,15 @@ use Rattle.std.proofs.lemmas.List.Sums.{sum_by-cons}
 use Rattle.module_table.specs.declared.modules.ImageInfo.{ImageInfo}
 use Rattle.module_table.specs.declared.modules.Module.{Module}
 use Rattle.module_table.specs.declared.events.Event.{Event}
-use Rattle.module_table.specs.Modules.{is_loaded, no_module}
-use Rattle.module_table.specs.Past.{Past, module_of, has_id, start, startup_count, past, after_one, after, opened, loaded, retained, released, new_instance, least_free, IsLeastFree, open_refusal, close_refusal, accepts, is_legal}
+use Rattle.module_table.specs.Modules.{AreInfos, is_loaded, no_module}
+use Rattle.module_table.specs.Past.{Past, module_of, has_id, start, startup_count, past, after_one, after, opened, loaded, retained, released, with_uses, new_instance, least_free, IsLeastFree, open_refusal, close_refusal, accepts, is_legal}
 use Rattle.module_table.specs.History.{IsLegal}
 use Rattle.module_table.specs.Laws.{opens_of, closes_of, Balances, loads, load_count, CountsInstances, HaveOwnNumbers, LoadsTakeLeastId}
 use Rattle.module_table.specs.Tables.{IsPast, CanLoad}
 use Rattle.module_table.proofs.Refusals.{can_load, held, accepts_open, accepts_close}
-use Rattle.module_table.proofs.Starting.{past_start}
-use Rattle.module_table.proofs.Steps.{late_within, loaded_within, few_loaded, least_of, numbered_at}
-use Rattle.module_table.proofs.Along.{IsKept, past_step, past_legal}
+use Rattle.module_table.proofs.Starting.{past_start, own_number}
+use Rattle.module_table.proofs.Steps.{late_within, loaded_within, few_loaded, least_of, numbered_at, past_retained, past_loaded, past_released}
+use Rattle.module_table.proofs.Along.{IsKept, kept_along, past_step, past_legal}
 
 -- ---- the balance
 
@@ -105,3 +105,89 @@ counts_instances infos last_offset events = made-after (start infos last_offset)
 
 -- ---- numbers of their own
 
+record Numbered (p : Past) : Type 0 where
+  pub is : IsPast p
+  pub own : HaveOwnNumbers p
+
+record SameNumbers (new old : Module) : Type 0 where
+  pub instance : new.instance ≡ old.instance
+  pub id : new.id ≡ old.id
+  pub held : is_loaded new ≡ true → is_loaded old ≡ true
+
+numbers_same : (p : Past) (image uses a : ℕ) → image < length p.modules → is_loaded (module_of p image) ≡ true → SameNumbers (module_of (with_uses p image uses) a) (module_of p a)
+numbers_same p image uses a l loaded = elim (cases_eq a image) [
+    inl e ↦ let here : module_of (with_uses p image uses) a ≡ record (module_of p image) { uses = uses } = rw e (get_or-set_same p.modules image (record (module_of p image) { uses = uses }) no_module l) in
+        rw (here, e) (record { instance = refl; id = refl; held = λ _. loaded })
+  | inr ne ↦ let here : module_of (with_uses p image uses) a ≡ module_of p a = get_or-set_other p.modules image a (record (module_of p image) { uses = uses }) no_module ne in
+        rw here (record { instance = refl; id = refl; held = λ t. t })
+]
+
+own_with_uses : (p : Past) (image uses : ℕ) → IsPast p → HaveOwnNumbers p → is_loaded (module_of p image) ≡ true → HaveOwnNumbers (with_uses p image uses)
+own_with_uses p image uses is own loaded a b ne la lb =
+    let l = (loaded_within p image is loaded).0 in
+    let x = numbers_same p image uses a l loaded in
+    let y = numbers_same p image uses b l loaded in
+    let old = own a b ne (x.held la) (y.held lb) in
+    (λ e. old.0 (sym x.instance ∙ e ∙ y.instance), λ e. old.1 (sym x.id ∙ e ∙ y.id))
+
+-- the new instance and another loaded image
+new_is_apart : (p : Past) (image b : ℕ) → IsPast p → CanLoad p image → is_loaded (module_of p b) ≡ true → ((new_instance p (module_of p image)).instance ≢ (module_of p b).instance) × ((new_instance p (module_of p image)).id ≢ (module_of p b).id)
+new_is_apart p image b is can loaded =
+    let least = least_of p (few_loaded p image is can) in
+    let made : (module_of p b).instance ≤ p.made = (numbered_at p b is).instance loaded in
+    ( λ e. absurd (omega arith)
+    , λ e. both_ways _ least.free (list_any_at (has_id (least_free p.modules)) p.modules b no_module (loaded_within p b is loaded).0 (and_from _ _ loaded (eq-eqb _ _ (sym e))))
+    )
+
+own_loaded : (p : Past) (image : ℕ) → IsPast p → HaveOwnNumbers p → CanLoad p image → HaveOwnNumbers (loaded p image)
+unfolding loaded
+own_loaded p image is own can a b ne la lb =
+    let l = (late_within p image is can.late).0 in
+    let m : Module = new_instance p (module_of p image) in
+    elim (cases_eq a image) [
+      inl x ↦ elim (cases_eq b image) [
+        inl y ↦ absurd (ne (x ∙ sym y))
+      | inr y ↦
+          let at_b : get_or (set p.modules image (new_instance p (module_of p image))) b no_module ≡ module_of p b = get_or-set_other p.modules image b (new_instance p (module_of p image)) no_module y in
+          rw (x, get_or-set_same p.modules image (new_instance p (module_of p image)) no_module l, at_b) (new_is_apart p image b is can (rw at_b at lb))
+      ]
+    | inr x ↦
+        let at_a : get_or (set p.modules image (new_instance p (module_of p image))) a no_module ≡ module_of p a = get_or-set_other p.modules image a (new_instance p (module_of p image)) no_module x in
+        elim (cases_eq b image) [
+          inl y ↦ let other = new_is_apart p image a is can (rw at_a at la) in
+              rw (y, get_or-set_same p.modules image (new_instance p (module_of p image)) no_module l, at_a) ((λ e. other.0 (sym e)), (λ e. other.1 (sym e)))
+        | inr y ↦
+            let at_b : get_or (set p.modules image (new_instance p (module_of p image))) b no_module ≡ module_of p b = get_or-set_other p.modules image b (new_instance p (module_of p image)) no_module y in
+            rw (at_a, at_b) (own a b ne (rw at_a at la) (rw at_b at lb))
+        ]
+    ]
+
+numbered_kept : IsKept Numbered
+unfolding retained released
+numbered_kept = record {
+  retained = λ p image n l. record { is = past_retained p image n.is l; own = own_with_uses p image ((module_of p image).uses + 1) n.is n.own l };
+  loaded = λ p image n can. record { is = past_loaded p image n.is can; own = own_loaded p image n.is n.own can };
+  released = λ p image n h. record { is = past_released p image n.is h; own = own_with_uses p image ((module_of p image).uses - 1) n.is n.own (lt-ltb 0 (module_of p image).uses h) };
+}
+
+own_start : (infos : List ImageInfo) (last_offset : ℕ) → AreInfos infos → HaveOwnNumbers (start infos last_offset)
+unfolding start
+own_start infos last_offset are a b ne la lb =
+    let x = own_number infos a are la in
+    let y = own_number infos b are lb in
+    (λ e. ne (sym x.0 ∙ e ∙ y.0), λ e. ne (sym x.1 ∙ e ∙ y.1))
+
+pub own_numbers : (infos : List ImageInfo) (last_offset : ℕ) (events : List Event) → IsLegal infos last_offset events → HaveOwnNumbers (past infos last_offset events)
+unfolding past
+own_numbers infos last_offset events is = (kept_along Numbered numbered_kept (start infos last_offset) events (record { is = past_start infos last_offset is.images is.low; own = own_start infos last_offset is.images }) is.each).own
+
+-- ---- the least id
+
+pub least_ids : (infos : List ImageInfo) (last_offset : ℕ) (events : List Event) → IsLegal infos last_offset events → LoadsTakeLeastId (past infos last_offset events)
+unfolding opened loaded
+least_ids infos last_offset events legal image none unloaded =
+    let p : Past = past infos last_offset events in
+    let is = past_legal infos last_offset events legal in
+    let can = can_load (past infos last_offset events) image none unloaded in
+    let l = (late_within (past infos last_offset events) image is can.late).0 in
+    rw (unloaded, get_or-set_same (past infos last_offset events).modules image (new_instance (past infos last_offset events) (module_of (past infos last_offset events) image)) no_module l) (least_of (past infos last_offset events) (few_loaded (past infos last_offset events) image is can))

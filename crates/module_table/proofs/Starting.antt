@@ -47,7 +47,7 @@ first_loaded info image t = elim (cases_Bool info.late) [
 ]
 
 -- a loaded image before any event: its numbers are its own, and it is a startup image
-own_number : (infos : List ImageInfo) (image : ℕ) → AreInfos infos → is_loaded (get_or (no_module ∷ first_modules infos 1) image no_module) ≡ true → ((get_or (no_module ∷ first_modules infos 1) image no_module).instance ≡ image) × ((get_or (no_module ∷ first_modules infos 1) image no_module).id ≡ image) × (1 ≤ image) × (image ≤ startup_count infos)
+pub own_number : (infos : List ImageInfo) (image : ℕ) → AreInfos infos → is_loaded (get_or (no_module ∷ first_modules infos 1) image no_module) ≡ true → ((get_or (no_module ∷ first_modules infos 1) image no_module).instance ≡ image) × ((get_or (no_module ∷ first_modules infos 1) image no_module).id ≡ image) × (1 ≤ image) × (image ≤ startup_count infos)
 own_number infos zero are t = absurd (true≢false (sym t))
 own_number infos (suc k) are t =
     let within : k < length infos = elim (cases_lt k (length infos)) [
