@@ -1,6 +1,7 @@
 pub mod Along
 pub mod Bits
 pub mod HistoryLemmas
+pub mod LawsOfBlocks
 pub mod LawsOfNumbers
 pub mod LeastId
 pub mod Infos

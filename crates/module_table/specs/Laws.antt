@@ -80,6 +80,16 @@ surplus_blocks p (e ∷ es) = let m = module_of p e.image in if loads p e && m.i
 abbrev pub BlocksAreApart : List ImageInfo → ℕ → List Event → Type 0
 BlocksAreApart infos last_offset events = AllPairs AreApart (startup_blocks infos 0 ++ surplus_blocks (start infos last_offset) events)
 
+-- a static block of the newest instance of an image
+abbrev pub block_of : Module → ℕ → Block
+block_of m offset = record { offset = offset; size = m.info.size }
+
+-- nor do those that are in use, and each lies past the startup blocks
+pub record InstancesAreApart (last_offset : ℕ) (p : Past) : Type 0 where
+  pub apart : (a b x y : ℕ) → a ≢ b → (module_of p a).offset ≡ Some x → (module_of p b).offset ≡ Some y → AreApart (block_of (module_of p a) x) (block_of (module_of p b) y)
+  pub above : (a x : ℕ) → (module_of p a).offset ≡ Some x → last_offset + (module_of p a).info.size ≤ x
+  pub below : (a x : ℕ) → (module_of p a).offset ≡ Some x → x ≤ last_offset + SURPLUS
+
 -- and the surplus is large enough for them
 abbrev pub BlocksFit : List ImageInfo → ℕ → List Event → Type 0
 BlocksFit infos last_offset events = All (λ (b : Block). b.offset ≤ last_offset + SURPLUS) (surplus_blocks (start infos last_offset) events)

@@ -3,6 +3,7 @@
 
 mod events;
 mod ids;
+pub mod laws;
 mod modules;
 mod registry;
 mod start;
