@@ -8,6 +8,8 @@ mod modules;
 mod registry;
 mod start;
 mod table;
+#[cfg(test)]
+mod tests;
 
 pub use crate::events::{CloseRefusal, Closed, Event, OpenRefusal, Opened, OutOfMemory};
 pub use crate::modules::{ImageInfo, Module};
