@@ -109,12 +109,12 @@ record Numbered (p : Past) : Type 0 where
   pub is : IsPast p
   pub own : HaveOwnNumbers p
 
-record SameNumbers (new old : Module) : Type 0 where
+pub record SameNumbers (new old : Module) : Type 0 where
   pub instance : new.instance ≡ old.instance
   pub id : new.id ≡ old.id
   pub held : is_loaded new ≡ true → is_loaded old ≡ true
 
-numbers_same : (p : Past) (image uses a : ℕ) → image < length p.modules → is_loaded (module_of p image) ≡ true → SameNumbers (module_of (with_uses p image uses) a) (module_of p a)
+pub numbers_same : (p : Past) (image uses a : ℕ) → image < length p.modules → is_loaded (module_of p image) ≡ true → SameNumbers (module_of (with_uses p image uses) a) (module_of p a)
 numbers_same p image uses a l loaded = elim (cases_eq a image) [
     inl e ↦ let here : module_of (with_uses p image uses) a ≡ record (module_of p image) { uses = uses } = rw e (get_or-set_same p.modules image (record (module_of p image) { uses = uses }) no_module l) in
         rw (here, e) (record { instance = refl; id = refl; held = λ _. loaded })

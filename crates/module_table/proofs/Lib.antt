@@ -2,6 +2,7 @@ pub mod Along
 pub mod Bits
 pub mod HistoryLemmas
 pub mod LawsOfBlocks
+pub mod LawsOfEnds
 pub mod LawsOfNumbers
 pub mod LeastId
 pub mod Infos

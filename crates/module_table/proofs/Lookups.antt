@@ -16,7 +16,7 @@ place_at p xs i d none only here =
     let at : position_or_len p xs ≡ i = position_or_len_is p xs i d (omega arith) (λ k l. false_from_ne_true _ (λ t. let e : k ≡ i = only k t in omega arith)) (λ _. here) in
     rw at (rw (lt-ltb i (length xs) within) refl)
 
-place_none : {X : Type 0} (p : X → Bool) (xs : List X) (i : ℕ) (d : X) → ((k : ℕ) → p (get_or xs k d) ≡ true → k ≡ i) → p (get_or xs i d) ≡ false → position p xs ≡ None
+pub place_none : {X : Type 0} (p : X → Bool) (xs : List X) (i : ℕ) (d : X) → ((k : ℕ) → p (get_or xs k d) ≡ true → k ≡ i) → p (get_or xs i d) ≡ false → position p xs ≡ None
 place_none p xs i d only here =
     let at : position_or_len p xs ≡ length xs = position_or_len_is p xs (length xs) d (omega arith) (λ k l. false_from_ne_true _ (λ t. let e : k ≡ i = only k t in both_ways _ (subst (λ (j : ℕ). p (get_or xs j d) ≡ false) (sym e) here) t)) (λ l. absurd (omega arith)) in
     rw at (rw (le-ltb (length xs) (length xs) (omega arith)) refl)

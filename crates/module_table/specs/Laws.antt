@@ -6,7 +6,7 @@ use Rattle.module_table.specs.declared.modules.ImageInfo.{ImageInfo}
 use Rattle.module_table.specs.declared.modules.Module.{Module}
 use Rattle.module_table.specs.declared.events.Event.{Event}
 use Rattle.module_table.specs.Modules.{is_loaded}
-use Rattle.module_table.specs.Past.{Past, module_of, startup_count, start, past, after_one, opened, open_refusal, offset, next_offset, IsLeastFree}
+use Rattle.module_table.specs.Past.{Past, module_of, startup_count, start, past, after_one, opened, open_refusal, live, next_offset, IsLeastFree}
 use Rattle.module_table.specs.History.{IsLegal}
 
 -- ---- opens and closes
@@ -39,6 +39,11 @@ CountsInstances infos last_offset events = (past infos last_offset events).made 
 -- no two loaded images have one instance, or one module id
 abbrev pub HaveOwnNumbers : Past → Type 0
 HaveOwnNumbers p = (a b : ℕ) → a ≢ b → is_loaded (module_of p a) ≡ true → is_loaded (module_of p b) ≡ true → ((module_of p a).instance ≢ (module_of p b).instance) × ((module_of p a).id ≢ (module_of p b).id)
+
+-- an instance that was made and is not live is never live again
+abbrev pub EndsForGood : List ImageInfo → ℕ → List Event → List Event → ℕ → Type 0
+EndsForGood infos last_offset front rest instance =
+  instance ≤ (past infos last_offset front).made → live (past infos last_offset front) instance ≡ false → live (past infos last_offset (front ++ rest)) instance ≡ false
 
 -- a load gives the least id from 1 on that no live instance has
 abbrev pub LoadsTakeLeastId : Past → Type 0

@@ -1,11 +1,11 @@
 //! Laws of every history: each function's contract is the law, and its body is empty.
 
-ghost use Rattle.std.specs.Prelude.{ℕ, ◌≤◌, List};
+ghost use Rattle.std.specs.Prelude.{ℕ, ◌≤◌, ◌++◌, List};
 ghost use Rattle.module_table.specs.declared.modules.ImageInfo.{ImageInfo};
 ghost use Rattle.module_table.specs.declared.events.Event.{Event};
 ghost use Rattle.module_table.specs.Past.{past};
 ghost use Rattle.module_table.specs.History.{IsLegal};
-ghost use Rattle.module_table.specs.Laws.{Balances, CountsInstances, HaveOwnNumbers, LoadsTakeLeastId, BlocksAreApart, BlocksFit, InstancesAreApart, startup_end};
+ghost use Rattle.module_table.specs.Laws.{Balances, CountsInstances, HaveOwnNumbers, LoadsTakeLeastId, EndsForGood, BlocksAreApart, BlocksFit, InstancesAreApart, startup_end};
 
 use crate::modules::Module;
 use crate::registry::Registry;
@@ -29,6 +29,13 @@ pub fn loads_are_counted()
 #[tactic(auto, using(crate::proofs::LawsOfNumbers::own_numbers))]
 pub fn numbers_are_their_own()
     ensures { (infos : List ImageInfo) (last_offset : ℕ) (events : List Event) → IsLegal infos last_offset events → HaveOwnNumbers (past infos last_offset events) }
+{
+}
+
+/// An instance that was closed for the last time is never live again, so what is kept under its number is no other's.
+#[tactic(auto, using(crate::proofs::LawsOfEnds::ends_for_good))]
+pub fn instances_end_for_good()
+    ensures { (infos : List ImageInfo) (last_offset : ℕ) (front rest : List Event) (instance : ℕ) → IsLegal infos last_offset (front ++ rest) → EndsForGood infos last_offset front rest instance }
 {
 }
 

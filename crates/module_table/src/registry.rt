@@ -155,8 +155,8 @@ impl Registry {
         self.table().open_refusal(image)
     }
 
-    #[tactic(auto, using(crate::proofs::HistoryLemmas::refused_open, crate::proofs::HistoryLemmas::open_accepted, crate::proofs::HistoryLemmas::open_unheld, crate::proofs::HistoryLemmas::opened_is))]
     /// A thread's line opens an image. The refusals, in order: `Unknown`, `Full`, `StaticFull`, `OutOfMemory`.
+    #[tactic(auto, using(crate::proofs::HistoryLemmas::refused_open, crate::proofs::HistoryLemmas::open_accepted, crate::proofs::HistoryLemmas::open_unheld, crate::proofs::HistoryLemmas::opened_is))]
     pub fn open(&mut self, thread: u32, line: u32, image: u32) -> Result<Opened, OpenRefusal>
         ensures opened { IfOk result (λ opened. open_answer self.old image ≡ Ok opened) }
         ensures adds { OnOk result (Adds self.old (record { thread = thread; line = line; opens = true; image = image }) self.new) }
@@ -169,13 +169,13 @@ impl Registry {
         if let Some(refusal) = self.open_refusal(image) {
             return Err(refusal);
         }
-        let event = Event {
+        let opening = Event {
             thread,
             line,
             opens: true,
             image,
         };
-        if self.add(event).is_err() {
+        if self.add(opening).is_err() {
             return Err(OpenRefusal::OutOfMemory);
         }
         let module = self.module(image);
@@ -193,8 +193,8 @@ impl Registry {
         self.table().close_refusal(image)
     }
 
-    #[tactic(auto, using(crate::proofs::HistoryLemmas::refused_close, crate::proofs::HistoryLemmas::close_accepted, crate::proofs::HistoryLemmas::close_unheld, crate::proofs::HistoryLemmas::closed_is))]
     /// A thread's line closes an image. The refusals, in order: `Permanent`, `NotOpen`, `OutOfMemory`.
+    #[tactic(auto, using(crate::proofs::HistoryLemmas::refused_close, crate::proofs::HistoryLemmas::close_accepted, crate::proofs::HistoryLemmas::close_unheld, crate::proofs::HistoryLemmas::closed_is))]
     pub fn close(&mut self, thread: u32, line: u32, image: u32) -> Result<Closed, CloseRefusal>
         ensures closed { IfOk result (λ closed. close_answer self.old image ≡ Ok closed) }
         ensures adds { OnOk result (Adds self.old (record { thread = thread; line = line; opens = false; image = image }) self.new) }
@@ -207,13 +207,13 @@ impl Registry {
         if let Some(refusal) = self.close_refusal(image) {
             return Err(refusal);
         }
-        let event = Event {
+        let closing = Event {
             thread,
             line,
             opens: false,
             image,
         };
-        if self.add(event).is_err() {
+        if self.add(closing).is_err() {
             return Err(CloseRefusal::OutOfMemory);
         }
         let gone = !self.module(image).is_loaded();

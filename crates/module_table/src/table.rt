@@ -13,15 +13,24 @@ use std::alloc::Global;
 use std::marker::Model;
 
 /// What a history leaves. Contracts see a `Past`.
+///
+/// Two tables lead from a number to an image. They are written at a load and never cleared: an entry counts only where the
+/// image that it names is loaded under the number that was looked up, so a close writes no more than the image itself.
 #[derive(Drop)]
 pub struct ModuleTable {
+    /// How many events there were.
     seen: u64,
+    /// How many instances were made, startup ones counted.
     made: u32,
+    /// How far below the thread pointer the static blocks reach.
     taken: u64,
+    /// How far they may reach.
     limit: u64,
+    /// The images by their numbers, with none at 0.
     modules: Vec<Module>,
     image_by_instance: Vec<u32>,
     image_by_id: Vec<u32>,
+    /// The ids of the live instances, so that the least free one is found at once.
     ids: IdSet,
 }
 

@@ -1,5 +1,5 @@
 -- One image more: it fits, and is late where one before it is.
-use Rattle.std.proofs.Common.{◌≡◌, ◌≢◌, ℕ, ◌+◌, ◌<◌, ◌≤◌, Bool, true, false, List, [], ◌∷◌, ◌++◌, length, get_or, take, sym, refl, ◌∙◌, subst, arith, inl, inr}
+use Rattle.std.proofs.Common.{◌≡◌, ◌≢◌, ℕ, ◌+◌, ◌<◌, ◌≤◌, leb, Bool, true, false, List, [], ◌∷◌, ◌++◌, length, get_or, take, sym, refl, ◌∙◌, subst, arith, inl, inr}
 use Rattle.std.specs.Prelude.{All, AllPairs}
 use Rattle.std.specs.Bool.{OnTrue}
 use Rattle.std.proofs.lemmas.Bool.{both_ways, OnTrue_from, leb-true, eqb-false}
@@ -33,7 +33,7 @@ loop-info-preserved c =
     }
 
 pub returns-then-not-is_empty : goal.returns-then-not-is_empty
-returns-then-not-is_empty c = OnTrue_from _ _ (λ t.
+returns-then-not-is_empty c = OnTrue_from (leb (length c.args.infos.now) 64) (AreInfos c.args.infos.now) (λ t.
     let whole : take c.loop-info.info-index c.args.infos.now ≡ c.args.infos.now = take_all c.loop-info.info-index c.args.infos.now c.loop-info-test.false in
     record {
       some = let ne = eqb-false (length c.args.infos.now) 0 (sym c.is_empty.ensures ∙ c.if-not-is_empty.true) in omega arith;
