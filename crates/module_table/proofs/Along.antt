@@ -21,10 +21,10 @@ pub record IsKept (P : Past → Type 0) : Type 0 where
 pub kept_step : (P : Past → Type 0) → IsKept P → (p : Past) (e : Event) → P p → accepts p e ≡ true → P (after_one p e)
 unfolding after_one opened
 kept_step P is p e here accepted = elim (cases_Bool e.opens) [
-    inl opens ↦ elim (cases_Bool (is_loaded (module_of p e.image))) [
-      inl l ↦ rw (opens, l) (is.retained p e.image here l)
+  | inl opens ↦ elim (cases_Bool (is_loaded (module_of p e.image))) [
+    | inl l ↦ rw (opens, l) (is.retained p e.image here l)
     | inr u ↦ rw (opens, u) (is.loaded p e.image here (can_load p e.image (accepts_open p e accepted opens) u))
-    ]
+  ]
   | inr closes ↦ rw closes (is.released p e.image here (held p e.image (accepts_close p e accepted closes)))
 ]
 

@@ -8,21 +8,21 @@ use Rattle.module_table.specs.Marks.{AddsId, RemovesId, IsLeastAbsent, HasRoom}
 
 pub adds : (word id : ℕ) → 1 ≤ id → id ≤ 64 → AddsId word id (bit_or word (1 * 2 ^ (id - 1) % 2 ^ 64))
 adds word id low high k l = elim (cases_eq (k + 1) id) [
-    inl e ↦ let at : k ≡ id - 1 = omega arith in
-        rw (eq-eqb (k + 1) id e, at) (bit_at_set_same w64 word (id - 1) (omega arith))
+  | inl e ↦ let at : k ≡ id - 1 = omega arith in
+      rw (eq-eqb (k + 1) id e, at) (bit_at_set_same w64 word (id - 1) (omega arith))
   | inr ne ↦ rw (ne_eqb (k + 1) id ne) (bit_at_set_other w64 word (id - 1) (omega arith) k (λ h. ne (omega arith)))
 ]
 
 pub removes : (word id : ℕ) → 1 ≤ id → id ≤ 64 → RemovesId word id (bit_and word (bit_not w64 (1 * 2 ^ (id - 1) % 2 ^ 64)))
 removes word id low high k l = elim (cases_eq (k + 1) id) [
-    inl e ↦ let at : k ≡ id - 1 = omega arith in
-        rw (eq-eqb (k + 1) id e, at) (bit_at_clear_same w64 word (id - 1) (omega arith))
+  | inl e ↦ let at : k ≡ id - 1 = omega arith in
+      rw (eq-eqb (k + 1) id e, at) (bit_at_clear_same w64 word (id - 1) (omega arith))
   | inr ne ↦ rw (ne_eqb (k + 1) id ne) (bit_at_clear_other w64 word (id - 1) (omega arith) k l (λ h. ne (omega arith)))
 ]
 
 not_full : (word : ℕ) → HasRoom word → word < 2 ^ 64 → word + 1 < 2 ^ 64
 not_full word room fits = elim (cases_lt (word + 1) (2 ^ 64)) [
-    inl l ↦ l
+  | inl l ↦ l
   | inr h ↦ let full : word ≡ 2 ^ 64 - 1 = omega arith in
       let one : bit_at word room.place ≡ 1 = rw full (bit_at_ones 64 room.place room.within) in
       absurd (omega (arith, room.clear))

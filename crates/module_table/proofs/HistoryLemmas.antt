@@ -88,3 +88,8 @@ close_unheld h image e none = (rw (← e) refl, none)
 pub closed_is : (h h' : History) (thread line image : ℕ) → Adds h (record { thread = thread; line = line; opens = false; image = image }) h' → None ≡ close_refusal (left h) image → close_answer h image ≡ Ok (record { at = length h.events; gone = not (is_loaded (module_of (left h') image)) })
 unfolding close_answer closed_of after_one
 closed_is h h' thread line image adds e = rw (← e, left_more h h' _ adds) refl
+
+-- what the two calls rely on
+pub ruleset opening = (refused_open, open_accepted, open_unheld, opened_is)
+
+pub ruleset closing = (refused_close, close_accepted, close_unheld, closed_is)

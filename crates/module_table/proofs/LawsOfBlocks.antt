@@ -60,24 +60,24 @@ stacked_apart bound (b ∷ bs) is (suc i) (suc j) d l h = stacked_apart b.offset
 stacked_startup : (infos : List ImageInfo) (taken : ℕ) (bs : List Block) → Stacked (startup_end infos taken) bs → Stacked taken (startup_blocks infos taken ++ bs)
 stacked_startup [] taken bs is = is
 stacked_startup (info ∷ infos) taken bs is = elim (cases_Bool info.late) [
-    inl late ↦ rw late (stacked_startup infos taken bs (rw late at is))
+  | inl late ↦ rw late (stacked_startup infos taken bs (rw late at is))
   | inr early ↦ rw early (rounds_up (taken + info.size) info.align, stacked_startup infos (next_multiple_of (taken + info.size) info.align) bs (rw early at is))
 ]
 
 taken-after_one : (p : Past) (e : Event) → (after_one p e).taken ≡ (if loads p e && (module_of p e.image).info.statics then next_offset p (module_of p e.image) else p.taken)
 unfolding after_one opened loaded retained released
 taken-after_one p e = elim e.opens as (λ b. (if b then (if is_loaded (module_of p e.image) then retained p e.image else loaded p e.image) else released p e.image).taken ≡ (if (b && not (is_loaded (module_of p e.image))) && (module_of p e.image).info.statics then next_offset p (module_of p e.image) else p.taken)) [
-    true ↦ elim (is_loaded (module_of p e.image)) as (λ b. (if b then retained p e.image else loaded p e.image).taken ≡ (if not b && (module_of p e.image).info.statics then next_offset p (module_of p e.image) else p.taken)) [
-      true ↦ refl
+  | true ↦ elim (is_loaded (module_of p e.image)) as (λ b. (if b then retained p e.image else loaded p e.image).taken ≡ (if not b && (module_of p e.image).info.statics then next_offset p (module_of p e.image) else p.taken)) [
+    | true ↦ refl
     | false ↦ elim (module_of p e.image).info.statics as (λ b. unwrap_or (if b then Some (next_offset p (module_of p e.image)) else None) p.taken ≡ (if b then next_offset p (module_of p e.image) else p.taken)) [ true ↦ refl | false ↦ refl ]
-    ]
+  ]
   | false ↦ refl
 ]
 
 stacked_surplus : (p : Past) (events : List Event) → Stacked p.taken (surplus_blocks p events)
 stacked_surplus p [] = tt
 stacked_surplus p (e ∷ es) = elim (cases_Bool (loads p e && (module_of p e.image).info.statics)) [
-    inl gives ↦
+  | inl gives ↦
       let taken : (after_one p e).taken ≡ next_offset p (module_of p e.image) = taken-after_one p e ∙ (rw gives refl) in
       rw gives (rounds_up (p.taken + (module_of p e.image).info.size) (module_of p e.image).info.align, subst (λ (n : ℕ). Stacked n (surplus_blocks (after_one p e) es)) taken (stacked_surplus (after_one p e) es))
   | inr none ↦
@@ -94,7 +94,7 @@ blocks_apart infos last_offset events le = stacked_apart 0 _ (stacked_startup in
 limit-after_one : (p : Past) (e : Event) → (after_one p e).limit ≡ p.limit
 unfolding after_one opened loaded retained released
 limit-after_one p e = elim e.opens as (λ b. (if b then (if is_loaded (module_of p e.image) then retained p e.image else loaded p e.image) else released p e.image).limit ≡ p.limit) [
-    true ↦ elim (is_loaded (module_of p e.image)) as (λ b. (if b then retained p e.image else loaded p e.image).limit ≡ p.limit) [ true ↦ refl | false ↦ refl ]
+  | true ↦ elim (is_loaded (module_of p e.image)) as (λ b. (if b then retained p e.image else loaded p e.image).limit ≡ p.limit) [ true ↦ refl | false ↦ refl ]
   | false ↦ refl
 ]
 
@@ -115,8 +115,8 @@ fits_after p (e ∷ es) legal =
     let parts = and_parts (accepts p e) (is_legal (after_one p e) es) legal in
     let rest : All (λ (b : Block). b.offset ≤ p.limit) (surplus_blocks (after_one p e) es) = subst (λ (n : ℕ). All (λ (b : Block). b.offset ≤ n) (surplus_blocks (after_one p e) es)) (limit-after_one p e) (fits_after (after_one p e) es parts.1) in
     elim (cases_Bool (loads p e && (module_of p e.image).info.statics)) [
-      inl gives ↦ rw gives (All-cons (λ (b : Block). b.offset ≤ p.limit) _ _ (gift_fits p e parts.0 gives) rest)
-    | inr none ↦ rw none rest
+      | inl gives ↦ rw gives (All-cons (λ (b : Block). b.offset ≤ p.limit) _ _ (gift_fits p e parts.0 gives) rest)
+      | inr none ↦ rw none rest
     ]
 
 pub blocks_fit : (infos : List ImageInfo) (last_offset : ℕ) (events : List Event) → IsLegal infos last_offset events → BlocksFit infos last_offset events
@@ -138,10 +138,10 @@ record SameBlock (new old : Module) : Type 0 where
 
 block_same : (p : Past) (image uses a : ℕ) → image < length p.modules → SameBlock (module_of (with_uses p image uses) a) (module_of p a)
 block_same p image uses a l = elim (cases_eq a image) [
-    inl e ↦ let here : module_of (with_uses p image uses) a ≡ record (module_of p image) { uses = uses } = rw e (get_or-set_same p.modules image (record (module_of p image) { uses = uses }) no_module l) in
-        rw (here, e) (record { offset = refl; info = refl })
+  | inl e ↦ let here : module_of (with_uses p image uses) a ≡ record (module_of p image) { uses = uses } = rw e (get_or-set_same p.modules image (record (module_of p image) { uses = uses }) no_module l) in
+      rw (here, e) (record { offset = refl; info = refl })
   | inr ne ↦ let here : module_of (with_uses p image uses) a ≡ module_of p a = get_or-set_other p.modules image a (record (module_of p image) { uses = uses }) no_module ne in
-        rw here (record { offset = refl; info = refl })
+      rw here (record { offset = refl; info = refl })
 ]
 
 spread_with_uses : (base : ℕ) (p : Past) (image uses : ℕ) → IsPast (with_uses p image uses) → Spread base p → image < length p.modules → Spread base (with_uses p image uses)
@@ -151,20 +151,20 @@ spread_with_uses base p image uses is s l = record {
   limit = s.limit;
   within = λ a x e. let same = block_same p image uses a l in rw same.info (s.within a x (sym same.offset ∙ e));
   apart = λ a b x y ne e f. let left = block_same p image uses a l in let right = block_same p image uses b l in
-    rw (left.info, right.info) (s.apart a b x y ne (sym left.offset ∙ e) (sym right.offset ∙ f));
+      rw (left.info, right.info) (s.apart a b x y ne (sym left.offset ∙ e) (sym right.offset ∙ f));
 }
 
 -- the place of a new instance
 given : (p : Past) (m : Module) (x : ℕ) → (new_instance p m).offset ≡ Some x → x ≡ next_offset p m
 given p m x e = elim (cases_Bool m.info.statics) [
-    inl t ↦ same_Some x (next_offset p m) (sym e ∙ (rw t refl))
+  | inl t ↦ same_Some x (next_offset p m) (sym e ∙ (rw t refl))
   | inr f ↦ absurd (none-some x (sym (rw f refl) ∙ e))
 ]
 
 -- what was given reaches as far as before, or further
 taken_grows : (p : Past) (m : Module) → p.taken ≤ unwrap_or (new_instance p m).offset p.taken
 taken_grows p m = elim (cases_Bool m.info.statics) [
-    inl t ↦ rw t (let up : p.taken + m.info.size ≤ next_offset p m = rounds_up (p.taken + m.info.size) m.info.align in omega arith)
+  | inl t ↦ rw t (let up : p.taken + m.info.size ≤ next_offset p m = rounds_up (p.taken + m.info.size) m.info.align in omega arith)
   | inr f ↦ rw f (omega arith)
 ]
 
@@ -186,7 +186,7 @@ spread_loaded base p image s can =
       low = omega arith;
       limit = s.limit;
       within = λ a x e. elim (cases_eq a image) [
-          inl same ↦
+        | inl same ↦
             let mine : (new_instance p (module_of p image)).offset ≡ Some x = sym (ap (λ (m : Module). m.offset) (let at : get_or (set p.modules image (new_instance p (module_of p image))) a no_module ≡ new_instance p (module_of p image) = rw same here in at)) ∙ e in
             let is : x ≡ next_offset p (module_of p image) = given p (module_of p image) x mine in
             rw (same, here) (omega arith, taken_reaches p (module_of p image) x mine)
@@ -194,9 +194,9 @@ spread_loaded base p image s can =
             let old = s.within a x (sym (ap (λ (m : Module). m.offset) (there a ne)) ∙ e) in
             let inside : x ≤ p.taken = old.1 in
             rw (there a ne) (old.0, omega arith)
-        ];
+      ];
       apart = λ a b x y ne e f. elim (cases_eq a image) [
-          inl a_is ↦
+        | inl a_is ↦
             let mine : (new_instance p (module_of p image)).offset ≡ Some x = sym (ap (λ (m : Module). m.offset) (let at : get_or (set p.modules image (new_instance p (module_of p image))) a no_module ≡ new_instance p (module_of p image) = rw a_is here in at)) ∙ e in
             let is : x ≡ next_offset p (module_of p image) = given p (module_of p image) x mine in
             let b_ne : b ≡ image → ⊥ = λ h. ne (a_is ∙ sym h) in
@@ -205,14 +205,14 @@ spread_loaded base p image s can =
         | inr a_ne ↦
             let first : (module_of p a).offset ≡ Some x = sym (ap (λ (m : Module). m.offset) (there a a_ne)) ∙ e in
             elim (cases_eq b image) [
-              inl b_is ↦
-                let mine : (new_instance p (module_of p image)).offset ≡ Some y = sym (ap (λ (m : Module). m.offset) (let at : get_or (set p.modules image (new_instance p (module_of p image))) b no_module ≡ new_instance p (module_of p image) = rw b_is here in at)) ∙ f in
-                let is : y ≡ next_offset p (module_of p image) = given p (module_of p image) y mine in
-                let old : x ≤ p.taken = (s.within a x first).1 in
-                inl (rw (b_is, here) (omega arith))
-            | inr b_ne ↦ rw (there a a_ne, there b b_ne) (s.apart a b x y ne first (sym (ap (λ (m : Module). m.offset) (there b b_ne)) ∙ f))
+              | inl b_is ↦
+                  let mine : (new_instance p (module_of p image)).offset ≡ Some y = sym (ap (λ (m : Module). m.offset) (let at : get_or (set p.modules image (new_instance p (module_of p image))) b no_module ≡ new_instance p (module_of p image) = rw b_is here in at)) ∙ f in
+                  let is : y ≡ next_offset p (module_of p image) = given p (module_of p image) y mine in
+                  let old : x ≤ p.taken = (s.within a x first).1 in
+                  inl (rw (b_is, here) (omega arith))
+              | inr b_ne ↦ rw (there a a_ne, there b b_ne) (s.apart a b x y ne first (sym (ap (λ (m : Module). m.offset) (there b b_ne)) ∙ f))
             ]
-        ];
+      ];
     }
 
 spread_kept : (base : ℕ) → IsKept (Spread base)
@@ -249,9 +249,9 @@ spread_start infos last_offset are low = record {
 spread_is_apart : (base : ℕ) (p : Past) → Spread base p → InstancesAreApart base p
 spread_is_apart base p s = record {
   apart = λ a b x y ne e f. elim (s.apart a b x y ne e f) [
-      inl h ↦ past_is_apart (block_of (module_of p a) x) (block_of (module_of p b) y) h
+    | inl h ↦ past_is_apart (block_of (module_of p a) x) (block_of (module_of p b) y) h
     | inr h ↦ apart_sym (block_of (module_of p b) y) (block_of (module_of p a) x) (past_is_apart (block_of (module_of p b) y) (block_of (module_of p a) x) h)
-    ];
+  ];
   above = λ a x e. (s.within a x e).0;
   below = λ a x e. let inside : x ≤ p.taken = (s.within a x e).1 in omega (arith, s.is.taken, s.limit);
 }

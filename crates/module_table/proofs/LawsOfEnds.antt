@@ -33,9 +33,9 @@ each_is_other p instance is dead a = false_from_ne_true _ (λ t.
     let parts = and_parts (is_loaded (module_of p a)) ((module_of p a).instance == instance) t in
     let within : a < length p.modules = (loaded_within p a is parts.0).0 in
     let first : position_or_len (has_instance instance) p.modules ≤ a = elim (cases_lt a (position_or_len (has_instance instance) p.modules)) [
-        inl before ↦ absurd (both_ways _ (fails_before_first (has_instance instance) p.modules a no_module before) t)
+      | inl before ↦ absurd (both_ways _ (fails_before_first (has_instance instance) p.modules a no_module before) t)
       | inr h ↦ h
-      ] in
+    ] in
     let found : ltb (position_or_len (has_instance instance) p.modules) (length p.modules) ≡ true = lt-ltb _ _ (omega arith) in
     both_ways _ dead (rw found refl))
 
@@ -51,9 +51,9 @@ ended_with_uses instance p image uses is e loaded = record {
   is = is;
   made = e.made;
   gone = λ a. false_from_ne_true _ (λ t.
-    let same = numbers_same p image uses a (loaded_within p image e.is loaded).0 loaded in
-    let parts = and_parts (is_loaded (module_of (with_uses p image uses) a)) ((module_of (with_uses p image uses) a).instance == instance) t in
-    both_ways _ (e.gone a) (and_from (is_loaded (module_of p a)) ((module_of p a).instance == instance) (same.held parts.0) (eq-eqb (module_of p a).instance instance (sym same.instance ∙ eqb-true (module_of (with_uses p image uses) a).instance instance parts.1))));
+      let same = numbers_same p image uses a (loaded_within p image e.is loaded).0 loaded in
+      let parts = and_parts (is_loaded (module_of (with_uses p image uses) a)) ((module_of (with_uses p image uses) a).instance == instance) t in
+      both_ways _ (e.gone a) (and_from (is_loaded (module_of p a)) ((module_of p a).instance == instance) (same.held parts.0) (eq-eqb (module_of p a).instance instance (sym same.instance ∙ eqb-true (module_of (with_uses p image uses) a).instance instance parts.1))));
 }
 
 ended_loaded : (instance : ℕ) (p : Past) (image : ℕ) → Ended instance p → CanLoad p image → Ended instance (loaded p image)
@@ -65,9 +65,9 @@ ended_loaded instance p image e can =
       is = past_loaded p image e.is can;
       made = omega arith;
       gone = λ a. elim (cases_eq a image) [
-          inl same ↦ rw (same, get_or-set_same p.modules image (new_instance p (module_of p image)) no_module l) (ne_eqb (p.made + 1) instance (λ h. omega arith))
+        | inl same ↦ rw (same, get_or-set_same p.modules image (new_instance p (module_of p image)) no_module l) (ne_eqb (p.made + 1) instance (λ h. omega arith))
         | inr ne ↦ rw (get_or-set_other p.modules image a (new_instance p (module_of p image)) no_module ne) (e.gone a)
-        ];
+      ];
     }
 
 ended_kept : (instance : ℕ) → IsKept (Ended instance)

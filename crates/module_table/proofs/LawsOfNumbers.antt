@@ -26,10 +26,10 @@ use Rattle.module_table.proofs.Along.{IsKept, kept_along, past_step, past_legal}
 pub written : (p : Past) (e : Event) → (m : Module) × ((after_one p e).modules ≡ set p.modules e.image m)
 unfolding after_one opened loaded retained released
 written p e = elim e.opens as (λ b. (m : Module) × ((if b then (if is_loaded (module_of p e.image) then retained p e.image else loaded p e.image) else released p e.image).modules ≡ set p.modules e.image m)) [
-    true ↦ elim (is_loaded (module_of p e.image)) as (λ b. (m : Module) × ((if b then retained p e.image else loaded p e.image).modules ≡ set p.modules e.image m)) [
-      true ↦ (record (module_of p e.image) { uses = (module_of p e.image).uses + 1 }, refl)
+  | true ↦ elim (is_loaded (module_of p e.image)) as (λ b. (m : Module) × ((if b then retained p e.image else loaded p e.image).modules ≡ set p.modules e.image m)) [
+    | true ↦ (record (module_of p e.image) { uses = (module_of p e.image).uses + 1 }, refl)
     | false ↦ (new_instance p (module_of p e.image), refl)
-    ]
+  ]
   | false ↦ (record (module_of p e.image) { uses = (module_of p e.image).uses - 1 }, refl)
 ]
 
@@ -53,13 +53,13 @@ uses-released p image l = ap (λ (m : Module). m.uses) (get_or-set_same p.module
 uses_here : (p : Past) (e : Event) → IsPast p → accepts p e ≡ true → (module_of (after_one p e) e.image).uses + cond (not e.opens && true) 1 0 ≡ (module_of p e.image).uses + cond (e.opens && true) 1 0
 unfolding after_one opened
 uses_here p e is accepted = elim (cases_Bool e.opens) [
-    inl opens ↦ elim (cases_Bool (is_loaded (module_of p e.image))) [
-      inl l ↦ rw (opens, l) (omega (arith, uses-retained p e.image (loaded_within p e.image is l).0))
+  | inl opens ↦ elim (cases_Bool (is_loaded (module_of p e.image))) [
+    | inl l ↦ rw (opens, l) (omega (arith, uses-retained p e.image (loaded_within p e.image is l).0))
     | inr u ↦
         let can = can_load p e.image (accepts_open p e accepted opens) u in
         let none : (module_of p e.image).uses ≤ 0 = ltb-false 0 (module_of p e.image).uses u in
         rw (opens, u) (omega (arith, uses-loaded p e.image (late_within p e.image is can.late).0))
-    ]
+  ]
   | inr closes ↦
       let some : 0 < (module_of p e.image).uses = held p e.image (accepts_close p e accepted closes) in
       rw closes (omega (arith, uses-released p e.image (loaded_within p e.image is (lt-ltb 0 (module_of p e.image).uses some)).0))
@@ -67,7 +67,7 @@ uses_here p e is accepted = elim (cases_Bool e.opens) [
 
 uses-after_one : (p : Past) (e : Event) (image : ℕ) → IsPast p → accepts p e ≡ true → (module_of (after_one p e) image).uses + cond (not e.opens && (e.image == image)) 1 0 ≡ (module_of p image).uses + cond (e.opens && (e.image == image)) 1 0
 uses-after_one p e image is accepted = elim (cases_eq e.image image) [
-    inl same ↦ subst (λ (j : ℕ). (module_of (after_one p e) j).uses + cond (not e.opens && (e.image == j)) 1 0 ≡ (module_of p j).uses + cond (e.opens && (e.image == j)) 1 0) same (rw (eq-eqb e.image e.image refl) (uses_here p e is accepted))
+  | inl same ↦ subst (λ (j : ℕ). (module_of (after_one p e) j).uses + cond (not e.opens && (e.image == j)) 1 0 ≡ (module_of p j).uses + cond (e.opens && (e.image == j)) 1 0) same (rw (eq-eqb e.image e.image refl) (uses_here p e is accepted))
   | inr ne ↦ rw (ne_eqb e.image image ne, others_stay p e image ne) (elim e.opens as (λ b. (module_of p image).uses + cond (not b && false) 1 0 ≡ (module_of p image).uses + cond (b && false) 1 0) [ true ↦ refl | false ↦ refl ])
 ]
 
@@ -91,7 +91,7 @@ balances infos last_offset events image is = balance_after (start infos last_off
 made-after_one : (p : Past) (e : Event) → (after_one p e).made ≡ p.made + (if loads p e then 1 else 0)
 unfolding after_one opened loaded retained released
 made-after_one p e = elim e.opens as (λ b. (if b then (if is_loaded (module_of p e.image) then retained p e.image else loaded p e.image) else released p e.image).made ≡ p.made + (if b && not (is_loaded (module_of p e.image)) then 1 else 0)) [
-    true ↦ elim (is_loaded (module_of p e.image)) as (λ b. (if b then retained p e.image else loaded p e.image).made ≡ p.made + (if not b then 1 else 0)) [ true ↦ omega arith | false ↦ refl ]
+  | true ↦ elim (is_loaded (module_of p e.image)) as (λ b. (if b then retained p e.image else loaded p e.image).made ≡ p.made + (if not b then 1 else 0)) [ true ↦ omega arith | false ↦ refl ]
   | false ↦ omega arith
 ]
 
@@ -116,10 +116,10 @@ pub record SameNumbers (new old : Module) : Type 0 where
 
 pub numbers_same : (p : Past) (image uses a : ℕ) → image < length p.modules → is_loaded (module_of p image) ≡ true → SameNumbers (module_of (with_uses p image uses) a) (module_of p a)
 numbers_same p image uses a l loaded = elim (cases_eq a image) [
-    inl e ↦ let here : module_of (with_uses p image uses) a ≡ record (module_of p image) { uses = uses } = rw e (get_or-set_same p.modules image (record (module_of p image) { uses = uses }) no_module l) in
-        rw (here, e) (record { instance = refl; id = refl; held = λ _. loaded })
+  | inl e ↦ let here : module_of (with_uses p image uses) a ≡ record (module_of p image) { uses = uses } = rw e (get_or-set_same p.modules image (record (module_of p image) { uses = uses }) no_module l) in
+      rw (here, e) (record { instance = refl; id = refl; held = λ _. loaded })
   | inr ne ↦ let here : module_of (with_uses p image uses) a ≡ module_of p a = get_or-set_other p.modules image a (record (module_of p image) { uses = uses }) no_module ne in
-        rw here (record { instance = refl; id = refl; held = λ t. t })
+      rw here (record { instance = refl; id = refl; held = λ t. t })
 ]
 
 own_with_uses : (p : Past) (image uses : ℕ) → IsPast p → HaveOwnNumbers p → is_loaded (module_of p image) ≡ true → HaveOwnNumbers (with_uses p image uses)
@@ -134,9 +134,9 @@ own_with_uses p image uses is own loaded a b ne la lb =
 new_is_apart : (p : Past) (image b : ℕ) → IsPast p → CanLoad p image → is_loaded (module_of p b) ≡ true → ((new_instance p (module_of p image)).instance ≢ (module_of p b).instance) × ((new_instance p (module_of p image)).id ≢ (module_of p b).id)
 new_is_apart p image b is can loaded =
     let least = least_of p (few_loaded p image is can) in
-    let made : (module_of p b).instance ≤ p.made = (numbered_at p b is).instance loaded in
-    ( λ e. absurd (omega arith)
-    , λ e. both_ways _ least.free (list_any_at (has_id (least_free p.modules)) p.modules b no_module (loaded_within p b is loaded).0 (and_from _ _ loaded (eq-eqb _ _ (sym e))))
+    let made : (module_of p b).instance ≤ p.made = (numbered_at p b is).instance loaded in (
+      λ e. absurd (omega arith),
+      λ e. both_ways _ least.free (list_any_at (has_id (least_free p.modules)) p.modules b no_module (loaded_within p b is loaded).0 (and_from _ _ loaded (eq-eqb _ _ (sym e)))),
     )
 
 own_loaded : (p : Past) (image : ℕ) → IsPast p → HaveOwnNumbers p → CanLoad p image → HaveOwnNumbers (loaded p image)
@@ -145,21 +145,21 @@ own_loaded p image is own can a b ne la lb =
     let l = (late_within p image is can.late).0 in
     let m : Module = new_instance p (module_of p image) in
     elim (cases_eq a image) [
-      inl x ↦ elim (cases_eq b image) [
-        inl y ↦ absurd (ne (x ∙ sym y))
-      | inr y ↦
-          let at_b : get_or (set p.modules image (new_instance p (module_of p image))) b no_module ≡ module_of p b = get_or-set_other p.modules image b (new_instance p (module_of p image)) no_module y in
-          rw (x, get_or-set_same p.modules image (new_instance p (module_of p image)) no_module l, at_b) (new_is_apart p image b is can (rw at_b at lb))
-      ]
-    | inr x ↦
-        let at_a : get_or (set p.modules image (new_instance p (module_of p image))) a no_module ≡ module_of p a = get_or-set_other p.modules image a (new_instance p (module_of p image)) no_module x in
-        elim (cases_eq b image) [
-          inl y ↦ let other = new_is_apart p image a is can (rw at_a at la) in
-              rw (y, get_or-set_same p.modules image (new_instance p (module_of p image)) no_module l, at_a) ((λ e. other.0 (sym e)), (λ e. other.1 (sym e)))
+      | inl x ↦ elim (cases_eq b image) [
+        | inl y ↦ absurd (ne (x ∙ sym y))
         | inr y ↦
             let at_b : get_or (set p.modules image (new_instance p (module_of p image))) b no_module ≡ module_of p b = get_or-set_other p.modules image b (new_instance p (module_of p image)) no_module y in
-            rw (at_a, at_b) (own a b ne (rw at_a at la) (rw at_b at lb))
-        ]
+            rw (x, get_or-set_same p.modules image (new_instance p (module_of p image)) no_module l, at_b) (new_is_apart p image b is can (rw at_b at lb))
+      ]
+      | inr x ↦
+          let at_a : get_or (set p.modules image (new_instance p (module_of p image))) a no_module ≡ module_of p a = get_or-set_other p.modules image a (new_instance p (module_of p image)) no_module x in
+          elim (cases_eq b image) [
+            | inl y ↦ let other = new_is_apart p image a is can (rw at_a at la) in
+                rw (y, get_or-set_same p.modules image (new_instance p (module_of p image)) no_module l, at_a) ((λ e. other.0 (sym e)), (λ e. other.1 (sym e)))
+            | inr y ↦
+                let at_b : get_or (set p.modules image (new_instance p (module_of p image))) b no_module ≡ module_of p b = get_or-set_other p.modules image b (new_instance p (module_of p image)) no_module y in
+                rw (at_a, at_b) (own a b ne (rw at_a at la) (rw at_b at lb))
+          ]
     ]
 
 numbered_kept : IsKept Numbered

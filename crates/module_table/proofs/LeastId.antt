@@ -50,8 +50,8 @@ taken_by-le : (m : Module) (n : ℕ) → taken_by m n ≤ one (is_loaded m)
 unfolding taken_by one
 taken_by-le m zero = omega arith
 taken_by-le m (suc n) = elim (cases_Bool (has_id (n + 1) m)) [
-    inl t ↦ let parts = and_parts (is_loaded m) (m.id == (n + 1)) t in
-        rw (t, taken_by-other m n (eqb-true m.id (n + 1) parts.1), parts.0) (omega arith)
+  | inl t ↦ let parts = and_parts (is_loaded m) (m.id == (n + 1)) t in
+      rw (t, taken_by-other m n (eqb-true m.id (n + 1) parts.1), parts.0) (omega arith)
   | inr f ↦ rw f (omega (arith, taken_by-le m n))
 ]
 
@@ -70,12 +70,12 @@ taken-le : (ms : List Module) (n : ℕ) → taken ms n ≤ count_by is_loaded ms
 unfolding one
 taken-le [] n = rw (taken-nil n) (omega arith)
 taken-le (m ∷ ms) n = elim (cases_Bool (is_loaded m)) [
-    inl t ↦ let mine : taken_by m n ≤ 1 = omega (arith, taken_by-le m n, one-le (is_loaded m)) in
-        let here : count_by is_loaded (m ∷ ms) ≡ 1 + count_by is_loaded ms = rw (sum_by-cons (λ x. cond (is_loaded x) 1 0) m ms, t) refl in
-        omega (arith, taken_by-more m ms n, taken-le ms n)
+  | inl t ↦ let mine : taken_by m n ≤ 1 = omega (arith, taken_by-le m n, one-le (is_loaded m)) in
+      let here : count_by is_loaded (m ∷ ms) ≡ 1 + count_by is_loaded ms = rw (sum_by-cons (λ x. cond (is_loaded x) 1 0) m ms, t) refl in
+      omega (arith, taken_by-more m ms n, taken-le ms n)
   | inr f ↦ let mine : taken_by m n ≤ 0 = rw f at (taken_by-le m n) in
-        let here : count_by is_loaded (m ∷ ms) ≡ 0 + count_by is_loaded ms = rw (sum_by-cons (λ x. cond (is_loaded x) 1 0) m ms, f) refl in
-        omega (arith, taken_by-more m ms n, taken-le ms n)
+      let here : count_by is_loaded (m ∷ ms) ≡ 0 + count_by is_loaded ms = rw (sum_by-cons (λ x. cond (is_loaded x) 1 0) m ms, f) refl in
+      omega (arith, taken_by-more m ms n, taken-le ms n)
 ]
 
 taken-full : (ms : List Module) (n : ℕ) → ((k : ℕ) → 1 ≤ k → k ≤ n → list_any (has_id k) ms ≡ true) → taken ms n ≡ n
@@ -87,18 +87,18 @@ taken-full ms (suc n) all = rw (all (n + 1) (omega arith) (omega arith), taken-f
 least_from_is : (ms : List Module) (more id : ℕ) → 1 ≤ id → ((k : ℕ) → 1 ≤ k → k < id → list_any (has_id k) ms ≡ true) → IsLeastFree ms (least_from ms more id) ⊎ ((k : ℕ) → 1 ≤ k → k < id + more → list_any (has_id k) ms ≡ true)
 least_from_is ms zero id low below = inr (λ k l h. below k l (omega arith))
 least_from_is ms (suc more) id low below = elim (cases_Bool (list_any (has_id id) ms)) [
-    inr f ↦ inl (rw f (record { low = low; free = f; least = below }))
+  | inr f ↦ inl (rw f (record { low = low; free = f; least = below }))
   | inl t ↦ rw t (elim (least_from_is ms more (id + 1) (omega arith) (λ k l h. elim (cases_lt k id) [ inl b ↦ below k l b | inr a ↦ let e : id ≡ k = omega arith in subst (λ (j : ℕ). list_any (has_id j) ms ≡ true) e t ])) [
-      inl is ↦ inl is
+    | inl is ↦ inl is
     | inr all ↦ inr (λ k l h. all k l (omega arith))
-    ])
+  ])
 ]
 
 -- where an image is not loaded, the id that a load takes is free, and the least
 pub least_free_is : (ms : List Module) → count_by is_loaded ms < length ms → IsLeastFree ms (least_free ms)
 unfolding least_free
 least_free_is ms room = elim (least_from_is ms (length ms) 1 (omega arith) (λ k l h. absurd (omega arith))) [
-    inl is ↦ is
+  | inl is ↦ is
   | inr all ↦ let full : taken ms (length ms) ≡ length ms = taken-full ms (length ms) (λ k l h. all k l (omega arith)) in
       absurd (omega (arith, taken-le ms (length ms)))
 ]
@@ -111,6 +111,6 @@ least_free_le ms id is =
 
 pub same_least : (ms : List Module) (a b : ℕ) → IsLeastFree ms a → IsLeastFree ms b → a ≡ b
 same_least ms a b p q = elim (cases_order a b) [
-    inl e ↦ e
+  | inl e ↦ e
   | inr other ↦ elim other [ inl l ↦ absurd (both_ways _ p.free (q.least a p.low l)) | inr l ↦ absurd (both_ways _ q.free (p.least b q.low l)) ]
 ]

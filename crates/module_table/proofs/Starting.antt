@@ -21,7 +21,7 @@ startup_low (x ∷ xs) zero d last l early =
     let here : startup_count (x ∷ xs) ≡ 1 + startup_count xs = rw (sum_by-cons (λ (i : ImageInfo). cond (not i.late) 1 0) x xs, early) refl in
     omega arith
 startup_low (x ∷ xs) (suc k) d last l early = elim (cases_Bool x.late) [
-    inl late ↦ absurd (both_ways _ early (last 0 (suc k) d (omega arith) l late))
+  | inl late ↦ absurd (both_ways _ early (last 0 (suc k) d (omega arith) l late))
   | inr first ↦
       let here : startup_count (x ∷ xs) ≡ 1 + startup_count xs = rw (sum_by-cons (λ (i : ImageInfo). cond (not i.late) 1 0) x xs, first) refl in
       let rest : k + 1 ≤ startup_count xs = startup_low xs k d (λ i j e h m. last (suc i) (suc j) e (omega arith) (omega arith)) (omega arith) early in
@@ -42,7 +42,7 @@ first_uses info image = elim (cases_Bool info.late) [ inl t ↦ rw t (omega arit
 
 first_loaded : (info : ImageInfo) (image : ℕ) → is_loaded (first_module info image) ≡ true → (info.late ≡ false) × ((first_module info image).instance ≡ image) × ((first_module info image).id ≡ image)
 first_loaded info image t = elim (cases_Bool info.late) [
-    inl late ↦ absurd (both_ways (is_loaded (first_module info image)) (rw late refl) t)
+  | inl late ↦ absurd (both_ways (is_loaded (first_module info image)) (rw late refl) t)
   | inr early ↦ (early, rw early refl, rw early refl)
 ]
 
@@ -51,10 +51,10 @@ pub own_number : (infos : List ImageInfo) (image : ℕ) → AreInfos infos → i
 own_number infos zero are t = absurd (true≢false (sym t))
 own_number infos (suc k) are t =
     let within : k < length infos = elim (cases_lt k (length infos)) [
-        inl l ↦ l
+      | inl l ↦ l
       | inr past ↦ let beyond : length (first_modules infos 1) ≤ k = rw length-first_modules past in
           absurd (both_ways _ (subst (λ (m : Module). is_loaded m ≡ false) (sym (get_or_past (first_modules infos 1) k no_module beyond)) refl) t)
-      ] in
+    ] in
     let is : get_or (first_modules infos 1) k no_module ≡ first_module (get_or infos k no_module.info) (1 + k) = get_or-first_modules infos 1 k no_module.info no_module within in
     let own = first_loaded (get_or infos k no_module.info) (1 + k) (subst (λ (m : Module). is_loaded m ≡ true) is t) in
     let low : k + 1 ≤ startup_count infos = startup_low infos k no_module.info are.late_last within own.0 in

@@ -23,9 +23,10 @@ use Rattle.module_table.proofs.MoreLists.{list_any-set_alike, list_any-set_here,
 
 -- what is not `no_module` in some respect has a number that an image has
 within_by : (p : Past) (image : ℕ) (f : Module → Bool) → IsPast p → f no_module ≡ false → f (module_of p image) ≡ true → (image < length p.modules) × (1 ≤ image)
-within_by p image f is none here =
-    (elim (cases_lt image (length p.modules)) [ inl l ↦ l | inr past ↦ absurd (both_ways _ none (subst (λ (m : Module). f m ≡ true) (get_or_past p.modules image no_module past) here)) ]
-    , elim (cases_lt 0 image) [ inl l ↦ omega arith | inr z ↦ let e : image ≡ 0 = omega arith in absurd (both_ways _ none (subst (λ (m : Module). f m ≡ true) is.none (subst (λ (j : ℕ). f (module_of p j) ≡ true) e here))) ])
+within_by p image f is none here = (
+  elim (cases_lt image (length p.modules)) [ inl l ↦ l | inr past ↦ absurd (both_ways _ none (subst (λ (m : Module). f m ≡ true) (get_or_past p.modules image no_module past) here)) ],
+  elim (cases_lt 0 image) [ inl l ↦ omega arith | inr z ↦ let e : image ≡ 0 = omega arith in absurd (both_ways _ none (subst (λ (m : Module). f m ≡ true) is.none (subst (λ (j : ℕ). f (module_of p j) ≡ true) e here))) ],
+)
 
 pub loaded_within : (p : Past) (image : ℕ) → IsPast p → is_loaded (module_of p image) ≡ true → (image < length p.modules) × (1 ≤ image)
 loaded_within p image is here = within_by p image (λ m. is_loaded m) is refl here
@@ -67,7 +68,7 @@ past_with p q image m is low modules seen limit more made taken info uses number
 
 pub numbered_at : (p : Past) (image : ℕ) → IsPast p → IsNumbered p.made (module_of p image)
 numbered_at p image is = elim (cases_lt image (length p.modules)) [
-    inl l ↦ is.numbered image no_module l
+  | inl l ↦ is.numbered image no_module l
   | inr past ↦ subst (λ (m : Module). IsNumbered p.made m) (sym (get_or_past p.modules image no_module past)) (record { instance = λ t. absurd (false≢true t); id = record { low = λ t. absurd (false≢true t); high = λ t. absurd (false≢true t) } })
 ]
 
@@ -75,23 +76,27 @@ numbered_at p image is = elim (cases_lt image (length p.modules)) [
 
 -- an image whose key stays
 finds_same : (key : Module → ℕ) (places : List ℕ) (ms : List Module) (image : ℕ) (m : Module) → image < length ms → Finds key places ms → (is_loaded m ≡ true → is_loaded (get_or ms image no_module) ≡ true) → key m ≡ key (get_or ms image no_module) → Finds key places (set ms image m)
-finds_same key places ms image m l finds stays same = record { at = λ k t. elim (cases_eq k image) [
-    inl e ↦ let here : get_or (set ms image m) k no_module ≡ m = rw e (get_or-set_same ms image m no_module l) in
+finds_same key places ms image m l finds stays same = record {
+  at = λ k t. elim (cases_eq k image) [
+    | inl e ↦ let here : get_or (set ms image m) k no_module ≡ m = rw e (get_or-set_same ms image m no_module l) in
         let old : slice_index places (key (get_or ms image no_module)) ≡ image = finds.at image (stays (subst (λ (x : Module). is_loaded x ≡ true) here t)) in
         rw (here, same) (old ∙ sym e)
-  | inr ne ↦ let here : get_or (set ms image m) k no_module ≡ get_or ms k no_module = get_or-set_other ms image k m no_module ne in
+    | inr ne ↦ let here : get_or (set ms image m) k no_module ≡ get_or ms k no_module = get_or-set_other ms image k m no_module ne in
         rw here (finds.at k (subst (λ (x : Module). is_loaded x ≡ true) here t))
-] }
+  ];
+}
 
 -- an image with a key that no loaded image has
 finds_new : (key : Module → ℕ) (places : List ℕ) (ms : List Module) (image : ℕ) (m : Module) → image < length ms → key m < length places → Finds key places ms → ((k : ℕ) → is_loaded (get_or ms k no_module) ≡ true → key (get_or ms k no_module) ≢ key m) → Finds key (set places (key m) image) (set ms image m)
-finds_new key places ms image m l room finds fresh = record { at = λ k t. elim (cases_eq k image) [
-    inl e ↦ let here : get_or (set ms image m) k no_module ≡ m = rw e (get_or-set_same ms image m no_module l) in
+finds_new key places ms image m l room finds fresh = record {
+  at = λ k t. elim (cases_eq k image) [
+    | inl e ↦ let here : get_or (set ms image m) k no_module ≡ m = rw e (get_or-set_same ms image m no_module l) in
         rw here (get_or-set_same places (key m) image 0 room ∙ sym e)
-  | inr ne ↦ let here : get_or (set ms image m) k no_module ≡ get_or ms k no_module = get_or-set_other ms image k m no_module ne in
+    | inr ne ↦ let here : get_or (set ms image m) k no_module ≡ get_or ms k no_module = get_or-set_other ms image k m no_module ne in
         let was : is_loaded (get_or ms k no_module) ≡ true = subst (λ (x : Module). is_loaded x ≡ true) here t in
         rw here (get_or-set_other places (key m) (key (get_or ms k no_module)) image 0 (fresh k was) ∙ finds.at k was)
-] }
+  ];
+}
 
 -- ---- marks
 
@@ -99,35 +104,39 @@ marks_same : (word : ℕ) (ms : List Module) (image : ℕ) (m : Module) → Mark
 marks_same word ms image m marks loaded id = record { at = λ k l. rw (list_any-set_alike (has_id (k + 1)) ms image m no_module (rw (loaded, id) refl)) (marks.at k l) }
 
 marks_new : (word word' : ℕ) (ms : List Module) (image : ℕ) (m : Module) → image < length ms → MarksIds word ms → AddsId word m.id word' → is_loaded m ≡ true → is_loaded (get_or ms image no_module) ≡ false → MarksIds word' (set ms image m)
-marks_new word word' ms image m l marks adds loaded unloaded = record { at = λ k h. elim (cases_eq (k + 1) m.id) [
-    inl e ↦ rw (adds k h, eq-eqb (k + 1) m.id e, list_any-set_here (has_id (k + 1)) ms image m l (and_from (is_loaded m) (m.id == (k + 1)) loaded (eq-eqb m.id (k + 1) (sym e)))) refl
-  | inr ne ↦
-      let new : has_id (k + 1) m ≡ false = and_right (is_loaded m) (m.id == (k + 1)) (ne_eqb m.id (k + 1) (λ e. ne (sym e))) in
-      let old : has_id (k + 1) (get_or ms image no_module) ≡ false = and_left (is_loaded (get_or ms image no_module)) ((get_or ms image no_module).id == (k + 1)) unloaded in
-      rw (adds k h, ne_eqb (k + 1) m.id ne, list_any-set_alike (has_id (k + 1)) ms image m no_module (new ∙ sym old)) (marks.at k h)
-] }
+marks_new word word' ms image m l marks adds loaded unloaded = record {
+  at = λ k h. elim (cases_eq (k + 1) m.id) [
+    | inl e ↦ rw (adds k h, eq-eqb (k + 1) m.id e, list_any-set_here (has_id (k + 1)) ms image m l (and_from (is_loaded m) (m.id == (k + 1)) loaded (eq-eqb m.id (k + 1) (sym e)))) refl
+    | inr ne ↦
+        let new : has_id (k + 1) m ≡ false = and_right (is_loaded m) (m.id == (k + 1)) (ne_eqb m.id (k + 1) (λ e. ne (sym e))) in
+        let old : has_id (k + 1) (get_or ms image no_module) ≡ false = and_left (is_loaded (get_or ms image no_module)) ((get_or ms image no_module).id == (k + 1)) unloaded in
+        rw (adds k h, ne_eqb (k + 1) m.id ne, list_any-set_alike (has_id (k + 1)) ms image m no_module (new ∙ sym old)) (marks.at k h)
+  ];
+}
 
 -- no other image has the id
 id_gone : (places : List ℕ) (ms : List Module) (image : ℕ) (m : Module) → image < length ms → Finds (λ x. x.id) places ms → is_loaded (get_or ms image no_module) ≡ true → is_loaded m ≡ false → list_any (has_id (get_or ms image no_module).id) (set ms image m) ≡ false
 id_gone places ms image m l finds loaded unloaded =
     let id : ℕ = (get_or ms image no_module).id in
     list_any_none (has_id (get_or ms image no_module).id) (set ms image m) (All-from_get_or (λ (x : Module). has_id (get_or ms image no_module).id x ≡ false) (set ms image m) no_module (λ k h. elim (cases_eq k image) [
-      inl e ↦ let here : get_or (set ms image m) k no_module ≡ m = rw e (get_or-set_same ms image m no_module l) in
+      | inl e ↦ let here : get_or (set ms image m) k no_module ≡ m = rw e (get_or-set_same ms image m no_module l) in
           rw here (and_left (is_loaded m) (m.id == (get_or ms image no_module).id) unloaded)
-    | inr ne ↦ let here : get_or (set ms image m) k no_module ≡ get_or ms k no_module = get_or-set_other ms image k m no_module ne in
+      | inr ne ↦ let here : get_or (set ms image m) k no_module ≡ get_or ms k no_module = get_or-set_other ms image k m no_module ne in
           rw here (false_from_ne_true _ (λ t.
-            let parts = and_parts (is_loaded (get_or ms k no_module)) ((get_or ms k no_module).id == (get_or ms image no_module).id) t in
-            ne (sym (finds.at k parts.0) ∙ ap (λ (j : ℕ). slice_index places j) (eqb-true (get_or ms k no_module).id (get_or ms image no_module).id parts.1) ∙ finds.at image loaded)))
+          let parts = and_parts (is_loaded (get_or ms k no_module)) ((get_or ms k no_module).id == (get_or ms image no_module).id) t in
+          ne (sym (finds.at k parts.0) ∙ ap (λ (j : ℕ). slice_index places j) (eqb-true (get_or ms k no_module).id (get_or ms image no_module).id parts.1) ∙ finds.at image loaded)))
     ]))
 
 marks_gone : (word word' : ℕ) (places : List ℕ) (ms : List Module) (image : ℕ) (m : Module) → image < length ms → MarksIds word ms → Finds (λ x. x.id) places ms → RemovesId word (get_or ms image no_module).id word' → is_loaded m ≡ false → is_loaded (get_or ms image no_module) ≡ true → MarksIds word' (set ms image m)
-marks_gone word word' places ms image m l marks finds removes unloaded loaded = record { at = λ k h. elim (cases_eq (k + 1) (get_or ms image no_module).id) [
-    inl e ↦ rw (removes k h, eq-eqb (k + 1) (get_or ms image no_module).id e, e, id_gone places ms image m l finds loaded unloaded) refl
-  | inr ne ↦
-      let new : has_id (k + 1) m ≡ false = and_left (is_loaded m) (m.id == (k + 1)) unloaded in
-      let old : has_id (k + 1) (get_or ms image no_module) ≡ false = and_right (is_loaded (get_or ms image no_module)) ((get_or ms image no_module).id == (k + 1)) (ne_eqb (get_or ms image no_module).id (k + 1) (λ e. ne (sym e))) in
-      rw (removes k h, ne_eqb (k + 1) (get_or ms image no_module).id ne, list_any-set_alike (has_id (k + 1)) ms image m no_module (new ∙ sym old)) (marks.at k h)
-] }
+marks_gone word word' places ms image m l marks finds removes unloaded loaded = record {
+  at = λ k h. elim (cases_eq (k + 1) (get_or ms image no_module).id) [
+    | inl e ↦ rw (removes k h, eq-eqb (k + 1) (get_or ms image no_module).id e, e, id_gone places ms image m l finds loaded unloaded) refl
+    | inr ne ↦
+        let new : has_id (k + 1) m ≡ false = and_left (is_loaded m) (m.id == (k + 1)) unloaded in
+        let old : has_id (k + 1) (get_or ms image no_module) ≡ false = and_right (is_loaded (get_or ms image no_module)) ((get_or ms image no_module).id == (k + 1)) (ne_eqb (get_or ms image no_module).id (k + 1) (λ e. ne (sym e))) in
+        rw (removes k h, ne_eqb (k + 1) (get_or ms image no_module).id ne, list_any-set_alike (has_id (k + 1)) ms image m no_module (new ∙ sym old)) (marks.at k h)
+  ];
+}
 
 -- ---- one event
 
@@ -188,7 +197,7 @@ released_gone p a b word word' image is last removes =
 
 taken_kept : (p : Past) (image : ℕ) → IsPast p → CanLoad p image → unwrap_or (new_instance p (module_of p image)).offset p.taken ≤ p.limit
 taken_kept p image is can = elim (cases_Bool (module_of p image).info.statics) [
-    inl t ↦ rw t (can.room t)
+  | inl t ↦ rw t (can.room t)
   | inr f ↦ rw f is.taken
 ]
 

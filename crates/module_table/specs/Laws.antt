@@ -20,7 +20,7 @@ closes_of image events = count_by (λ (e : Event). not e.opens && (e.image == im
 -- an image is held open as often as it was opened more than closed; a startup image once more
 abbrev pub Balances : List ImageInfo → ℕ → List Event → ℕ → Type 0
 Balances infos last_offset events image =
-  (module_of (past infos last_offset events) image).uses + closes_of image events ≡ (module_of (start infos last_offset) image).uses + opens_of image events
+    (module_of (past infos last_offset events) image).uses + closes_of image events ≡ (module_of (start infos last_offset) image).uses + opens_of image events
 
 -- ---- instances
 
@@ -43,7 +43,7 @@ HaveOwnNumbers p = (a b : ℕ) → a ≢ b → is_loaded (module_of p a) ≡ tru
 -- an instance that was made and is not live is never live again
 abbrev pub EndsForGood : List ImageInfo → ℕ → List Event → List Event → ℕ → Type 0
 EndsForGood infos last_offset front rest instance =
-  instance ≤ (past infos last_offset front).made → live (past infos last_offset front) instance ≡ false → live (past infos last_offset (front ++ rest)) instance ≡ false
+    instance ≤ (past infos last_offset front).made → live (past infos last_offset front) instance ≡ false → live (past infos last_offset (front ++ rest)) instance ≡ false
 
 -- a load gives the least id from 1 on that no live instance has
 abbrev pub LoadsTakeLeastId : Past → Type 0
@@ -63,11 +63,11 @@ Covers b distance = (distance ≤ b.offset) × (b.offset < distance + b.size)
 abbrev pub AreApart : Block → Block → Type 0
 AreApart a b = (distance : ℕ) → Covers a distance → ¬ Covers b distance
 
--- the blocks of the startup images, each past the one before at a multiple of its alignment
+-- the blocks of the startup images, each past the one before at a multiple of its alignment (Drepper, section 3, variant II)
 abbrev pub startup_blocks : List ImageInfo → ℕ → List Block
 startup_blocks [] taken = []
 startup_blocks (info ∷ infos) taken = if info.late then startup_blocks infos taken else (
-  let offset = next_multiple_of (taken + info.size) info.align in record { offset = offset; size = info.size } ∷ startup_blocks infos offset)
+    let offset = next_multiple_of (taken + info.size) info.align in record { offset = offset; size = info.size } ∷ startup_blocks infos offset)
 
 -- how far below the thread pointer the last of them begins
 abbrev pub startup_end : List ImageInfo → ℕ → ℕ
@@ -78,8 +78,8 @@ startup_end (info ∷ infos) taken = if info.late then startup_end infos taken e
 abbrev pub surplus_blocks : Past → List Event → List Block
 surplus_blocks p [] = []
 surplus_blocks p (e ∷ es) = let m = module_of p e.image in if loads p e && m.info.statics
-  then record { offset = next_offset p m; size = m.info.size } ∷ surplus_blocks (after_one p e) es
-  else surplus_blocks (after_one p e) es
+    then record { offset = next_offset p m; size = m.info.size } ∷ surplus_blocks (after_one p e) es
+    else surplus_blocks (after_one p e) es
 
 -- no two blocks of the history overlap, startup blocks among them
 abbrev pub BlocksAreApart : List ImageInfo → ℕ → List Event → Type 0

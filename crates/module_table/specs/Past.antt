@@ -1,5 +1,8 @@
 -- What a history of opens and closes leaves: a walk along the list of events, one step an event.
 -- Nothing here is a table of the code: no slot by id or by instance, no set of free ids.
+-- Module ids and blocks are those of Drepper, "ELF Handling For Thread-Local Storage", section 3: blocks that start with the
+-- program lie below the thread pointer (variant II), and a late module may ask for one there by `DF_STATIC_TLS` (gABI,
+-- "Dynamic Section"). How many bytes are kept for those, and that none is given twice, is this linker's own rule.
 use Rattle.std.specs.Prelude.{◌≡◌, ◌≢◌, ◌==◌, ◌+◌, ◌-◌, ◌<◌, ◌≤◌, ℕ, Bool, true, false, not, ◌&&◌, nat_lt, nat_le, zero, suc, if◌then◌else◌, List, [], ◌∷◌, length, slice_index_or, slice_set, fold, count_by, position, Option, Some, None, is_some, is_none, option_map, option_and_then, unwrap_or}
 use Rattle.std.specs.Int.{next_multiple_of}
 use Rattle.std.specs.List.{list_any}
@@ -31,8 +34,8 @@ module_of p image = slice_index_or p.modules image no_module
 -- a startup image is loaded once and for all, and its number is its instance's and its module id
 abbrev pub first_module : ImageInfo → ℕ → Module
 first_module info image = if info.late
-  then record { info = info; uses = 0; instance = 0; id = 0; offset = None }
-  else record { info = info; uses = 1; instance = image; id = image; offset = None }
+    then record { info = info; uses = 0; instance = 0; id = 0; offset = None }
+    else record { info = info; uses = 1; instance = image; id = image; offset = None }
 
 -- the images from a number on
 abbrev pub first_modules : List ImageInfo → ℕ → List Module
@@ -85,24 +88,25 @@ instance_of p id = option_map (λ image. (module_of p image).instance) (position
 
 -- ---- refusals
 
--- where a block of the image would begin in the static surplus: past what was given, at a multiple of its alignment
+-- where a block of the image would begin in the static surplus: past what was given, at a multiple of its alignment, as
+-- variant II places a next block: `tlsoffset = round(before + memsz, align)`
 abbrev pub next_offset : Past → Module → ℕ
 next_offset p m = next_multiple_of (p.taken + m.info.size) m.info.align
 
 -- why an open is refused; the first in this order
 unfoldable pub open_refusal : Past → ℕ → Option OpenRefusal
 open_refusal p image =
-  let m = module_of p image in
-  if not m.info.late then Some Unknown else (
-  if is_loaded m then None else (
-  if nat_le MOST_INSTANCES p.made then Some Full else (
-  if m.info.statics && nat_lt p.limit (next_offset p m) then Some StaticFull else None)))
+    let m = module_of p image in
+    if not m.info.late then Some Unknown else (
+    if is_loaded m then None else (
+    if nat_le MOST_INSTANCES p.made then Some Full else (
+    if m.info.statics && nat_lt p.limit (next_offset p m) then Some StaticFull else None)))
 
 -- why a close is refused; the first in this order
 unfoldable pub close_refusal : Past → ℕ → Option CloseRefusal
 close_refusal p image =
-  let m = module_of p image in
-  if is_permanent m then Some Permanent else (if is_loaded m then None else Some NotOpen)
+    let m = module_of p image in
+    if is_permanent m then Some Permanent else (if is_loaded m then None else Some NotOpen)
 
 -- ---- one event
 

@@ -16,7 +16,7 @@ and_assoc false b c = refl
 pub seen-after_one : (p : Past) (e : Event) → (after_one p e).seen ≡ p.seen + 1
 unfolding after_one opened loaded retained released
 seen-after_one p e = elim e.opens as (λ b. (if b then (if is_loaded (module_of p e.image) then retained p e.image else loaded p e.image) else released p e.image).seen ≡ p.seen + 1) [
-    true ↦ elim (is_loaded (module_of p e.image)) as (λ b. (if b then retained p e.image else loaded p e.image).seen ≡ p.seen + 1) [ true ↦ refl | false ↦ refl ]
+  | true ↦ elim (is_loaded (module_of p e.image)) as (λ b. (if b then retained p e.image else loaded p e.image).seen ≡ p.seen + 1) [ true ↦ refl | false ↦ refl ]
   | false ↦ refl
 ]
 

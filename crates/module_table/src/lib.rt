@@ -2,7 +2,7 @@
 //!
 //! A program with thread-local variables is made of *modules*: the program itself, the shared objects that start with it, and
 //! those that it opens while it runs, as a program opens a plug-in. Every thread has a block of each module's variables, and
-//! code reaches a block in one of two ways (Drepper, "ELF Handling For Thread-Local Storage", sections 2 and 3):
+//! code reaches a block in one of two ways (Drepper, "ELF Handling For Thread-Local Storage", sections 3 and 4):
 //!
 //! - by a *module id* and an offset, which it hands to `__tls_get_addr`. Ids are small and are given again once a module is
 //!   gone, since they are places in an array that each thread has;

@@ -36,7 +36,11 @@ impl Model for Registry {
 impl Registry {
     /// The registry before any event. Image 1 is the program, then come the images that start with it, then the late ones;
     /// the block of the last startup image begins `last_offset` bytes below the thread pointer.
-    pub fn new(alloc: Global, infos: &[ImageInfo], last_offset: u64) -> Result<Registry, OutOfMemory>
+    pub fn new(
+        alloc: Global,
+        infos: &[ImageInfo],
+        last_offset: u64,
+    ) -> Result<Registry, OutOfMemory>
         requires infos { AreInfos infos.now }
         requires low { last_offset < 2 ^ 27 }
         ensures infos { IfOk result (λ registry. registry.infos ≡ infos.now) }
@@ -156,7 +160,7 @@ impl Registry {
     }
 
     /// A thread's line opens an image. The refusals, in order: `Unknown`, `Full`, `StaticFull`, `OutOfMemory`.
-    #[tactic(auto, using(crate::proofs::HistoryLemmas::refused_open, crate::proofs::HistoryLemmas::open_accepted, crate::proofs::HistoryLemmas::open_unheld, crate::proofs::HistoryLemmas::opened_is))]
+    #[tactic(auto, using(crate::proofs::HistoryLemmas::opening))]
     pub fn open(&mut self, thread: u32, line: u32, image: u32) -> Result<Opened, OpenRefusal>
         ensures opened { IfOk result (λ opened. open_answer self.old image ≡ Ok opened) }
         ensures adds { OnOk result (Adds self.old (record { thread = thread; line = line; opens = true; image = image }) self.new) }
@@ -194,7 +198,7 @@ impl Registry {
     }
 
     /// A thread's line closes an image. The refusals, in order: `Permanent`, `NotOpen`, `OutOfMemory`.
-    #[tactic(auto, using(crate::proofs::HistoryLemmas::refused_close, crate::proofs::HistoryLemmas::close_accepted, crate::proofs::HistoryLemmas::close_unheld, crate::proofs::HistoryLemmas::closed_is))]
+    #[tactic(auto, using(crate::proofs::HistoryLemmas::closing))]
     pub fn close(&mut self, thread: u32, line: u32, image: u32) -> Result<Closed, CloseRefusal>
         ensures closed { IfOk result (λ closed. close_answer self.old image ≡ Ok closed) }
         ensures adds { OnOk result (Adds self.old (record { thread = thread; line = line; opens = false; image = image }) self.new) }

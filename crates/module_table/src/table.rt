@@ -59,7 +59,11 @@ impl ModuleTable {
     ghost use Rattle.module_table.specs.Tables.{IsTheImage, IsTheImageUnder, CanLoad, HasFreeId};
 
     /// The tables before any event, of these images, where the last startup image's block begins so far below the thread pointer.
-    pub fn new(alloc: Global, infos: &[ImageInfo], last_offset: u64) -> Result<ModuleTable, OutOfMemory>
+    pub fn new(
+        alloc: Global,
+        infos: &[ImageInfo],
+        last_offset: u64,
+    ) -> Result<ModuleTable, OutOfMemory>
         requires infos { AreInfos infos.now }
         requires low { last_offset < 2 ^ 27 }
         ensures { IfOk result (λ table. table ≡ start infos.now last_offset) }
@@ -107,7 +111,10 @@ impl ModuleTable {
     pub fn module(&self, image: u32) -> Module
         ensures { result ≡ module_of self.now image }
     {
-        self.modules.get(image as usize).copied().unwrap_or(Module::NONE)
+        self.modules
+            .get(image as usize)
+            .copied()
+            .unwrap_or(Module::NONE)
     }
 
     /// Where a block of the image would begin in the static surplus: past what was given, at a multiple of its alignment.
@@ -177,7 +184,11 @@ impl ModuleTable {
         ensures { result ≡ current self.now image }
     {
         let module = self.module(image);
-        if module.is_loaded() { Some(module.instance) } else { None }
+        if module.is_loaded() {
+            Some(module.instance)
+        } else {
+            None
+        }
     }
 
     /// The one image that could be loaded as an instance.
@@ -199,7 +210,11 @@ impl ModuleTable {
         ensures { result ≡ image_of self.now instance }
     {
         let image = self.image_at(instance);
-        if self.module(image).has_instance(instance) { Some(image) } else { None }
+        if self.module(image).has_instance(instance) {
+            Some(image)
+        } else {
+            None
+        }
     }
 
     /// The live instance with a module id.
@@ -207,7 +222,11 @@ impl ModuleTable {
         ensures { result ≡ instance_of self.now id }
     {
         let module = self.module(self.image_under(id));
-        if module.has_id(id) { Some(module.instance) } else { None }
+        if module.has_id(id) {
+            Some(module.instance)
+        } else {
+            None
+        }
     }
 
     /// Whether an instance is live.
@@ -236,7 +255,11 @@ impl ModuleTable {
         ensures high { result.id ≤ 64 }
     {
         let info = self.module(image).info;
-        let offset = if info.statics { Some(self.next_offset(image)) } else { None };
+        let offset = if info.statics {
+            Some(self.next_offset(image))
+        } else {
+            None
+        };
         Module {
             info,
             uses: 1,
@@ -306,7 +329,11 @@ impl ModuleTable {
         requires room { self.old.seen < 2 ^ 63 }
         ensures { self.new ≡ opened self.old image }
     {
-        if self.module(image).is_loaded() { self.retain(image) } else { self.load(image) }
+        if self.module(image).is_loaded() {
+            self.retain(image)
+        } else {
+            self.load(image)
+        }
     }
 
     /// Takes a close.
@@ -316,7 +343,11 @@ impl ModuleTable {
         requires room { self.old.seen < 2 ^ 63 }
         ensures { self.new ≡ released self.old image }
     {
-        if self.module(image).uses > 1 { self.release(image) } else { self.unload(image) }
+        if self.module(image).uses > 1 {
+            self.release(image)
+        } else {
+            self.unload(image)
+        }
     }
 
     /// Takes an event that is accepted. It takes no memory, and its cost does not grow with the history.
@@ -326,7 +357,11 @@ impl ModuleTable {
         requires room { self.old.seen < 2 ^ 63 }
         ensures { self.new ≡ after_one self.old event }
     {
-        if event.opens { self.open(event.image) } else { self.close(event.image) }
+        if event.opens {
+            self.open(event.image)
+        } else {
+            self.close(event.image)
+        }
     }
 
     /// Takes the events that follow those it has seen, each accepted after those before it. It takes no memory.

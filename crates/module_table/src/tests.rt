@@ -87,12 +87,21 @@ fn check_calls(rt: &impl Abort, registry: &mut Registry, calls: &[(u32, u32, u32
             Opens(_, _, _) | NotOpened(_) => open(registry, *thread, *line, *image),
             Closes(_, _) | NotClosed(_) => close(registry, *thread, *line, *image),
         };
-        assert_eq!(rt; given, *gives, "thread {thread}, line {line}, image {image}");
+        assert_eq!(rt;
+            given,
+            *gives,
+            "thread {thread}, line {line}, image {image}"
+        );
     }
 }
 
 /// A registry of these images after the calls of a table.
-fn after(rt: &impl Abort, alloc: Global, infos: &[ImageInfo], calls: &[(u32, u32, u32, Gives)]) -> Result<Registry, Fail> {
+fn after(
+    rt: &impl Abort,
+    alloc: Global,
+    infos: &[ImageInfo],
+    calls: &[(u32, u32, u32, Gives)],
+) -> Result<Registry, Fail> {
     let mut registry = registry_of(rt, alloc, infos)?;
     check_calls(rt, &mut registry, calls);
     Ok(registry)
@@ -177,7 +186,13 @@ fn the_surplus_runs_out(rt: HostRuntime) -> Result<(), Fail> {
         (1, 7, 2, Closes(5, true)),
         (1, 8, 2, NotOpened(OpenRefusal::StaticFull)),
     ];
-    let images = [program(), late(true, 4096), late(true, 1), late(true, 0), late(false, 9)];
+    let images = [
+        program(),
+        late(true, 4096),
+        late(true, 1),
+        late(true, 0),
+        late(false, 9),
+    ];
     let registry = after(&rt, rt.alloc(), &images, &calls)?;
     assert_eq!(rt; registry.offset(3), Some(4100));
     assert_eq!(rt; registry.offset(4), None);
@@ -219,7 +234,10 @@ fn holds_64_images_and_many_events(rt: HostRuntime) -> Result<(), Fail> {
     }
     let mut registry = registry_of(&rt, rt.alloc(), &images)?;
     for image in 2..65u32 {
-        assert_eq!(rt; open(&mut registry, 1, image, image), Opens(image, u64::from(image), u64::from(image - 2)));
+        assert_eq!(rt;
+            open(&mut registry, 1, image, image),
+            Opens(image, u64::from(image), u64::from(image - 2))
+        );
     }
     assert_eq!(rt; registry.offset(64), Some(4 + 63 * 60));
     for _ in 0..10_000u32 {
@@ -233,13 +251,27 @@ fn holds_64_images_and_many_events(rt: HostRuntime) -> Result<(), Fail> {
 
 #[test]
 fn agrees_with_a_walk_of_the_list(rt: HostRuntime) -> Result<(), Fail> {
-    let infos = [program(), program(), late(true, 40), late(false, 8), late(true, 0), late(true, 1500), late(false, 0)];
+    let infos = [
+        program(),
+        program(),
+        late(true, 40),
+        late(false, 8),
+        late(true, 0),
+        late(true, 1500),
+        late(false, 0),
+    ];
     let mut registry = registry_of(&rt, rt.alloc(), &infos)?;
     let mut seed = 1u32;
     for line in 0..300u32 {
         seed = seed.wrapping_mul(1_664_525).wrapping_add(1_013_904_223);
         let plain = Plain::walk(rt.alloc(), &infos, 4, registry.since(0))?;
-        check_call(&rt, &mut registry, &infos, &plain, (seed & 0x10000 != 0, line, (seed >> 24) % 9));
+        check_call(
+            &rt,
+            &mut registry,
+            &infos,
+            &plain,
+            (seed & 0x10000 != 0, line, (seed >> 24) % 9),
+        );
         let plain = Plain::walk(rt.alloc(), &infos, 4, registry.since(0))?;
         check_questions(&rt, &registry, &plain);
     }
@@ -247,10 +279,18 @@ fn agrees_with_a_walk_of_the_list(rt: HostRuntime) -> Result<(), Fail> {
 }
 
 /// Makes one call, and compares it with what the walk of the list says.
-fn check_call(rt: &impl Abort, registry: &mut Registry, infos: &[ImageInfo], plain: &Plain, call: (bool, u32, u32)) {
+fn check_call(
+    rt: &impl Abort,
+    registry: &mut Registry,
+    infos: &[ImageInfo],
+    plain: &Plain,
+    call: (bool, u32, u32),
+) {
     let (opens, line, image) = call;
     let held = plain.current(image);
-    let late = infos.get(image.wrapping_sub(1) as usize).is_some_and(|info| info.late);
+    let late = infos
+        .get(image.wrapping_sub(1) as usize)
+        .is_some_and(|info| info.late);
     let at = registry.len();
     if opens {
         let refusal = plain.open_refusal(infos, image);
@@ -279,21 +319,37 @@ fn check_call(rt: &impl Abort, registry: &mut Registry, infos: &[ImageInfo], pla
 fn check_questions(rt: &impl Abort, registry: &Registry, plain: &Plain) {
     for number in 0..plain.made.saturating_add(2) {
         let instance = plain.numbered(number);
-        assert_eq!(rt; registry.live(number), instance.is_some(), "instance {number}");
-        assert_eq!(rt; registry.offset(number), instance.and_then(|found| found.offset), "instance {number}");
+        assert_eq!(rt;
+            registry.live(number),
+            instance.is_some(),
+            "instance {number}"
+        );
+        assert_eq!(rt;
+            registry.offset(number),
+            instance.and_then(|found| found.offset),
+            "instance {number}"
+        );
     }
     for number in 0..10u32 {
         let current = plain.current(number).map(|found| found.number);
         assert_eq!(rt; registry.current(number), current, "image {number}");
         let with_id = plain.with_id(u64::from(number)).map(|found| found.number);
-        assert_eq!(rt; registry.instance_of(u64::from(number)), with_id, "id {number}");
+        assert_eq!(rt;
+            registry.instance_of(u64::from(number)),
+            with_id,
+            "id {number}"
+        );
     }
 }
 
 #[test]
 fn reserves_and_copies(rt: HostRuntime) -> Result<(), Fail> {
     let mut registry = registry_of(&rt, rt.alloc(), &[program(), late(false, 8)])?;
-    for (line, gives) in [(1, Opens(2, 2, 0)), (4, Closes(1, true)), (5, Opens(3, 2, 2))] {
+    for (line, gives) in [
+        (1, Opens(2, 2, 0)),
+        (4, Closes(1, true)),
+        (5, Opens(3, 2, 2)),
+    ] {
         registry.reserve()?;
         check_calls(&rt, &mut registry, &[(1, line, 2, gives)]);
     }

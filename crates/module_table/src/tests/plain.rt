@@ -27,7 +27,12 @@ fn info_of(infos: &[ImageInfo], image: u32) -> Option<ImageInfo> {
 }
 
 impl Plain {
-    pub fn walk(alloc: Global, infos: &[ImageInfo], last_offset: u64, events: &[Event]) -> Result<Plain, AllocError> {
+    pub fn walk(
+        alloc: Global,
+        infos: &[ImageInfo],
+        last_offset: u64,
+        events: &[Event],
+    ) -> Result<Plain, AllocError> {
         let mut plain = Plain {
             live: Vec::new(alloc),
             made: 0,
@@ -48,7 +53,9 @@ impl Plain {
 
     fn load(&mut self, image: u32, offset: Option<u64>) -> Result<(), AllocError> {
         self.made = self.made.wrapping_add(1);
-        let id = (1..=65u64).find(|id| !self.live.iter().any(|other| other.id == *id)).unwrap_or(0);
+        let id = (1..=65u64)
+            .find(|id| !self.live.iter().any(|other| other.id == *id))
+            .unwrap_or(0);
         let number = self.made;
         self.live.push(Instance {
             image,
@@ -68,7 +75,11 @@ impl Plain {
         }
         for instance in self.live.iter_mut() {
             if instance.image == event.image {
-                instance.holds = if event.opens { instance.holds.wrapping_add(1) } else { instance.holds.wrapping_sub(1) };
+                instance.holds = if event.opens {
+                    instance.holds.wrapping_add(1)
+                } else {
+                    instance.holds.wrapping_sub(1)
+                };
             }
         }
         self.live.retain(|instance| instance.holds != 0);
@@ -89,11 +100,17 @@ impl Plain {
     }
 
     pub fn current(&self, image: u32) -> Option<Instance> {
-        self.live.iter().find(|instance| instance.image == image).copied()
+        self.live
+            .iter()
+            .find(|instance| instance.image == image)
+            .copied()
     }
 
     pub fn numbered(&self, number: u32) -> Option<Instance> {
-        self.live.iter().find(|instance| instance.number == number).copied()
+        self.live
+            .iter()
+            .find(|instance| instance.number == number)
+            .copied()
     }
 
     pub fn with_id(&self, id: u64) -> Option<Instance> {
@@ -112,6 +129,10 @@ impl Plain {
             return Some(OpenRefusal::Full);
         }
         let offset = self.next_offset(infos, image)?;
-        if offset > self.limit { Some(OpenRefusal::StaticFull) } else { None }
+        if offset > self.limit {
+            Some(OpenRefusal::StaticFull)
+        } else {
+            None
+        }
     }
 }

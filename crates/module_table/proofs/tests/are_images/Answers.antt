@@ -23,9 +23,9 @@ pub loop-info-preserved : goal.loop-info-preserved
 loop-info-preserved c =
     let l : c.loop-info.info-index < length c.args.infos.now = omega arith in
     let stays : c.loop-info.late ≡ true → (get_or c.args.infos.now c.loop-info.info-index (record { late = false; statics = false; size = 0; align = 0 })).late ≡ true = elim c.else-late.branch [
-        else-late-via-then-late+else-not-info w ↦ λ t. w.if-not-info.false
+      | else-late-via-then-late+else-not-info w ↦ λ t. w.if-not-info.false
       | else-late-via-else-late w ↦ λ t. absurd (both_ways _ w.if-late.false t)
-      ] in
+    ] in
     record {
       each = All-more (λ (i : ImageInfo). IsInfo i) c.args.infos.now c.loop-info.info-index (record { late = false; statics = false; size = 0; align = 0 }) l c.loop-info.invariant.each (record { small = omega arith; aligned = omega arith; page = omega arith });
       late_last = pairs_more c.args.infos.now c.loop-info.info-index (record { late = false; statics = false; size = 0; align = 0 }) c.loop-info.late l c.loop-info.invariant.late_last c.loop-info.invariant.seen stays;

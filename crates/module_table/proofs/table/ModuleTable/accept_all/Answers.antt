@@ -9,8 +9,8 @@ pub accept-requires-clause-accepted : goal.accept-requires-clause-accepted
 accept-requires-clause-accepted c = (legal_next c.loop-event.self c.args.events.now c.loop-event.event-index _ (omega arith) c.loop-event.invariant.1).0
 
 pub loop-event-preserved : goal.loop-event-preserved
-loop-event-preserved c = rw c.accept.ensures
-    ( after_next c.loop-event.self c.args.events.now c.loop-event.event-index _ (omega arith) ∙ c.loop-event.invariant.0
-    , (legal_next c.loop-event.self c.args.events.now c.loop-event.event-index _ (omega arith) c.loop-event.invariant.1).1
-    , omega (arith, seen-after_one c.loop-event.self)
-    )
+loop-event-preserved c = rw c.accept.ensures (
+  after_next c.loop-event.self c.args.events.now c.loop-event.event-index _ (omega arith) ∙ c.loop-event.invariant.0,
+  (legal_next c.loop-event.self c.args.events.now c.loop-event.event-index _ (omega arith) c.loop-event.invariant.1).1,
+  omega (arith, seen-after_one c.loop-event.self),
+)
