@@ -1,0 +1,14 @@
+pub mod Along
+pub mod Bits
+pub mod HistoryLemmas
+pub mod LawsOfBlocks
+pub mod LawsOfEnds
+pub mod LawsOfNumbers
+pub mod LeastId
+pub mod Infos
+pub mod Lookups
+pub mod MoreLists
+pub mod Refusals
+pub mod StartLemmas
+pub mod Starting
+pub mod Steps

@@ -1,0 +1,21 @@
+-- A close that is not the last one changes how often the image is held open, and nothing else.
+use Rattle.std.proofs.Common.{◌≡◌, ℕ, ◌+◌, ◌-◌, ◌<◌, ◌≤◌, true, sym, ap, ◌∙◌, subst, refl, arith}
+use Rattle.module_table.specs.declared.modules.Module.{Module}
+use Rattle.module_table.specs.Modules.{is_loaded}
+use Rattle.module_table.specs.Past.{Past, module_of, retained, released, loaded, new_instance, least_free}
+use Rattle.module_table.specs.Tables.{past_of, AreTables, CanLoad, HasFreeId}
+use Rattle.module_table.proofs.Steps.{released_kept}
+use Rattle.module_table.proofs.table.ModuleTable.release.Goals as goal
+
+pub invariant_of-self : goal.invariant_of-self
+unfolding released
+invariant_of-self c =
+    let m : c.module-module.result ≡ module_of (past_of c.self.inside) c.args.image = c.module-module.ensures ∙ ap (λ (p : Past). module_of p c.args.image) (sym c.self.view_is) in
+    let more : 1 < (module_of (past_of c.self.inside) c.args.image).uses = subst (λ (p : Past). 1 < (module_of p c.args.image).uses) (sym c.self.view_is) c.requires.more in
+    rw m (released_kept (past_of c.self.inside) _ _ _ c.args.image c.self.invariant more)
+
+pub returns : goal.returns
+unfolding released
+returns c =
+    let m : c.module-module.result ≡ module_of (past_of c.self.inside) c.args.image = c.module-module.ensures ∙ ap (λ (p : Past). module_of p c.args.image) (sym c.self.view_is) in
+    rw (← c.self.view_is, m) refl

@@ -1,0 +1,72 @@
+-- What contracts see of a registry, and its answers as functions of the history.
+use Rattle.std.specs.Prelude.{◌≡◌, ◌+◌, ◌<◌, ◌^◌, ℕ, Bool, true, not, List, [], ◌∷◌, ◌++◌, length, Option, Some, None, Result, Ok, Err, IsOk}
+use Rattle.module_table.specs.declared.modules.ImageInfo.{ImageInfo}
+use Rattle.module_table.specs.declared.events.Event.{Event}
+use Rattle.module_table.specs.declared.events.Opened.{Opened}
+use Rattle.module_table.specs.declared.events.Closed.{Closed}
+use Rattle.module_table.specs.declared.events.OpenRefusal.{OpenRefusal}
+use Rattle.module_table.specs.declared.events.OpenRefusal.TheVariants.{OutOfMemory as NoRoomToOpen}
+use Rattle.module_table.specs.declared.events.CloseRefusal.{CloseRefusal}
+use Rattle.module_table.specs.declared.events.CloseRefusal.TheVariants.{OutOfMemory as NoRoomToClose}
+use Rattle.module_table.specs.Modules.{AreInfos, is_loaded}
+use Rattle.module_table.specs.Past.{Past, module_of, start, past, opened, released, open_refusal, close_refusal, is_legal}
+
+-- the images, how far below the thread pointer the last startup image's block begins, the events so far, and for how many
+-- more events memory is there
+pub record History : Type 0 where
+  pub infos : List ImageInfo
+  pub last_offset : ℕ
+  pub events : List Event
+  pub spare : ℕ
+
+-- what the events so far leave
+unfoldable pub left : History → Past
+left h = past h.infos h.last_offset h.events
+
+-- a history of images that may stand in a registry: each event is accepted after those before it
+pub record IsLegal (infos : List ImageInfo) (last_offset : ℕ) (events : List Event) : Type 0 where
+  pub images : AreInfos infos
+  pub low : last_offset < 2 ^ 27
+  pub each : is_legal (start infos last_offset) events ≡ true
+
+-- ---- changes; the memory that is there is left out of them
+
+pub record IsSame (old new : History) : Type 0 where
+  pub infos : new.infos ≡ old.infos
+  pub last_offset : new.last_offset ≡ old.last_offset
+  pub events : new.events ≡ old.events
+
+pub record Adds (old : History) (event : Event) (new : History) : Type 0 where
+  pub infos : new.infos ≡ old.infos
+  pub last_offset : new.last_offset ≡ old.last_offset
+  pub events : new.events ≡ old.events ++ event ∷ []
+
+-- ---- answers
+
+-- an answer, unless it is refused
+abbrev pub unless : {A R : Type 0} → Option R → A → Result A R
+unless None answer = Ok answer
+unless (Some refusal) answer = Err refusal
+
+-- what an open gives: the image's instance and id after it
+unfoldable pub opened_of : History → ℕ → Opened
+opened_of h image = let m = module_of (opened (left h) image) image in record { instance = m.instance; id = m.id; at = length h.events }
+
+-- what a close gives: whether the image is loaded no more after it
+unfoldable pub closed_of : History → ℕ → Closed
+closed_of h image = record { at = length h.events; gone = not (is_loaded (module_of (released (left h) image) image)) }
+
+unfoldable pub open_answer : History → ℕ → Result Opened OpenRefusal
+open_answer h image = unless (open_refusal (left h) image) (opened_of h image)
+
+unfoldable pub close_answer : History → ℕ → Result Closed CloseRefusal
+close_answer h image = unless (close_refusal (left h) image) (closed_of h image)
+
+-- a refusal of an open: the defined one, or want of memory for an event that is not refused
+abbrev pub OpenRefused : History → ℕ → OpenRefusal → Type 0
+OpenRefused h image NoRoomToOpen = IsOk (open_answer h image) × (h.spare ≡ 0)
+OpenRefused h image refusal = open_answer h image ≡ Err refusal
+
+abbrev pub CloseRefused : History → ℕ → CloseRefusal → Type 0
+CloseRefused h image NoRoomToClose = IsOk (close_answer h image) × (h.spare ≡ 0)
+CloseRefused h image refusal = close_answer h image ≡ Err refusal

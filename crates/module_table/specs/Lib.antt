@@ -1,0 +1,9 @@
+pub mod History
+pub mod Laws
+pub mod Marks
+pub mod Modules
+pub mod Past
+pub mod Registries
+pub mod Start
+pub mod Tables
+pub mod Walks

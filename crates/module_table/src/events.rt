@@ -1,0 +1,85 @@
+//! The events of the history, and what an open or a close answers.
+
+use std::alloc::{AllocError, AllocFailed};
+use thiserror::Error;
+
+/// There was no memory.
+#[derive(Clone, Copy, PartialEq, Eq, Debug, Error)]
+#[error("out of memory")]
+pub struct OutOfMemory;
+
+impl From<AllocError> for OutOfMemory {
+    fn from(_error: AllocError) -> OutOfMemory {
+        OutOfMemory
+    }
+}
+
+impl<T: Drop> From<AllocFailed<T>> for OutOfMemory {
+    fn from(_error: AllocFailed<T>) -> OutOfMemory {
+        OutOfMemory
+    }
+}
+
+/// A successful open or close of a late image, as the history of modules keeps it.
+#[derive(Clone, Copy, PartialEq, Eq, Debug)]
+pub struct Event {
+    /// The thread, from 1.
+    pub thread: u32,
+    /// Which of the thread's lines it was, from 1.
+    pub line: u32,
+    /// Whether it opened the image; else it closed it.
+    pub opens: bool,
+    /// The image, numbered from 1 in image order.
+    pub image: u32,
+}
+
+/// What an open gives: the live instance of the image.
+#[derive(Clone, Copy, PartialEq, Eq, Debug)]
+pub struct Opened {
+    /// The instance, from 1: a new one where the image was not loaded.
+    pub instance: u32,
+    /// Its module id, from 1.
+    pub id: u64,
+    /// How many events came before this one.
+    pub at: u64,
+}
+
+/// What a close gives.
+#[derive(Clone, Copy, PartialEq, Eq, Debug)]
+pub struct Closed {
+    /// How many events came before this one.
+    pub at: u64,
+    /// Whether this was the last close, so that the instance is live no more.
+    pub gone: bool,
+}
+
+/// Why an open is refused, in the order of the tests.
+#[derive(Clone, Copy, PartialEq, Eq, Debug, Error)]
+pub enum OpenRefusal {
+    /// No late image has the number.
+    #[error("no late image has this number")]
+    Unknown,
+    /// The image is not loaded, and 4,095 instances were made.
+    #[error("no more instances can be made")]
+    Full,
+    /// The image is not loaded, its blocks are static, and what is left of the static surplus has no room for one.
+    #[error("the static surplus has no room for the image")]
+    StaticFull,
+    /// There was no memory for the event.
+    #[error("out of memory")]
+    OutOfMemory,
+}
+
+/// Why a close is refused, in the order of the tests.
+#[derive(Clone, Copy, PartialEq, Eq, Debug, Error)]
+pub enum CloseRefusal {
+    /// The image started with the program.
+    #[error("the image started with the program")]
+    Permanent,
+    /// The image was closed as often as it was opened, or no image has the number.
+    #[error("the image is not open")]
+    NotOpen,
+    /// There was no memory for the event.
+    #[error("out of memory")]
+    OutOfMemory,
+}

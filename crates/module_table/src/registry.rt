@@ -1,0 +1,226 @@
+//! The registry of modules: one list of opens and closes, from which everything else follows.
+
+ghost use Rattle.std.specs.Prelude.{◌≡◌, ◌<◌, ◌≤◌, ◌^◌, [], drop, length, true, IfOk, IfErr, OnErr, OnOk, Ok, false};
+ghost use Rattle.module_table.specs.Modules.{AreInfos};
+ghost use Rattle.module_table.specs.Past.{start, module_of, live, offset, current, instance_of, accepts, open_refusal, close_refusal};
+ghost use Rattle.module_table.specs.History.{left, IsLegal, IsSame, Adds, open_answer, close_answer, OpenRefused, CloseRefused};
+
+use crate::events::{CloseRefusal, Closed, Event, OpenRefusal, Opened, OutOfMemory};
+use crate::modules::{ImageInfo, Module};
+use crate::table::ModuleTable;
+use std::alloc::{AllocError, Global};
+use std::marker::Model;
+
+/// The history of modules. Contracts see a `History`: its images, the last startup image's offset, its events, and for how many
+/// more events memory is there.
+#[derive(Drop)]
+pub struct Registry {
+    infos: Vec<ImageInfo>,
+    last_offset: u64,
+    events: Vec<Event>,
+    table: ModuleTable,
+}
+
+impl Model for Registry {
+    ghost use Rattle.module_table.specs.History.{History};
+
+    ghost Value = { History };
+
+    ghost use Rattle.module_table.specs.Registries.{history_of, HoldsHistory};
+
+    ghost view = { history_of };
+
+    ghost invariant = { HoldsHistory };
+}
+
+impl Registry {
+    /// The registry before any event. Image 1 is the program, then come the images that start with it, then the late ones;
+    /// the block of the last startup image begins `last_offset` bytes below the thread pointer.
+    pub fn new(
+        alloc: Global,
+        infos: &[ImageInfo],
+        last_offset: u64,
+    ) -> Result<Registry, OutOfMemory>
+        requires infos { AreInfos infos.now }
+        requires low { last_offset < 2 ^ 27 }
+        ensures infos { IfOk result (λ registry. registry.infos ≡ infos.now) }
+        ensures last_offset { IfOk result (λ registry. registry.last_offset ≡ last_offset) }
+        ensures events { IfOk result (λ registry. registry.events ≡ []) }
+    {
+        Ok(Registry {
+            infos: Vec::from_slice(alloc, infos)?,
+            last_offset,
+            events: Vec::new(alloc),
+            table: ModuleTable::new(alloc, infos, last_offset)?,
+        })
+    }
+
+    /// What the history leaves.
+    fn table(&self) -> &ModuleTable
+        ensures { result.now ≡ left self.now }
+    {
+        &self.table
+    }
+
+    /// How many events there were.
+    pub fn len(&self) -> u64
+        ensures value { result ≡ length self.now.events }
+        ensures legal { IsLegal self.now.infos self.now.last_offset self.now.events }
+        ensures few { length self.now.events < 2 ^ 63 }
+    {
+        self.events.len() as u64
+    }
+
+    /// Whether an instance is live.
+    pub fn live(&self, instance: u32) -> bool
+        ensures { result ≡ live (left self.now) instance }
+    {
+        self.table().live(instance)
+    }
+
+    /// The live instance of an image.
+    pub fn current(&self, image: u32) -> Option<u32>
+        ensures { result ≡ current (left self.now) image }
+    {
+        self.table().current(image)
+    }
+
+    /// The live instance with a module id.
+    pub fn instance_of(&self, id: u64) -> Option<u32>
+        ensures { result ≡ instance_of (left self.now) id }
+    {
+        self.table().instance_of(id)
+    }
+
+    /// How far below the thread pointer the block of a live instance begins; `None` exactly where the instance is not live, or
+    /// has no place in the static surplus.
+    pub fn offset(&self, instance: u32) -> Option<u64>
+        ensures { result ≡ offset (left self.now) instance }
+    {
+        self.table().offset(instance)
+    }
+
+    /// The events from a place on.
+    pub fn since(&self, at: u64) -> &[Event]
+        requires { at ≤ length self.now.events }
+        ensures value { result.now ≡ drop at self.now.events }
+        ensures legal { IsLegal self.now.infos self.now.last_offset self.now.events }
+    {
+        &self.events[at as usize..]
+    }
+
+    /// An image as the history leaves it.
+    fn module(&self, image: u32) -> Module
+        ensures { result ≡ module_of (left self.now) image }
+    {
+        self.table().module(image)
+    }
+
+    /// Makes memory for one more event: after it, one open or close cannot answer `OutOfMemory`.
+    pub fn reserve(&mut self) -> Result<(), OutOfMemory>
+        ensures spare { OnOk result (1 ≤ self.new.spare) }
+        ensures same { IsSame self.old self.new }
+        ensures legal { IsLegal self.new.infos self.new.last_offset self.new.events }
+    {
+        self.events.reserve(1)?;
+        Ok(())
+    }
+
+    /// The same history once more.
+    pub fn copy(&self) -> Result<Registry, OutOfMemory>
+        ensures { IfOk result (λ registry. IsSame self.now registry) }
+    {
+        Ok(Registry {
+            infos: self.infos.clone()?,
+            last_offset: self.last_offset,
+            events: self.events.clone()?,
+            table: self.table.copy()?,
+        })
+    }
+
+    /// Puts an event at the end of the history: the one place that does.
+    fn add(&mut self, event: Event) -> Result<(), AllocError>
+        requires { accepts (left self.old) event ≡ true }
+        ensures ok { OnOk result (Adds self.old event self.new) }
+        ensures err { OnErr result (IsSame self.old self.new) }
+        ensures full { OnErr result (self.old.spare ≡ 0) }
+        ensures legal { IsLegal self.new.infos self.new.last_offset self.new.events }
+        ensures few { length self.new.events < 2 ^ 63 }
+    {
+        self.events.push(event)?;
+        self.table.accept(event);
+        Ok(())
+    }
+
+    /// Why an open of the image is refused, memory apart.
+    fn open_refusal(&self, image: u32) -> Option<OpenRefusal>
+        ensures { result ≡ open_refusal (left self.now) image }
+    {
+        self.table().open_refusal(image)
+    }
+
+    /// A thread's line opens an image. The refusals, in order: `Unknown`, `Full`, `StaticFull`, `OutOfMemory`.
+    #[tactic(auto, using(crate::proofs::HistoryLemmas::opening))]
+    pub fn open(&mut self, thread: u32, line: u32, image: u32) -> Result<Opened, OpenRefusal>
+        ensures opened { IfOk result (λ opened. open_answer self.old image ≡ Ok opened) }
+        ensures adds { OnOk result (Adds self.old (record { thread = thread; line = line; opens = true; image = image }) self.new) }
+        ensures refused { IfErr result (OpenRefused self.old image) }
+        ensures same { OnErr result (IsSame self.old self.new) }
+        ensures legal { IsLegal self.new.infos self.new.last_offset self.new.events }
+        ensures few { length self.new.events < 2 ^ 63 }
+    {
+        let at = self.len();
+        if let Some(refusal) = self.open_refusal(image) {
+            return Err(refusal);
+        }
+        let opening = Event {
+            thread,
+            line,
+            opens: true,
+            image,
+        };
+        if self.add(opening).is_err() {
+            return Err(OpenRefusal::OutOfMemory);
+        }
+        let module = self.module(image);
+        Ok(Opened {
+            instance: module.instance,
+            id: module.id,
+            at,
+        })
+    }
+
+    /// Why a close of the image is refused, memory apart.
+    fn close_refusal(&self, image: u32) -> Option<CloseRefusal>
+        ensures { result ≡ close_refusal (left self.now) image }
+    {
+        self.table().close_refusal(image)
+    }
+
+    /// A thread's line closes an image. The refusals, in order: `Permanent`, `NotOpen`, `OutOfMemory`.
+    #[tactic(auto, using(crate::proofs::HistoryLemmas::closing))]
+    pub fn close(&mut self, thread: u32, line: u32, image: u32) -> Result<Closed, CloseRefusal>
+        ensures closed { IfOk result (λ closed. close_answer self.old image ≡ Ok closed) }
+        ensures adds { OnOk result (Adds self.old (record { thread = thread; line = line; opens = false; image = image }) self.new) }
+        ensures refused { IfErr result (CloseRefused self.old image) }
+        ensures same { OnErr result (IsSame self.old self.new) }
+        ensures legal { IsLegal self.new.infos self.new.last_offset self.new.events }
+        ensures few { length self.new.events < 2 ^ 63 }
+    {
+        let at = self.len();
+        if let Some(refusal) = self.close_refusal(image) {
+            return Err(refusal);
+        }
+        let closing = Event {
+            thread,
+            line,
+            opens: false,
+            image,
+        };
+        if self.add(closing).is_err() {
+            return Err(CloseRefusal::OutOfMemory);
+        }
+        let gone = !self.module(image).is_loaded();
+        Ok(Closed { at, gone })
+    }
+}

@@ -1,0 +1,377 @@
+//! The tables that answer every question about a history without a walk along it.
+
+ghost use Rattle.std.specs.Prelude.{◌≡◌, ◌<◌, ◌^◌, true, ◌+◌, ◌≤◌, IfOk, None, length, nat_lt, slice_index};
+ghost use Rattle.module_table.specs.Modules.{AreInfos};
+ghost use Rattle.module_table.specs.Past.{start, live, offset, current, instance_of, image_of, module_of, open_refusal, close_refusal, accepts, after_one, loaded, retained, released, next_offset, opened, after, is_legal};
+
+use crate::events::{CloseRefusal, Event, OpenRefusal, OutOfMemory};
+use crate::ids::IdSet;
+use crate::modules::{ImageInfo, Module};
+use crate::start::{first_modules, ids_of, own_numbers, startup_count};
+use crate::{MOST_IDS, MOST_INSTANCES, SURPLUS};
+use std::alloc::Global;
+use std::marker::Model;
+
+/// What a history leaves. Contracts see a `Past`.
+///
+/// Two tables lead from a number to an image. They are written at a load and never cleared: an entry counts only where the
+/// image that it names is loaded under the number that was looked up, so a close writes no more than the image itself.
+#[derive(Drop)]
+pub struct ModuleTable {
+    /// How many events there were.
+    seen: u64,
+    /// How many instances were made, startup ones counted.
+    made: u32,
+    /// How far below the thread pointer the static blocks reach.
+    taken: u64,
+    /// How far they may reach.
+    limit: u64,
+    /// The images by their numbers, with none at 0.
+    modules: Vec<Module>,
+    image_by_instance: Vec<u32>,
+    image_by_id: Vec<u32>,
+    /// The ids of the live instances, so that the least free one is found at once.
+    ids: IdSet,
+}
+
+impl Model for ModuleTable {
+    ghost use Rattle.module_table.specs.Past.{Past};
+
+    ghost Value = { Past };
+
+    ghost use Rattle.module_table.specs.Tables.{past_of, HoldsTables};
+
+    ghost view = { past_of };
+
+    ghost invariant = { HoldsTables };
+}
+
+/// The image that a table names under a key; 0, which is no image, past the table's end.
+fn place(images: &[u32], key: usize) -> u32
+    ensures { result ≡ slice_index images.now key }
+{
+    images.get(key).copied().unwrap_or(0)
+}
+
+impl ModuleTable {
+    ghost use Rattle.module_table.specs.Modules.{is_loaded};
+    ghost use Rattle.module_table.specs.Past.{new_instance, least_free, IsLeastFree};
+    ghost use Rattle.module_table.specs.Tables.{IsTheImage, IsTheImageUnder, CanLoad, HasFreeId};
+
+    /// The tables before any event, of these images, where the last startup image's block begins so far below the thread pointer.
+    pub fn new(
+        alloc: Global,
+        infos: &[ImageInfo],
+        last_offset: u64,
+    ) -> Result<ModuleTable, OutOfMemory>
+        requires infos { AreInfos infos.now }
+        requires low { last_offset < 2 ^ 27 }
+        ensures { IfOk result (λ table. table ≡ start infos.now last_offset) }
+    {
+        let modules = first_modules(alloc, infos)?;
+        let image_by_instance = own_numbers(alloc, MOST_INSTANCES + 1)?;
+        let image_by_id = own_numbers(alloc, MOST_IDS + 1)?;
+        let ids = ids_of(&modules);
+        Ok(ModuleTable {
+            seen: 0,
+            made: startup_count(infos),
+            taken: last_offset,
+            limit: last_offset + SURPLUS,
+            modules,
+            image_by_instance,
+            image_by_id,
+            ids,
+        })
+    }
+
+    /// The same tables once more.
+    pub fn copy(&self) -> Result<ModuleTable, OutOfMemory>
+        ensures { IfOk result (λ table. table ≡ self.now) }
+    {
+        Ok(ModuleTable {
+            seen: self.seen,
+            made: self.made,
+            taken: self.taken,
+            limit: self.limit,
+            modules: self.modules.clone()?,
+            image_by_instance: self.image_by_instance.clone()?,
+            image_by_id: self.image_by_id.clone()?,
+            ids: self.ids,
+        })
+    }
+
+    /// How many events there were.
+    pub fn seen(&self) -> u64
+        ensures { result ≡ self.now.seen }
+    {
+        self.seen
+    }
+
+    /// An image as the history leaves it; none of a number that no image has.
+    pub fn module(&self, image: u32) -> Module
+        ensures { result ≡ module_of self.now image }
+    {
+        self.modules
+            .get(image as usize)
+            .copied()
+            .unwrap_or(Module::NONE)
+    }
+
+    /// Where a block of the image would begin in the static surplus: past what was given, at a multiple of its alignment.
+    fn next_offset(&self, image: u32) -> u64
+        ensures value { result ≡ next_offset self.now (module_of self.now image) }
+    {
+        let info = self.module(image).info;
+        (self.taken + info.size).next_multiple_of(info.align)
+    }
+
+    /// Whether what is left of the static surplus has no room for a block of the image.
+    fn lacks_room(&self, image: u32) -> bool
+        ensures { result ≡ nat_lt self.now.limit (next_offset self.now (module_of self.now image)) }
+    {
+        self.next_offset(image) > self.limit
+    }
+
+    /// The least module id from 1 on that no live instance has.
+    fn least_free(&self) -> u64
+        requires { HasFreeId self.now }
+        ensures value { result ≡ least_free self.now.modules }
+        ensures low { 1 ≤ result }
+        ensures high { result ≤ 64 }
+    {
+        self.ids.least_absent()
+    }
+
+    /// Why an open of the image is refused, memory apart: the first of `Unknown`, `Full` and `StaticFull`.
+    #[tactic(auto, unfolding(crate::specs::Past::open_refusal))]
+    pub fn open_refusal(&self, image: u32) -> Option<OpenRefusal>
+        ensures { result ≡ open_refusal self.now image }
+    {
+        let module = self.module(image);
+        if !module.info.late {
+            return Some(OpenRefusal::Unknown);
+        }
+        if module.is_loaded() {
+            return None;
+        }
+        if self.made >= MOST_INSTANCES {
+            return Some(OpenRefusal::Full);
+        }
+        if module.info.statics && self.lacks_room(image) {
+            return Some(OpenRefusal::StaticFull);
+        }
+        None
+    }
+
+    /// Why a close of the image is refused, memory apart: the first of `Permanent` and `NotOpen`.
+    #[tactic(auto, unfolding(crate::specs::Past::close_refusal))]
+    pub fn close_refusal(&self, image: u32) -> Option<CloseRefusal>
+        ensures { result ≡ close_refusal self.now image }
+    {
+        let module = self.module(image);
+        if module.is_permanent() {
+            return Some(CloseRefusal::Permanent);
+        }
+        if !module.is_loaded() {
+            return Some(CloseRefusal::NotOpen);
+        }
+        None
+    }
+
+    /// The live instance of an image.
+    #[tactic(auto, unfolding(crate::specs::Past::current))]
+    pub fn current(&self, image: u32) -> Option<u32>
+        ensures { result ≡ current self.now image }
+    {
+        let module = self.module(image);
+        if module.is_loaded() {
+            Some(module.instance)
+        } else {
+            None
+        }
+    }
+
+    /// The one image that could be loaded as an instance.
+    fn image_at(&self, instance: u32) -> u32
+        ensures { IsTheImage self.now instance result }
+    {
+        place(&self.image_by_instance, instance as usize)
+    }
+
+    /// The one image that could be loaded under a module id.
+    fn image_under(&self, id: u64) -> u32
+        ensures { IsTheImageUnder self.now id result }
+    {
+        place(&self.image_by_id, id as usize)
+    }
+
+    /// The image of a live instance.
+    pub fn image_of(&self, instance: u32) -> Option<u32>
+        ensures { result ≡ image_of self.now instance }
+    {
+        let image = self.image_at(instance);
+        if self.module(image).has_instance(instance) {
+            Some(image)
+        } else {
+            None
+        }
+    }
+
+    /// The live instance with a module id.
+    pub fn instance_of(&self, id: u64) -> Option<u32>
+        ensures { result ≡ instance_of self.now id }
+    {
+        let module = self.module(self.image_under(id));
+        if module.has_id(id) {
+            Some(module.instance)
+        } else {
+            None
+        }
+    }
+
+    /// Whether an instance is live.
+    #[tactic(auto, unfolding(crate::specs::Past::live))]
+    pub fn live(&self, instance: u32) -> bool
+        ensures { result ≡ live self.now instance }
+    {
+        self.image_of(instance).is_some()
+    }
+
+    /// How far below the thread pointer the block of a live instance begins; `None` where it has no place in the static surplus.
+    #[tactic(auto, unfolding(crate::specs::Past::offset))]
+    pub fn offset(&self, instance: u32) -> Option<u64>
+        ensures { result ≡ offset self.now instance }
+    {
+        let image = self.image_of(instance)?;
+        self.module(image).offset
+    }
+
+    /// A new instance of an image that is not loaded: the next number, the least free id, and a place in the static surplus if
+    /// its blocks are static.
+    fn new_instance(&self, image: u32) -> Module
+        requires { CanLoad self.now image }
+        ensures value { result ≡ new_instance self.now (module_of self.now image) }
+        ensures low { 1 ≤ result.id }
+        ensures high { result.id ≤ 64 }
+    {
+        let info = self.module(image).info;
+        let offset = if info.statics {
+            Some(self.next_offset(image))
+        } else {
+            None
+        };
+        Module {
+            info,
+            uses: 1,
+            instance: self.made + 1,
+            id: self.least_free(),
+            offset,
+        }
+    }
+
+    /// Takes an open of an image that is not loaded.
+    fn load(&mut self, image: u32)
+        requires can { CanLoad self.old image }
+        requires room { self.old.seen < 2 ^ 63 }
+        ensures { self.new ≡ loaded self.old image }
+    {
+        let module = self.new_instance(image);
+        self.seen += 1;
+        self.made += 1;
+        self.taken = module.offset.unwrap_or(self.taken);
+        self.ids.insert(module.id);
+        self.image_by_instance[module.instance as usize] = image;
+        self.image_by_id[module.id as usize] = image;
+        self.modules[image as usize] = module;
+    }
+
+    /// Takes an open of a loaded image, which makes no instance.
+    fn retain(&mut self, image: u32)
+        requires loaded { is_loaded (module_of self.old image) ≡ true }
+        requires room { self.old.seen < 2 ^ 63 }
+        ensures { self.new ≡ retained self.old image }
+    {
+        let mut module = self.module(image);
+        module.uses += 1;
+        self.seen += 1;
+        self.modules[image as usize] = module;
+    }
+
+    /// Takes a close of an image that stays loaded.
+    fn release(&mut self, image: u32)
+        requires more { 1 < (module_of self.old image).uses }
+        requires room { self.old.seen < 2 ^ 63 }
+        ensures { self.new ≡ released self.old image }
+    {
+        let mut module = self.module(image);
+        module.uses -= 1;
+        self.seen += 1;
+        self.modules[image as usize] = module;
+    }
+
+    /// Takes the last close of an image. Its id is free from then on; what the static surplus gave is not given back.
+    fn unload(&mut self, image: u32)
+        requires last { (module_of self.old image).uses ≡ 1 }
+        requires room { self.old.seen < 2 ^ 63 }
+        ensures { self.new ≡ released self.old image }
+    {
+        let mut module = self.module(image);
+        module.uses -= 1;
+        self.seen += 1;
+        self.ids.remove(module.id);
+        self.modules[image as usize] = module;
+    }
+
+    /// Takes an open.
+    #[tactic(auto, using(crate::proofs::Refusals::can_load), unfolding(crate::specs::Past::opened))]
+    fn open(&mut self, image: u32)
+        requires accepted { open_refusal self.old image ≡ None }
+        requires room { self.old.seen < 2 ^ 63 }
+        ensures { self.new ≡ opened self.old image }
+    {
+        if self.module(image).is_loaded() {
+            self.retain(image)
+        } else {
+            self.load(image)
+        }
+    }
+
+    /// Takes a close.
+    #[tactic(auto, using(crate::proofs::Refusals::held))]
+    fn close(&mut self, image: u32)
+        requires accepted { close_refusal self.old image ≡ None }
+        requires room { self.old.seen < 2 ^ 63 }
+        ensures { self.new ≡ released self.old image }
+    {
+        if self.module(image).uses > 1 {
+            self.release(image)
+        } else {
+            self.unload(image)
+        }
+    }
+
+    /// Takes an event that is accepted. It takes no memory, and its cost does not grow with the history.
+    #[tactic(auto, using(crate::proofs::Refusals::accepts_open, crate::proofs::Refusals::accepts_close), unfolding(crate::specs::Past::after_one))]
+    pub fn accept(&mut self, event: Event)
+        requires accepted { accepts self.old event ≡ true }
+        requires room { self.old.seen < 2 ^ 63 }
+        ensures { self.new ≡ after_one self.old event }
+    {
+        if event.opens {
+            self.open(event.image)
+        } else {
+            self.close(event.image)
+        }
+    }
+
+    /// Takes the events that follow those it has seen, each accepted after those before it. It takes no memory.
+    pub fn accept_all(&mut self, events: &[Event])
+        requires legal { is_legal self.old events.now ≡ true }
+        requires room { self.old.seen + length events.now ≤ 2 ^ 63 }
+        ensures { self.new ≡ after self.old events.now }
+    {
+        for event in events {
+            self.accept(*event);
+        }
+    }
+}
