@@ -1,6 +1,6 @@
 // What the processor itself makes of small pieces of code: one line a run.
 //
-//     gcc -O1 -o /tmp/rows rows.c && /tmp/rows > rows.txt
+//     gcc -O1 -o rows rows.c && ./rows > rows.txt
 //
 // Each piece is copied to CODE and called with %rax, %rcx, the eight bytes at DATA and the flags
 // that its line shows; %rbx holds DATA, %rdx and the others hold their number in each byte. A line has:
