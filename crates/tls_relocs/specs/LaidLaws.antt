@@ -1,0 +1,2 @@
+-- The laws of `Laid`.
+use Rattle.std.proofs.Common.{◌≡◌, ℕ, refl}

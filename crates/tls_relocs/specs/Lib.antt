@@ -1,0 +1,6 @@
+pub mod Fields
+pub mod Laid
+pub mod LaidLaws
+pub mod Patches
+pub mod PatchLaws
+pub mod Values

@@ -1,0 +1,8 @@
+//! What a relocation stores, and whether it fits.
+#![tactic(auto)]
+
+mod fields;
+mod values;
+
+pub use fields::{Field, apply};
+pub use values::{Overflow, value};
