@@ -6,10 +6,13 @@ pub record Placed : Type 0 where
   pub place : ℕ
   pub bytes : List ℕ
 
--- from place `at` on
+abbrev pub zeros : ℕ → List ℕ
+zeros n = replicate n 0
+
+-- all of them, from place `at` on
 abbrev pub laid : ℕ → List Placed → List ℕ
 laid at [] = []
-laid at (s ∷ more) = replicate (s.place - at) 0 ++ (s.bytes ++ laid (s.place + length s.bytes) more)
+laid at (s ∷ more) = zeros (s.place - at) ++ (s.bytes ++ laid (s.place + length s.bytes) more)
 
 -- the byte of place p: a part's byte, 0 in front of a part, None behind the last
 abbrev pub unit_at : List Placed → ℕ → Option ℕ

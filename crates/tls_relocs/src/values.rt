@@ -33,8 +33,8 @@ pub fn value(kind: RelocationKind, s: u64, a: i64, p: u64, g: u64) -> Result<Fie
         RelocationKind::Absolute32Signed => signed(s + a),
         RelocationKind::Pc32 | RelocationKind::Plt32 => signed(s + a - p),
         RelocationKind::DtpOff32 | RelocationKind::TpOff32 => signed(s + a - g),
-        RelocationKind::GotPcRel | RelocationKind::GotPcRelX => signed(g + a - p),
-        RelocationKind::RexGotPcRelX => signed(g + a - p),
+        RelocationKind::GotPcRel => signed(g + a - p),
+        RelocationKind::GotPcRelX | RelocationKind::RexGotPcRelX => signed(g + a - p),
         RelocationKind::TlsGd | RelocationKind::TlsLd => signed(g + a - p),
         RelocationKind::GotTpOff | RelocationKind::GotPc32TlsDesc => signed(g + a - p),
     }
