@@ -41,10 +41,10 @@ laid_by_place at s more p rises from later (inr above) (inr after) =
     ∙ later after)
 
 -- the byte of place p, which stands p - at behind the list's begin
-pub slice_get-laid : (at : ℕ) (ss : List Placed) → Rising at ss → (p : ℕ) → at ≤ p
+pub laid_bytes : (at : ℕ) (ss : List Placed) (p : ℕ) → Rising at ss → at ≤ p
     → slice_get (laid at ss) (p - at) ≡ unit_at ss p
-slice_get-laid at [] rising p from = refl
-slice_get-laid at (s ∷ more) rising p from =
+laid_bytes at [] p rising from = refl
+laid_bytes at (s ∷ more) p rising from =
     laid_by_place at s more p rising.0 from
-    (slice_get-laid (s.place + length s.bytes) more rising.1 p)
+    (laid_bytes (s.place + length s.bytes) more p rising.1)
     (cases_lt p s.place) (cases_lt p (s.place + length s.bytes))

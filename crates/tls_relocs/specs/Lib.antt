@@ -5,3 +5,4 @@ pub mod LaidLaws
 pub mod Patches
 pub mod PatchLaws
 pub mod Values
+pub mod ValueLaws

@@ -38,13 +38,13 @@ slice_get-splice p k old inside = by_place (cases_lt k p.at) (cases_lt k (p.at +
         rw (yes, outer) (slice_get-splice_after p.at k p.bytes old inside after)
 
 -- what the writer leaves at a place is what the reader finds there
-pub slice_get-patched : (ps : List Patch) (bs : List ℕ) → FitIn ps (length bs) → (k : ℕ)
+pub patched_bytes : (ps : List Patch) (bs : List ℕ) (k : ℕ) → FitIn ps (length bs)
     → slice_get (patched ps bs) k ≡ byte_of ps bs k
-slice_get-patched [] bs fit k = refl
-slice_get-patched (p ∷ ps) bs fit k =
+patched_bytes [] bs k fit = refl
+patched_bytes (p ∷ ps) bs k fit =
     let rest = length-patched ps bs fit.1 in
     let inside : p.at + length p.bytes ≤ length (patched ps bs) = omega arith in
-    rw (← slice_get-patched ps bs fit.1 k) (slice_get-splice p k (patched ps bs) inside)
+    rw (← patched_bytes ps bs k fit.1) (slice_get-splice p k (patched ps bs) inside)
 
 -- where no patch of the front writes, two lists of patches that agree still agree
 pub same_outside : (odd ps qs : List Patch) (bs : List ℕ) (k : ℕ) → in_any odd k ≡ false
