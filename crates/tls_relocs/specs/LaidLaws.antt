@@ -1,0 +1,50 @@
+-- The laws of `Laid`: the list and the reader agree at every place.
+use Rattle.std.proofs.Common.{◌≡◌, ◌+◌, ◌-◌, ◌<◌, ◌≤◌, ◌⊎◌, inl, inr, ℕ, Some, None, List, [], ◌∷◌, ◌++◌, length, refl, sym, ap, ◌∙◌, arith}
+use Rattle.std.specs.Prelude.{slice_get, nat_lt, if◌then◌else◌}
+use Rattle.std.proofs.lemmas.Bool.{cases_lt, lt-ltb, le-ltb}
+use Rattle.std.proofs.lemmas.List.{length-replicate}
+use Rattle.tls_relocs.specs.Elements.{slice_get-append, slice_get-append_behind, slice_get-replicate}
+use Rattle.tls_relocs.specs.Laid.{Placed, zeros, laid, unit_at, Rising}
+
+-- one part, over what is known of those behind it
+laid_by_place : (at : ℕ) (s : Placed) (more : List Placed) (p : ℕ) → at ≤ s.place → at ≤ p
+    → (s.place + length s.bytes ≤ p → slice_get (laid (s.place + length s.bytes) more) (p - (s.place + length s.bytes)) ≡ unit_at more p)
+    → (p < s.place) ⊎ (s.place ≤ p) → (p < s.place + length s.bytes) ⊎ (s.place + length s.bytes ≤ p)
+    → slice_get (laid at (s ∷ more)) (p - at) ≡ unit_at (s ∷ more) p
+laid_by_place at s more p rises from later (inl before) _ =
+    let gap : length (zeros (s.place - at)) ≡ s.place - at = length-replicate (s.place - at) 0 in
+    let inside : p - at < length (zeros (s.place - at)) = omega arith in
+    let below : p - at < s.place - at = omega arith in
+    rw (lt-ltb p s.place before)
+    (slice_get-append (zeros (s.place - at)) (s.bytes ++ laid (s.place + length s.bytes) more) (p - at) inside
+    ∙ slice_get-replicate (s.place - at) (p - at) 0 below)
+laid_by_place at s more p rises from later (inr above) (inl below) =
+    let gap : length (zeros (s.place - at)) ≡ s.place - at = length-replicate (s.place - at) 0 in
+    let past : length (zeros (s.place - at)) ≤ p - at = omega arith in
+    let same : p - at - length (zeros (s.place - at)) ≡ p - s.place = omega arith in
+    let inside : p - s.place < length s.bytes = omega arith in
+    rw (le-ltb p s.place above, lt-ltb p (s.place + length s.bytes) below)
+    (slice_get-append_behind (zeros (s.place - at)) (s.bytes ++ laid (s.place + length s.bytes) more) (p - at) past
+    ∙ ap (slice_get (s.bytes ++ laid (s.place + length s.bytes) more)) same
+    ∙ slice_get-append s.bytes (laid (s.place + length s.bytes) more) (p - s.place) inside)
+laid_by_place at s more p rises from later (inr above) (inr after) =
+    let gap : length (zeros (s.place - at)) ≡ s.place - at = length-replicate (s.place - at) 0 in
+    let past : length (zeros (s.place - at)) ≤ p - at = omega arith in
+    let same : p - at - length (zeros (s.place - at)) ≡ p - s.place = omega arith in
+    let behind : length s.bytes ≤ p - s.place = omega arith in
+    let rest : p - s.place - length s.bytes ≡ p - (s.place + length s.bytes) = omega arith in
+    rw (le-ltb p s.place above, le-ltb p (s.place + length s.bytes) after)
+    (slice_get-append_behind (zeros (s.place - at)) (s.bytes ++ laid (s.place + length s.bytes) more) (p - at) past
+    ∙ ap (slice_get (s.bytes ++ laid (s.place + length s.bytes) more)) same
+    ∙ slice_get-append_behind s.bytes (laid (s.place + length s.bytes) more) (p - s.place) behind
+    ∙ ap (slice_get (laid (s.place + length s.bytes) more)) rest
+    ∙ later after)
+
+-- the byte of place p, which stands p - at behind the list's begin
+pub laid_bytes : (at : ℕ) (ss : List Placed) (p : ℕ) → Rising at ss → at ≤ p
+    → slice_get (laid at ss) (p - at) ≡ unit_at ss p
+laid_bytes at [] p rising from = refl
+laid_bytes at (s ∷ more) p rising from =
+    laid_by_place at s more p rising.0 from
+    (laid_bytes (s.place + length s.bytes) more p rising.1)
+    (cases_lt p s.place) (cases_lt p (s.place + length s.bytes))

@@ -1,0 +1,53 @@
+-- The laws of `Values`: a field of the table's width, which reads as the value.
+use Rattle.std.proofs.Common.{◌≡◌, ◌^◌, ◌<◌, ◌≤◌, ◌%◌, ◌-◌, ◌⊎◌, inl, inr, ℕ, suc, ℤ, pos, negsuc, ◌+ℤ◌, ◌-ℤ◌, Bool, true, false, Option, Some, None, refl, sym, ◌∙◌, ap, arith, FitsSigned}
+use Rattle.std.specs.Prelude.{nat_lt}
+use Rattle.std.specs.Int.{w32, cast_signed, cast_unsigned}
+use Rattle.std.proofs.Math.Facts.{to_z-of_z}
+use Rattle.std.proofs.Math.Nat.{mod-eq_of_lt}
+use Rattle.std.proofs.lemmas.Bool.{cases_lt, lt-ltb, le-ltb}
+use Rattle.elf_object.specs.declared.relocation.RelocationKind.{RelocationKind}
+use Rattle.elf_object.specs.declared.relocation.RelocationKind.TheVariants.{Nothing, Absolute64, Pc32, Plt32, GotPcRel, Absolute32, Absolute32Signed, TlsGd, TlsLd, DtpOff32, GotTpOff, TpOff32, GotPc32TlsDesc, TlsDescCall, GotPcRelX, RexGotPcRelX}
+use Rattle.elf_object.specs.Relocations.{field_width}
+use Rattle.tls_relocs.specs.declared.fields.Field.{Field}
+use Rattle.tls_relocs.specs.declared.fields.Field.TheVariants.{Empty, Word32, Word64}
+use Rattle.tls_relocs.specs.Fields.{width_of, word_of}
+use Rattle.tls_relocs.specs.Values.{modulo, fits_signed, fits_unsigned, word32, signed, unsigned, wrapped, stored}
+
+-- read in two's complement, a signed field is the value
+pub signed_again : (z : ℤ) (w : ℕ) → signed z ≡ Some (Word32 w) → cast_signed w32 w ≡ z
+signed_again (pos n) w same = positive (cases_lt n (2 ^ 31))
+  where
+    positive : (n < 2 ^ 31) ⊎ (2 ^ 31 ≤ n) → cast_signed w32 w ≡ pos n
+    positive (inl small) =
+        let yes = lt-ltb n (2 ^ 31) small in
+        let field = rw yes at same in
+        let whole : n % 2 ^ 32 ≡ n = mod-eq_of_lt (omega arith) in
+        let fits : FitsSigned w32 (pos n) = record { sfits = small } in
+        let bits : w ≡ n = cc in
+        rw bits (to_z-of_z fits)
+    positive (inr large) = let no = le-ltb n (2 ^ 31) large in let field = rw no at same in cc
+signed_again (negsuc n) w same = negative (cases_lt n (2 ^ 31))
+  where
+    negative : (n < 2 ^ 31) ⊎ (2 ^ 31 ≤ n) → cast_signed w32 w ≡ negsuc n
+    negative (inl small) =
+        let yes = lt-ltb n (2 ^ 31) small in
+        let field = rw yes at same in
+        let whole : n % 2 ^ 32 ≡ n = mod-eq_of_lt (omega arith) in
+        let fits : FitsSigned w32 (negsuc n) = record { sfits = small } in
+        let bits : w ≡ 2 ^ 32 - 1 - n % 2 ^ 32 = cc in
+        let same_bits : w ≡ cast_unsigned w32 (negsuc n) = omega arith in
+        rw same_bits (to_z-of_z fits)
+    negative (inr large) = let no = le-ltb n (2 ^ 31) large in let field = rw no at same in cc
+
+-- an unsigned field is the value
+pub unsigned_again : (z : ℤ) (w : ℕ) → unsigned z ≡ Some (Word32 w) → pos w ≡ z
+unsigned_again (pos n) w same = positive (cases_lt n (2 ^ 32))
+  where
+    positive : (n < 2 ^ 32) ⊎ (2 ^ 32 ≤ n) → pos w ≡ pos n
+    positive (inl small) =
+        let yes = lt-ltb n (2 ^ 32) small in
+        let field = rw yes at same in
+        let whole : n % 2 ^ 32 ≡ n = mod-eq_of_lt small in
+        cc
+    positive (inr large) = let no = le-ltb n (2 ^ 32) large in let field = rw no at same in cc
+unsigned_again (negsuc n) w same = cc

@@ -1,0 +1,69 @@
+//! The value of each type of relocation.
+
+ghost use Rattle.std.specs.Prelude.{◌≡◌, ◌^◌, ℤ, pos, ◌≤ℤ◌, ◌<ℤ◌, ◌+ℤ◌, ◌-ℤ◌, Some, IfOk, neg_ℤ};
+ghost use Rattle.std.specs.Result.{result_ok};
+ghost use Rattle.elf_object.specs.Relocations.{field_width};
+ghost use Rattle.tls_relocs.specs.Fields.{width_of};
+ghost use Rattle.tls_relocs.specs.Values.{signed, unsigned, wrapped, stored};
+
+use crate::fields::Field;
+use elf_object::RelocationKind;
+use thiserror::Error;
+
+/// The value of a relocation does not fit its field.
+#[derive(Clone, Copy, PartialEq, Eq, Debug, Error)]
+#[error("the value does not fit its field")]
+pub struct Overflow;
+
+/// What a relocation stores: a field as wide as its type says, or `Overflow` exactly where the value does not fit it.
+///
+/// By the psABI's letters `s` is S, the symbol's place; `a` is A, the addend; `p` is P, the place of the field; and `g` is G, the
+/// place of the entry in the GOT that the type speaks of. For the two offsets in a TLS segment, `DtpOff32` and `TpOff32`, `s` is
+/// the symbol's offset in its segment, and `g` the number that is subtracted: 0, or how far the segment's block begins below the
+/// thread pointer. A letter that a type does not use changes nothing.
+pub fn value(kind: RelocationKind, s: u64, a: i64, p: u64, g: u64) -> Result<Field, Overflow>
+    ensures stored { result_ok result ≡ stored kind s a p g }
+    ensures width { IfOk result (λ field. width_of field ≡ field_width kind) }
+{
+    let (s, a, p, g) = (i128::from(s), i128::from(a), i128::from(p), i128::from(g));
+    match kind {
+        RelocationKind::Nothing | RelocationKind::TlsDescCall => Ok(Field::Empty),
+        RelocationKind::Absolute64 => Ok(wrapped(s + a)),
+        RelocationKind::Absolute32 => unsigned(s + a),
+        RelocationKind::Absolute32Signed => signed(s + a),
+        RelocationKind::Pc32 | RelocationKind::Plt32 => signed(s + a - p),
+        RelocationKind::DtpOff32 | RelocationKind::TpOff32 => signed(s + a - g),
+        RelocationKind::GotPcRel => signed(g + a - p),
+        RelocationKind::GotPcRelX | RelocationKind::RexGotPcRelX => signed(g + a - p),
+        RelocationKind::TlsGd | RelocationKind::TlsLd => signed(g + a - p),
+        RelocationKind::GotTpOff | RelocationKind::GotPc32TlsDesc => signed(g + a - p),
+    }
+}
+
+/// From -2^31 to 2^31 - 1.
+fn signed(value: i128) -> Result<Field, Overflow>
+    ensures { result_ok result ≡ signed value }
+{
+    match i32::try_from(value) {
+        Ok(fitting) => Ok(Field::Word32(fitting.cast_unsigned())),
+        Err(_) => Err(Overflow),
+    }
+}
+
+/// From 0 to 2^32 - 1.
+fn unsigned(value: i128) -> Result<Field, Overflow>
+    ensures { result_ok result ≡ unsigned value }
+{
+    match u32::try_from(value) {
+        Ok(fitting) => Ok(Field::Word32(fitting)),
+        Err(_) => Err(Overflow),
+    }
+}
+
+/// Any number, modulo 2^64.
+fn wrapped(value: i128) -> Field
+    ensures { Some result ≡ wrapped value }
+{
+    let modulus = 1 << 64;
+    Field::Word64(value.rem_euclid(modulus) as u64)
+}
