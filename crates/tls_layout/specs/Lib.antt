@@ -1,0 +1,5 @@
+pub mod Sections
+pub mod Places
+pub mod Passes
+pub mod Rounding
+pub mod Statics

@@ -1,0 +1,10 @@
+//! Where the sections of objects go.
+#![tactic(auto)]
+
+mod extent;
+mod lay_out;
+mod sections;
+mod statics;
+
+pub use extent::Extent;
+pub use statics::{TlsSize, static_offsets};

@@ -1,0 +1,61 @@
+//! The sections of objects, one after another.
+
+ghost use Rattle.std.specs.Prelude.{◌≡◌, ◌++◌, ◌↔◌, All, IsTrue, OnOk, length, map, sum};
+ghost use Rattle.elf_object.specs.Lent.{IsSectionPart, section_class, section_size, section_alignment};
+ghost use Rattle.tls_layout.specs.Sections.{seen_as, section_of, sections_of, all_sections, section_counts, is_in, is_tls_class, IsOrdinary};
+ghost use Rattle.tls_layout.specs.Passes.{AreFirsts};
+
+use elf_object::{Object, SectionClass, SectionPart};
+use std::alloc::{AllocError, Global};
+
+/// A section as a layout sees it. One that linking drops has no class, and takes no room.
+#[derive(Clone, Copy, PartialEq, Eq, Debug)]
+pub struct Section {
+    pub class: Option<SectionClass>,
+    /// How many bytes it has in memory.
+    pub size: u64,
+    /// What its place is to be a multiple of.
+    pub alignment: u64,
+}
+
+impl Section {
+    const DROPPED: Section = Section {
+        class: None,
+        size: 0,
+        alignment: 1,
+    };
+
+    /// What a layout sees of a section that an object lends.
+    pub fn seen(part: &SectionPart) -> Section
+        ensures { result ≡ seen_as part.now.class part.now.size part.now.alignment }
+    {
+        match part.class {
+            Some(class) => Section {
+                class: Some(class),
+                size: part.size,
+                alignment: part.alignment,
+            },
+            None => Section::DROPPED,
+        }
+    }
+
+    /// Whether the section is of a class.
+    pub fn is_in(&self, class: SectionClass) -> bool
+        ensures { result ≡ is_in class self.now }
+    {
+        match (class, self.class) {
+            (SectionClass::Executable, Some(SectionClass::Executable)) => true,
+            (SectionClass::ReadOnly, Some(SectionClass::ReadOnly)) => true,
+            (SectionClass::Tls { initial }, Some(SectionClass::Tls { initial: other })) => initial == other,
+            (SectionClass::Writable { initial }, Some(SectionClass::Writable { initial: other })) => initial == other,
+            _ => false,
+        }
+    }
+
+    /// Whether the section is of thread-local storage.
+    pub fn is_tls(&self) -> bool
+        ensures { result ≡ is_tls_class self.now.class }
+    {
+        matches!(self.class, Some(SectionClass::Tls { .. }))
+    }
+}
