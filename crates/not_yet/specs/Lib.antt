@@ -1,1 +1,2 @@
 pub mod SmallJobs
+pub mod SmallObjects

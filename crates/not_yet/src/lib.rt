@@ -2,5 +2,7 @@
 #![tactic(auto)]
 
 mod job;
+mod object;
 
 pub use job::{SmallJob, small_job};
+pub use object::is_small_object;

@@ -1,0 +1,2 @@
+pub mod Search
+mod Sections

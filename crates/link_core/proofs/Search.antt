@@ -1,0 +1,35 @@
+-- The first of some numbers that passes a test.
+use Rattle.std.proofs.Common.{◌≡◌, ◌+◌, ◌-◌, ◌<◌, ◌≤◌, ◌∙◌, ℕ, zero, suc, Bool, true, false, List, [], ◌∷◌, Option, Some, None, refl, ap, arith}
+use Rattle.std.specs.List.{All, find, list_all, range_with_len}
+
+pub range_first : (a n : ℕ) → a < n → range_with_len a (n - a) ≡ a ∷ range_with_len (a + 1) (n - (a + 1))
+range_first a n h = let some : n - a ≡ suc (n - (a + 1)) = omega arith in ap (range_with_len a) some
+
+pub range_none : (a n : ℕ) → n ≤ a → range_with_len a (n - a) ≡ []
+range_none a n h = let none : n - a ≡ 0 = omega arith in ap (range_with_len a) none
+
+pub find_here : (P : ℕ → Bool) (a n : ℕ) → a < n → P a ≡ true → find P (range_with_len a (n - a)) ≡ Some a
+find_here P a n h here = rw (range_first a n h, here) refl
+
+pub find_later : (P : ℕ → Bool) (a n : ℕ) → a < n → P a ≡ false → find P (range_with_len a (n - a)) ≡ find P (range_with_len (a + 1) (n - (a + 1)))
+find_later P a n h other = rw (range_first a n h, other) refl
+
+pub find_none : (P : ℕ → Bool) (a n : ℕ) → n ≤ a → find P (range_with_len a (n - a)) ≡ None
+find_none P a n h = rw (range_none a n h) refl
+
+-- whether all of them pass
+pub all_fails : (P : ℕ → Bool) (a n : ℕ) → a < n → P a ≡ false → list_all P (range_with_len a (n - a)) ≡ false
+all_fails P a n h fails = rw (range_first a n h, fails) refl
+
+pub all_later : (P : ℕ → Bool) (a n : ℕ) → a < n → P a ≡ true → list_all P (range_with_len a (n - a)) ≡ list_all P (range_with_len (a + 1) (n - (a + 1)))
+all_later P a n h passes = rw (range_first a n h, passes) refl
+
+pub all_none : (P : ℕ → Bool) (a n : ℕ) → n ≤ a → list_all P (range_with_len a (n - a)) ≡ true
+all_none P a n h = rw (range_none a n h) refl
+
+-- what holds of all holds of the rest
+pub rest_all : {X : Type 0} (P : X → Type 0) (x : X) (xs : List X) → All P (x ∷ xs) → All P xs
+rest_all P x xs all = λ k d h. all (suc k) d (omega arith)
+
+pub passes_rest : {X : Type 0} (P : X → Bool) (x : X) (xs all : List X) → all ≡ x ∷ xs → P x ≡ true → list_all P xs ≡ list_all P all
+passes_rest P x xs all first passes = rw (first, passes) refl

@@ -1,0 +1,60 @@
+//! Functions by their names.
+ghost use Rattle.std.specs.Prelude.{◌≡◌, ◌&&◌};
+ghost use Rattle.std.specs.Str.{bytes_eq};
+ghost use Rattle.link_core.specs.Definitions.{defines, first_in, first_from, definition_of, same_binding, is_defined};
+
+use elf_object::{Object, SymbolBinding, SymbolPart, SymbolPlace};
+
+/// A symbol of one of several objects.
+#[derive(Clone, Copy, PartialEq, Eq, Debug)]
+pub struct SymbolRef {
+    /// The object's place in the list, from 0.
+    pub object: u64,
+    pub symbol: u32,
+}
+
+/// The definition that a name binds to in an image of these objects: the first strong one, else the first weak one.
+#[tactic(auto, unfolding(crate::specs::Definitions::definition_of))]
+pub fn definition(objects: &[Object], name: &[u8]) -> Option<SymbolRef>
+    ensures { result ≡ definition_of objects.now name.now }
+{
+    match first_of(objects, SymbolBinding::Global, name) {
+        Some(strong) => Some(strong),
+        None => first_of(objects, SymbolBinding::Weak, name),
+    }
+}
+
+/// The first definition of the name with this binding.
+fn first_of(objects: &[Object], binding: SymbolBinding, name: &[u8]) -> Option<SymbolRef>
+    ensures { result ≡ first_from binding name.now 0 objects.now }
+{
+    for (index, object) in objects.iter().enumerate() {
+        if let Some(symbol) = first_in(object, binding, name) {
+            return Some(SymbolRef {
+                object: index as u64,
+                symbol,
+            });
+        }
+    }
+    None
+}
+
+/// The first symbol of an object that defines the name, with this binding.
+#[tactic(auto, using(crate::proofs::Search::find_here, crate::proofs::Search::find_later, crate::proofs::Search::find_none), unfolding(crate::specs::Definitions::first_in))]
+fn first_in(object: &Object, binding: SymbolBinding, name: &[u8]) -> Option<u32>
+    ensures { result ≡ first_in binding name.now object.now }
+{
+    for number in 1..object.symbol_count() {
+        if let Some(symbol) = object.symbol(number) && defines(&symbol, binding, name) {
+            return Some(number);
+        }
+    }
+    None
+}
+
+/// Whether a symbol defines the name, with this binding.
+fn defines(symbol: &SymbolPart, binding: SymbolBinding, name: &[u8]) -> bool
+    ensures { result ≡ (same_binding binding symbol.now.binding && (is_defined symbol.now.place && bytes_eq name.now symbol.now.name.now)) }
+{
+    symbol.binding == binding && symbol.place != SymbolPlace::Undefined && symbol.name == name
+}
