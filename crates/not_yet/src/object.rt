@@ -74,11 +74,13 @@ fn add_name<'a>(object: &Object<'a>, number: u32, names: &mut IndexSet<&'a [u8]>
     let Some(symbol) = object.symbol(number) else {
         return Ok(true);
     };
-    if symbol.binding != SymbolBinding::Global {
-        return Ok(true);
+    match symbol.binding {
+        SymbolBinding::Global => {
+            let (_, fresh) = names.insert_full(symbol.name)?;
+            Ok(fresh)
+        }
+        _ => Ok(true),
     }
-    let (_, fresh) = names.insert_full(symbol.name)?;
-    Ok(fresh)
 }
 
 /// Whether there are at most 2^19 relocations.

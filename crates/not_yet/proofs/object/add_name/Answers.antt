@@ -5,10 +5,10 @@ use Rattle.not_yet.specs.SmallObjects.{all_new, names_at, is_global}
 use Rattle.not_yet.proofs.Counted.{any_now, one_new, names_global}
 use Rattle.not_yet.proofs.object.add_name.Goals as goal
 
-pub returns-clause-fresh : goal.returns-clause-fresh
-returns-clause-fresh c =
+pub returns-in_ok-fresh-in-Global-clause-fresh : goal.returns-in_ok-fresh-in-Global-clause-fresh
+returns-in_ok-fresh-in-Global-clause-fresh c =
     let seen = map (λ k. k.now) c.args.names.now.keys in
-    c.in_ok-fresh.ensures.added
+    c.in_ok-fresh-in-Global.ensures.added
     ∙ ap (λ r. not r) (any_now c.in-Some.symbol.name.now c.args.names.now.keys)
     ∙ sym (one_new seen c.in-Some.symbol.name.now)
-    ∙ ap (all_new seen) (let ne = c.if-ne.ensures in let ne2 = c.ne.ensures in let ne3 = c.if-ne.false in let part = c.in-Some.ensures.part in ap (λ n. n ∷ []) part.name_is ∙ sym (names_global c.args.object.now c.args.number (sym part.binding_is ∙ ?)))
+    ∙ ap (all_new seen) (ap (λ n. n ∷ []) c.in-Some.ensures.part.name_is ∙ sym (names_global c.args.object.now c.args.number (sym c.in-Some.ensures.part.binding_is ∙ c.in-Global.is)))
