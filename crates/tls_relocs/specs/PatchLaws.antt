@@ -1,5 +1,5 @@
 -- The laws of `Patches`: writers and readers agree, the whole keeps its length, and a patch changes nothing outside itself.
-use Rattle.std.proofs.Common.{◌≡◌, ◌+◌, ◌-◌, ◌<◌, ◌≤◌, ◌&&◌, ◌||◌, ◌⊎◌, inl, inr, ℕ, Bool, true, false, List, [], ◌∷◌, ◌++◌, length, refl, ◌∙◌, arith}
+use Rattle.std.proofs.Common.{◌≡◌, ◌+◌, ◌-◌, ◌<◌, ◌≤◌, ◌&&◌, ◌||◌, ◌⊎◌, inl, inr, ℕ, Bool, true, false, List, [], ◌∷◌, ◌++◌, length, refl, ap, ◌∙◌, arith}
 use Rattle.std.specs.Prelude.{slice_get, nat_le, nat_lt, if◌then◌else◌}
 use Rattle.std.proofs.lemmas.Bool.{cases_lt, lt-ltb, le-ltb, le-leb, lt-leb}
 use Rattle.elf_records.specs.Fields.{splice}
@@ -15,6 +15,15 @@ length-patched (p ∷ ps) bs fit =
     let rest = length-patched ps bs fit.1 in
     let inside : p.at + length p.bytes ≤ length (patched ps bs) = omega arith in
     length-splice p.at p.bytes (patched ps bs) inside ∙ rest
+
+-- patches written after others
+pub patched-append : (ps qs : List Patch) (bs : List ℕ) → patched (ps ++ qs) bs ≡ patched ps (patched qs bs)
+patched-append [] qs bs = refl
+patched-append (p ∷ ps) qs bs = ap (splice p.at p.bytes) (patched-append ps qs bs)
+
+pub FitIn-append : (ps qs : List Patch) (n : ℕ) → FitIn ps n → FitIn qs n → FitIn (ps ++ qs) n
+FitIn-append [] qs n front back = back
+FitIn-append (p ∷ ps) qs n front back = (front.0, FitIn-append ps qs n front.1 back)
 
 -- one byte after one patch
 slice_get-splice : (p : Patch) (k : ℕ) (old : List ℕ) → p.at + length p.bytes ≤ length old

@@ -11,10 +11,10 @@ use Rattle.elf_object.specs.Relocations.{field_width}
 use Rattle.tls_relocs.specs.declared.fields.Field.{Field}
 use Rattle.tls_relocs.specs.declared.fields.Field.TheVariants.{Empty, Word32, Word64}
 use Rattle.tls_relocs.specs.Fields.{width_of, word_of}
-use Rattle.tls_relocs.specs.Values.{modulo, fits_signed, fits_unsigned, word32, signed, unsigned, wrapped, stored}
+use Rattle.tls_relocs.specs.Values.{modulo, fits_signed, fits_unsigned, word32, signed_field, unsigned_field, wrapped_field, stored_field}
 
 -- read in two's complement, a signed field is the value
-pub signed_again : (z : ℤ) (w : ℕ) → signed z ≡ Some (Word32 w) → cast_signed w32 w ≡ z
+pub signed_again : (z : ℤ) (w : ℕ) → signed_field z ≡ Some (Word32 w) → cast_signed w32 w ≡ z
 signed_again (pos n) w same = positive (cases_lt n (2 ^ 31))
   where
     positive : (n < 2 ^ 31) ⊎ (2 ^ 31 ≤ n) → cast_signed w32 w ≡ pos n
@@ -40,7 +40,7 @@ signed_again (negsuc n) w same = negative (cases_lt n (2 ^ 31))
     negative (inr large) = let no = le-ltb n (2 ^ 31) large in let field = rw no at same in cc
 
 -- an unsigned field is the value
-pub unsigned_again : (z : ℤ) (w : ℕ) → unsigned z ≡ Some (Word32 w) → pos w ≡ z
+pub unsigned_again : (z : ℤ) (w : ℕ) → unsigned_field z ≡ Some (Word32 w) → pos w ≡ z
 unsigned_again (pos n) w same = positive (cases_lt n (2 ^ 32))
   where
     positive : (n < 2 ^ 32) ⊎ (2 ^ 32 ≤ n) → pos w ≡ pos n

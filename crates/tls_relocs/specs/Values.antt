@@ -25,33 +25,33 @@ fits_unsigned (negsuc n) = false
 abbrev pub word32 : Bool → ℤ → Option Field
 word32 fits z = if fits then Some (Word32 (modulo (2 ^ 32) z)) else None
 
-abbrev pub signed : ℤ → Option Field
-signed z = word32 (fits_signed z) z
+abbrev pub signed_field : ℤ → Option Field
+signed_field z = word32 (fits_signed z) z
 
-abbrev pub unsigned : ℤ → Option Field
-unsigned z = word32 (fits_unsigned z) z
+abbrev pub unsigned_field : ℤ → Option Field
+unsigned_field z = word32 (fits_unsigned z) z
 
 -- a field of 8 bytes, which every z fits
-abbrev pub wrapped : ℤ → Option Field
-wrapped z = Some (Word64 (modulo (2 ^ 64) z))
+abbrev pub wrapped_field : ℤ → Option Field
+wrapped_field z = Some (Word64 (modulo (2 ^ 64) z))
 
 -- the field that a relocation stores, None where the value does not fit it. By the psABI's letters: s is S, the symbol's place;
 -- a is A, the addend; p is P, the place of the field; g is G, the place of the entry in the GOT. In the two rows of offsets in
 -- a TLS segment s is the symbol's offset there, o, and g the number b that is subtracted.
-abbrev pub stored : RelocationKind → ℕ → ℤ → ℕ → ℕ → Option Field
-stored Nothing          s a p g = Some Empty                          -- R_X86_64_NONE
-stored Absolute64       s a p g = wrapped (pos s +ℤ a)                -- R_X86_64_64
-stored Pc32             s a p g = signed ((pos s +ℤ a) -ℤ pos p)      -- R_X86_64_PC32
-stored Plt32            s a p g = signed ((pos s +ℤ a) -ℤ pos p)      -- R_X86_64_PLT32
-stored GotPcRel         s a p g = signed ((pos g +ℤ a) -ℤ pos p)      -- R_X86_64_GOTPCREL
-stored Absolute32       s a p g = unsigned (pos s +ℤ a)               -- R_X86_64_32
-stored Absolute32Signed s a p g = signed (pos s +ℤ a)                 -- R_X86_64_32S
-stored TlsGd            s a p g = signed ((pos g +ℤ a) -ℤ pos p)      -- R_X86_64_TLSGD
-stored TlsLd            s a p g = signed ((pos g +ℤ a) -ℤ pos p)      -- R_X86_64_TLSLD
-stored DtpOff32         o a p b = signed ((pos o +ℤ a) -ℤ pos b)      -- R_X86_64_DTPOFF32
-stored GotTpOff         s a p g = signed ((pos g +ℤ a) -ℤ pos p)      -- R_X86_64_GOTTPOFF
-stored TpOff32          o a p b = signed ((pos o +ℤ a) -ℤ pos b)      -- R_X86_64_TPOFF32
-stored GotPc32TlsDesc   s a p g = signed ((pos g +ℤ a) -ℤ pos p)      -- R_X86_64_GOTPC32_TLSDESC
-stored TlsDescCall      s a p g = Some Empty                          -- R_X86_64_TLSDESC_CALL
-stored GotPcRelX        s a p g = signed ((pos g +ℤ a) -ℤ pos p)      -- R_X86_64_GOTPCRELX
-stored RexGotPcRelX     s a p g = signed ((pos g +ℤ a) -ℤ pos p)      -- R_X86_64_REX_GOTPCRELX
+abbrev pub stored_field : RelocationKind → ℕ → ℤ → ℕ → ℕ → Option Field
+stored_field Nothing s a p g = Some Empty  -- R_X86_64_NONE
+stored_field Absolute64 s a p g = wrapped_field (pos s +ℤ a)  -- R_X86_64_64
+stored_field Pc32 s a p g = signed_field ((pos s +ℤ a) -ℤ pos p)  -- R_X86_64_PC32
+stored_field Plt32 s a p g = signed_field ((pos s +ℤ a) -ℤ pos p)  -- R_X86_64_PLT32
+stored_field GotPcRel s a p g = signed_field ((pos g +ℤ a) -ℤ pos p)  -- R_X86_64_GOTPCREL
+stored_field Absolute32 s a p g = unsigned_field (pos s +ℤ a)  -- R_X86_64_32
+stored_field Absolute32Signed s a p g = signed_field (pos s +ℤ a)  -- R_X86_64_32S
+stored_field TlsGd s a p g = signed_field ((pos g +ℤ a) -ℤ pos p)  -- R_X86_64_TLSGD
+stored_field TlsLd s a p g = signed_field ((pos g +ℤ a) -ℤ pos p)  -- R_X86_64_TLSLD
+stored_field DtpOff32 o a p b = signed_field ((pos o +ℤ a) -ℤ pos b)  -- R_X86_64_DTPOFF32
+stored_field GotTpOff s a p g = signed_field ((pos g +ℤ a) -ℤ pos p)  -- R_X86_64_GOTTPOFF
+stored_field TpOff32 o a p b = signed_field ((pos o +ℤ a) -ℤ pos b)  -- R_X86_64_TPOFF32
+stored_field GotPc32TlsDesc s a p g = signed_field ((pos g +ℤ a) -ℤ pos p)  -- R_X86_64_GOTPC32_TLSDESC
+stored_field TlsDescCall s a p g = Some Empty  -- R_X86_64_TLSDESC_CALL
+stored_field GotPcRelX s a p g = signed_field ((pos g +ℤ a) -ℤ pos p)  -- R_X86_64_GOTPCRELX
+stored_field RexGotPcRelX s a p g = signed_field ((pos g +ℤ a) -ℤ pos p)  -- R_X86_64_REX_GOTPCRELX

@@ -5,18 +5,18 @@ ghost use Rattle.std.specs.Int.{w32, cast_signed};
 ghost use Rattle.tls_relocs.specs.declared.fields.Field.TheVariants.{Word32};
 ghost use Rattle.tls_relocs.specs.Laid.{Placed, laid, unit_at, Rising};
 ghost use Rattle.tls_relocs.specs.Patches.{Patch, patched, byte_of, FitIn};
-ghost use Rattle.tls_relocs.specs.Values.{signed, unsigned};
+ghost use Rattle.tls_relocs.specs.Values.{signed_field, unsigned_field};
 
 /// Read in two's complement, a signed field is the whole value that was stored.
 #[tactic(auto, using(crate::specs::ValueLaws::signed_again))]
 pub fn signed_fields_read_back()
-    ensures { (z : ℤ) (w : ℕ) → signed z ≡ Some (Word32 w) → cast_signed w32 w ≡ z }
+    ensures { (z : ℤ) (w : ℕ) → signed_field z ≡ Some (Word32 w) → cast_signed w32 w ≡ z }
 {}
 
 /// Read without a sign, an unsigned field is the whole value that was stored.
 #[tactic(auto, using(crate::specs::ValueLaws::unsigned_again))]
 pub fn unsigned_fields_read_back()
-    ensures { (z : ℤ) (w : ℕ) → unsigned z ≡ Some (Word32 w) → pos w ≡ z }
+    ensures { (z : ℤ) (w : ℕ) → unsigned_field z ≡ Some (Word32 w) → pos w ≡ z }
 {}
 
 /// What patches leave, one splice after another, is at each place what a reader expects there.

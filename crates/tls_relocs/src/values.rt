@@ -4,7 +4,7 @@ ghost use Rattle.std.specs.Prelude.{◌≡◌, ◌^◌, ℤ, pos, ◌≤ℤ◌, 
 ghost use Rattle.std.specs.Result.{result_ok};
 ghost use Rattle.elf_object.specs.Relocations.{field_width};
 ghost use Rattle.tls_relocs.specs.Fields.{width_of};
-ghost use Rattle.tls_relocs.specs.Values.{signed, unsigned, wrapped, stored};
+ghost use Rattle.tls_relocs.specs.Values.{signed_field, unsigned_field, wrapped_field, stored_field};
 
 use crate::fields::Field;
 use elf_object::RelocationKind;
@@ -22,27 +22,27 @@ pub struct Overflow;
 /// the symbol's offset in its segment, and `g` the number that is subtracted: 0, or how far the segment's block begins below the
 /// thread pointer. A letter that a type does not use changes nothing.
 pub fn value(kind: RelocationKind, s: u64, a: i64, p: u64, g: u64) -> Result<Field, Overflow>
-    ensures stored { result_ok result ≡ stored kind s a p g }
+    ensures stored { result_ok result ≡ stored_field kind s a p g }
     ensures width { IfOk result (λ field. width_of field ≡ field_width kind) }
 {
     let (s, a, p, g) = (i128::from(s), i128::from(a), i128::from(p), i128::from(g));
     match kind {
         RelocationKind::Nothing | RelocationKind::TlsDescCall => Ok(Field::Empty),
-        RelocationKind::Absolute64 => Ok(wrapped(s + a)),
-        RelocationKind::Absolute32 => unsigned(s + a),
-        RelocationKind::Absolute32Signed => signed(s + a),
-        RelocationKind::Pc32 | RelocationKind::Plt32 => signed(s + a - p),
-        RelocationKind::DtpOff32 | RelocationKind::TpOff32 => signed(s + a - g),
-        RelocationKind::GotPcRel => signed(g + a - p),
-        RelocationKind::GotPcRelX | RelocationKind::RexGotPcRelX => signed(g + a - p),
-        RelocationKind::TlsGd | RelocationKind::TlsLd => signed(g + a - p),
-        RelocationKind::GotTpOff | RelocationKind::GotPc32TlsDesc => signed(g + a - p),
+        RelocationKind::Absolute64 => Ok(wrapped_field(s + a)),
+        RelocationKind::Absolute32 => unsigned_field(s + a),
+        RelocationKind::Absolute32Signed => signed_field(s + a),
+        RelocationKind::Pc32 | RelocationKind::Plt32 => signed_field(s + a - p),
+        RelocationKind::DtpOff32 | RelocationKind::TpOff32 => signed_field(s + a - g),
+        RelocationKind::GotPcRel => signed_field(g + a - p),
+        RelocationKind::GotPcRelX | RelocationKind::RexGotPcRelX => signed_field(g + a - p),
+        RelocationKind::TlsGd | RelocationKind::TlsLd => signed_field(g + a - p),
+        RelocationKind::GotTpOff | RelocationKind::GotPc32TlsDesc => signed_field(g + a - p),
     }
 }
 
 /// From -2^31 to 2^31 - 1.
-fn signed(value: i128) -> Result<Field, Overflow>
-    ensures { result_ok result ≡ signed value }
+fn signed_field(value: i128) -> Result<Field, Overflow>
+    ensures { result_ok result ≡ signed_field value }
 {
     match i32::try_from(value) {
         Ok(fitting) => Ok(Field::Word32(fitting.cast_unsigned())),
@@ -51,8 +51,8 @@ fn signed(value: i128) -> Result<Field, Overflow>
 }
 
 /// From 0 to 2^32 - 1.
-fn unsigned(value: i128) -> Result<Field, Overflow>
-    ensures { result_ok result ≡ unsigned value }
+fn unsigned_field(value: i128) -> Result<Field, Overflow>
+    ensures { result_ok result ≡ unsigned_field value }
 {
     match u32::try_from(value) {
         Ok(fitting) => Ok(Field::Word32(fitting)),
@@ -61,8 +61,8 @@ fn unsigned(value: i128) -> Result<Field, Overflow>
 }
 
 /// Any number, modulo 2^64.
-fn wrapped(value: i128) -> Field
-    ensures { Some result ≡ wrapped value }
+fn wrapped_field(value: i128) -> Field
+    ensures { Some result ≡ wrapped_field value }
 {
     let modulus = 1 << 64;
     Field::Word64(value.rem_euclid(modulus) as u64)
