@@ -8,11 +8,11 @@ use Rattle.tls_relocs.specs.Elements.{slice_get-splice_before, slice_get-splice_
 use Rattle.tls_relocs.specs.Patches.{Patch, patched, covers, in_any, byte_of, FitIn}
 
 -- all patches leave as many bytes as there were
-pub length-patched : (ps : List Patch) (bs : List ℕ) → FitIn ps (length bs)
+pub patched_keeps : (ps : List Patch) (bs : List ℕ) → FitIn ps (length bs)
     → length (patched ps bs) ≡ length bs
-length-patched [] bs fit = refl
-length-patched (p ∷ ps) bs fit =
-    let rest = length-patched ps bs fit.1 in
+patched_keeps [] bs fit = refl
+patched_keeps (p ∷ ps) bs fit =
+    let rest = patched_keeps ps bs fit.1 in
     let inside : p.at + length p.bytes ≤ length (patched ps bs) = omega arith in
     length-splice p.at p.bytes (patched ps bs) inside ∙ rest
 
@@ -51,7 +51,7 @@ pub patched_bytes : (ps : List Patch) (bs : List ℕ) (k : ℕ) → FitIn ps (le
     → slice_get (patched ps bs) k ≡ byte_of ps bs k
 patched_bytes [] bs k fit = refl
 patched_bytes (p ∷ ps) bs k fit =
-    let rest = length-patched ps bs fit.1 in
+    let rest = patched_keeps ps bs fit.1 in
     let inside : p.at + length p.bytes ≤ length (patched ps bs) = omega arith in
     rw (← patched_bytes ps bs k fit.1) (slice_get-splice p k (patched ps bs) inside)
 
