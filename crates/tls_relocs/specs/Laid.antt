@@ -26,3 +26,8 @@ unit_at (s ∷ more) p =
 abbrev pub Rising : ℕ → List Placed → Type 0
 Rising at [] = Unit {0}
 Rising at (s ∷ more) = (at ≤ s.place) × Rising (s.place + length s.bytes) more
+
+-- where the last part ends, `at` where there is none
+abbrev pub end_of : ℕ → List Placed → ℕ
+end_of at [] = at
+end_of at (s ∷ more) = end_of (s.place + length s.bytes) more

@@ -1,10 +1,10 @@
 -- The laws of `Laid`: the list and the reader agree at every place.
-use Rattle.std.proofs.Common.{◌≡◌, ◌+◌, ◌-◌, ◌<◌, ◌≤◌, ◌⊎◌, inl, inr, ℕ, Some, None, List, [], ◌∷◌, ◌++◌, length, refl, sym, ap, ◌∙◌, arith}
-use Rattle.std.specs.Prelude.{slice_get, nat_lt, if◌then◌else◌}
+use Rattle.std.proofs.Common.{◌≡◌, ◌+◌, ◌-◌, ◌<◌, ◌≤◌, ◌⊎◌, inl, inr, ℕ, List, [], ◌∷◌, ◌++◌, length, refl, ap, ◌∙◌, arith, append_assoc, length-append}
+use Rattle.std.specs.Prelude.{slice_get}
 use Rattle.std.proofs.lemmas.Bool.{cases_lt, lt-ltb, le-ltb}
-use Rattle.std.proofs.lemmas.List.{length-replicate}
+use Rattle.std.proofs.lemmas.List.{append-nil, length-replicate}
 use Rattle.tls_relocs.specs.Elements.{slice_get-append, slice_get-append_behind, slice_get-replicate}
-use Rattle.tls_relocs.specs.Laid.{Placed, zeros, laid, unit_at, Rising}
+use Rattle.tls_relocs.specs.Laid.{Placed, zeros, laid, unit_at, Rising, end_of}
 
 -- one part, over what is known of those behind it
 laid_by_place : (at : ℕ) (s : Placed) (more : List Placed) (p : ℕ) → at ≤ s.place → at ≤ p
@@ -48,3 +48,29 @@ laid_bytes at (s ∷ more) p rising from =
     laid_by_place at s more p rising.0 from
     (laid_bytes (s.place + length s.bytes) more p rising.1)
     (cases_lt p s.place) (cases_lt p (s.place + length s.bytes))
+
+-- the list ends where the last part does
+pub length-laid : (at : ℕ) (ss : List Placed) → Rising at ss → at + length (laid at ss) ≡ end_of at ss
+length-laid at [] rising = omega arith
+length-laid at (s ∷ more) rising =
+    let gap : length (zeros (s.place - at)) ≡ s.place - at = length-replicate (s.place - at) 0 in
+    let outer = length-append (zeros (s.place - at)) (s.bytes ++ laid (s.place + length s.bytes) more) in
+    let inner = length-append s.bytes (laid (s.place + length s.bytes) more) in
+    let rest = length-laid (s.place + length s.bytes) more rising.1 in
+    let rises : at ≤ s.place = rising.0 in
+    let whole : at + length (laid at (s ∷ more)) ≡ s.place + length s.bytes + length (laid (s.place + length s.bytes) more) = omega arith in
+    whole ∙ rest
+
+-- one more part behind the others, as a writer lays it down
+pub laid-push : (at : ℕ) (ss : List Placed) (s : Placed)
+    → laid at (ss ++ s ∷ []) ≡ laid at ss ++ (zeros (s.place - end_of at ss) ++ s.bytes)
+laid-push at [] s = ap (λ bs. zeros (s.place - at) ++ bs) (append-nil s.bytes)
+laid-push at (x ∷ more) s =
+    let rest = laid-push (x.place + length x.bytes) more s in
+    rw rest (simp append_assoc)
+
+pub Rising-push : (at : ℕ) (ss : List Placed) (s : Placed) → Rising at ss → end_of at ss ≤ s.place
+    → Rising at (ss ++ s ∷ [])
+Rising-push at [] s rising behind = (behind, tt)
+Rising-push at (x ∷ more) s rising behind =
+    (rising.0, Rising-push (x.place + length x.bytes) more s rising.1 behind)

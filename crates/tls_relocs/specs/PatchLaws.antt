@@ -1,6 +1,6 @@
 -- The laws of `Patches`: writers and readers agree, the whole keeps its length, and a patch changes nothing outside itself.
-use Rattle.std.proofs.Common.{◌≡◌, ◌+◌, ◌-◌, ◌<◌, ◌≤◌, ◌&&◌, ◌||◌, ◌⊎◌, inl, inr, ℕ, Bool, true, false, List, [], ◌∷◌, ◌++◌, length, refl, ◌∙◌, arith}
-use Rattle.std.specs.Prelude.{slice_get, nat_le, nat_lt, if◌then◌else◌}
+use Rattle.std.proofs.Common.{◌≡◌, ◌+◌, ◌-◌, ◌<◌, ◌≤◌, ◌⊎◌, inl, inr, ℕ, false, List, [], ◌∷◌, ◌++◌, length, refl, ap, ◌∙◌, arith}
+use Rattle.std.specs.Prelude.{slice_get, if◌then◌else◌}
 use Rattle.std.proofs.lemmas.Bool.{cases_lt, lt-ltb, le-ltb, le-leb, lt-leb}
 use Rattle.elf_records.specs.Fields.{splice}
 use Rattle.elf_records.specs.Laws.{length-splice}
@@ -8,13 +8,22 @@ use Rattle.tls_relocs.specs.Elements.{slice_get-splice_before, slice_get-splice_
 use Rattle.tls_relocs.specs.Patches.{Patch, patched, covers, in_any, byte_of, FitIn}
 
 -- all patches leave as many bytes as there were
-pub length-patched : (ps : List Patch) (bs : List ℕ) → FitIn ps (length bs)
+pub patched_keeps : (ps : List Patch) (bs : List ℕ) → FitIn ps (length bs)
     → length (patched ps bs) ≡ length bs
-length-patched [] bs fit = refl
-length-patched (p ∷ ps) bs fit =
-    let rest = length-patched ps bs fit.1 in
+patched_keeps [] bs fit = refl
+patched_keeps (p ∷ ps) bs fit =
+    let rest = patched_keeps ps bs fit.1 in
     let inside : p.at + length p.bytes ≤ length (patched ps bs) = omega arith in
     length-splice p.at p.bytes (patched ps bs) inside ∙ rest
+
+-- patches written after others
+pub patched-append : (ps qs : List Patch) (bs : List ℕ) → patched (ps ++ qs) bs ≡ patched ps (patched qs bs)
+patched-append [] qs bs = refl
+patched-append (p ∷ ps) qs bs = ap (splice p.at p.bytes) (patched-append ps qs bs)
+
+pub FitIn-append : (ps qs : List Patch) (n : ℕ) → FitIn ps n → FitIn qs n → FitIn (ps ++ qs) n
+FitIn-append [] qs n front back = back
+FitIn-append (p ∷ ps) qs n front back = (front.0, FitIn-append ps qs n front.1 back)
 
 -- one byte after one patch
 slice_get-splice : (p : Patch) (k : ℕ) (old : List ℕ) → p.at + length p.bytes ≤ length old
@@ -42,7 +51,7 @@ pub patched_bytes : (ps : List Patch) (bs : List ℕ) (k : ℕ) → FitIn ps (le
     → slice_get (patched ps bs) k ≡ byte_of ps bs k
 patched_bytes [] bs k fit = refl
 patched_bytes (p ∷ ps) bs k fit =
-    let rest = length-patched ps bs fit.1 in
+    let rest = patched_keeps ps bs fit.1 in
     let inside : p.at + length p.bytes ≤ length (patched ps bs) = omega arith in
     rw (← patched_bytes ps bs k fit.1) (slice_get-splice p k (patched ps bs) inside)
 

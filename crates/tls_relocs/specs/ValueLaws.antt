@@ -1,17 +1,11 @@
 -- The laws of `Values`: a field of the table's width, which reads as the value.
-use Rattle.std.proofs.Common.{◌≡◌, ◌^◌, ◌<◌, ◌≤◌, ◌%◌, ◌-◌, ◌⊎◌, inl, inr, ℕ, suc, ℤ, pos, negsuc, ◌+ℤ◌, ◌-ℤ◌, Bool, true, false, Option, Some, None, refl, sym, ◌∙◌, ap, arith, FitsSigned}
-use Rattle.std.specs.Prelude.{nat_lt}
-use Rattle.std.specs.Int.{w32, cast_signed, cast_unsigned}
+use Rattle.std.proofs.Common.{◌≡◌, ◌^◌, ◌<◌, ◌≤◌, ◌%◌, ◌-◌, ◌⊎◌, inl, inr, ℕ, ℤ, pos, negsuc, Some, arith, FitsSigned, IsSome, ◌↔◌, refl}
+use Rattle.std.specs.Int.{w32, cast_signed, cast_unsigned, FitsUnsignedBits}
 use Rattle.std.proofs.Math.Facts.{to_z-of_z}
 use Rattle.std.proofs.Math.Nat.{mod-eq_of_lt}
 use Rattle.std.proofs.lemmas.Bool.{cases_lt, lt-ltb, le-ltb}
-use Rattle.elf_object.specs.declared.relocation.RelocationKind.{RelocationKind}
-use Rattle.elf_object.specs.declared.relocation.RelocationKind.TheVariants.{Nothing, Absolute64, Pc32, Plt32, GotPcRel, Absolute32, Absolute32Signed, TlsGd, TlsLd, DtpOff32, GotTpOff, TpOff32, GotPc32TlsDesc, TlsDescCall, GotPcRelX, RexGotPcRelX}
-use Rattle.elf_object.specs.Relocations.{field_width}
-use Rattle.tls_relocs.specs.declared.fields.Field.{Field}
-use Rattle.tls_relocs.specs.declared.fields.Field.TheVariants.{Empty, Word32, Word64}
-use Rattle.tls_relocs.specs.Fields.{width_of, word_of}
-use Rattle.tls_relocs.specs.Values.{modulo, fits_signed, fits_unsigned, word32, signed_field, unsigned_field, wrapped_field, stored_field}
+use Rattle.tls_relocs.specs.declared.fields.Field.TheVariants.{Word32}
+use Rattle.tls_relocs.specs.Values.{signed_field, unsigned_field}
 
 -- read in two's complement, a signed field is the value
 pub signed_again : (z : ℤ) (w : ℕ) → signed_field z ≡ Some (Word32 w) → cast_signed w32 w ≡ z
@@ -51,3 +45,28 @@ unsigned_again (pos n) w same = positive (cases_lt n (2 ^ 32))
         cc
     positive (inr large) = let no = le-ltb n (2 ^ 32) large in let field = rw no at same in cc
 unsigned_again (negsuc n) w same = cc
+
+-- a signed field takes exactly the numbers from -2^31 to 2^31 - 1
+pub signed_fits : (z : ℤ) → IsSome (signed_field z) ↔ FitsSigned w32 z
+signed_fits (pos n) = within (cases_lt n (2 ^ 31))
+  where
+    within : (n < 2 ^ 31) ⊎ (2 ^ 31 ≤ n) → IsSome (signed_field (pos n)) ↔ FitsSigned w32 (pos n)
+    within (inl small) = let yes = lt-ltb n (2 ^ 31) small in rw yes (λ _. record { sfits = small }, λ _. refl)
+    within (inr large) =
+        let no = le-ltb n (2 ^ 31) large in rw no (λ some. cc, λ fits. absurd (omega (arith, fits.sfits)))
+signed_fits (negsuc n) = within (cases_lt n (2 ^ 31))
+  where
+    within : (n < 2 ^ 31) ⊎ (2 ^ 31 ≤ n) → IsSome (signed_field (negsuc n)) ↔ FitsSigned w32 (negsuc n)
+    within (inl small) = let yes = lt-ltb n (2 ^ 31) small in rw yes (λ _. record { sfits = small }, λ _. refl)
+    within (inr large) =
+        let no = le-ltb n (2 ^ 31) large in rw no (λ some. cc, λ fits. absurd (omega (arith, fits.sfits)))
+
+-- an unsigned field takes exactly the numbers from 0 to 2^32 - 1
+pub unsigned_fits : (z : ℤ) → IsSome (unsigned_field z) ↔ FitsUnsignedBits 32 z
+unsigned_fits (pos n) = within (cases_lt n (2 ^ 32))
+  where
+    within : (n < 2 ^ 32) ⊎ (2 ^ 32 ≤ n) → IsSome (unsigned_field (pos n)) ↔ FitsUnsignedBits 32 (pos n)
+    within (inl small) = let yes = lt-ltb n (2 ^ 32) small in rw yes (λ _. small, λ _. refl)
+    within (inr large) =
+        let no = le-ltb n (2 ^ 32) large in rw no (λ some. cc, λ fits. absurd (omega (arith, fits)))
+unsigned_fits (negsuc n) = (λ some. cc, λ fits. absurd fits)

@@ -1,6 +1,6 @@
 -- What each relocation stores (psABI, "Relocation Types"; those of thread-local storage: Drepper, "ELF Handling For Thread-Local
 -- Storage", section 4.4). All sums are over whole numbers, before the field's range is asked.
-use Rattle.std.specs.Prelude.{◌+◌, ◌-◌, ◌%◌, ◌^◌, ℕ, ℤ, pos, negsuc, ◌+ℤ◌, ◌-ℤ◌, Bool, false, nat_lt, Option, Some, None, if◌then◌else◌}
+use Rattle.std.specs.Prelude.{◌-◌, ◌%◌, ◌^◌, ℕ, ℤ, pos, negsuc, ◌+ℤ◌, ◌-ℤ◌, Bool, false, nat_lt, Option, Some, None, if◌then◌else◌}
 use Rattle.elf_object.specs.declared.relocation.RelocationKind.{RelocationKind}
 use Rattle.elf_object.specs.declared.relocation.RelocationKind.TheVariants.{Nothing, Absolute64, Pc32, Plt32, GotPcRel, Absolute32, Absolute32Signed, TlsGd, TlsLd, DtpOff32, GotTpOff, TpOff32, GotPc32TlsDesc, TlsDescCall, GotPcRelX, RexGotPcRelX}
 use Rattle.tls_relocs.specs.declared.fields.Field.{Field}

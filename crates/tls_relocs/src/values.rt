@@ -1,6 +1,6 @@
 //! The value of each type of relocation.
 
-ghost use Rattle.std.specs.Prelude.{◌≡◌, ◌^◌, ℤ, pos, ◌≤ℤ◌, ◌<ℤ◌, ◌+ℤ◌, ◌-ℤ◌, Some, IfOk, neg_ℤ};
+ghost use Rattle.std.specs.Prelude.{◌≡◌, Some, IfOk};
 ghost use Rattle.std.specs.Result.{result_ok};
 ghost use Rattle.elf_object.specs.Relocations.{field_width};
 ghost use Rattle.tls_relocs.specs.Fields.{width_of};
@@ -22,7 +22,7 @@ pub struct Overflow;
 /// the symbol's offset in its segment, and `g` the number that is subtracted: 0, or how far the segment's block begins below the
 /// thread pointer. A letter that a type does not use changes nothing.
 pub fn value(kind: RelocationKind, s: u64, a: i64, p: u64, g: u64) -> Result<Field, Overflow>
-    ensures stored { result_ok result ≡ stored kind s a p g }
+    ensures stored { result_ok result ≡ stored_field kind s a p g }
     ensures width { IfOk result (λ field. width_of field ≡ field_width kind) }
 {
     let (s, a, p, g) = (i128::from(s), i128::from(a), i128::from(p), i128::from(g));
@@ -33,9 +33,12 @@ pub fn value(kind: RelocationKind, s: u64, a: i64, p: u64, g: u64) -> Result<Fie
         RelocationKind::Absolute32Signed => signed_field(s + a),
         RelocationKind::Pc32 | RelocationKind::Plt32 => signed_field(s + a - p),
         RelocationKind::DtpOff32 | RelocationKind::TpOff32 => signed_field(s + a - g),
+        // G: the symbol's address
         RelocationKind::GotPcRel => signed_field(g + a - p),
         RelocationKind::GotPcRelX | RelocationKind::RexGotPcRelX => signed_field(g + a - p),
+        // G: a pair, module and offset
         RelocationKind::TlsGd | RelocationKind::TlsLd => signed_field(g + a - p),
+        // G: the symbol's distance from the thread pointer, or its descriptor
         RelocationKind::GotTpOff | RelocationKind::GotPc32TlsDesc => signed_field(g + a - p),
     }
 }

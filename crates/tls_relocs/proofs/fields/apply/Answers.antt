@@ -1,9 +1,8 @@
-use Rattle.std.proofs.Common.{◌≡◌, ◌+◌, ◌≤◌, length, arith, sym, add-zero}
+use Rattle.std.proofs.Common.{◌+◌, ◌≤◌, length, sym, add-zero}
 use Rattle.std.proofs.lemmas.List.{take-append-drop}
 use Rattle.elf_records.specs.Fields.{bytes_of, splice}
 use Rattle.elf_records.specs.Laws.{length-bytes_of}
 use Rattle.elf_records.proofs.Written.{put_mid-rest}
-use Rattle.tls_relocs.specs.Fields.{field_bytes, width_of}
 use Rattle.tls_relocs.proofs.fields.apply.Goals as goal
 
 pub returns-in-Empty : goal.returns-in-Empty
