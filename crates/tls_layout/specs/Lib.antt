@@ -3,3 +3,4 @@ pub mod Places
 pub mod Passes
 pub mod Rounding
 pub mod Statics
+pub mod Lists

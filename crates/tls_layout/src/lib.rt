@@ -3,6 +3,7 @@
 
 mod extent;
 mod lay_out;
+mod section_list;
 mod sections;
 mod statics;
 

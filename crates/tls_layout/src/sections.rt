@@ -1,12 +1,9 @@
-//! The sections of objects, one after another.
+//! A section, as a layout sees it.
 
-ghost use Rattle.std.specs.Prelude.{◌≡◌, ◌++◌, ◌↔◌, All, IsTrue, OnOk, length, map, sum};
-ghost use Rattle.elf_object.specs.Lent.{IsSectionPart, section_class, section_size, section_alignment};
-ghost use Rattle.tls_layout.specs.Sections.{seen_as, section_of, sections_of, all_sections, section_counts, is_in, is_tls_class, IsOrdinary};
-ghost use Rattle.tls_layout.specs.Passes.{AreFirsts};
+ghost use Rattle.std.specs.Prelude.{◌≡◌};
+ghost use Rattle.tls_layout.specs.Sections.{seen_as, is_in, is_tls_class};
 
-use elf_object::{Object, SectionClass, SectionPart};
-use std::alloc::{AllocError, Global};
+use elf_object::{SectionClass, SectionPart};
 
 /// A section as a layout sees it. One that linking drops has no class, and takes no room.
 #[derive(Clone, Copy, PartialEq, Eq, Debug)]
