@@ -1,3 +1,4 @@
 pub mod Rounds
 pub mod Ends
 pub mod Listed
+pub mod Together

@@ -56,3 +56,8 @@ Exceeds _ p = ⊥
 abbrev pub IsLayoutFault : Layout → LinkFault → Type 0
 IsLayoutFault p OutOfMemory = Unit {0}
 IsLayoutFault p (At kind object section entry) = (object ≡ None) × (section ≡ 0) × (entry ≡ 0) × Exceeds kind p
+
+-- want of memory, or a fault of the image as a whole, which stands where a fact holds
+abbrev pub IsFaultWhere : LinkFaultKind → Type 0 → LinkFault → Type 0
+IsFaultWhere kind P OutOfMemory = Unit {0}
+IsFaultWhere kind P (At k object section entry) = (k ≡ kind) × (object ≡ None) × (section ≡ 0) × (entry ≡ 0) × P

@@ -2,10 +2,12 @@
 #![tactic(auto)]
 
 mod extent;
+mod image_places;
 mod lay_out;
 mod section_list;
 mod sections;
 mod statics;
+mod tls_places;
 
 pub use extent::Extent;
 pub use statics::{TlsSize, static_offsets};
