@@ -2,3 +2,4 @@ pub mod Rounds
 pub mod Ends
 pub mod Listed
 pub mod Together
+pub mod Found

@@ -1,15 +1,15 @@
 -- What is kept of sections and places, and what it stands for.
-use Rattle.std.specs.Prelude.{◌≡◌, ◌+◌, ◌<◌, ◌≤◌, ◌^◌, ℕ, List, length, sum, All}
+use Rattle.std.specs.Prelude.{◌≡◌, ◌+◌, ◌<◌, ◌≤◌, ◌^◌, ℕ, List, length, sum, All, Option}
 use Rattle.elf_object.specs.Lawful.{IsPower}
 use Rattle.link_faults.specs.declared.image_kind.ImageKind.{ImageKind}
 use Rattle.link_faults.specs.ImageKinds.{base_of}
 use Rattle.tls_layout.specs.declared.sections.Section.{Section}
 use Rattle.tls_layout.specs.declared.tls_places.TlsPlaces.{TlsPlaces}
 use Rattle.tls_layout.specs.declared.image_places.ImageExtents.{ImageExtents}
-use Rattle.tls_layout.specs.Places.{tls_size, tls_alignment, executable, read_only, tls_image, writable}
+use Rattle.tls_layout.specs.Places.{tls_size, tls_alignment, executable, read_only, tls_image, writable, IsLawful}
 use Rattle.tls_layout.specs.declared.section_list.SectionList.{SectionList}
-use Rattle.tls_layout.specs.Sections.{all_sections, section_counts, IsOrdinary}
-use Rattle.tls_layout.specs.Passes.{AreFirsts, AreOffsets}
+use Rattle.tls_layout.specs.Sections.{Layout, all_sections, section_counts, IsOrdinary}
+use Rattle.tls_layout.specs.Passes.{AreFirsts, AreAddresses, AreOffsets}
 
 -- these are the sections of the objects
 pub record IsListOf (objects : List (List ℕ)) (list : SectionList) : Type 0 where
@@ -34,3 +34,12 @@ pub record AreExtents (kind : ImageKind) (sections : List Section) (extents : Im
   pub tls_is : extents.tls ≡ tls_image kind sections
   pub writable_is : extents.writable ≡ writable kind sections
   pub small : extents.writable.end ≤ base_of kind + 2 ^ 24
+
+-- what a placement keeps is what it stands for
+pub record IsPlacement (kind : ImageKind) (list : SectionList) (addresses : List (Option ℕ)) (extents : ImageExtents) (tls : TlsPlaces) : Type 0 where
+  pub lawful : IsLawful (record { kind = kind; counts = list.counts.items; sections = list.sections.items })
+  pub firsts_are : AreFirsts list.counts.items list.firsts.items
+  pub total : sum list.counts.items ≡ length list.sections.items
+  pub addresses_are : AreAddresses kind list.sections.items addresses
+  pub extents_are : AreExtents kind list.sections.items extents
+  pub tls_are : IsTlsOf list.sections.items tls
