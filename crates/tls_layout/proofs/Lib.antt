@@ -3,3 +3,7 @@ pub mod Ends
 pub mod Listed
 pub mod Together
 pub mod Found
+pub mod LawsOfSections
+pub mod LawsOfPlaces
+pub mod LawsOfTls
+pub mod LawsOfBlocks

@@ -1,15 +1,15 @@
 -- The list of all sections, an object at a time.
-use Rattle.std.proofs.Common.{◌≡◌, ℕ, zero, suc, ◌+◌, ◌<◌, ◌≤◌, List, [], ◌∷◌, ◌++◌, length, slice_index, get_or, take, map, All, Option, Some, None, refl, sym, ap, subst, ◌∙◌, arith, below_more}
+use Rattle.std.proofs.Common.{◌≡◌, ℕ, ◌+◌, ◌<◌, List, [], ◌∷◌, ◌++◌, length, slice_index, get_or, take, map, All, Option, Some, None, refl, sym, ap, ◌∙◌, arith}
 use Rattle.std.specs.Prelude.{sum}
 use Rattle.std.specs.List.{range_with_len, flat_map}
-use Rattle.std.proofs.lemmas.List.{append_assoc, append-nil, get_or_default, flat_map_more, take_more, take-map, map_push, length-append, length-map, take_all}
+use Rattle.std.proofs.lemmas.List.{append_assoc, append-nil, take_more, take-map, map_push, length-append, length-map, take_all}
 use Rattle.std.proofs.lemmas.List.Sums.{sum_by-cons}
 use Rattle.std.proofs.lemmas.List.Concat.{flat_map-append}
-use Rattle.std.proofs.lemmas.List.Elements.{All-map, All-from_get_or, All-append}
+use Rattle.std.proofs.lemmas.List.Elements.{All-map}
 use Rattle.std.proofs.lemmas.List.FromFn.{length-map-range_with_len, map-range_with_len_more}
 use Rattle.elf_object.specs.declared.class.SectionClass.{SectionClass}
 use Rattle.elf_object.specs.Lent.{section_class, section_size, section_alignment}
-use Rattle.elf_object.specs.Lawful.{IsPower, IsKeptAs}
+use Rattle.elf_object.specs.Lawful.{IsKeptAs}
 use Rattle.elf_object.specs.LawsOfSections.{kept_as}
 use Rattle.elf_object.specs.Faults.{IsObject}
 use Rattle.elf_object.specs.Object.{section_count}
@@ -41,7 +41,7 @@ pub sections_all : (b : List ℕ) (start now : List Section) (n : ℕ) → n ≡
 unfolding sections_of
 sections_all b start now n e is = rw (is, e) refl
 
-length-sections_of : (b : List ℕ) → length (sections_of b) ≡ section_count b
+pub length-sections_of : (b : List ℕ) → length (sections_of b) ≡ section_count b
 unfolding sections_of
 length-sections_of b = length-map-range_with_len (section_of b) 0 (section_count b)
 

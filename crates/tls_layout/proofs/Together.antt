@@ -1,8 +1,8 @@
 -- What the passes leave together, and how the ends of the classes lie.
-use Rattle.std.proofs.Common.{◌≡◌, ℕ, zero, suc, ◌+◌, ◌-◌, ◌*◌, ◌<◌, ◌≤◌, ◌^◌, Bool, true, false, List, [], ◌∷◌, length, get_or, slice_index_or, take, replicate, max, Option, Some, None, refl, sym, ap, subst, ◌∙◌, arith, inl, inr, ◌⊎◌}
+use Rattle.std.proofs.Common.{◌≡◌, ℕ, ◌+◌, ◌*◌, ◌<◌, ◌≤◌, ◌^◌, Bool, true, false, List, length, get_or, take, replicate, max, Option, Some, None, refl, sym, subst, arith, inl, inr}
 use Rattle.std.specs.Prelude.{fold, if◌then◌else◌, All}
 use Rattle.std.proofs.lemmas.Bool.{cases_lt}
-use Rattle.std.proofs.lemmas.List.{get_or-replicate, get_or_past, length-replicate, get_or_default}
+use Rattle.std.proofs.lemmas.List.{get_or-replicate, get_or_past, length-replicate}
 use Rattle.std.proofs.lemmas.List.Sums.{fold_more}
 use Rattle.elf_object.specs.declared.class.SectionClass.{SectionClass}
 use Rattle.elf_object.specs.declared.class.SectionClass.TheVariants.{Executable, ReadOnly, Tls, Writable}
@@ -13,7 +13,7 @@ use Rattle.link_faults.specs.ImageKinds.{base_of}
 use Rattle.tls_layout.specs.declared.sections.Section.{Section}
 use Rattle.tls_layout.specs.declared.extent.Extent.{Extent}
 use Rattle.tls_layout.specs.Rounding.{round_up, page_up}
-use Rattle.tls_layout.specs.Sections.{section_at, is_in, is_class, is_tls_class, dropped, IsOrdinary}
+use Rattle.tls_layout.specs.Sections.{section_at, is_class, is_tls_class, dropped, IsOrdinary}
 use Rattle.tls_layout.specs.Places.{end_of, place_in, extent_of, executable, read_only, tls_image, initial_data, zero_data, span, address_by, address_at, initial_tls, zero_tls, tls_size, offset_by, offset_at, next_alignment}
 use Rattle.tls_layout.specs.Passes.{GivesPlaces, HaveNone, AreAddresses, AreOffsets}
 use Rattle.tls_layout.proofs.Rounds.{round_up-above}
@@ -59,7 +59,7 @@ are_offsets sections old mid new i len none e first second k = elim (cases_lt k 
   where
     by_class : (class : Option SectionClass)
         → (if is_class (Tls false) class then Some (place_in (Tls false) (end_of (Tls true) 0 sections) sections k) else
-            if is_class (Tls true) class then Some (place_in (Tls true) 0 sections k) else None) ≡ offset_by class sections k
+        if is_class (Tls true) class then Some (place_in (Tls true) 0 sections k) else None) ≡ offset_by class sections k
     by_class None = refl
     by_class (Some Executable) = refl
     by_class (Some ReadOnly) = refl
@@ -88,10 +88,10 @@ are_addresses kind sections a0 a1 a2 a3 a4 a5 e r t w z len none es rs ts ws zs 
   where
     by_class : (class : Option SectionClass)
         → (if is_class (Writable false) class then Some (place_in (Writable false) (zero_data kind sections).start sections k) else
-            if is_class (Writable true) class then Some (place_in (Writable true) (initial_data kind sections).start sections k) else
-            if is_class (Tls true) class then Some (place_in (Tls true) (tls_image kind sections).start sections k) else
-            if is_class ReadOnly class then Some (place_in ReadOnly (read_only kind sections).start sections k) else
-            if is_class Executable class then Some (place_in Executable (executable kind sections).start sections k) else None)
+        if is_class (Writable true) class then Some (place_in (Writable true) (initial_data kind sections).start sections k) else
+        if is_class (Tls true) class then Some (place_in (Tls true) (tls_image kind sections).start sections k) else
+        if is_class ReadOnly class then Some (place_in ReadOnly (read_only kind sections).start sections k) else
+        if is_class Executable class then Some (place_in Executable (executable kind sections).start sections k) else None)
         ≡ address_by class kind sections k
     by_class None = refl
     by_class (Some Executable) = refl

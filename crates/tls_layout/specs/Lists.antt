@@ -1,5 +1,5 @@
 -- What is kept of sections and places, and what it stands for.
-use Rattle.std.specs.Prelude.{◌≡◌, ◌+◌, ◌<◌, ◌≤◌, ◌^◌, ℕ, List, length, sum, All, Option}
+use Rattle.std.specs.Prelude.{◌≡◌, ◌+◌, ◌≤◌, ◌^◌, ℕ, List, length, sum, All, Option}
 use Rattle.elf_object.specs.Lawful.{IsPower}
 use Rattle.link_faults.specs.declared.image_kind.ImageKind.{ImageKind}
 use Rattle.link_faults.specs.ImageKinds.{base_of}
@@ -8,7 +8,7 @@ use Rattle.tls_layout.specs.declared.tls_places.TlsPlaces.{TlsPlaces}
 use Rattle.tls_layout.specs.declared.image_places.ImageExtents.{ImageExtents}
 use Rattle.tls_layout.specs.Places.{tls_size, tls_alignment, executable, read_only, tls_image, writable, IsLawful}
 use Rattle.tls_layout.specs.declared.section_list.SectionList.{SectionList}
-use Rattle.tls_layout.specs.Sections.{Layout, all_sections, section_counts, IsOrdinary}
+use Rattle.tls_layout.specs.Sections.{all_sections, section_counts, IsOrdinary}
 use Rattle.tls_layout.specs.Passes.{AreFirsts, AreAddresses, AreOffsets}
 
 -- these are the sections of the objects

@@ -1,6 +1,6 @@
 -- Where sections go in an image and in its block of thread-local storage (gABI, "Program Loading" and "Section Attributes";
 -- Drepper, "ELF Handling For Thread-Local Storage", section 3).
-use Rattle.std.specs.Prelude.{◌≡◌, ◌+◌, ◌-◌, ◌<◌, ◌≤◌, ◌^◌, ◌==◌, ℕ, true, false, List, take, fold, max, All, Option, None, Some, option_and_then, if◌then◌else◌}
+use Rattle.std.specs.Prelude.{◌+◌, ◌-◌, ◌≤◌, ◌^◌, ◌==◌, ℕ, true, false, List, take, fold, max, All, Option, None, Some, option_and_then, if◌then◌else◌}
 use Rattle.elf_object.specs.declared.class.SectionClass.{SectionClass}
 use Rattle.elf_object.specs.declared.class.SectionClass.TheVariants.{Executable, ReadOnly, Tls, Writable}
 use Rattle.link_faults.specs.declared.image_kind.ImageKind.{ImageKind}

@@ -27,7 +27,11 @@ pub struct ImageExtents {
 }
 
 /// Gives sections their addresses, a class after another.
-pub fn lay_out_image(kind: ImageKind, sections: &[Section], addresses: &mut [Option<u64>]) -> Result<ImageExtents, LinkFault>
+pub fn lay_out_image(
+    kind: ImageKind,
+    sections: &[Section],
+    addresses: &mut [Option<u64>],
+) -> Result<ImageExtents, LinkFault>
     requires ordinary { All IsOrdinary sections.now }
     requires len { length addresses.old ≡ length sections.now }
     requires none { HaveNone addresses.old }
@@ -42,12 +46,36 @@ pub fn lay_out_image(kind: ImageKind, sections: &[Section], addresses: &mut [Opt
     };
     let executable = lay_out(sections, SectionClass::Executable, base, limit, addresses)?;
     let constants = page_up(executable.end);
-    let read_only = lay_out(sections, SectionClass::ReadOnly, constants, limit, addresses)?;
+    let read_only = lay_out(
+        sections,
+        SectionClass::ReadOnly,
+        constants,
+        limit,
+        addresses,
+    )?;
     let image = page_up(read_only.end);
-    let tls = lay_out(sections, SectionClass::Tls { initial: true }, image, limit, addresses)?;
+    let tls = lay_out(
+        sections,
+        SectionClass::Tls { initial: true },
+        image,
+        limit,
+        addresses,
+    )?;
     let data = page_up(tls.end);
-    let initial = lay_out(sections, SectionClass::Writable { initial: true }, data, limit, addresses)?;
-    let zero = lay_out(sections, SectionClass::Writable { initial: false }, initial.end, limit, addresses)?;
+    let initial = lay_out(
+        sections,
+        SectionClass::Writable { initial: true },
+        data,
+        limit,
+        addresses,
+    )?;
+    let zero = lay_out(
+        sections,
+        SectionClass::Writable { initial: false },
+        initial.end,
+        limit,
+        addresses,
+    )?;
     let writable = Extent {
         start: initial.start,
         end: zero.end,

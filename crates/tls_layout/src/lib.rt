@@ -3,6 +3,7 @@
 
 mod extent;
 mod image_places;
+pub mod laws;
 mod lay_out;
 mod placement;
 mod section_list;

@@ -46,8 +46,20 @@ fn lay_out_tls(sections: &[Section], offsets: &mut [Option<u64>]) -> Result<u64,
         end: LARGEST_TLS,
         kind: LinkFaultKind::TlsTooLarge,
     };
-    let initial = lay_out(sections, SectionClass::Tls { initial: true }, 0, limit, offsets)?;
-    let zero = lay_out(sections, SectionClass::Tls { initial: false }, initial.end, limit, offsets)?;
+    let initial = lay_out(
+        sections,
+        SectionClass::Tls { initial: true },
+        0,
+        limit,
+        offsets,
+    )?;
+    let zero = lay_out(
+        sections,
+        SectionClass::Tls { initial: false },
+        initial.end,
+        limit,
+        offsets,
+    )?;
     Ok(zero.end)
 }
 
@@ -85,7 +97,11 @@ pub fn place_tls(alloc: Global, sections: &[Section]) -> Result<TlsPlaces, LinkF
 {
     let mut offsets = no_places(alloc, sections.len())?;
     let size = lay_out_tls(sections, &mut offsets)?;
-    let alignment = if size == 0 { 1 } else { greatest_alignment(sections) };
+    let alignment = if size == 0 {
+        1
+    } else {
+        greatest_alignment(sections)
+    };
     Ok(TlsPlaces {
         offsets,
         size,

@@ -1,6 +1,5 @@
-use Rattle.std.proofs.Common.{◌≡◌, ◌+◌, ◌≤◌, ◌^◌, refl, sym, ap, ◌∙◌, arith, slice_index_or}
+use Rattle.std.proofs.Common.{refl, sym, ap, ◌∙◌, arith}
 use Rattle.std.proofs.lemmas.Result.{err_from_is_err_and}
-use Rattle.elf_object.specs.declared.class.SectionClass.TheVariants.{Executable, ReadOnly, Tls, Writable}
 use Rattle.tls_layout.specs.declared.extent.Extent.{Extent}
 use Rattle.tls_layout.specs.Rounding.{page_up}
 use Rattle.tls_layout.proofs.Together.{is_executable, is_read_only, is_tls_image, is_initial_data, is_zero_data, ascend, rise, span_beyond, before_last, limit_kept, are_addresses}
@@ -95,9 +94,9 @@ returns-clause-addresses c =
     let zero = is_zero_data k s _ _ written c.in_ok-zero.ensures.extent.0 in
     let r = rise k s in
     are_addresses k s _ _ _ _ _ _ _ _ _ _ _ (omega arith) c.requires.none
-      (c.base-base.ensures ∙ sym r.base)
-      (c.page_up-constants.ensures.page ∙ (ap (λ (x : Extent). page_up x.end) exe ∙ sym r.constants))
-      (c.page_up-image.ensures.page ∙ (ap (λ (x : Extent). page_up x.end) ro ∙ sym r.image))
-      (c.page_up-data.ensures.page ∙ (ap (λ (x : Extent). page_up x.end) tls ∙ sym r.written))
-      (ap (λ (x : Extent). x.end) written ∙ sym r.zeros)
-      c.in_ok-executable.ensures.places c.in_ok-read_only.ensures.places c.in_ok-tls.ensures.places c.in_ok-initial.ensures.places c.in_ok-zero.ensures.places
+    (c.base-base.ensures ∙ sym r.base)
+    (c.page_up-constants.ensures.page ∙ (ap (λ (x : Extent). page_up x.end) exe ∙ sym r.constants))
+    (c.page_up-image.ensures.page ∙ (ap (λ (x : Extent). page_up x.end) ro ∙ sym r.image))
+    (c.page_up-data.ensures.page ∙ (ap (λ (x : Extent). page_up x.end) tls ∙ sym r.written))
+    (ap (λ (x : Extent). x.end) written ∙ sym r.zeros)
+    c.in_ok-executable.ensures.places c.in_ok-read_only.ensures.places c.in_ok-tls.ensures.places c.in_ok-initial.ensures.places c.in_ok-zero.ensures.places

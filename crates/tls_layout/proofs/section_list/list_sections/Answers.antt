@@ -1,7 +1,7 @@
-use Rattle.std.proofs.Common.{◌≡◌, ℕ, ◌+◌, ◌<◌, length, take, sym, ap, ◌∙◌, subst, arith}
-use Rattle.std.proofs.lemmas.List.{length_push, take_all}
+use Rattle.std.proofs.Common.{◌+◌, length, take, ap, ◌∙◌, arith}
+use Rattle.std.proofs.lemmas.List.{length_push}
 use Rattle.std.proofs.lemmas.List.Elements.{All-append}
-use Rattle.tls_layout.specs.Sections.{all_sections, section_counts, IsOrdinary}
+use Rattle.tls_layout.specs.Sections.{all_sections, IsOrdinary}
 use Rattle.tls_layout.proofs.Rounds.{numbers_more}
 use Rattle.tls_layout.proofs.Listed.{all_none, all_sections-more, section_counts-more, is_list}
 use Rattle.tls_layout.proofs.section_list.list_sections.Goals as goal
@@ -24,7 +24,7 @@ loop-object-preserved c =
       ordinary = rw c.in_ok-push_sections.ensures.pushed (All-append IsOrdinary _ _ is.ordinary c.in_ok-push_sections.ensures.ordinary);
       len = rw c.in_ok-push.ensures.items (length_push _ _ ∙ ap (λ n. n + 1) is.len);
       firsts_are = rw c.in_ok-push.ensures.items
-        (numbers_more _ _ _ (λ o. length (all_sections (take o c.args.objects.now))) is.len is.firsts_are (c.len.ensures ∙ (c.loop-object.sections.ok.0 ∙ ap length is.sections_are)));
+          (numbers_more _ _ _ (λ o. length (all_sections (take o c.args.objects.now))) is.len is.firsts_are (c.len.ensures ∙ (c.loop-object.sections.ok.0 ∙ ap length is.sections_are)));
     }
 
 pub returns : goal.returns

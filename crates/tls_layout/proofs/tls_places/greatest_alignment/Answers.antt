@@ -1,6 +1,3 @@
-use Rattle.std.proofs.Common.{◌≡◌, ◌+◌, sym, ap, ◌∙◌, arith}
-use Rattle.std.proofs.lemmas.List.Sums.{fold_more}
-use Rattle.tls_layout.specs.Places.{next_alignment}
 use Rattle.tls_layout.proofs.Together.{greatest_more, greatest_power}
 use Rattle.tls_layout.proofs.tls_places.greatest_alignment.Goals as goal
 

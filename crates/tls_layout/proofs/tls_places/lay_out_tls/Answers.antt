@@ -1,4 +1,4 @@
-use Rattle.std.proofs.Common.{◌≡◌, ◌^◌, ap, arith}
+use Rattle.std.proofs.Common.{◌^◌, ap, arith}
 use Rattle.std.proofs.lemmas.Result.{err_from_is_err_and}
 use Rattle.tls_layout.specs.declared.extent.Extent.{Extent}
 use Rattle.tls_layout.proofs.Together.{are_offsets, is_tls_size, tls_beyond_initial, tls_beyond}
