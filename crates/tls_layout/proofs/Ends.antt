@@ -1,12 +1,12 @@
 -- Where the sections of a class end, and what a pass does at one more section.
-use Rattle.std.proofs.Common.{◌≡◌, ◌≢◌, ℕ, zero, suc, ◌+◌, ◌<◌, ◌≤◌, Bool, true, false, List, [], ◌∷◌, ◌++◌, length, get_or, take, drop, Option, Some, None, refl, sym, ap, subst, ◌∙◌, arith, below_more, cond}
+use Rattle.std.proofs.Common.{◌≡◌, ◌≢◌, ℕ, ◌+◌, ◌<◌, ◌≤◌, Bool, true, false, List, [], ◌∷◌, length, get_or, take, drop, Option, Some, None, refl, sym, ap, ◌∙◌, arith, below_more}
 use Rattle.std.specs.Prelude.{fold, if◌then◌else◌}
 use Rattle.std.proofs.Math.ListN.{set}
-use Rattle.std.proofs.lemmas.List.{get_or_default, get_or-set_same, get_or-set_other, take_all, take-append-drop, take-take}
+use Rattle.std.proofs.lemmas.List.{get_or_default, get_or-set_same, get_or-set_other, take_all, take-append-drop}
 use Rattle.std.proofs.lemmas.List.Sums.{fold_more, fold-append}
 use Rattle.elf_object.specs.declared.class.SectionClass.{SectionClass}
 use Rattle.tls_layout.specs.declared.sections.Section.{Section}
-use Rattle.tls_layout.specs.Rounding.{round_up, page_up}
+use Rattle.tls_layout.specs.Rounding.{round_up}
 use Rattle.tls_layout.specs.Sections.{section_at, is_in, dropped}
 use Rattle.tls_layout.specs.Places.{next_end, end_of, place_in}
 use Rattle.tls_layout.specs.Passes.{GivesPlacesBelow, KeepsFrom}
@@ -49,7 +49,7 @@ pub end_of-front : (class : SectionClass) (from : ℕ) (sections : List Section)
 unfolding end_of
 end_of-front class from sections i =
     let split : fold (next_end class) from sections ≡ fold (next_end class) (fold (next_end class) from (take i sections)) (drop i sections) =
-        ap (fold (next_end class) from) (sym (take-append-drop i sections)) ∙ fold-append (next_end class) from (take i sections) (drop i sections) in
+    ap (fold (next_end class) from) (sym (take-append-drop i sections)) ∙ fold-append (next_end class) from (take i sections) (drop i sections) in
     rw split (folds_up class (fold (next_end class) from (take i sections)) (drop i sections))
 
 -- a section of the class has its place from the end of those before it

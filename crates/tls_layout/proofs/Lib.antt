@@ -1,3 +1,9 @@
 pub mod Rounds
 pub mod Ends
 pub mod Listed
+pub mod Together
+pub mod Found
+pub mod LawsOfSections
+pub mod LawsOfPlaces
+pub mod LawsOfTls
+pub mod LawsOfBlocks

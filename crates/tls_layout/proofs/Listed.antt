@@ -1,21 +1,23 @@
 -- The list of all sections, an object at a time.
-use Rattle.std.proofs.Common.{◌≡◌, ℕ, zero, suc, ◌+◌, ◌<◌, ◌≤◌, List, [], ◌∷◌, ◌++◌, length, slice_index, get_or, take, map, All, Option, Some, None, refl, sym, ap, subst, ◌∙◌, arith, below_more}
+use Rattle.std.proofs.Common.{◌≡◌, ℕ, ◌+◌, ◌<◌, List, [], ◌∷◌, ◌++◌, length, slice_index, get_or, take, map, All, Option, Some, None, refl, sym, ap, ◌∙◌, arith}
 use Rattle.std.specs.Prelude.{sum}
 use Rattle.std.specs.List.{range_with_len, flat_map}
-use Rattle.std.proofs.lemmas.List.{append_assoc, append-nil, get_or_default, flat_map_more, take_more, take-map, map_push, length-append, length-map, take_all}
+use Rattle.std.proofs.lemmas.List.{append_assoc, append-nil, take_more, take-map, map_push, length-append, length-map, take_all}
 use Rattle.std.proofs.lemmas.List.Sums.{sum_by-cons}
 use Rattle.std.proofs.lemmas.List.Concat.{flat_map-append}
-use Rattle.std.proofs.lemmas.List.Elements.{All-map, All-from_get_or, All-append}
+use Rattle.std.proofs.lemmas.List.Elements.{All-map}
 use Rattle.std.proofs.lemmas.List.FromFn.{length-map-range_with_len, map-range_with_len_more}
 use Rattle.elf_object.specs.declared.class.SectionClass.{SectionClass}
 use Rattle.elf_object.specs.Lent.{section_class, section_size, section_alignment}
-use Rattle.elf_object.specs.Lawful.{IsPower, IsKeptAs}
+use Rattle.elf_object.specs.Lawful.{IsKeptAs}
 use Rattle.elf_object.specs.LawsOfSections.{kept_as}
 use Rattle.elf_object.specs.Faults.{IsObject}
 use Rattle.elf_object.specs.Object.{section_count}
 use Rattle.tls_layout.specs.declared.sections.Section.{Section}
 use Rattle.tls_layout.specs.Sections.{seen_as, section_of, sections_of, all_sections, section_counts, IsOrdinary}
+use Rattle.tls_layout.specs.declared.section_list.SectionList.{SectionList}
 use Rattle.tls_layout.specs.Passes.{AreFirsts}
+use Rattle.tls_layout.specs.Lists.{IsListOf}
 
 -- ---- the sections of one object
 
@@ -33,13 +35,13 @@ ordinary_sections b object = All-map IsOrdinary (section_of b) (range_with_len 0
 
 pub sections_more : (b : List ℕ) (start now : List Section) (n : ℕ) (x : Section) → now ≡ start ++ map (section_of b) (range_with_len 0 n) → x ≡ section_of b n
     → now ++ x ∷ [] ≡ start ++ map (section_of b) (range_with_len 0 (n + 1))
-sections_more b start now n x is here = rw (is, here, map-range_with_len_more (section_of b) 0 n n (omega arith)) append_assoc
+sections_more b start now n x is here = rw (is, here, map-range_with_len_more (section_of b) 0 n n (omega arith)) (append_assoc start (map (section_of b) (range_with_len 0 n)) (section_of b n ∷ []))
 
 pub sections_all : (b : List ℕ) (start now : List Section) (n : ℕ) → n ≡ section_count b → now ≡ start ++ map (section_of b) (range_with_len 0 n) → now ≡ start ++ sections_of b
 unfolding sections_of
 sections_all b start now n e is = rw (is, e) refl
 
-length-sections_of : (b : List ℕ) → length (sections_of b) ≡ section_count b
+pub length-sections_of : (b : List ℕ) → length (sections_of b) ≡ section_count b
 unfolding sections_of
 length-sections_of b = length-map-range_with_len (section_of b) 0 (section_count b)
 
@@ -76,4 +78,19 @@ are_firsts objects counts firsts e len is =
     record {
       len = len ∙ sym same;
       sums = λ o l. is o (omega arith) ∙ (length-all_sections (take o objects) ∙ rw (e, take-map section_count o objects) refl);
+    }
+
+pub is_list : (objects : List (List ℕ)) (list : SectionList) (i : ℕ) → i ≡ length objects → list.sections.items ≡ all_sections (take i objects)
+    → list.counts.items ≡ section_counts (take i objects) → All IsOrdinary list.sections.items → length list.firsts.items ≡ i
+    → ((o : ℕ) → o < i → slice_index list.firsts.items o ≡ length (all_sections (take o objects))) → IsListOf objects list
+is_list objects list i e sections counts ordinary len firsts =
+    let all = take_all i objects (omega arith) in
+    let sections_are = sections ∙ ap all_sections all in
+    let counts_are = counts ∙ ap section_counts all in
+    record {
+      sections_are = sections_are;
+      counts_are = counts_are;
+      ordinary = ordinary;
+      firsts_are = are_firsts objects list.counts.items list.firsts.items counts_are (len ∙ e) (λ o l. firsts o (omega arith));
+      total = rw (counts_are, sections_are) (sym (length-all_sections objects));
     }

@@ -4,3 +4,4 @@ pub mod Passes
 pub mod Rounding
 pub mod Statics
 pub mod Lists
+pub mod Laws

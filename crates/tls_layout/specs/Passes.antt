@@ -1,14 +1,13 @@
 -- What one pass over the sections does, and what the passes leave together.
-use Rattle.std.specs.Prelude.{◌≡◌, ◌+◌, ◌<◌, ◌≤◌, ◌^◌, ℕ, true, false, List, length, map, take, sum, All, Option, None, Some, slice_index, slice_index_or, if◌then◌else◌}
+use Rattle.std.specs.Prelude.{◌≡◌, ◌<◌, ◌≤◌, ◌^◌, ℕ, List, length, take, sum, Option, None, Some, slice_index, slice_index_or, if◌then◌else◌}
 use Rattle.elf_object.specs.declared.class.SectionClass.{SectionClass}
-use Rattle.elf_object.specs.declared.class.SectionClass.TheVariants.{Executable, ReadOnly, Tls, Writable}
 use Rattle.link_faults.specs.declared.fault.LinkFault.{LinkFault}
 use Rattle.link_faults.specs.declared.fault.LinkFault.TheVariants.{OutOfMemory, At}
 use Rattle.link_faults.specs.declared.fault.LinkFaultKind.{LinkFaultKind}
 use Rattle.link_faults.specs.declared.fault.LinkFaultKind.TheVariants.{TlsTooLarge, ImageTooLarge}
 use Rattle.link_faults.specs.declared.image_kind.ImageKind.{ImageKind}
 use Rattle.tls_layout.specs.declared.sections.Section.{Section}
-use Rattle.tls_layout.specs.Sections.{Layout, section_at, is_in, IsOrdinary}
+use Rattle.tls_layout.specs.Sections.{Layout, section_at, is_in}
 use Rattle.tls_layout.specs.Places.{place_in, span, tls_size, address_at, offset_at}
 
 -- a pass gives each section of a class its place, and leaves the others
@@ -56,3 +55,8 @@ Exceeds _ p = ⊥
 abbrev pub IsLayoutFault : Layout → LinkFault → Type 0
 IsLayoutFault p OutOfMemory = Unit {0}
 IsLayoutFault p (At kind object section entry) = (object ≡ None) × (section ≡ 0) × (entry ≡ 0) × Exceeds kind p
+
+-- want of memory, or a fault of the image as a whole, which stands where a fact holds
+abbrev pub IsFaultWhere : LinkFaultKind → Type 0 → LinkFault → Type 0
+IsFaultWhere kind P OutOfMemory = Unit {0}
+IsFaultWhere kind P (At k object section entry) = (k ≡ kind) × (object ≡ None) × (section ≡ 0) × (entry ≡ 0) × P

@@ -1,6 +1,6 @@
 -- Where sections go in an image and in its block of thread-local storage (gABI, "Program Loading" and "Section Attributes";
 -- Drepper, "ELF Handling For Thread-Local Storage", section 3).
-use Rattle.std.specs.Prelude.{◌≡◌, ◌+◌, ◌-◌, ◌<◌, ◌≤◌, ◌^◌, ◌==◌, ℕ, true, false, List, take, fold, max, All, Option, None, Some, option_and_then, if◌then◌else◌}
+use Rattle.std.specs.Prelude.{◌+◌, ◌-◌, ◌≤◌, ◌^◌, ◌==◌, ℕ, true, false, List, take, fold, max, All, Option, None, Some, option_and_then, if◌then◌else◌}
 use Rattle.elf_object.specs.declared.class.SectionClass.{SectionClass}
 use Rattle.elf_object.specs.declared.class.SectionClass.TheVariants.{Executable, ReadOnly, Tls, Writable}
 use Rattle.link_faults.specs.declared.image_kind.ImageKind.{ImageKind}
@@ -8,7 +8,7 @@ use Rattle.link_faults.specs.ImageKinds.{base_of}
 use Rattle.tls_layout.specs.declared.sections.Section.{Section}
 use Rattle.tls_layout.specs.declared.extent.Extent.{Extent}
 use Rattle.tls_layout.specs.Rounding.{round_up, page_up}
-use Rattle.tls_layout.specs.Sections.{Layout, position, section_at, is_in, is_tls_class, IsOrdinary}
+use Rattle.tls_layout.specs.Sections.{Layout, dropped, position, section_at, is_in, is_tls_class, IsOrdinary}
 
 -- ---- the sections of one class, one after another
 
@@ -112,8 +112,16 @@ offset_at sections k = offset_by (section_at sections k).class sections k
 
 -- ---- by object and section
 
-unfoldable pub class_of : Layout → ℕ → ℕ → Option SectionClass
-class_of p o s = option_and_then (λ k. (section_at p.sections k).class) (position p.counts o s)
+-- section s of object o; where there is none, a section that takes no room
+abbrev pub section_found : Option ℕ → List Section → Section
+section_found None sections = dropped
+section_found (Some k) sections = section_at sections k
+
+unfoldable pub section_named : Layout → ℕ → ℕ → Section
+section_named p o s = section_found (position p.counts o s) p.sections
+
+abbrev pub class_of : Layout → ℕ → ℕ → Option SectionClass
+class_of p o s = (section_named p o s).class
 
 unfoldable pub address_of : Layout → ℕ → ℕ → Option ℕ
 address_of p o s = option_and_then (address_at p.kind p.sections) (position p.counts o s)

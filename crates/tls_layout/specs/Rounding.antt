@@ -1,5 +1,5 @@
 -- Rounding up, as alignments ask for it (gABI, "Sections": `sh_addralign`; Drepper, section 3: `round`).
-use Rattle.std.specs.Prelude.{◌≡◌, ◌+◌, ◌*◌, ◌<◌, ◌≤◌, ℕ}
+use Rattle.std.specs.Prelude.{◌≡◌, ◌*◌, ◌≤◌, ℕ}
 use Rattle.std.specs.Int.{next_multiple_of}
 
 -- the least multiple of an alignment at or above n

@@ -1,8 +1,8 @@
 -- Blocks of startup modules below a thread pointer (Drepper, section 3, variant II).
-use Rattle.std.specs.Prelude.{◌≡◌, ◌+◌, ◌*◌, ◌-◌, ◌<◌, ◌≤◌, ◌^◌, ℕ, zero, suc, List, length, slice_index_or}
+use Rattle.std.specs.Prelude.{◌+◌, ◌≤◌, ◌^◌, ℕ, zero, suc, List, slice_index_or}
 use Rattle.elf_object.specs.Lawful.{IsPower}
 use Rattle.tls_layout.specs.declared.statics.TlsSize.{TlsSize}
-use Rattle.tls_layout.specs.Rounding.{round_up, IsMultiple}
+use Rattle.tls_layout.specs.Rounding.{round_up}
 
 -- no module
 abbrev pub no_tls : TlsSize

@@ -50,7 +50,13 @@ fn give_place(section: &Section, class: SectionClass, end: u64, place: &mut Opti
 }
 
 /// Gives each section of a class its place, the first one at or after `from`, in their order.
-pub fn lay_out(sections: &[Section], class: SectionClass, from: u64, limit: Limit, places: &mut [Option<u64>]) -> Result<Extent, LinkFault>
+pub fn lay_out(
+    sections: &[Section],
+    class: SectionClass,
+    from: u64,
+    limit: Limit,
+    places: &mut [Option<u64>],
+) -> Result<Extent, LinkFault>
     requires ordinary { All IsOrdinary sections.now }
     requires len { length places.old ≡ length sections.now }
     requires within { from ≤ limit.end }

@@ -1,12 +1,13 @@
 //! The sections of all objects, one after another.
 
-ghost use Rattle.std.specs.Prelude.{◌≡◌, ◌++◌, ◌<◌, All, IfOk, OnOk};
+ghost use Rattle.std.specs.Prelude.{◌≡◌, ◌++◌, ◌<◌, All, IfOk, OnOk, length, sum};
 ghost use Rattle.elf_object.specs.Object.{section_count as count_of_sections};
-ghost use Rattle.tls_layout.specs.Sections.{section_of, sections_of, IsOrdinary};
+ghost use Rattle.tls_layout.specs.Sections.{position as position_of, section_at, section_of, sections_of, IsOrdinary};
+ghost use Rattle.tls_layout.specs.Passes.{AreFirsts};
 ghost use Rattle.tls_layout.specs.Lists.{IsListOf};
 
 use crate::sections::Section;
-use elf_object::Object;
+use elf_object::{Object, SectionClass};
 use std::alloc::{AllocError, Global};
 
 /// All sections, in order of objects and then by number.
@@ -17,6 +18,29 @@ pub struct SectionList {
     pub counts: Vec<u32>,
     /// Where those of each object begin.
     pub firsts: Vec<usize>,
+}
+
+impl SectionList {
+    /// The place of a section among all.
+    #[tactic(auto, unfolding(crate::specs::Sections::position), using(crate::proofs::Found::fits_before))]
+    pub fn position(&self, object: usize, section: u32) -> Option<usize>
+        requires firsts { AreFirsts self.now.counts.items self.now.firsts.items }
+        requires total { sum self.now.counts.items ≡ length self.now.sections.items }
+        ensures { result ≡ position_of self.now.counts.items object section }
+    {
+        let count = *self.counts.get(object)?;
+        if count <= section {
+            return None;
+        }
+        Some(self.firsts[object] + section as usize)
+    }
+
+    /// The class of the section at a place; none past the last one.
+    pub fn class_at(&self, place: usize) -> Option<SectionClass>
+        ensures { result ≡ (section_at self.now.sections.items place).class }
+    {
+        self.sections.get(place)?.class
+    }
 }
 
 /// A section of an object.

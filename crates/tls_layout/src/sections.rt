@@ -43,8 +43,10 @@ impl Section {
         match (class, self.class) {
             (SectionClass::Executable, Some(SectionClass::Executable)) => true,
             (SectionClass::ReadOnly, Some(SectionClass::ReadOnly)) => true,
-            (SectionClass::Tls { initial }, Some(SectionClass::Tls { initial: other })) => initial == other,
-            (SectionClass::Writable { initial }, Some(SectionClass::Writable { initial: other })) => initial == other,
+            (SectionClass::Tls { initial }, Some(SectionClass::Tls { initial: other })) => initial
+                == other,
+            (SectionClass::Writable { initial }, Some(SectionClass::Writable { initial: other })) =>
+                initial == other,
             _ => false,
         }
     }

@@ -1,4 +1,4 @@
-use Rattle.std.proofs.Common.{◌≡◌, ◌+◌, ◌<◌, ◌≤◌, refl, subst, arith}
+use Rattle.std.proofs.Common.{◌+◌, refl, arith}
 use Rattle.tls_layout.proofs.Ends.{end_of-none, end_of-front, end_at, gives_more, keeps_more}
 use Rattle.tls_layout.proofs.lay_out.lay_out.Goals as goal
 

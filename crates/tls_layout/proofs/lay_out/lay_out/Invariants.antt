@@ -1,4 +1,4 @@
-use Rattle.std.proofs.Common.{◌≡◌, ◌≤◌, length, take}
+use Rattle.std.proofs.Common.{◌≡◌, ◌≤◌, take}
 use Rattle.tls_layout.specs.Places.{end_of}
 use Rattle.tls_layout.specs.Passes.{GivesPlacesBelow, KeepsFrom}
 use Rattle.tls_layout.proofs.lay_out.lay_out.Given as goal

@@ -1,5 +1,4 @@
-use Rattle.std.proofs.Common.{◌≡◌, ℕ, ◌+◌, ◌*◌, ◌^◌, ◌<◌, ◌≤◌, slice_index, slice_index_or, vec_len, refl, sym, ap, ◌∙◌, below_more, arith}
-use Rattle.std.proofs.lemmas.Grind.{common_steps}
+use Rattle.std.proofs.Common.{◌+◌, refl, ap, ◌∙◌, arith}
 use Rattle.std.proofs.lemmas.List.{length_push}
 use Rattle.tls_layout.specs.Statics.{tls_offset}
 use Rattle.tls_layout.proofs.Rounds.{tls_offset-more, tls_offset_small, numbers_more}

@@ -1,0 +1,89 @@
+//! The classes of an image: where its sections lie.
+
+ghost use Rattle.std.specs.Prelude.{◌≡◌, ◌+◌, ◌<◌, ◌≤◌, ◌^◌, All, IfOk, IfErr, OnOk, length};
+ghost use Rattle.link_faults.specs.declared.fault.LinkFaultKind.TheVariants.{ImageTooLarge};
+ghost use Rattle.tls_layout.specs.Sections.{IsOrdinary};
+ghost use Rattle.tls_layout.specs.Places.{span};
+ghost use Rattle.tls_layout.specs.Passes.{HaveNone, AreAddresses, IsWhole};
+ghost use Rattle.tls_layout.specs.Lists.{AreExtents};
+
+use crate::extent::{Extent, page_up};
+use crate::lay_out::{Limit, lay_out};
+use crate::sections::Section;
+use elf_object::SectionClass;
+use link_faults::{ImageKind, LinkFault, LinkFaultKind};
+
+/// How many bytes the sections of an image may span.
+pub const LARGEST_SPAN: u64 = 1 << 24;
+
+/// Where each class lies. Each begins on a page of its own.
+#[derive(Clone, Copy)]
+pub struct ImageExtents {
+    pub executable: Extent,
+    pub read_only: Extent,
+    /// The initial image of thread-local storage.
+    pub tls: Extent,
+    pub writable: Extent,
+}
+
+/// Gives sections their addresses, a class after another.
+pub fn lay_out_image(
+    kind: ImageKind,
+    sections: &[Section],
+    addresses: &mut [Option<u64>],
+) -> Result<ImageExtents, LinkFault>
+    requires ordinary { All IsOrdinary sections.now }
+    requires len { length addresses.old ≡ length sections.now }
+    requires none { HaveNone addresses.old }
+    ensures extents { IfOk result (AreExtents kind sections.now) }
+    ensures addresses { OnOk result (AreAddresses kind sections.now addresses.new) }
+    ensures beyond { IfErr result (λ fault. IsWhole ImageTooLarge fault × (2 ^ 24 < span kind sections.now)) }
+{
+    let base = kind.base();
+    let limit = Limit {
+        end: base + LARGEST_SPAN,
+        kind: LinkFaultKind::ImageTooLarge,
+    };
+    let executable = lay_out(sections, SectionClass::Executable, base, limit, addresses)?;
+    let constants = page_up(executable.end);
+    let read_only = lay_out(
+        sections,
+        SectionClass::ReadOnly,
+        constants,
+        limit,
+        addresses,
+    )?;
+    let image = page_up(read_only.end);
+    let tls = lay_out(
+        sections,
+        SectionClass::Tls { initial: true },
+        image,
+        limit,
+        addresses,
+    )?;
+    let data = page_up(tls.end);
+    let initial = lay_out(
+        sections,
+        SectionClass::Writable { initial: true },
+        data,
+        limit,
+        addresses,
+    )?;
+    let zero = lay_out(
+        sections,
+        SectionClass::Writable { initial: false },
+        initial.end,
+        limit,
+        addresses,
+    )?;
+    let writable = Extent {
+        start: initial.start,
+        end: zero.end,
+    };
+    Ok(ImageExtents {
+        executable,
+        read_only,
+        tls,
+        writable,
+    })
+}
