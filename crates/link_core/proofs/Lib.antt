@@ -1,2 +1,4 @@
+pub mod Offsets
 pub mod Search
 mod Sections
+mod Relocated

@@ -1,5 +1,5 @@
 -- The first of some numbers that passes a test.
-use Rattle.std.proofs.Common.{◌≡◌, ◌+◌, ◌-◌, ◌<◌, ◌≤◌, ◌∙◌, ℕ, zero, suc, Bool, true, false, List, [], ◌∷◌, Option, Some, None, refl, ap, arith}
+use Rattle.std.proofs.Common.{◌≡◌, ◌+◌, ◌-◌, ◌<◌, ◌≤◌, ◌∙◌, ℕ, zero, suc, Bool, true, false, List, [], ◌∷◌, Option, Some, None, ◌&&◌, refl, sym, ap, subst, arith}
 use Rattle.std.specs.List.{All, find, list_all, range_with_len}
 
 pub range_first : (a n : ℕ) → a < n → range_with_len a (n - a) ≡ a ∷ range_with_len (a + 1) (n - (a + 1))
@@ -33,3 +33,20 @@ rest_all P x xs all = λ k d h. all (suc k) d (omega arith)
 
 pub passes_rest : {X : Type 0} (P : X → Bool) (x : X) (xs all : List X) → all ≡ x ∷ xs → P x ≡ true → list_all P xs ≡ list_all P all
 passes_rest P x xs all first passes = rw (first, passes) refl
+
+-- what holds of all holds of the first
+pub first_all : {X : Type 0} (P : X → Type 0) (x : X) (xs all : List X) → all ≡ x ∷ xs → All P all → P x
+first_all P x xs all first holds = (subst (All P) first holds) 0 x (omega arith)
+
+pub rest_all_of : {X : Type 0} (P : X → Type 0) (x : X) (xs all : List X) → all ≡ x ∷ xs → All P all → All P xs
+rest_all_of P x xs all first holds = rest_all P x xs (subst (All P) first holds)
+
+pub both_pass : (a b : Bool) → (a && b) ≡ true → (a ≡ true) × (b ≡ true)
+both_pass true b e = (refl, e)
+both_pass false b e = cc
+
+pub first_passes : {X : Type 0} (P : X → Bool) (x : X) (xs all : List X) → all ≡ x ∷ xs → list_all P all ≡ true → P x ≡ true
+first_passes P x xs all first passes = (both_pass (P x) (list_all P xs) (sym (ap (list_all P) first) ∙ passes)).0
+
+pub rest_passes : {X : Type 0} (P : X → Bool) (x : X) (xs all : List X) → all ≡ x ∷ xs → list_all P all ≡ true → list_all P xs ≡ true
+rest_passes P x xs all first passes = (both_pass (P x) (list_all P xs) (sym (ap (list_all P) first) ∙ passes)).1

@@ -12,3 +12,7 @@ none_below s n h = grind (arith, nat_tests)
 pub past_class : (b : List ℕ) (s : ℕ) → section_count b ≤ s → section_class b s ≡ None
 unfolding section_class
 past_class b s h = rw (none_below s (header b).e_shnum h) refl
+
+pub first_class : (b : List ℕ) → section_class b 0 ≡ None
+unfolding section_class
+first_class b = refl
