@@ -1,3 +1,4 @@
+mod Laid
 pub mod Offsets
 pub mod Search
 mod Sections

@@ -1,5 +1,11 @@
 -- What a relocation that is taken is.
-use Rattle.std.proofs.Common.{◌≡◌, ◌<◌, ◌≤◌, ◌+◌, ◌-◌, ◌≢◌, ◌&&◌, ℕ, zero, suc, Bool, true, false, List, None, inl, inr, refl, sym, subst, arith}
+use Rattle.std.proofs.Common.{◌≡◌, ◌<◌, ◌≤◌, ◌+◌, ◌-◌, ◌≢◌, ◌&&◌, ℕ, zero, suc, Bool, true, false, List, length, Some, None, inl, inr, refl, sym, ap, ◌∙◌, subst, arith}
+use Rattle.std.specs.Prelude.{if◌then◌else◌}
+use Rattle.elf_object.specs.declared.class.SectionClass.{SectionClass}
+use Rattle.elf_object.specs.declared.class.SectionClass.TheVariants.{Executable, ReadOnly, Tls, Writable}
+use Rattle.link_core.specs.declared.part.PartKind.{PartKind}
+use Rattle.link_core.specs.declared.part.PartKind.TheVariants.{Code, Constants, InitialTls}
+use Rattle.link_core.specs.Parts.{is_of}
 use Rattle.std.specs.List.{list_all, range_with_len}
 use Rattle.std.proofs.lemmas.Bool.{cases_lt}
 use Rattle.elf_object.specs.Object.{section_count}
@@ -8,8 +14,8 @@ use Rattle.link_core.proofs.Sections.{first_class, past_class}
 use Rattle.elf_object.specs.declared.relocation.Relocation.{Relocation}
 use Rattle.elf_object.specs.declared.relocation.RelocationKind.{RelocationKind}
 use Rattle.elf_object.specs.declared.relocation.RelocationKind.TheVariants.{Nothing, TpOff32}
-use Rattle.elf_object.specs.Lawful.{IsLawful}
-use Rattle.elf_object.specs.Lent.{symbol_place, symbol_binding, section_class, kept_relocation_table, relocations_in}
+use Rattle.elf_object.specs.Lawful.{IsLawful, IsKeptAs, has_initial}
+use Rattle.elf_object.specs.Lent.{symbol_place, symbol_binding, section_class, section_bytes, section_size, kept_relocation_table, relocations_in}
 use Rattle.elf_object.specs.Parts.{symbol_count}
 use Rattle.elf_object.specs.declared.symbol.SymbolBinding.TheVariants.{Global}
 use Rattle.link_core.specs.Definitions.{same_binding}
@@ -57,3 +63,22 @@ section_taken b (suc s) taken =
       | inl within ↦ one_of (section_is_taken b) 1 (section_count b - 1) (suc s) (omega arith) (omega arith) taken
       | inr past ↦ none_taken b (suc s) (past_class b (suc s) past)
     ]
+
+has_bytes : (kind : PartKind) (class : SectionClass) → is_of kind (Some class) ≡ true → has_initial class ≡ true
+has_bytes kind Executable e = refl
+has_bytes kind ReadOnly e = refl
+has_bytes kind (Tls true) e = refl
+has_bytes Code (Tls false) e = cc
+has_bytes Constants (Tls false) e = cc
+has_bytes InitialTls (Tls false) e = cc
+has_bytes Code (Writable initial) e = cc
+has_bytes Constants (Writable initial) e = cc
+has_bytes InitialTls (Writable initial) e = cc
+
+all_there : (b : List ℕ) (s : ℕ) (class : SectionClass) (has : Bool) → has_initial class ≡ has → has ≡ true → IsKeptAs b s class → length (section_bytes b s) ≡ section_size b s
+all_there b s class has is holds kept = kept.filled ∙ ap (λ h. if h then section_size b s else 0) (is ∙ holds)
+
+-- a section of a part has all its bytes in the file
+pub filled : (b : List ℕ) (s : ℕ) (kind : PartKind) (class : SectionClass) → is_of kind (Some class) ≡ true → IsKeptAs b s class
+    → length (section_bytes b s) ≡ section_size b s
+filled b s kind class e kept = all_there b s class (has_initial class) refl (has_bytes kind class e) kept

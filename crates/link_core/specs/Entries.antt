@@ -1,12 +1,12 @@
 -- Where a function of an image stands, by its name.
 use Rattle.std.specs.Prelude.{◌+◌, ℕ, List, Option, Some, None, unwrap_or, nat_lt, option_and_then, if◌then◌else◌}
-use Rattle.elf_object.specs.declared.class.SectionClass.TheVariants.{Executable}
 use Rattle.elf_object.specs.declared.symbol.SymbolPlace.{SymbolPlace}
 use Rattle.elf_object.specs.declared.symbol.SymbolPlace.TheVariants.{InSection}
 use Rattle.elf_object.specs.Lent.{section_class, symbol_place, symbol_value}
-use Rattle.tls_layout.specs.Sections.{Layout, is_class}
+use Rattle.tls_layout.specs.Sections.{Layout}
 use Rattle.tls_layout.specs.Places.{address_of, executable}
-use Rattle.link_core.specs.Parts.{object_at}
+use Rattle.link_core.specs.Parts.{object_at, is_of}
+use Rattle.link_core.specs.declared.part.PartKind.TheVariants.{Code}
 use Rattle.link_core.specs.Definitions.{definition_of}
 use Rattle.link_core.specs.declared.symbols.SymbolRef.{SymbolRef}
 
@@ -16,7 +16,7 @@ below end place = if nat_lt place end then Some place else None
 -- where symbol e of object o stands, if that is a byte of the executable class
 abbrev pub code_place : Layout → ℕ → List ℕ → SymbolPlace → ℕ → Option ℕ
 code_place p o b (InSection s) value =
-    if is_class Executable (section_class b s)
+    if is_of Code (section_class b s)
     then below (executable p.kind p.sections).end (unwrap_or (address_of p o s) 0 + value)
     else None
 code_place p o b place value = None

@@ -99,7 +99,8 @@ pub fn linked_bytes(
     requires block { block_offset ≡ offset_of_block placement.now }
     requires bytes { bytes.now ≡ section_bytes object.now section }
     requires filled { length bytes.now ≡ section_size object.now section }
-    ensures { IfOk result (λ linked. linked.items ≡ linked_bytes placement.now number object.now section) }
+    ensures bytes { IfOk result (λ linked. linked.items ≡ linked_bytes placement.now number object.now section) }
+    ensures len { IfOk result (λ linked. length linked.items ≡ section_size object.now section) }
 {
     let mut linked = Vec::from_slice(alloc, bytes)?;
     write_fields(placement, block_offset, number, object, section, linked.as_mut_slice());
