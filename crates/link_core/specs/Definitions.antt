@@ -1,5 +1,5 @@
 -- The symbol that a name binds to in an image (gABI, "Symbol Table": a strong definition goes before a weak one).
-use Rattle.std.specs.Prelude.{◌+◌, ◌-◌, ◌&&◌, ℕ, List, [], ◌∷◌, Bool, true, false, Option, Some, None}
+use Rattle.std.specs.Prelude.{◌+◌, ◌-◌, ◌&&◌, ℕ, List, [], ◌∷◌, Bool, true, false, Option, Some, None, ◌<◌, length, slice_index_or}
 use Rattle.std.specs.List.{find, range_with_len}
 use Rattle.std.specs.Str.{bytes_eq}
 use Rattle.elf_object.specs.declared.symbol.SymbolBinding.{SymbolBinding}
@@ -45,3 +45,8 @@ or_weak None weak = weak
 -- the definition that a name binds to in an image: the first strong one, else the first weak one
 unfoldable pub definition_of : List (List ℕ) → List ℕ → Option SymbolRef
 definition_of objects name = or_weak (first_from Global name 0 objects) (first_from Weak name 0 objects)
+
+-- the object and its symbol are there
+pub record IsWithin (objects : List (List ℕ)) (found : SymbolRef) : Type 0 where
+  pub object : found.object < length objects
+  pub symbol : found.symbol < symbol_count (slice_index_or objects found.object [])

@@ -1,6 +1,6 @@
 //! Where a function of an image stands, by its name.
-ghost use Rattle.std.specs.Prelude.{◌≡◌, ◌≤◌, ◌^◌};
-ghost use Rattle.link_core.specs.Entries.{code_place, entry_of};
+ghost use Rattle.std.specs.Prelude.{◌≡◌, ◌+◌};
+ghost use Rattle.link_core.specs.Entries.{below, code_place, entry_of};
 
 use crate::part::{PartKind, address_or_zero, is_of};
 use crate::symbols::definition;
@@ -20,17 +20,27 @@ pub fn entry(placement: &Placement, objects: &[Object], name: &[u8]) -> Option<u
 }
 
 /// The place of what lies in a section so far behind its start, if that is a byte of the executable class.
+#[tactic(auto, using(crate::proofs::Sections::past_class))]
 fn code_place(placement: &Placement, number: usize, object: &Object, place: SymbolPlace, value: u64) -> Option<u64>
-    requires { value ≤ 2 ^ 20 }
     ensures { result ≡ code_place placement.now number object.now place value }
 {
     let SymbolPlace::InSection(section) = place else {
         return None;
     };
-    let part = object.section(section)?;
-    if !is_of(PartKind::Code, part.class) {
-        return None;
+    match object.section(section) {
+        Some(part) if is_of(PartKind::Code, part.class) => {
+            below(placement.executable().end, address_or_zero(placement, number, section), value)
+        }
+        _ => None,
     }
-    let at = address_or_zero(placement, number, section) + value;
-    if at < placement.executable().end { Some(at) } else { None }
+}
+
+/// The place so far behind an address, if it lies below the end.
+fn below(end: u64, address: u64, value: u64) -> Option<u64>
+    ensures { result ≡ below end (address + value) }
+{
+    match address.checked_add(value) {
+        Some(place) if place < end => Some(place),
+        _ => None,
+    }
 }

@@ -1,7 +1,8 @@
 //! Functions by their names.
-ghost use Rattle.std.specs.Prelude.{◌≡◌, ◌&&◌};
+ghost use Rattle.std.specs.Prelude.{◌≡◌, ◌<◌, ◌&&◌, IfSome};
+ghost use Rattle.elf_object.specs.Parts.{symbol_count};
 ghost use Rattle.std.specs.Str.{bytes_eq};
-ghost use Rattle.link_core.specs.Definitions.{defines, first_in, first_from, definition_of, same_binding, is_defined};
+ghost use Rattle.link_core.specs.Definitions.{IsWithin, defines, first_in, first_from, definition_of, same_binding, is_defined};
 
 use elf_object::{Object, SymbolBinding, SymbolPart, SymbolPlace};
 
@@ -16,7 +17,8 @@ pub struct SymbolRef {
 /// The definition that a name binds to in an image of these objects: the first strong one, else the first weak one.
 #[tactic(auto, unfolding(crate::specs::Definitions::definition_of))]
 pub fn definition(objects: &[Object], name: &[u8]) -> Option<SymbolRef>
-    ensures { result ≡ definition_of objects.now name.now }
+    ensures definition { result ≡ definition_of objects.now name.now }
+    ensures within { IfSome result (IsWithin objects.now) }
 {
     match first_of(objects, SymbolBinding::Global, name) {
         Some(strong) => Some(strong),
@@ -26,7 +28,8 @@ pub fn definition(objects: &[Object], name: &[u8]) -> Option<SymbolRef>
 
 /// The first definition of the name with this binding.
 fn first_of(objects: &[Object], binding: SymbolBinding, name: &[u8]) -> Option<SymbolRef>
-    ensures { result ≡ first_from binding name.now 0 objects.now }
+    ensures first { result ≡ first_from binding name.now 0 objects.now }
+    ensures within { IfSome result (IsWithin objects.now) }
 {
     for (index, object) in objects.iter().enumerate() {
         if let Some(symbol) = first_in(object, binding, name) {
@@ -42,7 +45,8 @@ fn first_of(objects: &[Object], binding: SymbolBinding, name: &[u8]) -> Option<S
 /// The first symbol of an object that defines the name, with this binding.
 #[tactic(auto, using(crate::proofs::Search::find_here, crate::proofs::Search::find_later, crate::proofs::Search::find_none), unfolding(crate::specs::Definitions::first_in))]
 fn first_in(object: &Object, binding: SymbolBinding, name: &[u8]) -> Option<u32>
-    ensures { result ≡ first_in binding name.now object.now }
+    ensures first { result ≡ first_in binding name.now object.now }
+    ensures within { IfSome result (λ symbol. symbol < symbol_count object.now) }
 {
     for number in 1..object.symbol_count() {
         if let Some(symbol) = object.symbol(number) && defines(&symbol, binding, name) {
