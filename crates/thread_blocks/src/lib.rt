@@ -1,0 +1,2 @@
+//! What a thread does.
+#![tactic(auto)]
