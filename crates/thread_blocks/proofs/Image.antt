@@ -36,7 +36,7 @@ use Rattle.guest_machine.specs.State.{register_of}
 use Rattle.guest_machine.specs.Step.{immediate_of, all_unsettled, is_cleared, nop_use, finished, concluded, move_in, stored, store_byte, move_number, move_of, extend_byte, extend_long, load_address, compute_in, compute_out, add_field, compute_plain, compute_number, compute_of, test_of, multiply_of, shift_of, pushed, push_of, pop_of, leave_of, return_of, call_of, jump_of, jump_if, nop_of, act, frame_of, act_if, step_of}
 use Rattle.guest_machine.specs.Use.{◌>>=◌, plus, clean, there, After, left}
 use Rattle.guest_machine.specs.Values.{Operations}
-use Rattle.thread_blocks.specs.Spaces.{IsImage, after_of, mapped, outcome_of}
+use Rattle.thread_blocks.specs.Spaces.{IsImage, after_of, mapped, next_image, outcome_image, IsRunImage}
 
 -- the same thing after the same
 then-same : {A C : Type 0} (r : Result A Stop) (f g : A → Result C Stop) → ((a : A) → g a ≡ f a) → (r >>= g) ≡ (r >>= f)
@@ -314,3 +314,42 @@ module _ {W F B M M' : Type 0} (ops : Operations W F B) (acc : Accesses M B) (ac
   pub step_image : (is_field : ℕ → Bool) (s : State W F) (m : M) → step_of ops acc' is_field s (image m) ≡ mapped image (step_of ops acc is_field s m)
   unfolding step_of
   step_image is_field s m = rw (fetch-image m s.place) (decoded-image is_field (decoded (fetch_of acc m s.place)) s m)
+
+  next-image : (r : Result (After W F M) Stop) (r' : Result (After W F M') Stop) → r' ≡ mapped image r → next_of r' ≡ next_image (after_of image) (next_of r)
+  next-image (Ok after) r' e = rw e refl
+  next-image (Err stop) r' e = rw e refl
+
+  -- the law of the machine: where no field of the image is none of the memory
+  module _ (is_field : M → ℕ → Bool) (is_field' : M' → ℕ → Bool) (same_fields : (m : M) → is_field' (image m) ≡ is_field m) where
+    stepped-image : (looks : Bool) (a : After W F M)
+        → (if looks then Looks (after_of image a) else next_of (step_of ops acc' (is_field' (image a.memory)) a.state (image a.memory)))
+          ≡ next_image (after_of image) (if looks then Looks a else next_of (step_of ops acc (is_field a.memory) a.state a.memory))
+    stepped-image true a = refl
+    stepped-image false a = rw (same_fields a.memory) (next-image _ _ (step_image (is_field a.memory) a.state a.memory))
+
+    pub machine_image : IsRunImage (after_of image) (machine ops acc is_field) (machine ops acc' is_field')
+    unfolding machine
+    machine_image = record {
+      over = λ a. refl;
+      step = λ a. stepped-image (is_look a.state.place) a;
+      spent = λ a. refl;
+    }
+
+-- ** runs
+
+module _ {S S' : Type 0} (image : S → S') (x : Stepping S) (y : Stepping S') (is_image : IsRunImage image x y) where
+  go_on-image : (n m : ℕ) (s : S) (next : Next S) → ((t : S) → run y n (image t) ≡ outcome_image image (run x n t))
+      → go_on m (image s) (run y n) (next_image image next) ≡ outcome_image image (go_on m s (run x n) next)
+  go_on-image n m s (Goes t) rest = rest t
+  go_on-image n m s (Ends stop) rest = refl
+  go_on-image n m s (Looks t) rest = refl
+
+  over-image : (n : ℕ) (s : S) (over : Option Stop) (rest : Outcome S) (rest' : Outcome S') → rest' ≡ outcome_image image rest
+      → over_or n (image s) over rest' ≡ outcome_image image (over_or n s over rest)
+  over-image n s None rest rest' e = e
+  over-image n s (Some stop) rest rest' e = refl
+
+  -- the law of runs
+  pub run_image : (n : ℕ) (s : S) → run y n (image s) ≡ outcome_image image (run x n s)
+  run_image zero s = rw (is_image.over s) (over-image zero s (x.over s) _ _ (ap (λ stop. Ended stop zero (image s)) (is_image.spent s)))
+  run_image (suc n) s = rw (is_image.over s, is_image.step s) (over-image (suc n) s (x.over s) _ _ (go_on-image n (suc n) s (x.step s) (λ t. run_image n t)))

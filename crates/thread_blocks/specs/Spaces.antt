@@ -5,7 +5,7 @@ use Rattle.guest_machine.specs.declared.stop.Stop.{Stop}
 use Rattle.guest_machine.specs.Access.{Refusal, Refused, Shut, Accesses, reached}
 use Rattle.guest_machine.specs.Follow.{All2}
 use Rattle.guest_machine.specs.Ranges.{Range, AddressSpace, grants, byte_in, with_byte}
-use Rattle.guest_machine.specs.Run.{Outcome, Ended, Waits}
+use Rattle.guest_machine.specs.Run.{Next, Goes, Ends, Looks, Outcome, Ended, Waits, Stepping}
 use Rattle.guest_machine.specs.Use.{After, left}
 use Rattle.guest_machine.specs.Values.{Operations}
 
@@ -72,17 +72,28 @@ pub record IsImage {M M' B : Type 0} (acc : Accesses M B) (acc' : Accesses M' B)
   pub put : (m : M) (place : ℕ) (byte : B) → acc'.put (image m) place byte ≡ image (acc.put m place byte)
   pub code : (m : M) (place : ℕ) → acc'.code (image m) place ≡ acc.code m place
 
-module _ {W F M M' : Type 0} (image : M → M') where
-  abbrev pub after_of : After W F M → After W F M'
-  after_of after = left after.state (image after.memory)
+abbrev pub after_of : {W F M M' : Type 0} → (M → M') → After W F M → After W F M'
+after_of image after = left after.state (image after.memory)
 
-  abbrev pub mapped : Result (After W F M) Stop → Result (After W F M') Stop
-  mapped (Ok after) = Ok (after_of after)
-  mapped (Err stop) = Err stop
+abbrev pub mapped : {W F M M' : Type 0} → (M → M') → Result (After W F M) Stop → Result (After W F M') Stop
+mapped image (Ok after) = Ok (after_of image after)
+mapped image (Err stop) = Err stop
 
-  abbrev pub outcome_of : Outcome (After W F M) → Outcome (After W F M')
-  outcome_of (Ended stop n after) = Ended stop n (after_of after)
-  outcome_of (Waits n after) = Waits n (after_of after)
+module _ {S S' : Type 0} (image : S → S') where
+  abbrev pub next_image : Next S → Next S'
+  next_image (Goes s) = Goes (image s)
+  next_image (Ends stop) = Ends stop
+  next_image (Looks s) = Looks (image s)
+
+  abbrev pub outcome_image : Outcome S → Outcome S'
+  outcome_image (Ended stop n s) = Ended stop n (image s)
+  outcome_image (Waits n s) = Waits n (image s)
+
+  -- what the one steps to, the other steps to from its image
+  pub record IsRunImage (x : Stepping S) (y : Stepping S') : Type 0 where
+    pub over : (s : S) → y.over (image s) ≡ x.over s
+    pub step : (s : S) → y.step (image s) ≡ next_image (x.step s)
+    pub spent : (s : S) → y.spent (image s) ≡ x.spent s
 
 -- ---- two memories, part by part
 
