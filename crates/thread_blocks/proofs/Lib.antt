@@ -1,3 +1,4 @@
 pub mod Turns
 pub mod Image
 pub mod Spaces
+pub mod Calls

@@ -1,3 +1,5 @@
 pub mod Turns
 pub mod TurnsAlike
 pub mod Spaces
+pub mod MachineTurns
+pub mod Parts
