@@ -5,8 +5,16 @@ use Rattle.guest_machine.specs.declared.stop.Stop.{Stop}
 use Rattle.guest_machine.specs.declared.stop.Stop.TheVariants.{Address}
 use Rattle.guest_machine.specs.Access.{Accesses}
 use Rattle.guest_machine.specs.Plain.{plain_operations}
-use Rattle.guest_machine.specs.Run.{Next, Goes, Ends, Looks, Outcome, Ended, Waits, Stepping, over_or, go_on, run, machine, machine_of, is_look, next_of, stop_of}
+use Rattle.guest_machine.specs.Run.{Next, Goes, Ends, Looks, Outcome, Ended, Waits, Stepping, over_or, go_on, run, machine, machine_of, is_look, next_of, stop_of, Runs}
 use Rattle.guest_machine.specs.Ranges.{AddressSpace}
+use Rattle.guest_machine.specs.Machine.{Standing}
+use Rattle.guest_machine.specs.State.{start_of}
+use Rattle.guest_machine.specs.declared.state.State.{State}
+use Rattle.job_text.specs.declared.event.Event.{Event}
+use Rattle.job_text.specs.declared.transcripts.Outcome.{Outcome as Answer}
+use Rattle.thread_blocks.specs.declared.call.Call.{Call}
+use Rattle.thread_blocks.specs.declared.parts.Executable.{Executable}
+use Rattle.thread_blocks.specs.Parts.{loaded_of, call_ranges, IsCallOutcome}
 use Rattle.guest_machine.specs.Step.{step_of}
 use Rattle.guest_machine.specs.Use.{After, left}
 use Rattle.guest_machine.specs.Values.{Operations}
@@ -82,7 +90,7 @@ module _ (E : Type 0) (loaded : Loaded ℕ) (thread : ℕ) (none : NoneWritable 
   -- the line's one look, and the run behind it
   said-run : (fuel place : ℕ) (line : CallLine) → loaded.entry line.symbol ≡ Some place
       → call_said E loaded thread fuel line ≡ (after_run {L = CallLine} {E = E} [] [] [] (0 ∷ []) (run (alone (λ (at : Held). at.state.place) steps_at) (4 * fuel) (start_at place line))).said
-  unfolding machine_turns
+  unfolding machine_turns call_said
   said-run fuel place line e =
       ap (λ (found : Option ℕ). (after_look (machine_turns {E = E} loaded thread fuel) (4 * fuel) [] [] [] (0 ∷ []) (begun_call plain_operations thread line [] (thread_start plain_operations loaded thread) found)).said) e
 
@@ -99,3 +107,40 @@ module _ (E : Type 0) (loaded : Loaded ℕ) (thread : ℕ) (none : NoneWritable 
       ∙ (shown-run (λ (at : Held). at.state.place) steps_at (after_of memory_at) stop_of (run steps_at (4 * fuel) (start_at place line)) (λ stop n s. refl) (λ n s. refl)
       ∙ ap (λ (out : Outcome (After ℕ Bool (AddressSpace ℕ))). option_map (λ outcome. record { points = 0 ∷ []; outcome = outcome }) (answer_of_stop (stop_of out)) ∷ [])
         (sym (space_run plain_operations (stack_start thread) (fixed_of plain_operations loaded thread) (fixed_none loaded thread none) (4 * fuel) (start_at place line)))))
+
+-- ** the call of a program's parts
+
+plain_word : (number : ℕ) → number < 2 ^ 64 → plain_operations.word number ≡ number
+unfolding plain_operations
+plain_word number small = omega arith
+
+plain_start : (thread place a b c : ℕ) (symbol : List ℕ) → a < 2 ^ 64 → b < 2 ^ 64 → c < 2 ^ 64
+    → call_start plain_operations thread place (record { symbol = symbol; a = a; b = b; c = c })
+      ≡ (record (start_of plain_operations place (stack_end thread - 8) a b c) { thread_pointer = pointer_of thread })
+plain_start thread place a b c symbol f g h = rw (plain_word a f, plain_word b g, plain_word c h) refl
+
+-- the law: how the machine stops over the parts' ranges is what comes of the call
+pub run_says : (executable : Executable) (thread fuel : ℕ) (call : Call) (outcome : Answer) (stop : Stop) → call.a < 2 ^ 64 → call.b < 2 ^ 64 → call.c < 2 ^ 64
+    → stop ≡ stop_of (run (machine_of plain_operations) (4 * fuel) (left (record (start_of plain_operations call.place (stack_end thread - 8) call.a call.b call.c) { thread_pointer = pointer_of thread })
+      (record { ranges = call_ranges executable thread; fields = [] })))
+    → answer_of_stop stop ≡ Some outcome → IsCallOutcome executable thread fuel call outcome
+run_says executable thread fuel call outcome stop f g h e k = record {
+  says = λ entry symbol found.
+      call_run Event (loaded_of executable entry) thread (refl, (refl, tt)) fuel call.place (record { symbol = symbol; a = call.a; b = call.b; c = call.c }) found
+      ∙ ap (λ (answer : Option Answer). option_map (λ outcome. record { points = 0 ∷ []; outcome = outcome }) answer ∷ [])
+        (ap (λ (start : State ℕ Bool). answer_of_stop (stop_of (run (machine_of plain_operations) (4 * fuel) (left start (record { ranges = call_ranges executable thread; fields = [] })))))
+          (plain_start thread call.place call.a call.b call.c symbol f g h)
+        ∙ (ap answer_of_stop (sym e) ∙ k));
+}
+
+sub_zero : (n : ℕ) → n - 0 ≡ n
+sub_zero n = omega arith
+
+-- from what the code's machine did to how it stops
+pub run_stops : (place a b c thread fuel stack pointer limit : ℕ) (stop : Stop) (machine ready after : Standing ℕ Bool) (memory memory' wanted : AddressSpace ℕ)
+    → Runs plain_operations limit stop ready memory after memory'
+    → machine ≡ record { state = start_of plain_operations place stack a b c; taken = 0 }
+    → ready ≡ (record machine { state = record machine.state { thread_pointer = pointer } })
+    → memory ≡ wanted → limit ≡ 4 * fuel → stack ≡ stack_end thread - 8 → pointer ≡ pointer_of thread
+    → stop ≡ stop_of (run (machine_of plain_operations) (4 * fuel) (left (record (start_of plain_operations place (stack_end thread - 8) a b c) { thread_pointer = pointer_of thread }) wanted))
+run_stops place a b c thread fuel stack pointer limit stop machine ready after memory memory' wanted runs e r m l s p = runs.stop ∙ rw (r, e, m, l, s, p, sub_zero) refl

@@ -147,5 +147,5 @@ abbrev pub shown : Said → Option Line
 shown said = option_map (λ outcome. record { points = said.points; outcome = outcome }) (answer_of said.ending)
 
 -- what a thread says that has one line, which sees no event
-abbrev pub call_said : (E : Type 0) → Loaded ℕ → ℕ → ℕ → CallLine → List Said
+unfoldable pub call_said : (E : Type 0) → Loaded ℕ → ℕ → ℕ → CallLine → List Said
 call_said E loaded thread fuel line = (turn (machine_turns {E = E} loaded thread fuel) (ready (thread_start plain_operations loaded thread) (line ∷ [])) []).said

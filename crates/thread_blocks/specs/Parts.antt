@@ -39,9 +39,8 @@ call_ranges executable thread =
     let loaded = loaded_of executable (λ symbol. None) in
     ranges_of {E = Event} (stack_start thread) (fixed_of plain_operations loaded thread) (fresh_space plain_operations [] (loaded.blocks thread))
 
--- where a name's function begins at the call's place, this is what a thread says of the one line that calls it
-abbrev pub IsCallOutcome : Executable → ℕ → ℕ → Call → Outcome → Type 0
-IsCallOutcome executable thread fuel call outcome =
-    (entry : List ℕ → Option ℕ) (symbol : List ℕ) → entry symbol ≡ Some call.place
-    → map shown (call_said Event (loaded_of executable entry) thread fuel (record { symbol = symbol; a = call.a; b = call.b; c = call.c }))
-      ≡ Some (record { points = 0 ∷ []; outcome = outcome }) ∷ []
+-- where the function of some name begins at the call's place, this is what a thread says of the one line that calls it
+pub record IsCallOutcome (executable : Executable) (thread fuel : ℕ) (call : Call) (outcome : Outcome) : Type 0 where
+  pub says : (entry : List ℕ → Option ℕ) (symbol : List ℕ) → entry symbol ≡ Some call.place
+      → map shown (call_said Event (loaded_of executable entry) thread fuel (record { symbol = symbol; a = call.a; b = call.b; c = call.c }))
+        ≡ Some (record { points = 0 ∷ []; outcome = outcome }) ∷ []
