@@ -70,7 +70,7 @@ module _ (E : Type 0) (loaded : Loaded ℕ) (thread : ℕ) (none : NoneWritable 
       → ((stop : Stop) (n : ℕ) (s : S') → stop_at (Ended stop n s) ≡ stop)
       → ((n : ℕ) (s : S') → answer_of_stop (stop_at (Waits n s)) ≡ answer_of_stop (Address 0))
       → map shown (after_run {L = CallLine} {E = E} [] [] [] (0 ∷ []) (closed place_of x out)).said
-        ≡ option_map (λ outcome. record { points = 0 ∷ []; outcome = outcome }) (answer_of_stop (stop_at (outcome_image image out))) ∷ []
+      ≡ option_map (λ outcome. record { points = 0 ∷ []; outcome = outcome }) (answer_of_stop (stop_at (outcome_image image out))) ∷ []
   unfolding closed
   shown-run place_of x image stop_at (Ended stop n s) ends waits = rw (ends stop n (image s)) refl
   shown-run place_of x image stop_at (Waits n s) ends waits = rw (waits n (image s)) refl
@@ -97,16 +97,16 @@ module _ (E : Type 0) (loaded : Loaded ℕ) (thread : ℕ) (none : NoneWritable 
   -- the law: what the transcript has of the line is how the machine stops over the ranges
   pub call_run : (fuel place : ℕ) (line : CallLine) → loaded.entry line.symbol ≡ Some place
       → map shown (call_said E loaded thread fuel line)
-        ≡ option_map (λ outcome. record { points = 0 ∷ []; outcome = outcome })
-          (answer_of_stop (stop_of (run (machine_of plain_operations) (4 * fuel) (left (call_start plain_operations thread place line) (memory_at (fresh_space plain_operations [] (loaded.blocks thread)))))))
-          ∷ []
+      ≡ option_map (λ outcome. record { points = 0 ∷ []; outcome = outcome })
+      (answer_of_stop (stop_of (run (machine_of plain_operations) (4 * fuel) (left (call_start plain_operations thread place line) (memory_at (fresh_space plain_operations [] (loaded.blocks thread)))))))
+      ∷ []
   call_run fuel place line e =
       ap (map shown) (said-run fuel place line e)
       ∙ (ap (λ (out : Outcome Held). map shown (after_run {L = CallLine} {E = E} [] [] [] (0 ∷ []) out).said)
-        (alone_run (λ (at : Held). at.state.place) steps_at (machine_stays plain_operations _ no_field) (4 * fuel) (start_at place line))
+      (alone_run (λ (at : Held). at.state.place) steps_at (machine_stays plain_operations _ no_field) (4 * fuel) (start_at place line))
       ∙ (shown-run (λ (at : Held). at.state.place) steps_at (after_of memory_at) stop_of (run steps_at (4 * fuel) (start_at place line)) (λ stop n s. refl) (λ n s. refl)
       ∙ ap (λ (out : Outcome (After ℕ Bool (AddressSpace ℕ))). option_map (λ outcome. record { points = 0 ∷ []; outcome = outcome }) (answer_of_stop (stop_of out)) ∷ [])
-        (sym (space_run plain_operations (stack_start thread) (fixed_of plain_operations loaded thread) (fixed_none loaded thread none) (4 * fuel) (start_at place line)))))
+      (sym (space_run plain_operations (stack_start thread) (fixed_of plain_operations loaded thread) (fixed_none loaded thread none) (4 * fuel) (start_at place line)))))
 
 -- ** the call of a program's parts
 
@@ -116,21 +116,21 @@ plain_word number small = omega arith
 
 plain_start : (thread place a b c : ℕ) (symbol : List ℕ) → a < 2 ^ 64 → b < 2 ^ 64 → c < 2 ^ 64
     → call_start plain_operations thread place (record { symbol = symbol; a = a; b = b; c = c })
-      ≡ (record (start_of plain_operations place (stack_end thread - 8) a b c) { thread_pointer = pointer_of thread })
+    ≡ (record (start_of plain_operations place (stack_end thread - 8) a b c) { thread_pointer = pointer_of thread })
 plain_start thread place a b c symbol f g h = rw (plain_word a f, plain_word b g, plain_word c h) refl
 
 -- the law: how the machine stops over the parts' ranges is what comes of the call
 pub run_says : (executable : Executable) (thread fuel : ℕ) (call : Call) (outcome : Answer) (stop : Stop) → call.a < 2 ^ 64 → call.b < 2 ^ 64 → call.c < 2 ^ 64
     → stop ≡ stop_of (run (machine_of plain_operations) (4 * fuel) (left (record (start_of plain_operations call.place (stack_end thread - 8) call.a call.b call.c) { thread_pointer = pointer_of thread })
-      (record { ranges = call_ranges executable thread; fields = [] })))
+    (record { ranges = call_ranges executable thread; fields = [] })))
     → answer_of_stop stop ≡ Some outcome → IsCallOutcome executable thread fuel call outcome
 run_says executable thread fuel call outcome stop f g h e k = record {
   says = λ entry symbol found.
       call_run Event (loaded_of executable entry) thread (refl, (refl, tt)) fuel call.place (record { symbol = symbol; a = call.a; b = call.b; c = call.c }) found
       ∙ ap (λ (answer : Option Answer). option_map (λ outcome. record { points = 0 ∷ []; outcome = outcome }) answer ∷ [])
-        (ap (λ (start : State ℕ Bool). answer_of_stop (stop_of (run (machine_of plain_operations) (4 * fuel) (left start (record { ranges = call_ranges executable thread; fields = [] })))))
-          (plain_start thread call.place call.a call.b call.c symbol f g h)
-        ∙ (ap answer_of_stop (sym e) ∙ k));
+      (ap (λ (start : State ℕ Bool). answer_of_stop (stop_of (run (machine_of plain_operations) (4 * fuel) (left start (record { ranges = call_ranges executable thread; fields = [] })))))
+      (plain_start thread call.place call.a call.b call.c symbol f g h)
+      ∙ (ap answer_of_stop (sym e) ∙ k));
 }
 
 sub_zero : (n : ℕ) → n - 0 ≡ n

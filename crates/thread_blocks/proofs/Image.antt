@@ -323,7 +323,7 @@ module _ {W F B M M' : Type 0} (ops : Operations W F B) (acc : Accesses M B) (ac
   module _ (is_field : M → ℕ → Bool) (is_field' : M' → ℕ → Bool) (same_fields : (m : M) → is_field' (image m) ≡ is_field m) where
     stepped-image : (looks : Bool) (a : After W F M)
         → (if looks then Looks (after_of image a) else next_of (step_of ops acc' (is_field' (image a.memory)) a.state (image a.memory)))
-          ≡ next_image (after_of image) (if looks then Looks a else next_of (step_of ops acc (is_field a.memory) a.state a.memory))
+        ≡ next_image (after_of image) (if looks then Looks a else next_of (step_of ops acc (is_field a.memory) a.state a.memory))
     stepped-image true a = refl
     stepped-image false a = rw (same_fields a.memory) (next-image _ _ (step_image (is_field a.memory) a.state a.memory))
 

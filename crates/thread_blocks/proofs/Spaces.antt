@@ -35,8 +35,8 @@ module _ {B : Type 0} where
 module _ {W F E B : Type 0} (ops : Operations W F B) (start : ℕ) (fixed : List E → List (Range B)) (none : (seen : List E) → NoneWritable (fixed seen)) where
   put-ranges : (b : Bool) (space : Space E B) (place : ℕ) (byte : B) (x : List (Range B)) → x ≡ with_byte space.own place byte ++ fixed space.seen
       → (if b then (record { start = start; bytes = slice_set space.stack (place - start) byte; readable = true; writable = true; runnable = false }) ∷ (space.own ++ fixed space.seen)
-          else stack_range start space.stack ∷ x)
-        ≡ ranges_of start fixed (if b then record space { stack = slice_set space.stack (place - start) byte } else record space { own = with_byte space.own place byte })
+      else stack_range start space.stack ∷ x)
+      ≡ ranges_of start fixed (if b then record space { stack = slice_set space.stack (place - start) byte } else record space { own = with_byte space.own place byte })
   put-ranges true space place byte x e = refl
   put-ranges false space place byte x e = ap (λ rest. stack_range start space.stack ∷ rest) e
 
@@ -221,7 +221,7 @@ module _ {B : Type 0} where
 module _ {E B : Type 0} (start : ℕ) (fixed : List E → List (Range B)) (shut : List E → ℕ → Bool) where
   written-shape : (space : Space E B) (own : List (Range B)) (stack : List B) (at : ℕ) → All2 (SameRange Any) (stack_range start space.stack ∷ space.own) (stack_range start stack ∷ own)
       → unless_shut (shut space.seen at) (reached (λ byte. tt {0}) (ok_or (byte_in Write (stack_range start stack ∷ (own ++ fixed space.seen)) at) Refused))
-        ≡ unless_shut (shut space.seen at) (reached (λ byte. tt {0}) (ok_or (byte_in Write (ranges_of start fixed space) at) Refused))
+      ≡ unless_shut (shut space.seen at) (reached (λ byte. tt {0}) (ok_or (byte_in Write (ranges_of start fixed space) at) Refused))
   written-shape space own stack at h =
       ap (unless_shut (shut space.seen at)) (write-same _ _ (byte_in-same Any Write (ranges_of start fixed space) (stack_range start stack ∷ (own ++ fixed space.seen)) at
       (h.0, all2-append (SameRange Any) space.own (fixed space.seen) own (fixed space.seen) h.1 (ranges-refl (fixed space.seen)))))
@@ -229,7 +229,7 @@ module _ {E B : Type 0} (start : ℕ) (fixed : List E → List (Range B)) (shut 
   put-still : (g : Bool) (space : Space E B) (place at : ℕ) (b : B) (new : Space E B)
       → new ≡ (if g then record space { stack = slice_set space.stack (place - start) b } else record space { own = with_byte space.own place b })
       → unless_shut (shut new.seen at) (reached (λ byte. tt {0}) (ok_or (byte_in Write (ranges_of start fixed new) at) Refused))
-        ≡ unless_shut (shut space.seen at) (reached (λ byte. tt {0}) (ok_or (byte_in Write (ranges_of start fixed space) at) Refused))
+      ≡ unless_shut (shut space.seen at) (reached (λ byte. tt {0}) (ok_or (byte_in Write (ranges_of start fixed space) at) Refused))
   put-still true space place at b new e =
       rw e (written-shape space space.own (slice_set space.stack (place - start) b) at (range-set (stack_range start space.stack) (place - start) b, ranges-refl space.own))
   put-still false space place at b new e =
@@ -239,13 +239,15 @@ module _ {W F E B W' F' B' : Type 0} (same : Alike W F B W' F' B') (ops : Operat
     (fixed : List E → List (Range B)) (fixed' : List E → List (Range B')) (shut : List E → ℕ → Bool)
     (same_fixed : (seen : List E) → All2 (SameRange same.byte) (fixed seen) (fixed' seen)) where
   ranges-same : (space : Space E B) (space' : Space E B') → SameSpace same.byte space space' → All2 (SameRange same.byte) (ranges_of start fixed space) (ranges_of start fixed' space')
-  ranges-same space space' h =
-      (stack-same same.byte start space.stack space'.stack h.stack, all2-append (SameRange same.byte) space.own (fixed space.seen) space'.own (fixed' space'.seen) h.own
-      (subst (λ seen. All2 (SameRange same.byte) (fixed space.seen) (fixed' seen)) (sym h.seen) (same_fixed space.seen)))
+  ranges-same space space' h = (
+    stack-same same.byte start space.stack space'.stack h.stack,
+    all2-append (SameRange same.byte) space.own (fixed space.seen) space'.own (fixed' space'.seen) h.own
+        (subst (λ seen. All2 (SameRange same.byte) (fixed space.seen) (fixed' seen)) (sym h.seen) (same_fixed space.seen)),
+  )
 
   put-same : (g g' : Bool) (space : Space E B) (space' : Space E B') (place : ℕ) (b : B) (b' : B') → g' ≡ g → SameSpace same.byte space space' → same.byte b b'
       → SameSpace same.byte (if g then record space { stack = slice_set space.stack (place - start) b } else record space { own = with_byte space.own place b })
-          (if g' then record space' { stack = slice_set space'.stack (place - start) b' } else record space' { own = with_byte space'.own place b' })
+      (if g' then record space' { stack = slice_set space'.stack (place - start) b' } else record space' { own = with_byte space'.own place b' })
   put-same true g' space space' place b b' e h k =
       rw e (record { seen = h.seen; stack = all2-set same.byte space.stack space'.stack (place - start) b b' h.stack k; own = h.own })
   put-same false g' space space' place b b' e h k = rw e (record { seen = h.seen; stack = h.stack; own = with_byte-same same.byte space.own space'.own place b b' h.own k })

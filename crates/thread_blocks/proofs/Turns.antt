@@ -306,7 +306,7 @@ module _ {S S' L E : Type 0} (Rel Wait Rest : List E → S → S' → Type 0) (F
   one_alike : (threads : List (Thread S L E)) (threads' : List (Thread S' L E)) (events events' : List E) (i : ℕ) (t : Thread S L E) (t' : Thread S' L E)
       → slice_get threads i ≡ Some t → All2 (Level Wait Rest) threads threads' → events' ≡ events → Level Wait Rest t t' → Fine t.seen events
       → SameWorlds (record { threads = slice_set threads i (turn x t events); events = with_event events (event_of event t events) })
-          (record { threads = slice_set threads' i (turn y t' events'); events = with_event events' (event_of event t' events') })
+      (record { threads = slice_set threads' i (turn y t' events'); events = with_event events' (event_of event t' events') })
   one_alike threads threads' events events' i t t' e same f level fine =
       rw f (set_alike threads threads' i t (turn x t events) (turn y t' events) _ _ e same
       (ap (λ (added : Option E). with_event events added) (event-same t t' events level)) (turn_alike Rel Wait Rest Fine x y alike t t' events fine (inr level)))
@@ -329,9 +329,9 @@ module _ {S S' L E : Type 0} (Rel Wait Rest : List E → S → S' → Type 0) (F
   step_alike w w' zero fine same = inr same
   step_alike w w' (suc i) fine same = (elim (slice_get w.threads i) as (λ (o : Option (Thread S L E)). slice_get w.threads i ≡ o
       → SameWorlds (taken_by x event w (suc i) o) (taken_by y event w' (suc i) (slice_get w'.threads i))) [
-    | None ↦ λ e. none_alike w w' i e same
-    | Some t ↦ λ e. some_alike w w' i t e same (fine-get Fine w.events w.threads i t fine e)
-  ]) refl
+        | None ↦ λ e. none_alike w w' i e same
+        | Some t ↦ λ e. some_alike w w' i t e same (fine-get Fine w.events w.threads i t fine e)
+      ]) refl
 
   taken_alike : (w : World S L E) (w' : World S' L E) (i : ℕ) → AllFine Fine w.events w.threads → SameWorlds w w' → SameWorlds (taken x event w i) (taken y event w' i)
   unfolding SameWorlds
@@ -351,13 +351,13 @@ module _ {S S' L E : Type 0} (Rel Wait Rest : List E → S → S' → Type 0) (F
   -- where no thread of the first is unclean, both have one history and said the same
   pub order_says : (order : List ℕ) (w : World S L E) (w' : World S' L E) → AllFine Fine w.events w.threads → SameWorld Wait Rest w w' → (AnyUnclean (by_order x event order w).threads → ⊥)
       → ((by_order y event order w').events ≡ (by_order x event order w).events)
-        × (map (λ (t : Thread S' L E). t.said) (by_order y event order w').threads ≡ map (λ (t : Thread S L E). t.said) (by_order x event order w).threads)
+      × (map (λ (t : Thread S' L E). t.said) (by_order y event order w').threads ≡ map (λ (t : Thread S L E). t.said) (by_order x event order w).threads)
   order_says order w w' fine same clean = (elim (order_alike order w w' fine (inr same)) as (λ (k : AnyUnclean (by_order x event order w).threads ⊎ SameWorld Wait Rest (by_order x event order w) (by_order y event order w')).
       ((by_order y event order w').events ≡ (by_order x event order w).events)
       × (map (λ (t : Thread S' L E). t.said) (by_order y event order w').threads ≡ map (λ (t : Thread S L E). t.said) (by_order x event order w).threads)) [
-    | inl h ↦ absurd (clean h)
-    | inr h ↦ (h.events, said-same Wait Rest (by_order x event order w).threads (by_order y event order w').threads h.threads)
-  ])
+        | inl h ↦ absurd (clean h)
+        | inr h ↦ (h.events, said-same Wait Rest (by_order x event order w).threads (by_order y event order w').threads h.threads)
+      ])
 
 -- ** what an order gives a thread
 
@@ -368,11 +368,11 @@ module _ {S L E : Type 0} (x : Turns S L E) (event : L → List E → Option E) 
   own_points t i w v fine front at = (elim (turn-seen x t w.events) as (λ (k : IsFinished t.todo t.phase ⊎ ((turn x t w.events).seen ≡ w.events)). AtPoints x Fine t i v) [
     | inl done ↦ subst (λ (u : Thread S L E). AtPoints x Fine u i v) (turn-finished x t w.events done) at
     | inr e ↦ record {
-        points = w.events ∷ at.points;
-        rises = (fine, subst (λ (old : List E). Rises Fine old at.points) e at.rises);
-        fronts = (front, at.fronts);
-        thread = at.thread;
-      }
+      points = w.events ∷ at.points;
+      rises = (fine, subst (λ (old : List E). Rises Fine old at.points) e at.rises);
+      fronts = (front, at.fronts);
+      thread = at.thread;
+    }
   ])
 
   -- what the turn of an entry leaves to the rest of the order
@@ -381,26 +381,26 @@ module _ {S L E : Type 0} (x : Turns S L E) (event : L → List E → Option E) 
         → v.threads ≡ slice_set w.threads j (turn x u w.events) → IsFront w.events v.events → AllFine Fine v.events v.threads → AtPoints x Fine t (suc i) (by_order x event order v)
     turned_points w v j t u e fine f g front after = (elim (get-set w.threads i j (turn x u w.events)) as (λ (k : (j ≡ i) ⊎ (slice_get (slice_set w.threads j (turn x u w.events)) i ≡ slice_get w.threads i)).
         AtPoints x Fine t (suc i) (by_order x event order v)) [
-      | inl here ↦
-          let same : u ≡ t = cc in
-          let own : slice_get (slice_set w.threads i (turn x t w.events)) i ≡ Some (turn x t w.events) = get-set_same w.threads i t (turn x t w.events) e in
-          let mine : slice_get v.threads i ≡ Some (turn x t w.events) = cc in
-          own_points t (suc i) w (by_order x event order v) (fine-get Fine w.events w.threads i t fine e)
-          (front-trans x event Fine growing w.events v.events (by_order x event order v).events front (order-front x event Fine growing order v))
-          (rest v (turn x t w.events) mine after)
-      | inr other ↦
-          let mine : slice_get v.threads i ≡ Some t = cc in
-          rest v t mine after
-    ])
+          | inl here ↦
+              let same : u ≡ t = cc in
+              let own : slice_get (slice_set w.threads i (turn x t w.events)) i ≡ Some (turn x t w.events) = get-set_same w.threads i t (turn x t w.events) e in
+              let mine : slice_get v.threads i ≡ Some (turn x t w.events) = cc in
+              own_points t (suc i) w (by_order x event order v) (fine-get Fine w.events w.threads i t fine e)
+              (front-trans x event Fine growing w.events v.events (by_order x event order v).events front (order-front x event Fine growing order v))
+              (rest v (turn x t w.events) mine after)
+          | inr other ↦
+              let mine : slice_get v.threads i ≡ Some t = cc in
+              rest v t mine after
+        ])
 
     taken_points : (w : World S L E) (j : ℕ) (t : Thread S L E) → slice_get w.threads i ≡ Some t → AllFine Fine w.events w.threads
         → AtPoints x Fine t (suc i) (by_order x event order (taken x event w j))
     taken_points w zero t e fine = rest w t e fine
     taken_points w (suc j) t e fine = (elim (slice_get w.threads j) as (λ (o : Option (Thread S L E)). slice_get w.threads j ≡ o → IsFront w.events (taken_by x event w (suc j) o).events
         → AllFine Fine (taken_by x event w (suc j) o).events (taken_by x event w (suc j) o).threads → AtPoints x Fine t (suc i) (by_order x event order (taken_by x event w (suc j) o))) [
-      | None ↦ λ g front after. rest w t e fine
-      | Some u ↦ λ g front after. turned_points w (taken_by x event w (suc j) (Some u)) j t u e fine g refl front after
-    ]) refl (taken-front x event Fine growing w (suc j)) (taken-fine x event Fine growing w (suc j) fine)
+          | None ↦ λ g front after. rest w t e fine
+          | Some u ↦ λ g front after. turned_points w (taken_by x event w (suc j) (Some u)) j t u e fine g refl front after
+        ]) refl (taken-front x event Fine growing w (suc j)) (taken-fine x event Fine growing w (suc j) fine)
 
   ordered_points : (order : List ℕ) (i : ℕ) (w : World S L E) (t : Thread S L E) → slice_get w.threads i ≡ Some t → AllFine Fine w.events w.threads
       → AtPoints x Fine t (suc i) (by_order x event order w)

@@ -43,4 +43,4 @@ call_ranges executable thread =
 pub record IsCallOutcome (executable : Executable) (thread fuel : ℕ) (call : Call) (outcome : Outcome) : Type 0 where
   pub says : (entry : List ℕ → Option ℕ) (symbol : List ℕ) → entry symbol ≡ Some call.place
       → map shown (call_said Event (loaded_of executable entry) thread fuel (record { symbol = symbol; a = call.a; b = call.b; c = call.c }))
-        ≡ Some (record { points = 0 ∷ []; outcome = outcome }) ∷ []
+      ≡ Some (record { points = 0 ∷ []; outcome = outcome }) ∷ []

@@ -89,11 +89,7 @@ fn pointer_word(alloc: Global, thread: u32) -> Result<GuestRange<u8>, AllocError
 }
 
 /// The thread's block: the initial image and then zeros.
-fn block_of(
-    alloc: Global,
-    block: &BlockImage,
-    thread: u32,
-) -> Result<GuestRange<u8>, AllocError>
+fn block_of(alloc: Global, block: &BlockImage, thread: u32) -> Result<GuestRange<u8>, AllocError>
     requires { thread ≤ 64 }
     ensures { IfOk result (λ range. range ≡ block_range block.now thread) }
 {
