@@ -1,5 +1,5 @@
 -- What a thread says of one call is what the machine over its ranges stops with.
-use Rattle.std.proofs.Common.{◌≡◌, ℕ, zero, suc, ◌+◌, ◌-◌, ◌*◌, ◌%◌, ◌^◌, ◌<◌, Bool, true, false, List, [], ◌∷◌, map, Option, Some, None, Result, Ok, Err, refl, sym, ap, ◌∙◌, arith}
+use Rattle.std.proofs.Common.{◌≡◌, ℕ, zero, suc, ◌-◌, ◌*◌, ◌^◌, ◌<◌, Bool, true, false, List, [], ◌∷◌, map, Option, Some, None, Result, Ok, Err, refl, sym, ap, ◌∙◌, arith}
 use Rattle.std.specs.Prelude.{if◌then◌else◌, option_map}
 use Rattle.guest_machine.specs.declared.stop.Stop.{Stop}
 use Rattle.guest_machine.specs.declared.stop.Stop.TheVariants.{Address}
@@ -18,8 +18,7 @@ use Rattle.thread_blocks.specs.Parts.{loaded_of, call_ranges, IsCallOutcome}
 use Rattle.guest_machine.specs.Step.{step_of}
 use Rattle.guest_machine.specs.Use.{After, left}
 use Rattle.guest_machine.specs.Values.{Operations}
-use Rattle.job_text.specs.declared.transcripts.Line.{Line}
-use Rattle.thread_blocks.specs.Turns.{Thread, Calls, after_run, after_look}
+use Rattle.thread_blocks.specs.Turns.{after_run, after_look}
 use Rattle.thread_blocks.specs.Spaces.{Space, space_accesses, open_everywhere, no_field, NoneWritable, after_of, outcome_image, address_space_of}
 use Rattle.thread_blocks.specs.MachineTurns.{Loaded, CallLine, alone_next, alone, fixed_of, stack_start, stack_end, pointer_of, call_start, fresh_space, begun_call, thread_start, machine_turns, answer_of_stop, shown, call_said}
 use Rattle.thread_blocks.proofs.Spaces.{space_run}

@@ -2,3 +2,4 @@ pub mod Turns
 pub mod Image
 pub mod Spaces
 pub mod Calls
+pub mod Finish

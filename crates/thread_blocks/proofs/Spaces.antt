@@ -1,11 +1,11 @@
 -- A thread's space lets a machine do what its ranges let it do; and spaces that are related part by part stay so.
-use Rattle.std.proofs.Common.{◌≡◌, ℕ, zero, suc, ◌-◌, Bool, true, false, List, [], ◌∷◌, ◌++◌, length, Option, Some, None, Result, Ok, Err, refl, sym, ap, subst, ◌∙◌}
-use Rattle.std.specs.Prelude.{if◌then◌else◌, ◌&&◌, nat_le, nat_lt, slice_get, slice_set, ok_or, is_some}
+use Rattle.std.proofs.Common.{◌≡◌, ℕ, zero, suc, ◌-◌, Bool, true, false, List, [], ◌∷◌, ◌++◌, length, Option, Some, None, refl, sym, ap, subst}
+use Rattle.std.specs.Prelude.{if◌then◌else◌, ◌&&◌, nat_le, nat_lt, slice_get, slice_set, ok_or}
 use Rattle.guest_machine.specs.declared.space.Access.{Access}
 use Rattle.guest_machine.specs.declared.space.Access.TheVariants.{Read, Write, Run}
-use Rattle.guest_machine.specs.Access.{Refusal, Refused, Shut, Accesses, reached}
+use Rattle.guest_machine.specs.Access.{Refused, reached}
 use Rattle.guest_machine.specs.Follow.{All2, Reaches, Alike, IsKept}
-use Rattle.guest_machine.specs.Ranges.{Range, AddressSpace, allows, holds, grants, byte_in, with_byte, range_accesses, is_field_of}
+use Rattle.guest_machine.specs.Ranges.{Range, grants, byte_in, with_byte, range_accesses, is_field_of}
 use Rattle.guest_machine.specs.Run.{run, machine, machine_of}
 use Rattle.guest_machine.specs.Use.{After}
 use Rattle.guest_machine.specs.Values.{Operations}

@@ -3,11 +3,11 @@ use Rattle.std.proofs.Common.{◌≡◌, ◌⊎◌, ℕ, zero, suc, ◌+◌, ◌
 use Rattle.std.specs.Prelude.{slice_get, slice_set, option_and_then}
 use Rattle.guest_machine.specs.declared.stop.Stop.{Stop}
 use Rattle.guest_machine.specs.Run.{Outcome, Ended, Waits, run}
-use Rattle.guest_machine.specs.Simulate.{IsUnclean, SameOut}
+use Rattle.guest_machine.specs.Simulate.{SameOut}
 use Rattle.guest_machine.specs.Follow.{All2}
 use Rattle.guest_machine.proofs.Simulate.{same_run}
-use Rattle.thread_blocks.specs.Turns.{Ending, Answered, Stopped, Said, Begun, Says, Calls, Turns, Phase, Idle, Mid, Thread, World, with_last, over_with, after_run, after_look, turn_at, turn, turns, next_line, with_event, at_number, with_number, event_of, taken_by, taken, by_order, IsFinished}
-use Rattle.thread_blocks.specs.TurnsAlike.{IsUncleanEnding, HasUnclean, AnyUnclean, SameBegun, IsAlike, SamePhase, Level, SameThread, SameWorld, Rises, IsFront, AllFronts, IsGrowing, AllFine, AtPoints}
+use Rattle.thread_blocks.specs.Turns.{Ending, Stopped, Said, Begun, Says, Calls, Turns, Phase, Idle, Mid, Thread, World, with_last, over_with, after_run, after_look, turn_at, turn, turns, next_line, with_event, at_number, event_of, taken_by, taken, by_order, IsFinished}
+use Rattle.thread_blocks.specs.TurnsAlike.{IsUncleanEnding, HasUnclean, AnyUnclean, SameBegun, IsAlike, SamePhase, Level, SameThread, SameWorld, Rises, IsFront, IsGrowing, AllFine, AtPoints}
 
 -- ** an unclean line stays
 
@@ -162,12 +162,12 @@ module _ {S L E : Type 0} where
   any-here (first ∷ threads) zero t u e h = inl h
   any-here (first ∷ threads) (suc i) t u e h = inr (any-here threads i t u e h)
 
-  get-set_same : (threads : List (Thread S L E)) (i : ℕ) (t u : Thread S L E) → slice_get threads i ≡ Some t → slice_get (slice_set threads i u) i ≡ Some u
+  pub get-set_same : (threads : List (Thread S L E)) (i : ℕ) (t u : Thread S L E) → slice_get threads i ≡ Some t → slice_get (slice_set threads i u) i ≡ Some u
   get-set_same [] i t u e = cc
   get-set_same (first ∷ threads) zero t u e = refl
   get-set_same (first ∷ threads) (suc i) t u e = get-set_same threads i t u e
 
-  get-set : (threads : List (Thread S L E)) (i j : ℕ) (u : Thread S L E) → (j ≡ i) ⊎ (slice_get (slice_set threads j u) i ≡ slice_get threads i)
+  pub get-set : (threads : List (Thread S L E)) (i j : ℕ) (u : Thread S L E) → (j ≡ i) ⊎ (slice_get (slice_set threads j u) i ≡ slice_get threads i)
   get-set [] i j u = inr refl
   get-set (first ∷ threads) zero zero u = inl refl
   get-set (first ∷ threads) (suc i) zero u = inr refl

@@ -1,12 +1,12 @@
 -- Lines that call a function, as the machine runs them over what is loaded.
-use Rattle.std.specs.Prelude.{◌≡◌, ℕ, ◌+◌, ◌-◌, ◌*◌, ◌^◌, Bool, true, false, List, [], ◌∷◌, ◌++◌, map, replicate, Option, Some, None, option_map}
+use Rattle.std.specs.Prelude.{ℕ, ◌+◌, ◌-◌, ◌*◌, ◌^◌, Bool, true, false, List, [], ◌∷◌, ◌++◌, replicate, Option, Some, None, option_map}
 use Rattle.guest_machine.specs.declared.state.State.{State}
 use Rattle.guest_machine.specs.declared.stop.Stop.{Stop}
 use Rattle.guest_machine.specs.declared.stop.Stop.TheVariants.{Returned, Look, Address, Code, Unclean, Steps}
 use Rattle.guest_machine.specs.Access.{bytes_from}
 use Rattle.guest_machine.specs.Plain.{plain_operations}
 use Rattle.guest_machine.specs.Ranges.{Range}
-use Rattle.guest_machine.specs.Run.{Next, Goes, Ends, Looks, Outcome, Ended, Waits, Stepping, machine}
+use Rattle.guest_machine.specs.Run.{Next, Goes, Ends, Looks, Stepping, machine}
 use Rattle.guest_machine.specs.State.{start_of}
 use Rattle.guest_machine.specs.Use.{After, left}
 use Rattle.guest_machine.specs.Values.{Operations}
@@ -16,7 +16,7 @@ use Rattle.job_text.specs.declared.transcripts.Outcome.{Outcome as Answer}
 use Rattle.job_text.specs.declared.transcripts.Outcome.TheVariants.{Returned as ReturnedAnswer, Refused, Fault}
 use Rattle.job_text.specs.declared.transcripts.Refusal.TheVariants.{Symbol}
 use Rattle.thread_blocks.specs.Spaces.{Space, space_accesses, open_everywhere, no_field}
-use Rattle.thread_blocks.specs.Turns.{Ending, Answered, Stopped, Said, Begun, Says, Calls, Turns, Thread, ready, turn}
+use Rattle.thread_blocks.specs.Turns.{Ending, Answered, Stopped, Said, Begun, Says, Calls, Turns, ready, turn}
 
 -- ---- where a thread's parts lie
 

@@ -1,6 +1,6 @@
 -- What the parts of a linked executable are in a thread's memory.
 use Rattle.std.specs.Prelude.{◌≡◌, ℕ, ◌-◌, true, false, List, [], ◌∷◌, ◌++◌, length, map, Option, Some, None}
-use Rattle.guest_machine.specs.Ranges.{Range, AddressSpace}
+use Rattle.guest_machine.specs.Ranges.{Range}
 use Rattle.guest_machine.specs.Plain.{plain_operations}
 use Rattle.job_text.specs.declared.event.Event.{Event}
 use Rattle.job_text.specs.declared.transcripts.Outcome.{Outcome}

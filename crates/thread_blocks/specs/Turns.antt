@@ -133,10 +133,15 @@ IsFinished todo (Mid left points s) = ⊥
 abbrev pub enough : ℕ → ℕ → ℕ
 enough fuel lines = (fuel + 2) * lines
 
+-- the most turns that a thread still has
+abbrev pub turns_left : {S L : Type 0} → ℕ → List L → Phase S → ℕ
+turns_left fuel todo (Idle s) = enough fuel (length todo)
+turns_left fuel todo (Mid left points s) = enough fuel (length todo) + (left + 1)
+
 -- the threads finish in rising number, from thread i on
 abbrev pub finishing : {L : Type 0} → ℕ → ℕ → List (List L) → List ℕ
 finishing fuel i [] = []
-finishing fuel i (lines ∷ more) = replicate (enough fuel (length lines)) i ++ finishing fuel (i + 1) more
+finishing fuel i (lines ∷ more) = replicate (enough fuel (length lines)) i ++ finishing fuel (suc i) more
 
 -- the whole order of a job: its own entries, then each thread up to its end
 abbrev pub whole_order : {L : Type 0} → ℕ → List (List L) → List ℕ → List ℕ

@@ -1,6 +1,5 @@
 -- That threads of one kind do what threads of another do, turn by turn, but that an unclean line of the first allows anything.
-use Rattle.std.specs.Prelude.{◌≡◌, ◌⊎◌, ℕ, ◌+◌, ◌*◌, ◌≤◌, List, [], ◌∷◌, ◌++◌, map, Option, Some, All}
-use Rattle.guest_machine.specs.Run.{Stepping}
+use Rattle.std.specs.Prelude.{◌≡◌, ◌⊎◌, ℕ, ◌+◌, ◌*◌, ◌≤◌, List, [], ◌∷◌, ◌++◌, Option, Some}
 use Rattle.guest_machine.specs.Simulate.{IsUnclean, IsSimulated}
 use Rattle.guest_machine.specs.Follow.{All2}
 use Rattle.thread_blocks.specs.Turns.{Ending, Answered, Stopped, Said, Begun, Says, Calls, Turns, Phase, Idle, Mid, Thread, World, turns, at_number, with_last}
