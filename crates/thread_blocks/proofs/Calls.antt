@@ -27,7 +27,7 @@ use Rattle.thread_blocks.proofs.Spaces.{space_run}
 
 module _ {S : Type 0} (place_of : S → ℕ) (x : Stepping S) where
   -- a look becomes a stop at its place
-  pub closed : Outcome S → Outcome S
+  unfoldable pub closed : Outcome S → Outcome S
   closed (Ended stop n s) = Ended stop n s
   closed (Waits n s) = Ended (Address (place_of s)) n s
 
@@ -55,13 +55,13 @@ looks_stay true a t r e = cc
 looks_stay false a t (Ok after) e = cc
 looks_stay false a t (Err stop) e = cc
 
-machine_stays : {W F B M : Type 0} (ops : Operations W F B) (acc : Accesses M B) (is_field : M → ℕ → Bool) (s t : After W F M) → (machine ops acc is_field).step s ≡ Looks t → t ≡ s
+pub machine_stays : {W F B M : Type 0} (ops : Operations W F B) (acc : Accesses M B) (is_field : M → ℕ → Bool) (s t : After W F M) → (machine ops acc is_field).step s ≡ Looks t → t ≡ s
 unfolding machine
 machine_stays ops acc is_field s t e = looks_stay (is_look s.state.place) s t (step_of ops acc (is_field s.memory) s.state s.memory) e
 
 -- ** one call
 
-fixed_none : {E : Type 0} (loaded : Loaded ℕ) (thread : ℕ) → NoneWritable loaded.fixed → (seen : List E) → NoneWritable (fixed_of plain_operations loaded thread seen)
+pub fixed_none : {E : Type 0} (loaded : Loaded ℕ) (thread : ℕ) → NoneWritable loaded.fixed → (seen : List E) → NoneWritable (fixed_of plain_operations loaded thread seen)
 fixed_none loaded thread none seen = (refl, none)
 
 module _ (E : Type 0) (loaded : Loaded ℕ) (thread : ℕ) (none : NoneWritable loaded.fixed) where
@@ -113,7 +113,7 @@ plain_word : (number : ℕ) → number < 2 ^ 64 → plain_operations.word number
 unfolding plain_operations
 plain_word number small = omega arith
 
-plain_start : (thread place a b c : ℕ) (symbol : List ℕ) → a < 2 ^ 64 → b < 2 ^ 64 → c < 2 ^ 64
+pub plain_start : (thread place a b c : ℕ) (symbol : List ℕ) → a < 2 ^ 64 → b < 2 ^ 64 → c < 2 ^ 64
     → call_start plain_operations thread place (record { symbol = symbol; a = a; b = b; c = c })
     ≡ (record (start_of plain_operations place (stack_end thread - 8) a b c) { thread_pointer = pointer_of thread })
 plain_start thread place a b c symbol f g h = rw (plain_word a f, plain_word b g, plain_word c h) refl
@@ -132,7 +132,7 @@ run_says executable thread fuel call outcome stop f g h e k = record {
       ∙ (ap answer_of_stop (sym e) ∙ k));
 }
 
-sub_zero : (n : ℕ) → n - 0 ≡ n
+pub sub_zero : (n : ℕ) → n - 0 ≡ n
 sub_zero n = omega arith
 
 -- from what the code's machine did to how it stops

@@ -3,3 +3,6 @@ pub mod Image
 pub mod Spaces
 pub mod Calls
 pub mod Finish
+pub mod Begin
+pub mod Calling
+pub mod Examples

@@ -80,7 +80,7 @@ either-list Q true g' x y x' y' e h k = rw e h
 either-list Q false g' x y x' y' e h k = rw e k
 
 module _ {A A' : Type 0} (Q : A → A' → Type 0) where
-  all2-append : (xs us : List A) (ys vs : List A') → All2 Q xs ys → All2 Q us vs → All2 Q (xs ++ us) (ys ++ vs)
+  pub all2-append : (xs us : List A) (ys vs : List A') → All2 Q xs ys → All2 Q us vs → All2 Q (xs ++ us) (ys ++ vs)
   all2-append [] us [] vs h k = k
   all2-append [] us (y ∷ ys) vs h k = absurd h
   all2-append (x ∷ xs) us [] vs h k = absurd h

@@ -3,3 +3,4 @@ pub mod TurnsAlike
 pub mod Spaces
 pub mod MachineTurns
 pub mod Parts
+pub mod Calling

@@ -1,9 +1,10 @@
 -- Lines that call a function, as the machine runs them over what is loaded.
-use Rattle.std.specs.Prelude.{ℕ, ◌+◌, ◌-◌, ◌*◌, ◌^◌, Bool, true, false, List, [], ◌∷◌, ◌++◌, replicate, Option, Some, None, option_map}
+use Rattle.std.specs.Prelude.{◌≡◌, ℕ, ◌+◌, ◌-◌, ◌*◌, ◌^◌, Bool, true, false, List, [], ◌∷◌, ◌++◌, replicate, Option, Some, None, option_map}
 use Rattle.guest_machine.specs.declared.state.State.{State}
 use Rattle.guest_machine.specs.declared.stop.Stop.{Stop}
 use Rattle.guest_machine.specs.declared.stop.Stop.TheVariants.{Returned, Look, Address, Code, Unclean, Steps}
 use Rattle.guest_machine.specs.Access.{bytes_from}
+use Rattle.guest_machine.specs.Follow.{All2, Alike, SameAfter}
 use Rattle.guest_machine.specs.Plain.{plain_operations}
 use Rattle.guest_machine.specs.Ranges.{Range}
 use Rattle.guest_machine.specs.Run.{Next, Goes, Ends, Looks, Stepping, machine}
@@ -15,7 +16,7 @@ use Rattle.job_text.specs.declared.transcripts.LineFault.TheVariants.{Address as
 use Rattle.job_text.specs.declared.transcripts.Outcome.{Outcome as Answer}
 use Rattle.job_text.specs.declared.transcripts.Outcome.TheVariants.{Returned as ReturnedAnswer, Refused, Fault}
 use Rattle.job_text.specs.declared.transcripts.Refusal.TheVariants.{Symbol}
-use Rattle.thread_blocks.specs.Spaces.{Space, space_accesses, open_everywhere, no_field}
+use Rattle.thread_blocks.specs.Spaces.{Space, SameRange, SameSpace, space_accesses, open_everywhere, no_field}
 use Rattle.thread_blocks.specs.Turns.{Ending, Answered, Stopped, Said, Begun, Says, Calls, Turns, ready, turn}
 
 -- ---- where a thread's parts lie
@@ -149,3 +150,15 @@ shown said = option_map (λ outcome. record { points = said.points; outcome = ou
 -- what a thread says that has one line, which sees no event
 unfoldable pub call_said : (E : Type 0) → Loaded ℕ → ℕ → ℕ → CallLine → List Said
 call_said E loaded thread fuel line = (turn (machine_turns {E = E} loaded thread fuel) (ready (thread_start plain_operations loaded thread) (line ∷ [])) []).said
+
+-- ---- two threads, one over values of each kind
+
+module _ {W F B W' F' B' : Type 0} (same : Alike W F B W' F' B') where
+  -- in a call, where the events were seen
+  pub record SameRun {E : Type 0} (seen : List E) (at : After W F (Space E B)) (at' : After W' F' (Space E B')) : Type 0 where
+    pub after : SameAfter same (SameSpace same.byte) at at'
+    pub events : at.memory.seen ≡ seen
+
+  -- between two lines only the blocks count
+  pub record SameRest {E : Type 0} (at : After W F (Space E B)) (at' : After W' F' (Space E B')) : Type 0 where
+    pub own : All2 (SameRange same.byte) at.memory.own at'.memory.own

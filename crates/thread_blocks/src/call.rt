@@ -1,17 +1,20 @@
-//! A call that a thread makes.
+//! Calls that a thread makes.
 
-ghost use Rattle.std.specs.Prelude.{◌≡◌, ◌≤◌, ◌<◌, ◌^◌, Some, IfOk};
+ghost use Rattle.std.specs.Prelude.{◌≡◌, ◌≤◌, ◌<◌, ◌^◌, [], Some, IfOk, OnErr};
 ghost use Rattle.guest_machine.specs.Clean.{IsClean};
+ghost use Rattle.thread_blocks.specs.Calling.{IsCall};
 ghost use Rattle.thread_blocks.specs.MachineTurns.{answer_of_stop};
-ghost use Rattle.thread_blocks.specs.Parts.{IsCallOutcome};
+ghost use Rattle.thread_blocks.specs.Parts.{IsCallOutcome, call_ranges};
 
 use crate::fault::OutOfMemory;
-use crate::memory::{end_of_stack, memory_of, thread_pointer};
+use crate::memory::{end_of_stack, rest_of, stack_of, thread_pointer};
 use crate::parts::Executable;
+use crate::reach::Reach;
 use guest_machine::laws::plain_is_clean;
 use guest_machine::{Machine, Plain, Stop};
 use job_text::{LineFault, Outcome};
 use std::alloc::Global;
+use std::marker::Model;
 
 /// A call of the function at a place, with its three arguments.
 #[derive(Clone, Copy, Debug)]
@@ -37,6 +40,62 @@ fn outcome_of(stop: Stop) -> Outcome
     }
 }
 
+/// A thread's memory: its blocks keep their bytes from call to call, and each call has a fresh
+/// stack.
+#[derive(Drop)]
+pub struct ThreadMemory {
+    thread: u32,
+    reach: Reach,
+}
+
+impl Model for ThreadMemory {
+    ghost use Rattle.std.specs.Prelude.{◌≤◌};
+    ghost use Rattle.thread_blocks.specs.Calling.{ThreadView};
+
+    ghost Value = { ThreadView };
+
+    ghost view = { λ memory. record { thread = memory.thread; memory = memory.reach } };
+
+    ghost invariant = { λ memory. memory.thread ≤ 64 };
+}
+
+impl ThreadMemory {
+    /// The memory of a thread, from 1 to 64, before its first line.
+    pub fn new(
+        alloc: Global,
+        executable: &Executable,
+        thread: u32,
+    ) -> Result<ThreadMemory, OutOfMemory>
+        requires { thread ≤ 64 }
+        ensures { IfOk result (λ memory. memory ≡ record { thread = thread; memory = record { ranges = call_ranges executable.now thread; fields = [] } }) }
+    {
+        let rest = rest_of(alloc, executable, thread)?;
+        let stack = stack_of(alloc, thread)?;
+        Ok(ThreadMemory {
+            thread,
+            reach: Reach::new(stack, rest),
+        })
+    }
+
+    /// Calls a function, for at most four times `fuel` steps. Where there is no memory for the stack,
+    /// nothing has changed.
+    pub fn call(&mut self, alloc: Global, call: Call, fuel: u64) -> Result<Outcome, OutOfMemory>
+        requires { fuel < 2 ^ 62 }
+        ensures ok { IfOk result (λ outcome. IsCall self.old.thread fuel call outcome self.old.memory self.new.memory) }
+        ensures err { OnErr result (self.new ≡ self.old) }
+        ensures thread { self.new.thread ≡ self.old.thread }
+    {
+        plain_is_clean();
+        let fresh = stack_of(alloc, self.thread)?;
+        self.reach.renew(fresh);
+        let stack = end_of_stack(self.thread) - 8;
+        let mut machine = Machine::<Plain>::start(call.place, stack, call.a, call.b, call.c);
+        machine.set_thread_pointer(thread_pointer(self.thread));
+        let stop = machine.run(&mut self.reach, 4 * fuel);
+        Ok(outcome_of(stop))
+    }
+}
+
 /// What comes of the one line of a thread that makes this call, of at most four times `fuel` steps.
 pub fn run_call(
     alloc: Global,
@@ -49,11 +108,6 @@ pub fn run_call(
     requires fuel { fuel < 2 ^ 62 }
     ensures { IfOk result (λ outcome. IsCallOutcome executable.now thread fuel call outcome) }
 {
-    plain_is_clean();
-    let mut memory = memory_of(alloc, executable, thread)?;
-    let stack = end_of_stack(thread) - 8;
-    let mut machine = Machine::<Plain>::start(call.place, stack, call.a, call.b, call.c);
-    machine.set_thread_pointer(thread_pointer(thread));
-    let stop = machine.run(&mut memory, 4 * fuel);
-    Ok(outcome_of(stop))
+    let mut memory = ThreadMemory::new(alloc, executable, thread)?;
+    memory.call(alloc, call, fuel)
 }

@@ -44,9 +44,10 @@ mod call;
 mod fault;
 mod memory;
 mod parts;
+mod reach;
 #[cfg(test)]
 mod tests;
 
-pub use call::{Call, run_call};
+pub use call::{Call, ThreadMemory, run_call};
 pub use fault::OutOfMemory;
 pub use parts::{BlockImage, Executable, Part};

@@ -1,9 +1,10 @@
-//! A thread's memory before a call.
+//! The parts of a thread's memory.
 
 ghost use Rattle.std.specs.Prelude.{◌≡◌, ◌≤◌, [], IfOk};
 ghost use Rattle.guest_machine.specs.Plain.{plain_operations};
 ghost use Rattle.thread_blocks.specs.MachineTurns.{pointer_of, stack_start, stack_end, zeros, word_bytes, fresh_stack, pointer_word};
 ghost use Rattle.thread_blocks.specs.Parts.{block_bytes, block_range, call_ranges, code_range, constant_range};
+ghost use Rattle.thread_blocks.specs.Calling.{behind_stack};
 ghost use Rattle.thread_blocks.specs.Spaces.{stack_range};
 
 use crate::fault::OutOfMemory;
@@ -68,7 +69,7 @@ fn bytes_of(alloc: Global, number: u64) -> Result<Vec<u8>, AllocError>
 
 /// The stack before a call: zeros, and in its last eight bytes the address to return to.
 #[tactic(auto, unfolding(guest_machine::specs::Plain::plain_operations))]
-fn stack_of(alloc: Global, thread: u32) -> Result<GuestRange<u8>, AllocError>
+pub(crate) fn stack_of(alloc: Global, thread: u32) -> Result<GuestRange<u8>, AllocError>
     requires { thread ≤ 64 }
     ensures { IfOk result (λ range. range ≡ stack_range (stack_start thread) (fresh_stack plain_operations)) }
 {
@@ -114,17 +115,16 @@ fn constants_of(alloc: Global, part: &Part) -> Result<GuestRange<u8>, AllocError
     Ok(GuestRange::new(part.place, bytes, CONSTANT))
 }
 
-/// A thread's memory as a call begins.
-pub(crate) fn memory_of(
+/// All that a thread may reach before its first line, but for its stack.
+pub(crate) fn rest_of(
     alloc: Global,
     executable: &Executable,
     thread: u32,
 ) -> Result<GuestMemory<u8>, OutOfMemory>
     requires { thread ≤ 64 }
-    ensures { IfOk result (λ memory. memory ≡ record { ranges = call_ranges executable.now thread; fields = [] }) }
+    ensures { IfOk result (λ memory. memory ≡ record { ranges = behind_stack (call_ranges executable.now thread); fields = [] }) }
 {
     let mut memory = GuestMemory::new(alloc);
-    memory.add_range(stack_of(alloc, thread)?)?;
     memory.add_range(block_of(alloc, &executable.block, thread)?)?;
     memory.add_range(pointer_word(alloc, thread)?)?;
     memory.add_range(code_of(alloc, &executable.code)?)?;
