@@ -66,21 +66,21 @@ module _ (executable : Executable) (entry : List ℕ → Option ℕ) (thread : �
   -- the turn, up to the run
   turn-run : (fuel : ℕ) (call : Call) (symbol : List ℕ) (todo : List CallLine) (said : List Said) (before seen : List Event) (at : Held) → entry symbol ≡ Some call.place
       → turn (machine_turns (loaded_of executable entry) thread fuel) (before_line symbol call todo said before at) seen
-        ≡ after_run todo said seen (length seen ∷ []) (run (alone place_at steps_at) (4 * fuel) (start_at call symbol seen at.memory.own))
+      ≡ after_run todo said seen (length seen ∷ []) (run (alone place_at steps_at) (4 * fuel) (start_at call symbol seen at.memory.own))
   unfolding machine_turns start_at
   turn-run fuel call symbol todo said before seen at e =
       ap (λ (found : Option ℕ). after_look (machine_turns (loaded_of executable entry) thread fuel) (4 * fuel) todo said seen (length seen ∷ [])
-        (begun_call plain_operations thread (line_of symbol call) seen at found)) e
+      (begun_call plain_operations thread (line_of symbol call) seen at found)) e
 
   -- what the code's machine ran over is the image of what the thread runs over
   ran-image : (fuel : ℕ) (call : Call) (symbol : List ℕ) (seen : List Event) (own : List (Range ℕ)) → call.a < 2 ^ 64 → call.b < 2 ^ 64 → call.c < 2 ^ 64
       → run (machine_of plain_operations) (4 * fuel) (left (record (start_of plain_operations call.place (stack_end thread - 8) call.a call.b call.c) { thread_pointer = pointer_of thread }) (memory_at (fresh_space plain_operations seen own)))
-        ≡ outcome_image (after_of memory_at) (run steps_at (4 * fuel) (start_at call symbol seen own))
+      ≡ outcome_image (after_of memory_at) (run steps_at (4 * fuel) (start_at call symbol seen own))
   unfolding start_at
   ran-image fuel call symbol seen own f g h =
       ap (λ (state : State ℕ Bool). run (machine_of plain_operations) (4 * fuel) (left state (memory_at (fresh_space plain_operations seen own)))) (sym (plain_start thread call.place call.a call.b call.c symbol f g h))
       ∙ space_run plain_operations (stack_start thread) (fixed_of plain_operations (loaded_of executable entry) thread) (fixed_none (loaded_of executable entry) thread (refl, (refl, tt))) (4 * fuel)
-        (left (call_start plain_operations thread call.place (line_of symbol call)) (fresh_space plain_operations seen own))
+      (left (call_start plain_operations thread call.place (line_of symbol call)) (fresh_space plain_operations seen own))
 
   turned : (fuel : ℕ) (call : Call) (outcome : Answer) (symbol : List ℕ) (todo : List CallLine) (said : List Said) (before seen : List Event) (at : Held) (stop : Stop) (new ran : AddressSpace ℕ)
       → call.a < 2 ^ 64 → call.b < 2 ^ 64 → call.c < 2 ^ 64 → entry symbol ≡ Some call.place → ran ≡ memory_at (fresh_space plain_operations seen at.memory.own)
@@ -90,11 +90,11 @@ module _ (executable : Executable) (entry : List ℕ → Option ℕ) (thread : �
       → LeavesSo executable thread outcome todo said seen new (turn (machine_turns (loaded_of executable entry) thread fuel) (before_line symbol call todo said before at) seen)
   turned fuel call outcome symbol todo said before seen at stop new ran f g h found e p q k =
       let ran-out = ap (λ (memory : AddressSpace ℕ). run (machine_of plain_operations) (4 * fuel) (left (record (start_of plain_operations call.place (stack_end thread - 8) call.a call.b call.c) { thread_pointer = pointer_of thread }) memory)) e
-          ∙ ran-image fuel call symbol seen at.memory.own f g h in
+      ∙ ran-image fuel call symbol seen at.memory.own f g h in
       subst (λ (t : Thread Held CallLine Event). LeavesSo executable thread outcome todo said seen new t)
       (sym (turn-run fuel call symbol todo said before seen at found
       ∙ ap (λ (out : Outcome Held). after_run todo said seen (length seen ∷ []) out)
-        (alone_run place_at steps_at (machine_stays plain_operations _ no_field) (4 * fuel) (start_at call symbol seen at.memory.own))))
+      (alone_run place_at steps_at (machine_stays plain_operations _ no_field) (4 * fuel) (start_at call symbol seen at.memory.own))))
       (gives outcome todo said seen (run steps_at (4 * fuel) (start_at call symbol seen at.memory.own)) stop new (p ∙ ap stop_of ran-out) (q ∙ ap (λ (out : Outcome (After ℕ Bool (AddressSpace ℕ))). (state_after out).memory) ran-out) k)
 
 fresh-image : (executable : Executable) (entry : List ℕ → Option ℕ) (thread : ℕ) (at : Held) (old : AddressSpace ℕ) (seen : List Event) → HoldsBlocks executable thread at old

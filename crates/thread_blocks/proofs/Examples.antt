@@ -37,13 +37,13 @@ in_turns = refl
 
 says_first : map (λ (t : Thread ℕ Bool ℕ). t.said) (by_order lines added (1 ∷ 2 ∷ 2 ∷ 1 ∷ []) start).threads
     ≡ (record { points = 0 ∷ 2 ∷ []; ending = Stopped (Returned 2) } ∷ [])
-      ∷ (record { points = 0 ∷ []; ending = Stopped (Returned 0) } ∷ record { points = 1 ∷ []; ending = Stopped (Returned 1) } ∷ [])
-      ∷ []
+    ∷ (record { points = 0 ∷ []; ending = Stopped (Returned 0) } ∷ record { points = 1 ∷ []; ending = Stopped (Returned 1) } ∷ [])
+    ∷ []
 says_first = refl
 
 -- an order with too few entries, one of no thread, and one of a thread with nothing left: the whole order ends each thread
 ends_all : map (λ (t : Thread ℕ Bool ℕ). t.said) (by_order lines added (whole_order 2 ((false ∷ []) ∷ (true ∷ true ∷ []) ∷ []) (2 ∷ 7 ∷ 0 ∷ [])) start).threads
     ≡ (record { points = 1 ∷ 1 ∷ []; ending = Stopped (Returned 1) } ∷ [])
-      ∷ (record { points = 0 ∷ []; ending = Stopped (Returned 0) } ∷ record { points = 1 ∷ []; ending = Stopped (Returned 1) } ∷ [])
-      ∷ []
+    ∷ (record { points = 0 ∷ []; ending = Stopped (Returned 0) } ∷ record { points = 1 ∷ []; ending = Stopped (Returned 1) } ∷ [])
+    ∷ []
 ends_all = refl

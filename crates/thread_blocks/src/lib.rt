@@ -36,8 +36,13 @@
 //!     64 8b 04 25 f8 ff ff ff     mov %fs:-8, %eax
 //!     c3                          ret
 //!
-//! `run_call` makes such a memory, runs this function and answers `Returned(0x2a)`. Its contract is that
-//! this is what `machine_turns` (`specs/MachineTurns.antt`) says of a thread with that one line.
+//! `ThreadMemory` is such a memory, from call to call: its blocks keep their bytes, and each call has a
+//! fresh stack. Its contract is that a call is a turn of the thread (`machine_turns`,
+//! `specs/MachineTurns.antt`) whose line calls the function. `run_call` runs the one call of a thread that
+//! has no other; for the function above it answers `Returned(0x2a)`.
+//!
+//! What a call begins with is one definition for any kind of values, so that a meaning over marked
+//! values begins as the machine does (`begin_call_alike`, `proofs/Begin.antt`).
 #![tactic(auto)]
 
 mod call;

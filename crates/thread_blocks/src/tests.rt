@@ -1,4 +1,4 @@
-use crate::call::{Call, run_call};
+use crate::call::{Call, ThreadMemory, run_call};
 use crate::parts::{BlockImage, Executable, Part};
 use job_text::{LineFault, Outcome};
 use std::alloc::Global;
@@ -6,9 +6,8 @@ use std::test::Fail;
 
 const CODE: u64 = 0x40_0000;
 
-/// What comes of the function whose code this is, called by thread 2 with 3, 10 and 0.
-fn outcome(alloc: Global, code: &[u8]) -> Result<Outcome, Fail> {
-    let executable = Executable {
+fn executable(alloc: Global, code: &[u8]) -> Result<Executable, Fail> {
+    Ok(Executable {
         code: Part {
             place: CODE,
             bytes: code.to_vec(alloc)?,
@@ -22,14 +21,22 @@ fn outcome(alloc: Global, code: &[u8]) -> Result<Outcome, Fail> {
             size: 8,
             offset: 8,
         },
-    };
-    let call = Call {
-        place: CODE,
+    })
+}
+
+fn call_at(place: u64) -> Call {
+    Call {
+        place,
         a: 3,
         b: 10,
         c: 0,
-    };
-    match run_call(alloc, &executable, 2, call, 5) {
+    }
+}
+
+/// What comes of the function whose code this is, called by thread 2 with 3, 10 and 0.
+fn outcome(alloc: Global, code: &[u8]) -> Result<Outcome, Fail> {
+    let executable = executable(alloc, code)?;
+    match run_call(alloc, &executable, 2, call_at(CODE), 5) {
         Ok(outcome) => Ok(outcome),
         Err(_) => Err("memory".into()),
     }
@@ -72,5 +79,29 @@ fn calls_that_end_early(rt: HostRuntime) -> Result<(), Fail> {
     // call 0x1000, 0x3ff005 bytes before the next instruction: nobody answers
     let look = outcome(rt.alloc(), &[0xe8, 0xfb, 0x0f, 0xc0, 0xff, 0xc3])?;
     assert!(rt; matches!(&look, Outcome::Fault(LineFault::Address)));
+    Ok(())
+}
+
+#[test]
+fn a_block_keeps_its_bytes(rt: HostRuntime) -> Result<(), Fail> {
+    // mov %edi, %fs:-8; ret, and behind it mov %fs:-8, %eax; ret
+    let code = [
+        0x64, 0x89, 0x3c, 0x25, 0xf8, 0xff, 0xff, 0xff, 0xc3, 0x64, 0x8b, 4, 0x25, 0xf8, 0xff,
+        0xff, 0xff, 0xc3,
+    ];
+    let executable = executable(rt.alloc(), &code)?;
+    let mut memory = ThreadMemory::new(rt.alloc(), &executable, 1)
+        .ok()
+        .ok_or("memory")?;
+    let first = memory
+        .call(rt.alloc(), call_at(CODE), 5)
+        .ok()
+        .ok_or("memory")?;
+    assert!(rt; matches!(&first, Outcome::Returned(0)));
+    let second = memory
+        .call(rt.alloc(), call_at(CODE + 9), 5)
+        .ok()
+        .ok_or("memory")?;
+    assert!(rt; matches!(&second, Outcome::Returned(3)));
     Ok(())
 }
