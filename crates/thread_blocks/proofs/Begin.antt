@@ -1,14 +1,12 @@
 -- A call begins alike over related values: one definition serves both, and so its first looks do the same.
-use Rattle.std.proofs.Common.{◌≡◌, ℕ, zero, suc, ◌+◌, ◌-◌, ◌<◌, ◌≤◌, false, List, [], ◌∷◌, ◌++◌, Option, Some, None, refl, subst, sym, inr, arith}
-use Rattle.guest_machine.specs.declared.state.State.{State}
+use Rattle.std.proofs.Common.{◌≡◌, ℕ, zero, suc, ◌+◌, ◌-◌, ◌≤◌, false, List, Option, Some, None, refl, subst, sym, inr, arith}
 use Rattle.guest_machine.specs.Access.{bytes_from}
-use Rattle.guest_machine.specs.Follow.{All2, Alike, IsFollowed, SameRegisters, SameState, SameAfter}
-use Rattle.guest_machine.specs.Ranges.{Range}
+use Rattle.guest_machine.specs.Follow.{All2, Alike, IsFollowed, SameState}
 use Rattle.guest_machine.specs.State.{start_of}
 use Rattle.guest_machine.specs.Use.{After}
 use Rattle.guest_machine.specs.Values.{Operations}
-use Rattle.thread_blocks.specs.MachineTurns.{stack_size, stack_end, return_place, pointer_of, zeros, word_bytes, fresh_stack, pointer_word, Loaded, fixed_of, CallLine, call_start, begun_call, begin_call, thread_start, SameRun, SameRest}
-use Rattle.thread_blocks.specs.Spaces.{Space, SameRange, SameSpace}
+use Rattle.thread_blocks.specs.MachineTurns.{stack_size, stack_end, return_place, pointer_of, zeros, word_bytes, fresh_stack, pointer_word, Loaded, fixed_of, CallLine, begun_call, begin_call, thread_start, SameRun, SameRest}
+use Rattle.thread_blocks.specs.Spaces.{Space, SameRange}
 use Rattle.thread_blocks.specs.TurnsAlike.{SameBegun}
 use Rattle.thread_blocks.proofs.Spaces.{all2-append}
 

@@ -1,5 +1,5 @@
 -- A call of a thread's memory is a turn of the thread.
-use Rattle.std.proofs.Common.{◌≡◌, ℕ, ◌-◌, ◌*◌, ◌^◌, ◌<◌, Bool, List, [], ◌∷◌, ◌++◌, length, map, Option, Some, None, refl, sym, ap, subst, ◌∙◌}
+use Rattle.std.proofs.Common.{◌≡◌, ℕ, ◌-◌, ◌*◌, ◌^◌, ◌<◌, Bool, List, [], ◌∷◌, ◌++◌, length, map, Option, Some, refl, sym, ap, subst, ◌∙◌}
 use Rattle.std.specs.Prelude.{Result, Ok, Err, IfOk, option_map}
 use Rattle.guest_machine.specs.declared.state.State.{State}
 use Rattle.guest_machine.specs.declared.stop.Stop.{Stop}
@@ -15,7 +15,7 @@ use Rattle.job_text.specs.declared.transcripts.Line.{Line}
 use Rattle.job_text.specs.declared.transcripts.Outcome.{Outcome as Answer}
 use Rattle.thread_blocks.specs.declared.call.Call.{Call}
 use Rattle.thread_blocks.specs.declared.parts.Executable.{Executable}
-use Rattle.thread_blocks.specs.Turns.{Said, Stopped, Turns, Thread, after_run, after_look, turn}
+use Rattle.thread_blocks.specs.Turns.{Said, Stopped, Thread, after_run, after_look, turn}
 use Rattle.thread_blocks.specs.Spaces.{Space, space_accesses, open_everywhere, no_field, stack_range, after_of, outcome_image, address_space_of}
 use Rattle.thread_blocks.specs.MachineTurns.{CallLine, alone, fixed_of, stack_start, stack_end, pointer_of, fresh_stack, fresh_space, call_start, begun_call, machine_turns, answer_of_stop, shown, thread_start, call_said}
 use Rattle.thread_blocks.specs.Parts.{loaded_of, call_ranges, IsCallOutcome}

@@ -1,9 +1,9 @@
 -- Small worlds whose turns are computed, to see that the definitions say what they should.
-use Rattle.std.proofs.Common.{◌≡◌, ℕ, zero, suc, ◌+◌, List, [], ◌∷◌, length, map, Option, Some, None, Bool, true, false, refl}
+use Rattle.std.proofs.Common.{◌≡◌, ℕ, zero, suc, List, [], ◌∷◌, length, map, Option, Some, None, Bool, true, false, refl}
 use Rattle.guest_machine.specs.declared.stop.Stop.{Stop}
 use Rattle.guest_machine.specs.declared.stop.Stop.TheVariants.{Returned, Steps}
-use Rattle.guest_machine.specs.Run.{Next, Goes, Ends, Looks, Stepping}
-use Rattle.thread_blocks.specs.Turns.{Said, Answered, Stopped, Begun, Says, Calls, Turns, Phase, Idle, Thread, World, by_order, whole_order, ready}
+use Rattle.guest_machine.specs.Run.{Next, Ends, Looks, Stepping}
+use Rattle.thread_blocks.specs.Turns.{Stopped, Begun, Calls, Turns, Thread, World, by_order, whole_order, ready}
 
 -- a line: `true` adds an event, the number of those before it, and returns at once; `false` looks once more and returns the number of events then
 abbrev counted : ℕ → Option Stop
