@@ -1,0 +1,6 @@
+pub mod Turns
+pub mod TurnsAlike
+pub mod Spaces
+pub mod MachineTurns
+pub mod Parts
+pub mod Calling

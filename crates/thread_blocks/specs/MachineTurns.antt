@@ -1,0 +1,164 @@
+-- Lines that call a function, as the machine runs them over what is loaded.
+use Rattle.std.specs.Prelude.{◌≡◌, ℕ, ◌+◌, ◌-◌, ◌*◌, ◌^◌, Bool, true, false, List, [], ◌∷◌, ◌++◌, replicate, Option, Some, None, option_map}
+use Rattle.guest_machine.specs.declared.state.State.{State}
+use Rattle.guest_machine.specs.declared.stop.Stop.{Stop}
+use Rattle.guest_machine.specs.declared.stop.Stop.TheVariants.{Returned, Look, Address, Code, Unclean, Steps}
+use Rattle.guest_machine.specs.Access.{bytes_from}
+use Rattle.guest_machine.specs.Follow.{All2, Alike, SameAfter}
+use Rattle.guest_machine.specs.Plain.{plain_operations}
+use Rattle.guest_machine.specs.Ranges.{Range}
+use Rattle.guest_machine.specs.Run.{Next, Goes, Ends, Looks, Stepping, machine}
+use Rattle.guest_machine.specs.State.{start_of}
+use Rattle.guest_machine.specs.Use.{After, left}
+use Rattle.guest_machine.specs.Values.{Operations}
+use Rattle.job_text.specs.declared.transcripts.Line.{Line}
+use Rattle.job_text.specs.declared.transcripts.LineFault.TheVariants.{Address as AddressFault, Code as CodeFault, Steps as StepsFault}
+use Rattle.job_text.specs.declared.transcripts.Outcome.{Outcome as Answer}
+use Rattle.job_text.specs.declared.transcripts.Outcome.TheVariants.{Returned as ReturnedAnswer, Refused, Fault}
+use Rattle.job_text.specs.declared.transcripts.Refusal.TheVariants.{Symbol}
+use Rattle.thread_blocks.specs.Spaces.{Space, SameRange, SameSpace, space_accesses, open_everywhere, no_field}
+use Rattle.thread_blocks.specs.Turns.{Ending, Answered, Stopped, Said, Begun, Says, Calls, Turns, ready, turn}
+
+-- ---- where a thread's parts lie
+
+-- the thread pointer (psABI, section 3.4.6: the FS base)
+abbrev pub pointer_of : ℕ → ℕ
+pointer_of thread = thread * 2 ^ 40 + 2 ^ 38
+
+abbrev pub stack_size : ℕ
+stack_size = 65536
+
+-- where the stack ends, which grows down
+abbrev pub stack_end : ℕ → ℕ
+stack_end thread = thread * 2 ^ 40 + 2 ^ 39
+
+abbrev pub stack_start : ℕ → ℕ
+stack_start thread = stack_end thread - stack_size
+
+-- where a call returns to
+abbrev pub return_place : ℕ
+return_place = 0x2000
+
+unfoldable pub zeros : {B : Type 0} → B → ℕ → List B
+zeros zero_byte count = replicate count zero_byte
+
+module _ {W F B : Type 0} (ops : Operations W F B) where
+  -- the eight bytes of a word
+  abbrev pub word_bytes : ℕ → List B
+  word_bytes number = bytes_from ops (ops.word number) 0 8
+
+  -- a stack before a call: the return address in its last eight bytes, and zeros
+  abbrev pub fresh_stack : List B
+  fresh_stack = zeros (ops.byte 0) (stack_size - 8) ++ word_bytes return_place
+
+  -- the word at the thread pointer, which holds it and can only be read (psABI, section 3.4.6)
+  abbrev pub pointer_word : ℕ → Range B
+  pointer_word thread = record { start = pointer_of thread; bytes = word_bytes (pointer_of thread); readable = true; writable = false; runnable = false }
+
+-- ---- what is loaded
+
+-- B: a byte
+pub record Loaded (B : Type 0) : Type 0 where
+  -- where the function of a name begins, where there is one that can be called
+  pub entry : List ℕ → Option ℕ
+  -- code and constants
+  pub fixed : List (Range B)
+  -- the blocks that a thread has from its start, as they are then
+  pub blocks : ℕ → List (Range B)
+
+-- what stands in a thread's memory to be read and to be run
+abbrev pub fixed_of : {W F E B : Type 0} → Operations W F B → Loaded B → ℕ → List E → List (Range B)
+fixed_of ops loaded thread seen = pointer_word ops thread ∷ loaded.fixed
+
+-- ---- lines
+
+-- a call of the function of a name, with three arguments
+pub record CallLine : Type 0 where
+  pub symbol : List ℕ
+  pub a : ℕ
+  pub b : ℕ
+  pub c : ℕ
+
+module _ {W F B : Type 0} (ops : Operations W F B) where
+  -- a machine before a call: its arguments in %rdi, %rsi and %rdx (psABI, section 3.2.3), and %rsp at the return address
+  abbrev pub call_start : ℕ → ℕ → CallLine → State W F
+  call_start thread place line = record (start_of ops place (stack_end thread - 8) (ops.word line.a) (ops.word line.b) (ops.word line.c)) { thread_pointer = pointer_of thread }
+
+  -- a fresh stack, and the blocks as the line before left them
+  abbrev pub fresh_space : {E : Type 0} → List E → List (Range B) → Space E B
+  fresh_space seen own = record { seen = seen; stack = fresh_stack ops; own = own }
+
+  abbrev pub looked : {E : Type 0} → List E → After W F (Space E B) → After W F (Space E B)
+  looked seen at = left at.state (record at.memory { seen = seen })
+
+  abbrev pub begun_call : {E : Type 0} → ℕ → CallLine → List E → After W F (Space E B) → Option ℕ → Begun (After W F (Space E B))
+  begun_call thread line seen at None = Says (Answered (Refused Symbol)) (looked seen at)
+  begun_call thread line seen at (Some place) = Calls (left (call_start thread place line) (fresh_space seen at.memory.own))
+
+  -- the first look of a line that calls
+  abbrev pub begin_call : {E : Type 0} → Loaded B → ℕ → CallLine → List E → After W F (Space E B) → Begun (After W F (Space E B))
+  begin_call loaded thread line seen at = begun_call thread line seen at (loaded.entry line.symbol)
+
+  -- what a thread holds before its first line
+  abbrev pub thread_start : {E : Type 0} → Loaded B → ℕ → After W F (Space E B)
+  thread_start loaded thread = left (start_of ops 0 0 (ops.word 0) (ops.word 0) (ops.word 0)) (record { seen = []; stack = []; own = loaded.blocks thread })
+
+-- ---- runs with nobody to answer
+
+-- where another would have to answer, none does, for no part of an image that is taken so far can be written, and what is asked for
+-- would lie in one
+abbrev pub alone_next : {S : Type 0} → ℕ → Next S → Next S
+alone_next place (Goes t) = Goes t
+alone_next place (Ends stop) = Ends stop
+alone_next place (Looks t) = Ends (Address place)
+
+unfoldable pub alone : {S : Type 0} → (S → ℕ) → Stepping S → Stepping S
+alone place_of x = record {
+  over = x.over;
+  step = λ s. alone_next (place_of s) (x.step s);
+  spent = x.spent;
+}
+
+-- ---- the machine's lines
+
+-- a call's machine takes at most four times `fuel` steps
+unfoldable pub machine_turns : {E : Type 0} → Loaded ℕ → ℕ → ℕ → Turns (After ℕ Bool (Space E ℕ)) CallLine E
+machine_turns {E} loaded thread fuel = record {
+  steps = alone (λ at. at.state.place) (machine plain_operations (space_accesses plain_operations (stack_start thread) (fixed_of plain_operations loaded thread) open_everywhere) no_field);
+  fuel = 4 * fuel;
+  begin = λ line seen at. begin_call plain_operations loaded thread line seen at;
+  resume = λ seen at. Calls (looked plain_operations seen at);
+}
+
+-- a stop as the transcript has it; of an unclean one it has nothing
+abbrev pub answer_of_stop : Stop → Option Answer
+answer_of_stop (Returned number) = Some (ReturnedAnswer number)
+answer_of_stop (Look place) = Some (Fault AddressFault)
+answer_of_stop (Address place) = Some (Fault AddressFault)
+answer_of_stop (Code place) = Some (Fault CodeFault)
+answer_of_stop (Unclean place cause) = None
+answer_of_stop (Steps place) = Some (Fault StepsFault)
+
+abbrev pub answer_of : Ending → Option Answer
+answer_of (Answered answer) = Some answer
+answer_of (Stopped stop) = answer_of_stop stop
+
+-- a line as the transcript has it
+abbrev pub shown : Said → Option Line
+shown said = option_map (λ outcome. record { points = said.points; outcome = outcome }) (answer_of said.ending)
+
+-- what a thread says that has one line, which sees no event
+unfoldable pub call_said : (E : Type 0) → Loaded ℕ → ℕ → ℕ → CallLine → List Said
+call_said E loaded thread fuel line = (turn (machine_turns {E = E} loaded thread fuel) (ready (thread_start plain_operations loaded thread) (line ∷ [])) []).said
+
+-- ---- two threads, one over values of each kind
+
+module _ {W F B W' F' B' : Type 0} (same : Alike W F B W' F' B') where
+  -- in a call, where the events were seen
+  pub record SameRun {E : Type 0} (seen : List E) (at : After W F (Space E B)) (at' : After W' F' (Space E B')) : Type 0 where
+    pub after : SameAfter same (SameSpace same.byte) at at'
+    pub events : at.memory.seen ≡ seen
+
+  -- between two lines only the blocks count
+  pub record SameRest {E : Type 0} (at : After W F (Space E B)) (at' : After W' F' (Space E B')) : Type 0 where
+    pub own : All2 (SameRange same.byte) at.memory.own at'.memory.own

@@ -1,0 +1,111 @@
+-- What a thread's memory is: its stack, its own blocks, and what stands there to be read and to be run.
+use Rattle.std.specs.Prelude.{◌≡◌, ℕ, ◌-◌, Bool, true, false, List, [], ◌∷◌, ◌++◌, slice_set, Result, Ok, Err, ok_or, option_and_then, if◌then◌else◌}
+use Rattle.guest_machine.specs.declared.space.Access.TheVariants.{Read, Write, Run}
+use Rattle.guest_machine.specs.declared.stop.Stop.{Stop}
+use Rattle.guest_machine.specs.Access.{Refusal, Refused, Shut, Accesses, reached}
+use Rattle.guest_machine.specs.Follow.{All2}
+use Rattle.guest_machine.specs.Ranges.{Range, AddressSpace, grants, byte_in, with_byte}
+use Rattle.guest_machine.specs.Run.{Next, Goes, Ends, Looks, Outcome, Ended, Waits, Stepping}
+use Rattle.guest_machine.specs.Use.{After, left}
+use Rattle.guest_machine.specs.Values.{Operations}
+
+-- E: an event, B: a byte
+pub record Space (E B : Type 0) : Type 0 where
+  -- the events at the thread's last look
+  pub seen : List E
+  -- the stack's bytes, from a place that never changes on
+  pub stack : List B
+  -- the thread's blocks of thread-local storage
+  pub own : List (Range B)
+
+abbrev pub stack_range : {B : Type 0} → ℕ → List B → Range B
+stack_range start stack = record { start = start; bytes = stack; readable = true; writable = true; runnable = false }
+
+-- start: where the stack begins; fixed: what stands there where the events were seen, and that no thread writes
+module _ {E B : Type 0} (start : ℕ) (fixed : List E → List (Range B)) where
+  -- all that the thread may reach, the first range that allows an access before the others
+  abbrev pub ranges_of : Space E B → List (Range B)
+  ranges_of space = stack_range start space.stack ∷ (space.own ++ fixed space.seen)
+
+  abbrev pub address_space_of : Space E B → AddressSpace B
+  address_space_of space = record { ranges = ranges_of space; fields = [] }
+
+-- a byte written to the stack, or else to a block
+abbrev pub put_byte : {E B : Type 0} → ℕ → Space E B → ℕ → B → Space E B
+put_byte start space place byte =
+    if grants Write (stack_range start space.stack) place
+    then record space { stack = slice_set space.stack (place - start) byte }
+    else record space { own = with_byte space.own place byte }
+
+-- an access, unless the place is the linker's own
+abbrev pub unless_shut : {A : Type 0} → Bool → Result A Refusal → Result A Refusal
+unless_shut true access = Err Shut
+unless_shut false access = access
+
+-- what such a memory lets a machine do; shut: the places that are the linker's own where the events were seen
+unfoldable pub space_accesses : {W F E B : Type 0} → Operations W F B → ℕ → (List E → List (Range B)) → (List E → ℕ → Bool) → Accesses (Space E B) B
+space_accesses ops start fixed shut = record {
+  byte = λ space place. unless_shut (shut space.seen place) (ok_or (byte_in Read (ranges_of start fixed space) place) Refused);
+  writes = λ space place. unless_shut (shut space.seen place) (reached (λ byte. tt) (ok_or (byte_in Write (ranges_of start fixed space) place) Refused));
+  put = λ space place byte. put_byte start space place byte;
+  code = λ space place. option_and_then ops.code (byte_in Run (ranges_of start fixed space) place);
+}
+
+-- a memory of which nothing is the linker's own
+abbrev pub open_everywhere : {E : Type 0} → List E → ℕ → Bool
+open_everywhere seen place = false
+
+-- no offset field begins anywhere
+abbrev pub no_field : {M : Type 0} → M → ℕ → Bool
+no_field memory place = false
+
+abbrev pub NoneWritable : {B : Type 0} → List (Range B) → Type 0
+NoneWritable [] = Unit {0}
+NoneWritable (range ∷ ranges) = (range.writable ≡ false) × NoneWritable ranges
+
+-- ---- one memory as the image of another
+
+-- what the one lets a machine do, the other lets it do at its image
+pub record IsImage {M M' B : Type 0} (acc : Accesses M B) (acc' : Accesses M' B) (image : M → M') : Type 0 where
+  pub byte : (m : M) (place : ℕ) → acc'.byte (image m) place ≡ acc.byte m place
+  pub writes : (m : M) (place : ℕ) → acc'.writes (image m) place ≡ acc.writes m place
+  pub put : (m : M) (place : ℕ) (byte : B) → acc'.put (image m) place byte ≡ image (acc.put m place byte)
+  pub code : (m : M) (place : ℕ) → acc'.code (image m) place ≡ acc.code m place
+
+abbrev pub after_of : {W F M M' : Type 0} → (M → M') → After W F M → After W F M'
+after_of image after = left after.state (image after.memory)
+
+abbrev pub mapped : {W F M M' : Type 0} → (M → M') → Result (After W F M) Stop → Result (After W F M') Stop
+mapped image (Ok after) = Ok (after_of image after)
+mapped image (Err stop) = Err stop
+
+module _ {S S' : Type 0} (image : S → S') where
+  abbrev pub next_image : Next S → Next S'
+  next_image (Goes s) = Goes (image s)
+  next_image (Ends stop) = Ends stop
+  next_image (Looks s) = Looks (image s)
+
+  abbrev pub outcome_image : Outcome S → Outcome S'
+  outcome_image (Ended stop n s) = Ended stop n (image s)
+  outcome_image (Waits n s) = Waits n (image s)
+
+  -- what the one steps to, the other steps to from its image
+  pub record IsRunImage (x : Stepping S) (y : Stepping S') : Type 0 where
+    pub over : (s : S) → y.over (image s) ≡ x.over s
+    pub step : (s : S) → y.step (image s) ≡ next_image (x.step s)
+    pub spent : (s : S) → y.spent (image s) ≡ x.spent s
+
+-- ---- two memories, part by part
+
+-- R: what bytes have to do with each other
+pub record SameRange {B B' : Type 0} (R : B → B' → Type 0) (range : Range B) (range' : Range B') : Type 0 where
+  pub start : range'.start ≡ range.start
+  pub readable : range'.readable ≡ range.readable
+  pub writable : range'.writable ≡ range.writable
+  pub runnable : range'.runnable ≡ range.runnable
+  pub bytes : All2 R range.bytes range'.bytes
+
+pub record SameSpace {E B B' : Type 0} (R : B → B' → Type 0) (space : Space E B) (space' : Space E B') : Type 0 where
+  pub seen : space'.seen ≡ space.seen
+  pub stack : All2 R space.stack space'.stack
+  pub own : All2 (SameRange R) space.own space'.own

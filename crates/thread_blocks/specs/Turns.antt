@@ -1,0 +1,152 @@
+-- What threads do, turn by turn: a turn is a look at the events so far and the private steps up to the thread's next look.
+use Rattle.std.specs.Prelude.{ℕ, zero, suc, ◌+◌, ◌-◌, ◌*◌, List, [], ◌∷◌, ◌++◌, length, replicate, slice_get, slice_set, Option, Some, None, option_and_then}
+use Rattle.guest_machine.specs.declared.stop.Stop.{Stop}
+use Rattle.guest_machine.specs.Run.{Stepping, Outcome, Ended, Waits, run}
+use Rattle.job_text.specs.declared.transcripts.Outcome.{Outcome as Answer}
+
+-- how a line ended: with an answer, or as the machine stopped
+pub data Ending : Type 0 where
+  Answered : Answer → Ending
+  Stopped : Stop → Ending
+
+-- what a thread says of a line: the number of events that each of its looks saw, and how the line ended
+pub record Said : Type 0 where
+  pub points : List ℕ
+  pub ending : Ending
+
+-- what a look comes to: the line's end, or steps from a state on
+pub data Begun (S : Type 0) : Type 0 where
+  Says : Ending → S → Begun S
+  Calls : S → Begun S
+
+-- S: what a thread holds, L: a line, E: an event
+pub record Turns (S L E : Type 0) : Type 0 where
+  pub steps : Stepping S
+  -- the most steps of a line
+  pub fuel : ℕ
+  -- a line's first look, at the events that it sees
+  pub begin : L → List E → S → Begun S
+  -- a look in the middle of a line
+  pub resume : List E → S → Begun S
+
+-- where a thread stands: between two lines, or at a look in the middle of one, with the steps left (the look's own step is still
+-- to be paid) and the looks so far
+pub data Phase (S : Type 0) : Type 0 where
+  Idle : S → Phase S
+  Mid : ℕ → List ℕ → S → Phase S
+
+pub record Thread (S L E : Type 0) : Type 0 where
+  -- the lines that are not begun
+  pub todo : List L
+  pub phase : Phase S
+  -- what it said of the lines that are over
+  pub said : List Said
+  -- the events at its last look
+  pub seen : List E
+
+-- an end of a list
+abbrev pub with_last : {X : Type 0} → List X → X → List X
+with_last xs x = xs ++ x ∷ []
+
+module _ {S L E : Type 0} where
+  -- a thread whose line is over
+  abbrev pub over_with : List L → List Said → List E → List ℕ → Ending → S → Thread S L E
+  over_with todo said seen points ending s = record { todo = todo; phase = Idle s; said = with_last said (record { points = points; ending = ending }); seen = seen }
+
+  -- what a run leaves of a thread
+  abbrev pub after_run : List L → List Said → List E → List ℕ → Outcome S → Thread S L E
+  after_run todo said seen points (Ended stop left s) = over_with todo said seen points (Stopped stop) s
+  after_run todo said seen points (Waits left s) = record { todo = todo; phase = Mid left points s; said = said; seen = seen }
+
+module _ {S L E : Type 0} (x : Turns S L E) where
+  -- what a look leaves of a thread, with so many steps to go
+  abbrev pub after_look : ℕ → List L → List Said → List E → List ℕ → Begun S → Thread S L E
+  after_look steps todo said seen points (Says ending s) = over_with todo said seen points ending s
+  after_look steps todo said seen points (Calls s) = after_run todo said seen points (run x.steps steps s)
+
+  -- a turn of a thread that saw the events `old` and now sees `seen`; where nothing is left to do it is left as it is
+  abbrev pub turn_at : List L → Phase S → List Said → List E → List E → Thread S L E
+  turn_at [] (Idle s) said old seen = record { todo = []; phase = Idle s; said = said; seen = old }
+  turn_at (line ∷ todo) (Idle s) said old seen = after_look x.fuel todo said seen (length seen ∷ []) (x.begin line seen s)
+  turn_at todo (Mid left points s) said old seen = after_look (left - 1) todo said seen (with_last points (length seen)) (x.resume seen s)
+
+  abbrev pub turn : Thread S L E → List E → Thread S L E
+  turn t seen = turn_at t.todo t.phase t.said t.seen seen
+
+  -- turns, each at its own events
+  abbrev pub turns : Thread S L E → List (List E) → Thread S L E
+  turns t [] = t
+  turns t (seen ∷ more) = turns (turn t seen) more
+
+-- threads, and the history of events that they share
+pub record World (S L E : Type 0) : Type 0 where
+  pub threads : List (Thread S L E)
+  pub events : List E
+
+-- the line that a thread's next turn begins, if it begins one
+abbrev pub next_line : {S L : Type 0} → List L → Phase S → Option L
+next_line [] phase = None
+next_line (line ∷ todo) (Idle s) = Some line
+next_line (line ∷ todo) (Mid left points s) = None
+
+-- the history with an event, if there is one
+abbrev pub with_event : {E : Type 0} → List E → Option E → List E
+with_event events None = events
+with_event events (Some e) = with_last events e
+
+-- thread i, from 1
+abbrev pub at_number : {X : Type 0} → List X → ℕ → Option X
+at_number xs zero = None
+at_number xs (suc i) = slice_get xs i
+
+abbrev pub with_number : {X : Type 0} → List X → ℕ → X → List X
+with_number xs zero x = xs
+with_number xs (suc i) x = slice_set xs i x
+
+-- the event of a thread's next turn
+abbrev pub event_of : {S L E : Type 0} → (L → List E → Option E) → Thread S L E → List E → Option E
+event_of event t events = option_and_then (λ line. event line events) (next_line t.todo t.phase)
+
+-- x: what threads do; event: the event that a line adds after the events that its first look sees, if it adds one
+module _ {S L E : Type 0} (x : Turns S L E) (event : L → List E → Option E) where
+  -- a turn of thread i, if there is one
+  abbrev pub taken_by : World S L E → ℕ → Option (Thread S L E) → World S L E
+  taken_by w i None = w
+  taken_by w i (Some t) = record { threads = with_number w.threads i (turn x t w.events); events = with_event w.events (event_of event t w.events) }
+
+  -- the turn sees the whole history, and what its line adds comes after it
+  abbrev pub taken : World S L E → ℕ → World S L E
+  taken w i = taken_by w i (at_number w.threads i)
+
+  -- turns in an order: each entry is the number of a thread
+  abbrev pub by_order : List ℕ → World S L E → World S L E
+  by_order [] w = w
+  by_order (i ∷ order) w = by_order order (taken w i)
+
+-- nothing is left to do
+abbrev pub IsFinished : {S L : Type 0} → List L → Phase S → Type 0
+IsFinished [] (Idle s) = Unit {0}
+IsFinished (line ∷ todo) (Idle s) = ⊥
+IsFinished todo (Mid left points s) = ⊥
+
+-- turns enough for so many lines: a line has its first look, and each look in its middle takes a step
+abbrev pub enough : ℕ → ℕ → ℕ
+enough fuel lines = (fuel + 2) * lines
+
+-- the most turns that a thread still has
+abbrev pub turns_left : {S L : Type 0} → ℕ → List L → Phase S → ℕ
+turns_left fuel todo (Idle s) = enough fuel (length todo)
+turns_left fuel todo (Mid left points s) = enough fuel (length todo) + (left + 1)
+
+-- the threads finish in rising number, from thread i on
+abbrev pub finishing : {L : Type 0} → ℕ → ℕ → List (List L) → List ℕ
+finishing fuel i [] = []
+finishing fuel i (lines ∷ more) = replicate (enough fuel (length lines)) i ++ finishing fuel (suc i) more
+
+-- the whole order of a job: its own entries, then each thread up to its end
+abbrev pub whole_order : {L : Type 0} → ℕ → List (List L) → List ℕ → List ℕ
+whole_order fuel lines order = order ++ finishing fuel 1 lines
+
+-- a thread before its first turn
+abbrev pub ready : {S L E : Type 0} → S → List L → Thread S L E
+ready s lines = record { todo = lines; phase = Idle s; said = []; seen = [] }

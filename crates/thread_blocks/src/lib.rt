@@ -1,0 +1,58 @@
+//! What a thread of a linked program does, and what its memory is.
+//!
+//! A thread has a list of lines to do, such as "call `f` with 3, 10 and 0". What a line comes to may
+//! depend on what other threads did before: a module that one thread opens, another may call. All of
+//! that is one list of events, the history, which only grows. A thread learns of it by **looks**: one
+//! at the start of each line, and one at each access to a module's block that it cannot answer by
+//! itself. Between two looks its steps are private, for no other thread sees its registers, its
+//! stack or its blocks. So a **turn**, a look and the private steps behind it, is all that an order of
+//! threads can interleave, and what a thread does is a function of the lists of events that its looks
+//! see. That is why there is a history and no shared clock: to know a thread's lines it is enough to
+//! know the number of events at each of its looks, its points.
+//!
+//! `specs/Turns.antt` says this over any steps, lines and events: `turn`, `turns` at any lists of
+//! events, and `by_order`, where each entry of an order lets a thread take a turn that sees the whole
+//! history and may add its event. The laws in `proofs/Turns.antt`:
+//!
+//! - threads whose steps follow each other do so turn by turn and in any order, up to the first unclean
+//!   line (`turn_alike`, `turns_alike`, `order_alike`, `order_says`);
+//! - an order gives each thread fronts of the final history, one after another (`order_points`);
+//! - each thread comes to its end (`order_ends`).
+//!
+//! **A thread's memory** (`specs/Spaces.antt`) has three parts: its stack; its blocks of thread-local
+//! storage; and what no thread writes, which is a function of the events seen: code, constants, and the
+//! eight bytes at the thread pointer, which hold it. A machine over these parts is the machine over the
+//! list of their ranges (`space_image`, `space_run`), and memories that are related part by part stay so
+//! (`spaces_kept`).
+//!
+//! **Where the parts lie.** Thread t has its thread pointer at t * 2^40 + 2^38, and its stack is the
+//! 65,536 bytes before t * 2^40 + 2^39. By variant II of Drepper's "ELF Handling For Thread-Local
+//! Storage" (section 3) the block of an executable lies below the thread pointer. Say its TLS segment has
+//! 8 bytes, of which the file gives four:
+//!
+//!     thread 2:   0x23ffffffff8   2a 00 00 00 00 00 00 00    the block: initial image, zeros
+//!                 0x24000000000   00 00 00 00 40 02 00 00    the thread pointer's own word
+//!
+//!     64 8b 04 25 f8 ff ff ff     mov %fs:-8, %eax
+//!     c3                          ret
+//!
+//! `ThreadMemory` is such a memory, from call to call: its blocks keep their bytes, and each call has a
+//! fresh stack. Its contract is that a call is a turn of the thread (`machine_turns`,
+//! `specs/MachineTurns.antt`) whose line calls the function. `run_call` runs the one call of a thread that
+//! has no other; for the function above it answers `Returned(0x2a)`.
+//!
+//! What a call begins with is one definition for any kind of values, so that a meaning over marked
+//! values begins as the machine does (`begin_call_alike`, `proofs/Begin.antt`).
+#![tactic(auto)]
+
+mod call;
+mod fault;
+mod memory;
+mod parts;
+mod reach;
+#[cfg(test)]
+mod tests;
+
+pub use call::{Call, ThreadMemory, run_call};
+pub use fault::OutOfMemory;
+pub use parts::{BlockImage, Executable, Part};

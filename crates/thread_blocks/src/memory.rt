@@ -1,0 +1,133 @@
+//! The parts of a thread's memory.
+
+ghost use Rattle.std.specs.Prelude.{◌≡◌, ◌≤◌, [], IfOk};
+ghost use Rattle.guest_machine.specs.Plain.{plain_operations};
+ghost use Rattle.thread_blocks.specs.MachineTurns.{pointer_of, stack_start, stack_end, zeros, word_bytes, fresh_stack, pointer_word};
+ghost use Rattle.thread_blocks.specs.Parts.{block_bytes, block_range, call_ranges, code_range, constant_range};
+ghost use Rattle.thread_blocks.specs.Calling.{behind_stack};
+ghost use Rattle.thread_blocks.specs.Spaces.{stack_range};
+
+use crate::fault::OutOfMemory;
+use crate::parts::{BlockImage, Executable, Part};
+use guest_machine::RETURN;
+use guest_memory::{GuestMemory, GuestRange, Rights};
+use std::alloc::{AllocError, Global};
+
+const STACK_SIZE: u64 = 65_536;
+
+const CODE: Rights = Rights {
+    readable: false,
+    writable: false,
+    runnable: true,
+};
+
+const CONSTANT: Rights = Rights {
+    readable: true,
+    writable: false,
+    runnable: false,
+};
+
+const VARIABLE: Rights = Rights {
+    readable: true,
+    writable: true,
+    runnable: false,
+};
+
+/// The thread pointer of a thread, from 1.
+pub(crate) fn thread_pointer(thread: u32) -> u64
+    requires { thread ≤ 64 }
+    ensures { result ≡ pointer_of thread }
+{
+    u64::from(thread) * (1 << 40) + (1 << 38)
+}
+
+/// Where a thread's stack ends.
+pub(crate) fn end_of_stack(thread: u32) -> u64
+    requires { thread ≤ 64 }
+    ensures { result ≡ stack_end thread }
+{
+    u64::from(thread) * (1 << 40) + (1 << 39)
+}
+
+/// So many zeros.
+#[tactic(auto, unfolding(crate::specs::MachineTurns::zeros))]
+fn zeros(alloc: Global, count: usize) -> Result<Vec<u8>, AllocError>
+    ensures { IfOk result (λ bytes. bytes.items ≡ zeros 0 count) }
+{
+    let mut bytes = Vec::new(alloc);
+    bytes.resize(count, 0)?;
+    Ok(bytes)
+}
+
+/// The eight bytes of a number.
+#[tactic(auto, unfolding(guest_machine::specs::Plain::plain_operations))]
+fn bytes_of(alloc: Global, number: u64) -> Result<Vec<u8>, AllocError>
+    ensures { IfOk result (λ bytes. bytes.items ≡ word_bytes plain_operations number) }
+{
+    Vec::from_slice(alloc, &number.to_le_bytes())
+}
+
+/// The stack before a call: zeros, and in its last eight bytes the address to return to.
+#[tactic(auto, unfolding(guest_machine::specs::Plain::plain_operations))]
+pub(crate) fn stack_of(alloc: Global, thread: u32) -> Result<GuestRange<u8>, AllocError>
+    requires { thread ≤ 64 }
+    ensures { IfOk result (λ range. range ≡ stack_range (stack_start thread) (fresh_stack plain_operations)) }
+{
+    let mut bytes = zeros(alloc, STACK_SIZE as usize - 8)?;
+    bytes.extend_from_slice(bytes_of(alloc, RETURN)?.as_slice())?;
+    let start = end_of_stack(thread) - STACK_SIZE;
+    Ok(GuestRange::new(start, bytes, VARIABLE))
+}
+
+/// The eight bytes at the thread pointer, which hold it and can only be read.
+fn pointer_word(alloc: Global, thread: u32) -> Result<GuestRange<u8>, AllocError>
+    requires { thread ≤ 64 }
+    ensures { IfOk result (λ range. range ≡ pointer_word plain_operations thread) }
+{
+    let pointer = thread_pointer(thread);
+    let bytes = bytes_of(alloc, pointer)?;
+    Ok(GuestRange::new(pointer, bytes, CONSTANT))
+}
+
+/// The thread's block: the initial image and then zeros.
+fn block_of(alloc: Global, block: &BlockImage, thread: u32) -> Result<GuestRange<u8>, AllocError>
+    requires { thread ≤ 64 }
+    ensures { IfOk result (λ range. range ≡ block_range block.now thread) }
+{
+    let mut bytes = Vec::from_slice(alloc, block.initial.as_slice())?;
+    let rest = block.size.saturating_sub(bytes.len() as u64);
+    bytes.extend_from_slice(zeros(alloc, rest as usize)?.as_slice())?;
+    let start = thread_pointer(thread).saturating_sub(block.offset);
+    Ok(GuestRange::new(start, bytes, VARIABLE))
+}
+
+fn code_of(alloc: Global, part: &Part) -> Result<GuestRange<u8>, AllocError>
+    ensures { IfOk result (λ range. range ≡ code_range part.now) }
+{
+    let bytes = Vec::from_slice(alloc, part.bytes.as_slice())?;
+    Ok(GuestRange::new(part.place, bytes, CODE))
+}
+
+fn constants_of(alloc: Global, part: &Part) -> Result<GuestRange<u8>, AllocError>
+    ensures { IfOk result (λ range. range ≡ constant_range part.now) }
+{
+    let bytes = Vec::from_slice(alloc, part.bytes.as_slice())?;
+    Ok(GuestRange::new(part.place, bytes, CONSTANT))
+}
+
+/// All that a thread may reach before its first line, but for its stack.
+pub(crate) fn rest_of(
+    alloc: Global,
+    executable: &Executable,
+    thread: u32,
+) -> Result<GuestMemory<u8>, OutOfMemory>
+    requires { thread ≤ 64 }
+    ensures { IfOk result (λ memory. memory ≡ record { ranges = behind_stack (call_ranges executable.now thread); fields = [] }) }
+{
+    let mut memory = GuestMemory::new(alloc);
+    memory.add_range(block_of(alloc, &executable.block, thread)?)?;
+    memory.add_range(pointer_word(alloc, thread)?)?;
+    memory.add_range(code_of(alloc, &executable.code)?)?;
+    memory.add_range(constants_of(alloc, &executable.constants)?)?;
+    Ok(memory)
+}
