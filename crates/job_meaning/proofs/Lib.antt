@@ -1,2 +1,3 @@
+mod Examples
 pub mod Marked
 pub mod Same

@@ -1,2 +1,4 @@
+pub mod Code
 pub mod Marked
+pub mod Reading
 pub mod Same

@@ -30,6 +30,8 @@
 #![tactic(auto)]
 
 pub mod laws;
+mod marks;
 mod values;
 
+pub use marks::Mark;
 pub use values::{Byte, Flag, Token, Word};
