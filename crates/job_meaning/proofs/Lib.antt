@@ -1,3 +1,6 @@
 mod Examples
+pub mod Fetch
+pub mod Lists
 pub mod Marked
+pub mod Reading
 pub mod Same

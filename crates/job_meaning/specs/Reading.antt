@@ -11,7 +11,7 @@ use Rattle.guest_machine.specs.declared.stop.Stop.{Stop}
 use Rattle.guest_machine.specs.declared.stop.Stop.TheVariants.{Unclean}
 use Rattle.guest_machine.specs.Access.{Accesses, next_place, fetch_of}
 use Rattle.guest_machine.specs.Step.{act_if}
-use Rattle.guest_machine.specs.Use.{After}
+use Rattle.guest_machine.specs.Use.{After, plus}
 use Rattle.guest_machine.specs.Values.{Operations}
 use Rattle.job_meaning.specs.declared.marks.Mark.{Mark}
 use Rattle.job_meaning.specs.declared.marks.Mark.TheVariants.{Usual, Field, Odd}
@@ -43,7 +43,7 @@ module _ (mark : ℕ → Mark) where
   -- whether a field begins at byte k of an instruction, as its displacement or its immediate
   abbrev pub covers : ℕ → Option Decoded → ℕ → Bool
   covers here None k = false
-  covers here (Some it) k = is_field (place_at here k) && (is_at it.disp k || is_at it.imm k)
+  covers here (Some it) k = is_field (plus here k) && (is_at it.disp k || is_at it.imm k)
 
   -- why byte k may not be read: it is odd, or a field's that the instruction does not cover so
   abbrev pub hindrance_of : ℕ → Option Decoded → ℕ → Mark → Option Cause
