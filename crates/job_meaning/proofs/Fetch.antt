@@ -14,7 +14,7 @@ pub place-is : (k place : ℕ) → place_at place (suc k) ≡ plus place (suc k)
 place-is zero place = refl
 place-is (suc k) place = let e : place_at (next_place place) (suc k) ≡ plus (next_place place) (suc k) = place-is k (next_place place) in omega arith
 
-pub NotOdd : Mark → Type 0
+abbrev pub NotOdd : Mark → Type 0
 NotOdd Usual = Unit {0}
 NotOdd (Field byte) = Unit {0}
 NotOdd (Odd why) = ⊥
@@ -69,7 +69,6 @@ module _ {M M' B B' : Type 0} (mark : ℕ → Mark) (acc : Accesses M B) (acc' :
 
   as_long : (μ : Mark) (o o' : Option ℕ) (rest rest' : List ℕ) → SameCodeByte μ o o' → (o ≡ None → NotOdd μ) → ((a : ℕ) → o ≡ Some a → length rest ≡ length rest')
       → length (code_then o rest) ≡ length (code_then o' rest')
-  unfolding NotOdd
   as_long Usual None o' rest rest' s odd h = rw s refl
   as_long Usual (Some a) o' rest rest' s odd h = rw s (ap suc (h a refl))
   as_long (Field byte) None o' rest rest' s odd h = rw s refl

@@ -2,5 +2,6 @@ mod Examples
 pub mod Fetch
 pub mod Lists
 pub mod Marked
+pub mod Meaning
 pub mod Reading
 pub mod Same

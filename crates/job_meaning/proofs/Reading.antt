@@ -74,7 +74,7 @@ splice (Some k) xs ys = spliced k 4 xs ys
 abbrev pub with_numbers : ℕ → ℕ → Decoded → Decoded
 with_numbers number other d = record d { instr = record d.instr { displacement = number; immediate = other } }
 
-length-four : (k : ℕ) (xs : List ℕ) → k + 4 ≤ length xs → length (take 4 (drop k xs)) ≡ 4
+pub length-four : (k : ℕ) (xs : List ℕ) → k + 4 ≤ length xs → length (take 4 (drop k xs)) ≡ 4
 length-four k xs h = length-take-le 4 (drop k xs) (omega (arith, h, length-drop k xs))
 
 length-before : (k : ℕ) (xs : List ℕ) → k + 4 ≤ length xs → length (take k xs) ≡ k
@@ -88,7 +88,7 @@ splice-keeps : (o : Option ℕ) (xs ys : List ℕ) (i : ℕ) → slice_get xs i 
 splice-keeps None xs ys i e = e
 splice-keeps (Some k) xs ys i e = spliced-keeps k 4 xs ys i e
 
-displaced : (k : ℕ) (xs ys : List ℕ) (d : Decoded) → decoded xs ≡ Some d → d.disp ≡ Some k → k + 4 ≤ length xs → k + 4 ≤ length ys
+pub displaced : (k : ℕ) (xs ys : List ℕ) (d : Decoded) → decoded xs ≡ Some d → d.disp ≡ Some k → k + 4 ≤ length xs → k + 4 ≤ length ys
     → (d.instr.displacement ≡ field_of (take 4 (drop k xs))) × (decoded (spliced k 4 xs ys) ≡ Some (with_displacement (field_of (take 4 (drop k ys))) d))
 displaced k xs ys d e at h g =
     let parts : decoded (take k xs ++ (take 4 (drop k xs) ++ drop 4 (drop k xs))) ≡ Some d = rw (parts-are k 4 xs) e in
@@ -96,7 +96,7 @@ displaced k xs ys d e at h g =
     let around = displacement_around (take k xs) (take 4 (drop k xs)) (drop 4 (drop k xs)) d (length-four k xs h) parts here in
     (around.0, rw (spliced-is k 4 xs ys h g) (around.1 (take 4 (drop k ys)) (length-four k ys g)))
 
-immediately : (k : ℕ) (xs ys : List ℕ) (d : Decoded) → decoded xs ≡ Some d → d.imm ≡ Some k → k + 4 ≤ length xs → k + 4 ≤ length ys
+pub immediately : (k : ℕ) (xs ys : List ℕ) (d : Decoded) → decoded xs ≡ Some d → d.imm ≡ Some k → k + 4 ≤ length xs → k + 4 ≤ length ys
     → (d.instr.immediate ≡ field_of (take 4 (drop k xs))) × (decoded (spliced k 4 xs ys) ≡ Some (with_immediate (field_of (take 4 (drop k ys))) d))
 immediately k xs ys d e at h g =
     let parts : decoded (take k xs ++ (take 4 (drop k xs) ++ drop 4 (drop k xs))) ≡ Some d = rw (parts-are k 4 xs) e in
