@@ -5,3 +5,4 @@ pub mod Marked
 pub mod Meaning
 pub mod Reading
 pub mod Same
+pub mod Usual
