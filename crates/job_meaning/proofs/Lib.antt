@@ -4,5 +4,7 @@ pub mod Lists
 pub mod Marked
 pub mod Meaning
 pub mod Reading
+mod ReadingExamples
 pub mod Same
+pub mod Spaces
 pub mod Usual

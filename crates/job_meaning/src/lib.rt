@@ -25,7 +25,7 @@
 //!
 //! **The laws** say that marked values keep what a machine asks of its values (`laws::is_lawful`), and that
 //! the plain machine does to plain numbers what the meaning does to marked ones, where the meaning is
-//! clean (`laws::follows`). What a token stands for enters by one function, and so one law serves a
+//! clean (`laws::values_follow`, `laws::step_follows`). What a token stands for enters by one function, and so one law serves a
 //! linker that keeps each sequence and one that rewrites.
 #![tactic(auto)]
 
