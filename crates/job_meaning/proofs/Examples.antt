@@ -1,10 +1,8 @@
 -- The definitions at values.
-use Rattle.std.proofs.Common.{◌≡◌, ℕ, zero, suc, ◌+◌, Bool, true, false, List, [], ◌∷◌, Option, Some, None, Result, Ok, Err, refl}
+use Rattle.std.proofs.Common.{◌≡◌, ℕ, zero, suc, true, [], ◌∷◌, Ok, Err, refl}
 use Rattle.guest_machine.specs.declared.cause.Cause.TheVariants as cause
-use Rattle.amd64_subset.specs.Beginning.{begins_of}
-use Rattle.amd64_subset.specs.Decoding.{decoded}
 use Rattle.guest_machine.specs.Operand.{kept, kept_byte}
-use Rattle.amd64_subset.specs.declared.instr.Width.TheVariants.{Long, Quad}
+use Rattle.amd64_subset.specs.declared.instr.Width.TheVariants.{Long}
 use Rattle.guest_machine.specs.Values.{Operations}
 use Rattle.guest_machine.specs.Access.{bytes_from}
 use Rattle.job_meaning.specs.declared.values.Token.{Token}
@@ -12,9 +10,9 @@ use Rattle.job_meaning.specs.declared.values.Token.TheVariants.{Base, Descriptor
 use Rattle.job_meaning.specs.declared.values.Word.{Word}
 use Rattle.job_meaning.specs.declared.values.Word.TheVariants.{Number, Undefined, Marked}
 use Rattle.job_meaning.specs.declared.values.Flag.{Flag}
-use Rattle.job_meaning.specs.declared.values.Flag.TheVariants.{Truth, Unsettled}
+use Rattle.job_meaning.specs.declared.values.Flag.TheVariants.{Truth}
 use Rattle.job_meaning.specs.declared.values.Byte.{Byte}
-use Rattle.job_meaning.specs.declared.values.Byte.TheVariants.{Value, Hidden, Part}
+use Rattle.job_meaning.specs.declared.values.Byte.TheVariants.{Value, Part}
 use Rattle.job_meaning.specs.Marked.{marked_operations}
 
 -- blocks of instance 1 lie at 0x5000, those of the others at 0x7000; code above 0x1000 is of instance 2

@@ -1,9 +1,8 @@
 -- What is fetched of code in the meaning and in an image, byte by byte.
-use Rattle.std.proofs.Common.{◌≡◌, ℕ, zero, suc, ◌+◌, ◌-◌, ◌%◌, ◌^◌, ◌<◌, ◌≤◌, Bool, true, false, List, [], ◌∷◌, length, take, drop, Option, Some, None, refl, sym, ap, subst, ◌∙◌, arith}
+use Rattle.std.proofs.Common.{◌≡◌, ℕ, zero, suc, ◌+◌, ◌<◌, ◌≤◌, List, ◌∷◌, length, take, drop, Option, Some, None, refl, ap, arith}
 use Rattle.std.specs.List.{slice_get}
 use Rattle.guest_machine.specs.Access.{Accesses, next_place, code_then, code_at}
 use Rattle.guest_machine.specs.Use.{plus}
-use Rattle.guest_machine.specs.declared.cause.Cause.{Cause}
 use Rattle.job_meaning.specs.declared.marks.Mark.{Mark}
 use Rattle.job_meaning.specs.declared.marks.Mark.TheVariants.{Usual, Field, Odd}
 use Rattle.job_meaning.specs.Code.{SameCodeByte}
@@ -91,6 +90,7 @@ module _ {M M' B B' : Type 0} (mark : ℕ → Mark) (acc : Accesses M B) (acc' :
           → NotOdd (mark place)
       at_end None e odd = odd (omega arith)
       at_end (Some a) e odd = absurd cc
+
       later : (o : Option ℕ) (a : ℕ) → o ≡ Some a
           → (length (code_then o (code_at acc m (next_place place) n)) < suc n → NotOdd (mark (place_at place (length (code_then o (code_at acc m (next_place place) n))))))
           → length (code_at acc m (next_place place) n) < n → NotOdd (mark (place_at (next_place place) (length (code_at acc m (next_place place) n))))

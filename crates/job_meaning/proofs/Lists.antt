@@ -1,5 +1,5 @@
 -- Lists of bytes in which a few bytes are taken from another list.
-use Rattle.std.proofs.Common.{◌≡◌, ℕ, zero, suc, ◌+◌, ◌-◌, ◌<◌, ◌≤◌, ◌⊎◌, inl, inr, Bool, true, false, List, [], ◌∷◌, ◌++◌, length, take, drop, Option, Some, None, refl, sym, ap, ◌∙◌, arith}
+use Rattle.std.proofs.Common.{◌≡◌, ℕ, zero, suc, ◌+◌, ◌<◌, ◌≤◌, ◌⊎◌, inl, inr, Bool, true, false, List, [], ◌∷◌, ◌++◌, length, take, drop, Option, Some, refl, ap, arith}
 use Rattle.std.specs.List.{slice_get}
 
 -- n bytes from byte k on from ys, the others from xs
@@ -103,9 +103,9 @@ first_false f (suc n) =
     (elim (f 0) as (λ b. f 0 ≡ b → FirstFalse f (suc n) ⊎ ((k : ℕ) → k < suc n → f k ≡ true)) [
       | false ↦ λ e. inl (record { at = 0; below = omega arith; fails = e; before = λ k low. absurd (omega arith) })
       | true ↦ λ e. (elim (first_false (λ k. f (suc k)) n) as (λ r. FirstFalse f (suc n) ⊎ ((k : ℕ) → k < suc n → f k ≡ true)) [
-          | inl h ↦ inl (record { at = suc h.at; below = omega (arith, h.below); fails = h.fails; before = λ k low. all_below f h.at e h.before k low })
-          | inr h ↦ inr (λ k low. all_below f n e h k low)
-        ])
+        | inl h ↦ inl (record { at = suc h.at; below = omega (arith, h.below); fails = h.fails; before = λ k low. all_below f h.at e h.before k low })
+        | inr h ↦ inr (λ k low. all_below f n e h k low)
+      ])
     ]) refl
   where
     all_below : (f : ℕ → Bool) (n : ℕ) → f 0 ≡ true → ((k : ℕ) → k < n → f (suc k) ≡ true) → (k : ℕ) → k < suc n → f k ≡ true

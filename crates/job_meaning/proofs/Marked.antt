@@ -1,18 +1,15 @@
 -- Marked values keep the laws of values.
-use Rattle.std.proofs.Common.{◌≡◌, ℕ, ◌%◌, ◌^◌, ◌<◌, ◌≤◌, Bool, List, [], ◌∷◌, length, map, Option, Some, None, Result, Ok, Err, refl, ap, arith}
-use Rattle.guest_machine.specs.declared.cause.Cause.{Cause}
+use Rattle.std.proofs.Common.{◌≡◌, ℕ, ◌%◌, ◌^◌, ◌<◌, Bool, List, [], ◌∷◌, map, Some, Ok, refl, ap, arith}
 use Rattle.guest_machine.specs.Plain.{plain_operations}
 use Rattle.guest_machine.specs.PlainLaws.{plain_laws}
-use Rattle.guest_machine.specs.Values.{Operations, IsLawful, number_from, digit}
-use Rattle.job_meaning.specs.declared.values.Token.{Token}
-use Rattle.job_meaning.specs.declared.values.Token.TheVariants.{Base, Descriptor}
+use Rattle.guest_machine.specs.Values.{IsLawful}
 use Rattle.job_meaning.specs.declared.values.Word.{Word}
 use Rattle.job_meaning.specs.declared.values.Word.TheVariants.{Number, Undefined, Marked}
 use Rattle.job_meaning.specs.declared.values.Flag.{Flag}
 use Rattle.job_meaning.specs.declared.values.Flag.TheVariants.{Truth, Unsettled}
 use Rattle.job_meaning.specs.declared.values.Byte.{Byte}
 use Rattle.job_meaning.specs.declared.values.Byte.TheVariants.{Value, Hidden, Part}
-use Rattle.job_meaning.specs.Marked.{used_number, used_truth, code_byte, part_of, with_value, values_of, joined_as, marked_operations}
+use Rattle.job_meaning.specs.Marked.{used_number, used_truth, code_byte, values_of, marked_operations}
 
 number-only : (w : Word) (n : ℕ) → n < 2 ^ 64 → used_number w ≡ Ok n → w ≡ Number (n % 2 ^ 64)
 number-only (Number m) n below used = let small : n % 2 ^ 64 ≡ n = omega arith in rw small (cc)

@@ -1,5 +1,5 @@
 -- The image's step follows the meaning's, whatever numbers a linker writes into fields.
-use Rattle.std.proofs.Common.{◌≡◌, ℕ, zero, suc, ◌+◌, ◌-◌, ◌<◌, ◌≤◌, ◌⊎◌, inl, inr, Bool, true, false, ◌&&◌, ◌||◌, ◌==◌, List, [], ◌++◌, length, take, drop, Option, Some, None, Result, Ok, Err, refl, sym, ap, subst, ◌∙◌, append_assoc, arith}
+use Rattle.std.proofs.Common.{◌≡◌, ℕ, zero, suc, ◌+◌, ◌-◌, ◌<◌, ◌≤◌, ◌⊎◌, inl, inr, Bool, true, false, ◌&&◌, ◌||◌, List, ◌++◌, length, take, drop, Option, Some, None, Err, refl, sym, ap, subst, ◌∙◌, append_assoc, arith}
 use Rattle.std.specs.Prelude.{if◌then◌else◌, nat_lt, nat_le, replicate}
 use Rattle.std.specs.List.{slice_get}
 use Rattle.std.specs.Option.{option_or}
@@ -13,9 +13,7 @@ use Rattle.amd64_subset.specs.Spelling.{field_of}
 use Rattle.amd64_subset.proofs.Beginning.{none_lem}
 use Rattle.guest_machine.specs.declared.cause.Cause.{Cause}
 use Rattle.guest_machine.specs.declared.cause.Cause.TheVariants as cause
-use Rattle.guest_machine.specs.declared.frame.Frame.{Frame}
 use Rattle.guest_machine.specs.declared.state.State.{State}
-use Rattle.guest_machine.specs.declared.stop.Stop.{Stop}
 use Rattle.guest_machine.specs.declared.stop.Stop.TheVariants.{Code}
 use Rattle.guest_machine.specs.Access.{Accesses, code_at, fetch_of}
 use Rattle.guest_machine.specs.Follow.{Follows, Alike, IsFollowed, IsKept, SameState, SameFrame, SameAfter}
@@ -26,9 +24,9 @@ use Rattle.guest_machine.proofs.FollowRows.{act_follows}
 use Rattle.job_meaning.specs.declared.marks.Mark.{Mark}
 use Rattle.job_meaning.specs.declared.marks.Mark.TheVariants.{Usual, Field, Odd}
 use Rattle.job_meaning.specs.Code.{SameCode}
-use Rattle.job_meaning.specs.Reading.{starts_field, place_at, completed, is_at, is_field, covers, hindrance_of, hindered, first_hindrance, hindrance, read_as, meaning_step}
-use Rattle.job_meaning.proofs.Fetch.{place-is, NotOdd, code-length, code-part, code-longer, code-as_long, code-usual}
-use Rattle.job_meaning.proofs.Lists.{same-take, get-tails, get-front, FirstFalse, first_false}
+use Rattle.job_meaning.specs.Reading.{place_at, completed, is_at, is_field, covers, hindrance_of, hindered, first_hindrance, hindrance, read_as, meaning_step}
+use Rattle.job_meaning.proofs.Fetch.{place-is, NotOdd, code-part, code-longer, code-as_long, code-usual}
+use Rattle.job_meaning.proofs.Lists.{same-take, get-tails, get-front, first_false}
 use Rattle.job_meaning.proofs.Reading.{placed_of, length_of, length-four, front-begins, spelled-more, spelled-less, picked, with_numbers, displaced, immediately, IsIn, field_place, InField, Agrees, exchanged}
 
 abbrev zeros : List ℕ
@@ -144,10 +142,10 @@ module _ (mark : ℕ → Mark) (here : ℕ) where
     ruled_out k low none fails before =
         let front : decoded (take k bytes) ≡ None = no_front (decoded (take k bytes)) refl in
         let cut : take k bytes ++ (drop k bytes ++ zeros) ≡ bytes ++ zeros =
-            sym (append_assoc (take k bytes) (drop k bytes) zeros) ∙ ap (λ (l : List ℕ). l ++ zeros) (take-append-drop k bytes) in
+        sym (append_assoc (take k bytes) (drop k bytes) zeros) ∙ ap (λ (l : List ℕ). l ++ zeros) (take-append-drop k bytes) in
         let never : completed bytes ≡ None = subst (λ (l : List ℕ). decoded l ≡ None) cut (none_lem (take k bytes) (drop k bytes ++ zeros) front fails) in
         let same : take k bytes ≡ take k bytes' = same-take k bytes bytes' low (omega arith)
-            (λ i i-low. usual i (omega arith) (not_covered i never (at_begun i (omega arith) (before i i-low)).1)) in
+        (λ i i-low. usual i (omega arith) (not_covered i never (at_begun i (omega arith) (before i i-low)).1)) in
         let other : decoded (take k bytes ++ drop k bytes') ≡ None = none_lem (take k bytes) (drop k bytes') front fails in
         subst (λ (l : List ℕ). decoded l ≡ None) (ap (λ (l : List ℕ). l ++ drop k bytes') same ∙ take-append-drop k bytes') other
       where
@@ -164,7 +162,7 @@ module _ (mark : ℕ → Mark) (here : ℕ) where
     cut_short none all None never =
         let equal : length bytes ≡ length bytes' = as_long (at_begun (length bytes) (omega arith) (all (length bytes) (omega arith))).0 in
         let same : take (length bytes) bytes ≡ take (length bytes) bytes' = same-take (length bytes) bytes bytes' (omega arith) (omega arith)
-            (λ i low. usual i low (not_covered i never (at_begun i (omega arith) (all i (omega arith))).1)) in
+        (λ i low. usual i low (not_covered i never (at_begun i (omega arith) (all i (omega arith))).1)) in
         let lists : bytes ≡ bytes' = sym (take-length bytes) ∙ same ∙ (ap (λ (n : ℕ). take n bytes') equal ∙ take-length bytes') in
         rw (← lists) none
     cut_short none all (Some d) more =
@@ -173,7 +171,7 @@ module _ (mark : ℕ → Mark) (here : ℕ) where
         let within : d.len ≤ length (bytes ++ zeros) = length_of (bytes ++ zeros) d more in
         let sizes : length (bytes ++ zeros) ≡ length (bytes' ++ zeros) = length-append bytes zeros ∙ (ap (λ (n : ℕ). n + length zeros) equal ∙ sym (length-append bytes' zeros)) in
         let read = exchanged (field_in d.disp) (field_in d.imm) (bytes ++ zeros) (bytes' ++ zeros) d more (field_in-is d.disp) (field_in-is d.imm) (omega arith)
-            (λ i low. agrees i d more equal (cases_lt i (length bytes))) in
+        (λ i low. agrees i d more equal (cases_lt i (length bytes))) in
         not_read _ read long equal (decoded bytes') refl
       where
         too_long : (d : Decoded) → decoded (bytes ++ zeros) ≡ Some d → (length bytes < d.len) ⊎ (d.len ≤ length bytes) → length bytes < d.len
@@ -223,7 +221,7 @@ module _ {W F B W' F' B' : Type 0} (same : Alike W F B W' F' B') (ops : Operatio
   field-same here here' (Some k) n ys h =
       rw (none (plus here' k))
       ((elim (is_field mark (plus here k)) as (λ b. is_field mark (plus here k) ≡ b
-          → same.field (if b then Some (plus here k) else None) None n (picked (if b then Some k else None) ys n)) [
+      → same.field (if b then Some (plus here k) else None) None n (picked (if b then Some k else None) ys n)) [
         | true ↦ λ e. h k refl e
         | false ↦ λ e. plain n
       ]) refl)
@@ -243,14 +241,15 @@ module _ {W F B W' F' B' : Type 0} (same : Alike W F B W' F' B') (ops : Operatio
         let longer : length read ≤ length read' = code-longer mark acc acc' m m' code.byte 15 s.place in
         let place : place_at s.place (suc at) ≡ plus s.place (suc at) = place-is at s.place in
         let part : take 4 (drop (suc at) read) ≡ code_at acc m (plus s.place (suc at)) 4 =
-            code-part acc m (suc at) 15 s.place within ∙ ap (λ p. code_at acc m p 4) place in
+        code-part acc m (suc at) 15 s.place within ∙ ap (λ p. code_at acc m p 4) place in
         let part' : take 4 (drop (suc at) read') ≡ code_at acc' m' (plus s.place (suc at)) 4 =
-            code-part acc' m' (suc at) 15 s.place (omega arith) ∙ ap (λ p. code_at acc' m' p 4) place in
+        code-part acc' m' (suc at) 15 s.place (omega arith) ∙ ap (λ p. code_at acc' m' p 4) place in
         let four : length (code_at acc m (plus s.place (suc at)) 4) ≡ 4 = rw (← part) (length-four (suc at) read within) in
         rw (is, part, part') (code.field (plus s.place (suc at)) marked four)
+
     frame-same : (d : Decoded) → decoded read ≡ Some d
         → SameFrame same (frame_of (is_field mark) s.place d)
-          (frame_of is_field' s'.place (with_numbers (picked (field_in mark s.place d.disp) read' d.instr.displacement) (picked (field_in mark s.place d.imm) read' d.instr.immediate) d))
+        (frame_of is_field' s'.place (with_numbers (picked (field_in mark s.place d.disp) read' d.instr.displacement) (picked (field_in mark s.place d.imm) read' d.instr.immediate) d))
     unfolding frame_of
     frame-same d e =
         let within : d.len ≤ length read = length_of read d e in
@@ -258,10 +257,10 @@ module _ {W F B W' F' B' : Type 0} (same : Alike W F B W' F' B') (ops : Operatio
           next = ap (λ p. plus p d.len) h.place;
           displacement = field-same s.place s'.place d.disp d.instr.displacement read'
               (λ at is marked. let place = field_place d.len d.disp at (placed_of read d e).disp is in
-                field-alike d.instr.displacement at place.0 (omega (arith, place.1)) (displaced at read read d e is (omega (arith, place.1)) (omega (arith, place.1))).0 marked);
+              field-alike d.instr.displacement at place.0 (omega (arith, place.1)) (displaced at read read d e is (omega (arith, place.1)) (omega (arith, place.1))).0 marked);
           immediate = field-same s.place s'.place d.imm d.instr.immediate read'
               (λ at is marked. let place = field_place d.len d.imm at (placed_of read d e).imm is in
-                field-alike d.instr.immediate at place.0 (omega (arith, place.1)) (immediately at read read d e is (omega (arith, place.1)) (omega (arith, place.1))).0 marked);
+              field-alike d.instr.immediate at place.0 (omega (arith, place.1)) (immediately at read read d e is (omega (arith, place.1)) (omega (arith, place.1))).0 marked);
         }
 
     read-elsewhere : (o : Option Decoded) → decoded read' ≡ o → decoded (code_at acc' m' s'.place 15) ≡ o
@@ -293,7 +292,7 @@ module _ {W F B W' F' B' : Type 0} (same : Alike W F B W' F' B') (ops : Operatio
     unfolding meaning_step step_of fetch_of
     meaning_follows =
         (elim (hindrance mark s.place read) as (λ r. hindrance mark s.place read ≡ r
-            → Follows (SameAfter same Same) (read_as ops acc mark r (decoded read) s m) (act_if ops' acc' is_field' (decoded (code_at acc' m' s'.place 15)) s' m')) [
+        → Follows (SameAfter same Same) (read_as ops acc mark r (decoded read) s m) (act_if ops' acc' is_field' (decoded (code_at acc' m' s'.place 15)) s' m')) [
           | None ↦ λ e. acts e (decoded read) refl
           | Some why ↦ λ e. tt
         ]) refl

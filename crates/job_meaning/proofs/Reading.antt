@@ -1,26 +1,17 @@
 -- The image's step follows the meaning's, whatever numbers a linker writes into fields.
-use Rattle.std.proofs.Common.{◌≡◌, ℕ, zero, suc, ◌+◌, ◌-◌, ◌%◌, ◌^◌, ◌<◌, ◌≤◌, ◌⊎◌, inl, inr, Bool, true, false, ◌&&◌, ◌||◌, ◌==◌, List, [], ◌∷◌, ◌++◌, length, take, drop, Option, Some, None, Result, Ok, Err, refl, sym, ap, subst, ◌∙◌, append_assoc, arith}
-use Rattle.std.specs.Prelude.{if◌then◌else◌, nat_lt, nat_le, replicate, IfSome}
+use Rattle.std.proofs.Common.{◌≡◌, ℕ, ◌+◌, ◌-◌, ◌<◌, ◌≤◌, ◌⊎◌, inl, inr, true, List, ◌++◌, length, take, drop, Option, Some, None, refl, sym, ap, subst, ◌∙◌, append_assoc, arith}
+use Rattle.std.specs.Prelude.{IfSome}
 use Rattle.std.specs.List.{slice_get}
-use Rattle.std.specs.Option.{option_or}
-use Rattle.std.proofs.lemmas.Bool.{eqb-true, and_parts, or_cases, leb-true, ltb-true}
-use Rattle.std.proofs.lemmas.List.{length-append, length-take, length-drop, length-replicate, take-append-drop, length-take-le, take-append-le}
+use Rattle.std.proofs.lemmas.List.{length-drop, take-append-drop, length-take-le, take-append-le}
 use Rattle.amd64_subset.specs.declared.instr.Decoded.{Decoded}
 use Rattle.amd64_subset.specs.Beginning.{begins_of}
 use Rattle.amd64_subset.specs.Decoding.{decoded}
 use Rattle.amd64_subset.specs.Spelling.{Spells, HasField, IsPlaced, field_of, with_displacement, with_immediate}
-use Rattle.amd64_subset.proofs.Beginning.{spelling_begins, none_lem}
+use Rattle.amd64_subset.proofs.Beginning.{spelling_begins}
 use Rattle.amd64_subset.proofs.FieldLaws.{front_lem, displacement_around, immediate_around}
 use Rattle.amd64_subset.proofs.Places.{decoded_length, decoded_placed}
-use Rattle.amd64_subset.proofs.Whole.{Found, decoded_found}
-use Rattle.guest_machine.specs.declared.cause.Cause.{Cause}
-use Rattle.guest_machine.specs.declared.cause.Cause.TheVariants as cause
-use Rattle.guest_machine.specs.Use.{plus}
-use Rattle.job_meaning.specs.declared.marks.Mark.{Mark}
-use Rattle.job_meaning.specs.declared.marks.Mark.TheVariants.{Usual, Field, Odd}
-use Rattle.job_meaning.specs.Reading.{starts_field, place_at, completed, is_at, is_field, covers, hindrance_of, hindered, first_hindrance, hindrance}
-use Rattle.job_meaning.proofs.Fetch.{NotOdd}
-use Rattle.job_meaning.proofs.Lists.{spliced, spliced-is, parts-are, spliced-length, spliced-keeps, spliced-takes, same-take, take-cut, get-tails, get-front, FirstFalse, first_false}
+use Rattle.amd64_subset.proofs.Whole.{decoded_found}
+use Rattle.job_meaning.proofs.Lists.{spliced, spliced-is, parts-are, spliced-length, spliced-keeps, spliced-takes, same-take, take-cut}
 
 -- ** what spells
 
@@ -156,12 +147,12 @@ exchanged o p xs ys d e at at' h same =
     let within : d.len ≤ length xs = length_of xs d e in
     let first : decoded (splice o xs ys) ≡ Some (with_displacement (picked o ys d.instr.displacement) d) = splice-displaced o xs ys d e at h in
     let second : decoded (splice p (splice o xs ys) ys) ≡ Some (with_numbers (picked o ys d.instr.displacement) (picked p ys d.instr.immediate) d) =
-        splice-immediately p (splice o xs ys) ys (with_displacement (picked o ys d.instr.displacement) d) first at' h in
+    splice-immediately p (splice o xs ys) ys (with_displacement (picked o ys d.instr.displacement) d) first at' h in
     let long : length (splice p (splice o xs ys) ys) ≡ length xs = splice-length p (splice o xs ys) ys ∙ splice-length o xs ys in
     let fronts : take d.len (splice p (splice o xs ys) ys) ≡ take d.len ys =
-        same-take d.len (splice p (splice o xs ys) ys) ys (omega arith) h (λ i low. agree i low (same i low)) in
+    same-take d.len (splice p (splice o xs ys) ys) ys (omega arith) h (λ i low. agree i low (same i low)) in
     let front : decoded (take d.len (splice p (splice o xs ys) ys) ++ drop d.len ys) ≡ Some (with_numbers (picked o ys d.instr.displacement) (picked p ys d.instr.immediate) d) =
-        front_lem (splice p (splice o xs ys) ys) (drop d.len ys) _ second in
+    front_lem (splice p (splice o xs ys) ys) (drop d.len ys) _ second in
     let whole : take d.len ys ++ drop d.len ys ≡ ys = take-append-drop d.len ys in
     subst (λ (l : List ℕ). decoded l ≡ Some (with_numbers (picked o ys d.instr.displacement) (picked p ys d.instr.immediate) d)) (ap (λ (l : List ℕ). l ++ drop d.len ys) fronts ∙ whole) front
   where

@@ -1,5 +1,5 @@
 -- Reading at values: code at 0x2000, with a field of four bytes, and an odd place behind the code or none.
-use Rattle.std.proofs.Common.{◌≡◌, ℕ, ◌-◌, Bool, List, [], ◌∷◌, Option, Some, None, refl}
+use Rattle.std.proofs.Common.{◌≡◌, ℕ, ◌-◌, [], ◌∷◌, Some, None, refl}
 use Rattle.std.specs.Prelude.{if◌then◌else◌, nat_lt, nat_le, ◌&&◌, ◌==◌}
 use Rattle.amd64_subset.specs.Beginning.{begins_of}
 use Rattle.amd64_subset.specs.Decoding.{end_branch_at, escaped_at, row_at, operated_at, body_at, instruction_at, decoded}
@@ -10,7 +10,6 @@ use Rattle.amd64_subset.specs.Reading.{numbers_at}
 use Rattle.amd64_subset.specs.Register.{register_of, number_of}
 use Rattle.amd64_subset.specs.Row.{condition_of, fixed_row_of, row_of, escaped_row_of, arithmetic_of, shift_of, group_action, takes}
 use Rattle.amd64_subset.specs.Selectors.{allowed, displacement_size, memory_in, sib_at, selectors_at}
-use Rattle.guest_machine.specs.declared.cause.Cause.{Cause}
 use Rattle.guest_machine.specs.declared.cause.Cause.TheVariants as cause
 use Rattle.job_meaning.specs.declared.marks.Mark.{Mark}
 use Rattle.job_meaning.specs.declared.marks.Mark.TheVariants.{Usual, Field, Odd}

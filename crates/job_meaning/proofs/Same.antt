@@ -1,14 +1,12 @@
 -- Plain numbers follow marked values.
-use Rattle.std.proofs.Common.{◌≡◌, ℕ, zero, suc, ◌+◌, ◌*◌, ◌/◌, ◌%◌, ◌^◌, ◌<◌, ◌≤◌, Bool, true, false, ◌&&◌, ◌==◌, List, [], ◌∷◌, length, Option, Some, None, Result, Ok, Err, refl, sym, ap, subst, ◌∙◌, arith}
+use Rattle.std.proofs.Common.{◌≡◌, ℕ, zero, suc, ◌+◌, ◌%◌, ◌^◌, ◌<◌, Bool, true, false, ◌&&◌, ◌==◌, List, [], ◌∷◌, length, Option, Some, None, Ok, Err, refl, sym, ap, arith}
 use Rattle.std.specs.Prelude.{if◌then◌else◌}
 use Rattle.std.proofs.lemmas.Bool.{eqb-true, and_parts}
-use Rattle.guest_machine.specs.declared.cause.Cause.{Cause}
 use Rattle.guest_machine.specs.declared.cause.Cause.TheVariants as cause
-use Rattle.guest_machine.specs.Access.{IsSize}
-use Rattle.guest_machine.specs.Follow.{Uses, All2, Alike, IsFollowed}
-use Rattle.guest_machine.specs.Operand.{unmoved, moved_by}
+use Rattle.guest_machine.specs.Follow.{Uses, All2, IsFollowed}
+use Rattle.guest_machine.specs.Operand.{moved_by}
 use Rattle.guest_machine.specs.Plain.{plain_operations}
-use Rattle.guest_machine.specs.Values.{Operations, number_from, digit}
+use Rattle.guest_machine.specs.Values.{number_from, digit}
 use Rattle.job_meaning.specs.declared.values.Token.{Token}
 use Rattle.job_meaning.specs.declared.values.Token.TheVariants.{Base, Descriptor}
 use Rattle.job_meaning.specs.declared.values.Word.{Word}
@@ -148,7 +146,7 @@ module _ (base given : ℕ → ℕ → ℕ) where
     moved-uses at field' n n' f (Marked (Base thread instance)) w' h =
         rw f.0 (
         (elim (instance == owner at) as (λ b. (instance == owner at) ≡ b
-            → Uses (λ (p : ℕ) (q : ℕ). p ≡ q) (if b then Ok ((start thread instance + n) % 2 ^ 64) else Err cause.Field) (Ok ((n' + w') % 2 ^ 64))) [
+        → Uses (λ (p : ℕ) (q : ℕ). p ≡ q) (if b then Ok ((start thread instance + n) % 2 ^ 64) else Err cause.Field) (Ok ((n' + w') % 2 ^ 64))) [
           | true ↦ λ e. let own : instance ≡ owner at = eqb-true instance (owner at) e in
               moved-sum (start thread instance) (base thread instance) n n' w' (rw own (f.1 thread)) h
           | false ↦ λ e. tt

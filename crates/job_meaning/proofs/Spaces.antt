@@ -1,12 +1,12 @@
 -- Memories of ranges stay related under writes.
-use Rattle.std.proofs.Common.{◌≡◌, ℕ, zero, suc, ◌+◌, ◌-◌, ◌<◌, ◌≤◌, Bool, true, false, ◌&&◌, ◌||◌, List, [], ◌∷◌, length, Option, Some, None, Result, Ok, Err, refl, sym, ap, subst, ◌∙◌, arith}
+use Rattle.std.proofs.Common.{◌≡◌, ℕ, zero, suc, ◌-◌, Bool, true, false, ◌&&◌, ◌||◌, List, [], ◌∷◌, length, Option, Some, None, Result, refl, sym, ap, subst, ◌∙◌, arith}
 use Rattle.std.specs.Prelude.{if◌then◌else◌, nat_lt, nat_le, ok_or, slice_get, slice_set}
 use Rattle.std.proofs.lemmas.Bool.{and_parts}
 use Rattle.guest_machine.specs.declared.space.Access.{Access}
 use Rattle.guest_machine.specs.declared.space.Access.TheVariants.{Read, Write, Run}
-use Rattle.guest_machine.specs.Access.{Refusal, Refused, Shut, Accesses, reached}
+use Rattle.guest_machine.specs.Access.{Refusal, Refused, reached}
 use Rattle.guest_machine.specs.Follow.{Reaches, All2, Alike, IsKept}
-use Rattle.guest_machine.specs.Ranges.{Range, AddressSpace, allows, holds, grants, byte_in, with_byte, range_accesses}
+use Rattle.guest_machine.specs.Ranges.{Range, allows, holds, grants, byte_in, with_byte, range_accesses}
 use Rattle.guest_machine.specs.Values.{Operations}
 use Rattle.job_meaning.specs.Spaces.{SameRange, SameSpace}
 
@@ -129,7 +129,7 @@ module _ {W F B W' F' B' : Type 0} (same : Alike W F B W' F' B') where
   byte_in-same access d (r ∷ rs) (r' ∷ rs') place h =
       rw (← grants-same access r r' place h.0)
       ((elim (grants access r place) as (λ c. grants access r place ≡ c
-          → SameByteAt (if c then slice_get r.bytes (place - r.start) else byte_in access rs place) (if c then slice_get r'.bytes (place - r'.start) else byte_in access rs' place)) [
+      → SameByteAt (if c then slice_get r.bytes (place - r.start) else byte_in access rs place) (if c then slice_get r'.bytes (place - r'.start) else byte_in access rs' place)) [
         | true ↦ λ e. subst (λ (s : ℕ). SameByteAt (slice_get r.bytes (place - r.start)) (slice_get r'.bytes (place - s))) h.0.start
             (get-same r.bytes r'.bytes (place - r.start) (data-same access d r r' place h.0 e))
         | false ↦ λ e. byte_in-same access d rs rs' place h.1

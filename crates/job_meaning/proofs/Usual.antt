@@ -1,25 +1,22 @@
 -- Where code is usual the meaning's step is the machine's.
-use Rattle.std.proofs.Common.{◌≡◌, ℕ, zero, suc, ◌+◌, ◌-◌, ◌<◌, ◌≤◌, ◌⊎◌, inl, inr, Bool, true, false, List, length, take, Option, Some, None, Result, Ok, Err, refl, sym, ap, subst, ◌∙◌, arith}
-use Rattle.std.specs.Prelude.{if◌then◌else◌, nat_lt}
-use Rattle.std.specs.Option.{option_or}
+use Rattle.std.proofs.Common.{◌≡◌, ℕ, zero, suc, ◌+◌, ◌<◌, ◌≤◌, inl, inr, Bool, true, false, List, length, take, Option, Some, None, refl, sym, ap, ◌∙◌, arith}
+use Rattle.std.specs.Prelude.{if◌then◌else◌}
 use Rattle.std.proofs.lemmas.Bool.{cases_lt}
 use Rattle.std.proofs.lemmas.List.{length-take-le}
 use Rattle.amd64_subset.specs.declared.instr.Decoded.{Decoded}
-use Rattle.amd64_subset.specs.Beginning.{begins_of, has_room}
-use Rattle.amd64_subset.specs.Decoding.{decoded, instruction_at}
+use Rattle.amd64_subset.specs.Beginning.{begins_of}
+use Rattle.amd64_subset.specs.Decoding.{decoded}
 use Rattle.guest_machine.specs.declared.cause.Cause.{Cause}
-use Rattle.guest_machine.specs.declared.frame.Frame.{Frame}
 use Rattle.guest_machine.specs.declared.state.State.{State}
-use Rattle.guest_machine.specs.declared.stop.Stop.{Stop}
 use Rattle.guest_machine.specs.Access.{Accesses, code_at, fetch_of}
 use Rattle.guest_machine.specs.Follow.{Follows, Alike, IsFollowed, IsKept, SameState, SameAfter}
 use Rattle.guest_machine.specs.Step.{field_at, frame_of, act, act_if, step_of}
-use Rattle.guest_machine.specs.Use.{plus, After}
+use Rattle.guest_machine.specs.Use.{plus}
 use Rattle.guest_machine.specs.Values.{Operations}
 use Rattle.job_meaning.specs.declared.marks.Mark.{Mark}
 use Rattle.job_meaning.specs.declared.marks.Mark.TheVariants.{Usual, Field, Odd}
-use Rattle.job_meaning.specs.Code.{SameCode, AreUsual}
-use Rattle.job_meaning.specs.Reading.{starts_field, place_at, completed, is_field, hindrance_of, hindered, first_hindrance, hindrance, read_as, meaning_step}
+use Rattle.job_meaning.specs.Code.{AreUsual}
+use Rattle.job_meaning.specs.Reading.{starts_field, place_at, completed, is_field, hindrance_of, hindered, first_hindrance, hindrance, meaning_step}
 use Rattle.job_meaning.proofs.Fetch.{place-is, code-length}
 use Rattle.job_meaning.proofs.Meaning.{meaning_follows}
 use Rattle.job_meaning.proofs.Reading.{placed_of, field_place}
@@ -70,9 +67,9 @@ module _ (mark : ℕ → Mark) (here : ℕ) (usual : AreUsual mark here) where
   frame-plain bytes d e =
       let placed = placed_of bytes d e in
       let disp : field_at (is_field mark) here d.disp ≡ field_at (λ place. false) here d.disp =
-          field-none d.disp (λ k is. let place = field_place d.len d.disp k placed.disp is in no_field k place.0 (omega (arith, place.1, placed.most))) in
+      field-none d.disp (λ k is. let place = field_place d.len d.disp k placed.disp is in no_field k place.0 (omega (arith, place.1, placed.most))) in
       let imm : field_at (is_field mark) here d.imm ≡ field_at (λ place. false) here d.imm =
-          field-none d.imm (λ k is. let place = field_place d.len d.imm k placed.imm is in no_field k place.0 (omega (arith, place.1, placed.most))) in
+      field-none d.imm (λ k is. let place = field_place d.len d.imm k placed.imm is in no_field k place.0 (omega (arith, place.1, placed.most))) in
       rw (disp, imm) refl
 
 module _ {W F B M : Type 0} (ops : Operations W F B) (acc : Accesses M B) (mark : ℕ → Mark) (s : State W F) (m : M) (usual : AreUsual mark s.place) where
@@ -96,6 +93,6 @@ module _ {W F B W' F' B' : Type 0} (same : Alike W F B W' F' B') (ops : Operatio
   pub plain_follows : ((place : ℕ) → acc'.code m' place ≡ acc.code m place) → Follows (SameAfter same Same) (meaning_step ops acc mark s m) (step_of ops' acc' is_field' s' m')
   plain_follows code =
       let one : meaning_step ops acc mark s m ≡ meaning_step ops acc (λ place. Usual) s m =
-          usual_step ops acc mark s m usual ∙ sym (usual_step ops acc (λ place. Usual) s m (λ j low. refl)) in
+      usual_step ops acc mark s m usual ∙ sym (usual_step ops acc (λ place. Usual) s m (λ j low. refl)) in
       rw one (meaning_follows same ops ops' followed acc acc' Same kept (λ place. Usual) is_field' none plain s s' m m' h k
       (record { byte = code; field = λ place marked four. absurd (cc) }))

@@ -1,5 +1,5 @@
 -- What code of the meaning is in an image: the same bytes, but for fields and odd places.
-use Rattle.std.specs.Prelude.{◌≡◌, ◌<◌, ℕ, Bool, true, List, length, Option, Some, None}
+use Rattle.std.specs.Prelude.{◌≡◌, ◌<◌, ℕ, true, length, Option, Some, None}
 use Rattle.amd64_subset.specs.Spelling.{field_of}
 use Rattle.guest_machine.specs.Access.{Accesses, code_at}
 use Rattle.job_meaning.specs.declared.marks.Mark.{Mark}

@@ -1,5 +1,5 @@
 -- Marked values: what only the linker knows is a token, which may be carried and is no number.
-use Rattle.std.specs.Prelude.{ℕ, zero, suc, ◌+◌, ◌%◌, ◌^◌, ◌==◌, ◌&&◌, Bool, true, false, List, [], ◌∷◌, Option, Some, None, Result, Ok, Err, if◌then◌else◌}
+use Rattle.std.specs.Prelude.{ℕ, ◌+◌, ◌%◌, ◌^◌, ◌==◌, ◌&&◌, Bool, false, List, [], ◌∷◌, Option, Some, None, Result, Ok, Err, if◌then◌else◌}
 use Rattle.guest_machine.specs.declared.cause.Cause.{Cause}
 use Rattle.guest_machine.specs.declared.cause.Cause.TheVariants as cause
 use Rattle.guest_machine.specs.Values.{Operations, number_from, digit}
