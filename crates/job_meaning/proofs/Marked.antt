@@ -29,9 +29,9 @@ values-of : (ns : List ℕ) → values_of (map Value ns) ≡ Some ns
 values-of [] = refl
 values-of (n ∷ ns) = rw (values-of ns) refl
 
-pub marked_lawful : (start : ℕ → ℕ → ℕ) (owner : ℕ → ℕ) → IsLawful (marked_operations start owner)
+pub marked_lawful : (owner : ℕ → ℕ) → IsLawful (marked_operations owner)
 unfolding marked_operations plain_operations
-marked_lawful start owner = record {
+marked_lawful owner = record {
   number_of-word = λ n. refl;
   number_of-only = number-only;
   truth_of-flag = λ b. refl;

@@ -17,9 +17,9 @@ use Rattle.job_meaning.specs.Spaces.{SameSpace}
 
 -- where code is usual, the meaning's step is the machine's over marked values
 abbrev pub UsualCode : Type 0
-UsualCode = (start : ℕ → ℕ → ℕ) (owner : ℕ → ℕ) (mark : ℕ → Mark) (state : State Word Flag) (memory : AddressSpace Byte) → AreUsual mark state.place
-    → meaning_step (marked_operations start owner) (range_accesses (marked_operations start owner)) mark state memory
-    ≡ step_of (marked_operations start owner) (range_accesses (marked_operations start owner)) (λ place. false) state memory
+UsualCode = (owner : ℕ → ℕ) (mark : ℕ → Mark) (state : State Word Flag) (memory : AddressSpace Byte) → AreUsual mark state.place
+    → meaning_step (marked_operations owner) (range_accesses (marked_operations owner)) mark state memory
+    ≡ step_of (marked_operations owner) (range_accesses (marked_operations owner)) (λ place. false) state memory
 
 -- from related states, memories and code, the machine over plain numbers does what the meaning does, or the meaning is unclean
 abbrev pub StepFollows : Type 0
@@ -27,7 +27,7 @@ StepFollows = (start : ℕ → ℕ → ℕ) (owner : ℕ → ℕ) (base given : 
     (state : State Word Flag) (state' : State ℕ Bool) (memory : AddressSpace Byte) (memory' : AddressSpace ℕ)
     → SameState (same start owner base given) state state'
     → SameSpace (same start owner base given) memory memory'
-    → SameCode mark (λ place n n'. SameField start owner base (Some place) None n n') (range_accesses (marked_operations start owner)) (range_accesses plain_operations) memory memory'
+    → SameCode mark (λ place n n'. SameField start owner base (Some place) None n n') (range_accesses (marked_operations owner)) (range_accesses plain_operations) memory memory'
     → Follows (SameAfter (same start owner base given) (SameSpace (same start owner base given)))
-    (meaning_step (marked_operations start owner) (range_accesses (marked_operations start owner)) mark state memory)
+    (meaning_step (marked_operations owner) (range_accesses (marked_operations owner)) mark state memory)
     (step_of plain_operations (range_accesses plain_operations) (λ place. false) state' memory')

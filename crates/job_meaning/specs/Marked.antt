@@ -3,6 +3,7 @@ use Rattle.std.specs.Prelude.{ℕ, ◌+◌, ◌%◌, ◌^◌, ◌==◌, ◌&&◌
 use Rattle.guest_machine.specs.declared.cause.Cause.{Cause}
 use Rattle.guest_machine.specs.declared.cause.Cause.TheVariants as cause
 use Rattle.guest_machine.specs.Values.{Operations, number_from, digit}
+use Rattle.job_meaning.specs.declared.values.Block.{Block}
 use Rattle.job_meaning.specs.declared.values.Token.{Token}
 use Rattle.job_meaning.specs.declared.values.Token.TheVariants.{Base, Descriptor}
 use Rattle.job_meaning.specs.declared.values.Word.{Word}
@@ -14,7 +15,7 @@ use Rattle.job_meaning.specs.declared.values.Byte.TheVariants.{Value, Hidden, Pa
 
 -- why a token is no number
 abbrev pub cause_of : Token → Cause
-cause_of (Base thread instance) = cause.Base
+cause_of (Base block) = cause.Base
 cause_of (Descriptor instance symbol) = cause.Descriptor
 
 -- only a number is used as a number
@@ -39,10 +40,13 @@ part_of (Number number) k = Value (digit number k)
 part_of Undefined k = Hidden
 part_of (Marked token) k = Part token k
 
+abbrev pub is_same_block : Block → Block → Bool
+is_same_block block block' = ((block.thread == block'.thread) && (block.instance == block'.instance)) && (block.start == block'.start)
+
 abbrev pub is_same : Token → Token → Bool
-is_same (Base thread instance) (Base thread' instance') = (thread == thread') && (instance == instance')
-is_same (Base thread instance) (Descriptor instance' symbol') = false
-is_same (Descriptor instance symbol) (Base thread' instance') = false
+is_same (Base block) (Base block') = is_same_block block block'
+is_same (Base block) (Descriptor instance' symbol') = false
+is_same (Descriptor instance symbol) (Base block') = false
 is_same (Descriptor instance symbol) (Descriptor instance' symbol') = (instance == instance') && (symbol == symbol')
 
 abbrev pub with_value : ℕ → Option (List ℕ) → Option (List ℕ)
@@ -74,14 +78,13 @@ abbrev pub joined_as : Option (List ℕ) → List Byte → Word
 joined_as (Some numbers) bytes = Number (number_from numbers % 2 ^ 64)
 joined_as None bytes = whole bytes
 
--- start: where a thread's block of an instance lies in the meaning
 -- owner: the instance whose code stands at a place
-module _ (start : ℕ → ℕ → ℕ) (owner : ℕ → ℕ) where
+module _ (owner : ℕ → ℕ) where
   -- an offset field may be added to a base of the instance that the code belongs to, and to nothing else
   abbrev pub moved_in : Word → ℕ → ℕ → Result ℕ Cause
   moved_in (Number number) field place = Err cause.Field
   moved_in Undefined field place = Err cause.Field
-  moved_in (Marked (Base thread instance)) field place = if instance == owner place then Ok ((start thread instance + field) % 2 ^ 64) else Err cause.Field
+  moved_in (Marked (Base block)) field place = if block.instance == owner place then Ok ((block.start + field) % 2 ^ 64) else Err cause.Field
   moved_in (Marked (Descriptor instance symbol)) field place = Err cause.Field
 
   unfoldable pub marked_operations : Operations Word Flag Byte

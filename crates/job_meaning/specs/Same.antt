@@ -3,6 +3,7 @@
 use Rattle.std.specs.Prelude.{◌≡◌, ℕ, ◌+◌, ◌%◌, ◌^◌, ◌<◌, Bool, Option, Some, None}
 use Rattle.guest_machine.specs.Follow.{Alike}
 use Rattle.guest_machine.specs.Values.{digit}
+use Rattle.job_meaning.specs.declared.values.Block.{Block}
 use Rattle.job_meaning.specs.declared.values.Token.{Token}
 use Rattle.job_meaning.specs.declared.values.Token.TheVariants.{Base, Descriptor}
 use Rattle.job_meaning.specs.declared.values.Word.{Word}
@@ -16,24 +17,30 @@ use Rattle.job_meaning.specs.declared.values.Byte.TheVariants.{Value, Hidden, Pa
 -- given: what the descriptor of an instance for a symbol is
 module _ (base given : ℕ → ℕ → ℕ) where
   abbrev pub number_for : Token → ℕ
-  number_for (Base thread instance) = base thread instance % 2 ^ 64
+  number_for (Base block) = base block.thread block.instance % 2 ^ 64
   number_for (Descriptor instance symbol) = given instance symbol % 2 ^ 64
 
+-- start: where a thread's block of an instance begins, which is what its base says
+abbrev pub HasStart : (ℕ → ℕ → ℕ) → Token → Type 0
+HasStart start (Base block) = block.start ≡ start block.thread block.instance
+HasStart start (Descriptor instance symbol) = Unit {0}
+
+module _ (start base given : ℕ → ℕ → ℕ) where
   abbrev pub SameWord : Word → ℕ → Type 0
   SameWord (Number number) word = (word ≡ number) × (number < 2 ^ 64)
   SameWord Undefined word = Unit {0}
-  SameWord (Marked token) word = word ≡ number_for token
+  SameWord (Marked token) word = (word ≡ number_for base given token) × HasStart start token
 
   abbrev pub SameByte : Byte → ℕ → Type 0
   SameByte (Value number) byte = (byte ≡ number) × (number < 256)
   SameByte Hidden byte = Unit {0}
-  SameByte (Part token k) byte = byte ≡ digit (number_for token) k
+  SameByte (Part token k) byte = (byte ≡ digit (number_for base given token) k) × HasStart start token
 
 abbrev pub SameFlag : Flag → Bool → Type 0
 SameFlag (Truth truth) flag = flag ≡ truth
 SameFlag Unsettled flag = Unit {0}
 
--- start, owner: as the meaning's values have them
+-- owner: the instance whose code stands at a place
 module _ (start : ℕ → ℕ → ℕ) (owner : ℕ → ℕ) (base : ℕ → ℕ → ℕ) where
   -- what stands in an instruction is that number in the image; a field moves each thread's base to one address in both, and is no field there
   abbrev pub SameField : Option ℕ → Option ℕ → ℕ → ℕ → Type 0
@@ -43,8 +50,8 @@ module _ (start : ℕ → ℕ → ℕ) (owner : ℕ → ℕ) (base : ℕ → ℕ
 
 unfoldable pub same : (start : ℕ → ℕ → ℕ) (owner : ℕ → ℕ) (base given : ℕ → ℕ → ℕ) → Alike Word Flag Byte ℕ Bool ℕ
 same start owner base given = record {
-  word = SameWord base given;
+  word = SameWord start base given;
   flag = SameFlag;
-  byte = SameByte base given;
+  byte = SameByte start base given;
   field = SameField start owner base;
 }

@@ -13,12 +13,12 @@ ghost use Rattle.job_meaning.specs.Same.{same};
 
 /// Marked values are values: a number behaves as a number, and only a number may be used as one.
 pub fn is_lawful()
-    ensures { (start : ℕ → ℕ → ℕ) (owner : ℕ → ℕ) → IsLawful (marked_operations start owner) }
+    ensures { (owner : ℕ → ℕ) → IsLawful (marked_operations owner) }
 {}
 
 /// Plain numbers follow marked values, whatever the bases and the descriptors of an image are.
 pub fn values_follow()
-    ensures { (start : ℕ → ℕ → ℕ) (owner : ℕ → ℕ) (base given : ℕ → ℕ → ℕ) → IsFollowed (same start owner base given) (marked_operations start owner) plain_operations }
+    ensures { (start : ℕ → ℕ → ℕ) (owner : ℕ → ℕ) (base given : ℕ → ℕ → ℕ) → IsFollowed (same start owner base given) (marked_operations owner) plain_operations }
 {}
 
 /// Where code is usual, the meaning's step is the machine's over marked values.

@@ -34,4 +34,4 @@ mod marks;
 mod values;
 
 pub use marks::Mark;
-pub use values::{Byte, Flag, Token, Word};
+pub use values::{Block, Byte, Flag, Token, Word};

@@ -1,8 +1,18 @@
+/// One thread's block of an instance.
+#[derive(Clone, Copy, PartialEq, Eq, Debug)]
+pub struct Block {
+    pub thread: u64,
+    pub instance: u64,
+    /// Where the block begins. What an offset field adds to a base is added to this.
+    pub start: u64,
+}
+
 /// What stands for a number that only the linker knows.
 #[derive(Clone, Copy, PartialEq, Eq, Debug)]
 pub enum Token {
-    /// The base of a thread's block of an instance: the thread, the instance.
-    Base(u64, u64),
+    /// The base of a block: the number that the block's offsets are added to. A linker that rewrites
+    /// may make it the thread pointer.
+    Base(Block),
     /// The TLS descriptor of an instance for a symbol: the instance, the symbol's number.
     Descriptor(u64, u64),
 }

@@ -12,7 +12,7 @@ use Rattle.job_meaning.proofs.laws.step_follows.Goals as goal
 pub returns : goal.returns
 unfolding same
 returns c = λ start owner base given mark state state' memory memory' same-state same-space same-code.
-    meaning_follows (same start owner base given) (marked_operations start owner) plain_operations (marked_follows start owner base given)
-    (range_accesses (marked_operations start owner)) (range_accesses plain_operations) (SameSpace (same start owner base given))
-    (ranges_kept (same start owner base given) (marked_operations start owner) plain_operations)
+    meaning_follows (same start owner base given) (marked_operations owner) plain_operations (marked_follows start owner base given)
+    (range_accesses (marked_operations owner)) (range_accesses plain_operations) (SameSpace (same start owner base given))
+    (ranges_kept (same start owner base given) (marked_operations owner) plain_operations)
     mark (λ place. false) (λ place. refl) (λ n. (refl, refl)) state state' memory memory' same-state same-space same-code

@@ -4,4 +4,4 @@ use Rattle.job_meaning.proofs.Usual.{usual_step}
 use Rattle.job_meaning.proofs.laws.usual_code.Goals as goal
 
 pub returns : goal.returns
-returns c = λ start owner mark state memory usual. usual_step (marked_operations start owner) (range_accesses (marked_operations start owner)) mark state memory usual
+returns c = λ owner mark state memory usual. usual_step (marked_operations owner) (range_accesses (marked_operations owner)) mark state memory usual
