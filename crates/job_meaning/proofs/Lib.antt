@@ -1,7 +1,6 @@
 mod Examples
 pub mod Fetch
 pub mod Lists
-pub mod Marked
 pub mod Meaning
 pub mod Reading
 mod ReadingExamples

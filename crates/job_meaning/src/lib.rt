@@ -30,8 +30,10 @@
 #![tactic(auto)]
 
 pub mod laws;
+mod marked;
 mod marks;
 mod values;
 
+pub use marked::{owner, MarkedValues};
 pub use marks::Mark;
 pub use values::{Block, Byte, Flag, Token, Word};
