@@ -4,6 +4,7 @@ pub mod Lists
 pub mod Meaning
 pub mod Reading
 mod ReadingExamples
+pub mod Running
 pub mod Same
 pub mod Spaces
 pub mod Usual

@@ -4,5 +4,6 @@ pub mod Marked
 pub mod MarkedLaws
 pub mod Owner
 pub mod Reading
+pub mod Running
 pub mod Same
 pub mod Spaces
