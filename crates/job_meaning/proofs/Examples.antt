@@ -1,5 +1,5 @@
 -- The definitions at values.
-use Rattle.std.proofs.Common.{◌≡◌, ℕ, zero, suc, true, [], ◌∷◌, Ok, Err, refl}
+use Rattle.std.proofs.Common.{◌≡◌, ℕ, true, [], ◌∷◌, Ok, Err, refl}
 use Rattle.guest_machine.specs.declared.cause.Cause.TheVariants as cause
 use Rattle.guest_machine.specs.Operand.{kept, kept_byte}
 use Rattle.amd64_subset.specs.declared.instr.Width.TheVariants.{Long}

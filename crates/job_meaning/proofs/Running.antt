@@ -1,25 +1,23 @@
 -- Runs of the meaning are runs of the image.
-use Rattle.std.proofs.Common.{◌≡◌, ℕ, zero, suc, ◌≤◌, ◌⊎◌, inl, inr, Bool, true, false, ◌==◌, List, [], take, Option, Some, None, Result, Ok, Err, refl, sym, ap, subst, ◌∙◌, arith}
+use Rattle.std.proofs.Common.{◌≡◌, ℕ, ◌⊎◌, inl, inr, Bool, true, false, ◌==◌, [], Option, Some, None, Result, Ok, Err, refl, sym, ap, ◌∙◌, arith}
 use Rattle.std.specs.Prelude.{if◌then◌else◌}
 use Rattle.amd64_subset.specs.Beginning.{begins_of}
-use Rattle.amd64_subset.specs.Decoding.{end_branch_at, escaped_at, row_at, operated_at, body_at, instruction_at, decoded}
+use Rattle.amd64_subset.specs.Decoding.{row_at, instruction_at}
 use Rattle.amd64_subset.specs.Prefix.{rex_at, prefixes_at}
 use Rattle.guest_machine.specs.declared.cause.Cause.{Cause}
-use Rattle.guest_machine.specs.declared.cause.Cause.TheVariants as cause
 use Rattle.guest_machine.specs.declared.state.State.{State}
 use Rattle.guest_machine.specs.declared.stop.Stop.{Stop}
 use Rattle.guest_machine.specs.declared.stop.Stop.TheVariants.{Returned, Look, Address, Code, Unclean, Steps}
-use Rattle.guest_machine.specs.Access.{Accesses, code_then, code_at, next_place, fetch_of}
+use Rattle.guest_machine.specs.Access.{Accesses, fetch_of}
 use Rattle.guest_machine.specs.Follow.{Uses, Follows, Alike, IsFollowed, IsKept, SameAfter}
-use Rattle.guest_machine.specs.Run.{Next, Goes, Ends, Looks, Stepping, next_of, returned, is_look, machine}
-use Rattle.guest_machine.specs.Simulate.{IsUnclean, Moves, Advances, OverAlike, IsSimulated}
+use Rattle.guest_machine.specs.Run.{Ends, Stepping, next_of, returned, is_look, machine}
+use Rattle.guest_machine.specs.Simulate.{IsUnclean, Advances, OverAlike, IsSimulated}
 use Rattle.guest_machine.specs.Step.{step_of}
 use Rattle.guest_machine.specs.Use.{After}
 use Rattle.guest_machine.specs.Values.{Operations}
 use Rattle.job_meaning.specs.declared.marks.Mark.{Mark}
-use Rattle.job_meaning.specs.declared.marks.Mark.TheVariants.{Usual, Field, Odd}
 use Rattle.job_meaning.specs.Code.{SameCode}
-use Rattle.job_meaning.specs.Reading.{completed, hindrance_of, hindrance, read_as, meaning_step}
+use Rattle.job_meaning.specs.Reading.{hindrance, meaning_step}
 use Rattle.job_meaning.specs.Running.{asked, meaning, AreShut}
 use Rattle.job_meaning.proofs.Meaning.{meaning_follows}
 
@@ -65,8 +63,8 @@ module _ {W F B W' F' B' : Type 0} (same : Alike W F B W' F' B') (ops : Operatio
   over-alike false s s' h = tt
   over-alike true s s' h =
       (elim (returned-alike (ops.number_of s.state.registers.rax) (ops'.number_of s'.state.registers.rax) s.state.place s'.state.place (followed.number_of _ _ h.state.registers.rax))
-        as (λ r. IsUnclean (returned (ops.number_of s.state.registers.rax) s.state.place)
-          ⊎ ((Some (returned (ops'.number_of s'.state.registers.rax) s'.state.place) ≡ Some (returned (ops.number_of s.state.registers.rax) s.state.place)) × Both s s')) [
+      as (λ r. IsUnclean (returned (ops.number_of s.state.registers.rax) s.state.place)
+      ⊎ ((Some (returned (ops'.number_of s'.state.registers.rax) s'.state.place) ≡ Some (returned (ops.number_of s.state.registers.rax) s.state.place)) × Both s s')) [
         | inl unclean ↦ inl unclean
         | inr e ↦ inr (e, h)
       ])

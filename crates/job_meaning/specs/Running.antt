@@ -1,5 +1,5 @@
 -- Runs of the meaning, where no sequence is a step yet: running into one is unclean, since its places are odd.
-use Rattle.std.specs.Prelude.{◌≡◌, ℕ, ◌==◌, true, Option, Some, None, Result, Ok, Err, if◌then◌else◌}
+use Rattle.std.specs.Prelude.{◌≡◌, ℕ, ◌==◌, true, Some, None, Result, Ok, Err, if◌then◌else◌}
 use Rattle.guest_machine.specs.declared.cause.Cause.{Cause}
 use Rattle.guest_machine.specs.declared.cause.Cause.TheVariants as cause
 use Rattle.guest_machine.specs.declared.stop.Stop.{Stop}
@@ -9,7 +9,7 @@ use Rattle.guest_machine.specs.Run.{Stepping, next_of, returned, is_look}
 use Rattle.guest_machine.specs.Use.{After}
 use Rattle.guest_machine.specs.Values.{Operations}
 use Rattle.job_meaning.specs.declared.marks.Mark.{Mark}
-use Rattle.job_meaning.specs.declared.marks.Mark.TheVariants.{Usual, Field, Odd}
+use Rattle.job_meaning.specs.declared.marks.Mark.TheVariants.{Odd}
 use Rattle.job_meaning.specs.Reading.{meaning_step}
 
 -- a step that may not be made any more is asked for its cause; where it has none, steps are what is wanting

@@ -34,6 +34,6 @@ mod marked;
 mod marks;
 mod values;
 
-pub use marked::{owner, MarkedValues};
+pub use marked::{MarkedValues, owner};
 pub use marks::Mark;
 pub use values::{Block, Byte, Flag, Token, Word};
