@@ -19,19 +19,25 @@
 //! the meaning: it is where the meaning's own block lies.
 //!
 //! **Code is marked.** A place of code is a usual one, or it is part of a field whose number the linker
-//! writes, or it is odd: part of a sequence that the linker may rewrite, or the linker's own. An instruction is read from
-//! usual bytes, and from a field where it is its displacement or its immediate. What would need
-//! other bytes is unclean.
+//! writes, or it is odd: part of a sequence that the linker may rewrite, or the linker's own. An
+//! instruction is read from usual bytes, and from a field where it is its displacement or its
+//! immediate: `48 8d b8` and then a field is `lea x@dtpoff(%rax), %rdi`. What begins an instruction
+//! and needs other bytes for its end is unclean; what no further byte makes an instruction stops with
+//! `Code`, as on the processor.
 //!
-//! **The laws** say that marked values keep what a machine asks of its values (`laws::is_lawful`), and that
-//! the plain machine does to plain numbers what the meaning does to marked ones, where the meaning is
-//! clean (`laws::values_follow`, `laws::step_follows`). What a token stands for enters by one function, and so one law serves a
-//! linker that keeps each sequence and one that rewrites.
+//! **The laws** (`laws`) say that marked values keep what a machine asks of its values, and that the
+//! machine over plain numbers does to an image what the meaning's clean step does to the objects. What
+//! a token stands for enters by one function, and so one law serves a linker that keeps each sequence
+//! and one that rewrites. Over any values, memories and marks they are the lemmas `meaning_follows`
+//! (`proofs/Meaning.antt`, one step), `meaning_simulated` (`proofs/Running.antt`, runs) and `usual_step`
+//! (`proofs/Usual.antt`).
 #![tactic(auto)]
 
 pub mod laws;
 mod marked;
 mod marks;
+#[cfg(test)]
+mod tests;
 mod values;
 
 pub use marked::{MarkedValues, owner};
