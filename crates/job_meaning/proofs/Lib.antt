@@ -1,5 +1,6 @@
 mod Examples
 pub mod Fetch
+mod LinkedExample
 pub mod Lists
 pub mod Meaning
 pub mod Reading
