@@ -1,5 +1,5 @@
 -- Runs of the meaning are runs of the image.
-use Rattle.std.proofs.Common.{◌≡◌, ℕ, ◌⊎◌, inl, inr, Bool, true, false, ◌==◌, [], Option, Some, None, Result, Ok, Err, refl, sym, ap, ◌∙◌, arith}
+use Rattle.std.proofs.Common.{◌≡◌, ◌*◌, ◌≤◌, ℕ, ◌⊎◌, inl, inr, Bool, true, false, ◌==◌, [], Option, Some, None, Result, Ok, Err, refl, sym, ap, ◌∙◌, arith}
 use Rattle.std.specs.Prelude.{if◌then◌else◌}
 use Rattle.amd64_subset.specs.Beginning.{begins_of}
 use Rattle.amd64_subset.specs.Decoding.{row_at, instruction_at}
@@ -10,8 +10,8 @@ use Rattle.guest_machine.specs.declared.stop.Stop.{Stop}
 use Rattle.guest_machine.specs.declared.stop.Stop.TheVariants.{Returned, Look, Address, Code, Unclean, Steps}
 use Rattle.guest_machine.specs.Access.{Accesses, fetch_of}
 use Rattle.guest_machine.specs.Follow.{Uses, Follows, Alike, IsFollowed, IsKept, SameAfter}
-use Rattle.guest_machine.specs.Run.{Ends, Stepping, next_of, returned, is_look, machine}
-use Rattle.guest_machine.specs.Simulate.{IsUnclean, Advances, OverAlike, IsSimulated}
+use Rattle.guest_machine.specs.Run.{Ends, Stepping, next_of, returned, is_look, machine, run}
+use Rattle.guest_machine.specs.Simulate.{IsUnclean, Advances, OverAlike, IsSimulated, SameOut}
 use Rattle.guest_machine.specs.Step.{step_of}
 use Rattle.guest_machine.specs.Use.{After}
 use Rattle.guest_machine.specs.Values.{Operations}
@@ -19,6 +19,7 @@ use Rattle.job_meaning.specs.declared.marks.Mark.{Mark}
 use Rattle.job_meaning.specs.Code.{SameCode}
 use Rattle.job_meaning.specs.Reading.{hindrance, meaning_step}
 use Rattle.job_meaning.specs.Running.{asked, meaning, AreShut}
+use Rattle.guest_machine.proofs.Simulate.{same_run}
 use Rattle.job_meaning.proofs.Meaning.{meaning_follows}
 
 begins-nothing : begins_of [] ≡ true
@@ -118,3 +119,7 @@ module _ {W F B W' F' B' : Type 0} (same : Alike W F B W' F' B') (ops : Operatio
     -- the law of runs
     pub meaning_simulated : IsSimulated x y Both Wait Both
     meaning_simulated = record { over = over-same; step = step-same; spent = spent-unclean }
+
+    -- with four times the steps the image's run comes to what the meaning's comes to, or that is unclean
+    pub meaning_runs : (n n' : ℕ) (s : After W F M) (s' : After W' F' M') → 4 * n ≤ n' → Both s s' → SameOut Wait Both (run x n s) (run y n' s')
+    meaning_runs n n' s s' enough h = same_run x y Both Wait Both meaning_simulated n n' s s' enough h
