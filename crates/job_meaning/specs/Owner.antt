@@ -1,0 +1,6 @@
+-- Whose code stands at a place: an instance's bias says it.
+use Rattle.std.specs.Prelude.{ℕ, ◌-◌, ◌/◌, ◌^◌, nat_lt, if◌then◌else◌}
+
+-- instance i of a module lies at 2^32 + i * 2^26, and an executable, instance 1, below 2^32
+unfoldable pub owner_at : ℕ → ℕ
+owner_at place = if nat_lt place (2 ^ 32) then 1 else (place - 2 ^ 32) / 2 ^ 26
