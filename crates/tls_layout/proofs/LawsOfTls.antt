@@ -177,7 +177,7 @@ initial_from sections = (refl, refl)
 image_page : (kind : ImageKind) (sections : List Section) → IsMultiple (tls_image kind sections).start 4096
 image_page kind sections = rw (rise kind sections).image (page_multiple (read_only kind sections).end)
 
-front_len : (kind : ImageKind) (sections : List Section) → All IsOrdinary sections → (tls_image kind sections).end ≡ (tls_image kind sections).start + (initial_tls sections).end
+pub front_len : (kind : ImageKind) (sections : List Section) → All IsOrdinary sections → (tls_image kind sections).end ≡ (tls_image kind sections).start + (initial_tls sections).end
 front_len kind sections ordinary =
     let page = image_page kind sections in
     let start : (tls_image kind sections).start ≡ 4096 * page.0 + 0 = page.1 ∙ (omega arith) in

@@ -4,7 +4,8 @@ ghost use Rattle.std.specs.Prelude.{◌≡◌, ◌+◌, ◌<◌, ◌≤◌, ◌^
 ghost use Rattle.link_faults.specs.declared.fault.LinkFaultKind.TheVariants.{ImageTooLarge};
 ghost use Rattle.tls_layout.specs.Sections.{IsOrdinary};
 ghost use Rattle.tls_layout.specs.Places.{span};
-ghost use Rattle.tls_layout.specs.Passes.{HaveNone, AreAddresses, IsWhole};
+ghost use Rattle.tls_layout.specs.Passes.{HaveNone, AreAddresses};
+ghost use Rattle.tls_layout.specs.Faults.{IsWhole};
 ghost use Rattle.tls_layout.specs.Lists.{AreExtents};
 
 use crate::extent::{Extent, page_up};

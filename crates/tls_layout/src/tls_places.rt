@@ -5,7 +5,8 @@ ghost use Rattle.elf_object.specs.Lawful.{IsPower};
 ghost use Rattle.link_faults.specs.declared.fault.LinkFaultKind.TheVariants.{TlsTooLarge};
 ghost use Rattle.tls_layout.specs.Sections.{IsOrdinary};
 ghost use Rattle.tls_layout.specs.Places.{tls_size, next_alignment, greatest_alignment as greatest_of};
-ghost use Rattle.tls_layout.specs.Passes.{HaveNone, AreOffsets, IsWhole, IsFaultWhere};
+ghost use Rattle.tls_layout.specs.Passes.{HaveNone, AreOffsets};
+ghost use Rattle.tls_layout.specs.Faults.{IsWhole, IsFaultWhere};
 ghost use Rattle.tls_layout.specs.Lists.{IsTlsOf};
 
 use crate::lay_out::{Limit, lay_out};
