@@ -10,8 +10,7 @@ ghost use Rattle.tls_layout.specs.Faults.{IsWhole, IsFaultWhere};
 ghost use Rattle.tls_layout.specs.Lists.{IsTlsOf};
 
 use crate::lay_out::{Limit, lay_out};
-use crate::sections::Section;
-use elf_object::SectionClass;
+use crate::sections::{INITIAL_TLS, Section, ZERO_TLS};
 use link_faults::{LinkFault, LinkFaultKind};
 use std::alloc::{AllocError, Global};
 
@@ -47,20 +46,8 @@ fn lay_out_tls(sections: &[Section], offsets: &mut [Option<u64>]) -> Result<u64,
         end: LARGEST_TLS,
         kind: LinkFaultKind::TlsTooLarge,
     };
-    let initial = lay_out(
-        sections,
-        SectionClass::Tls { initial: true },
-        0,
-        limit,
-        offsets,
-    )?;
-    let zero = lay_out(
-        sections,
-        SectionClass::Tls { initial: false },
-        initial.end,
-        limit,
-        offsets,
-    )?;
+    let initial = lay_out(sections, INITIAL_TLS, 0, limit, offsets)?;
+    let zero = lay_out(sections, ZERO_TLS, initial.end, limit, offsets)?;
     Ok(zero.end)
 }
 
