@@ -1,8 +1,12 @@
 -- Where thread-local sections lie in the TLS segment, and its front in the image.
-use Rattle.std.proofs.Common.{◌≡◌, ℕ, ◌+◌, ◌*◌, ◌<◌, ◌≤◌, Bool, true, false, List, [], ◌∷◌, take, All, Option, Some, None, IsSome, refl, sym, ap, subst, ◌∙◌, arith, inl, inr, ◌⊎◌}
+use Rattle.std.proofs.Common.{◌≡◌, ℕ, ◌+◌, ◌-◌, ◌*◌, ◌<◌, ◌≤◌, ◌^◌, ◌==◌, Bool, true, false, max, List, [], ◌∷◌, take, drop, All, Option, Some, None, IsSome, refl, sym, ap, subst, ◌∙◌, arith, inl, inr, ◌⊎◌}
 use Rattle.std.specs.Prelude.{fold, option_and_then, if◌then◌else◌}
 use Rattle.std.proofs.Math.Nat.{mul_assoc}
 use Rattle.std.proofs.lemmas.Bool.{cases_lt}
+use Rattle.std.proofs.lemmas.Bool.Decides.{nat_tests}
+use Rattle.std.proofs.lemmas.Nat.{pow_below, pow-add}
+use Rattle.std.proofs.lemmas.List.{take-append-drop}
+use Rattle.std.proofs.lemmas.List.Sums.{fold_more, fold-append}
 use Rattle.std.proofs.lemmas.List.Elements.{All-head, All-tail, All-take}
 use Rattle.std.proofs.lemmas.Option.{same_Some, none-some}
 use Rattle.elf_object.specs.declared.class.SectionClass.{SectionClass}
@@ -11,12 +15,13 @@ use Rattle.link_faults.specs.declared.image_kind.ImageKind.{ImageKind}
 use Rattle.tls_layout.specs.declared.sections.Section.{Section}
 use Rattle.tls_layout.specs.declared.extent.Extent.{Extent}
 use Rattle.tls_layout.specs.Rounding.{round_up, IsMultiple}
-use Rattle.tls_layout.specs.Sections.{Layout, dropped, position, section_at, is_in, IsOrdinary}
-use Rattle.tls_layout.specs.Places.{next_end, end_of, place_in, read_only, tls_image, initial_tls, zero_tls, tls_size, address_at, offset_by, offset_at, section_found, section_named, address_of, tls_offset_of, IsLawful}
-use Rattle.tls_layout.specs.Laws.{LiesInTls, LieInTheSegment, HaveOffsets, OffsetsAreApart, IsFrontOfSegment}
+use Rattle.elf_object.specs.Lawful.{IsPower}
+use Rattle.tls_layout.specs.Sections.{Layout, dropped, position, section_at, is_in, is_tls_class, IsOrdinary}
+use Rattle.tls_layout.specs.Places.{next_end, end_of, place_in, read_only, tls_image, initial_tls, zero_tls, tls_size, tls_alignment, greatest_alignment, next_alignment, address_at, offset_by, offset_at, section_found, section_named, address_of, tls_offset_of, IsLawful}
+use Rattle.tls_layout.specs.Laws.{LiesInTls, LieInTheSegment, HaveOffsets, OffsetsAreApart, AlignmentSuits, IsFrontOfSegment}
 use Rattle.tls_layout.proofs.Rounds.{round_up-add, power_divides}
 use Rattle.tls_layout.proofs.Ends.{end_of-rises}
-use Rattle.tls_layout.proofs.Together.{rise}
+use Rattle.tls_layout.proofs.Together.{rise, power_more}
 use Rattle.tls_layout.proofs.LawsOfPlaces.{same_place, found_at, within, one_before, from_start, to_end, aligned_at, PlacedIn, placed, page_multiple, group, group_end, has_address}
 
 -- the part of the segment that a class fills
@@ -177,7 +182,7 @@ initial_from sections = (refl, refl)
 image_page : (kind : ImageKind) (sections : List Section) → IsMultiple (tls_image kind sections).start 4096
 image_page kind sections = rw (rise kind sections).image (page_multiple (read_only kind sections).end)
 
-front_len : (kind : ImageKind) (sections : List Section) → All IsOrdinary sections → (tls_image kind sections).end ≡ (tls_image kind sections).start + (initial_tls sections).end
+pub front_len : (kind : ImageKind) (sections : List Section) → All IsOrdinary sections → (tls_image kind sections).end ≡ (tls_image kind sections).start + (initial_tls sections).end
 front_len kind sections ordinary =
     let page = image_page kind sections in
     let start : (tls_image kind sections).start ≡ 4096 * page.0 + 0 = page.1 ∙ (omega arith) in
@@ -220,3 +225,62 @@ front_of_segment p lawful = record {
   len = front_len p.kind p.sections lawful.ordinary;
   inside = part_inside p.sections true;
 }
+
+-- ---- the alignment of the segment
+
+folds_greater : (greatest : ℕ) (sections : List Section) → greatest ≤ fold next_alignment greatest sections
+folds_greater greatest [] = omega arith
+folds_greater greatest (x ∷ xs) =
+    let once = one (is_tls_class x.class) in
+    let later = folds_greater (next_alignment greatest x) xs in
+    omega (arith, once, later)
+  where
+    one : (t : Bool) → greatest ≤ (if t then max greatest x.alignment else greatest)
+    one true = omega arith
+    one false = omega arith
+
+-- no thread-local section asks for more than the greatest alignment
+at_most_greatest : (sections : List Section) (k : ℕ) (initial : Bool) → (section_at sections k).class ≡ Some (Tls initial)
+    → (section_at sections k).alignment ≤ greatest_alignment sections
+unfolding greatest_alignment
+at_most_greatest sections k initial is =
+    let l = within sections k (Tls initial) is in
+    let here = fold_more next_alignment 1 sections k dropped l in
+    let split : fold next_alignment 1 sections ≡ fold next_alignment (fold next_alignment 1 (take (k + 1) sections)) (drop (k + 1) sections) =
+    ap (fold next_alignment 1) (sym (take-append-drop (k + 1) sections)) ∙ fold-append next_alignment 1 (take (k + 1) sections) (drop (k + 1) sections) in
+    let rest = folds_greater (fold next_alignment 1 (take (k + 1) sections)) (drop (k + 1) sections) in
+    let one : (section_at sections k).alignment ≤ next_alignment (fold next_alignment 1 (take k sections)) (section_at sections k) = rw is (omega arith) in
+    omega (arith, here, split, rest, one)
+
+-- of two powers of two the greater is a multiple of the other
+power_multiple : (a b : ℕ) → IsPower a → IsPower b → a ≤ b → IsMultiple b a
+power_multiple a b p q le = elim (cases_lt q.0 p.0) [
+  | inl less ↦ absurd (omega (arith, pow_below q.0 p.0 less, p.2, q.2))
+  | inr more ↦
+      let whole : p.0 + (q.0 - p.0) ≡ q.0 = omega arith in
+      (2 ^ (q.0 - p.0), rw (p.2, q.2) (ap (λ n. 2 ^ n) (sym whole) ∙ pow-add 2 p.0 (q.0 - p.0)))
+]
+
+greatest_is_power : (sections : List Section) → All IsOrdinary sections → IsPower (greatest_alignment sections)
+unfolding greatest_alignment
+greatest_is_power sections ordinary = folds_power 1 sections (0, omega arith, refl) ordinary
+  where
+    folds_power : (greatest : ℕ) (xs : List Section) → IsPower greatest → All IsOrdinary xs → IsPower (fold next_alignment greatest xs)
+    folds_power greatest [] power ordinary = power
+    folds_power greatest (x ∷ xs) power ordinary =
+        folds_power (next_alignment greatest x) xs (power_more greatest x power (All-head IsOrdinary x xs ordinary)) (All-tail IsOrdinary x xs ordinary)
+
+not_zero : (n : ℕ) → 0 < n → (n == 0) ≡ false
+not_zero n h = grind (arith, nat_tests)
+
+pub alignment_suits : (p : Layout) → IsLawful p → AlignmentSuits p
+unfolding section_named tls_alignment
+alignment_suits p lawful o s initial some c = by_position (position p.counts o s) c
+  where
+    by_position : (k : Option ℕ) → (section_found k p.sections).class ≡ Some (Tls initial) → IsMultiple (tls_alignment p.sections) (section_found k p.sections).alignment
+    by_position None c = absurd (cc)
+    by_position (Some k) c =
+        let l = within p.sections k (Tls initial) c in
+        let greatest : tls_alignment p.sections ≡ greatest_alignment p.sections = rw (not_zero (tls_size p.sections) some) refl in
+        rw greatest (power_multiple (section_at p.sections k).alignment (greatest_alignment p.sections) (lawful.ordinary k dropped l).1
+        (greatest_is_power p.sections lawful.ordinary) (at_most_greatest p.sections k initial c))

@@ -113,7 +113,7 @@ tls_beyond sections n x e h = let P : Extent → Type 0 = λ y. n < end_of (Tls 
 
 -- ---- the greatest alignment
 
-power_more : (greatest : ℕ) (section : Section) → IsPower greatest → IsOrdinary section → IsPower (next_alignment greatest section)
+pub power_more : (greatest : ℕ) (section : Section) → IsPower greatest → IsOrdinary section → IsPower (next_alignment greatest section)
 power_more greatest section power ordinary = of_test (is_tls_class section.class)
   where
     of_max : (a b : ℕ) → IsPower a → IsPower b → IsPower (max a b)

@@ -10,7 +10,7 @@ use Rattle.tls_layout.specs.declared.sections.Section.{Section}
 use Rattle.tls_layout.specs.declared.statics.TlsSize.{TlsSize}
 use Rattle.tls_layout.specs.Rounding.{IsMultiple}
 use Rattle.tls_layout.specs.Sections.{Layout, layout_of}
-use Rattle.tls_layout.specs.Places.{section_named, class_of, address_of, tls_offset_of, executable, read_only, tls_image, writable, room, initial_tls, tls_size}
+use Rattle.tls_layout.specs.Places.{section_named, class_of, address_of, tls_offset_of, executable, read_only, tls_image, writable, room, initial_tls, tls_size, tls_alignment}
 use Rattle.tls_layout.specs.Statics.{tls_of, tls_offset}
 
 -- ---- what a layout knows of objects
@@ -84,6 +84,12 @@ abbrev pub OffsetsAreApart : Layout → Type 0
 OffsetsAreApart p =
     (o s offset o' s' offset' : ℕ) → tls_offset_of p o s ≡ Some offset → tls_offset_of p o' s' ≡ Some offset'
     → ((o ≡ o') × (s ≡ s')) ⊎ ((offset + (section_named p o s).size ≤ offset') ⊎ (offset' + (section_named p o' s').size ≤ offset))
+
+-- the segment's alignment suits each of its sections: where it lies at such a multiple, so does each section at one of its own
+abbrev pub AlignmentSuits : Layout → Type 0
+AlignmentSuits p =
+    (o s : ℕ) (initial : Bool) → 0 < tls_size p.sections → class_of p o s ≡ Some (Tls initial)
+    → IsMultiple (tls_alignment p.sections) (section_named p o s).alignment
 
 -- the initial image is the segment's front: its bytes lie in the image as they lie in a block
 pub record IsFrontOfSegment (p : Layout) : Type 0 where

@@ -4,13 +4,14 @@ ghost use Rattle.std.specs.Prelude.{◌≡◌, ◌+◌, ◌<◌, ◌≤◌, ◌^
 ghost use Rattle.link_faults.specs.declared.fault.LinkFaultKind.TheVariants.{ImageTooLarge};
 ghost use Rattle.tls_layout.specs.Sections.{IsOrdinary};
 ghost use Rattle.tls_layout.specs.Places.{span};
-ghost use Rattle.tls_layout.specs.Passes.{HaveNone, AreAddresses, IsWhole};
+ghost use Rattle.tls_layout.specs.Passes.{HaveNone, AreAddresses};
+ghost use Rattle.tls_layout.specs.Faults.{IsWhole};
 ghost use Rattle.tls_layout.specs.Lists.{AreExtents};
 
 use crate::extent::{Extent, page_up};
 use crate::lay_out::{Limit, lay_out};
-use crate::sections::Section;
-use elf_object::SectionClass;
+use crate::sections::{INITIAL_DATA, INITIAL_TLS, Section, ZERO_DATA};
+use elf_object::SectionClass::{Executable, ReadOnly};
 use link_faults::{ImageKind, LinkFault, LinkFaultKind};
 
 /// How many bytes the sections of an image may span.
@@ -44,38 +45,14 @@ pub fn lay_out_image(
         end: base + LARGEST_SPAN,
         kind: LinkFaultKind::ImageTooLarge,
     };
-    let executable = lay_out(sections, SectionClass::Executable, base, limit, addresses)?;
+    let executable = lay_out(sections, Executable, base, limit, addresses)?;
     let constants = page_up(executable.end);
-    let read_only = lay_out(
-        sections,
-        SectionClass::ReadOnly,
-        constants,
-        limit,
-        addresses,
-    )?;
+    let read_only = lay_out(sections, ReadOnly, constants, limit, addresses)?;
     let image = page_up(read_only.end);
-    let tls = lay_out(
-        sections,
-        SectionClass::Tls { initial: true },
-        image,
-        limit,
-        addresses,
-    )?;
+    let tls = lay_out(sections, INITIAL_TLS, image, limit, addresses)?;
     let data = page_up(tls.end);
-    let initial = lay_out(
-        sections,
-        SectionClass::Writable { initial: true },
-        data,
-        limit,
-        addresses,
-    )?;
-    let zero = lay_out(
-        sections,
-        SectionClass::Writable { initial: false },
-        initial.end,
-        limit,
-        addresses,
-    )?;
+    let initial = lay_out(sections, INITIAL_DATA, data, limit, addresses)?;
+    let zero = lay_out(sections, ZERO_DATA, initial.end, limit, addresses)?;
     let writable = Extent {
         start: initial.start,
         end: zero.end,

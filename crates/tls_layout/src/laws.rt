@@ -6,7 +6,7 @@ ghost use Rattle.tls_layout.specs.declared.statics.TlsSize.{TlsSize};
 ghost use Rattle.tls_layout.specs.Rounding.{round_up, IsLeastMultiple};
 ghost use Rattle.tls_layout.specs.Sections.{Layout};
 ghost use Rattle.tls_layout.specs.Places.{IsLawful};
-ghost use Rattle.tls_layout.specs.Laws.{FindsSections, LieInTheirClasses, HaveAddresses, AddressesAreApart, ClassesFollow, LieInTheSegment, HaveOffsets, OffsetsAreApart, IsFrontOfSegment, BlocksAreApart, IsBelowThreadPointer};
+ghost use Rattle.tls_layout.specs.Laws.{FindsSections, LieInTheirClasses, HaveAddresses, AddressesAreApart, ClassesFollow, LieInTheSegment, HaveOffsets, OffsetsAreApart, AlignmentSuits, IsFrontOfSegment, BlocksAreApart, IsBelowThreadPointer};
 ghost use Rattle.tls_layout.specs.Statics.{IsTlsSize};
 
 /// What a layout holds of a section is what its object says of it.
@@ -59,6 +59,11 @@ pub fn thread_local_sections_have_offsets()
 #[tactic(auto, using(crate::proofs::LawsOfTls::offsets_apart))]
 pub fn offsets_are_apart()
     ensures { (p : Layout) → OffsetsAreApart p }
+{}
+
+/// The TLS segment's alignment suits each of its sections.
+pub fn alignment_suits_all_sections()
+    ensures { (p : Layout) → IsLawful p → AlignmentSuits p }
 {}
 
 /// The initial image lies in the image as its copy lies in a block.

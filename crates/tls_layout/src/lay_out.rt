@@ -4,7 +4,8 @@ ghost use Rattle.std.specs.Prelude.{◌≡◌, ◌+◌, ◌<◌, ◌≤◌, ◌^
 ghost use Rattle.tls_layout.specs.Rounding.{round_up as rounded_up};
 ghost use Rattle.tls_layout.specs.Sections.{is_in, IsOrdinary};
 ghost use Rattle.tls_layout.specs.Places.{next_end, end_of, extent_of};
-ghost use Rattle.tls_layout.specs.Passes.{GivesPlaces, IsWhole};
+ghost use Rattle.tls_layout.specs.Passes.{GivesPlaces};
+ghost use Rattle.tls_layout.specs.Faults.{IsWhole};
 
 use crate::extent::{Extent, round_up};
 use crate::sections::Section;

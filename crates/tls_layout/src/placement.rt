@@ -4,8 +4,8 @@ ghost use Rattle.std.specs.Prelude.{◌≡◌, ◌+◌, ◌<◌, ◌≤◌, ◌^
 ghost use Rattle.elf_object.specs.Lawful.{IsPower};
 ghost use Rattle.link_faults.specs.ImageKinds.{base_of};
 ghost use Rattle.tls_layout.specs.Sections.{layout_of};
-ghost use Rattle.tls_layout.specs.Places.{class_of, address_of, tls_offset_of, executable as executable_of, read_only as read_only_of, tls_image as tls_image_of, writable as writable_of, room as room_of, tls_size as size_of_tls, tls_alignment as alignment_of_tls, IsLawful};
-ghost use Rattle.tls_layout.specs.Passes.{IsLayoutFault};
+ghost use Rattle.tls_layout.specs.Places.{class_of, address_of, tls_offset_of, executable as executable_of, read_only as read_only_of, tls_image as tls_image_of, writable as writable_of, room as room_of, initial_tls, tls_size as size_of_tls, tls_alignment as alignment_of_tls, IsLawful};
+ghost use Rattle.tls_layout.specs.Faults.{IsLayoutFault};
 
 use crate::extent::{Extent, page_up};
 use crate::image_places::{ImageExtents, lay_out_image};
@@ -101,28 +101,32 @@ impl Placement {
 
     /// Where code lies.
     pub fn executable(&self) -> Extent
-        ensures { result ≡ executable_of self.now.kind self.now.sections }
+        ensures extent { result ≡ executable_of self.now.kind self.now.sections }
+        ensures lawful { IsLawful self.now }
     {
         self.extents.executable
     }
 
     /// Where constants lie.
     pub fn read_only(&self) -> Extent
-        ensures { result ≡ read_only_of self.now.kind self.now.sections }
+        ensures extent { result ≡ read_only_of self.now.kind self.now.sections }
+        ensures lawful { IsLawful self.now }
     {
         self.extents.read_only
     }
 
     /// Where the initial image of the TLS segment lies.
     pub fn tls_image(&self) -> Extent
-        ensures { result ≡ tls_image_of self.now.kind self.now.sections }
+        ensures extent { result ≡ tls_image_of self.now.kind self.now.sections }
+        ensures lawful { IsLawful self.now }
     {
         self.extents.tls
     }
 
     /// Where data lies that programs write.
     pub fn writable(&self) -> Extent
-        ensures { result ≡ writable_of self.now.kind self.now.sections }
+        ensures extent { result ≡ writable_of self.now.kind self.now.sections }
+        ensures lawful { IsLawful self.now }
     {
         self.extents.writable
     }
@@ -132,6 +136,7 @@ impl Placement {
     pub fn room(&self) -> u64
         ensures room { result ≡ room_of self.now.kind self.now.sections }
         ensures low { result ≤ base_of self.now.kind + 2 ^ 24 }
+        ensures lawful { IsLawful self.now }
     {
         page_up(self.extents.writable.end)
     }
@@ -140,14 +145,25 @@ impl Placement {
     pub fn tls_size(&self) -> u64
         ensures size { result ≡ size_of_tls self.now.sections }
         ensures small { result ≤ 2 ^ 20 }
+        ensures lawful { IsLawful self.now }
     {
         self.tls.size
+    }
+
+    /// How many bytes its initial image has. The others are zero.
+    #[tactic(auto, using(crate::proofs::LawsOfTls::front_len))]
+    pub fn initial_size(&self) -> u64
+        ensures size { result ≡ (initial_tls self.now.sections).end }
+        ensures lawful { IsLawful self.now }
+    {
+        self.extents.tls.end - self.extents.tls.start
     }
 
     /// What the address of the TLS segment is to be a multiple of: a power of two up to 4,096.
     pub fn tls_alignment(&self) -> u64
         ensures alignment { result ≡ alignment_of_tls self.now.sections }
         ensures power { IsPower result }
+        ensures lawful { IsLawful self.now }
     {
         self.tls.alignment
     }

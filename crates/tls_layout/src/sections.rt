@@ -5,6 +5,16 @@ ghost use Rattle.tls_layout.specs.Sections.{seen_as, is_in, is_tls_class};
 
 use elf_object::{SectionClass, SectionPart};
 
+/// Thread-local sections of the initial image, and those of zeros.
+pub const INITIAL_TLS: SectionClass = SectionClass::Tls { initial: true };
+
+pub const ZERO_TLS: SectionClass = SectionClass::Tls { initial: false };
+
+/// Data that has bytes in the file, and data that has none.
+pub const INITIAL_DATA: SectionClass = SectionClass::Writable { initial: true };
+
+pub const ZERO_DATA: SectionClass = SectionClass::Writable { initial: false };
+
 /// A section as a layout sees it. One that linking drops has no class, and takes no room.
 #[derive(Clone, Copy, PartialEq, Eq, Debug)]
 pub struct Section {

@@ -5,12 +5,12 @@ ghost use Rattle.elf_object.specs.Lawful.{IsPower};
 ghost use Rattle.link_faults.specs.declared.fault.LinkFaultKind.TheVariants.{TlsTooLarge};
 ghost use Rattle.tls_layout.specs.Sections.{IsOrdinary};
 ghost use Rattle.tls_layout.specs.Places.{tls_size, next_alignment, greatest_alignment as greatest_of};
-ghost use Rattle.tls_layout.specs.Passes.{HaveNone, AreOffsets, IsWhole, IsFaultWhere};
+ghost use Rattle.tls_layout.specs.Passes.{HaveNone, AreOffsets};
+ghost use Rattle.tls_layout.specs.Faults.{IsWhole, IsFaultWhere};
 ghost use Rattle.tls_layout.specs.Lists.{IsTlsOf};
 
 use crate::lay_out::{Limit, lay_out};
-use crate::sections::Section;
-use elf_object::SectionClass;
+use crate::sections::{INITIAL_TLS, Section, ZERO_TLS};
 use link_faults::{LinkFault, LinkFaultKind};
 use std::alloc::{AllocError, Global};
 
@@ -46,20 +46,8 @@ fn lay_out_tls(sections: &[Section], offsets: &mut [Option<u64>]) -> Result<u64,
         end: LARGEST_TLS,
         kind: LinkFaultKind::TlsTooLarge,
     };
-    let initial = lay_out(
-        sections,
-        SectionClass::Tls { initial: true },
-        0,
-        limit,
-        offsets,
-    )?;
-    let zero = lay_out(
-        sections,
-        SectionClass::Tls { initial: false },
-        initial.end,
-        limit,
-        offsets,
-    )?;
+    let initial = lay_out(sections, INITIAL_TLS, 0, limit, offsets)?;
+    let zero = lay_out(sections, ZERO_TLS, initial.end, limit, offsets)?;
     Ok(zero.end)
 }
 
