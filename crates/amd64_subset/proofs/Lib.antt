@@ -9,3 +9,4 @@ pub mod Missing
 pub mod MissingCode
 pub mod MissingStart
 pub mod Beginning
+pub mod Splices
