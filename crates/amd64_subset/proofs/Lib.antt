@@ -10,3 +10,5 @@ pub mod MissingCode
 pub mod MissingStart
 pub mod Beginning
 pub mod Splices
+pub mod Digits
+pub mod Selected
