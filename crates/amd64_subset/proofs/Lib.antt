@@ -12,3 +12,4 @@ pub mod Beginning
 pub mod Splices
 pub mod Digits
 pub mod Selected
+pub mod Built
