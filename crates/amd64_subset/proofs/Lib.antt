@@ -13,3 +13,5 @@ pub mod Splices
 pub mod Digits
 pub mod Selected
 pub mod Built
+pub mod Named
+pub mod Operated
