@@ -15,3 +15,4 @@ pub mod Selected
 pub mod Built
 pub mod Named
 pub mod Operated
+pub mod Spelled
