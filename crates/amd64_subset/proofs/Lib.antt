@@ -16,3 +16,4 @@ pub mod Built
 pub mod Named
 pub mod Operated
 pub mod Spelled
+pub mod Listed
