@@ -17,3 +17,4 @@ pub mod Named
 pub mod Operated
 pub mod Spelled
 pub mod Listed
+pub mod Costs

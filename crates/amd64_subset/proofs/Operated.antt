@@ -86,7 +86,7 @@ unfolding allowed
 allowed_any a p modrm (operand.Register r) mode fs reg mem = rw (mode) (not_and p.thread_pointer _ fs (reg refl))
 allowed_any a p modrm (operand.InMemory m) mode fs reg mem = rw (mode) (mem refl)
 
-sib_few : (o : Option ℕ) → length (option_to_list o) ≤ 1
+pub sib_few : (o : Option ℕ) → length (option_to_list o) ≤ 1
 sib_few None = omega arith
 sib_few (Some x) = omega arith
 
@@ -97,7 +97,7 @@ size_at_most false false true e = omega arith
 size_at_most false false false true = omega arith
 size_at_most false false false false = omega arith
 
-size_few : (s : Selectors) → count_of (displacement_size s) ≤ 4
+pub size_few : (s : Selectors) → count_of (displacement_size s) ≤ 4
 unfolding displacement_size
 size_few s = size_at_most (eqb (s.modrm / 64) 1) (eqb (s.modrm / 64) 2) (eqb (s.modrm / 64) 3) (eqb (unwrap_or s.sib s.modrm % 8) 5)
 
