@@ -18,3 +18,4 @@ pub mod Operated
 pub mod Spelled
 pub mod Listed
 pub mod Costs
+pub mod Shortest
