@@ -19,3 +19,5 @@ pub mod Spelled
 pub mod Listed
 pub mod Costs
 pub mod Shortest
+pub mod Groups
+pub mod Canon

@@ -55,13 +55,13 @@ pub record BeatsIn (form : Form) (d : ℕ) (r : Row) (size : ℕ) : Type 0 where
   pub most : length (form_bytes form d) ≤ size
   pub line : size ≤ length (form_bytes form d) → (mine : Row) → named (rex_bits form) (opcode_bytes form) ≡ Some mine → line_of mine ≤ line_of r
 
-beats_row : (form : Form) (d : ℕ) (r mine : Row) (size : ℕ) → length (form_bytes form d) ≤ size → named (rex_bits form) (opcode_bytes form) ≡ Some mine → line_of mine ≤ line_of r → BeatsIn form d r size
+pub beats_row : (form : Form) (d : ℕ) (r mine : Row) (size : ℕ) → length (form_bytes form d) ≤ size → named (rex_bits form) (opcode_bytes form) ≡ Some mine → line_of mine ≤ line_of r → BeatsIn form d r size
 beats_row form d r mine size most names le = record {
   most = most;
   line = λ h other e. let same : mine ≡ other = cc in subst (λ (x : Row). line_of x ≤ line_of r) same le;
 }
 
-beats_less : (form : Form) (d : ℕ) (r : Row) (size : ℕ) → length (form_bytes form d) < size → BeatsIn form d r size
+pub beats_less : (form : Form) (d : ℕ) (r : Row) (size : ℕ) → length (form_bytes form d) < size → BeatsIn form d r size
 beats_less form d r size less = record { most = omega arith; line = λ h other e. absurd (omega arith) }
 
 -- what stands before the opcode of a spelling
@@ -79,21 +79,21 @@ pub record Spelt (p : Prefixes) (s : Selectors) (rex : Option ℕ) (marks : ℕ)
 abbrev pub tail_of : Selectors → ℕ
 tail_of s = length (option_to_list s.sib) + count_of (displacement_size s)
 
-operand-lt : (o : Operand) (d : ℕ) → IsOperand o d → d < 2 ^ 64
+pub operand-lt : (o : Operand) (d : ℕ) → IsOperand o d → d < 2 ^ 64
 operand-lt (operand.Register r) d h = omega arith
 operand-lt (operand.InMemory m) d h = long-lt d h.1
 
-fits_of : (p : Prefixes) (s : Selectors) (rex : Option ℕ) (marks : ℕ) (bytes : List ℕ) (d : ℕ) → Spelt p s rex marks bytes d → d < 2 ^ 64 → Fits rex marks (tail_of s) (operand_in p s) d
+pub fits_of : (p : Prefixes) (s : Selectors) (rex : Option ℕ) (marks : ℕ) (bytes : List ℕ) (d : ℕ) → Spelt p s rex marks bytes d → d < 2 ^ 64 → Fits rex marks (tail_of s) (operand_in p s) d
 fits_of p s rex marks bytes d h lt = operand_fits p s rex marks bytes d h.around.fs h.around.none h.sib-is h.number lt
 
 high_of : (p : Prefixes) (s : Selectors) (rex : Option ℕ) (marks : ℕ) → Around p rex marks → rex ≡ None → is_high (register_in p s) ≡ false
 high_of p s rex marks h n = let z = h.none n in rw (z) (low_extended ((s.modrm / 8) % 8) (omega arith))
 
-wide_of : (p : Prefixes) (rex : Option ℕ) (marks : ℕ) → Around p rex marks → rex ≡ None → is_quad (width_of p) ≡ false
+pub wide_of : (p : Prefixes) (rex : Option ℕ) (marks : ℕ) → Around p rex marks → rex ≡ None → is_quad (width_of p) ≡ false
 wide_of p rex marks h n = let z = h.none n in rw (z) refl
 
 -- the same row, or an earlier line
-same : (escaped : Bool) (opcode : ℕ) (w low : Bool) (f : ℕ) (o : Operand) (size : Size) (number d : ℕ) (rex : Option ℕ) (marks tail : ℕ) (r mine : Row) (total : ℕ) → Fits rex marks tail o d
+pub same : (escaped : Bool) (opcode : ℕ) (w low : Bool) (f : ℕ) (o : Operand) (size : Size) (number d : ℕ) (rex : Option ℕ) (marks tail : ℕ) (r mine : Row) (total : ℕ) → Fits rex marks tail o d
     → (rex ≡ None → low ≡ false) → (rex ≡ None → w ≡ false) → (rex ≡ None → leb 8 f ≡ false)
     → named (bits w (leb 8 f) (high_index o) (high_base o)) (opcode_bytes (selected escaped opcode w low f o size number)) ≡ Some mine → line_of mine ≤ line_of r
     → marks + (length (option_to_list rex) + ((length (option_to_list (when escaped 0x0f)) + 1) + ((1 + tail) + count_of size))) ≤ total
@@ -102,7 +102,7 @@ same escaped opcode w low f o size number d rex marks tail r mine total fits l w
     let most = selected_most escaped opcode w low f o size number d rex marks tail fits l wide high in
     beats_row (selected escaped opcode w low f o size number) d r mine total (omega arith) names le
 
-less : (escaped : Bool) (opcode : ℕ) (w low : Bool) (f : ℕ) (o : Operand) (size : Size) (number d : ℕ) (rex : Option ℕ) (marks tail : ℕ) (r : Row) (total : ℕ) → Fits rex marks tail o d
+pub less : (escaped : Bool) (opcode : ℕ) (w low : Bool) (f : ℕ) (o : Operand) (size : Size) (number d : ℕ) (rex : Option ℕ) (marks tail : ℕ) (r : Row) (total : ℕ) → Fits rex marks tail o d
     → (rex ≡ None → low ≡ false) → (rex ≡ None → w ≡ false) → (rex ≡ None → leb 8 f ≡ false)
     → marks + (length (option_to_list rex) + ((length (option_to_list (when escaped 0x0f)) + 1) + ((1 + tail) + count_of size))) < total
     → BeatsIn (selected escaped opcode w low f o size number) d r total
