@@ -21,3 +21,4 @@ pub mod Costs
 pub mod Shortest
 pub mod Groups
 pub mod Canon
+pub mod Encoded

@@ -1,6 +1,6 @@
 -- Which of an instruction's spellings is written: one with no redundant prefix, the shortest, and of those the one in the
 -- first line of the opcode map. And which values are instructions that have a spelling at all.
-use Rattle.std.specs.Prelude.{◌≡◌, ◌≢◌, ℕ, ◌+◌, ◌-◌, ◌*◌, ◌^◌, ◌/◌, ◌%◌, ◌<◌, ◌≤◌, ◌⊎◌, ◌&&◌, Bool, true, false, List, [], ◌∷◌, ◌++◌, length, slice_index, Option, Some, None, IfSome, not, ◌==◌, if◌then◌else◌}
+use Rattle.std.specs.Prelude.{◌≡◌, ◌≢◌, ℕ, ◌+◌, ◌-◌, ◌*◌, ◌^◌, ◌/◌, ◌%◌, ◌<◌, ◌≤◌, ◌⊎◌, ◌&&◌, Bool, true, false, List, [], ◌∷◌, ◌++◌, length, slice_index, Option, Some, None, IfSome, IsSomeAnd, not, ◌==◌, if◌then◌else◌}
 use Rattle.std.specs.List.{list_all}
 use Rattle.std.specs.Option.{option_to_list}
 use Rattle.amd64_subset.specs.declared.register.Register.{Register}
@@ -35,7 +35,7 @@ use Rattle.amd64_subset.specs.declared.meaning.Body.{Body}
 use Rattle.amd64_subset.specs.Prefix.{rex_of, no_bits}
 use Rattle.amd64_subset.specs.Row.{action_of}
 use Rattle.amd64_subset.specs.Selectors.{has_sib, allowed}
-use Rattle.amd64_subset.specs.Decoding.{placed}
+use Rattle.amd64_subset.specs.Decoding.{decoded}
 use Rattle.amd64_subset.specs.Spelling.{prefixes_of, HasParts, Spells}
 use Rattle.amd64_subset.specs.Form.{arithmetic_number}
 
@@ -197,3 +197,7 @@ pub record IsCanonical (instr : Instr) (bytes : List ℕ) : Type 0 where
   pub no_redundant : HasNoRedundant bytes body parts
   pub shortest : (other : List ℕ) (d : Decoded) → Spells other d → d.instr ≡ instr → length bytes ≤ length other
   pub first : (other : List ℕ) (d : Decoded) (spells : Spells other d) → d.instr ≡ instr → length other ≡ length bytes → line_of parts.row ≤ line_of spells.parts.row
+
+-- Whatever follows these bytes, the instruction is read from them, and takes so many.
+abbrev pub ReadsAs : Instr → ℕ → List ℕ → Type 0
+ReadsAs instr len bytes = (tail : List ℕ) → IsSomeAnd (decoded (bytes ++ tail)) (λ d. (d.instr ≡ instr) × (d.len ≡ len))

@@ -1,9 +1,10 @@
 //! Writing an instruction.
 
-ghost use Rattle.std.specs.Prelude.{◌≡◌, ◌≤◌, ◌<◌, ◌+◌, length};
+ghost use Rattle.std.specs.Prelude.{◌≡◌, ◌≤◌, ◌<◌, ◌+◌, length, take, drop};
 ghost use Rattle.std.specs.Option.{option_to_list};
 ghost use Rattle.amd64_subset.specs.Writing.{scale_number, sib_of, mode_of, needs_sib, address_of, selectors_of, high_base, high_index, has_segment, rex_bits, rex_byte, rex_in, mark_in, selectors_in, number_bytes, selector_bytes, form_bytes, spelling_of, spliced, packed, is_high, when};
 ghost use Rattle.amd64_subset.specs.Number.{count_of};
+ghost use Rattle.amd64_subset.specs.Canonical.{IsSpellable, IsCanonical, ReadsAs};
 
 use crate::form::{Fields, Form, choose, fits_byte};
 use crate::instr::Instr;
@@ -293,7 +294,30 @@ fn put_selectors(
     }
 }
 
-/// Writes the spelling of an instruction.
-pub fn encode(instr: &Instr, into: &mut [u8; 15]) -> u8 {
-    write(choose(instr.operation, instr.immediate), instr.displacement, into)
+/// Writes an instruction at the front of `into`, and answers how many bytes it has. Of its spellings
+/// it takes one with no redundant prefix, then the shortest, then the one in the first row of the
+/// opcode table. (A SIB byte without an index could have any scale; it has scale 1.)
+#[tactic(auto, unfolding(crate::specs::Writing::spelling_of))]
+pub fn encode(instr: &Instr, into: &mut [u8; 15]) -> u8
+    // The value is an instruction: some bytes spell it. What was decoded always is.
+    requires { IsSpellable instr.now }
+    // So many bytes spell it, with no redundant prefix; no spelling of it is shorter, and none as
+    // short stands in an earlier line.
+    ensures canonical { IsCanonical instr.now (take result into.new) }
+    // Read again, they give the instruction and its length, whatever follows.
+    ensures again { ReadsAs instr.now result (take result into.new) }
+    // It has 1 to 15 bytes.
+    ensures some { 0 < result }
+    ensures most { result ≤ 15 }
+    // The bytes behind them stay.
+    ensures kept { drop result into.new ≡ drop result into.old }
+    // The same as a function of the instruction.
+    ensures exact { take result into.new ≡ spelling_of instr.now }
+{
+    let Instr {
+        operation,
+        displacement,
+        immediate,
+    } = *instr;
+    write(choose(operation, immediate), displacement, into)
 }
