@@ -117,11 +117,11 @@ register_case a p s rex marks few total bytes body h sib is allows ok way room =
 
 -- ---- /n
 
-some_is : {A : Type 0} (b : Bool) (x y : A) → cond b (Some x) None ≡ Some y → x ≡ y
+pub some_is : {A : Type 0} (b : Bool) (x y : A) → cond b (Some x) None ≡ Some y → x ≡ y
 some_is true x y e = cc
 some_is false x y e = absurd cc
 
-mapped_is : {A : Type 0} (f : A → Action) (o : Option A) (y : Action) → option_map f o ≡ Some y → (x : A) × (f x ≡ y)
+pub mapped_is : {A : Type 0} (f : A → Action) (o : Option A) (y : Action) → option_map f o ≡ Some y → (x : A) × (f x ≡ y)
 mapped_is f None y e = absurd cc
 mapped_is f (Some x) y e = (x, let t = e in cc)
 
@@ -204,7 +204,7 @@ operated_length p r size rest body q =
     let b = q.immediate-length in
     omega arith
 
-moved_body : (a b : Action) (p : Prefixes) (s : Selectors) (size : Size) (bytes four : List ℕ) (body : Body) → a ≡ b → BodyIs b p s size bytes four body → BodyIs a p s size bytes four body
+pub moved_body : (a b : Action) (p : Prefixes) (s : Selectors) (size : Size) (bytes four : List ℕ) (body : Body) → a ≡ b → BodyIs b p s size bytes four body → BodyIs a p s size bytes four body
 moved_body a b p s size bytes four body e h = subst (λ (x : Action). BodyIs x p s size bytes four body) (sym e) h
 
 group_case : (g : Group) (size : Size) (p : Prefixes) (rex : Option ℕ) (marks few total : ℕ) (rest : List ℕ) (body : Body) → Around p rex marks → IsOperated p (row.Group g size) size rest body → IsSpellable body.instr
@@ -354,7 +354,7 @@ alone_case op p rex marks few total h (inl e) room = alone_beats op p rex marks 
 alone_case op p rex marks few total h (inr (inl e)) room = alone_beats op p rex marks few 0 0 total h (inr e) room
 alone_case op p rex marks few total h (inr (inr e)) room = absurd (let t = e.0 in cc)
 
-nop_few : (rex : Rex) (few : ℕ) → Listed rex row.Nop few → few ≡ 1
+pub nop_few : (rex : Rex) (few : ℕ) → Listed rex row.Nop few → few ≡ 1
 nop_few rex few (inl e) = e.1
 nop_few rex few (inr (inl e)) = absurd (let t = e.0 in cc)
 nop_few rex few (inr (inr e)) = absurd (let t = e.0 in cc)

@@ -188,7 +188,7 @@ address_fits p modrm (Some sib) bytes d three has is lt = go (eqb (modrm / 64) 0
         let low = low_again (sib % 8) (bits_of p).base (omega arith) in
         rw (e) (base_fits (record { modrm = modrm; sib = Some sib }) bytes p.thread_pointer (extended (sib % 8) (bits_of p).base) (index_of sib (bits_of p).index) d three is lt low (at_most (needs_sib (index_of sib (bits_of p).index) (low_bits (extended (sib % 8) (bits_of p).base)))))
 
-fs_is : (p : Prefixes) (s : Selectors) → eqb (s.modrm / 64) 3 ≡ false → (memory_in p s).from_thread_pointer ≡ p.thread_pointer
+pub fs_is : (p : Prefixes) (s : Selectors) → eqb (s.modrm / 64) 3 ≡ false → (memory_in p s).from_thread_pointer ≡ p.thread_pointer
 unfolding memory_in
 fs_is p s three = go s.sib
   where

@@ -22,3 +22,4 @@ pub mod Shortest
 pub mod Groups
 pub mod Canon
 pub mod Encoded
+pub mod Spellable

@@ -157,7 +157,7 @@ opcode_size action.ExtendByte = 2
 opcode_size action.MultiplyBy = 2
 opcode_size a = 1
 
-no_register : (a : Action) (p : Prefixes) (modrm : ℕ) → ((low : ℕ) → allows_register a p low ≡ false) → allowed a p modrm ≡ true → eqb (modrm / 64) 3 ≡ false
+pub no_register : (a : Action) (p : Prefixes) (modrm : ℕ) → ((low : ℕ) → allows_register a p low ≡ false) → allowed a p modrm ≡ true → eqb (modrm / 64) 3 ≡ false
 unfolding allowed
 no_register a p modrm none h = go (eqb (modrm / 64) 3) refl
   where
@@ -168,7 +168,7 @@ no_register a p modrm none h = go (eqb (modrm / 64) 3) refl
     go false e = e
     go true e = absurd (let k = rw (e) at h in and_no _ _ k (none (modrm % 8)))
 
-in_memory : (p : Prefixes) (s : Selectors) → eqb (s.modrm / 64) 3 ≡ false → operand_in p s ≡ operand.InMemory (memory_in p s)
+pub in_memory : (p : Prefixes) (s : Selectors) → eqb (s.modrm / 64) 3 ≡ false → operand_in p s ≡ operand.InMemory (memory_in p s)
 in_memory p s e = rw (e) refl
 
 -- a byte register without REX is one of the first four
