@@ -98,6 +98,7 @@ rex_needed low w r x b all Asks among asks = go (is_needed low w r x b) refl
         let ex = ap (λ (y : Rex). y.index) n in
         let eb = ap (λ (y : Rex). y.base) n in
         absurd (let f : is_needed false w r x b ≡ false = rw (ew, er, ex, eb) refl in cc)
+
     go : (c : Bool) → is_needed low w r x b ≡ c → IfSome (when c (rex_byte (bits w r x b))) (λ byte. AreAmong (rex_of byte) all × (rex_of byte ≡ no_bits → Asks))
     go false e = tt
     go true e = (subst (λ (y : Rex). AreAmong y all) (sym (rex_back w r x b)) among, λ n. let same = sym (rex_back w r x b) ∙ n in asks (low_is low e same) same)
@@ -137,18 +138,18 @@ spelling_from form d instr built =
       no_redundant = record {
         marks = its.only_fs;
         rex = rex_needed form.low_byte all.wide all.register all.index all.base (bits_read built.row built.rest) (AsksForRex marks built.row built.rest) built.among
-          (λ low n. subst (λ (q : Prefixes). IfSome (action_of built.row ((slice_index built.rest 0 / 8) % 8)) (λ action. allowed action q (slice_index built.rest 0) ≡ false)) (sym none) (built.asks low n));
+            (λ low n. subst (λ (q : Prefixes). IfSome (action_of built.row ((slice_index built.rest 0 / 8) % 8)) (λ action. allowed action q (slice_index built.rest 0) ≡ false)) (sym none) (built.asks low n));
       };
-      short = 
-        let a = its.few in
-        let b = when_few (is_needed form.low_byte all.wide all.register all.index all.base) (rex_byte all) in
-        let c = when_few form.escaped 0x0f in
-        let r = built.short in
-        let s = ap (λ (t : List ℕ). length (marks ++ (option_to_list (rex_in form) ++ (opcode_bytes form ++ t)))) built.rest-is in
-        let l1 = length-append marks (option_to_list (rex_in form) ++ (opcode_bytes form ++ built.rest)) in
-        let l2 = length-append (option_to_list (rex_in form)) (opcode_bytes form ++ built.rest) in
-        let l3 = length-append (opcode_bytes form) built.rest in
-        let l4 = length-append (option_to_list (when form.escaped 0x0f)) (form.opcode ∷ []) in
-        omega arith;
+      short =
+          let a = its.few in
+          let b = when_few (is_needed form.low_byte all.wide all.register all.index all.base) (rex_byte all) in
+          let c = when_few form.escaped 0x0f in
+          let r = built.short in
+          let s = ap (λ (t : List ℕ). length (marks ++ (option_to_list (rex_in form) ++ (opcode_bytes form ++ t)))) built.rest-is in
+          let l1 = length-append marks (option_to_list (rex_in form) ++ (opcode_bytes form ++ built.rest)) in
+          let l2 = length-append (option_to_list (rex_in form)) (opcode_bytes form ++ built.rest) in
+          let l3 = length-append (opcode_bytes form) built.rest in
+          let l4 = length-append (option_to_list (when form.escaped 0x0f)) (form.opcode ∷ []) in
+          omega arith;
       row-is = built.row-is;
     }

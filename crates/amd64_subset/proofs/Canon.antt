@@ -104,11 +104,14 @@ register_case a p s rex marks few total bytes body h sib is allows ok way room =
   where
     d : ℕ
     d = signed_of (displacement_size s) bytes
+
     spelt : Spelt p s rex marks bytes (signed_of (displacement_size s) bytes)
     spelt = record { around = h; sib-is = sib; number = refl }
+
     with_size : opcode_size a ≤ few → (is_short (bits_of p) (row.Register a) ≡ true) ⊎ (is_long (row.Register a) ≡ true) → IsOperation (operation_of a p s 0) (signed_of (displacement_size s) bytes) (cond (takes_immediate a) 0 0)
         → BeatsIn (form_of (operation_of a p s 0) (cond (takes_immediate a) 0 0)) (signed_of (displacement_size s) bytes) (row.Register a) total
     with_size le one ok = let ok' = rw (cond_none (takes_immediate a)) at ok in rw (cond_none (takes_immediate a)) (register_beats a p s rex marks bytes (signed_of (displacement_size s) bytes) total spelt allows ok' (omega arith) one)
+
     go : Listed (bits_of p) (row.Register a) few → IsOperation (operation_of a p s 0) (signed_of (displacement_size s) bytes) (cond (takes_immediate a) 0 0)
         → BeatsIn (form_of (operation_of a p s 0) (cond (takes_immediate a) 0 0)) (signed_of (displacement_size s) bytes) (row.Register a) total
     go (inl e) ok = let n = e.1 in with_size (let t = size_short (bits_of p) a e.0 in omega arith) (inl e.0) ok
@@ -193,7 +196,6 @@ padding_case p s rex marks total bytes four body h sib is ok room =
     let spelt : Spelt p s rex marks bytes (signed_of (displacement_size s) bytes) = record { around = h; sib-is = sib; number = refl } in
     subst P (sym is) (λ ok'. padding_to (operand_in p s) (signed_of (displacement_size s) bytes) rex marks (tail_of s) total (fits_of p s rex marks bytes (signed_of (displacement_size s) bytes) spelt (operand-lt (operand_in p s) (signed_of (displacement_size s) bytes) ok'.0)) room) ok
 
-
 -- the parts behind an opcode with ModRM
 operated_length : (p : Prefixes) (r : Row) (size : Size) (rest : List ℕ) (body : Body) (q : IsOperated p r size rest body) → length rest ≡ (1 + tail_of (record { modrm = q.modrm; sib = q.sib })) + count_of size
 operated_length p r size rest body q =
@@ -258,7 +260,7 @@ group_case group.ShiftOnce size.Four p rex marks few total rest body h q ok (inr
 group_case group.ShiftOnce size.Eight p rex marks few total rest body h q ok (inl e) room = absurd (let t = e.0 in cc)
 group_case group.ShiftOnce size.Eight p rex marks few total rest body h q ok (inr (inl e)) room = absurd (let t = e.0 in cc)
 group_case group.ShiftOnce size.Eight p rex marks few total rest body h q ok (inr (inr e)) room = absurd (let t = e.0 in cc)
-group_case group.Target size.Zero p rex marks few total rest body h q ok (inl e) room = let l = operated_length p (row.Group group.Target size.Zero) size.Zero rest body q in let n = e.1 in elim (chosen (eqb ((q.modrm / 8) % 8) 2) _ _ _ q.action-is) [ | inl t ↦ call_case p (record { modrm = q.modrm; sib = q.sib }) rex marks total q.displacement q.immediate body h q.has_sib (moved_body action.CallTarget q.action p (record { modrm = q.modrm; sib = q.sib }) size.Zero q.displacement q.immediate body (let u = t.1 in cc) q.body-is) ok (omega arith) | inr t ↦ jump_case p (record { modrm = q.modrm; sib = q.sib }) rex marks total q.displacement q.immediate body h q.has_sib (moved_body action.JumpTarget q.action p (record { modrm = q.modrm; sib = q.sib }) size.Zero q.displacement q.immediate body (some_is _ _ _ t.1) q.body-is) ok (omega arith) ]
+group_case group.Target size.Zero p rex marks few total rest body h q ok (inl e) room = let l = operated_length p (row.Group group.Target size.Zero) size.Zero rest body q in let n = e.1 in elim (chosen (eqb ((q.modrm / 8) % 8) 2) _ _ _ q.action-is) [ inl t ↦ call_case p (record { modrm = q.modrm; sib = q.sib }) rex marks total q.displacement q.immediate body h q.has_sib (moved_body action.CallTarget q.action p (record { modrm = q.modrm; sib = q.sib }) size.Zero q.displacement q.immediate body (let u = t.1 in cc) q.body-is) ok (omega arith) | inr t ↦ jump_case p (record { modrm = q.modrm; sib = q.sib }) rex marks total q.displacement q.immediate body h q.has_sib (moved_body action.JumpTarget q.action p (record { modrm = q.modrm; sib = q.sib }) size.Zero q.displacement q.immediate body (some_is _ _ _ t.1) q.body-is) ok (omega arith) ]
 group_case group.Target size.Zero p rex marks few total rest body h q ok (inr (inl e)) room = absurd (let t = e.0 in cc)
 group_case group.Target size.Zero p rex marks few total rest body h q ok (inr (inr e)) room = absurd (let t = e.0 in cc)
 group_case group.Target size.One p rex marks few total rest body h q ok (inl e) room = absurd (let t = e.0 in cc)
@@ -387,7 +389,7 @@ body_beats (row.Register a) p rex marks few total rest body h q ok way room = re
         let e : a ≡ q.action = let t = q.action-is in cc in
         let l = operated_length p (row.Register a) size.Zero rest body q in
         register_case a p s rex marks few total q.displacement body h q.has_sib (zero_number a p s q.displacement q.immediate body (moved_body a q.action p s size.Zero q.displacement q.immediate body e q.body-is))
-          (subst (λ (x : Action). allowed x p q.modrm ≡ true) (sym e) q.allows) ok way (omega arith)
+        (subst (λ (x : Action). allowed x p q.modrm ≡ true) (sym e) q.allows) ok way (omega arith)
 body_beats (row.Group g size) p rex marks few total rest body h q ok way room = group_case g size p rex marks few total rest body h q ok way room
 
 -- ---- the whole
@@ -420,7 +422,7 @@ canonical instr ok =
     let form = form_of instr.operation instr.immediate in
     let sp = spelling_from form instr.displacement (made instr.operation instr.displacement instr.immediate) (built instr.operation instr.displacement instr.immediate ok) in
     let beats : (other : List ℕ) (d : Decoded) (h : Spells other d) → d.instr ≡ instr → Beats instr h.parts.row (length other) =
-      λ other d h e. subst (λ (x : Instr). Beats x h.parts.row (length other)) e (spelled_beats other d h (subst IsSpellable (sym e) ok)) in
+    λ other d h e. subst (λ (x : Instr). Beats x h.parts.row (length other)) e (spelled_beats other d h (subst IsSpellable (sym e) ok)) in
     record {
       body = sp.body;
       parts = sp.parts;

@@ -143,11 +143,11 @@ base_fits : (s : Selectors) (bytes : List ℕ) (t : Bool) (r : Register) (index 
     → cond (needs_sib index (low_bits r)) 1 0 ≤ length (option_to_list s.sib) → AddressFits s (record { from_thread_pointer = t; base = base.Register r; index = index }) d
 base_fits s bytes t r index d three is lt low sib = record {
   tail = λ g h.
-    let c = base_costs g r index d h in
-    let f : Few d (unwrap_or s.sib s.modrm % 8) (count_of (displacement_size (address_of g (base.Register r) index d))) = subst (λ (x : ℕ). Few d x (count_of (displacement_size (address_of g (base.Register r) index d)))) low c.few in
-    let n = few_enough s bytes d (count_of (displacement_size (address_of g (base.Register r) index d))) three is lt f in
-    let m = c.sib in
-    omega arith;
+      let c = base_costs g r index d h in
+      let f : Few d (unwrap_or s.sib s.modrm % 8) (count_of (displacement_size (address_of g (base.Register r) index d))) = subst (λ (x : ℕ). Few d x (count_of (displacement_size (address_of g (base.Register r) index d)))) low c.few in
+      let n = few_enough s bytes d (count_of (displacement_size (address_of g (base.Register r) index d))) three is lt f in
+      let m = c.sib in
+      omega arith;
 }
 
 fixed_fits : (s : Selectors) (m : Memory) (d k : ℕ) → count_of (displacement_size s) ≡ 4 → length (option_to_list s.sib) ≡ k → ((g : ℕ) → length (option_to_list (address_of g m.base m.index d).sib) ≡ k) → AddressFits s m d
@@ -166,6 +166,7 @@ address_fits p modrm None bytes d three sib is lt = go (eqb (modrm / 64) 0 && eq
         way : (b : Bool) → eqb (modrm % 8) 4 ≡ b → eqb (modrm % 8) 4 ≡ false
         way false e = e
         way true e = absurd (let t : has_sib modrm ≡ true = rw (three, e) refl in cc)
+
     go : (b : Bool) → (eqb (modrm / 64) 0 && eqb (modrm % 8) 5) ≡ b → AddressFits (record { modrm = modrm; sib = None }) (memory_in p (record { modrm = modrm; sib = None })) d
     go true e =
         let parts = and_parts (eqb (modrm / 64) 0) (eqb (modrm % 8) 5) e in
@@ -179,6 +180,7 @@ address_fits p modrm (Some sib) bytes d three has is lt = go (eqb (modrm / 64) 0
     at_most : (b : Bool) → cond b 1 0 ≤ 1
     at_most true = omega arith
     at_most false = omega arith
+
     go : (b : Bool) → (eqb (modrm / 64) 0 && eqb (sib % 8) 5) ≡ b → AddressFits (record { modrm = modrm; sib = Some sib }) (memory_in p (record { modrm = modrm; sib = Some sib })) d
     go true e =
         let parts = and_parts (eqb (modrm / 64) 0) (eqb (sib % 8) 5) e in
@@ -208,6 +210,7 @@ memory_low p modrm (Some sib) none = (rw (none) (go (eqb (modrm / 64) 0 && eqb (
     go : (b : Bool) → base_is_high (cond b base.Absolute (base.Register (extended (sib % 8) false))) ≡ false
     go true = refl
     go false = low_extended (sib % 8) (omega arith)
+
     at : (b : Bool) → index_is_high (cond b None (Some (record { register = extended ((sib / 8) % 8) false; scale = scale_of (sib / 64) }))) ≡ false
     at true = refl
     at false = low_extended ((sib / 8) % 8) (omega arith)

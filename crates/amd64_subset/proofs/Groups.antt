@@ -204,10 +204,13 @@ moved_quad p rex marks r i total h listed room = rw (quad) (go (fits_long i) ref
   where
     parts : ((bits_of p).wide ≡ true) × (reaches (bits_of p) r ≡ true)
     parts = and_parts _ _ listed
+
     quad : (bits_of p).wide ≡ true
     quad = parts.0
+
     none : rex ≡ None → ⊥
     none n = let z = ap (λ (y : Rex). y.wide) (h.none n) in cc
+
     go : (b : Bool) → fits_long i ≡ b → BeatsIn (move_number Quad (operand.Register r) i) 0 (row.Number (numbered.Move r) size.Eight) total
     go true e = rw (e) (less false 0xc7 true false 0 (operand.Register r) size.Four i 0 rex marks 0 (row.Number (numbered.Move r) size.Eight) total (register_fits rex marks 0 r 0 (λ n. absurd (none n))) (λ n. refl) (λ n. absurd (none n)) (λ n. refl) (omega arith))
     go false e = rw (e) (low_row (0xb8 + low_bits r) r true size.Eight i 0 rex (row.Number (numbered.Move r) size.Eight) total (λ n. absurd (none n)) (λ n. absurd (none n)) (move_quad_row false false r) (omega arith))

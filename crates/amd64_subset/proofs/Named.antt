@@ -186,4 +186,3 @@ pub shift-lt : (shift : Shift) → shift_number shift < 8
 shift-lt Left = omega arith
 shift-lt Right = omega arith
 shift-lt RightSigned = omega arith
-

@@ -166,15 +166,16 @@ memory_selects p field t (base.Register r) index d f is long fs eb ex =
         → Selects p (record { modrm = packed (mode_of d (low_bits r)) field 4; sib = Some (sib_of index (low_bits r)) }) field (operand.InMemory (record { from_thread_pointer = t; base = base.Register r; index = index })) d
     with_sib index is ex size has l =
         sib_selects p (packed (mode_of d (low_bits r)) field 4) (sib_of index (low_bits r)) field (mode_of d (low_bits r)) t r index d size has
-          (high_digit (mode_of d (low_bits r)) field 4 f (omega arith)) (middle_digit (mode_of d (low_bits r)) field 4 f (omega arith)) (low_digit (mode_of d (low_bits r)) field 4 f (omega arith))
-          (sib_low index (low_bits r) l) (index_again _ index (low_bits r) l is ex) fs eb
+        (high_digit (mode_of d (low_bits r)) field 4 f (omega arith)) (middle_digit (mode_of d (low_bits r)) field 4 f (omega arith)) (low_digit (mode_of d (low_bits r)) field 4 f (omega arith))
+        (sib_low index (low_bits r) l) (index_again _ index (low_bits r) l is ex) fs eb
+
     plain_or_sib : (index : Option Index) → IfSome index IsIndex → (bits_of p).index ≡ index_is_high index → (four : Bool) → eqb (low_bits r) 4 ≡ four → (size : Size) → HasMode (mode_of d (low_bits r)) (low_bits r) d size → low_bits r < 8
         → Selects p (address_of field (base.Register r) index d) field (operand.InMemory (record { from_thread_pointer = t; base = base.Register r; index = index })) d
     plain_or_sib (Some index) is ex four e size has l = with_sib (Some index) is ex size has l
     plain_or_sib None is ex true e size has l = rw (e) (with_sib None is ex size has l)
     plain_or_sib None is ex false e size has l =
         rw (e) (base_selects p (packed (mode_of d (low_bits r)) field (low_bits r)) field (mode_of d (low_bits r)) t r d size has
-          (high_digit (mode_of d (low_bits r)) field (low_bits r) f l) (middle_digit (mode_of d (low_bits r)) field (low_bits r) f l) (low_digit (mode_of d (low_bits r)) field (low_bits r) f l) e fs eb)
+        (high_digit (mode_of d (low_bits r)) field (low_bits r) f l) (middle_digit (mode_of d (low_bits r)) field (low_bits r) f l) (low_digit (mode_of d (low_bits r)) field (low_bits r) f l) e fs eb)
 
 pub selects : (p : Prefixes) (field : ℕ) (o : Operand) (d : ℕ) → field < 8 → IsOperand o d → p.thread_pointer ≡ has_segment o → (bits_of p).base ≡ high_base o → (bits_of p).index ≡ high_index o
     → Selects p (selectors_of field o d) field o d

@@ -164,6 +164,7 @@ no_register a p modrm none h = go (eqb (modrm / 64) 3) refl
     and_no : (x y : Bool) → (x && y) ≡ true → y ≡ false → ⊥
     and_no true y e f = cc
     and_no false y e f = cc
+
     go : (b : Bool) → eqb (modrm / 64) 3 ≡ b → eqb (modrm / 64) 3 ≡ false
     go false e = e
     go true e = absurd (let k = rw (e) at h in and_no _ _ k (none (modrm % 8)))
@@ -189,8 +190,10 @@ extend_low p s rex marks h ok n = go (eqb (s.modrm / 64) 3) refl
     right : (x y : Bool) → (x && y) ≡ true → y ≡ true
     right true y e = e
     right false y e = absurd cc
+
     low : number_of (extended (s.modrm % 8) (bits_of p).base) ≡ s.modrm % 8
     low = let z = h.none n in let t = extended-number (s.modrm % 8) false (omega arith) in rw (z) (omega arith)
+
     go : (b : Bool) → eqb (s.modrm / 64) 3 ≡ b → needs_rex (operand_in p s) ≡ false
     go true e = rw (e) (let k = rw (e) at ok in byte_low p (extended (s.modrm % 8) (bits_of p).base) (s.modrm % 8) low (h.no_rex n) (right _ _ k))
     go false e = rw (e) refl
@@ -207,24 +210,24 @@ register_beats action.StoreByte p s rex marks bytes d total h ok is room listed 
     let fits : Fits rex marks (tail_of s) (operand.InMemory (memory_in p s)) d = subst (λ (o : Operand). Fits rex marks (tail_of s) o d) (in_memory p s three) (fits_of p s rex marks bytes d h (long-lt d is.0.1)) in
     let allows : byte_register p ((s.modrm / 8) % 8) ≡ true = rw (three) at ok in
     same false 0x88 false (leb 4 (number_of (register_in p s))) (number_of (register_in p s)) (operand.InMemory (memory_in p s)) size.Zero 0 d rex marks (tail_of s) (row.Register action.StoreByte) (row.Register action.StoreByte) total fits
-      (λ n. byte_low p (register_in p s) ((s.modrm / 8) % 8) (let z = h.around.none n in let t = extended-number ((s.modrm / 8) % 8) false (omega arith) in rw (z) (omega arith)) (h.around.no_rex n) allows)
-      (λ n. refl) (high_of p s rex marks h.around) refl (omega arith) room
+    (λ n. byte_low p (register_in p s) ((s.modrm / 8) % 8) (let z = h.around.none n in let t = extended-number ((s.modrm / 8) % 8) false (omega arith) in rw (z) (omega arith)) (h.around.no_rex n) allows)
+    (λ n. refl) (high_of p s rex marks h.around) refl (omega arith) room
 register_beats action.Store p s rex marks bytes d total h ok is room listed =
     rw (move_form (operand_in p s) (register_in p s) (width_of p))
-      (into_beats 0x88 action.Store action.Load (width_of p) (register_in p s) (operand_in p s) d rex marks (tail_of s) total (fits_of p s rex marks bytes d h (into-lt (operand_in p s) (register_in p s) (width_of p) d is)) (high_of p s rex marks h.around) (wide_of p rex marks h.around) (λ b. refl) room)
+    (into_beats 0x88 action.Store action.Load (width_of p) (register_in p s) (operand_in p s) d rex marks (tail_of s) total (fits_of p s rex marks bytes d h (into-lt (operand_in p s) (register_in p s) (width_of p) d is)) (high_of p s rex marks h.around) (wide_of p rex marks h.around) (λ b. refl) room)
 register_beats action.Load p s rex marks bytes d total h ok is room listed =
     from_beats 0x88 action.Store action.Load (width_of p) (register_in p s) (operand_in p s) d rex marks (tail_of s) total (fits_of p s rex marks bytes d h (operand-lt (operand_in p s) d is.0)) (high_of p s rex marks h.around) (wide_of p rex marks h.around) (λ b. refl) (λ b. refl) (omega arith) room
 register_beats (action.ComputeInto a) p s rex marks bytes d total h ok is room listed =
     rw (compute_form (operand_in p s) (register_in p s) a (width_of p))
-      (into_beats (8 * arithmetic_number a) (action.ComputeInto a) (action.ComputeFrom a) (width_of p) (register_in p s) (operand_in p s) d rex marks (tail_of s) total (fits_of p s rex marks bytes d h (compute_into-lt (operand_in p s) (register_in p s) a (width_of p) d is)) (high_of p s rex marks h.around) (wide_of p rex marks h.around) (λ b. into_row b a) room)
+    (into_beats (8 * arithmetic_number a) (action.ComputeInto a) (action.ComputeFrom a) (width_of p) (register_in p s) (operand_in p s) d rex marks (tail_of s) total (fits_of p s rex marks bytes d h (compute_into-lt (operand_in p s) (register_in p s) a (width_of p) d is)) (high_of p s rex marks h.around) (wide_of p rex marks h.around) (λ b. into_row b a) room)
 register_beats (action.ComputeFrom a) p s rex marks bytes d total h ok is room listed =
     from_beats (8 * arithmetic_number a) (action.ComputeInto a) (action.ComputeFrom a) (width_of p) (register_in p s) (operand_in p s) d rex marks (tail_of s) total (fits_of p s rex marks bytes d h (operand-lt (operand_in p s) d is.0)) (high_of p s rex marks h.around) (wide_of p rex marks h.around) (λ b. into_row b a) (λ b. from_row b a) (omega arith) room
 register_beats action.ExtendByte p s rex marks bytes d total h ok is room listed =
     same true 0xb6 (is_quad (width_of p)) (needs_rex (operand_in p s)) (number_of (register_in p s)) (operand_in p s) size.Zero 0 d rex marks (tail_of s) (row.Register action.ExtendByte) (row.Register action.ExtendByte) total (fits_of p s rex marks bytes d h (operand-lt (operand_in p s) d is.0))
-      (extend_low p s rex marks h.around ok) (wide_of p rex marks h.around) (high_of p s rex marks h.around) refl (omega arith) room
+    (extend_low p s rex marks h.around ok) (wide_of p rex marks h.around) (high_of p s rex marks h.around) refl (omega arith) room
 register_beats action.ExtendLong p s rex marks bytes d total h ok is room listed =
     same false 0x63 true false (number_of (register_in p s)) (operand_in p s) size.Zero 0 d rex marks (tail_of s) (row.Register action.ExtendLong) (row.Register action.ExtendLong) total (fits_of p s rex marks bytes d h (operand-lt (operand_in p s) d is.0))
-      (λ n. refl) (λ n. no_wide listed n) (high_of p s rex marks h.around) refl (omega arith) room
+    (λ n. refl) (λ n. no_wide listed n) (high_of p s rex marks h.around) refl (omega arith) room
   where
     no_wide : (is_short (bits_of p) (row.Register action.ExtendLong) ≡ true) ⊎ (is_long (row.Register action.ExtendLong) ≡ true) → rex ≡ None → ◌≡◌ {A = Bool} true false
     no_wide (inl e) n = absurd (let z = ap (λ (y : Rex). y.wide) (h.around.none n) in cc)
@@ -233,13 +236,13 @@ register_beats action.LoadAddress p s rex marks bytes d total h ok is room liste
     let three = no_register action.LoadAddress p s.modrm (λ low. refl) ok in
     let fits : Fits rex marks (tail_of s) (operand.InMemory (memory_in p s)) d = subst (λ (o : Operand). Fits rex marks (tail_of s) o d) (in_memory p s three) (fits_of p s rex marks bytes d h (long-lt d is.0.1)) in
     same false 0x8d (is_quad (width_of p)) false (number_of (register_in p s)) (operand.InMemory (memory_in p s)) size.Zero 0 d rex marks (tail_of s) (row.Register action.LoadAddress) (row.Register action.LoadAddress) total fits
-      (λ n. refl) (wide_of p rex marks h.around) (high_of p s rex marks h.around) refl (omega arith) room
+    (λ n. refl) (wide_of p rex marks h.around) (high_of p s rex marks h.around) refl (omega arith) room
 register_beats action.TestWith p s rex marks bytes d total h ok is room listed =
     same false 0x85 (is_quad (width_of p)) false (number_of (register_in p s)) (operand_in p s) size.Zero 0 d rex marks (tail_of s) (row.Register action.TestWith) (row.Register action.TestWith) total (fits_of p s rex marks bytes d h (operand-lt (operand_in p s) d is.0))
-      (λ n. refl) (wide_of p rex marks h.around) (high_of p s rex marks h.around) refl (omega arith) room
+    (λ n. refl) (wide_of p rex marks h.around) (high_of p s rex marks h.around) refl (omega arith) room
 register_beats action.MultiplyBy p s rex marks bytes d total h ok is room listed =
     same true 0xaf (is_quad (width_of p)) false (number_of (register_in p s)) (operand_in p s) size.Zero 0 d rex marks (tail_of s) (row.Register action.MultiplyBy) (row.Register action.MultiplyBy) total (fits_of p s rex marks bytes d h (operand-lt (operand_in p s) d is.0))
-      (λ n. refl) (wide_of p rex marks h.around) (high_of p s rex marks h.around) refl (omega arith) room
+    (λ n. refl) (wide_of p rex marks h.around) (high_of p s rex marks h.around) refl (omega arith) room
 register_beats action.MoveImmediate p s rex marks bytes d total h ok is room (inl e) = absurd cc
 register_beats action.MoveImmediate p s rex marks bytes d total h ok is room (inr e) = absurd cc
 register_beats (action.ComputeImmediate a) p s rex marks bytes d total h ok is room (inl e) = absurd cc

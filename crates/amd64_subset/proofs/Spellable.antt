@@ -164,6 +164,7 @@ index_is sib high = go (eqb ((sib / 8) % 8) 4 && not high) refl
         let k : (sib / 8) % 8 ≡ 4 = omega arith in
         let t : (eqb ((sib / 8) % 8) 4 && true) ≡ true = rw (k) refl in
         cc
+
     go : (b : Bool) → (eqb ((sib / 8) % 8) 4 && not high) ≡ b → IfSome (cond b None (Some (record { register = extended ((sib / 8) % 8) high; scale = scale_of (sib / 64) }))) IsIndex
     go true e = tt
     go false e = clash high e
@@ -259,7 +260,6 @@ register_is action.Padding p s d few h ok fits (inl e) = absurd (let t = e.0 in 
 register_is action.Padding p s d few h ok fits (inr (inl e)) = absurd (let t = e.0 in cc)
 register_is action.Padding p s d few h ok fits (inr (inr e)) = absurd (let t = e.0 in cc)
 
-
 target_is : {x y : Action} → ◌≡◌ {A = Option Action} (Some x) (Some y) → x ≡ y
 target_is e = cc
 
@@ -319,7 +319,7 @@ group_is group.ShiftOnce size.Four a p s digit d few bytes h act fits (inr (inr 
 group_is group.ShiftOnce size.Eight a p s digit d few bytes h act fits (inl e) len ok = absurd (let t = e.0 in cc)
 group_is group.ShiftOnce size.Eight a p s digit d few bytes h act fits (inr (inl e)) len ok = absurd (let t = e.0 in cc)
 group_is group.ShiftOnce size.Eight a p s digit d few bytes h act fits (inr (inr e)) len ok = absurd (let t = e.0 in cc)
-group_is group.Target size.Zero a p s digit d few bytes h act fits (inl e) len ok = elim (chosen (eqb digit 2) _ _ _ act) [ | inl t ↦ subst (λ (x : Action). IsOperation (operation_of x p s (signed_of size.Zero bytes % 256)) d (cond (takes_immediate x) (signed_of size.Zero bytes) 0)) (target_is t.1) ((h, refl)) | inr t ↦ subst (λ (x : Action). IsOperation (operation_of x p s (signed_of size.Zero bytes % 256)) d (cond (takes_immediate x) (signed_of size.Zero bytes) 0)) (some_is _ _ _ t.1) ((h, refl)) ]
+group_is group.Target size.Zero a p s digit d few bytes h act fits (inl e) len ok = elim (chosen (eqb digit 2) _ _ _ act) [ inl t ↦ subst (λ (x : Action). IsOperation (operation_of x p s (signed_of size.Zero bytes % 256)) d (cond (takes_immediate x) (signed_of size.Zero bytes) 0)) (target_is t.1) ((h, refl)) | inr t ↦ subst (λ (x : Action). IsOperation (operation_of x p s (signed_of size.Zero bytes % 256)) d (cond (takes_immediate x) (signed_of size.Zero bytes) 0)) (some_is _ _ _ t.1) ((h, refl)) ]
 group_is group.Target size.Zero a p s digit d few bytes h act fits (inr (inl e)) len ok = absurd (let t = e.0 in cc)
 group_is group.Target size.Zero a p s digit d few bytes h act fits (inr (inr e)) len ok = absurd (let t = e.0 in cc)
 group_is group.Target size.One a p s digit d few bytes h act fits (inl e) len ok = absurd (let t = e.0 in cc)
@@ -497,7 +497,7 @@ group_body g size p few rest body q fits way ok =
     let s : Selectors = record { modrm = q.modrm; sib = q.sib } in
     let both = operated_is p (row.Group g size) size rest body q ok in
     subst (λ (b : Body). IsSpellable b.instr) (sym q.body-is)
-      (group_is g size q.action p s ((q.modrm / 8) % 8) (signed_of (displacement_size s) q.displacement) few q.immediate (operand_is p s q.displacement q.displacement-length both.0) q.action-is fits way q.immediate-length both.1)
+    (group_is g size q.action p s ((q.modrm / 8) % 8) (signed_of (displacement_size s) q.displacement) few q.immediate (operand_is p s q.displacement q.displacement-length both.0) q.action-is fits way q.immediate-length both.1)
 
 body_is : (r : Row) (p : Prefixes) (few : ℕ) (rest : List ℕ) (body : Body) → HasBody p r rest body → takes r p ≡ true → Listed (bits_of p) r few → small rest ≡ true → IsSpellable body.instr
 unfolding operand_body

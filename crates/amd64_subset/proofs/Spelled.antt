@@ -163,8 +163,8 @@ plain_built : (escaped : Bool) (opcode : ℕ) (w : Bool) (r : Register) (o : Ope
     → IsBuilt (selected escaped opcode w false (number_of r) o size.Zero 0) d instr
 plain_built escaped opcode w r o d a instr is names fs reg mem reads instr-is =
     register_built escaped opcode w false (number_of r) o d a instr is names fs
-      (λ k. allowed_any a (prefixes_in (selected escaped opcode w false (number_of r) o size.Zero 0)) (selectors_of (number_of r % 8) o d).modrm o k.sel.mode-is k.fs-is (reg _ _) (λ h. mem _ _))
-      reads (λ l. absurd cc) instr-is
+    (λ k. allowed_any a (prefixes_in (selected escaped opcode w false (number_of r) o size.Zero 0)) (selectors_of (number_of r % 8) o d).modrm o k.sel.mode-is k.fs-is (reg _ _) (λ h. mem _ _))
+    reads (λ l. absurd cc) instr-is
 
 -- mov and arithmetic of two registers or a register into memory
 into_built : (opcode : ℕ) (width : Width) (r : Register) (o : Operand) (d : ℕ) (a : Action) (instr : Instr) → IsOperand o d
@@ -187,16 +187,16 @@ pub move_built : (width : Width) (os : Operands) (d i : ℕ) → IsOperation (op
 unfolding form_of operand_body operation_of named row_of fixed_row_of group_action number_bytes numbered_body
 move_built width (IntoRegister to (operand.Register from)) d i is =
     into_built 0x89 width from (operand.Register to) d action.Store (made (operation.Move width (IntoRegister to (operand.Register from))) d i) is.0 (λ rex. refl) refl (λ p low. refl) (λ p low. refl) refl
-      (λ p s k. rw (width-is p s width (number_of from) (operand.Register to) d k, k.sel.operand-is, register-is p s (is_quad width) from (operand.Register to) d k, k.sel.number-is, is.1) refl)
+    (λ p s k. rw (width-is p s width (number_of from) (operand.Register to) d k, k.sel.operand-is, register-is p s (is_quad width) from (operand.Register to) d k, k.sel.number-is, is.1) refl)
 move_built width (IntoRegister to (operand.InMemory from)) d i is =
     into_built 0x8b width to (operand.InMemory from) d action.Load (made (operation.Move width (IntoRegister to (operand.InMemory from))) d i) is.0 (λ rex. refl) refl (λ p low. refl) (λ p low. refl) refl
-      (λ p s k. rw (width-is p s width (number_of to) (operand.InMemory from) d k, k.sel.operand-is, register-is p s (is_quad width) to (operand.InMemory from) d k, k.sel.number-is, is.1) refl)
+    (λ p s k. rw (width-is p s width (number_of to) (operand.InMemory from) d k, k.sel.operand-is, register-is p s (is_quad width) to (operand.InMemory from) d k, k.sel.number-is, is.1) refl)
 move_built width (IntoMemory to from) d i is =
     into_built 0x89 width from (operand.InMemory to) d action.Store (made (operation.Move width (IntoMemory to from)) d i) is.0 (λ rex. refl) refl (λ p low. refl) (λ p low. refl) refl
-      (λ p s k. rw (width-is p s width (number_of from) (operand.InMemory to) d k, k.sel.operand-is, register-is p s (is_quad width) from (operand.InMemory to) d k, k.sel.number-is, is.1) refl)
+    (λ p s k. rw (width-is p s width (number_of from) (operand.InMemory to) d k, k.sel.operand-is, register-is p s (is_quad width) from (operand.InMemory to) d k, k.sel.number-is, is.1) refl)
 move_built width (Immediate (operand.InMemory m)) d i is =
     group_built false 0xc7 (is_quad width) 0 (operand.InMemory m) group.Move size.Four i d action.MoveImmediate (made (operation.Move width (Immediate (operand.InMemory m))) d i) is.0 (omega arith) refl refl refl (λ h. refl) (λ p low. refl) (λ p low. refl) (λ h. refl)
-      (λ p s k. rw (width-is p s width 0 (operand.InMemory m) d k, k.sel.operand-is, k.sel.number-is, long_again i (moved width m is.1)) refl)
+    (λ p s k. rw (width-is p s width 0 (operand.InMemory m) d k, k.sel.operand-is, k.sel.number-is, long_again i (moved width m is.1)) refl)
   where
     moved : (width : Width) (m : Memory) → IsMoved width (operand.InMemory m) i → IsSignedLong i
     moved Long m h = h
@@ -208,35 +208,39 @@ move_built Quad (Immediate (operand.Register r)) d i is = go (fits_long i) refl
     go : (b : Bool) → fits_long i ≡ b → IsBuilt (form_of (operation.Move Quad (Immediate (operand.Register r))) i) d (made (operation.Move Quad (Immediate (operand.Register r))) d i)
     go true e = rw (e)
         (group_built false 0xc7 true 0 (operand.Register r) group.Move size.Four i d action.MoveImmediate (made (operation.Move Quad (Immediate (operand.Register r))) d i) is.0 (omega arith) refl refl refl (λ h. refl) (λ p low. refl) (λ p low. refl) (λ h. refl)
-          (λ p s k. rw (width-is p s Quad 0 (operand.Register r) d k, k.sel.operand-is, k.sel.number-is, long_again i (fits_signed i e is.1)) refl))
+        (λ p s k. rw (width-is p s Quad 0 (operand.Register r) d k, k.sel.operand-is, k.sel.number-is, long_again i (fits_signed i e is.1)) refl))
     go false e = rw (e, is.0) (low_built 0xb8 r true size.Eight i (made (operation.Move Quad (Immediate (operand.Register r))) 0 i) (move_quad_row false false r) (λ p b. rw (b, whole_again i is.1) refl) (omega arith))
 
 pub compute_built : (a : Arithmetic) (width : Width) (os : Operands) (d i : ℕ) → IsOperation (operation.Compute a width os) d i → IsBuilt (form_of (operation.Compute a width os) i) d (made (operation.Compute a width os) d i)
 unfolding form_of operand_body operation_of group_action numbered_body named row_of fixed_row_of number_of bits_read
 compute_built a width (IntoRegister to (operand.Register from)) d i is =
     into_built (8 * arithmetic_number a + 1) width from (operand.Register to) d (action.ComputeInto a) (made (operation.Compute a width (IntoRegister to (operand.Register from))) d i) is.0 (λ rex. into_row rex a) refl (λ p low. refl) (λ p low. refl) refl
-      (λ p s k. rw (width-is p s width (number_of from) (operand.Register to) d k, k.sel.operand-is, register-is p s (is_quad width) from (operand.Register to) d k, k.sel.number-is, is.1) refl)
+    (λ p s k. rw (width-is p s width (number_of from) (operand.Register to) d k, k.sel.operand-is, register-is p s (is_quad width) from (operand.Register to) d k, k.sel.number-is, is.1) refl)
 compute_built a width (IntoRegister to (operand.InMemory from)) d i is =
     into_built (8 * arithmetic_number a + 3) width to (operand.InMemory from) d (action.ComputeFrom a) (made (operation.Compute a width (IntoRegister to (operand.InMemory from))) d i) is.0 (λ rex. from_row rex a) refl (λ p low. refl) (λ p low. refl) refl
-      (λ p s k. rw (width-is p s width (number_of to) (operand.InMemory from) d k, k.sel.operand-is, register-is p s (is_quad width) to (operand.InMemory from) d k, k.sel.number-is, is.1) refl)
+    (λ p s k. rw (width-is p s width (number_of to) (operand.InMemory from) d k, k.sel.operand-is, register-is p s (is_quad width) to (operand.InMemory from) d k, k.sel.number-is, is.1) refl)
 compute_built a width (IntoMemory to from) d i is =
     into_built (8 * arithmetic_number a + 1) width from (operand.InMemory to) d (action.ComputeInto a) (made (operation.Compute a width (IntoMemory to from)) d i) is.0 (λ rex. into_row rex a) refl (λ p low. refl) (λ p low. refl) refl
-      (λ p s k. rw (width-is p s width (number_of from) (operand.InMemory to) d k, k.sel.operand-is, register-is p s (is_quad width) from (operand.InMemory to) d k, k.sel.number-is, is.1) refl)
+    (λ p s k. rw (width-is p s width (number_of from) (operand.InMemory to) d k, k.sel.operand-is, register-is p s (is_quad width) from (operand.InMemory to) d k, k.sel.number-is, is.1) refl)
 compute_built a width (Immediate to) d i is = go (fits_byte i) refl
   where
     digit : group_action group.Arithmetic (arithmetic_number a % 8) ≡ Some (action.ComputeImmediate a)
     digit = ap (λ (o : Option Arithmetic). option_map action.ComputeImmediate o) (arithmetic_digit a)
+
     low : leb 8 (arithmetic_number a) ≡ false
     low = let t = arithmetic-lt a in grind arith
+
     grouped : (opcode : ℕ) (size : Size) (o : Operand) → IsOperand o d → count_of size ≤ 4 → ((rex : Rex) → named rex (opcode ∷ []) ≡ Some (row.Group group.Arithmetic size)) → signed_of size (number_bytes size i) ≡ i
         → IsBuilt (selected false opcode (is_quad width) false (arithmetic_number a) o size i) d (made (operation.Compute a width (Immediate o)) d i)
     grouped opcode size o is-o few names number =
         group_built false opcode (is_quad width) (arithmetic_number a) o group.Arithmetic size i d (action.ComputeImmediate a) (made (operation.Compute a width (Immediate o)) d i) is-o few (names (bits (is_quad width) (leb 8 (arithmetic_number a)) (high_index o) (high_base o))) digit low (λ h. refl) (λ p l. refl) (λ p l. refl) (λ h. refl)
-          (λ p s k. rw (width-is p s width (arithmetic_number a) o d k, k.sel.operand-is, k.sel.number-is, number) refl)
+        (λ p s k. rw (width-is p s width (arithmetic_number a) o d k, k.sel.operand-is, k.sel.number-is, number) refl)
+
     rax : d ≡ 0 → IsBuilt (record { escaped = false; opcode = 8 * arithmetic_number a + 5; wide = is_quad width; low_byte = false; fields = fields.Bare; size = size.Four; number = i }) d (made (operation.Compute a width (Immediate (operand.Register Rax))) d i)
     rax none = rw (none)
         (number_built false (8 * arithmetic_number a + 5) (is_quad width) (numbered.Compute a) size.Four i (made (operation.Compute a width (Immediate (operand.Register Rax))) 0 i) (rax_row (bits (is_quad width) false false false) a) (λ rest. (λ h. refl, λ h. absurd cc, λ h. absurd cc, λ h. absurd cc))
-          (λ p b. rw (b, width_again width, long_again i is.1) refl) (omega arith))
+        (λ p b. rw (b, width_again width, long_again i is.1) refl) (omega arith))
+
     far : (o : Operand) → IsOperand o d → IsBuilt (compute_long a width o i) d (made (operation.Compute a width (Immediate o)) d i)
     far (operand.Register Rax) is-o = rax is-o
     far (operand.Register Rcx) is-o = grouped 0x81 size.Four (operand.Register Rcx) is-o (omega arith) (λ rex. refl) (long_again i is.1)
@@ -255,6 +259,7 @@ compute_built a width (Immediate to) d i is = go (fits_byte i) refl
     far (operand.Register R14) is-o = grouped 0x81 size.Four (operand.Register R14) is-o (omega arith) (λ rex. refl) (long_again i is.1)
     far (operand.Register R15) is-o = grouped 0x81 size.Four (operand.Register R15) is-o (omega arith) (λ rex. refl) (long_again i is.1)
     far (operand.InMemory m) is-o = grouped 0x81 size.Four (operand.InMemory m) is-o (omega arith) (λ rex. refl) (long_again i is.1)
+
     go : (b : Bool) → fits_byte i ≡ b → IsBuilt (form_of (operation.Compute a width (Immediate to)) i) d (made (operation.Compute a width (Immediate to)) d i)
     go true e = rw (e) (grouped 0x83 size.One to is.0 (omega arith) (λ rex. refl) (byte_again i e (long-lt i is.1)))
     go false e = rw (e) (far to is.0)
@@ -265,19 +270,21 @@ shift_built sh width to count d i is = go (eqb count 1) refl
   where
     low : leb 8 (shift_number sh) ≡ false
     low = let t = shift-lt sh in grind arith
+
     back : signed_byte_of (count % 256) % 256 ≡ count
     back = way (ltb (count % 256) 0x80) refl
       where
         way : (b : Bool) → ltb (count % 256) 0x80 ≡ b → cond b (count % 256) (count % 256 + 0xffff_ffff_ffff_ff00) % 256 ≡ count
         way true e = let t = is.2 in omega arith
         way false e = let t = is.2 in omega arith
+
     go : (b : Bool) → eqb count 1 ≡ b → IsBuilt (form_of (operation.Shift sh width to count) i) d (made (operation.Shift sh width to count) d i)
     go true e = rw (e, eqb-true count 1 e)
         (group_built false 0xd1 (is_quad width) (shift_number sh) to group.ShiftOnce size.Zero 0 d (action.ShiftOnce sh) (made (operation.Shift sh width to 1) d i) is.0 (omega arith) refl (ap (λ (o : Option Shift). option_map action.ShiftOnce o) (shift_digit sh)) low (λ h. refl) (λ p l. refl) (λ p l. refl) (λ h. refl)
-          (λ p s k. rw (width-is p s width (shift_number sh) to d k, k.sel.operand-is, k.sel.number-is, is.1) refl))
+        (λ p s k. rw (width-is p s width (shift_number sh) to d k, k.sel.operand-is, k.sel.number-is, is.1) refl))
     go false e = rw (e)
         (group_built false 0xc1 (is_quad width) (shift_number sh) to group.Shift size.One count d (action.ShiftBy sh) (made (operation.Shift sh width to count) d i) is.0 (omega arith) refl (ap (λ (o : Option Shift). option_map action.ShiftBy o) (shift_digit sh)) low (λ h. refl) (λ p l. refl) (λ p l. refl) (λ h. refl)
-          (λ p s k. rw (width-is p s width (shift_number sh) to d k, k.sel.operand-is, k.sel.number-is, is.1, back) refl))
+        (λ p s k. rw (width-is p s width (shift_number sh) to d k, k.sel.operand-is, k.sel.number-is, is.1, back) refl))
 
 -- ---- one byte
 
@@ -320,16 +327,16 @@ byte_stored r m d i is =
     let form = selected false 0x88 false (leb 4 f) f o size.Zero 0 in
     let k = knows false 0x88 false (leb 4 f) f o size.Zero 0 d is.0 in
     register_built false 0x88 false (leb 4 f) f o d action.StoreByte (made (operation.StoreByte m r) d i) is.0 refl (λ h. refl)
-      (λ k. allowed_any action.StoreByte (prefixes_in form) (selectors_of (f % 8) o d).modrm o k.sel.mode-is k.fs-is (λ h. absurd cc) (λ h. low_stands form r _ refl k.sel.digit-is))
-      (λ h. absurd cc)
-      (λ low high hb p fs none. rw (k.sel.mode-is) (low_falls p r _ k.sel.digit-is low high none))
-      (λ p s k. rw (memory-is p s false f m d k, register-is p s false r o d k, k.sel.number-is, is.1) refl)
+    (λ k. allowed_any action.StoreByte (prefixes_in form) (selectors_of (f % 8) o d).modrm o k.sel.mode-is k.fs-is (λ h. absurd cc) (λ h. low_stands form r _ refl k.sel.digit-is))
+    (λ h. absurd cc)
+    (λ low high hb p fs none. rw (k.sel.mode-is) (low_falls p r _ k.sel.digit-is low high none))
+    (λ p s k. rw (memory-is p s false f m d k, register-is p s false r o d k, k.sel.number-is, is.1) refl)
 
 byte_extended : (width : Width) (to : Register) (from : Operand) (d i : ℕ) → IsOperation (operation.ExtendByte width to from) d i → IsBuilt (form_of (operation.ExtendByte width to from) i) d (made (operation.ExtendByte width to from) d i)
 unfolding form_of operand_body operation_of named escaped_row_of allowed selectors_of
 byte_extended width to (operand.InMemory m) d i is =
     plain_built true 0xb6 (is_quad width) to (operand.InMemory m) d action.ExtendByte (made (operation.ExtendByte width to (operand.InMemory m)) d i) is.0 refl (λ h. refl) (λ p low h. absurd cc) (λ p low. refl) (λ h. refl)
-      (λ p s k. rw (width-is p s width (number_of to) (operand.InMemory m) d k, register-is p s (is_quad width) to (operand.InMemory m) d k, k.sel.operand-is, k.sel.number-is, is.1) refl)
+    (λ p s k. rw (width-is p s width (number_of to) (operand.InMemory m) d k, register-is p s (is_quad width) to (operand.InMemory m) d k, k.sel.operand-is, k.sel.number-is, is.1) refl)
 byte_extended width to (operand.Register q) d i is =
     let o = operand.Register q in
     let f = number_of to in
@@ -338,10 +345,10 @@ byte_extended width to (operand.Register q) d i is =
     let low-is : s.modrm % 8 ≡ low_bits q = low_digit 3 (f % 8) (low_bits q) (omega arith) (omega arith) in
     let mode : eqb (s.modrm / 64) 3 ≡ true = (knows true 0xb6 (is_quad width) (leb 4 (number_of q)) f o size.Zero 0 d is.0).sel.mode-is in
     register_built true 0xb6 (is_quad width) (leb 4 (number_of q)) f o d action.ExtendByte (made (operation.ExtendByte width to o) d i) is.0 refl (λ h. refl)
-      (λ k. allowed_any action.ExtendByte (prefixes_in form) s.modrm o k.sel.mode-is k.fs-is (λ h. low_stands form q (s.modrm % 8) refl low-is) (λ h. refl))
-      (λ h. refl)
-      (λ low high hb p fs none. rw (mode) (and_false (not p.thread_pointer) _ (low_falls p q (s.modrm % 8) low-is low hb none)))
-      (λ p s k. rw (width-is p s width f o d k, register-is p s (is_quad width) to o d k, k.sel.operand-is, k.sel.number-is, is.1) refl)
+    (λ k. allowed_any action.ExtendByte (prefixes_in form) s.modrm o k.sel.mode-is k.fs-is (λ h. low_stands form q (s.modrm % 8) refl low-is) (λ h. refl))
+    (λ h. refl)
+    (λ low high hb p fs none. rw (mode) (and_false (not p.thread_pointer) _ (low_falls p q (s.modrm % 8) low-is low hb none)))
+    (λ p s k. rw (width-is p s width f o d k, register-is p s (is_quad width) to o d k, k.sel.operand-is, k.sel.number-is, is.1) refl)
   where
     and_false : (a b : Bool) → b ≡ false → (a && b) ≡ false
     and_false true b e = e
@@ -392,17 +399,17 @@ built (operation.StoreByte to from) d i is = byte_stored from to d i is
 built (operation.ExtendByte width to from) d i is = byte_extended width to from d i is
 built (operation.ExtendLong to from) d i is =
     plain_built false 0x63 true to from d action.ExtendLong (made (operation.ExtendLong to from) d i) is.0 refl (λ h. refl) (λ p low h. refl) (λ p low. refl) (λ h. refl)
-      (λ p s k. rw (register-is p s true to from d k, k.sel.operand-is, k.sel.number-is, is.1) refl)
+    (λ p s k. rw (register-is p s true to from d k, k.sel.operand-is, k.sel.number-is, is.1) refl)
 built (operation.LoadAddress width to from) d i is =
     plain_built false 0x8d (is_quad width) to (operand.InMemory from) d action.LoadAddress (made (operation.LoadAddress width to from) d i) is.0 refl (λ h. absurd (let t = is.2 in cc)) (λ p low h. absurd cc) (λ p low. refl) (λ h. refl)
-      (λ p s k. rw (width-is p s width (number_of to) (operand.InMemory from) d k, register-is p s (is_quad width) to (operand.InMemory from) d k, memory-is p s (is_quad width) (number_of to) from d k, k.sel.number-is, is.1) refl)
+    (λ p s k. rw (width-is p s width (number_of to) (operand.InMemory from) d k, register-is p s (is_quad width) to (operand.InMemory from) d k, memory-is p s (is_quad width) (number_of to) from d k, k.sel.number-is, is.1) refl)
 built (operation.Compute arithmetic width os) d i is = compute_built arithmetic width os d i is
 built (operation.Test width left right) d i is =
     plain_built false 0x85 (is_quad width) right left d action.TestWith (made (operation.Test width left right) d i) is.0 refl (λ h. refl) (λ p low h. refl) (λ p low. refl) (λ h. refl)
-      (λ p s k. rw (width-is p s width (number_of right) left d k, register-is p s (is_quad width) right left d k, k.sel.operand-is, k.sel.number-is, is.1) refl)
+    (λ p s k. rw (width-is p s width (number_of right) left d k, register-is p s (is_quad width) right left d k, k.sel.operand-is, k.sel.number-is, is.1) refl)
 built (operation.Multiply width to from) d i is =
     plain_built true 0xaf (is_quad width) to from d action.MultiplyBy (made (operation.Multiply width to from) d i) is.0 refl (λ h. refl) (λ p low h. refl) (λ p low. refl) (λ h. refl)
-      (λ p s k. rw (width-is p s width (number_of to) from d k, register-is p s (is_quad width) to from d k, k.sel.operand-is, k.sel.number-is, is.1) refl)
+    (λ p s k. rw (width-is p s width (number_of to) from d k, register-is p s (is_quad width) to from d k, k.sel.operand-is, k.sel.number-is, is.1) refl)
 built (operation.Shift sh width to count) d i is = shift_built sh width to count d i is
 built (operation.Push r) d i is = rw (is.0, is.1) (stack_built 0x50 r (operation.Push r) (push_row false false false r))
 built (operation.Pop r) d i is = rw (is.0, is.1) (stack_built 0x58 r (operation.Pop r) (pop_row false false false r))
@@ -416,5 +423,5 @@ built operation.Return d i is = rw (is.0, is.1) (alone_built false 0xc3 operatio
 built (operation.Nop None) d i is = rw (is.0, is.1) nop_built
 built (operation.Nop (Some of)) d i is =
     rw (is.1) (group_built true 0x1f false 0 of group.Nop size.Zero 0 d action.Padding (made (operation.Nop (Some of)) d 0) is.0 (omega arith) refl refl refl (λ h. absurd (fs_named of is.2 h)) (λ p low. refl) (λ p low. refl) (λ h. absurd cc)
-      (λ p s k. rw (k.sel.operand-is, k.sel.number-is) refl))
+    (λ p s k. rw (k.sel.operand-is, k.sel.number-is) refl))
 built operation.Undefined d i is = rw (is.0, is.1) (alone_built true 0x0b operation.Undefined refl)

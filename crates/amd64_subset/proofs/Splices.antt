@@ -44,9 +44,9 @@ spliced_more at next xs ys bytes place inside =
     let end : next + length ys ≡ at + length (xs ++ ys) = omega arith in
     let within : at + length xs ≤ at + length (xs ++ ys) = omega arith in
     let head : take next (spliced at xs bytes) ≡ take at bytes ++ xs =
-      ap (take next) (sym (append_assoc (take at bytes) xs (drop (at + length xs) bytes))) ∙ take_at (take at bytes ++ xs) (drop (at + length xs) bytes) next joined in
+    ap (take next) (sym (append_assoc (take at bytes) xs (drop (at + length xs) bytes))) ∙ take_at (take at bytes ++ xs) (drop (at + length xs) bytes) next joined in
     let tail : drop (next + length ys) (spliced at xs bytes) ≡ drop (at + length (xs ++ ys)) bytes =
-      ap (λ i. drop i (spliced at xs bytes)) end ∙ drop-spliced at (at + length (xs ++ ys)) xs bytes within inside in
+    ap (λ i. drop i (spliced at xs bytes)) end ∙ drop-spliced at (at + length (xs ++ ys)) xs bytes within inside in
     rw (head, tail) (append_assoc (take at bytes) xs (ys ++ drop (at + length (xs ++ ys)) bytes) ∙ ap (λ r. take at bytes ++ r) (sym (append_assoc xs ys (drop (at + length (xs ++ ys)) bytes))))
 
 -- what was written from the start on
@@ -128,9 +128,9 @@ pub form_written : (form : Form) (mark rex escape : Option ℕ) (o : Option Sele
     → r6 ≡ spliced 0 (form_bytes form d) r0
 form_written form mark rex escape o d a b c e f r0 r1 r2 r3 r4 r5 r6 em ex ee es w1 p1 w2 p2 w3 p3 w4 p4 w5 p5 w6 =
     form_spliced form d a b c e f r0 r1 r2 r3 r4 r5 r6
-      (w1 ∙ ap (λ t. spliced 0 (option_to_list t) r0) em) (let l = ap (λ t. length (option_to_list t)) em in omega arith)
-      (w2 ∙ ap (λ t. spliced a (option_to_list t) r1) ex) (p2 ∙ ap (λ t. a + length (option_to_list t)) ex)
-      (w3 ∙ ap (λ t. spliced b (option_to_list t) r2) ee) (p3 ∙ ap (λ t. b + length (option_to_list t)) ee)
-      w4 p4
-      (w5 ∙ ap (λ t. spliced e (selector_bytes t d) r4) es) (p5 ∙ ap (λ t. e + length (selector_bytes t d)) es)
-      w6
+    (w1 ∙ ap (λ t. spliced 0 (option_to_list t) r0) em) (let l = ap (λ t. length (option_to_list t)) em in omega arith)
+    (w2 ∙ ap (λ t. spliced a (option_to_list t) r1) ex) (p2 ∙ ap (λ t. a + length (option_to_list t)) ex)
+    (w3 ∙ ap (λ t. spliced b (option_to_list t) r2) ee) (p3 ∙ ap (λ t. b + length (option_to_list t)) ee)
+    w4 p4
+    (w5 ∙ ap (λ t. spliced e (selector_bytes t d) r4) es) (p5 ∙ ap (λ t. e + length (selector_bytes t d)) es)
+    w6

@@ -139,7 +139,7 @@ opcode_bytes form = option_to_list (when form.escaped 0x0f) ++ (form.opcode ∷ 
 unfoldable pub form_bytes : Form → ℕ → List ℕ
 form_bytes form displacement =
     option_to_list (mark_in form.fields) ++ (option_to_list (rex_in form) ++ (opcode_bytes form
-      ++ (selector_bytes (selectors_in form.fields displacement) displacement ++ number_bytes form.size form.number)))
+    ++ (selector_bytes (selectors_in form.fields displacement) displacement ++ number_bytes form.size form.number)))
 
 -- the spelling of an instruction
 unfoldable pub spelling_of : Instr → List ℕ

@@ -100,8 +100,16 @@ fn writes(rt: &impl Abort, from: &[u8], to: &[u8]) -> Result<(), Fail> {
     assert_eq!(rt; &written[..len], to, "{from:?}");
     assert!(rt; written[len..].iter().all(|byte| *byte == 0xcc), "{from:?}");
     let again = decode(&written);
-    assert_eq!(rt; again.map(|again| again.instr), Some(read.instr), "{from:?}");
-    assert_eq!(rt; again.map(|again| again.len as usize), Some(len), "{from:?}");
+    assert_eq!(rt;
+        again.map(|again| again.instr),
+        Some(read.instr),
+        "{from:?}"
+    );
+    assert_eq!(rt;
+        again.map(|again| again.len as usize),
+        Some(len),
+        "{from:?}"
+    );
     Ok(())
 }
 

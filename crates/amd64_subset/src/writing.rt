@@ -274,12 +274,7 @@ fn write(form: Form, displacement: u64, into: &mut [u8; 15]) -> u8
 }
 
 /// Writes ModRM and SIB, if there are any, and the displacement that they ask for.
-fn put_selectors(
-    into: &mut [u8; 15],
-    at: u8,
-    selectors: Option<Selectors>,
-    displacement: u64,
-) -> u8
+fn put_selectors(into: &mut [u8; 15], at: u8, selectors: Option<Selectors>, displacement: u64) -> u8
     requires { at + length (selector_bytes selectors displacement) ≤ 15 }
     ensures written { into.new ≡ spliced at (selector_bytes selectors displacement) into.old }
     ensures next { result ≡ at + length (selector_bytes selectors displacement) }

@@ -12,7 +12,7 @@ put_number-requires c =
 pub returns-in-Some-clause-written : goal.returns-in-Some-clause-written
 returns-in-Some-clause-written c =
     selectors_spliced c.args.selectors c.in-Some.selectors c.displacement_size.result c.args.displacement c.args.at _ _ c.args.into.now _ _ _ c.in-Some.is c.displacement_size.ensures (omega arith)
-      c.put-at.ensures.written c.put-at.ensures.next c.put-at-in-Some.ensures.written c.put-at-in-Some.ensures.next c.put_number.ensures.written
+    c.put-at.ensures.written c.put-at.ensures.next c.put-at-in-Some.ensures.written c.put-at-in-Some.ensures.next c.put_number.ensures.written
 
 pub returns-in-Some-clause-next : goal.returns-in-Some-clause-next
 returns-in-Some-clause-next c =

@@ -16,9 +16,9 @@ put_number-requires c =
 pub returns-clause-written : goal.returns-clause-written
 returns-clause-written c =
     form_written c.args.form c.mark.result c.rex.result c.escape.result c.selectors.result c.args.displacement _ _ _ _ _ c.args.into.now _ _ _ _ _ _
-      c.mark.ensures c.rex.ensures c.escape.ensures c.selectors.ensures
-      c.put-at.ensures.written c.put-at.ensures.next c.put-at-2.ensures.written c.put-at-2.ensures.next c.put-at-3.ensures.written c.put-at-3.ensures.next
-      c.put-at-4.ensures.written c.put-at-4.ensures.next c.put_selectors-at.ensures.written c.put_selectors-at.ensures.next c.put_number.ensures.written
+    c.mark.ensures c.rex.ensures c.escape.ensures c.selectors.ensures
+    c.put-at.ensures.written c.put-at.ensures.next c.put-at-2.ensures.written c.put-at-2.ensures.next c.put-at-3.ensures.written c.put-at-3.ensures.next
+    c.put-at-4.ensures.written c.put-at-4.ensures.next c.put_selectors-at.ensures.written c.put_selectors-at.ensures.next c.put_number.ensures.written
 
 pub returns-clause-next : goal.returns-clause-next
 returns-clause-next c =
