@@ -1,36 +1,23 @@
 -- A form's bytes are the parts of a spelling.
-use Rattle.std.proofs.Common.{◌≡◌, ◌≢◌, ℕ, zero, suc, ◌+◌, ◌-◌, ◌*◌, ◌/◌, ◌%◌, ◌^◌, ◌<◌, ◌≤◌, Bool, true, false, cond, eqb, ltb, leb, List, [], ◌∷◌, ◌++◌, length, take, Option, Some, None, refl, sym, ap, subst, ◌∙◌, arith, inl, inr, ◌⊎◌, append_assoc, length-append}
-use Rattle.std.specs.Prelude.{not, ◌&&◌, ◌||◌, unwrap_or, is_some, slice_index, IfSome}
+use Rattle.std.proofs.Common.{◌≡◌, ℕ, ◌/◌, ◌%◌, ◌≤◌, Bool, true, false, eqb, List, [], ◌∷◌, ◌++◌, length, Option, Some, None, refl, sym, ap, subst, ◌∙◌, arith, length-append}
+use Rattle.std.specs.Prelude.{slice_index, IfSome}
 use Rattle.std.specs.Option.{option_map, option_to_list}
-use Rattle.std.specs.List.{list_all, list_any}
-use Rattle.amd64_subset.specs.declared.operand.Operand.{Operand}
-use Rattle.amd64_subset.specs.declared.operand.Operand.TheVariants as operand
+use Rattle.std.specs.List.{list_all}
 use Rattle.amd64_subset.specs.declared.instr.Instr.{Instr}
 use Rattle.amd64_subset.specs.declared.prefix.Rex.{Rex}
 use Rattle.amd64_subset.specs.declared.prefix.Prefixes.{Prefixes}
-use Rattle.amd64_subset.specs.declared.size.Size.{Size}
-use Rattle.amd64_subset.specs.declared.size.Size.TheVariants as size
-use Rattle.amd64_subset.specs.declared.size.Numbers.{Numbers}
 use Rattle.amd64_subset.specs.declared.row.Row.{Row}
-use Rattle.amd64_subset.specs.declared.row.Row.TheVariants as row
-use Rattle.amd64_subset.specs.declared.row.Group.{Group}
-use Rattle.amd64_subset.specs.declared.row.Action.{Action}
 use Rattle.amd64_subset.specs.declared.meaning.Body.{Body}
-use Rattle.amd64_subset.specs.declared.selectors.Selectors.{Selectors}
 use Rattle.amd64_subset.specs.declared.form.Fields.{Fields}
 use Rattle.amd64_subset.specs.declared.form.Fields.TheVariants as fields
 use Rattle.amd64_subset.specs.declared.form.Form.{Form}
-use Rattle.amd64_subset.specs.Number.{count_of, signed_of}
 use Rattle.amd64_subset.specs.Prefix.{rex_of, no_bits, bits_of}
-use Rattle.amd64_subset.specs.Row.{takes, action_of, accesses, pads}
-use Rattle.amd64_subset.specs.Selectors.{has_sib, displacement_size, allowed, allows_register, allows_memory}
-use Rattle.amd64_subset.specs.Meaning.{operand_body}
-use Rattle.amd64_subset.specs.Spelling.{is_mark, AreMarks, prefixes_of, named, IsOperated, HasBody, HasParts}
-use Rattle.amd64_subset.specs.Writing.{is_high, high_base, high_index, has_segment, bits_in, rex_bits, rex_byte, when, rex_in, mark_in, selectors_of, selectors_in, selector_bytes, opcode_bytes, number_bytes, form_bytes}
-use Rattle.amd64_subset.specs.Canonical.{IsOperand, AreAmong, bits_read, reads_wide, names_base, AsksForRex, IsNeeded, HasNoRedundant}
+use Rattle.amd64_subset.specs.Row.{takes, action_of}
+use Rattle.amd64_subset.specs.Selectors.{allowed}
+use Rattle.amd64_subset.specs.Spelling.{AreMarks, prefixes_of, named, HasBody, HasParts}
+use Rattle.amd64_subset.specs.Writing.{has_segment, rex_bits, rex_byte, when, rex_in, mark_in, selectors_in, selector_bytes, opcode_bytes, number_bytes, form_bytes}
+use Rattle.amd64_subset.specs.Canonical.{AreAmong, bits_read, AsksForRex, HasNoRedundant}
 use Rattle.amd64_subset.proofs.Digits.{bits, rex_back, rex_is_rex, is_needed, needed_bits}
-use Rattle.amd64_subset.proofs.Selected.{Selects, selects, is_register}
-use Rattle.amd64_subset.proofs.Splices.{length-number}
 
 abbrev pub segment_in : Fields → Bool
 segment_in (fields.Selected field operand) = has_segment operand

@@ -1,23 +1,10 @@
 -- Every spelling against the form of its instruction, and the spelling that is written.
-use Rattle.std.proofs.Common.{◌≡◌, ◌≢◌, ℕ, zero, suc, ◌+◌, ◌-◌, ◌*◌, ◌/◌, ◌%◌, ◌^◌, ◌<◌, ◌≤◌, Bool, true, false, cond, eqb, ltb, leb, List, [], ◌∷◌, ◌++◌, length, Option, Some, None, refl, sym, ap, subst, ◌∙◌, arith, inl, inr, ◌⊎◌}
-use Rattle.std.specs.Prelude.{not, ◌&&◌, ◌||◌, unwrap_or, is_some, slice_index}
+use Rattle.std.proofs.Common.{◌≡◌, ℕ, ◌+◌, ◌/◌, ◌%◌, ◌≤◌, Bool, true, false, cond, eqb, List, [], ◌∷◌, ◌++◌, length, Option, Some, None, refl, sym, ap, subst, arith, inl, inr, ◌⊎◌}
+use Rattle.std.specs.Prelude.{is_some, slice_index}
 use Rattle.std.specs.Option.{option_map, option_to_list}
-use Rattle.std.proofs.lemmas.Bool.{eqb-true, ltb-true, leb-true, ltb-false, leb-false, and_parts}
-use Rattle.amd64_subset.specs.declared.register.Register.{Register}
-use Rattle.amd64_subset.specs.declared.register.Register.TheVariants.{Rax, Rcx, Rdx, Rbx, Rsp, Rbp, Rsi, Rdi, R8, R9, R10, R11, R12, R13, R14, R15}
-use Rattle.amd64_subset.specs.declared.operand.Memory.{Memory}
-use Rattle.amd64_subset.specs.declared.operand.Operand.{Operand}
-use Rattle.amd64_subset.specs.declared.operand.Operand.TheVariants as operand
-use Rattle.amd64_subset.specs.declared.operand.Operands.{Operands}
-use Rattle.amd64_subset.specs.declared.operand.Operands.TheVariants.{IntoRegister, IntoMemory, Immediate}
-use Rattle.amd64_subset.specs.declared.instr.Width.{Width}
-use Rattle.amd64_subset.specs.declared.instr.Width.TheVariants.{Long, Quad}
 use Rattle.amd64_subset.specs.declared.instr.Arithmetic.{Arithmetic}
 use Rattle.amd64_subset.specs.declared.instr.Shift.{Shift}
-use Rattle.amd64_subset.specs.declared.instr.Condition.{Condition}
-use Rattle.amd64_subset.specs.declared.instr.Target.TheVariants.{Relative, Indirect}
 use Rattle.amd64_subset.specs.declared.instr.Operation.{Operation}
-use Rattle.amd64_subset.specs.declared.instr.Operation.TheVariants as operation
 use Rattle.amd64_subset.specs.declared.instr.Instr.{Instr}
 use Rattle.amd64_subset.specs.declared.prefix.Rex.{Rex}
 use Rattle.amd64_subset.specs.declared.prefix.Prefixes.{Prefixes}
@@ -32,40 +19,29 @@ use Rattle.amd64_subset.specs.declared.row.Group.TheVariants as group
 use Rattle.amd64_subset.specs.declared.row.Action.{Action}
 use Rattle.amd64_subset.specs.declared.row.Action.TheVariants as action
 use Rattle.amd64_subset.specs.declared.selectors.Selectors.{Selectors}
-use Rattle.amd64_subset.specs.declared.form.Fields.TheVariants as fields
-use Rattle.amd64_subset.specs.declared.form.Form.{Form}
 use Rattle.amd64_subset.specs.Number.{count_of, signed_of, signed_byte_of, signed_long_of}
-use Rattle.amd64_subset.specs.Register.{number_of, extended}
-use Rattle.amd64_subset.specs.Prefix.{bits_of, no_bits}
-use Rattle.amd64_subset.specs.Row.{row_of, fixed_row_of, escaped_row_of}
-use Rattle.amd64_subset.specs.Selectors.{has_sib, displacement_size, allowed, allows_register, allows_memory, byte_register, register_in, memory_in, operand_in}
-use Rattle.amd64_subset.specs.Meaning.{width_of, into_operand, operation_of, operand_body, numbered_body}
-use Rattle.amd64_subset.specs.Spelling.{named}
-use Rattle.amd64_subset.specs.Form.{fits_byte, fits_long, is_quad, low_bits, arithmetic_number, shift_number, condition_number, needs_rex, compute_long, compute_number, move_number, two_operands, shifted, jump, jump_if, form_of}
-use Rattle.amd64_subset.specs.Writing.{is_high, high_base, high_index, has_segment, rex_bits, when, opcode_bytes, form_bytes}
-use Rattle.amd64_subset.specs.Canonical.{IsSignedLong, IsMemory, IsOperand, IsOperation, line_of}
-use Rattle.amd64_subset.proofs.Operated.{selected}
-use Rattle.amd64_subset.specs.Meaning.{alone_body, numbered_operation, is_immediate}
+use Rattle.amd64_subset.specs.Prefix.{bits_of}
+use Rattle.amd64_subset.specs.Selectors.{has_sib, displacement_size, allowed, operand_in}
+use Rattle.amd64_subset.specs.Meaning.{width_of, operation_of, operand_body, numbered_body}
+use Rattle.amd64_subset.specs.Form.{form_of}
+use Rattle.amd64_subset.specs.Canonical.{IsOperation}
 use Rattle.amd64_subset.specs.declared.meaning.Body.{Body}
 use Rattle.std.specs.List.{list_any}
 use Rattle.std.specs.Int.{w32, w64, from_le_bytes}
 use Rattle.std.proofs.lemmas.List.{length-append}
-use Rattle.amd64_subset.specs.declared.size.Numbers.{Numbers}
 use Rattle.amd64_subset.specs.declared.instr.Decoded.{Decoded}
-use Rattle.amd64_subset.specs.Row.{takes, action_of, group_action, arithmetic_of, shift_of}
-use Rattle.amd64_subset.specs.Prefix.{rex_of}
+use Rattle.amd64_subset.specs.Row.{group_action}
 use Rattle.amd64_subset.specs.Meaning.{takes_immediate}
-use Rattle.amd64_subset.specs.Decoding.{placed, decoded}
-use Rattle.amd64_subset.specs.Spelling.{prefixes_of, IsOperated, HasBody, HasParts, Spells}
+use Rattle.amd64_subset.specs.Spelling.{prefixes_of, IsOperated, HasBody, Spells}
 use Rattle.amd64_subset.specs.Writing.{spelling_of}
 use Rattle.amd64_subset.specs.Canonical.{IsSpellable, IsCanonical}
 use Rattle.amd64_subset.proofs.Steps.{chosen}
 use Rattle.amd64_subset.proofs.Digits.{long-lt}
-use Rattle.amd64_subset.proofs.Costs.{Fits, signed_byte_fits, signed_long_fits}
+use Rattle.amd64_subset.proofs.Costs.{signed_byte_fits, signed_long_fits}
 use Rattle.amd64_subset.proofs.Listed.{is_short, is_long, listed}
 use Rattle.amd64_subset.proofs.Shortest.{BeatsIn, Around, Spelt, tail_of, operand-lt, fits_of, wide_of, opcode_size, register_beats}
 use Rattle.amd64_subset.proofs.Groups.{move_to, compute_short, compute_to, shift_once, shift_to, target_to, padding_to, moved_long, moved_quad, computed_rax, called, jumped_short, jumped_long, jumped_if_short, jumped_if_long, alone_beats, nop_beats, branch_beats}
-use Rattle.amd64_subset.proofs.Built.{IsBuilt, HasSpelling, spelling_from}
+use Rattle.amd64_subset.proofs.Built.{spelling_from}
 use Rattle.amd64_subset.proofs.Spelled.{made, built}
 
 -- the form of an instruction beats a spelling in this row and of this size

@@ -1,33 +1,28 @@
 -- What a form costs, beside any spelling of the same operand.
-use Rattle.std.proofs.Common.{◌≡◌, ◌≢◌, ℕ, zero, suc, ◌+◌, ◌-◌, ◌*◌, ◌/◌, ◌%◌, ◌^◌, ◌<◌, ◌≤◌, Bool, true, false, cond, eqb, ltb, leb, List, [], ◌∷◌, ◌++◌, length, Option, Some, None, refl, sym, ap, subst, ◌∙◌, arith, inl, inr, ◌⊎◌}
-use Rattle.std.specs.Prelude.{not, ◌&&◌, ◌||◌, unwrap_or, is_some, slice_index}
-use Rattle.std.specs.Option.{option_map, option_to_list}
-use Rattle.std.specs.List.{list_any}
-use Rattle.std.proofs.lemmas.Bool.{eqb-true, ltb-true, leb-true, ltb-false, leb-false, and_parts}
+use Rattle.std.proofs.Common.{◌≡◌, ℕ, ◌+◌, ◌/◌, ◌%◌, ◌^◌, ◌<◌, ◌≤◌, Bool, true, false, cond, eqb, ltb, leb, List, length, Option, Some, None, refl, sym, ap, subst, ◌∙◌, arith}
+use Rattle.std.specs.Prelude.{◌&&◌, ◌||◌, unwrap_or, is_some, slice_index}
+use Rattle.std.specs.Option.{option_to_list}
+use Rattle.std.proofs.lemmas.Bool.{eqb-true, ltb-false, and_parts}
 use Rattle.amd64_subset.specs.declared.register.Register.{Register}
 use Rattle.amd64_subset.specs.declared.register.Register.TheVariants.{Rax}
-use Rattle.amd64_subset.specs.declared.operand.Base.{Base}
 use Rattle.amd64_subset.specs.declared.operand.Base.TheVariants as base
 use Rattle.amd64_subset.specs.declared.operand.Index.{Index}
 use Rattle.amd64_subset.specs.declared.operand.Memory.{Memory}
 use Rattle.amd64_subset.specs.declared.operand.Operand.{Operand}
 use Rattle.amd64_subset.specs.declared.operand.Operand.TheVariants as operand
-use Rattle.amd64_subset.specs.declared.prefix.Rex.{Rex}
 use Rattle.amd64_subset.specs.declared.prefix.Prefixes.{Prefixes}
 use Rattle.amd64_subset.specs.declared.size.Size.{Size}
-use Rattle.amd64_subset.specs.declared.size.Size.TheVariants as size
 use Rattle.amd64_subset.specs.declared.selectors.Selectors.{Selectors}
-use Rattle.amd64_subset.specs.declared.form.Fields.{Fields}
 use Rattle.amd64_subset.specs.declared.form.Fields.TheVariants as fields
 use Rattle.amd64_subset.specs.declared.form.Form.{Form}
 use Rattle.amd64_subset.specs.Number.{count_of, signed_of, signed_byte_of, signed_long_of}
-use Rattle.amd64_subset.specs.Register.{number_of, extended}
+use Rattle.amd64_subset.specs.Register.{extended}
 use Rattle.amd64_subset.specs.Prefix.{bits_of, no_bits}
-use Rattle.amd64_subset.specs.Selectors.{has_sib, displacement_size, register_in, rip_or_base, absolute_or_base, index_of, memory_in, operand_in, scale_of}
+use Rattle.amd64_subset.specs.Selectors.{has_sib, displacement_size, index_of, memory_in, operand_in, scale_of}
 use Rattle.amd64_subset.specs.Form.{fits_byte, fits_long, low_bits}
 use Rattle.amd64_subset.specs.Writing.{packed, is_high, sib_of, mode_of, needs_sib, address_of, selectors_of, selectors_in, selector_bytes, base_is_high, index_is_high, high_base, high_index, has_segment, when, rex_byte, rex_bits, rex_in, mark_in, form_bytes}
-use Rattle.amd64_subset.proofs.Digits.{high_digit, low_digit, extended-number, number-lt, is_needed}
-use Rattle.amd64_subset.proofs.Operated.{selected, size_few, sib_few}
+use Rattle.amd64_subset.proofs.Digits.{high_digit, low_digit, extended-number, is_needed}
+use Rattle.amd64_subset.proofs.Operated.{selected, size_few}
 use Rattle.amd64_subset.proofs.Splices.{length-selectors, length-form}
 
 -- ---- how many bytes of displacement a form has

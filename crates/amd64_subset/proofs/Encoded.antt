@@ -1,8 +1,6 @@
 -- What a canonical spelling is to its reader.
-use Rattle.std.proofs.Common.{◌≡◌, ◌≢◌, ℕ, zero, suc, ◌+◌, ◌<◌, ◌≤◌, List, [], ◌∷◌, ◌++◌, length, take, drop, Option, Some, None, refl, sym, ap, subst, ◌∙◌, arith}
-use Rattle.std.specs.Prelude.{IsSomeAnd}
+use Rattle.std.proofs.Common.{◌≡◌, ℕ, ◌<◌, ◌≤◌, List, [], ◌++◌, length, take, drop, Some, refl, sym, ap, subst, ◌∙◌, arith}
 use Rattle.amd64_subset.specs.declared.instr.Instr.{Instr}
-use Rattle.amd64_subset.specs.declared.instr.Decoded.{Decoded}
 use Rattle.amd64_subset.specs.Decoding.{placed, decoded}
 use Rattle.amd64_subset.specs.Spelling.{Spells, IsPlaced}
 use Rattle.amd64_subset.specs.Writing.{spelling_of, spliced}

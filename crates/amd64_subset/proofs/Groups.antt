@@ -1,58 +1,45 @@
 -- No spelling is shorter than the form of its instruction: the rows whose ModRM completes the opcode, and those with a number
 -- or nothing behind the opcode.
-use Rattle.std.proofs.Common.{◌≡◌, ◌≢◌, ℕ, zero, suc, ◌+◌, ◌-◌, ◌*◌, ◌/◌, ◌%◌, ◌^◌, ◌<◌, ◌≤◌, Bool, true, false, cond, eqb, ltb, leb, List, [], ◌∷◌, ◌++◌, length, Option, Some, None, refl, sym, ap, subst, ◌∙◌, arith, inl, inr, ◌⊎◌}
-use Rattle.std.specs.Prelude.{not, ◌&&◌, ◌||◌, unwrap_or, is_some, slice_index}
-use Rattle.std.specs.Option.{option_map, option_to_list}
-use Rattle.std.proofs.lemmas.Bool.{eqb-true, ltb-true, leb-true, ltb-false, leb-false, and_parts}
+use Rattle.std.proofs.Common.{◌≡◌, ℕ, ◌+◌, ◌*◌, ◌<◌, ◌≤◌, Bool, true, false, eqb, leb, [], ◌∷◌, ◌++◌, length, Option, Some, None, refl, ap, arith, inl, inr, ◌⊎◌}
+use Rattle.std.specs.Prelude.{not, ◌||◌}
+use Rattle.std.specs.Option.{option_to_list}
+use Rattle.std.proofs.lemmas.Bool.{and_parts}
 use Rattle.amd64_subset.specs.declared.register.Register.{Register}
 use Rattle.amd64_subset.specs.declared.register.Register.TheVariants.{Rax, Rcx, Rdx, Rbx, Rsp, Rbp, Rsi, Rdi, R8, R9, R10, R11, R12, R13, R14, R15}
-use Rattle.amd64_subset.specs.declared.operand.Memory.{Memory}
 use Rattle.amd64_subset.specs.declared.operand.Operand.{Operand}
 use Rattle.amd64_subset.specs.declared.operand.Operand.TheVariants as operand
-use Rattle.amd64_subset.specs.declared.operand.Operands.{Operands}
-use Rattle.amd64_subset.specs.declared.operand.Operands.TheVariants.{IntoRegister, IntoMemory, Immediate}
+use Rattle.amd64_subset.specs.declared.operand.Operands.TheVariants.{Immediate}
 use Rattle.amd64_subset.specs.declared.instr.Width.{Width}
 use Rattle.amd64_subset.specs.declared.instr.Width.TheVariants.{Long, Quad}
 use Rattle.amd64_subset.specs.declared.instr.Arithmetic.{Arithmetic}
 use Rattle.amd64_subset.specs.declared.instr.Shift.{Shift}
 use Rattle.amd64_subset.specs.declared.instr.Condition.{Condition}
-use Rattle.amd64_subset.specs.declared.instr.Target.TheVariants.{Relative, Indirect}
+use Rattle.amd64_subset.specs.declared.instr.Target.TheVariants.{Relative}
 use Rattle.amd64_subset.specs.declared.instr.Operation.{Operation}
 use Rattle.amd64_subset.specs.declared.instr.Operation.TheVariants as operation
-use Rattle.amd64_subset.specs.declared.instr.Instr.{Instr}
 use Rattle.amd64_subset.specs.declared.prefix.Rex.{Rex}
 use Rattle.amd64_subset.specs.declared.prefix.Prefixes.{Prefixes}
 use Rattle.amd64_subset.specs.declared.size.Size.{Size}
 use Rattle.amd64_subset.specs.declared.size.Size.TheVariants as size
 use Rattle.amd64_subset.specs.declared.row.Row.{Row}
 use Rattle.amd64_subset.specs.declared.row.Row.TheVariants as row
-use Rattle.amd64_subset.specs.declared.row.Numbered.{Numbered}
 use Rattle.amd64_subset.specs.declared.row.Numbered.TheVariants as numbered
-use Rattle.amd64_subset.specs.declared.row.Group.{Group}
 use Rattle.amd64_subset.specs.declared.row.Group.TheVariants as group
-use Rattle.amd64_subset.specs.declared.row.Action.{Action}
-use Rattle.amd64_subset.specs.declared.row.Action.TheVariants as action
-use Rattle.amd64_subset.specs.declared.selectors.Selectors.{Selectors}
 use Rattle.amd64_subset.specs.declared.form.Fields.TheVariants as fields
-use Rattle.amd64_subset.specs.declared.form.Form.{Form}
-use Rattle.amd64_subset.specs.Number.{count_of, signed_of, signed_byte_of, signed_long_of}
-use Rattle.amd64_subset.specs.Register.{number_of, extended}
+use Rattle.amd64_subset.specs.Number.{count_of}
+use Rattle.amd64_subset.specs.Register.{number_of}
 use Rattle.amd64_subset.specs.Prefix.{bits_of, no_bits}
 use Rattle.amd64_subset.specs.Row.{row_of, fixed_row_of, escaped_row_of}
-use Rattle.amd64_subset.specs.Selectors.{has_sib, displacement_size, allowed, allows_register, allows_memory, byte_register, register_in, memory_in, operand_in}
-use Rattle.amd64_subset.specs.Meaning.{width_of, into_operand, operation_of, operand_body, numbered_body}
+use Rattle.amd64_subset.specs.Meaning.{width_of}
 use Rattle.amd64_subset.specs.Spelling.{named}
-use Rattle.amd64_subset.specs.Form.{fits_byte, fits_long, is_quad, low_bits, arithmetic_number, shift_number, condition_number, needs_rex, compute_long, compute_number, move_number, two_operands, shifted, jump, jump_if, form_of}
-use Rattle.amd64_subset.specs.Writing.{is_high, high_base, high_index, has_segment, rex_bits, when, opcode_bytes, form_bytes}
-use Rattle.amd64_subset.specs.Canonical.{IsSignedLong, IsMemory, IsOperand, IsOperation, line_of}
+use Rattle.amd64_subset.specs.Form.{fits_byte, fits_long, is_quad, low_bits, arithmetic_number, shift_number, condition_number, compute_long, compute_number, move_number, shifted, jump, jump_if, form_of}
+use Rattle.amd64_subset.specs.Writing.{is_high, when}
 use Rattle.amd64_subset.proofs.Operated.{selected}
-use Rattle.amd64_subset.specs.Meaning.{alone_body, numbered_operation, is_immediate}
-use Rattle.amd64_subset.specs.declared.meaning.Body.{Body}
-use Rattle.amd64_subset.proofs.Digits.{bits, long-lt, extended-number}
-use Rattle.amd64_subset.proofs.Named.{push_row, pop_row, move_long_row, move_quad_row, into_row, from_row, rax_row, short_jump_row, long_jump_row, arithmetic-lt, shift-lt}
-use Rattle.amd64_subset.proofs.Costs.{Fits, register_fits, signed_byte_fits, signed_long_fits, bare_most, low_most}
+use Rattle.amd64_subset.proofs.Digits.{bits}
+use Rattle.amd64_subset.proofs.Named.{push_row, pop_row, move_long_row, move_quad_row, rax_row, short_jump_row, long_jump_row, arithmetic-lt, shift-lt}
+use Rattle.amd64_subset.proofs.Costs.{Fits, register_fits, bare_most, low_most}
 use Rattle.amd64_subset.proofs.Listed.{reaches, is_short, is_long}
-use Rattle.amd64_subset.proofs.Shortest.{BeatsIn, beats_row, beats_less, Around, Spelt, tail_of, operand-lt, fits_of, wide_of, same, less}
+use Rattle.amd64_subset.proofs.Shortest.{BeatsIn, beats_row, beats_less, Around, wide_of, same, less}
 
 -- ---- /n
 

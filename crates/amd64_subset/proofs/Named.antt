@@ -1,5 +1,5 @@
 -- Which rows the opcodes of the forms name.
-use Rattle.std.proofs.Common.{◌≡◌, ℕ, ◌+◌, ◌*◌, ◌%◌, ◌<◌, Bool, true, false, leb, List, [], ◌∷◌, Option, Some, None, refl, arith}
+use Rattle.std.proofs.Common.{◌≡◌, ◌+◌, ◌*◌, ◌%◌, ◌<◌, Bool, true, false, [], ◌∷◌, Some, refl, arith}
 use Rattle.amd64_subset.specs.declared.register.Register.{Register}
 use Rattle.amd64_subset.specs.declared.register.Register.TheVariants.{Rax, Rcx, Rdx, Rbx, Rsp, Rbp, Rsi, Rdi, R8, R9, R10, R11, R12, R13, R14, R15}
 use Rattle.amd64_subset.specs.declared.instr.Arithmetic.{Arithmetic}
@@ -13,10 +13,9 @@ use Rattle.amd64_subset.specs.declared.prefix.Rex.{Rex}
 use Rattle.amd64_subset.specs.declared.size.Size.TheVariants as size
 use Rattle.amd64_subset.specs.declared.row.Row.TheVariants as row
 use Rattle.amd64_subset.specs.declared.row.Numbered.TheVariants as numbered
-use Rattle.amd64_subset.specs.declared.row.Group.TheVariants as group
 use Rattle.amd64_subset.specs.declared.row.Action.TheVariants as action
 use Rattle.amd64_subset.specs.Register.{register_of, number_of}
-use Rattle.amd64_subset.specs.Row.{condition_of, row_of, fixed_row_of, escaped_row_of, arithmetic_of, shift_of, group_action, action_of}
+use Rattle.amd64_subset.specs.Row.{condition_of, row_of, fixed_row_of, escaped_row_of, arithmetic_of, shift_of}
 use Rattle.amd64_subset.specs.Spelling.{named}
 use Rattle.amd64_subset.specs.Form.{arithmetic_number, shift_number, condition_number, low_bits}
 use Rattle.amd64_subset.specs.Writing.{is_high}

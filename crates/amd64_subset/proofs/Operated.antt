@@ -1,8 +1,7 @@
 -- Forms with ModRM are built.
-use Rattle.std.proofs.Common.{◌≡◌, ◌≢◌, ℕ, zero, suc, ◌+◌, ◌-◌, ◌*◌, ◌/◌, ◌%◌, ◌^◌, ◌<◌, ◌≤◌, Bool, true, false, cond, eqb, ltb, leb, List, [], ◌∷◌, ◌++◌, length, take, Option, Some, None, refl, sym, ap, subst, ◌∙◌, arith, inl, inr, ◌⊎◌, append_assoc, length-append}
-use Rattle.std.specs.Prelude.{not, ◌&&◌, ◌||◌, unwrap_or, is_some, slice_index, IfSome}
-use Rattle.std.specs.Option.{option_map, option_to_list}
-use Rattle.std.proofs.lemmas.Bool.{leb-true}
+use Rattle.std.proofs.Common.{◌≡◌, ℕ, ◌/◌, ◌%◌, ◌≤◌, Bool, true, false, cond, eqb, leb, List, ◌∷◌, ◌++◌, length, Option, Some, None, refl, ap, arith, append_assoc, length-append}
+use Rattle.std.specs.Prelude.{not, ◌&&◌, ◌||◌, unwrap_or}
+use Rattle.std.specs.Option.{option_to_list}
 use Rattle.amd64_subset.specs.declared.register.Register.{Register}
 use Rattle.amd64_subset.specs.declared.operand.Memory.{Memory}
 use Rattle.amd64_subset.specs.declared.operand.Operand.{Operand}
@@ -19,21 +18,20 @@ use Rattle.amd64_subset.specs.declared.row.Row.{Row}
 use Rattle.amd64_subset.specs.declared.row.Row.TheVariants as row
 use Rattle.amd64_subset.specs.declared.row.Group.{Group}
 use Rattle.amd64_subset.specs.declared.row.Action.{Action}
-use Rattle.amd64_subset.specs.declared.meaning.Body.{Body}
 use Rattle.amd64_subset.specs.declared.selectors.Selectors.{Selectors}
 use Rattle.amd64_subset.specs.declared.form.Fields.TheVariants as fields
 use Rattle.amd64_subset.specs.declared.form.Form.{Form}
 use Rattle.amd64_subset.specs.Number.{count_of, signed_of}
-use Rattle.amd64_subset.specs.Register.{number_of, extended}
-use Rattle.amd64_subset.specs.Prefix.{rex_of, no_bits, bits_of}
-use Rattle.amd64_subset.specs.Row.{takes, action_of, accesses, pads, group_action}
-use Rattle.amd64_subset.specs.Selectors.{has_sib, displacement_size, allowed, allows_register, allows_memory, register_in, memory_in, operand_in}
+use Rattle.amd64_subset.specs.Register.{number_of}
+use Rattle.amd64_subset.specs.Prefix.{bits_of}
+use Rattle.amd64_subset.specs.Row.{takes, action_of, accesses, group_action}
+use Rattle.amd64_subset.specs.Selectors.{displacement_size, allowed, allows_register, allows_memory, register_in, memory_in, operand_in}
 use Rattle.amd64_subset.specs.Meaning.{width_of, operand_body}
-use Rattle.amd64_subset.specs.Spelling.{named, IsOperated, HasBody}
-use Rattle.amd64_subset.specs.Form.{is_quad, low_bits}
-use Rattle.amd64_subset.specs.Writing.{is_high, high_base, high_index, has_segment, bits_in, rex_bits, rex_in, selectors_of, selectors_in, selector_bytes, opcode_bytes, number_bytes}
-use Rattle.amd64_subset.specs.Canonical.{IsOperand, AreAmong, bits_read, reads_wide, names_base}
-use Rattle.amd64_subset.proofs.Digits.{bits, extended_again, number-lt}
+use Rattle.amd64_subset.specs.Spelling.{named, IsOperated}
+use Rattle.amd64_subset.specs.Form.{is_quad}
+use Rattle.amd64_subset.specs.Writing.{high_base, high_index, has_segment, selectors_of, selectors_in, selector_bytes, opcode_bytes, number_bytes}
+use Rattle.amd64_subset.specs.Canonical.{IsOperand, bits_read, reads_wide}
+use Rattle.amd64_subset.proofs.Digits.{bits, extended_again}
 use Rattle.amd64_subset.proofs.Selected.{Selects, selects, is_register}
 use Rattle.amd64_subset.proofs.Built.{IsBuilt, prefixes_in, bits_again}
 use Rattle.amd64_subset.proofs.Splices.{length-number}

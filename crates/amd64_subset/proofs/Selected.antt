@@ -1,28 +1,25 @@
 -- ModRM and SIB as they are written: they select the operand again, and the displacement as short as it fits.
-use Rattle.std.proofs.Common.{◌≡◌, ◌≢◌, ℕ, zero, suc, ◌+◌, ◌-◌, ◌*◌, ◌/◌, ◌%◌, ◌^◌, ◌<◌, ◌≤◌, Bool, true, false, cond, eqb, ltb, leb, List, [], ◌∷◌, ◌++◌, length, take, Option, Some, None, refl, sym, ap, subst, ◌∙◌, arith, inl, inr, ◌⊎◌}
-use Rattle.std.specs.Prelude.{not, ◌&&◌, ◌||◌, unwrap_or, is_some, slice_index, IfSome}
-use Rattle.std.specs.Option.{option_map, option_to_list}
-use Rattle.std.proofs.lemmas.Bool.{eqb-true, ne_eqb, ltb-true, leb-true, ltb-false, and_parts}
+use Rattle.std.proofs.Common.{◌≡◌, ℕ, ◌/◌, ◌%◌, ◌<◌, Bool, true, false, eqb, List, ◌++◌, Option, Some, None, refl, arith}
+use Rattle.std.specs.Prelude.{◌&&◌, unwrap_or, is_some, slice_index, IfSome}
+use Rattle.std.specs.Option.{option_to_list}
+use Rattle.std.proofs.lemmas.Bool.{eqb-true, ne_eqb}
 use Rattle.amd64_subset.specs.declared.register.Register.{Register}
 use Rattle.amd64_subset.specs.declared.operand.Base.{Base}
 use Rattle.amd64_subset.specs.declared.operand.Base.TheVariants as base
 use Rattle.amd64_subset.specs.declared.operand.Index.{Index}
-use Rattle.amd64_subset.specs.declared.operand.Memory.{Memory}
 use Rattle.amd64_subset.specs.declared.operand.Operand.{Operand}
 use Rattle.amd64_subset.specs.declared.operand.Operand.TheVariants as operand
-use Rattle.amd64_subset.specs.declared.prefix.Rex.{Rex}
 use Rattle.amd64_subset.specs.declared.prefix.Prefixes.{Prefixes}
 use Rattle.amd64_subset.specs.declared.size.Size.{Size}
 use Rattle.amd64_subset.specs.declared.size.Size.TheVariants as size
 use Rattle.amd64_subset.specs.declared.selectors.Selectors.{Selectors}
 use Rattle.amd64_subset.specs.Number.{signed_of}
-use Rattle.amd64_subset.specs.Register.{register_of, number_of, extended}
 use Rattle.amd64_subset.specs.Prefix.{bits_of}
-use Rattle.amd64_subset.specs.Selectors.{has_sib, displacement_size, register_in, rip_or_base, absolute_or_base, index_of, memory_in, operand_in, scale_of}
+use Rattle.amd64_subset.specs.Selectors.{has_sib, displacement_size, index_of, memory_in, operand_in}
 use Rattle.amd64_subset.specs.Form.{fits_byte, low_bits}
-use Rattle.amd64_subset.specs.Writing.{packed, is_high, scale_number, sib_of, mode_of, needs_sib, address_of, selectors_of, high_base, high_index, base_is_high, index_is_high, has_segment, number_bytes}
-use Rattle.amd64_subset.specs.Canonical.{IsSignedLong, IsIndex, IsAddress, IsMemory, IsOperand, names_base}
-use Rattle.amd64_subset.proofs.Digits.{high_digit, middle_digit, low_digit, extended_again, index_stands, scale_again, scale_number-lt, number-lt, register_again, none_again, byte_again, long_again, long-lt}
+use Rattle.amd64_subset.specs.Writing.{packed, is_high, scale_number, sib_of, mode_of, address_of, selectors_of, high_base, high_index, base_is_high, index_is_high, has_segment, number_bytes}
+use Rattle.amd64_subset.specs.Canonical.{IsSignedLong, IsIndex, IsAddress, IsOperand, names_base}
+use Rattle.amd64_subset.proofs.Digits.{high_digit, middle_digit, low_digit, extended_again, index_stands, scale_again, none_again, byte_again, long_again, long-lt}
 
 abbrev pub is_register : Operand → Bool
 is_register (operand.Register r) = true

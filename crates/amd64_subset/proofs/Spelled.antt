@@ -1,8 +1,8 @@
 -- The form of each instruction spells it, row by row.
-use Rattle.std.proofs.Common.{◌≡◌, ◌≢◌, ℕ, zero, suc, ◌+◌, ◌-◌, ◌*◌, ◌/◌, ◌%◌, ◌^◌, ◌<◌, ◌≤◌, Bool, true, false, cond, eqb, ltb, leb, List, [], ◌∷◌, ◌++◌, length, take, Option, Some, None, refl, sym, ap, subst, ◌∙◌, arith, inl, inr, ◌⊎◌, append_assoc, length-append}
-use Rattle.std.specs.Prelude.{not, ◌&&◌, ◌||◌, unwrap_or, is_some, slice_index, IfSome}
+use Rattle.std.proofs.Common.{◌≡◌, ℕ, ◌+◌, ◌*◌, ◌/◌, ◌%◌, ◌^◌, ◌<◌, ◌≤◌, Bool, true, false, cond, eqb, ltb, leb, List, [], ◌∷◌, ◌++◌, Option, Some, None, refl, ap, ◌∙◌, arith, inl, inr}
+use Rattle.std.specs.Prelude.{not, ◌&&◌, ◌||◌, is_some}
 use Rattle.std.specs.Option.{option_map, option_to_list}
-use Rattle.std.proofs.lemmas.Bool.{leb-true, leb-false, eqb-true, ltb-true, le-ltb}
+use Rattle.std.proofs.lemmas.Bool.{leb-true, leb-false, eqb-true, ltb-true}
 use Rattle.amd64_subset.specs.declared.register.Register.{Register}
 use Rattle.amd64_subset.specs.declared.register.Register.TheVariants.{Rax, Rcx, Rdx, Rbx, Rsp, Rbp, Rsi, Rdi, R8, R9, R10, R11, R12, R13, R14, R15}
 use Rattle.amd64_subset.specs.declared.operand.Memory.{Memory}
@@ -23,7 +23,6 @@ use Rattle.amd64_subset.specs.declared.prefix.Rex.{Rex}
 use Rattle.amd64_subset.specs.declared.prefix.Prefixes.{Prefixes}
 use Rattle.amd64_subset.specs.declared.size.Size.{Size}
 use Rattle.amd64_subset.specs.declared.size.Size.TheVariants as size
-use Rattle.amd64_subset.specs.declared.row.Row.{Row}
 use Rattle.amd64_subset.specs.declared.row.Row.TheVariants as row
 use Rattle.amd64_subset.specs.declared.row.Numbered.{Numbered}
 use Rattle.amd64_subset.specs.declared.row.Numbered.TheVariants as numbered
@@ -35,16 +34,16 @@ use Rattle.amd64_subset.specs.declared.form.Fields.TheVariants as fields
 use Rattle.amd64_subset.specs.declared.form.Form.{Form}
 use Rattle.amd64_subset.specs.Number.{count_of, signed_of, signed_byte_of}
 use Rattle.amd64_subset.specs.Register.{number_of}
-use Rattle.amd64_subset.specs.Prefix.{rex_of, no_bits, bits_of}
-use Rattle.amd64_subset.specs.Row.{row_of, fixed_row_of, escaped_row_of, arithmetic_of, shift_of, group_action, takes, accesses}
+use Rattle.amd64_subset.specs.Prefix.{bits_of}
+use Rattle.amd64_subset.specs.Row.{row_of, fixed_row_of, escaped_row_of, group_action, takes, accesses}
 use Rattle.amd64_subset.specs.Selectors.{allowed, allows_register, allows_memory, byte_register}
 use Rattle.amd64_subset.specs.Meaning.{width_of, alone_body, numbered_body, operation_of, operand_body}
-use Rattle.amd64_subset.specs.Spelling.{named, HasBody}
-use Rattle.amd64_subset.specs.Form.{fits_byte, fits_long, is_quad, low_bits, arithmetic_number, shift_number, condition_number, needs_rex, compute_long, form_of}
-use Rattle.amd64_subset.specs.Writing.{packed, is_high, high_base, high_index, has_segment, rex_in, selectors_of, selectors_in, opcode_bytes, number_bytes, when}
-use Rattle.amd64_subset.specs.Canonical.{IsSignedLong, IsMemory, IsOperand, IsNamed, IsMoved, HasNone, IsOperation, AreAmong, bits_read, reads_wide}
-use Rattle.amd64_subset.proofs.Digits.{bits, middle_digit, low_digit, number-lt, byte_again, long_again, whole_again, long-lt}
-use Rattle.amd64_subset.proofs.Selected.{Selects, is_register}
+use Rattle.amd64_subset.specs.Spelling.{named}
+use Rattle.amd64_subset.specs.Form.{fits_byte, fits_long, is_quad, low_bits, arithmetic_number, shift_number, condition_number, compute_long, form_of}
+use Rattle.amd64_subset.specs.Writing.{is_high, high_base, high_index, has_segment, rex_in, selectors_of, selectors_in, number_bytes, when}
+use Rattle.amd64_subset.specs.Canonical.{IsSignedLong, IsOperand, IsNamed, IsMoved, HasNone, IsOperation, AreAmong, bits_read, reads_wide}
+use Rattle.amd64_subset.proofs.Digits.{bits, low_digit, byte_again, long_again, whole_again, long-lt}
+use Rattle.amd64_subset.proofs.Selected.{is_register}
 use Rattle.amd64_subset.proofs.Built.{IsBuilt, prefixes_in, bits_again}
 use Rattle.amd64_subset.proofs.Named.{push_row, pop_row, move_long_row, move_quad_row, into_row, from_row, rax_row, short_jump_row, long_jump_row, arithmetic_digit, arithmetic-lt, shift_digit, shift-lt}
 use Rattle.amd64_subset.proofs.Operated.{Knows, knows, memory-is, register-is, width-is, width_again, numbers, selected, allowed_any, register_built, group_built}

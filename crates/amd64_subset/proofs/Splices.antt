@@ -1,12 +1,11 @@
 -- Parts that are written one behind another are one part.
-use Rattle.std.proofs.Common.{ℕ, suc, ◌+◌, ◌-◌, ◌<◌, ◌≤◌, ◌≡◌, List, [], ◌∷◌, ◌++◌, length, take, drop, refl, sym, ap, ◌∙◌, arith, append_assoc, length-append}
-use Rattle.std.proofs.lemmas.List.{drop-drop, drop_at, take_at, length-take-le, length-take}
+use Rattle.std.proofs.Common.{ℕ, ◌+◌, ◌-◌, ◌≤◌, ◌≡◌, List, [], ◌∷◌, ◌++◌, length, take, drop, refl, sym, ap, ◌∙◌, arith, append_assoc, length-append}
+use Rattle.std.proofs.lemmas.List.{drop-drop, drop_at, take_at, length-take-le}
 use borrow.Rule.Slice.PartMut.{put_mid}
-use Rattle.std.specs.Int.{w64, to_le_bytes}
 use Rattle.amd64_subset.specs.declared.size.Size.{Size}
 use Rattle.amd64_subset.specs.declared.size.Size.TheVariants as size
 use Rattle.std.specs.Option.{option_to_list}
-use Rattle.std.specs.Prelude.{Option, Some, None}
+use Rattle.std.specs.Prelude.{Option, Some}
 use Rattle.amd64_subset.specs.declared.selectors.Selectors.{Selectors}
 use Rattle.amd64_subset.specs.declared.form.Form.{Form}
 use Rattle.amd64_subset.specs.Number.{count_of}

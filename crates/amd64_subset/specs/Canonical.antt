@@ -1,9 +1,7 @@
 -- Which of an instruction's spellings is written: one with no redundant prefix, the shortest, and of those the one in the
 -- first line of the opcode map. And which values are instructions that have a spelling at all.
-use Rattle.std.specs.Prelude.{◌≡◌, ◌≢◌, ℕ, ◌+◌, ◌-◌, ◌*◌, ◌^◌, ◌/◌, ◌%◌, ◌<◌, ◌≤◌, ◌⊎◌, ◌&&◌, Bool, true, false, List, [], ◌∷◌, ◌++◌, length, slice_index, Option, Some, None, IfSome, IsSomeAnd, not, ◌==◌, if◌then◌else◌}
+use Rattle.std.specs.Prelude.{◌≡◌, ◌≢◌, ℕ, ◌+◌, ◌-◌, ◌*◌, ◌^◌, ◌/◌, ◌%◌, ◌<◌, ◌≤◌, ◌⊎◌, ◌&&◌, Bool, true, false, List, ◌++◌, length, slice_index, Option, Some, None, IfSome, IsSomeAnd, not, ◌==◌, if◌then◌else◌}
 use Rattle.std.specs.List.{list_all}
-use Rattle.std.specs.Option.{option_to_list}
-use Rattle.amd64_subset.specs.declared.register.Register.{Register}
 use Rattle.amd64_subset.specs.declared.register.Register.TheVariants.{Rsp}
 use Rattle.amd64_subset.specs.declared.operand.Base.{Base}
 use Rattle.amd64_subset.specs.declared.operand.Base.TheVariants as base
@@ -14,22 +12,18 @@ use Rattle.amd64_subset.specs.declared.operand.Operand.TheVariants as operand
 use Rattle.amd64_subset.specs.declared.operand.Operands.{Operands}
 use Rattle.amd64_subset.specs.declared.operand.Operands.TheVariants.{IntoRegister, IntoMemory, Immediate}
 use Rattle.amd64_subset.specs.declared.instr.Width.{Width}
-use Rattle.amd64_subset.specs.declared.instr.Width.TheVariants.{Long, Quad}
+use Rattle.amd64_subset.specs.declared.instr.Width.TheVariants.{Quad}
 use Rattle.amd64_subset.specs.declared.instr.Target.TheVariants.{Relative, Indirect}
 use Rattle.amd64_subset.specs.declared.instr.Operation.{Operation}
 use Rattle.amd64_subset.specs.declared.instr.Operation.TheVariants as operation
 use Rattle.amd64_subset.specs.declared.instr.Instr.{Instr}
 use Rattle.amd64_subset.specs.declared.instr.Decoded.{Decoded}
-use Rattle.amd64_subset.specs.declared.instr.Arithmetic.{Arithmetic}
 use Rattle.amd64_subset.specs.declared.prefix.Rex.{Rex}
-use Rattle.amd64_subset.specs.declared.size.Size.{Size}
 use Rattle.amd64_subset.specs.declared.size.Size.TheVariants as size
 use Rattle.amd64_subset.specs.declared.row.Row.{Row}
 use Rattle.amd64_subset.specs.declared.row.Row.TheVariants as row
-use Rattle.amd64_subset.specs.declared.row.Group.{Group}
 use Rattle.amd64_subset.specs.declared.row.Group.TheVariants as group
 use Rattle.amd64_subset.specs.declared.row.Numbered.TheVariants as numbered
-use Rattle.amd64_subset.specs.declared.row.Action.{Action}
 use Rattle.amd64_subset.specs.declared.row.Action.TheVariants as action
 use Rattle.amd64_subset.specs.declared.meaning.Body.{Body}
 use Rattle.amd64_subset.specs.Prefix.{rex_of, no_bits}

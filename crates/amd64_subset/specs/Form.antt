@@ -1,9 +1,8 @@
 -- The form in which an instruction is written: its row of the opcode map, and what stands in that row's fields. Where an
 -- immediate or a distance has a short field and a long one, the short one where the number fits.
-use Rattle.std.specs.Prelude.{ℕ, ◌+◌, ◌*◌, ◌%◌, Bool, true, false, nat_lt, nat_le, Option, Some, None, not, ◌&&◌, ◌||◌, ◌==◌, if◌then◌else◌}
+use Rattle.std.specs.Prelude.{ℕ, ◌+◌, ◌*◌, ◌%◌, Bool, true, false, nat_lt, nat_le, Some, None, ◌||◌, ◌==◌, if◌then◌else◌}
 use Rattle.amd64_subset.specs.declared.register.Register.{Register}
 use Rattle.amd64_subset.specs.declared.register.Register.TheVariants.{Rax}
-use Rattle.amd64_subset.specs.declared.operand.Memory.{Memory}
 use Rattle.amd64_subset.specs.declared.operand.Operand.{Operand}
 use Rattle.amd64_subset.specs.declared.operand.Operand.TheVariants as operand
 use Rattle.amd64_subset.specs.declared.operand.Operands.{Operands}
@@ -16,13 +15,11 @@ use Rattle.amd64_subset.specs.declared.instr.Shift.{Shift}
 use Rattle.amd64_subset.specs.declared.instr.Shift.TheVariants.{Left, Right, RightSigned}
 use Rattle.amd64_subset.specs.declared.instr.Condition.{Condition}
 use Rattle.amd64_subset.specs.declared.instr.Condition.TheVariants as condition
-use Rattle.amd64_subset.specs.declared.instr.Target.{Target}
 use Rattle.amd64_subset.specs.declared.instr.Target.TheVariants.{Relative, Indirect}
 use Rattle.amd64_subset.specs.declared.instr.Operation.{Operation}
 use Rattle.amd64_subset.specs.declared.instr.Operation.TheVariants as operation
 use Rattle.amd64_subset.specs.declared.size.Size.{Size}
 use Rattle.amd64_subset.specs.declared.size.Size.TheVariants as size
-use Rattle.amd64_subset.specs.declared.form.Fields.{Fields}
 use Rattle.amd64_subset.specs.declared.form.Fields.TheVariants as fields
 use Rattle.amd64_subset.specs.declared.form.Form.{Form}
 use Rattle.amd64_subset.specs.Register.{number_of}

@@ -1,5 +1,5 @@
 -- The bytes of a form: prefixes, REX, opcode, ModRM, SIB, displacement, immediate, each only where it is needed.
-use Rattle.std.specs.Prelude.{ℕ, ◌+◌, ◌*◌, ◌%◌, ◌≡◌, Bool, true, false, List, [], ◌∷◌, ◌++◌, length, take, drop, nat_le, Option, Some, None, is_some, not, ◌&&◌, ◌||◌, ◌==◌, if◌then◌else◌}
+use Rattle.std.specs.Prelude.{ℕ, ◌+◌, ◌*◌, ◌%◌, Bool, false, List, [], ◌∷◌, ◌++◌, length, take, drop, nat_le, Option, Some, None, is_some, not, ◌&&◌, ◌||◌, ◌==◌, if◌then◌else◌}
 use Rattle.std.specs.Option.{option_to_list}
 use Rattle.std.specs.Int.{w64, to_le_bytes}
 use Rattle.amd64_subset.specs.declared.register.Register.{Register}
@@ -8,13 +8,11 @@ use Rattle.amd64_subset.specs.declared.operand.Base.TheVariants as base
 use Rattle.amd64_subset.specs.declared.operand.Scale.{Scale}
 use Rattle.amd64_subset.specs.declared.operand.Scale.TheVariants as scale
 use Rattle.amd64_subset.specs.declared.operand.Index.{Index}
-use Rattle.amd64_subset.specs.declared.operand.Memory.{Memory}
 use Rattle.amd64_subset.specs.declared.operand.Operand.{Operand}
 use Rattle.amd64_subset.specs.declared.operand.Operand.TheVariants as operand
 use Rattle.amd64_subset.specs.declared.instr.Instr.{Instr}
 use Rattle.amd64_subset.specs.declared.prefix.Rex.{Rex}
 use Rattle.amd64_subset.specs.declared.size.Size.{Size}
-use Rattle.amd64_subset.specs.declared.size.Size.TheVariants as size
 use Rattle.amd64_subset.specs.declared.selectors.Selectors.{Selectors}
 use Rattle.amd64_subset.specs.declared.form.Fields.{Fields}
 use Rattle.amd64_subset.specs.declared.form.Fields.TheVariants as fields

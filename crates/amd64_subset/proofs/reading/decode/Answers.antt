@@ -1,5 +1,5 @@
 -- What was read is what the list of bytes gives, and that is what it spells.
-use Rattle.std.proofs.Common.{◌≡◌, ◌∙◌, ap, sym, take, drop, ◌++◌, arith}
+use Rattle.std.proofs.Common.{◌∙◌, ap, sym, take, drop, arith}
 use Rattle.std.proofs.lemmas.List.{take-append-drop}
 use Rattle.amd64_subset.specs.Decoding.{decoded}
 use Rattle.amd64_subset.proofs.Whole.{decoded_again}

@@ -1,5 +1,5 @@
 -- What was written is the canonical spelling.
-use Rattle.std.proofs.Common.{◌≡◌, ◌≤◌, length, ap, ◌∙◌, arith}
+use Rattle.std.proofs.Common.{◌≤◌, length, ap, ◌∙◌, arith}
 use Rattle.amd64_subset.specs.Writing.{form_bytes, spliced, spelling_of}
 use Rattle.amd64_subset.proofs.Canon.{canonical}
 use Rattle.amd64_subset.proofs.Encoded.{written}

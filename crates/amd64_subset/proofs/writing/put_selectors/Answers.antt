@@ -1,5 +1,5 @@
 -- ModRM, SIB and the displacement, one behind another.
-use Rattle.std.proofs.Common.{◌≡◌, ◌≤◌, ◌+◌, length, ap, ◌∙◌, arith}
+use Rattle.std.proofs.Common.{ap, arith}
 use Rattle.amd64_subset.specs.Number.{count_of}
 use Rattle.amd64_subset.proofs.Splices.{length-selectors, selectors_spliced}
 use Rattle.amd64_subset.proofs.writing.put_selectors.Goals as goal

@@ -1,5 +1,5 @@
 -- The parts of a form, one behind another.
-use Rattle.std.proofs.Common.{◌≡◌, ◌≤◌, ◌+◌, length, ap, ◌∙◌, arith}
+use Rattle.std.proofs.Common.{length, ap, arith}
 use Rattle.std.specs.Option.{option_to_list}
 use Rattle.amd64_subset.specs.Writing.{selector_bytes}
 use Rattle.amd64_subset.proofs.Splices.{length-form, form_written}
