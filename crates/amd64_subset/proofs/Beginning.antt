@@ -1,9 +1,8 @@
 -- Bytes begin a spelling exactly where some are missing and there is room for them.
-use Rattle.std.proofs.Common.{◌≡◌, ℕ, zero, suc, ◌+◌, ◌-◌, ◌<◌, ◌≤◌, ◌↔◌, Bool, true, false, cond, ltb, leb, List, [], ◌∷◌, ◌++◌, length, take, drop, Option, Some, None, Result, Ok, Err, refl, sym, ap, subst, ◌∙◌, append_assoc, append-nil, arith, inl, inr, ◌⊎◌}
-use Rattle.std.proofs.lemmas.Bool.{lt-ltb, le-leb, leb-true, ltb-true, cases_lt, ltb-false, le-ltb}
-use Rattle.std.proofs.lemmas.List.{length-append, length-take, take_at, drop_at, take-append-le, take-append-drop}
+use Rattle.std.proofs.Common.{◌≡◌, ℕ, ◌+◌, ◌-◌, ◌<◌, ◌≤◌, ◌↔◌, Bool, true, false, cond, ltb, List, [], ◌∷◌, ◌++◌, length, take, drop, Option, Some, None, Ok, Err, refl, sym, ap, subst, ◌∙◌, append-nil, arith, inl, inr}
+use Rattle.std.proofs.lemmas.Bool.{lt-ltb, le-leb, leb-true, cases_lt}
+use Rattle.std.proofs.lemmas.List.{length-append, take-append-le, take-append-drop}
 use Rattle.std.proofs.Math.Seq.{take-append-add}
-use Rattle.amd64_subset.specs.declared.fault.Fault.{Fault}
 use Rattle.amd64_subset.specs.declared.fault.Fault.TheVariants.{Short, Wrong}
 use Rattle.amd64_subset.specs.declared.instr.Decoded.{Decoded}
 use Rattle.amd64_subset.specs.declared.meaning.Body.{Body}
@@ -11,8 +10,7 @@ use Rattle.amd64_subset.specs.Reading.{Read}
 use Rattle.amd64_subset.specs.Decoding.{placed, instruction_at, decoded}
 use Rattle.amd64_subset.specs.Spelling.{HasParts, Spells}
 use Rattle.amd64_subset.specs.Beginning.{BeginsSpelling, has_room, begins_of}
-use Rattle.amd64_subset.proofs.Whole.{instruction_takes, instruction_again, Found, decoded_found, decoded_again}
-use Rattle.amd64_subset.proofs.Missing.{Lacks, Fills}
+use Rattle.amd64_subset.proofs.Whole.{instruction_takes, instruction_again, decoded_found, decoded_again}
 use Rattle.amd64_subset.proofs.MissingStart.{instruction_cuts, instruction_completes}
 
 -- what spells with more bytes behind it has room for them

@@ -1,8 +1,7 @@
 -- What another number in a field's place changes.
-use Rattle.std.proofs.Common.{◌≡◌, ℕ, zero, suc, ◌+◌, ◌-◌, ◌/◌, ◌%◌, ◌<◌, ◌≤◌, Bool, true, false, cond, eqb, List, [], ◌∷◌, ◌++◌, length, take, drop, Option, Some, None, Result, Ok, Err, refl, sym, ap, subst, ◌∙◌, append_assoc, append-nil, arith, inl, inr, ◌⊎◌}
-use Rattle.std.specs.Prelude.{IfSome}
+use Rattle.std.proofs.Common.{◌≡◌, ℕ, ◌+◌, ◌-◌, ◌%◌, ◌≤◌, Bool, true, false, cond, List, [], ◌∷◌, ◌++◌, length, take, drop, Option, Some, None, refl, sym, ap, ◌∙◌, append_assoc, append-nil, arith}
 use Rattle.std.specs.Option.{option_to_list}
-use Rattle.std.proofs.lemmas.List.{length-append, length-take, take_at, drop_at, take-append-drop}
+use Rattle.std.proofs.lemmas.List.{length-append, take_at, drop_at, take-append-drop}
 use Rattle.std.proofs.lemmas.Bool.{cond-true}
 use Rattle.amd64_subset.specs.declared.instr.Operation.{Operation}
 use Rattle.amd64_subset.specs.declared.instr.Decoded.{Decoded}
@@ -10,7 +9,6 @@ use Rattle.amd64_subset.specs.declared.instr.Width.{Width}
 use Rattle.amd64_subset.specs.declared.prefix.Prefixes.{Prefixes}
 use Rattle.amd64_subset.specs.declared.size.Size.{Size}
 use Rattle.amd64_subset.specs.declared.size.Size.TheVariants as size
-use Rattle.amd64_subset.specs.declared.size.Numbers.{Numbers}
 use Rattle.amd64_subset.specs.declared.row.Row.{Row}
 use Rattle.amd64_subset.specs.declared.row.Row.TheVariants as row
 use Rattle.amd64_subset.specs.declared.row.Numbered.{Numbered}
@@ -20,13 +18,11 @@ use Rattle.amd64_subset.specs.declared.row.Action.TheVariants as action
 use Rattle.amd64_subset.specs.declared.selectors.Selectors.{Selectors}
 use Rattle.amd64_subset.specs.declared.meaning.Body.{Body}
 use Rattle.amd64_subset.specs.Number.{count_of, signed_of}
-use Rattle.amd64_subset.specs.Prefix.{bits_of}
 use Rattle.amd64_subset.specs.Selectors.{displacement_size}
-use Rattle.amd64_subset.specs.Meaning.{width_of, place_of, is_immediate, takes_immediate, alone_body, numbered_body, operation_of, operand_body}
+use Rattle.amd64_subset.specs.Meaning.{width_of, place_of, is_immediate, takes_immediate, numbered_body, operation_of, operand_body}
 use Rattle.amd64_subset.specs.Decoding.{before, placed, decoded}
-use Rattle.amd64_subset.specs.Spelling.{prefixes_of, named, IsOperated, HasBody, HasParts, Spells, field_of, with_displacement, with_immediate}
-use Rattle.amd64_subset.proofs.Whole.{Found, decoded_found, decoded_again}
-use Rattle.amd64_subset.proofs.Places.{IsBack, HasBack, body_back}
+use Rattle.amd64_subset.specs.Spelling.{prefixes_of, IsOperated, HasBody, HasParts, Spells, field_of, with_displacement, with_immediate}
+use Rattle.amd64_subset.proofs.Whole.{decoded_found, decoded_again}
 
 -- two splittings of one list at one place
 pub same_split : (a b x y : List ℕ) → a ++ x ≡ b ++ y → length a ≡ length b → (a ≡ b) × (x ≡ y)

@@ -1,10 +1,9 @@
 -- Fields behind the opcode: what is read is what stands there, and what stands there is read.
-use Rattle.std.proofs.Common.{◌≡◌, ℕ, zero, suc, ◌+◌, ◌-◌, ◌/◌, ◌%◌, ◌<◌, ◌≤◌, Bool, true, false, cond, ltb, List, [], ◌∷◌, ◌++◌, length, take, drop, Option, Some, None, Result, Ok, Err, refl, sym, ap, subst, ◌∙◌, append_assoc, arith, inl, inr, ◌⊎◌}
+use Rattle.std.proofs.Common.{◌≡◌, ℕ, ◌+◌, ◌-◌, ◌/◌, ◌%◌, ◌≤◌, true, false, ltb, List, [], ◌∷◌, ◌++◌, length, take, drop, Option, Some, None, Ok, refl, sym, ap, subst, ◌∙◌, append_assoc, arith, inl, inr}
 use Rattle.std.specs.Prelude.{not, is_some}
 use Rattle.std.specs.Option.{option_to_list}
-use Rattle.std.proofs.lemmas.Bool.{ltb-false, le-ltb, not-true, not-false, not_from_false, not_from_true}
+use Rattle.std.proofs.lemmas.Bool.{ltb-false, le-ltb, not-true, not-false}
 use Rattle.std.proofs.lemmas.List.{take_at, drop_at, take-append-drop, length-append, length-take, length-drop}
-use Rattle.amd64_subset.specs.declared.fault.Fault.{Fault}
 use Rattle.amd64_subset.specs.declared.fault.Fault.TheVariants.{Short, Wrong}
 use Rattle.amd64_subset.specs.declared.prefix.Prefixes.{Prefixes}
 use Rattle.amd64_subset.specs.declared.size.Size.{Size}
@@ -15,12 +14,12 @@ use Rattle.amd64_subset.specs.declared.selectors.Selectors.{Selectors}
 use Rattle.amd64_subset.specs.declared.meaning.Body.{Body}
 use Rattle.amd64_subset.specs.Number.{count_of, signed_of}
 use Rattle.amd64_subset.specs.Row.{action_of}
-use Rattle.amd64_subset.specs.Selectors.{has_sib, allowed, displacement_size, least_displacement, sib_at, selectors_at, or_wrong}
+use Rattle.amd64_subset.specs.Selectors.{has_sib, allowed, displacement_size, sib_at, selectors_at, or_wrong}
 use Rattle.amd64_subset.specs.Meaning.{operand_body}
-use Rattle.amd64_subset.specs.Reading.{Read, ◌>>=◌, numbers_at}
+use Rattle.amd64_subset.specs.Reading.{numbers_at}
 use Rattle.amd64_subset.specs.Decoding.{operated_at}
 use Rattle.amd64_subset.specs.Spelling.{IsOperated}
-use Rattle.amd64_subset.proofs.Steps.{bind_ok, kept, kept_if, chosen, or_wrong_ok, ok_is}
+use Rattle.amd64_subset.proofs.Steps.{bind_ok, kept, chosen, or_wrong_ok, ok_is}
 
 -- ---- numbers
 

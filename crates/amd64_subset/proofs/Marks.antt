@@ -1,17 +1,15 @@
 -- Prefixes: what is read stands there, and what stands there is read.
-use Rattle.std.proofs.Common.{◌≡◌, ℕ, zero, suc, ◌+◌, ◌/◌, ◌≤◌, Bool, true, false, cond, eqb, List, [], ◌∷◌, ◌++◌, length, Option, Some, None, Result, Ok, Err, refl, sym, ap, subst, ◌∙◌, append_assoc, arith, inl, inr, ◌⊎◌}
+use Rattle.std.proofs.Common.{◌≡◌, ℕ, ◌+◌, ◌/◌, ◌≤◌, Bool, true, false, cond, eqb, List, [], ◌∷◌, ◌++◌, Option, Some, None, Ok, refl, sym, ap, subst, ◌∙◌, arith, inl, inr}
 use Rattle.std.specs.Prelude.{not, ◌&&◌, ◌||◌, IfSome}
 use Rattle.std.specs.Option.{option_map, option_to_list}
 use Rattle.std.specs.List.{list_any, list_all}
-use Rattle.std.proofs.lemmas.Bool.{eqb-true, eq-eqb, ne_eqb, and_parts, and_from, or_parts, or_from, or_cases}
-use Rattle.amd64_subset.specs.declared.fault.Fault.{Fault}
-use Rattle.amd64_subset.specs.declared.fault.Fault.TheVariants.{Short, Wrong}
+use Rattle.std.proofs.lemmas.Bool.{eqb-true, eq-eqb, ne_eqb, and_parts, or_parts, or_from, or_cases}
+use Rattle.amd64_subset.specs.declared.fault.Fault.TheVariants.{Wrong}
 use Rattle.amd64_subset.specs.declared.prefix.Rex.{Rex}
 use Rattle.amd64_subset.specs.declared.prefix.Prefixes.{Prefixes}
-use Rattle.amd64_subset.specs.Prefix.{rex_of, bits_of, no_prefixes, takes_only_nops, least_opening, marks_at, possible_at, rex_at, prefixes_at}
-use Rattle.amd64_subset.specs.Reading.{Read, ◌>>=◌}
+use Rattle.amd64_subset.specs.Prefix.{rex_of, bits_of, no_prefixes, takes_only_nops, marks_at, possible_at, rex_at, prefixes_at}
 use Rattle.amd64_subset.specs.Spelling.{is_mark, fs_count, AreMarks, prefixes_of}
-use Rattle.amd64_subset.proofs.Steps.{bind_ok, kept, kept_if, chosen, ok_is}
+use Rattle.amd64_subset.proofs.Steps.{bind_ok, kept, chosen, ok_is}
 
 abbrev pub has : ℕ → List ℕ → Bool
 has byte bytes = list_any (λ x. eqb x byte) bytes

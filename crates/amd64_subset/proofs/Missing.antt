@@ -1,10 +1,10 @@
 -- How many bytes are missing: what stands behind an opcode.
-use Rattle.std.proofs.Common.{◌≡◌, ℕ, zero, suc, ◌+◌, ◌-◌, ◌*◌, ◌/◌, ◌%◌, ◌<◌, ◌≤◌, Bool, true, false, cond, eqb, ltb, List, [], ◌∷◌, ◌++◌, length, take, drop, Option, Some, None, Result, Ok, Err, refl, sym, ap, subst, ◌∙◌, append_assoc, append-nil, arith, inl, inr, ◌⊎◌}
-use Rattle.std.specs.Prelude.{not, ◌&&◌, ◌||◌, is_none, is_some, IfSome, replicate}
+use Rattle.std.proofs.Common.{◌≡◌, ℕ, zero, suc, ◌+◌, ◌-◌, ◌/◌, ◌%◌, ◌<◌, ◌≤◌, Bool, true, false, cond, eqb, ltb, List, [], ◌∷◌, ◌++◌, length, take, drop, Option, Some, None, Result, Ok, Err, refl, sym, ap, ◌∙◌, arith, inl, inr}
+use Rattle.std.specs.Prelude.{not, replicate}
 use Rattle.std.specs.List.{list_all}
 use Rattle.std.specs.Option.{option_to_list}
 use Rattle.std.proofs.lemmas.Bool.{ltb-true, lt-ltb, le-ltb, not-false, and_from}
-use Rattle.std.proofs.lemmas.List.{length-append, length-take, length-drop, length-replicate}
+use Rattle.std.proofs.lemmas.List.{length-append, length-drop, length-replicate}
 use Rattle.amd64_subset.specs.declared.fault.Fault.{Fault}
 use Rattle.amd64_subset.specs.declared.fault.Fault.TheVariants.{Short, Wrong}
 use Rattle.amd64_subset.specs.declared.instr.Operation.TheVariants as operation
@@ -29,7 +29,7 @@ use Rattle.amd64_subset.specs.Meaning.{width_of, alone_body, numbered_body, oper
 use Rattle.amd64_subset.specs.Reading.{Read, ◌>>=◌, numbers_at}
 use Rattle.amd64_subset.specs.Decoding.{operated_at, body_at}
 use Rattle.amd64_subset.proofs.Steps.{bind_ok, bind_short, kept, kept_short, or_wrong_ok, or_wrong_short, ok_is}
-use Rattle.amd64_subset.proofs.Fields.{HasNumbers, numbers_takes, operated_takes}
+use Rattle.amd64_subset.proofs.Fields.{numbers_takes, operated_takes}
 
 abbrev pub is_byte : ℕ → Bool
 is_byte byte = ltb byte 256

@@ -1,11 +1,10 @@
 -- How many bytes are missing: opcodes.
-use Rattle.std.proofs.Common.{◌≡◌, ℕ, zero, suc, ◌+◌, ◌-◌, ◌/◌, ◌%◌, ◌<◌, ◌≤◌, Bool, true, false, cond, eqb, ltb, List, [], ◌∷◌, ◌++◌, length, Option, Some, None, Result, Ok, Err, refl, sym, ap, subst, ◌∙◌, append_assoc, append-nil, arith, inl, inr, ◌⊎◌}
-use Rattle.std.specs.Prelude.{not, ◌&&◌, ◌||◌, is_none, is_some, IfSome, replicate}
+use Rattle.std.proofs.Common.{◌≡◌, ℕ, ◌+◌, ◌/◌, ◌%◌, ◌≤◌, Bool, true, false, cond, eqb, List, [], ◌∷◌, ◌++◌, length, Option, Some, None, Ok, Err, refl, sym, ap, subst, ◌∙◌, arith, inl, inr}
+use Rattle.std.specs.Prelude.{not, ◌&&◌, ◌||◌, is_none, is_some}
 use Rattle.std.specs.List.{list_all}
 use Rattle.std.specs.Option.{option_map}
 use Rattle.std.proofs.lemmas.Bool.{eqb-true, and_parts, and_from}
-use Rattle.std.proofs.lemmas.List.{length-append, length-replicate}
-use Rattle.amd64_subset.specs.declared.fault.Fault.{Fault}
+use Rattle.std.proofs.lemmas.List.{length-append}
 use Rattle.amd64_subset.specs.declared.fault.Fault.TheVariants.{Short, Wrong}
 use Rattle.amd64_subset.specs.declared.prefix.Rex.{Rex}
 use Rattle.amd64_subset.specs.declared.prefix.Prefixes.{Prefixes}
@@ -21,17 +20,16 @@ use Rattle.amd64_subset.specs.declared.row.Group.TheVariants as group
 use Rattle.amd64_subset.specs.declared.row.Action.{Action}
 use Rattle.amd64_subset.specs.declared.row.Action.TheVariants as action
 use Rattle.amd64_subset.specs.declared.meaning.Body.{Body}
-use Rattle.amd64_subset.specs.Number.{count_of}
-use Rattle.amd64_subset.specs.Prefix.{bits_of, takes_only_nops, has_none, least_opcode, least_escaped}
-use Rattle.amd64_subset.specs.Row.{condition_of, row_of, fixed_row_of, escaped_row_of, takes, accesses, pads}
+use Rattle.amd64_subset.specs.Prefix.{bits_of, takes_only_nops, least_opcode, least_escaped}
+use Rattle.amd64_subset.specs.Row.{condition_of, row_of, fixed_row_of, escaped_row_of, takes, accesses}
 use Rattle.amd64_subset.specs.Selectors.{selectors_at}
 use Rattle.amd64_subset.specs.Reading.{Read, ◌>>=◌}
 use Rattle.amd64_subset.specs.Decoding.{accepted_at, escaped_at, end_branch_at, row_at, operated_at, body_at}
 use Rattle.amd64_subset.specs.Spelling.{named}
-use Rattle.amd64_subset.proofs.Steps.{bind_ok, bind_short, kept, kept_if, kept_if_short, chosen, ok_is}
+use Rattle.amd64_subset.proofs.Steps.{bind_ok, bind_short, kept_if, kept_if_short, ok_is}
 use Rattle.amd64_subset.proofs.Parts.{accepted_takes, row_again}
 use Rattle.amd64_subset.proofs.Marks.{Possible}
-use Rattle.amd64_subset.proofs.Missing.{is_byte, Lacks, Fills, Cuts, Completes, short_is, least_of, body_least, body_cuts, body_completes}
+use Rattle.amd64_subset.proofs.Missing.{is_byte, Fills, Cuts, Completes, short_is, least_of, body_least, body_cuts, body_completes}
 
 -- an opcode and what stands behind it
 abbrev pub coded : Prefixes → List ℕ → Read Body

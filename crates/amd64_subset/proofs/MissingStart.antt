@@ -1,27 +1,23 @@
 -- How many bytes are missing: prefixes, and the whole.
-use Rattle.std.proofs.Common.{◌≡◌, ℕ, zero, suc, ◌+◌, ◌-◌, ◌/◌, ◌%◌, ◌<◌, ◌≤◌, Bool, true, false, cond, eqb, ltb, leb, List, [], ◌∷◌, ◌++◌, length, take, drop, Option, Some, None, Result, Ok, Err, refl, sym, ap, subst, ◌∙◌, append_assoc, append-nil, arith, inl, inr, ◌⊎◌}
-use Rattle.std.specs.Prelude.{not, ◌&&◌, ◌||◌, is_none, is_some, IfSome}
+use Rattle.std.proofs.Common.{◌≡◌, ℕ, ◌+◌, ◌/◌, ◌≤◌, Bool, true, false, cond, eqb, List, [], ◌∷◌, ◌++◌, length, Some, None, Ok, Err, refl, sym, subst, ◌∙◌, arith}
+use Rattle.std.specs.Prelude.{◌&&◌, ◌||◌}
 use Rattle.std.specs.List.{list_all}
 use Rattle.std.proofs.lemmas.Bool.{and_from}
-use Rattle.std.proofs.lemmas.List.{length-append}
-use Rattle.amd64_subset.specs.declared.fault.Fault.{Fault}
 use Rattle.amd64_subset.specs.declared.fault.Fault.TheVariants.{Short, Wrong}
-use Rattle.amd64_subset.specs.declared.prefix.Rex.{Rex}
 use Rattle.amd64_subset.specs.declared.prefix.Prefixes.{Prefixes}
 use Rattle.amd64_subset.specs.declared.row.Row.{Row}
 use Rattle.amd64_subset.specs.declared.row.Row.TheVariants as row
 use Rattle.amd64_subset.specs.declared.row.Action.TheVariants as action
 use Rattle.amd64_subset.specs.declared.meaning.Body.{Body}
-use Rattle.amd64_subset.specs.Prefix.{rex_of, bits_of, no_bits, no_prefixes, takes_only_nops, least_opening, least_opcode, marks_at, possible_at, rex_at, prefixes_at}
+use Rattle.amd64_subset.specs.Prefix.{rex_of, no_bits, no_prefixes, takes_only_nops, least_opening, marks_at, possible_at, rex_at, prefixes_at}
 use Rattle.amd64_subset.specs.Row.{row_of, fixed_row_of, takes}
 use Rattle.amd64_subset.specs.Reading.{Read, ◌>>=◌}
-use Rattle.amd64_subset.specs.Decoding.{row_at, body_at, accepted_at, instruction_at}
+use Rattle.amd64_subset.specs.Decoding.{row_at, body_at, instruction_at}
 use Rattle.amd64_subset.specs.Spelling.{named}
-use Rattle.amd64_subset.proofs.Steps.{bind_ok}
 use Rattle.amd64_subset.proofs.Parts.{row_again}
 use Rattle.amd64_subset.proofs.Marks.{prefixed, Possible}
-use Rattle.amd64_subset.proofs.Missing.{is_byte, Lacks, Fills, Cuts, Completes, bind_assoc, short_is, least_of}
-use Rattle.amd64_subset.proofs.MissingCode.{coded, least_code, coded_least, HasRex, coded_cuts_end, coded_cuts, coded_completes, code_end_completes, Enough, register_enough, nop_enough, register_fits}
+use Rattle.amd64_subset.proofs.Missing.{is_byte, Fills, Cuts, Completes, bind_assoc, short_is, least_of}
+use Rattle.amd64_subset.proofs.MissingCode.{coded, coded_least, HasRex, coded_cuts_end, coded_cuts, coded_completes, code_end_completes, Enough, register_enough, nop_enough}
 
 -- what follows the prefixes before REX
 abbrev pub opened : Prefixes → List ℕ → Read Body

@@ -1,29 +1,25 @@
 -- The opcode and what stands behind it: what is read stands there, and what stands there is read.
-use Rattle.std.proofs.Common.{◌≡◌, ℕ, zero, suc, ◌+◌, ◌-◌, ◌/◌, ◌%◌, ◌<◌, ◌≤◌, Bool, true, false, cond, eqb, List, [], ◌∷◌, ◌++◌, length, Option, Some, None, Result, Ok, Err, refl, sym, ap, subst, ◌∙◌, append_assoc, arith, inl, inr, ◌⊎◌}
-use Rattle.std.specs.Prelude.{not, ◌&&◌, ◌||◌, is_none}
+use Rattle.std.proofs.Common.{◌≡◌, ℕ, ◌/◌, true, false, eqb, List, [], ◌∷◌, ◌++◌, length, Option, Some, None, Ok, refl, sym, ap, subst, ◌∙◌, arith, inl, inr}
+use Rattle.std.specs.Prelude.{◌&&◌}
 use Rattle.std.proofs.lemmas.Bool.{eqb-true, ne_eqb, and_parts, or_from}
-use Rattle.amd64_subset.specs.declared.fault.Fault.{Fault}
-use Rattle.amd64_subset.specs.declared.fault.Fault.TheVariants.{Short, Wrong}
-use Rattle.amd64_subset.specs.declared.instr.Operation.{Operation}
+use Rattle.amd64_subset.specs.declared.fault.Fault.TheVariants.{Wrong}
 use Rattle.amd64_subset.specs.declared.instr.Operation.TheVariants as operation
 use Rattle.amd64_subset.specs.declared.prefix.Rex.{Rex}
 use Rattle.amd64_subset.specs.declared.prefix.Prefixes.{Prefixes}
-use Rattle.amd64_subset.specs.declared.size.Size.{Size}
 use Rattle.amd64_subset.specs.declared.size.Size.TheVariants as size
 use Rattle.amd64_subset.specs.declared.size.Numbers.{Numbers}
 use Rattle.amd64_subset.specs.declared.row.Row.{Row}
 use Rattle.amd64_subset.specs.declared.row.Row.TheVariants as row
-use Rattle.amd64_subset.specs.declared.row.Action.{Action}
 use Rattle.amd64_subset.specs.declared.meaning.Body.{Body}
-use Rattle.amd64_subset.specs.Number.{count_of, signed_of}
+use Rattle.amd64_subset.specs.Number.{signed_of}
 use Rattle.amd64_subset.specs.Prefix.{bits_of}
 use Rattle.amd64_subset.specs.Row.{row_of, fixed_row_of, escaped_row_of, takes}
 use Rattle.amd64_subset.specs.Meaning.{width_of, alone_body, numbered_body}
-use Rattle.amd64_subset.specs.Reading.{Read, ◌>>=◌, numbers_at}
-use Rattle.amd64_subset.specs.Decoding.{accepted_at, escaped_at, end_branch_at, row_at, body_at, operated_at}
-use Rattle.amd64_subset.specs.Spelling.{named, is_mark, IsOperated, HasBody}
-use Rattle.amd64_subset.proofs.Steps.{bind_ok, kept, kept_if, chosen, ok_is}
-use Rattle.amd64_subset.proofs.Fields.{HasNumbers, numbers_takes, numbers_again, operated_takes, operated_again}
+use Rattle.amd64_subset.specs.Reading.{Read, numbers_at}
+use Rattle.amd64_subset.specs.Decoding.{accepted_at, escaped_at, end_branch_at, row_at, body_at}
+use Rattle.amd64_subset.specs.Spelling.{named, is_mark, HasBody}
+use Rattle.amd64_subset.proofs.Steps.{bind_ok, kept_if, chosen, ok_is}
+use Rattle.amd64_subset.proofs.Fields.{numbers_takes, numbers_again, operated_takes, operated_again}
 
 -- ---- what stands behind the opcode
 

@@ -1,5 +1,5 @@
 -- Where an instruction's fields lie.
-use Rattle.std.proofs.Common.{◌≡◌, ℕ, zero, suc, ◌+◌, ◌-◌, ◌/◌, ◌%◌, ◌<◌, ◌≤◌, Bool, true, false, cond, eqb, List, [], ◌∷◌, ◌++◌, length, take, drop, Option, Some, None, Result, Ok, Err, refl, sym, ap, subst, ◌∙◌, append_assoc, arith, inl, inr, ◌⊎◌}
+use Rattle.std.proofs.Common.{◌≡◌, ℕ, ◌+◌, ◌<◌, ◌≤◌, Bool, true, false, cond, List, ◌++◌, length, take, Option, Some, None, sym, ap, arith}
 use Rattle.std.specs.Prelude.{IfSome}
 use Rattle.std.specs.Option.{option_to_list}
 use Rattle.std.proofs.lemmas.List.{length-append, length-take}
@@ -7,7 +7,6 @@ use Rattle.amd64_subset.specs.declared.instr.Decoded.{Decoded}
 use Rattle.amd64_subset.specs.declared.prefix.Prefixes.{Prefixes}
 use Rattle.amd64_subset.specs.declared.size.Size.{Size}
 use Rattle.amd64_subset.specs.declared.size.Size.TheVariants as size
-use Rattle.amd64_subset.specs.declared.size.Numbers.{Numbers}
 use Rattle.amd64_subset.specs.declared.row.Row.{Row}
 use Rattle.amd64_subset.specs.declared.row.Row.TheVariants as row
 use Rattle.amd64_subset.specs.declared.row.Numbered.{Numbered}
@@ -17,11 +16,11 @@ use Rattle.amd64_subset.specs.declared.meaning.Body.{Body}
 use Rattle.amd64_subset.specs.Number.{count_of, signed_of}
 use Rattle.amd64_subset.specs.Prefix.{bits_of}
 use Rattle.amd64_subset.specs.Selectors.{displacement_size}
-use Rattle.amd64_subset.specs.Meaning.{width_of, place_of, takes_immediate, alone_body, numbered_body, operand_body}
-use Rattle.amd64_subset.specs.Decoding.{before, placed, decoded}
-use Rattle.amd64_subset.specs.Spelling.{prefixes_of, named, IsOperated, HasBody, HasParts, Spells, HasField, IsPlaced}
-use Rattle.amd64_subset.proofs.Parts.{IsOpcode, is_opcode}
-use Rattle.amd64_subset.proofs.Whole.{Found, decoded_found}
+use Rattle.amd64_subset.specs.Meaning.{width_of, place_of, takes_immediate, numbered_body, operand_body}
+use Rattle.amd64_subset.specs.Decoding.{before, decoded}
+use Rattle.amd64_subset.specs.Spelling.{prefixes_of, IsOperated, HasBody, Spells, HasField, IsPlaced}
+use Rattle.amd64_subset.proofs.Parts.{is_opcode}
+use Rattle.amd64_subset.proofs.Whole.{decoded_found}
 
 -- a place from the end that leaves so many bytes, four of them the field's own
 abbrev pub IsBack : ℕ → ℕ → Type 0

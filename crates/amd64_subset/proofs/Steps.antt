@@ -1,5 +1,5 @@
 -- Steps of reading: what did not fail.
-use Rattle.std.proofs.Common.{◌≡◌, ℕ, Bool, true, false, cond, List, Option, Some, None, Result, Ok, Err, refl, inl, inr, ◌⊎◌}
+use Rattle.std.proofs.Common.{◌≡◌, ℕ, Bool, true, false, cond, Option, Some, None, Result, Ok, Err, refl, inl, inr, ◌⊎◌}
 use Rattle.amd64_subset.specs.declared.fault.Fault.{Fault}
 use Rattle.amd64_subset.specs.declared.fault.Fault.TheVariants.{Short, Wrong}
 use Rattle.amd64_subset.specs.Reading.{◌>>=◌}

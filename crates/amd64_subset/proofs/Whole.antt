@@ -1,28 +1,24 @@
 -- A whole instruction: what is read is spelled so, and what is spelled so is read.
-use Rattle.std.proofs.Common.{◌≡◌, ℕ, zero, suc, ◌+◌, ◌-◌, ◌/◌, ◌%◌, ◌<◌, ◌≤◌, Bool, true, false, cond, eqb, List, [], ◌∷◌, ◌++◌, length, take, drop, Option, Some, None, Result, Ok, Err, refl, sym, ap, subst, ◌∙◌, append_assoc, arith, inl, inr, ◌⊎◌}
-use Rattle.std.specs.Prelude.{not, ◌&&◌, ◌||◌, is_none, is_some, IfSome}
-use Rattle.std.specs.Option.{option_map, option_to_list}
+use Rattle.std.proofs.Common.{◌≡◌, ℕ, ◌+◌, ◌-◌, ◌≤◌, Bool, true, false, List, ◌++◌, length, take, drop, Option, Some, Ok, Err, refl, sym, ap, subst, ◌∙◌, append_assoc, arith}
+use Rattle.std.specs.Prelude.{not, ◌&&◌, ◌||◌}
+use Rattle.std.specs.Option.{option_to_list}
 use Rattle.std.proofs.Math.Seq.{take-append-add}
-use Rattle.std.proofs.lemmas.List.{take_at, drop_at, take-append-drop, length-append, length-take, length-drop}
-use Rattle.amd64_subset.specs.declared.fault.Fault.{Fault}
-use Rattle.amd64_subset.specs.declared.fault.Fault.TheVariants.{Short, Wrong}
+use Rattle.std.proofs.lemmas.List.{take_at, take-append-drop, length-append, length-take}
 use Rattle.amd64_subset.specs.declared.instr.Decoded.{Decoded}
 use Rattle.amd64_subset.specs.declared.prefix.Rex.{Rex}
 use Rattle.amd64_subset.specs.declared.prefix.Prefixes.{Prefixes}
 use Rattle.amd64_subset.specs.declared.row.Row.{Row}
 use Rattle.amd64_subset.specs.declared.row.Row.TheVariants as row
-use Rattle.amd64_subset.specs.declared.row.Group.{Group}
 use Rattle.amd64_subset.specs.declared.row.Group.TheVariants as group
-use Rattle.amd64_subset.specs.declared.row.Action.TheVariants as action
 use Rattle.amd64_subset.specs.declared.meaning.Body.{Body}
-use Rattle.amd64_subset.specs.Prefix.{rex_of, bits_of, takes_only_nops, prefixes_at}
-use Rattle.amd64_subset.specs.Row.{takes, accesses, pads}
-use Rattle.amd64_subset.specs.Reading.{Read, ◌>>=◌}
-use Rattle.amd64_subset.specs.Decoding.{row_at, body_at, instruction_at, placed, finished, decoded}
-use Rattle.amd64_subset.specs.Spelling.{is_mark, AreMarks, prefixes_of, named, HasBody, HasParts, Spells}
-use Rattle.amd64_subset.proofs.Steps.{bind_ok, ok_is}
-use Rattle.amd64_subset.proofs.Parts.{body_takes, body_again, HasRow, row_takes, row_again, IsOpcode, is_opcode}
-use Rattle.amd64_subset.proofs.Marks.{Begins, begins, Possible, PrefixesTaken, prefixes_takes, prefixes_again}
+use Rattle.amd64_subset.specs.Prefix.{bits_of, takes_only_nops, prefixes_at}
+use Rattle.amd64_subset.specs.Row.{takes, accesses}
+use Rattle.amd64_subset.specs.Reading.{Read}
+use Rattle.amd64_subset.specs.Decoding.{row_at, instruction_at, placed, finished, decoded}
+use Rattle.amd64_subset.specs.Spelling.{prefixes_of, named, HasBody, HasParts, Spells}
+use Rattle.amd64_subset.proofs.Steps.{bind_ok}
+use Rattle.amd64_subset.proofs.Parts.{body_takes, body_again, row_takes, row_again, IsOpcode, is_opcode}
+use Rattle.amd64_subset.proofs.Marks.{Begins, begins, Possible, prefixes_takes, prefixes_again}
 
 regroup : (m x o f rest bytes a b : List ℕ) → bytes ≡ m ++ (x ++ a) → a ≡ o ++ b → b ≡ f ++ rest → bytes ≡ (m ++ (x ++ (o ++ f))) ++ rest
 regroup m x o f rest bytes a b whole next last = rw (whole, next, last) (simp append_assoc)

@@ -1,6 +1,5 @@
 -- Reading an instruction from left to right.
-use Rattle.std.specs.Prelude.{ℕ, ◌-◌, Bool, true, false, List, [], ◌∷◌, length, take, Option, Some, None, Result, Ok, Err, not, ◌==◌, if◌then◌else◌}
-use Rattle.amd64_subset.specs.declared.fault.Fault.{Fault}
+use Rattle.std.specs.Prelude.{ℕ, ◌-◌, List, [], ◌∷◌, length, take, Option, Some, None, Ok, Err, ◌==◌, if◌then◌else◌}
 use Rattle.amd64_subset.specs.declared.fault.Fault.TheVariants.{Short, Wrong}
 use Rattle.amd64_subset.specs.declared.instr.Operation.TheVariants as operation
 use Rattle.amd64_subset.specs.declared.instr.Decoded.{Decoded}

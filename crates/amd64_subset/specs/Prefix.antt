@@ -1,6 +1,5 @@
 -- What stands before an opcode (Intel's manual, volume 2, 2.1.1 and 2.2.1).
-use Rattle.std.specs.Prelude.{ℕ, ◌/◌, ◌%◌, Bool, true, false, List, [], ◌∷◌, Option, Some, None, Result, Ok, Err, is_none, unwrap_or, not, ◌&&◌, ◌||◌, ◌==◌, if◌then◌else◌}
-use Rattle.amd64_subset.specs.declared.fault.Fault.{Fault}
+use Rattle.std.specs.Prelude.{ℕ, ◌/◌, ◌%◌, Bool, true, false, List, [], ◌∷◌, Some, None, Ok, Err, is_none, unwrap_or, not, ◌&&◌, ◌||◌, ◌==◌, if◌then◌else◌}
 use Rattle.amd64_subset.specs.declared.fault.Fault.TheVariants.{Short, Wrong}
 use Rattle.amd64_subset.specs.declared.prefix.Rex.{Rex}
 use Rattle.amd64_subset.specs.declared.prefix.Prefixes.{Prefixes}

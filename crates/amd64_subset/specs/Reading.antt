@@ -1,7 +1,7 @@
 -- Reading from left to right, and what is missing where the bytes are too few.
-use Rattle.std.specs.Prelude.{◌≡◌, ℕ, ◌+◌, ◌-◌, List, [], ◌∷◌, length, take, drop, Option, Some, None, Result, Ok, Err, nat_lt, ◌==◌, if◌then◌else◌}
+use Rattle.std.specs.Prelude.{◌≡◌, ℕ, ◌+◌, ◌-◌, List, length, take, drop, Result, Ok, Err, nat_lt, if◌then◌else◌}
 use Rattle.amd64_subset.specs.declared.fault.Fault.{Fault}
-use Rattle.amd64_subset.specs.declared.fault.Fault.TheVariants.{Short, Wrong}
+use Rattle.amd64_subset.specs.declared.fault.Fault.TheVariants.{Short}
 use Rattle.amd64_subset.specs.declared.size.Size.{Size}
 use Rattle.amd64_subset.specs.declared.size.Numbers.{Numbers}
 use Rattle.amd64_subset.specs.Number.{count_of, signed_of}

@@ -1,11 +1,17 @@
 //! Laws of spelling, for those who reason about code that they read in parts. Each is a function that does nothing; its
 //! clause is the law.
 
-ghost use Rattle.std.specs.Prelude.{◌≡◌, ◌≤◌, ◌++◌, ◌↔◌, ℕ, true, false, List, Some, None, length, take};
+ghost use Rattle.std.specs.Prelude.{◌≡◌, ◌≤◌, ◌<◌, ◌^◌, ◌++◌, ◌↔◌, ℕ, true, false, List, Some, None, length, take, slice_index};
 ghost use Rattle.amd64_subset.specs.declared.instr.Decoded.{Decoded};
 ghost use Rattle.amd64_subset.specs.Beginning.{BeginsSpelling, begins_of};
+ghost use Rattle.amd64_subset.specs.Canonical.{IsSpellable};
 ghost use Rattle.amd64_subset.specs.Decoding.{decoded};
 ghost use Rattle.amd64_subset.specs.Spelling.{Spells, IsPlaced, field_of, with_displacement, with_immediate};
+
+/// What is read of bytes has a spelling, so `encode` takes it.
+pub fn spellable()
+    ensures { (bytes : List ℕ) (d : Decoded) → ((i : ℕ) → slice_index bytes i < 2 ^ 8) → decoded bytes ≡ Some d → IsSpellable d.instr }
+{}
 
 /// No spelling begins another, and a list of bytes spells one instruction at most: where two
 /// spellings begin one list, they are the same.

@@ -1,7 +1,47 @@
-//! Instructions of x86-64.
+//! The instructions of x86-64 that a program with thread-local storage needs, as bytes and as values.
+//!
+//! The subset has the moves, the arithmetic, the jumps, calls and stack operations that a compiler
+//! writes for small functions: about forty rows of the opcode map, each with every register, address
+//! and prefix that it may have. `decode` reads the instruction at the front of some bytes, `begins`
+//! says whether bytes too few for one may become one, and `encode` writes one.
+//!
+//! An instruction is spelled by up to 15 bytes, in this order:
+//!
+//! - prefixes: 64 adds the thread pointer (%fs) to the address of a memory operand; 66 and 2e only
+//!   pad, 66 before a nop or a REX with W, 2e before a nop;
+//! - REX, 40 to 4f: W for 64 bits, and the fourth bits of three register numbers;
+//! - the opcode of one byte, or of two that begin with 0f (endbr64 alone has four);
+//! - ModRM, which names a register and an operand, and SIB, where the operand has an index or %rsp or
+//!   %r12 as its base;
+//! - a displacement and an immediate, little-endian and sign-extended.
+//!
+//! So `mov %fs:16(%rax,%rcx,4), %rdx` is
+//!
+//! ```text
+//! 64    48     8b      54      88    10
+//! %fs   REX.W  mov     ModRM   SIB   16
+//! ```
+//!
+//! Two spellings may be one instruction: a displacement of 16 fits one byte or four, `mov %eax, %ecx`
+//! is 89 c1 or 8b c8, and a REX may stand where no bit of it is read. An `Instr` is what they have in
+//! common, and `Decoded` adds what a linker needs of the one that it met: the length, and where the
+//! four-byte fields lie. `encode` takes the spelling with no redundant prefix, then the shortest, then
+//! the first in the rows of the opcode map; the assembler mostly does the same.
+//!
+//! A linker rewrites code in place, and a machine runs code whose end may not be mapped. Both read
+//! bytes in parts, and must tell bytes that are no instruction from bytes that end too early: hence
+//! `begins`. No spelling begins another (`laws::one_spelling`), so what was read stays read whatever
+//! follows.
+//!
+//! `specs/Spelling` says what spells an instruction, `specs/Row` has the opcode map, and
+//! `specs/Canonical` says which spelling is written. They restate the Intel 64 manual, volume 2,
+//! chapter 2 and appendix A, as does AMD's, volume 3; the operands of the code sequences are those of
+//! the x86-64 psABI, in its part on thread-local storage. The opcodes of 8 and 16 bits, the string,
+//! vector and system instructions, and prefixes that lock or repeat are left out.
 #![tactic(auto)]
 
 mod fault;
+mod form;
 mod instr;
 pub mod laws;
 mod meaning;
@@ -12,11 +52,13 @@ mod register;
 mod row;
 mod selectors;
 mod size;
+mod writing;
 
 pub use instr::{Arithmetic, Condition, Decoded, Instr, Operation, Shift, Target, Width};
 pub use operand::{Base, Index, Memory, Operand, Operands, Scale};
 pub use reading::{begins, decode};
 pub use register::Register;
+pub use writing::encode;
 
 #[cfg(test)]
 mod tests;

@@ -6,8 +6,10 @@ use std::test::Fail;
 mod corners;
 mod listing;
 mod text;
+mod written;
 
 use corners::CORNERS;
+use written::WRITTEN;
 
 /// Each instruction of the listing is read with its length and its text, and each of its fronts
 /// begins a spelling and is none.
@@ -86,4 +88,47 @@ fn keeps_to_the_corners(rt: HostRuntime) {
         assert_eq!(rt; read.map(|read| read.len), *len, "{bytes:?}");
         assert_eq!(rt; begins(bytes), *starts, "{bytes:?}");
     }
+}
+
+/// What is read of the first bytes is written as the second, nothing behind them, and read again.
+fn writes(rt: &impl Abort, from: &[u8], to: &[u8]) -> Result<(), Fail> {
+    let Some(read) = decode(from) else {
+        return Err(Fail::from("it is read"));
+    };
+    let mut written = [0xcc; 15];
+    let len = encode(&read.instr, &mut written) as usize;
+    assert_eq!(rt; &written[..len], to, "{from:?}");
+    assert!(rt; written[len..].iter().all(|byte| *byte == 0xcc), "{from:?}");
+    let again = decode(&written);
+    assert_eq!(rt;
+        again.map(|again| again.instr),
+        Some(read.instr),
+        "{from:?}"
+    );
+    assert_eq!(rt;
+        again.map(|again| again.len as usize),
+        Some(len),
+        "{from:?}"
+    );
+    Ok(())
+}
+
+#[test]
+fn writes_the_first_of_the_shortest(rt: HostRuntime) -> Result<(), Fail> {
+    for (from, to) in &WRITTEN {
+        writes(&rt, from, to)?;
+    }
+    Ok(())
+}
+
+/// The assembler writes the shortest spelling of these, too.
+#[test]
+fn writes_what_the_assembler_writes(rt: HostRuntime) -> Result<(), Fail> {
+    for (_, bytes, _) in &listing::FIRST {
+        writes(&rt, bytes, bytes)?;
+    }
+    for (_, bytes, _) in &listing::SIXTH {
+        writes(&rt, bytes, bytes)?;
+    }
+    Ok(())
 }
