@@ -79,7 +79,7 @@ module _ (executable : Executable) (entry : List ℕ → Option ℕ) (thread : �
   unfolding start_at
   ran-image fuel call symbol seen own f g h =
       ap (λ (state : State ℕ Bool). run (machine_of plain_operations) (4 * fuel) (left state (memory_at (fresh_space plain_operations seen own)))) (sym (plain_start thread call.place call.a call.b call.c symbol f g h))
-      ∙ space_run plain_operations (stack_start thread) (fixed_of plain_operations (loaded_of executable entry) thread) (fixed_none (loaded_of executable entry) thread (refl, (refl, tt))) (4 * fuel)
+      ∙ space_run plain_operations (stack_start thread) (fixed_of plain_operations (loaded_of executable entry) thread) (fixed_none (loaded_of executable entry) thread (refl, (refl, (refl, tt)))) (4 * fuel)
       (left (call_start plain_operations thread call.place (line_of symbol call)) (fresh_space plain_operations seen own))
 
   turned : (fuel : ℕ) (call : Call) (outcome : Answer) (symbol : List ℕ) (todo : List CallLine) (said : List Said) (before seen : List Event) (at : Held) (stop : Stop) (new ran : AddressSpace ℕ)

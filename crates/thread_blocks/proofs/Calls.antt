@@ -125,7 +125,7 @@ pub run_says : (executable : Executable) (thread fuel : ℕ) (call : Call) (outc
     → answer_of_stop stop ≡ Some outcome → IsCallOutcome executable thread fuel call outcome
 run_says executable thread fuel call outcome stop f g h e k = record {
   says = λ entry symbol found.
-      call_run Event (loaded_of executable entry) thread (refl, (refl, tt)) fuel call.place (record { symbol = symbol; a = call.a; b = call.b; c = call.c }) found
+      call_run Event (loaded_of executable entry) thread (refl, (refl, (refl, tt))) fuel call.place (record { symbol = symbol; a = call.a; b = call.b; c = call.c }) found
       ∙ ap (λ (answer : Option Answer). option_map (λ outcome. record { points = 0 ∷ []; outcome = outcome }) answer ∷ [])
       (ap (λ (start : State ℕ Bool). answer_of_stop (stop_of (run (machine_of plain_operations) (4 * fuel) (left start (record { ranges = call_ranges executable thread; fields = [] })))))
       (plain_start thread call.place call.a call.b call.c symbol f g h)

@@ -20,7 +20,7 @@ constant_range part = record { start = part.place; bytes = part.bytes.items; rea
 
 -- a block as it is at first: the initial image and then zeros (gABI, "Program Loading": p_filesz and p_memsz)
 abbrev pub block_bytes : BlockImage → List ℕ
-block_bytes block = block.initial.items ++ zeros 0 (block.size - length block.initial.items)
+block_bytes block = block.initial.bytes.items ++ zeros 0 (block.size - length block.initial.bytes.items)
 
 -- the block lies below the thread pointer (Drepper, section 3, variant II)
 abbrev pub block_range : BlockImage → ℕ → Range ℕ
@@ -29,7 +29,7 @@ block_range block thread = record { start = pointer_of thread - block.offset; by
 abbrev pub loaded_of : Executable → (List ℕ → Option ℕ) → Loaded ℕ
 loaded_of executable entry = record {
   entry = entry;
-  fixed = code_range executable.code ∷ constant_range executable.constants ∷ [];
+  fixed = code_range executable.code ∷ constant_range executable.constants ∷ constant_range executable.block.initial ∷ [];
   blocks = λ thread. block_range executable.block thread ∷ [];
 }
 

@@ -94,7 +94,7 @@ fn block_of(alloc: Global, block: &BlockImage, thread: u32) -> Result<GuestRange
     requires { thread ≤ 64 }
     ensures { IfOk result (λ range. range ≡ block_range block.now thread) }
 {
-    let mut bytes = Vec::from_slice(alloc, block.initial.as_slice())?;
+    let mut bytes = Vec::from_slice(alloc, block.initial.bytes.as_slice())?;
     let rest = block.size.saturating_sub(bytes.len() as u64);
     bytes.extend_from_slice(zeros(alloc, rest as usize)?.as_slice())?;
     let start = thread_pointer(thread).saturating_sub(block.offset);
@@ -129,5 +129,6 @@ pub(crate) fn rest_of(
     memory.add_range(pointer_word(alloc, thread)?)?;
     memory.add_range(code_of(alloc, &executable.code)?)?;
     memory.add_range(constants_of(alloc, &executable.constants)?)?;
+    memory.add_range(constants_of(alloc, &executable.block.initial)?)?;
     Ok(memory)
 }

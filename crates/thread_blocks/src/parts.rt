@@ -10,8 +10,9 @@ pub struct Part {
 /// What each thread's block of thread-local storage is made of.
 #[derive(Drop)]
 pub struct BlockImage {
-    /// The bytes that a block begins with; the rest of it are zeros.
-    pub initial: Vec<u8>,
+    /// The initial image, which can be read where it stands in the image. A block begins with these bytes; the rest of it are
+    /// zeros.
+    pub initial: Part,
     /// How many bytes a block has.
     pub size: u64,
     /// How many bytes below the thread pointer a block begins.

@@ -17,7 +17,10 @@ fn executable(alloc: Global, code: &[u8]) -> Result<Executable, Fail> {
             bytes: [7, 0, 0, 0].to_vec(alloc)?,
         },
         block: BlockImage {
-            initial: [0x2a, 0, 0, 0].to_vec(alloc)?,
+            initial: Part {
+                place: 0x40_2000,
+                bytes: [0x2a, 0, 0, 0].to_vec(alloc)?,
+            },
             size: 8,
             offset: 8,
         },
