@@ -1,5 +1,5 @@
 -- Threads of one kind follow threads of another, turn by turn and in any order; and an order gives each thread fronts of its history.
-use Rattle.std.proofs.Common.{◌≡◌, ◌⊎◌, ℕ, zero, suc, ◌+◌, ◌-◌, ◌*◌, ◌≤◌, List, [], ◌∷◌, ◌++◌, map, length, Option, Some, None, refl, sym, ap, subst, ◌∙◌, inl, inr, arith, append_assoc, append-nil}
+use Rattle.std.proofs.Common.{◌≡◌, ◌⊎◌, ℕ, zero, suc, ◌+◌, ◌-◌, ◌*◌, ◌≤◌, List, [], ◌∷◌, ◌++◌, map, length, take, Option, Some, None, refl, sym, ap, subst, ◌∙◌, inl, inr, arith, append_assoc, append-nil}
 use Rattle.std.specs.Prelude.{slice_get, slice_set, option_and_then}
 use Rattle.guest_machine.specs.declared.stop.Stop.{Stop}
 use Rattle.guest_machine.specs.Run.{Outcome, Ended, Waits, run}
@@ -7,7 +7,7 @@ use Rattle.guest_machine.specs.Simulate.{SameOut}
 use Rattle.guest_machine.specs.Follow.{All2}
 use Rattle.guest_machine.proofs.Simulate.{same_run}
 use Rattle.thread_blocks.specs.Turns.{Ending, Stopped, Said, Begun, Says, Calls, Turns, Phase, Idle, Mid, Thread, World, with_last, over_with, after_run, after_look, turn_at, turn, turns, next_line, with_event, at_number, event_of, taken_by, taken, by_order, IsFinished}
-use Rattle.thread_blocks.specs.TurnsAlike.{IsUncleanEnding, HasUnclean, AnyUnclean, SameBegun, IsAlike, SamePhase, Level, SameThread, SameWorld, Rises, IsFront, IsGrowing, AllFine, AtPoints}
+use Rattle.thread_blocks.specs.TurnsAlike.{IsUncleanEnding, HasUnclean, AnyUnclean, SameBegun, IsAlike, SamePhase, Level, SameThread, SameWorld, Rises, IsFront, AllFronts, IsGrowing, AllFine, AtPoints}
 
 -- ** an unclean line stays
 
@@ -412,3 +412,43 @@ module _ {S L E : Type 0} (x : Turns S L E) (event : L → List E → Option E) 
       → AtPoints x Fine t i (by_order x event order w)
   order_points order w zero t e fine = cc
   order_points order w (suc i) t e fine = ordered_points order i w t e fine
+
+-- ** what changes nothing
+
+module _ {S L E : Type 0} (x : Turns S L E) (event : L → List E → Option E) where
+  set-same : (threads : List (Thread S L E)) (i : ℕ) (t : Thread S L E) → slice_get threads i ≡ Some t → slice_set threads i t ≡ threads
+  set-same [] i t e = refl
+  set-same (first ∷ threads) zero t e = let same : first ≡ t = cc in ap (λ (u : Thread S L E). u ∷ threads) (sym same)
+  set-same (first ∷ threads) (suc i) t e = ap (λ rest. first ∷ rest) (set-same threads i t e)
+
+  none-next : (todo : List L) (phase : Phase S) → IsFinished todo phase → next_line todo phase ≡ None
+  none-next [] (Idle s) h = refl
+  none-next (line ∷ todo) (Idle s) h = absurd h
+  none-next [] (Mid left points s) h = absurd h
+  none-next (line ∷ todo) (Mid left points s) h = absurd h
+
+  skipped : (w : World S L E) (i : ℕ) (t : Thread S L E) → slice_get w.threads i ≡ Some t → IsFinished t.todo t.phase → taken_by x event w (suc i) (Some t) ≡ w
+  skipped w i t e done =
+      ap (λ (u : Thread S L E). record { threads = slice_set w.threads i u; events = with_event w.events (event_of event t w.events) }) (turn-finished x t w.events done)
+      ∙ (ap (λ (next : Option L). record { threads = slice_set w.threads i t; events = with_event w.events (option_and_then (λ line. event line w.events) next) }) (none-next t.todo t.phase done)
+      ∙ ap (λ (threads : List (Thread S L E)). record { threads = threads; events = w.events }) (set-same w.threads i t e))
+
+  -- an entry of a thread with nothing left changes nothing
+  pub finished_skips : (w : World S L E) (i : ℕ) (t : Thread S L E) → at_number w.threads i ≡ Some t → IsFinished t.todo t.phase → taken x event w i ≡ w
+  finished_skips w zero t e done = refl
+  finished_skips w (suc i) t e done = ap (λ (o : Option (Thread S L E)). taken_by x event w (suc i) o) e ∙ skipped w i t e done
+
+-- ** points as numbers
+
+module _ {E : Type 0} where
+  take-front : (front rest : List E) → take (length front) (front ++ rest) ≡ front
+  take-front [] rest = refl
+  take-front (e ∷ front) rest = ap (λ more. e ∷ more) (take-front front rest)
+
+  front-taken : (front whole : List E) → IsFront front whole → take (length front) whole ≡ front
+  front-taken front whole h = ap (λ all. take (length front) all) h.1 ∙ take-front front h.0
+
+  -- fronts are the history up to so many events
+  pub fronts_taken : (points : List (List E)) (whole : List E) → AllFronts points whole → map (λ (front : List E). take (length front) whole) points ≡ points
+  fronts_taken [] whole h = refl
+  fronts_taken (front ∷ points) whole h = let here = front-taken front whole h.0 in let rest = fronts_taken points whole h.1 in cc
