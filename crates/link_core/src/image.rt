@@ -50,6 +50,13 @@ impl Linked {
         &self.initial
     }
 
+    /// Its parts: code, constants, and what a block begins with.
+    pub fn into_parts(self) -> (Part, Part, Part)
+        ensures { result ≡ (self.code, self.constants, self.initial) }
+    {
+        (self.code, self.constants, self.initial)
+    }
+
     /// How many bytes a block has.
     pub fn block_size(&self) -> u64
         ensures { result ≡ self.now.block_size }

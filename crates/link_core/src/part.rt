@@ -52,6 +52,13 @@ impl Part {
     {
         self.bytes.as_slice()
     }
+
+    /// The bytes alone.
+    pub fn into_bytes(self) -> Vec<u8>
+        ensures { result.items ≡ self.bytes }
+    {
+        self.bytes
+    }
 }
 
 /// Sections that are laid down one behind another, and the place where they end.

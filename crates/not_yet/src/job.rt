@@ -29,7 +29,8 @@ impl<'a> Model for SmallJob<'a> {
 /// The small job that this is, if it is one: its lines are `image NAME exe OBJ` and `1 call NAME SYM A B C`, with any `fuel`.
 #[tactic(auto, unfolding(crate::specs::SmallJobs::small_job))]
 pub fn small_job(job: &Job) -> Option<SmallJob<'_>>
-    ensures { result ≡ small_job job.now }
+    ensures small { result ≡ small_job job.now }
+    ensures little { IfSome result (λ small. small.fuel < 2 ^ 32) }
 {
     let object = only_object(job.images())?;
     only_call(job.fuel(), object, job)
@@ -50,7 +51,8 @@ fn only_object(images: &[Image]) -> Option<&str>
 
 /// The call, where the job has one thread with one line.
 fn only_call<'a>(fuel: u64, object: &'a str, job: &'a Job) -> Option<SmallJob<'a>>
-    ensures { result ≡ small_of (Some object.now) fuel job.now.lines }
+    ensures small { result ≡ small_of (Some object.now) fuel job.now.lines }
+    ensures fuel { IfSome result (λ small. small.fuel ≡ fuel) }
 {
     if job.threads() != 1 {
         return None;
@@ -62,7 +64,8 @@ fn only_call<'a>(fuel: u64, object: &'a str, job: &'a Job) -> Option<SmallJob<'a
 }
 
 fn called<'a>(fuel: u64, object: &'a str, line: &'a ThreadLine) -> Option<SmallJob<'a>>
-    ensures { result ≡ called fuel object.now line.now.action }
+    ensures small { result ≡ called fuel object.now line.now.action }
+    ensures fuel { IfSome result (λ small. small.fuel ≡ fuel) }
 {
     match &line.action {
         Action::Call { symbol, a, b, c } => Some(SmallJob {

@@ -1,2 +1,3 @@
+pub mod Executables
 pub mod Narrow
 pub mod Runs

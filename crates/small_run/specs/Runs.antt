@@ -2,17 +2,22 @@
 use Rattle.std.specs.Prelude.{◌≡◌, ◌⊎◌, ℕ, true, false, List, [], ◌∷◌, map, Option, Some, None, Result, Ok, Err}
 use Rattle.elf_object.specs.declared.fault.FaultKind.{FaultKind}
 use Rattle.elf_object.specs.declared.fault.FaultKind.TheVariants.{WritableData}
-use Rattle.elf_object.specs.declared.fault.ObjectFault.TheVariants.{At}
+use Rattle.elf_object.specs.declared.fault.ObjectFault.TheVariants.{At, OutOfMemory as NoMemory}
+use Rattle.elf_object.specs.declared.fault.ObjectFault.{ObjectFault}
 use Rattle.elf_object.specs.Faults.{IsObject, IsFault, IsFirstAt}
 use Rattle.elf_object.specs.Object.{IsWritable}
+use Rattle.job_run.specs.Loading.{machine_loaded, HasBytes}
+use Rattle.job_text.specs.declared.event.Event.{Event}
+use Rattle.link_core.specs.Parts.{Image}
+use Rattle.tls_layout.specs.Sections.{Layout}
 use Rattle.job_run.specs.Worlds.{AreClean}
 use Rattle.job_text.specs.declared.transcripts.Line.{Line}
 use Rattle.job_text.specs.declared.transcripts.Outcome.{Outcome}
 use Rattle.not_yet.specs.SmallJobs.{Small}
 use Rattle.small_run.specs.declared.refusal.Refusal.{Refusal}
 use Rattle.small_run.specs.declared.refusal.Refusal.TheVariants.{OutOfMemory, Fault, NotYet}
-use Rattle.small_run.specs.Narrow.{is_narrow, printed, meant}
-use Rattle.thread_blocks.specs.MachineTurns.{shown}
+use Rattle.small_run.specs.Narrow.{is_narrow, fits, call_line, printed, meant}
+use Rattle.thread_blocks.specs.MachineTurns.{call_said, shown}
 use Rattle.thread_blocks.specs.Turns.{Said}
 
 -- the transcript has this line alone, which looked once and saw no event
@@ -43,3 +48,19 @@ IsRefused b NotYet = IsPlainObject b × (is_narrow b ≡ false)
 abbrev pub Comes : List ℕ → Small → Result Outcome Refusal → Type 0
 Comes b job (Ok outcome) = HasRun b job outcome
 Comes b job (Err refusal) = IsRefused b refusal
+
+-- a fault of the object as a refusal
+abbrev pub refusal_of : ObjectFault → Refusal
+refusal_of NoMemory = OutOfMemory
+refusal_of (At section entry kind) = Fault section entry kind
+
+-- why there is no placement
+abbrev pub NotPlaced : Layout → Refusal → Type 0
+NotPlaced p OutOfMemory = Unit {0}
+NotPlaced p (Fault section entry kind) = ⊥
+NotPlaced p NotYet = fits p ≡ false
+
+-- what comes of a call at a place of an image
+pub record IsCalled (image : Image) (job : Small) (place : ℕ) (outcome : Outcome) : Type 0 where
+  pub bytes : HasBytes image
+  pub says : (entry : List ℕ → Option ℕ) → entry job.symbol ≡ Some place → IsLine (call_said Event (machine_loaded image entry) 1 job.fuel (call_line job)) outcome

@@ -1,13 +1,10 @@
-// A library with one function.
+//! What a small job comes to: its object is read, linked and called.
 #![tactic(auto)]
 
-ghost use Rattle.std.specs.Prelude.{◌≡◌};
-ghost use Rattle.small_run.specs.Echo.{echo_of};
+mod executable;
+mod object;
+mod refusal;
+mod run;
 
-// The `ensures` clause is the contract: what `echo` returns is `echo_of` of its argument, a definition
-// in `specs/Echo.antt`, which a caller's clause can cite too.
-pub fn echo(x: usize) -> usize
-    ensures { result ≡ echo_of x }
-{
-    x
-}
+pub use refusal::Refusal;
+pub use run::run_small;

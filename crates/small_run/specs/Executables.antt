@@ -1,0 +1,18 @@
+-- A linked image as a thread sees it.
+use Rattle.std.specs.Prelude.{◌≡◌, ◌<◌, ℕ, All}
+use Rattle.link_core.specs.Parts.{Image}
+use Rattle.tls_relocs.specs.Laid.{Placed}
+use Rattle.thread_blocks.specs.declared.parts.Part.{Part}
+use Rattle.thread_blocks.specs.declared.parts.Executable.{Executable}
+
+pub record IsPart (placed : Placed) (part : Part) : Type 0 where
+  pub place_is : part.place ≡ placed.place
+  pub bytes_are : part.bytes.items ≡ placed.bytes
+  pub small : All (λ (byte : ℕ). byte < 256) placed.bytes
+
+pub record IsExecutable (image : Image) (executable : Executable) : Type 0 where
+  pub code : IsPart image.code executable.code
+  pub constants : IsPart image.constants executable.constants
+  pub initial : IsPart image.initial executable.block.initial
+  pub size : executable.block.size ≡ image.block_size
+  pub offset : executable.block.offset ≡ image.block_offset
