@@ -1,0 +1,4 @@
+//! What a job means, line by line.
+#![tactic(auto)]
+
+pub mod laws;
