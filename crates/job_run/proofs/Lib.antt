@@ -1,0 +1,5 @@
+pub mod Alone
+pub mod Each
+pub mod Loaded
+pub mod Memory
+pub mod Said
