@@ -1,3 +1,4 @@
+mod Examples
 pub mod Alone
 pub mod Each
 pub mod Loaded
