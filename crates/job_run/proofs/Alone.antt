@@ -1,8 +1,8 @@
 -- Where the first machine never looks, the second may be one that nobody answers.
-use Rattle.std.proofs.Common.{◌≡◌, ℕ, zero, suc, Option, Some, None, refl, ap, inl, inr}
+use Rattle.std.proofs.Common.{ℕ, zero, suc, Option, Some, None, ap, inl, inr}
 use Rattle.guest_machine.specs.declared.stop.Stop.{Stop}
 use Rattle.guest_machine.specs.Run.{Next, Goes, Ends, Looks, Stepping}
-use Rattle.guest_machine.specs.Simulate.{IsUnclean, Moves, Advances, OverAlike, IsSimulated}
+use Rattle.guest_machine.specs.Simulate.{Moves, Advances, OverAlike, IsSimulated}
 use Rattle.thread_blocks.specs.MachineTurns.{alone_next, alone}
 
 module _ {S S' : Type 0} (x : Stepping S) (y : Stepping S') (place_of : S' → ℕ) (Rel Last Wait Last' : S → S' → Type 0)

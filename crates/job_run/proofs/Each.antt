@@ -2,10 +2,11 @@
 use Rattle.std.proofs.Common.{◌≡◌, ℕ, zero, suc, ◌*◌, ◌≤◌, List, Option, Some, None, refl, ap, inl, inr}
 use Rattle.guest_machine.specs.declared.stop.Stop.{Stop}
 use Rattle.guest_machine.specs.Run.{Next, Goes, Ends, Looks, Stepping}
-use Rattle.guest_machine.specs.Simulate.{IsUnclean, Moves, Advances, OverAlike, IsSimulated}
+use Rattle.guest_machine.specs.Simulate.{Moves, Advances, OverAlike, IsSimulated}
+use Rattle.thread_blocks.specs.Spaces.{next_image}
 use Rattle.thread_blocks.specs.Turns.{Begun, Says, Calls, Turns}
 use Rattle.thread_blocks.specs.TurnsAlike.{SameBegun, IsAlike}
-use Rattle.job_run.specs.Numbered.{Numbered, numbered, numbered_next, numbered_begun, each_steps, each, SameNumbered}
+use Rattle.job_run.specs.Numbered.{Numbered, numbered, numbered_begun, each_steps, each, SameNumbered}
 
 module _ {S S' : Type 0} where
   both-numbered : (R : S → S' → Type 0) (i : ℕ) (s : S) (s' : S') → R s s' → SameNumbered R (numbered i s) (numbered i s')
@@ -14,7 +15,7 @@ module _ {S S' : Type 0} where
 module _ {S S' : Type 0} (x : ℕ → Stepping S) (y : ℕ → Stepping S') (Rel Wait Last : S → S' → Type 0) where
   moves-each : (i k : ℕ) (s t : S') → Moves (y i) k s t → Moves (each_steps y) k (numbered i s) (numbered i t)
   moves-each i zero s t moves = ap (numbered i) moves
-  moves-each i (suc k) s t moves = (moves.0, (numbered i moves.1.0, (ap (numbered_next i) moves.1.1.0, moves-each i k moves.1.0 t moves.1.1.1)))
+  moves-each i (suc k) s t moves = (moves.0, (numbered i moves.1.0, (ap (next_image (numbered i)) moves.1.1.0, moves-each i k moves.1.0 t moves.1.1.1)))
 
   over-each : (i : ℕ) (s : S) (s' : S') (over over' : Option Stop) → OverAlike Last s s' over over' → OverAlike (SameNumbered Last) (numbered i s) (numbered i s') over over'
   over-each i s s' None over' h = tt
@@ -22,16 +23,16 @@ module _ {S S' : Type 0} (x : ℕ → Stepping S) (y : ℕ → Stepping S') (Rel
   over-each i s s' (Some stop) over' (inr h) = inr (h.0, both-numbered Last i s s' h.1)
 
   advances-each : (i : ℕ) (s : S) (s' : S') (next : Next S) → Advances (y i) Rel Wait Last s next s'
-      → Advances (each_steps y) (SameNumbered Rel) (SameNumbered Wait) (SameNumbered Last) (numbered i s) (numbered_next i next) (numbered i s')
+      → Advances (each_steps y) (SameNumbered Rel) (SameNumbered Wait) (SameNumbered Last) (numbered i s) (next_image (numbered i) next) (numbered i s')
   advances-each i s s' (Goes t) (k, (b, (within, moves, related))) = (k, (numbered i b, (within, moves-each i (suc k) s' b moves, both-numbered Rel i t b related)))
   advances-each i s s' (Ends stop) (inl unclean) = inl unclean
   advances-each i s s' (Ends stop) (inr (k, (b, (within, moves, on, ends, last)))) =
-      inr (k, (numbered i b, (within, moves-each i k s' b moves, on, ap (numbered_next i) ends, both-numbered Last i s b last)))
+      inr (k, (numbered i b, (within, moves-each i k s' b moves, on, ap (next_image (numbered i)) ends, both-numbered Last i s b last)))
   advances-each i s s' (Looks t) (k, (b, (b', (within, moves, on, looks, wait)))) =
-      (k, (numbered i b, (numbered i b', (within, moves-each i k s' b moves, on, ap (numbered_next i) looks, both-numbered Wait i t b' wait))))
+      (k, (numbered i b, (numbered i b', (within, moves-each i k s' b moves, on, ap (next_image (numbered i)) looks, both-numbered Wait i t b' wait))))
 
   step-each : (i j : ℕ) (s : S) (s' : S') → j ≡ i → Advances (y i) Rel Wait Last s ((x i).step s) s'
-      → Advances (each_steps y) (SameNumbered Rel) (SameNumbered Wait) (SameNumbered Last) (numbered i s) (numbered_next i ((x i).step s)) (numbered j s')
+      → Advances (each_steps y) (SameNumbered Rel) (SameNumbered Wait) (SameNumbered Last) (numbered i s) (next_image (numbered i) ((x i).step s)) (numbered j s')
   step-each i j s s' e h = rw e (advances-each i s s' ((x i).step s) h)
 
   over-step : (i j : ℕ) (s : S) (s' : S') → j ≡ i → OverAlike Last s s' ((x i).over s) ((y i).over s')

@@ -1,5 +1,6 @@
 -- Closed jobs whose meaning is computed.
-use Rattle.std.proofs.Common.{◌≡◌, ℕ, ◌+◌, List, [], ◌∷◌, ◌++◌, Option, Some, None, refl}
+use Rattle.std.proofs.Common.{◌≡◌, ℕ, zero, suc, ◌<◌, List, [], ◌∷◌, ◌++◌, Option, Some, refl, sym, subst, ◌∙◌, inl, inr, arith}
+use Rattle.std.specs.List.{All}
 use Rattle.amd64_subset.specs.Beginning.{begins_of}
 use Rattle.amd64_subset.specs.Decoding.{end_branch_at, escaped_at, row_at, operated_at, body_at, instruction_at, decoded}
 use Rattle.amd64_subset.specs.Meaning.{numbered_body, operation_of, operand_body}
@@ -15,19 +16,21 @@ use Rattle.guest_machine.specs.declared.stop.Stop.TheVariants.{Returned, Address
 use Rattle.guest_machine.specs.Access.{fetch_of, load_of, store_of}
 use Rattle.guest_machine.specs.Operand.{base_of, index_of, address_of, kept, carried}
 use Rattle.guest_machine.specs.State.{register_of, with_register, start_of}
-use Rattle.guest_machine.specs.Step.{act, frame_of, move_of, move_in, stored, return_of, jump_of, pushed, call_of}
+use Rattle.guest_machine.specs.Step.{act, frame_of, move_of, move_in, stored, return_of, jump_of}
 use Rattle.job_meaning.specs.Marked.{marked_operations}
 use Rattle.job_meaning.specs.Owner.{owner_at}
 use Rattle.job_meaning.specs.Reading.{completed, hindrance, meaning_step}
 use Rattle.job_meaning.specs.Running.{meaning}
 use Rattle.job_text.specs.declared.event.Event.{Event}
 use Rattle.link_core.specs.Parts.{Image}
-use Rattle.thread_blocks.specs.MachineTurns.{CallLine, zeros}
+use Rattle.thread_blocks.specs.MachineTurns.{CallLine, call_said, zeros}
 use Rattle.thread_blocks.specs.Spaces.{space_accesses}
 use Rattle.thread_blocks.specs.Turns.{Said, Stopped}
-use Rattle.job_run.specs.Loading.{meaning_loaded}
+use Rattle.thread_blocks.specs.TurnsAlike.{HasUnclean}
+use Rattle.job_run.specs.Loading.{machine_loaded, meaning_loaded, HasBytes}
 use Rattle.job_run.specs.Meaning.{meant_accesses, meant_turns, meant_said}
-use Rattle.job_run.specs.Worlds.{threads_from, meant_world, said_by_each, meant_by}
+use Rattle.job_run.specs.Worlds.{threads_from, meant_world, said_by_each, meant_by, AreClean}
+use Rattle.job_run.proofs.Said.{call_says}
 
 -- an image whose one block, of every thread, is the four bytes below the thread pointer
 abbrev image : List ℕ → Image
@@ -98,3 +101,26 @@ keeps = refl
 both : said_by_each (meant_world 0x402000 (meaning_loaded (image (0xc3 ∷ [])) entry) 1 ((line ∷ []) ∷ (line ∷ []) ∷ []) (2 ∷ 1 ∷ [])) ≡ ends (Returned 0) ∷ ends (Returned 0) ∷ []
 unfolding threads_from meant_said meant_turns meant_accesses meaning meaning_step hindrance completed begins_of end_branch_at escaped_at row_at operated_at body_at instruction_at decoded numbered_body operation_of operand_body signed_of rex_at prefixes_at numbers_at named_register number_of condition_of fixed_row_of row_of escaped_row_of arithmetic_of shift_of group_action takes allowed displacement_size memory_in sib_at selectors_at fetch_of load_of space_accesses marked_operations register_of with_register start_of act frame_of return_of zeros owner_at
 both = refl
+
+-- ** and so the machine prints the same
+
+all-one : (byte : ℕ) → byte < 256 → (bytes : List ℕ) → All (λ (byte : ℕ). byte < 256) bytes → All (λ (byte : ℕ). byte < 256) (byte ∷ bytes)
+all-one byte small bytes rest zero d within = small
+all-one byte small bytes rest (suc k) d within = rest k d (omega (arith, within))
+
+all-none : All (λ (byte : ℕ). byte < 256) []
+all-none k d within = absurd (omega (arith, within))
+
+has_bytes : HasBytes (image (0xc3 ∷ []))
+has_bytes = record {
+  code = all-one 0xc3 (omega arith) [] all-none;
+  constants = all-none;
+  initial = all-one 0x2a (omega arith) (0 ∷ 0 ∷ 0 ∷ []) (all-one 0 (omega arith) (0 ∷ 0 ∷ []) (all-one 0 (omega arith) (0 ∷ []) (all-one 0 (omega arith) [] all-none)));
+}
+
+is_clean : HasUnclean (ends (Returned 0)) → ⊥
+is_clean (inl unclean) = absurd unclean
+is_clean (inr unclean) = absurd unclean
+
+prints : call_said Event (machine_loaded (image (0xc3 ∷ [])) entry) 1 1 line ≡ ends (Returned 0)
+prints = call_says (image (0xc3 ∷ [])) entry has_bytes 0x402000 1 1 line (subst AreClean (sym returns) is_clean) ∙ returns

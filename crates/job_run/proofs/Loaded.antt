@@ -1,9 +1,9 @@
 -- What is loaded of an image is the same for the meaning and for the machine: byte by byte, and as code.
-use Rattle.std.proofs.Common.{◌≡◌, ℕ, zero, suc, ◌-◌, ◌<◌, ◌&&◌, Bool, true, false, List, [], ◌∷◌, ◌++◌, length, map, Option, Some, None, refl, sym, ap, ◌∙◌, subst, arith}
-use Rattle.std.specs.Prelude.{if◌then◌else◌, nat_le, nat_lt, slice_get, slice_index_or, option_and_then}
+use Rattle.std.proofs.Common.{◌≡◌, ℕ, zero, suc, ◌-◌, ◌<◌, Bool, true, false, List, [], ◌∷◌, ◌++◌, length, map, Option, Some, None, refl, arith}
+use Rattle.std.specs.Prelude.{if◌then◌else◌, slice_get, option_and_then}
 use Rattle.std.specs.List.{All}
 use Rattle.std.specs.Option.{option_map}
-use Rattle.std.proofs.lemmas.List.{length-map}
+use Rattle.std.proofs.lemmas.List.{length-map, map-id}
 use Rattle.std.proofs.lemmas.Option.{slice_get-map}
 use Rattle.guest_machine.specs.declared.space.Access.TheVariants.{Run}
 use Rattle.guest_machine.specs.Follow.{All2}
@@ -14,10 +14,10 @@ use Rattle.job_meaning.specs.Marked.{code_byte}
 use Rattle.job_meaning.specs.Same.{SameByte}
 use Rattle.link_core.specs.Parts.{Image}
 use Rattle.tls_relocs.specs.Laid.{Placed}
-use Rattle.thread_blocks.specs.MachineTurns.{zeros}
+use Rattle.thread_blocks.specs.MachineTurns.{pointer_of, zeros}
 use Rattle.thread_blocks.specs.Spaces.{SameRange}
 use Rattle.thread_blocks.proofs.Spaces.{all2-append}
-use Rattle.job_run.specs.Loading.{code_range, constant_range, block_bytes, block_range, machine_loaded, meaning_loaded, HasBytes}
+use Rattle.job_run.specs.Loading.{code_range, block_bytes, machine_loaded, meaning_loaded, HasBytes}
 
 -- ** bytes
 
@@ -96,3 +96,22 @@ code_same (range ∷ ranges) [] place h = absurd h
 code_same (range ∷ ranges) (range' ∷ ranges') place h =
     rw (h.0.reach place) (either-code (grants Run range place) (slice_get range.bytes (place - range.start)) (byte_in Run ranges place) (slice_get range'.bytes (place - range'.start)) (byte_in Run ranges' place)
     (h.0.byte place) (code_same ranges ranges' place h.1))
+
+-- ** what the machine sees
+
+-- bytes are themselves to it
+pub machine_loaded_is : (image : Image) (entry : List ℕ → Option ℕ) → machine_loaded image entry ≡ record {
+  entry = entry;
+  fixed = record { start = image.code.place; bytes = image.code.bytes; readable = false; writable = false; runnable = true }
+      ∷ record { start = image.constants.place; bytes = image.constants.bytes; readable = true; writable = false; runnable = false }
+      ∷ record { start = image.initial.place; bytes = image.initial.bytes; readable = true; writable = false; runnable = false }
+      ∷ [];
+  blocks = λ thread. record {
+    start = pointer_of thread - image.block_offset;
+    bytes = image.initial.bytes ++ zeros 0 (image.block_size - length image.initial.bytes);
+    readable = true;
+    writable = true;
+    runnable = false;
+  } ∷ [];
+}
+machine_loaded_is image entry = rw (map-id image.code.bytes, map-id image.constants.bytes, map-id image.initial.bytes) refl

@@ -1,30 +1,26 @@
 -- The meaning's memory and the machine's: byte by byte the same, also under writes, and as code the same but where the linker's own stands.
-use Rattle.std.proofs.Common.{◌≡◌, ℕ, ◌-◌, ◌&&◌, ◌||◌, ◌==◌, Bool, true, false, List, [], ◌∷◌, ◌++◌, length, Option, Some, None, refl, sym, ap, ◌∙◌, subst}
-use Rattle.std.specs.Prelude.{if◌then◌else◌, option_and_then}
+use Rattle.std.proofs.Common.{◌≡◌, ℕ, ◌||◌, ◌==◌, Bool, true, false, List, [], ◌∷◌, Option, None, refl, ◌∙◌}
+use Rattle.std.specs.Prelude.{if◌then◌else◌}
 use Rattle.std.proofs.lemmas.Bool.{eqb-true}
 use Rattle.guest_machine.specs.declared.cause.Cause.{Cause}
 use Rattle.guest_machine.specs.declared.cause.Cause.TheVariants.{Linker}
-use Rattle.guest_machine.specs.declared.space.Access.TheVariants.{Run, Write}
+use Rattle.guest_machine.specs.declared.space.Access.TheVariants.{Write}
 use Rattle.guest_machine.specs.Access.{Accesses}
 use Rattle.guest_machine.specs.Follow.{All2, IsKept}
 use Rattle.guest_machine.specs.Plain.{plain_operations}
-use Rattle.guest_machine.specs.Ranges.{Range, grants, byte_in, with_byte}
-use Rattle.guest_machine.specs.Run.{is_look}
-use Rattle.job_meaning.specs.declared.marks.Mark.{Mark}
+use Rattle.guest_machine.specs.Ranges.{Range, grants, with_byte}
 use Rattle.job_meaning.specs.declared.marks.Mark.TheVariants.{Usual, Odd}
 use Rattle.job_meaning.specs.declared.values.Byte.{Byte}
-use Rattle.job_meaning.specs.declared.values.Flag.{Flag}
-use Rattle.job_meaning.specs.declared.values.Word.{Word}
 use Rattle.job_meaning.specs.Code.{SameCodeByte, SameCode}
-use Rattle.job_meaning.specs.Marked.{code_byte, marked_operations}
+use Rattle.job_meaning.specs.Marked.{marked_operations}
 use Rattle.job_meaning.specs.Owner.{owner_at}
 use Rattle.job_meaning.specs.Reading.{starts_field}
 use Rattle.job_meaning.specs.Running.{AreShut}
 use Rattle.job_meaning.specs.Same.{same, SameByte}
 use Rattle.thread_blocks.specs.MachineTurns.{Loaded, stack_start, fixed_of}
-use Rattle.thread_blocks.specs.Spaces.{Space, SameRange, SameSpace, space_accesses, open_everywhere, put_byte, ranges_of, stack_range}
+use Rattle.thread_blocks.specs.Spaces.{Space, SameRange, SameSpace, space_accesses, open_everywhere, ranges_of, stack_range}
 use Rattle.thread_blocks.proofs.Spaces.{spaces_kept, all2-append}
-use Rattle.job_run.specs.Meaning.{is_called_for, is_in_room, is_linkers, meant_accesses, meant_mark}
+use Rattle.job_run.specs.Meaning.{is_linkers, meant_accesses, meant_mark}
 use Rattle.job_run.proofs.Loaded.{SameCodeIn, none_in, code_same}
 
 -- ** what can be run

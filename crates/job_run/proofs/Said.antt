@@ -1,12 +1,10 @@
 -- What the machine's threads say of their lines is what these mean.
-use Rattle.std.proofs.Common.{◌≡◌, ℕ, zero, suc, ◌*◌, ◌≤◌, Bool, List, [], ◌∷◌, Option, Some, None, refl, sym, ap, inl, inr, arith}
-use Rattle.std.specs.Prelude.{map}
+use Rattle.std.proofs.Common.{◌≡◌, ℕ, suc, ◌*◌, Bool, List, [], ◌∷◌, Option, Some, None, refl, inl, inr, arith}
 use Rattle.guest_machine.specs.Follow.{All2, Alike, IsFollowed, SameAfter}
 use Rattle.guest_machine.specs.Plain.{plain_operations}
 use Rattle.guest_machine.specs.Run.{machine}
 use Rattle.guest_machine.specs.Simulate.{IsSimulated}
 use Rattle.job_meaning.specs.declared.values.Byte.{Byte}
-use Rattle.job_meaning.specs.declared.values.Byte.TheVariants.{Value}
 use Rattle.job_meaning.specs.declared.values.Flag.{Flag}
 use Rattle.job_meaning.specs.declared.values.Word.{Word}
 use Rattle.job_meaning.specs.Marked.{marked_operations}
@@ -17,15 +15,15 @@ use Rattle.job_meaning.proofs.Running.{meaning_simulated}
 use Rattle.job_meaning.proofs.Same.{marked_follows}
 use Rattle.job_text.specs.declared.event.Event.{Event}
 use Rattle.link_core.specs.Parts.{Image}
-use Rattle.thread_blocks.specs.MachineTurns.{Loaded, CallLine, fixed_of, begun_call, begin_call, alone, machine_turns, call_said, SameRun, SameRest}
+use Rattle.thread_blocks.specs.MachineTurns.{Loaded, CallLine, fixed_of, begun_call, begin_call, machine_turns, call_said, SameRun, SameRest}
 use Rattle.thread_blocks.specs.Spaces.{SameRange, no_field}
 use Rattle.thread_blocks.specs.Turns.{Begun, Says, Calls, Thread, ready, turns}
-use Rattle.thread_blocks.specs.TurnsAlike.{SameBegun, IsAlike, Level, SameThread, SameWorld, Rises, IsGrowing, AllFine}
-use Rattle.thread_blocks.proofs.Begin.{fixed_alike, thread_start_alike, begin_call_alike}
+use Rattle.thread_blocks.specs.TurnsAlike.{SameBegun, IsAlike, Level, SameThread, Rises, IsGrowing, AllFine}
+use Rattle.thread_blocks.proofs.Begin.{fixed_alike, begin_call_alike}
 use Rattle.thread_blocks.proofs.Turns.{turns_alike, order_says}
 use Rattle.job_run.specs.Loading.{machine_loaded, meaning_loaded, HasBytes}
 use Rattle.job_run.specs.Meaning.{Meant, meant_mark, meant_turns, meant_start, meant_said}
-use Rattle.job_run.specs.Numbered.{Numbered, numbered, each, SameNumbered}
+use Rattle.job_run.specs.Numbered.{each}
 use Rattle.job_run.specs.Worlds.{Printed, printed_start, threads_from, adds_none, first_world, meant_world, printed_world, said_by_each, IsCleanWorld, meant_by, printed_by, AreClean}
 use Rattle.job_run.proofs.Alone.{alone_simulated}
 use Rattle.job_run.proofs.Each.{Each, each_alike}
@@ -59,9 +57,12 @@ module _ {E : Type 0} where
   any-rises old [] = tt
   any-rises old (seen ∷ points) = (tt, any-rises seen points)
 
-  any-fine : {S L : Type 0} (events : List E) (threads : List (Thread S L E)) → AllFine Any events threads
+  pub any-fine : {S L : Type 0} (events : List E) (threads : List (Thread S L E)) → AllFine Any events threads
   any-fine events [] = tt
   any-fine events (t ∷ threads) = (tt, any-fine events threads)
+
+  pub growing : IsGrowing {E = E} Any adds_none
+  growing = record { again = λ old new fine. tt; grown = λ old new line e fine added. tt }
 
 followed : IsFollowed Values (marked_operations owner_at) plain_operations
 followed = marked_follows nothing owner_at nothing nothing
@@ -142,9 +143,6 @@ module _ (image : Image) (entry : List ℕ → Option ℕ) (has : HasBytes image
   levels number [] = tt
   levels number (first ∷ lines) = (record { todo = refl; said = refl; seen = refl; phase = record { number = refl; state = start-same number } }, levels (suc number) lines)
 
-  growing : IsGrowing {E = E} Any adds_none
-  growing = record { again = λ old new fine. tt; grown = λ old new line e fine added. tt }
-
 module _ (image : Image) (entry : List ℕ → Option ℕ) (has : HasBytes image) (room fuel : ℕ) where
   one-said : (thread : ℕ) (lines : List CallLine) (points : List (List Event)) (t : Thread (Meant Event) CallLine Event) (t' : Thread (Printed Event) CallLine Event)
       → SameThread AtLook Between t t' → AreClean t.said → t'.said ≡ t.said
@@ -173,6 +171,6 @@ module _ (image : Image) (entry : List ℕ → Option ℕ) (has : HasBytes image
       × (said_by_each (printed_world (machine_loaded image entry) fuel lines order) ≡ said_by_each (meant_world room (meaning_loaded image entry) fuel lines order))
   worlds_say lines order clean =
       order_says (Each InCall) (Each AtLook) (Each Between) Any (each fuel (λ thread. meant_turns room (meaning_loaded image entry) thread fuel))
-      (each (4 * fuel) (λ thread. machine_turns (machine_loaded image entry) thread fuel)) (worlds_alike image entry has room fuel Event) adds_none (growing image entry has room fuel Event) order
+      (each (4 * fuel) (λ thread. machine_turns (machine_loaded image entry) thread fuel)) (worlds_alike image entry has room fuel Event) adds_none growing order
       (first_world (meant_start (meaning_loaded image entry)) lines) (first_world (printed_start (machine_loaded image entry)) lines)
       (any-fine [] (threads_from (meant_start (meaning_loaded image entry)) 1 lines)) (record { events = refl; threads = levels image entry has room fuel Event 1 lines }) clean

@@ -1,5 +1,5 @@
 -- Lines that call a function, as the meaning has them: over marked values, and with places that are the linker's own.
-use Rattle.std.specs.Prelude.{ℕ, ◌+◌, ◌^◌, ◌&&◌, ◌||◌, Bool, List, [], ◌∷◌, nat_le, nat_lt, Option, None, if◌then◌else◌}
+use Rattle.std.specs.Prelude.{ℕ, ◌+◌, ◌^◌, ◌&&◌, ◌||◌, Bool, List, [], ◌∷◌, nat_le, nat_lt, None, if◌then◌else◌}
 use Rattle.guest_machine.specs.declared.cause.Cause.TheVariants.{Linker}
 use Rattle.guest_machine.specs.Access.{Accesses}
 use Rattle.guest_machine.specs.Use.{After}
@@ -20,8 +20,8 @@ abbrev pub is_in_eight : ℕ → ℕ → Bool
 is_in_eight start place = nat_le start place && nat_lt place (start + 8)
 
 -- where `__tls_get_addr` and the function of descriptors are called
-abbrev pub is_called_for : ℕ → Bool
-is_called_for place = is_in_eight 0x1000 place || is_in_eight 0x1800 place
+abbrev pub is_of_run_time : ℕ → Bool
+is_of_run_time place = is_in_eight 0x1000 place || is_in_eight 0x1800 place
 
 -- where an executable's space ends
 abbrev pub image_end : ℕ
@@ -33,7 +33,7 @@ is_in_room room place = nat_le room place && nat_lt place image_end
 
 -- whether a place is the linker's own; room: where the objects' sections end
 abbrev pub is_linkers : ℕ → ℕ → Bool
-is_linkers room place = is_called_for place || is_in_room room place
+is_linkers room place = is_of_run_time place || is_in_room room place
 
 -- what a thread of the meaning holds
 abbrev pub Meant : Type 0 → Type 0

@@ -1,7 +1,8 @@
 -- Threads that each do their own: a state has its thread's number, which says whose turns it takes.
-use Rattle.std.specs.Prelude.{◌≡◌, ℕ, List}
-use Rattle.guest_machine.specs.Run.{Next, Goes, Ends, Looks, Stepping}
-use Rattle.thread_blocks.specs.Turns.{Begun, Says, Calls, Turns}
+use Rattle.std.specs.Prelude.{◌≡◌, ℕ}
+use Rattle.guest_machine.specs.Run.{Stepping}
+use Rattle.thread_blocks.specs.Spaces.{next_image}
+use Rattle.thread_blocks.specs.Turns.{Begun, Says, Calls, Turns, Phase, Idle, Mid, Thread}
 
 pub record Numbered (S : Type 0) : Type 0 where
   pub number : ℕ
@@ -11,20 +12,22 @@ module _ {S : Type 0} where
   abbrev pub numbered : ℕ → S → Numbered S
   numbered number state = record { number = number; state = state }
 
-  abbrev pub numbered_next : ℕ → Next S → Next (Numbered S)
-  numbered_next number (Goes s) = Goes (numbered number s)
-  numbered_next number (Ends stop) = Ends stop
-  numbered_next number (Looks s) = Looks (numbered number s)
-
   abbrev pub numbered_begun : ℕ → Begun S → Begun (Numbered S)
   numbered_begun number (Says ending s) = Says ending (numbered number s)
   numbered_begun number (Calls s) = Calls (numbered number s)
+
+  abbrev pub numbered_phase : ℕ → Phase S → Phase (Numbered S)
+  numbered_phase number (Idle s) = Idle (numbered number s)
+  numbered_phase number (Mid left points s) = Mid left points (numbered number s)
+
+  abbrev pub numbered_thread : {L E : Type 0} → ℕ → Thread S L E → Thread (Numbered S) L E
+  numbered_thread number t = record { todo = t.todo; phase = numbered_phase number t.phase; said = t.said; seen = t.seen }
 
   -- the steps of each thread
   abbrev pub each_steps : (ℕ → Stepping S) → Stepping (Numbered S)
   each_steps x = record {
     over = λ s. (x s.number).over s.state;
-    step = λ s. numbered_next s.number ((x s.number).step s.state);
+    step = λ s. next_image (numbered s.number) ((x s.number).step s.state);
     spent = λ s. (x s.number).spent s.state;
   }
 

@@ -1,11 +1,14 @@
 -- That the machine over a linked image prints what the job means, wherever that is clean.
-use Rattle.std.specs.Prelude.{◌≡◌, ℕ, List, Option}
+use Rattle.std.specs.Prelude.{◌≡◌, ℕ, List, Option, Some}
 use Rattle.job_text.specs.declared.event.Event.{Event}
 use Rattle.link_core.specs.Parts.{Image}
-use Rattle.thread_blocks.specs.MachineTurns.{CallLine, call_said}
+use Rattle.thread_blocks.specs.MachineTurns.{Loaded, CallLine, machine_turns, call_said}
+use Rattle.thread_blocks.specs.Turns.{Thread, turn, at_number}
+use Rattle.thread_blocks.specs.TurnsAlike.{AllFronts}
 use Rattle.job_run.specs.Loading.{machine_loaded, meaning_loaded, HasBytes}
 use Rattle.job_run.specs.Meaning.{meant_said}
-use Rattle.job_run.specs.Worlds.{meant_world, printed_world, said_by_each, IsCleanWorld, meant_by, printed_by, AreClean}
+use Rattle.job_run.specs.Numbered.{numbered_thread}
+use Rattle.job_run.specs.Worlds.{Printed, all_printed, meant_world, printed_world, said_by_each, IsCleanWorld, meant_by, printed_by, AreClean}
 
 -- all threads, in any order of their turns: the history is the same, and each thread says the same of each line, the events that its looks saw included
 abbrev pub PrintsItsMeanings : Type 0
@@ -14,6 +17,17 @@ PrintsItsMeanings = (image : Image) (entry : List ℕ → Option ℕ) (room fuel
     → IsCleanWorld (meant_world room (meaning_loaded image entry) fuel lines order)
     → ((printed_world (machine_loaded image entry) fuel lines order).events ≡ (meant_world room (meaning_loaded image entry) fuel lines order).events)
     × (said_by_each (printed_world (machine_loaded image entry) fuel lines order) ≡ said_by_each (meant_world room (meaning_loaded image entry) fuel lines order))
+
+-- a turn of a thread among others is the turn that it would take alone
+abbrev pub ThreadsTakeTheirOwnTurns : Type 0
+ThreadsTakeTheirOwnTurns = (loaded : Loaded ℕ) (thread fuel : ℕ) (t : Thread (Printed Event) CallLine Event) (seen : List Event)
+    → turn (all_printed loaded fuel) (numbered_thread thread t) seen ≡ numbered_thread thread (turn (machine_turns loaded thread fuel) t seen)
+
+-- so what a thread says in an order, it says alone at some fronts of the history
+abbrev pub ThreadsSayTheirOwn : Type 0
+ThreadsSayTheirOwn = (loaded : Loaded ℕ) (fuel : ℕ) (lines : List (List CallLine)) (order : List ℕ) (thread : ℕ) (own : List CallLine)
+    → at_number lines thread ≡ Some own
+    → (points : List (List Event)) × AllFronts points (printed_world loaded fuel lines order).events × (at_number (said_by_each (printed_world loaded fuel lines order)) thread ≡ Some (printed_by loaded thread fuel own points))
 
 -- one thread, whatever its looks see
 abbrev pub PrintsItsMeaning : Type 0

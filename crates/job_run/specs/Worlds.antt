@@ -1,12 +1,12 @@
 -- All threads of a job whose lines call functions: what they mean, and what the machine prints.
-use Rattle.std.specs.Prelude.{◌≡◌, ℕ, suc, ◌*◌, Bool, List, [], ◌∷◌, map, Option, None}
+use Rattle.std.specs.Prelude.{ℕ, suc, ◌*◌, Bool, List, [], ◌∷◌, map, Option, None}
 use Rattle.guest_machine.specs.Plain.{plain_operations}
 use Rattle.guest_machine.specs.Use.{After}
 use Rattle.job_meaning.specs.declared.values.Byte.{Byte}
 use Rattle.job_text.specs.declared.event.Event.{Event}
 use Rattle.thread_blocks.specs.MachineTurns.{Loaded, CallLine, machine_turns, thread_start}
 use Rattle.thread_blocks.specs.Spaces.{Space}
-use Rattle.thread_blocks.specs.Turns.{Said, Thread, World, by_order, ready, turns}
+use Rattle.thread_blocks.specs.Turns.{Said, Thread, Turns, World, by_order, ready, turns}
 use Rattle.thread_blocks.specs.TurnsAlike.{HasUnclean, AnyUnclean}
 use Rattle.job_run.specs.Meaning.{Meant, meant_start, meant_turns}
 use Rattle.job_run.specs.Numbered.{Numbered, numbered, each}
@@ -30,14 +30,21 @@ first_world start lines = record { threads = threads_from start 1 lines; events 
 abbrev pub adds_none : {E : Type 0} → CallLine → List E → Option E
 adds_none line seen = None
 
+-- the turns of all threads
+abbrev pub all_meant : {E : Type 0} → ℕ → Loaded Byte → ℕ → Turns (Numbered (Meant E)) CallLine E
+all_meant room loaded fuel = each fuel (λ thread. meant_turns room loaded thread fuel)
+
+abbrev pub all_printed : {E : Type 0} → Loaded ℕ → ℕ → Turns (Numbered (Printed E)) CallLine E
+all_printed loaded fuel = each (4 * fuel) (λ thread. machine_turns loaded thread fuel)
+
 -- lines: those of thread 1, of thread 2, and so on; order: the number of the thread that takes each turn
 abbrev pub meant_world : ℕ → Loaded Byte → ℕ → List (List CallLine) → List ℕ → World (Numbered (Meant Event)) CallLine Event
 meant_world room loaded fuel lines order =
-    by_order (each fuel (λ thread. meant_turns room loaded thread fuel)) adds_none order (first_world (meant_start loaded) lines)
+    by_order (all_meant room loaded fuel) adds_none order (first_world (meant_start loaded) lines)
 
 abbrev pub printed_world : Loaded ℕ → ℕ → List (List CallLine) → List ℕ → World (Numbered (Printed Event)) CallLine Event
 printed_world loaded fuel lines order =
-    by_order (each (4 * fuel) (λ thread. machine_turns loaded thread fuel)) adds_none order (first_world (printed_start loaded) lines)
+    by_order (all_printed loaded fuel) adds_none order (first_world (printed_start loaded) lines)
 
 -- what each thread says of its lines
 abbrev pub said_by_each : {S : Type 0} → World S CallLine Event → List (List Said)
