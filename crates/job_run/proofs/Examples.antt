@@ -1,0 +1,126 @@
+-- Closed jobs whose meaning is computed.
+use Rattle.std.proofs.Common.{◌≡◌, ℕ, zero, suc, ◌<◌, List, [], ◌∷◌, ◌++◌, Option, Some, refl, sym, subst, ◌∙◌, inl, inr, arith}
+use Rattle.std.specs.List.{All}
+use Rattle.amd64_subset.specs.Beginning.{begins_of}
+use Rattle.amd64_subset.specs.Decoding.{end_branch_at, escaped_at, row_at, operated_at, body_at, instruction_at, decoded}
+use Rattle.amd64_subset.specs.Meaning.{numbered_body, operation_of, operand_body}
+use Rattle.amd64_subset.specs.Number.{signed_of}
+use Rattle.amd64_subset.specs.Prefix.{rex_at, prefixes_at}
+use Rattle.amd64_subset.specs.Reading.{numbers_at}
+use Rattle.amd64_subset.specs.Register.{register_of as named_register, number_of}
+use Rattle.amd64_subset.specs.Row.{condition_of, fixed_row_of, row_of, escaped_row_of, arithmetic_of, shift_of, group_action, takes}
+use Rattle.amd64_subset.specs.Selectors.{allowed, displacement_size, memory_in, sib_at, selectors_at}
+use Rattle.guest_machine.specs.declared.cause.Cause.TheVariants.{Linker, Steps}
+use Rattle.guest_machine.specs.declared.stop.Stop.{Stop}
+use Rattle.guest_machine.specs.declared.stop.Stop.TheVariants.{Returned, Address, Unclean}
+use Rattle.guest_machine.specs.Access.{fetch_of, load_of, store_of}
+use Rattle.guest_machine.specs.Operand.{base_of, index_of, address_of, kept, carried}
+use Rattle.guest_machine.specs.State.{register_of, with_register, start_of}
+use Rattle.guest_machine.specs.Step.{act, frame_of, move_of, move_in, stored, return_of, jump_of}
+use Rattle.job_meaning.specs.Marked.{marked_operations}
+use Rattle.job_meaning.specs.Owner.{owner_at}
+use Rattle.job_meaning.specs.Reading.{completed, hindrance, meaning_step}
+use Rattle.job_meaning.specs.Running.{meaning}
+use Rattle.job_text.specs.declared.event.Event.{Event}
+use Rattle.link_core.specs.Parts.{Image}
+use Rattle.thread_blocks.specs.MachineTurns.{CallLine, call_said, zeros}
+use Rattle.thread_blocks.specs.Spaces.{space_accesses}
+use Rattle.thread_blocks.specs.Turns.{Said, Stopped}
+use Rattle.thread_blocks.specs.TurnsAlike.{HasUnclean}
+use Rattle.job_run.specs.Loading.{machine_loaded, meaning_loaded, HasBytes}
+use Rattle.job_run.specs.Meaning.{meant_accesses, meant_turns, meant_said}
+use Rattle.job_run.specs.Worlds.{threads_from, meant_world, said_by_each, meant_by, AreClean}
+use Rattle.job_run.proofs.Said.{call_says}
+
+-- an image whose one block, of every thread, is the four bytes below the thread pointer
+abbrev image : List ℕ → Image
+image code = record {
+  code = record { place = 0x400000; bytes = code };
+  constants = record { place = 0x401000; bytes = [] };
+  initial = record { place = 0x401000; bytes = 0x2a ∷ 0 ∷ 0 ∷ 0 ∷ [] };
+  block_size = 4;
+  block_offset = 4;
+}
+
+-- each name is that of the one function
+abbrev entry : List ℕ → Option ℕ
+entry symbol = Some 0x400000
+
+abbrev line : CallLine
+line = record { symbol = []; a = 0; b = 0; c = 0 }
+
+-- thread 1 calls it, for at most so many steps; the room begins behind the last section
+abbrev said : ℕ → List ℕ → List Said
+said fuel code = meant_said Event 0x402000 (meaning_loaded (image code) entry) 1 fuel line
+
+abbrev ends : Stop → List Said
+ends stop = record { points = 0 ∷ []; ending = Stopped stop } ∷ []
+
+-- jmp to itself
+spins : said 0 (0xeb ∷ 0xfe ∷ []) ≡ ends (Unclean 0x400000 Steps)
+unfolding meant_said meant_turns meant_accesses meaning meaning_step hindrance completed begins_of end_branch_at escaped_at row_at operated_at body_at instruction_at decoded numbered_body operation_of operand_body signed_of rex_at prefixes_at numbers_at named_register number_of condition_of fixed_row_of row_of escaped_row_of arithmetic_of shift_of group_action takes allowed displacement_size memory_in sib_at selectors_at fetch_of space_accesses marked_operations register_of with_register start_of act frame_of jump_of zeros
+spins = refl
+
+-- ret
+returns : said 1 (0xc3 ∷ []) ≡ ends (Returned 0)
+unfolding meant_said meant_turns meant_accesses meaning meaning_step hindrance completed begins_of end_branch_at escaped_at row_at operated_at body_at instruction_at decoded numbered_body operation_of operand_body signed_of rex_at prefixes_at numbers_at named_register number_of condition_of fixed_row_of row_of escaped_row_of arithmetic_of shift_of group_action takes allowed displacement_size memory_in sib_at selectors_at fetch_of load_of space_accesses marked_operations register_of with_register start_of act frame_of return_of zeros owner_at
+returns = refl
+
+-- mov %fs:-4, %eax; ret
+reads : said 2 (0x64 ∷ 0x8b ∷ 0x04 ∷ 0x25 ∷ 0xfc ∷ 0xff ∷ 0xff ∷ 0xff ∷ 0xc3 ∷ []) ≡ ends (Returned 0x2a)
+unfolding meant_said meant_turns meant_accesses meaning meaning_step hindrance completed begins_of end_branch_at escaped_at row_at operated_at body_at instruction_at decoded numbered_body operation_of operand_body signed_of rex_at prefixes_at numbers_at named_register number_of condition_of fixed_row_of row_of escaped_row_of arithmetic_of shift_of group_action takes allowed displacement_size memory_in sib_at selectors_at fetch_of load_of space_accesses marked_operations register_of with_register start_of act frame_of return_of move_of move_in carried base_of index_of address_of kept jump_of stored store_of zeros owner_at
+reads = refl
+
+-- mov 0x402000, %eax: the first byte of the linker's room
+reads_room : said 1 (0x8b ∷ 0x04 ∷ 0x25 ∷ 0x00 ∷ 0x20 ∷ 0x40 ∷ 0x00 ∷ []) ≡ ends (Unclean 0x400000 Linker)
+unfolding meant_said meant_turns meant_accesses meaning meaning_step hindrance completed begins_of end_branch_at escaped_at row_at operated_at body_at instruction_at decoded numbered_body operation_of operand_body signed_of rex_at prefixes_at numbers_at named_register number_of condition_of fixed_row_of row_of escaped_row_of arithmetic_of shift_of group_action takes allowed displacement_size memory_in sib_at selectors_at fetch_of load_of space_accesses marked_operations register_of with_register start_of act frame_of return_of move_of move_in carried base_of index_of address_of kept jump_of stored store_of zeros owner_at
+reads_room = refl
+
+-- mov 0x401ffd, %eax: of these four bytes only the last is the linker's
+reads_into_room : said 1 (0x8b ∷ 0x04 ∷ 0x25 ∷ 0xfd ∷ 0x1f ∷ 0x40 ∷ 0x00 ∷ []) ≡ ends (Unclean 0x400000 Linker)
+unfolding meant_said meant_turns meant_accesses meaning meaning_step hindrance completed begins_of end_branch_at escaped_at row_at operated_at body_at instruction_at decoded numbered_body operation_of operand_body signed_of rex_at prefixes_at numbers_at named_register number_of condition_of fixed_row_of row_of escaped_row_of arithmetic_of shift_of group_action takes allowed displacement_size memory_in sib_at selectors_at fetch_of load_of space_accesses marked_operations register_of with_register start_of act frame_of return_of move_of move_in carried base_of index_of address_of kept jump_of stored store_of zeros owner_at
+reads_into_room = refl
+
+-- mov 0x401ffc, %eax: none is, and nobody may read them
+reads_nothing : said 1 (0x8b ∷ 0x04 ∷ 0x25 ∷ 0xfc ∷ 0x1f ∷ 0x40 ∷ 0x00 ∷ []) ≡ ends (Address 0x400000)
+unfolding meant_said meant_turns meant_accesses meaning meaning_step hindrance completed begins_of end_branch_at escaped_at row_at operated_at body_at instruction_at decoded numbered_body operation_of operand_body signed_of rex_at prefixes_at numbers_at named_register number_of condition_of fixed_row_of row_of escaped_row_of arithmetic_of shift_of group_action takes allowed displacement_size memory_in sib_at selectors_at fetch_of load_of space_accesses marked_operations register_of with_register start_of act frame_of return_of move_of move_in carried base_of index_of address_of kept jump_of stored store_of zeros owner_at
+reads_nothing = refl
+
+-- jmp 0x1000, which is 0x3ff005 bytes before the next instruction
+jumps_out : said 2 (0xe9 ∷ 0xfb ∷ 0x0f ∷ 0xc0 ∷ 0xff ∷ []) ≡ ends (Unclean 0x1000 Linker)
+unfolding meant_said meant_turns meant_accesses meaning meaning_step hindrance completed begins_of end_branch_at escaped_at row_at operated_at body_at instruction_at decoded numbered_body operation_of operand_body signed_of rex_at prefixes_at numbers_at named_register number_of condition_of fixed_row_of row_of escaped_row_of arithmetic_of shift_of group_action takes allowed displacement_size memory_in sib_at selectors_at fetch_of load_of space_accesses marked_operations register_of with_register start_of act frame_of return_of move_of move_in carried base_of index_of address_of kept jump_of stored store_of zeros owner_at
+jumps_out = refl
+
+-- mov %fs:-4, %eax; mov %edi, %fs:-4; ret, called with 3 and then with 5: a block keeps its bytes from line to line
+keeps : meant_by 0x402000 (meaning_loaded (image (0x64 ∷ 0x8b ∷ 0x04 ∷ 0x25 ∷ 0xfc ∷ 0xff ∷ 0xff ∷ 0xff ∷ 0x64 ∷ 0x89 ∷ 0x3c ∷ 0x25 ∷ 0xfc ∷ 0xff ∷ 0xff ∷ 0xff ∷ 0xc3 ∷ [])) entry) 1 3
+    (record line { a = 3 } ∷ record line { a = 5 } ∷ []) ([] ∷ [] ∷ []) ≡ ends (Returned 0x2a) ++ ends (Returned 3)
+unfolding meant_said meant_turns meant_accesses meaning meaning_step hindrance completed begins_of end_branch_at escaped_at row_at operated_at body_at instruction_at decoded numbered_body operation_of operand_body signed_of rex_at prefixes_at numbers_at named_register number_of condition_of fixed_row_of row_of escaped_row_of arithmetic_of shift_of group_action takes allowed displacement_size memory_in sib_at selectors_at fetch_of load_of space_accesses marked_operations register_of with_register start_of act frame_of return_of move_of move_in carried base_of index_of address_of kept jump_of stored store_of zeros owner_at
+keeps = refl
+
+-- two threads, of which the second takes the first turn
+both : said_by_each (meant_world 0x402000 (meaning_loaded (image (0xc3 ∷ [])) entry) 1 ((line ∷ []) ∷ (line ∷ []) ∷ []) (2 ∷ 1 ∷ [])) ≡ ends (Returned 0) ∷ ends (Returned 0) ∷ []
+unfolding threads_from meant_said meant_turns meant_accesses meaning meaning_step hindrance completed begins_of end_branch_at escaped_at row_at operated_at body_at instruction_at decoded numbered_body operation_of operand_body signed_of rex_at prefixes_at numbers_at named_register number_of condition_of fixed_row_of row_of escaped_row_of arithmetic_of shift_of group_action takes allowed displacement_size memory_in sib_at selectors_at fetch_of load_of space_accesses marked_operations register_of with_register start_of act frame_of return_of zeros owner_at
+both = refl
+
+-- ** and so the machine prints the same
+
+all-one : (byte : ℕ) → byte < 256 → (bytes : List ℕ) → All (λ (byte : ℕ). byte < 256) bytes → All (λ (byte : ℕ). byte < 256) (byte ∷ bytes)
+all-one byte small bytes rest zero d within = small
+all-one byte small bytes rest (suc k) d within = rest k d (omega (arith, within))
+
+all-none : All (λ (byte : ℕ). byte < 256) []
+all-none k d within = absurd (omega (arith, within))
+
+has_bytes : HasBytes (image (0xc3 ∷ []))
+has_bytes = record {
+  code = all-one 0xc3 (omega arith) [] all-none;
+  constants = all-none;
+  initial = all-one 0x2a (omega arith) (0 ∷ 0 ∷ 0 ∷ []) (all-one 0 (omega arith) (0 ∷ 0 ∷ []) (all-one 0 (omega arith) (0 ∷ []) (all-one 0 (omega arith) [] all-none)));
+}
+
+is_clean : HasUnclean (ends (Returned 0)) → ⊥
+is_clean (inl unclean) = absurd unclean
+is_clean (inr unclean) = absurd unclean
+
+prints : call_said Event (machine_loaded (image (0xc3 ∷ [])) entry) 1 1 line ≡ ends (Returned 0)
+prints = call_says (image (0xc3 ∷ [])) entry has_bytes 0x402000 1 1 line (subst AreClean (sym returns) is_clean) ∙ returns

@@ -1,0 +1,7 @@
+mod Examples
+pub mod Alone
+pub mod Each
+pub mod Loaded
+pub mod Memory
+pub mod Own
+pub mod Said

@@ -1,0 +1,155 @@
+-- The meaning's memory and the machine's: byte by byte the same, also under writes, and as code the same but where the linker's own stands.
+use Rattle.std.proofs.Common.{◌≡◌, ℕ, ◌||◌, ◌==◌, Bool, true, false, List, [], ◌∷◌, Option, None, refl, ◌∙◌}
+use Rattle.std.specs.Prelude.{if◌then◌else◌}
+use Rattle.std.proofs.lemmas.Bool.{eqb-true}
+use Rattle.guest_machine.specs.declared.cause.Cause.{Cause}
+use Rattle.guest_machine.specs.declared.cause.Cause.TheVariants.{Linker}
+use Rattle.guest_machine.specs.declared.space.Access.TheVariants.{Write}
+use Rattle.guest_machine.specs.Access.{Accesses}
+use Rattle.guest_machine.specs.Follow.{All2, IsKept}
+use Rattle.guest_machine.specs.Plain.{plain_operations}
+use Rattle.guest_machine.specs.Ranges.{Range, grants, with_byte}
+use Rattle.job_meaning.specs.declared.marks.Mark.TheVariants.{Usual, Odd}
+use Rattle.job_meaning.specs.declared.values.Byte.{Byte}
+use Rattle.job_meaning.specs.Code.{SameCodeByte, SameCode}
+use Rattle.job_meaning.specs.Marked.{marked_operations}
+use Rattle.job_meaning.specs.Owner.{owner_at}
+use Rattle.job_meaning.specs.Reading.{starts_field}
+use Rattle.job_meaning.specs.Running.{AreShut}
+use Rattle.job_meaning.specs.Same.{same, SameByte}
+use Rattle.thread_blocks.specs.MachineTurns.{Loaded, stack_start, fixed_of}
+use Rattle.thread_blocks.specs.Spaces.{Space, SameRange, SameSpace, space_accesses, open_everywhere, ranges_of, stack_range}
+use Rattle.thread_blocks.proofs.Spaces.{spaces_kept, all2-append}
+use Rattle.job_run.specs.Meaning.{is_linkers, meant_accesses, meant_mark}
+use Rattle.job_run.proofs.Loaded.{SameCodeIn, none_in, code_same}
+
+-- ** what can be run
+
+abbrev pub NoneRunnable : {B : Type 0} → List (Range B) → Type 0
+NoneRunnable [] = Unit {0}
+NoneRunnable (range ∷ ranges) = (range.runnable ≡ false) × NoneRunnable ranges
+
+module _ {B : Type 0} where
+  either-none : (g : Bool) (xs ys : List (Range B)) → NoneRunnable xs → NoneRunnable ys → NoneRunnable (if g then xs else ys)
+  either-none true xs ys h k = h
+  either-none false xs ys h k = k
+
+  -- a write keeps rights
+  none-with : (ranges : List (Range B)) (place : ℕ) (byte : B) → NoneRunnable ranges → NoneRunnable (with_byte ranges place byte)
+  none-with [] place byte h = tt
+  none-with (range ∷ ranges) place byte h = either-none (grants Write range place) _ (range ∷ with_byte ranges place byte) h (h.0, none-with ranges place byte h.1)
+
+module _ {E B : Type 0} where
+  seen-either : (g : Bool) (space : Space E B) (stack : List B) (own : List (Range B)) → (if g then record space { stack = stack } else record space { own = own }).seen ≡ space.seen
+  seen-either true space stack own = refl
+  seen-either false space stack own = refl
+
+  own-either : (g : Bool) (space : Space E B) (stack : List B) (own : List (Range B)) → NoneRunnable space.own → NoneRunnable own
+      → NoneRunnable (if g then record space { stack = stack } else record space { own = own }).own
+  own-either true space stack own h k = h
+  own-either false space stack own h k = k
+
+-- ** no token ever arises from such an image, so what one would stand for does not matter
+
+pub nothing : ℕ → ℕ → ℕ
+nothing a b = 0
+
+abbrev pub SameBytes : Byte → ℕ → Type 0
+SameBytes = SameByte nothing nothing nothing
+
+-- two memories of a thread that saw these events
+pub record SameAt {E : Type 0} (seen : List E) (m : Space E Byte) (m' : Space E ℕ) : Type 0 where
+  pub space : SameSpace SameBytes m m'
+  pub events : m.seen ≡ seen
+  pub none : NoneRunnable m.own
+
+module _ {E : Type 0} (room thread : ℕ) (loaded : Loaded Byte) (loaded' : Loaded ℕ)
+    (fixed : (seen : List E) → All2 (SameRange SameBytes) (fixed_of (marked_operations owner_at) loaded thread seen) (fixed_of plain_operations loaded' thread seen)) where
+  abbrev pub acc : Accesses (Space E Byte) Byte
+  acc = meant_accesses room loaded thread
+
+  abbrev pub acc' : Accesses (Space E ℕ) ℕ
+  acc' = space_accesses plain_operations (stack_start thread) (fixed_of plain_operations loaded' thread) open_everywhere
+
+  -- the same accesses, with all of the code
+  abbrev whole : Accesses (Space E Byte) Byte
+  whole = space_accesses (marked_operations owner_at) (stack_start thread) (fixed_of (marked_operations owner_at) loaded thread) (λ seen. is_linkers room)
+
+  whole_kept : IsKept (same nothing owner_at nothing nothing) whole acc' (SameSpace {E = E} SameBytes)
+  unfolding same
+  whole_kept =
+      spaces_kept (same nothing owner_at nothing nothing) (marked_operations owner_at) plain_operations (stack_start thread) (fixed_of (marked_operations owner_at) loaded thread)
+      (fixed_of plain_operations loaded' thread) (λ seen. is_linkers room) fixed
+
+  put_seen : (m : Space E Byte) (place : ℕ) (byte : Byte) → (whole.put m place byte).seen ≡ m.seen
+  unfolding space_accesses
+  put_seen m place byte = seen-either (grants Write (stack_range (stack_start thread) m.stack) place) m _ _
+
+  put_none : (m : Space E Byte) (place : ℕ) (byte : Byte) → NoneRunnable m.own → NoneRunnable (whole.put m place byte).own
+  unfolding space_accesses
+  put_none m place byte h = own-either (grants Write (stack_range (stack_start thread) m.stack) place) m _ (with_byte m.own place byte) h (none-with m.own place byte h)
+
+  -- reads and writes
+  pub memory_kept : (seen : List E) → IsKept (same nothing owner_at nothing nothing) acc acc' (SameAt seen)
+  unfolding same meant_accesses
+  memory_kept seen = record {
+    byte = λ m m' h place. whole_kept.byte m m' h.space place;
+    writes = λ m m' h place. whole_kept.writes m m' h.space place;
+    put = λ m m' h place b b' k allowed. record {
+      space = whole_kept.put m m' h.space place b b' k allowed;
+      events = put_seen m place b ∙ h.events;
+      none = put_none m place b h.none;
+    };
+    still = λ m place at b. whole_kept.still m place at b;
+  }
+
+  -- where the linker's functions are called nothing is the program's
+  called-shut : (m : Space E Byte) (place : ℕ) → is_linkers room place ≡ true → (why : Cause) × ((meant_mark room m place ≡ Odd why) × (acc.code m place ≡ None))
+  unfolding meant_accesses
+  called-shut m place e = (Linker, (rw e refl, rw e refl))
+
+  look-linkers : (a b : Bool) (place : ℕ) → (place == 0x1000) ≡ a → (place == 0x1800) ≡ b → (a || b) ≡ true → is_linkers room place ≡ true
+  look-linkers true b place e f look = rw (eqb-true place 0x1000 e) refl
+  look-linkers false true place e f look = rw (eqb-true place 0x1800 f) refl
+  look-linkers false false place e f look = absurd cc
+
+  pub are_shut : AreShut (marked_operations owner_at) acc (meant_mark room)
+  are_shut m place look = called-shut m place (look-linkers (place == 0x1000) (place == 0x1800) place refl refl look)
+
+  -- ** code
+
+  own-code : (own : List (Range Byte)) (own' : List (Range ℕ)) → All2 (SameRange SameBytes) own own' → NoneRunnable own → All2 SameCodeIn own own'
+  own-code [] [] h none = tt
+  own-code [] (range' ∷ own') h none = absurd h
+  own-code (range ∷ own) [] h none = absurd h
+  own-code (range ∷ own) (range' ∷ own') h none = (none_in range range' none.0 (h.0.runnable ∙ none.0), own-code own own' h.1 none.1)
+
+  module _ (parts : All2 SameCodeIn loaded.fixed loaded'.fixed) where
+    ranges-code : (m : Space E Byte) (m' : Space E ℕ) → SameSpace SameBytes m m' → NoneRunnable m.own
+        → All2 SameCodeIn (ranges_of (stack_start thread) (fixed_of (marked_operations owner_at) loaded thread) m) (ranges_of (stack_start thread) (fixed_of plain_operations loaded' thread) m')
+    ranges-code m m' h none = (
+      none_in _ _ refl refl,
+      all2-append SameCodeIn m.own (fixed_of (marked_operations owner_at) loaded thread m.seen) m'.own (fixed_of plain_operations loaded' thread m'.seen)
+          (own-code m.own m'.own h.own none) (none_in _ _ refl refl, parts),
+    )
+
+    whole-code : (m : Space E Byte) (m' : Space E ℕ) (place : ℕ) → SameSpace SameBytes m m' → NoneRunnable m.own → acc'.code m' place ≡ whole.code m place
+    unfolding space_accesses plain_operations marked_operations
+    whole-code m m' place h none =
+        code_same (ranges_of (stack_start thread) (fixed_of (marked_operations owner_at) loaded thread) m) (ranges_of (stack_start thread) (fixed_of plain_operations loaded' thread) m') place
+        (ranges-code m m' h none)
+
+    either-mark : (own : Bool) (a a' : Option ℕ) → a' ≡ a → SameCodeByte (if own then Odd Linker else Usual) (if own then None else a) a'
+    either-mark true a a' e = tt
+    either-mark false a a' e = e
+
+    no-field : (own : Bool) → starts_field (if own then Odd Linker else Usual) ≡ true → ⊥
+    no-field true e = cc
+    no-field false e = cc
+
+    pub code_kept : (SameField : ℕ → ℕ → ℕ → Type 0) (seen : List E) (m : Space E Byte) (m' : Space E ℕ) → SameAt seen m m' → SameCode (meant_mark room m) SameField acc acc' m m'
+    unfolding meant_accesses
+    code_kept SameField seen m m' h = record {
+      byte = λ place. either-mark (is_linkers room place) (whole.code m place) (acc'.code m' place) (whole-code m m' place h.space h.none);
+      field = λ place marked four. absurd (no-field (is_linkers room place) marked);
+    }

@@ -1,0 +1,71 @@
+-- Lines that call a function, as the meaning has them: over marked values, and with places that are the linker's own.
+use Rattle.std.specs.Prelude.{ℕ, ◌+◌, ◌^◌, ◌&&◌, ◌||◌, Bool, List, [], ◌∷◌, nat_le, nat_lt, None, if◌then◌else◌}
+use Rattle.guest_machine.specs.declared.cause.Cause.TheVariants.{Linker}
+use Rattle.guest_machine.specs.Access.{Accesses}
+use Rattle.guest_machine.specs.Use.{After}
+use Rattle.job_meaning.specs.declared.marks.Mark.{Mark}
+use Rattle.job_meaning.specs.declared.marks.Mark.TheVariants.{Usual, Odd}
+use Rattle.job_meaning.specs.declared.values.Byte.{Byte}
+use Rattle.job_meaning.specs.declared.values.Flag.{Flag}
+use Rattle.job_meaning.specs.declared.values.Word.{Word}
+use Rattle.job_meaning.specs.Marked.{marked_operations}
+use Rattle.job_meaning.specs.Owner.{owner_at}
+use Rattle.job_meaning.specs.Running.{meaning}
+use Rattle.thread_blocks.specs.MachineTurns.{Loaded, CallLine, stack_start, fixed_of, begin_call, looked, thread_start}
+use Rattle.thread_blocks.specs.Spaces.{Space, space_accesses}
+use Rattle.thread_blocks.specs.Turns.{Said, Calls, Turns, ready, turn}
+
+-- one of the eight bytes from a place on
+abbrev pub is_in_eight : ℕ → ℕ → Bool
+is_in_eight start place = nat_le start place && nat_lt place (start + 8)
+
+-- where `__tls_get_addr` and the function of descriptors are called
+abbrev pub is_of_run_time : ℕ → Bool
+is_of_run_time place = is_in_eight 0x1000 place || is_in_eight 0x1800 place
+
+-- where an executable's space ends
+abbrev pub image_end : ℕ
+image_end = 0x400000 + 2 ^ 26
+
+-- from where the objects' sections end, a linker may place what it makes
+abbrev pub is_in_room : ℕ → ℕ → Bool
+is_in_room room place = nat_le room place && nat_lt place image_end
+
+-- whether a place is the linker's own; room: where the objects' sections end
+abbrev pub is_linkers : ℕ → ℕ → Bool
+is_linkers room place = is_of_run_time place || is_in_room room place
+
+-- what a thread of the meaning holds
+abbrev pub Meant : Type 0 → Type 0
+Meant E = After Word Flag (Space E Byte)
+
+-- what its memory lets it do: at a place of the linker's own nothing
+unfoldable pub meant_accesses : {E : Type 0} → ℕ → Loaded Byte → ℕ → Accesses (Space E Byte) Byte
+meant_accesses {E} room loaded thread =
+    let acc = space_accesses {E = E} (marked_operations owner_at) (stack_start thread) (fixed_of (marked_operations owner_at) loaded thread) (λ seen. is_linkers room) in record {
+      byte = acc.byte;
+      writes = acc.writes;
+      put = acc.put;
+      code = λ space place. if is_linkers room place then None else acc.code space place;
+    }
+
+-- what its code is: an image of sections whose fields have their values is as the objects have it, but for the linker's own
+abbrev pub meant_mark : {E : Type 0} → ℕ → Space E Byte → ℕ → Mark
+meant_mark room space place = if is_linkers room place then Odd Linker else Usual
+
+-- the meaning's lines, of at most `fuel` steps each
+unfoldable pub meant_turns : {E : Type 0} → ℕ → Loaded Byte → ℕ → ℕ → Turns (Meant E) CallLine E
+meant_turns {E} room loaded thread fuel = record {
+  steps = meaning (marked_operations owner_at) (meant_accesses {E = E} room loaded thread) (meant_mark room);
+  fuel = fuel;
+  begin = λ line seen at. begin_call (marked_operations owner_at) loaded thread line seen at;
+  resume = λ seen at. Calls (looked (marked_operations owner_at) seen at);
+}
+
+-- what a thread of the meaning holds before its first line
+abbrev pub meant_start : {E : Type 0} → Loaded Byte → ℕ → Meant E
+meant_start loaded thread = thread_start (marked_operations owner_at) loaded thread
+
+-- what a thread means that has one line, which sees no event
+unfoldable pub meant_said : (E : Type 0) → ℕ → Loaded Byte → ℕ → ℕ → CallLine → List Said
+meant_said E room loaded thread fuel line = (turn (meant_turns {E = E} room loaded thread fuel) (ready (meant_start loaded thread) (line ∷ [])) []).said

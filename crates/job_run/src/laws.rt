@@ -1,0 +1,31 @@
+//! Laws of jobs. The functions do nothing: what they ensure is the law.
+
+ghost use Rattle.job_run.specs.Statements.{PrintsItsMeanings, PrintsItsMeaning, CallMeans, ThreadsTakeTheirOwnTurns, ThreadsSayTheirOwn};
+
+/// Where the meaning of no line is unclean, the machine over the linked image prints what all threads
+/// mean, in any order of their turns: the same history, and of each line the same.
+pub fn prints_its_meanings()
+    ensures { PrintsItsMeanings }
+{}
+
+/// Where the meaning of none of its lines is unclean, the machine prints what one thread means, whatever
+/// its looks see.
+pub fn prints_its_meaning()
+    ensures { PrintsItsMeaning }
+{}
+
+/// Where its meaning is clean, the machine prints what one call means.
+pub fn call_means()
+    ensures { CallMeans }
+{}
+
+/// Among others a thread of the machine takes the turns that it would take alone.
+pub fn threads_take_their_own_turns()
+    ensures { ThreadsTakeTheirOwnTurns }
+{}
+
+/// What a thread of the machine says in an order of turns, it says alone where its looks see the same
+/// fronts of the history.
+pub fn threads_say_their_own()
+    ensures { ThreadsSayTheirOwn }
+{}

@@ -1,0 +1,55 @@
+//! What a job means, and that the machine over the linked image prints it.
+//!
+//! A job says which objects are linked and which functions its threads call. There are two answers to
+//! "what does it print?".
+//!
+//! **The machine's.** Link the objects, load the image, and let each thread run its calls over plain
+//! numbers. That is what the command does (`thread_blocks`), and it depends on the linker: where it put a
+//! stub or a table, a program can read those bytes, or jump into them.
+//!
+//! **The meaning's.** Run the calls over the bytes of the objects' own sections, with marked values
+//! (`job_meaning`), where some places are the linker's own and no program's: the room behind the last
+//! section, up to the end of the image, and the places at which the functions of the run time are
+//! called, 0x1000 and 0x1800 (`is_linkers`, `specs/Meaning.antt`). What stands there is nothing that a
+//! job can mean, so a line that reads, writes or runs one of these bytes is **unclean**, with the cause
+//! `Linker`; so is a line that uses what is unknown, such as a flag that an instruction leaves undefined
+//! (Intel's manual, volume 1, appendix A), and one whose steps are used up.
+//!
+//! A line that is clean has one answer, which no linker can change. The laws (`laws`) say that it is
+//! the machine's, for the image that was linked:
+//!
+//! - `call_means`: one thread with one line;
+//! - `prints_its_meaning`: one thread with any lines, whatever events its looks see;
+//! - `prints_its_meanings`: all threads in any order of their turns. Then each thread says the same of each
+//!   line, the numbers of events that its looks saw included, and the histories are the same.
+//!
+//! Where a line is unclean the laws promise nothing of the whole job, and they could not: what a program
+//! makes of the linker's bytes it may store, in its block of thread-local storage, and so the next line,
+//! itself clean, may print it.
+//!
+//! An example, with the variable `x` of 4 bytes, `2a 00 00 00`, in a block right below the thread pointer:
+//!
+//!     0x400000   64 8b 04 25 fc ff ff ff     mov %fs:-4, %eax
+//!     0x400008   c3                          ret
+//!
+//! The call at 0x400000 means `Returned(0x2a)`, and the machine prints it. If the room begins at 0x402000,
+//! then `8b 04 25 00 20 40 00`, mov 0x402000, %eax, is unclean at 0x400000 with the cause `Linker`, and
+//! the machine may load what it finds there. `proofs/Examples.antt` computes both, and more.
+//!
+//! **How the two are related** (`proofs/Memory.antt`). One definition loads an image for both
+//! (`loaded_by`, `specs/Loading.antt`): the machine sees each byte as a number, the meaning as a value. From
+//! there on registers, stacks and blocks stay related byte by byte, what can be fetched is the same
+//! wherever it is not the linker's, and no block can be run, since writes keep rights. One step of the meaning
+//! is one step of the machine, so four times the meaning's steps are more than enough for it.
+//!
+//! **Threads among others** (`specs/Numbered.antt`) have their number in their state, since each has its own
+//! stack, thread pointer and blocks. Each takes the turns that it would take alone
+//! (`threads_take_their_own_turns`, `threads_say_their_own`).
+//!
+//! **What grows later.** No byte of these images is a token, and no sequence is rewritten. Where one is, its
+//! places get marks of their own, a base gets a number by the function `base` of `job_meaning`'s relation,
+//! which here is never asked, and a line may look in its middle. Lines that open and close modules add
+//! events, and what is loaded becomes a function of these. The statements stay as they are.
+#![tactic(auto)]
+
+pub mod laws;
