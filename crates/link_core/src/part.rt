@@ -1,5 +1,5 @@
 //! The parts of an image: sections of a class at their places, and zeros between them.
-ghost use Rattle.std.specs.Prelude.{◌≡◌, ◌<◌, ◌≤◌, ◌^◌, [], All, IfOk, OnOk, length, true, unwrap_or};
+ghost use Rattle.std.specs.Prelude.{◌≡◌, ℕ, ◌<◌, ◌≤◌, ◌^◌, [], All, IfOk, OnOk, length, true, unwrap_or};
 ghost use Rattle.elf_object.specs.Object.{section_count};
 ghost use Rattle.tls_layout.specs.Places.{address_of};
 ghost use Rattle.link_core.specs.Fields.{block_offset as offset_of_block};
@@ -55,8 +55,11 @@ impl Part {
 
     /// The bytes alone.
     pub fn into_bytes(self) -> Vec<u8>
-        ensures { result.items ≡ self.bytes }
+        ensures bytes { result.items ≡ self.bytes }
+        ensures small { All (λ (byte : ℕ). byte < 256) self.bytes }
     {
+        // Read as a slice they show their range.
+        let _bytes = self.bytes.as_slice();
         self.bytes
     }
 }

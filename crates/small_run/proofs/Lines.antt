@@ -1,6 +1,6 @@
 -- What is said of a small job's line.
 use Rattle.std.proofs.Common.{◌≡◌, ◌<◌, ◌^◌, ◌∙◌, ◌&&◌, ℕ, zero, suc, Bool, true, false, List, [], ◌∷◌, All, map, map-id, Option, Some, None, Result, Ok, Err, IfOk, refl, sym, ap, subst, arith}
-use Rattle.std.specs.Prelude.{IfErr, slice_index_or}
+use Rattle.std.specs.Prelude.{IfErr, nat_le, slice_index_or}
 use Rattle.job_meaning.specs.declared.values.Byte.{Byte}
 use Rattle.job_run.specs.Loading.{machine_loaded, meaning_loaded, HasBytes}
 use Rattle.job_run.specs.Meaning.{meant_said, meant_turns}
@@ -9,7 +9,8 @@ use Rattle.job_text.specs.declared.event.Event.{Event}
 use Rattle.job_text.specs.declared.transcripts.Outcome.{Outcome}
 use Rattle.job_text.specs.declared.transcripts.Outcome.TheVariants.{Refused}
 use Rattle.job_text.specs.declared.transcripts.Refusal.TheVariants.{Symbol}
-use Rattle.link_core.specs.Parts.{Image}
+use Rattle.link_core.specs.Entries.{entry_of}
+use Rattle.link_core.specs.Parts.{Image, image_of}
 use Rattle.not_yet.specs.SmallJobs.{Small}
 use Rattle.thread_blocks.specs.declared.call.Call.{Call}
 use Rattle.thread_blocks.specs.declared.parts.Executable.{Executable}
@@ -18,13 +19,14 @@ use Rattle.thread_blocks.specs.Parts.{loaded_of, IsCallOutcome}
 use Rattle.small_run.specs.Executables.{IsExecutable, IsPart}
 use Rattle.link_core.specs.Taken.{object_is_taken}
 use Rattle.link_faults.specs.declared.image_kind.ImageKind.TheVariants.{Exe}
-use Rattle.not_yet.specs.SmallObjects.{is_small_object}
+use Rattle.not_yet.specs.SmallObjects.{is_small_object, names_are_small, all_new, global_names, symbols, relocation_count}
+use Rattle.elf_object.specs.Parts.{symbol_count}
 use Rattle.tls_layout.specs.Places.{room}
 use Rattle.tls_layout.specs.Sections.{Layout, layout_of}
 use Rattle.small_run.specs.declared.refusal.Refusal.{Refusal}
-use Rattle.small_run.specs.declared.refusal.Refusal.TheVariants.{OutOfMemory}
+use Rattle.small_run.specs.declared.refusal.Refusal.TheVariants.{OutOfMemory, Fault, NotYet}
 use Rattle.small_run.specs.Narrow.{call_line, fits, is_narrow, layout_one, image_one, entry_one, printed, meant}
-use Rattle.small_run.specs.Runs.{IsLine, IsCalled, IsPlainObject, HasRun, IsRefused, Comes}
+use Rattle.small_run.specs.Runs.{IsLine, IsCalled, IsPlainObject, HasRun, IsRefused, NotPlaced, Comes}
 
 -- a call of a name that is none of a function's
 pub refused_call : (loaded : Loaded ℕ) (fuel : ℕ) (line : CallLine) → loaded.entry line.symbol ≡ None → IsLine (call_said Event loaded 1 fuel line) (Refused Symbol)
@@ -62,7 +64,7 @@ last_of false b c d e h = cc
 
 pub taken_of_small : (b : List ℕ) → is_small_object b ≡ true → All (λ b. object_is_taken b ≡ true) (b ∷ [])
 unfolding is_small_object
-taken_of_small b small = one (last_of _ _ _ _ (object_is_taken b) small)
+taken_of_small b small = one (last_of (nat_le (symbol_count b) 1025) (names_are_small b) (all_new [] (global_names b (symbols b))) (nat_le (relocation_count b) (2 ^ 19)) (object_is_taken b) small)
   where
     one : object_is_taken b ≡ true → (k : ℕ) (d : List ℕ) → k < 1 → object_is_taken (slice_index_or (b ∷ []) k d) ≡ true
     one h zero d k = h
@@ -74,7 +76,7 @@ not_narrow b other = rw other refl
 
 pub narrow_of : (b : List ℕ) (p : Layout) → p ≡ layout_of Exe (b ∷ []) → is_small_object b ≡ true → fits p ≡ true → is_narrow b ≡ true
 unfolding is_narrow layout_one
-narrow_of b p is small fit = rw (small, ← is) fit
+narrow_of b p is small fit = rw small (subst (λ (q : Layout). fits q ≡ true) is fit)
 
 -- ** what a small job comes to
 
@@ -101,3 +103,20 @@ module _ (b : List ℕ) (job : Small) (plain : IsPlainObject b) (narrow : is_nar
     printed_is = refused_call (machine_loaded (image_one b) (entry_one b)) job.fuel (call_line job) none;
     meant_is = λ clean. refused_meaning (room (layout_one b).kind (layout_one b).sections) (meaning_loaded (image_one b) (entry_one b)) job.fuel (call_line job) none;
   }
+
+-- ** what stands for the object is its own
+
+module _ (b : List ℕ) (p : Layout) (is : p ≡ layout_of Exe (b ∷ [])) where
+  pub image_is : (image : Image) → image ≡ image_of p (b ∷ []) → image ≡ image_one b
+  unfolding image_one layout_one
+  image_is image e = e ∙ ap (λ q. image_of q (b ∷ [])) is
+
+  pub entry_is : (name found : List ℕ) (r place : Option ℕ) → r ≡ entry_of p (b ∷ []) found → found ≡ name → r ≡ place → entry_one b name ≡ place
+  unfolding entry_one layout_one
+  entry_is name found r place e same at = sym (e ∙ ap (λ q. entry_of q (b ∷ []) found) is ∙ ap (λ (n : List ℕ). entry_of (layout_of Exe (b ∷ [])) (b ∷ []) n) same) ∙ at
+
+pub not_placed : (b : List ℕ) (job : Small) (refusal : Refusal) → IsPlainObject b → is_small_object b ≡ true → NotPlaced (layout_of Exe (b ∷ [])) refusal → Comes b job (Err refusal)
+unfolding is_narrow layout_one
+not_placed b job OutOfMemory plain small h = tt
+not_placed b job (Fault section entry kind) plain small h = absurd h
+not_placed b job NotYet plain small h = (plain, rw small h)

@@ -40,7 +40,10 @@ fn run_object(alloc: Global, job: &SmallJob, object: Object) -> Result<Outcome, 
 {
     call_means();
     let objects = [object];
-    let placement = placement_of(alloc, &objects)?;
+    let placement = match placement_of(alloc, &objects) {
+        Ok(placement) => placement,
+        Err(refusal) => return Err(refusal),
+    };
     let linked = link(alloc, &placement, &objects)?;
     match entry_place(&placement, &objects, job.symbol.as_bytes()) {
         Some(place) => call(alloc, job, linked, place),
