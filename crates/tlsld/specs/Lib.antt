@@ -1,6 +1,7 @@
 pub mod Delivery
 pub mod Faults
 pub mod FetchFaults
-pub mod Statuses
 pub mod Replies
-pub mod Extents
+pub mod Says
+pub mod Statuses
+pub mod Steps

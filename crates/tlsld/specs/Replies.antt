@@ -1,7 +1,12 @@
 -- What a command answers, and what that has to do with the store.
-use Rattle.std.specs.Prelude.{◌≡◌, ℕ, ◌⊎◌}
+use Rattle.std.specs.Prelude.{◌≡◌, ℕ, ◌⊎◌, List, Option, codes}
+use Rattle.command_line.specs.declared.tasks.Task.{Task}
+use Rattle.command_line.specs.declared.tasks.Task.TheVariants as task
+use Rattle.ports.specs.Files.{Files}
+use Rattle.tlsld.specs.Says.{RunSays}
+use Rattle.tlsld.specs.Steps.{AsksFront, run_names, with_names}
 use Rattle.tlsld.specs.Statuses.{code_of, IsLate}
-use Rattle.tlsld.specs.Delivery.{IsTextOf}
+use Rattle.tlsld.specs.Delivery.{IsTextOf, IsTaken, SinkView}
 use Rattle.ports.specs.Counts.{Counted}
 use Rattle.tlsld.specs.declared.status.Status.{Status}
 use Rattle.tlsld.specs.declared.status.Status.TheVariants as status
@@ -27,6 +32,28 @@ abbrev pub IsDelivered : Answer → ℕ → Type 0
 IsDelivered (Replies reply) code = (code ≡ code_of reply.status) ⊎ IsLate code
 IsDelivered StoreFails code = (code ≡ 3) ⊎ IsLate code
 IsDelivered NoMemory code = IsLate code
+
+-- the file of the job that a task runs
+abbrev pub job_name : Task → List ℕ
+job_name (task.Run job no_relax) = job
+
+-- the answer is what the command says over these files, but that the store may fail, and memory may be wanting
+abbrev pub AnswerSays : Files → Task → Answer → Type 0
+AnswerSays fs asked (Replies reply) = RunSays fs (job_name asked) (code_of reply.status) reply.text.items
+AnswerSays fs asked StoreFails = Unit {0}
+AnswerSays fs asked NoMemory = Unit {0}
+
+-- the names asked for are a front of the command's, and all of them where it replies
+abbrev pub AsksOfAnswer : Files → Task → Option (List (List ℕ)) → Option (List (List ℕ)) → Answer → Type 0
+AsksOfAnswer fs asked old new (Replies reply) = new ≡ with_names (run_names fs (job_name asked)) old
+AsksOfAnswer fs asked old new StoreFails = AsksFront (run_names fs (job_name asked)) old new
+AsksOfAnswer fs asked old new NoMemory = AsksFront (run_names fs (job_name asked)) old new
+
+-- what reached the sink: the reply, or the line of a store that failed; a late number says that it did not
+abbrev pub Reached : Answer → SinkView → SinkView → ℕ → Type 0
+Reached (Replies reply) old new code = IsLate code ⊎ ((code ≡ code_of reply.status) × IsTaken reply.text.items old new)
+Reached StoreFails old new code = IsLate code ⊎ ((code ≡ 3) × IsTaken (codes "store fault\n") old new)
+Reached NoMemory old new code = IsLate code
 
 -- a reply's text goes with its status
 abbrev pub IsOwnText : Answer → Type 0

@@ -1,27 +1,31 @@
 //! The commands: for each one the steps from its words to its output, in the order in which their faults come.
-ghost use Rattle.std.specs.Prelude.{◌≡◌, [], IfOk};
+ghost use Rattle.std.specs.Prelude.{◌≡◌, ◌<◌, ◌^◌, Some, Ok, IfOk, IfErr, IfSome};
+ghost use Rattle.std.specs.Result.{result_map};
+ghost use Rattle.job_text.specs.Jobs.{job_of as job_of_text};
+ghost use Rattle.ports.specs.Files.{with_name};
 ghost use Rattle.tlsld.specs.Faults.{StoreCounts, NoStoreFault, IsNoStoreFault};
-ghost use Rattle.tlsld.specs.Replies.{AnswerCounts, IsOwnText};
+ghost use Rattle.tlsld.specs.Replies.{AnswerCounts, AnswerSays, AsksOfAnswer};
+ghost use Rattle.tlsld.specs.Says.{JobSays, ObjectSays, RunSays, SmallSays, one_line_text};
+ghost use Rattle.tlsld.specs.Steps.{Asks, Comes, IsNoJob, IsRefusalOf, job_names, run_names};
 
 use crate::fault::{CommandFault, Reason, Refusal};
 use crate::fetched::whole_file;
-use crate::link::{function_place, link};
-use crate::not_yet::{SmallJob, small_job, small_object};
 use crate::refusal::reply_of;
 use crate::reply::{Answer, Reply};
 use crate::status::Status;
-use crate::thread::outcome_of;
 use command_line::Task;
-use elf_object::{FaultKind, Object, ObjectFault};
 use job_text::{Job, JobFault, Line, Outcome, Points, Transcript};
+use not_yet::{SmallJob, small_job};
 use ports::Store;
+use small_run::run_small;
 use std::alloc::{AllocError, Global};
 
 /// What a command answers.
 pub fn answer<S: Store>(alloc: Global, task: &Task, store: &mut S) -> Answer
     ensures files { S.files store.new ≡ S.files store.old }
     ensures cause { AnswerCounts (S.faults store.old) (S.faults store.new) result }
-    ensures text { IsOwnText result }
+    ensures says { IfSome (S.files store.old) (λ fs. AnswerSays fs task.now result) }
+    ensures asks { IfSome (S.files store.old) (λ fs. AsksOfAnswer fs task.now (S.asked store.old) (S.asked store.new) result) }
 {
     let Task::Run { job, no_relax: _ } = task;
     match run(alloc, store, job.as_str()) {
@@ -39,23 +43,35 @@ pub fn answer<S: Store>(alloc: Global, task: &Task, store: &mut S) -> Answer
 }
 
 /// `run JOB`: the transcript of the job.
-fn run<S: Store>(alloc: Global, store: &mut S, job_name: &str) -> Result<Vec<u8>, CommandFault>
+fn run<S: Store>(alloc: Global, store: &mut S, name: &str) -> Result<Vec<u8>, CommandFault>
     ensures files { S.files store.new ≡ S.files store.old }
     ensures cause { StoreCounts (S.faults store.old) (S.faults store.new) result }
+    ensures says { IfSome (S.files store.old) (λ fs. Comes (RunSays fs name.now) (result_map (λ text. text.items) result)) }
+    ensures asks { IfSome (S.files store.old) (λ fs. Asks (run_names fs name.now) (S.asked store.old) (S.asked store.new) result) }
 {
-    let job_bytes = whole_file(alloc, store, job_name)?;
-    let job = job_of(alloc, job_bytes.as_slice())?;
-    let Some(small) = small_job(&job) else {
-        return Err(CommandFault::Refused(Refusal::JobNotYet));
-    };
-    let object_bytes = whole_file(alloc, store, small.object)?;
-    let transcript = transcript_of(alloc, &small, object_bytes.as_slice())?;
-    text_of(alloc, &job, &transcript)
+    let text = whole_file(alloc, store, name)?;
+    run_job(alloc, store, text.as_slice())
+}
+
+/// The transcript of the job of a text.
+fn run_job<S: Store>(alloc: Global, store: &mut S, text: &[u8]) -> Result<Vec<u8>, CommandFault>
+    ensures files { S.files store.new ≡ S.files store.old }
+    ensures cause { StoreCounts (S.faults store.old) (S.faults store.new) result }
+    ensures says { IfSome (S.files store.old) (λ fs. Comes (JobSays fs (job_of_text text.now)) (result_map (λ text. text.items) result)) }
+    ensures asks { Asks (job_names (job_of_text text.now)) (S.asked store.old) (S.asked store.new) result }
+{
+    let job = job_of(alloc, text)?;
+    match small_job(&job) {
+        Some(small) => run_small_job(alloc, store, &job, &small),
+        None => Err(CommandFault::Refused(Refusal::JobNotYet)),
+    }
 }
 
 /// The job of a text.
 fn job_of(alloc: Global, text: &[u8]) -> Result<Job, CommandFault>
-    ensures { NoStoreFault result }
+    ensures job { IfOk result (λ job. job_of_text text.now ≡ Ok job) }
+    ensures refused { IfErr result (IsNoJob (job_of_text text.now)) }
+    ensures cause { NoStoreFault result }
 {
     match Job::read(alloc, text) {
         Ok(job) => Ok(job),
@@ -64,89 +80,74 @@ fn job_of(alloc: Global, text: &[u8]) -> Result<Job, CommandFault>
     }
 }
 
-/// What comes of the job over the bytes of its object.
-fn transcript_of(alloc: Global, job: &SmallJob, bytes: &[u8]) -> Result<Transcript, CommandFault>
-    ensures threads { IfOk result (λ transcript. transcript.events ≡ []) }
+/// The transcript of a small job.
+fn run_small_job<S: Store>(
+    alloc: Global,
+    store: &mut S,
+    job: &Job,
+    small: &SmallJob,
+) -> Result<Vec<u8>, CommandFault>
+    requires { small.now.fuel < 2 ^ 32 }
+    ensures files { S.files store.new ≡ S.files store.old }
+    ensures cause { StoreCounts (S.faults store.old) (S.faults store.new) result }
+    ensures says { IfSome (S.files store.old) (λ fs. Comes (SmallSays fs job.now (Some small.now)) (result_map (λ text. text.items) result)) }
+    ensures asks { S.asked store.new ≡ with_name small.now.object (S.asked store.old) }
+{
+    let bytes = whole_file(alloc, store, small.object)?;
+    run_object(alloc, job, small, bytes.as_slice())
+}
+
+/// The transcript of a small job over the bytes of its object.
+fn run_object(
+    alloc: Global,
+    job: &Job,
+    small: &SmallJob,
+    bytes: &[u8],
+) -> Result<Vec<u8>, CommandFault>
+    requires { small.now.fuel < 2 ^ 32 }
+    ensures says { Comes (ObjectSays job.now small.now bytes.now) (result_map (λ text. text.items) result) }
     ensures cause { NoStoreFault result }
 {
-    let object = object_of(alloc, job.object, bytes)?;
-    let Some(sections) = small_object(&object) else {
-        return Err(refused_object(alloc, job.object, Reason::NotYet));
-    };
-    let Some(linked) = link(alloc, &object, &sections)? else {
-        return Err(refused_object(alloc, job.object, Reason::NotYet));
-    };
-    let outcome = match function_place(&object, &sections, job.symbol.as_bytes()) {
-        Some(place) => outcome_of(alloc, &linked, 1, job.call_at(place))?,
-        None => Outcome::Refused(job_text::Refusal::Symbol),
-    };
-    one_line(alloc, outcome)
-}
-
-/// The object of these bytes.
-fn object_of<'a>(alloc: Global, name: &str, bytes: &'a [u8]) -> Result<Object<'a>, CommandFault>
-    ensures { NoStoreFault result }
-{
-    let object = match Object::read(alloc, bytes) {
-        Ok(object) => object,
-        Err(ObjectFault::OutOfMemory) => return Err(CommandFault::OutOfMemory),
-        Err(
-            ObjectFault::At {
-                section,
-                entry,
-                kind,
-            },
-        ) => {
-            let reason = Reason::Fault {
-                section,
-                entry,
-                kind,
-            };
-            return Err(refused_object(alloc, name, reason));
-        }
-    };
-    match object.writable() {
-        Some(section) => Err(refused_object(alloc, name, writable_data(section))),
-        None => Ok(object),
+    match run_small(alloc, small, bytes) {
+        Ok(outcome) => Ok(transcript_of(alloc, job, outcome)?),
+        Err(why) => Err(refused_object(alloc, small.object, why)),
     }
 }
 
-/// No command takes data that programs write yet.
-fn writable_data(section: u32) -> Reason {
-    Reason::Fault {
-        section: u64::from(section),
-        entry: 0,
-        kind: FaultKind::WritableData,
-    }
-}
-
-fn refused_object(alloc: Global, name: &str, reason: Reason) -> CommandFault
-    ensures { IsNoStoreFault result }
-{
-    match String::from_str(alloc, name) {
-        Ok(name) => CommandFault::Refused(Refusal::Object { name, reason }),
-        Err(AllocError) => CommandFault::OutOfMemory,
-    }
-}
-
-/// The transcript of one thread with one line, which looked once and saw no event.
-fn one_line(alloc: Global, outcome: Outcome) -> Result<Transcript, CommandFault>
-    ensures events { IfOk result (λ transcript. transcript.events ≡ []) }
-    ensures cause { NoStoreFault result }
+/// The text of a transcript of one thread with one line, which looked once and saw no event.
+#[tactic(auto, unfolding(crate::specs::Says::one_line_text))]
+fn transcript_of(alloc: Global, job: &Job, outcome: Outcome) -> Result<Vec<u8>, job_text::OutOfMemory>
+    ensures { IfOk result (λ text. text.items ≡ one_line_text job.now.images outcome.entry) }
 {
     let points = Points::new(vec![in alloc; 0]?);
     let lines = vec![in alloc; Line { points, outcome }]?;
     let mut transcript = Transcript::new(alloc);
     transcript.push_thread(lines)?;
-    Ok(transcript)
-}
-
-/// The transcript's text.
-fn text_of(alloc: Global, job: &Job, transcript: &Transcript) -> Result<Vec<u8>, CommandFault>
-    requires { transcript.now.events ≡ [] }
-    ensures { NoStoreFault result }
-{
     let mut text = Vec::new(alloc);
     transcript.text(job, &mut text)?;
     Ok(text)
+}
+
+/// The fault of a command whose object is refused.
+fn refused_object(alloc: Global, name: &str, why: small_run::Refusal) -> CommandFault
+    ensures says { IsRefusalOf name.now why result }
+    ensures cause { IsNoStoreFault result }
+{
+    let reason = match why {
+        small_run::Refusal::OutOfMemory => return CommandFault::OutOfMemory,
+        small_run::Refusal::Fault {
+            section,
+            entry,
+            kind,
+        } => Reason::Fault {
+            section,
+            entry,
+            kind,
+        },
+        small_run::Refusal::NotYet => Reason::NotYet,
+    };
+    match String::from_str(alloc, name) {
+        Ok(name) => CommandFault::Refused(Refusal::Object { name, reason }),
+        Err(AllocError) => CommandFault::OutOfMemory,
+    }
 }

@@ -70,16 +70,6 @@ impl<T: Drop> From<AllocFailed<T>> for CommandFault {
     }
 }
 
-impl From<guest_memory::OutOfMemory> for CommandFault {
-    ghost use Rattle.tlsld.specs.declared.fault.CommandFault.TheVariants.{OutOfMemory};
-
-    ghost from_gives = { λ _ fault. fault ≡ OutOfMemory };
-
-    fn from(_error: guest_memory::OutOfMemory) -> CommandFault {
-        CommandFault::OutOfMemory
-    }
-}
-
 impl From<job_text::OutOfMemory> for CommandFault {
     ghost use Rattle.tlsld.specs.declared.fault.CommandFault.TheVariants.{OutOfMemory};
 

@@ -13,22 +13,18 @@
 //!
 //! A command is read from top to bottom in `command`: the job is fetched and read, then its object, then the object is linked,
 //! then a thread runs the call, then the transcript is written. Each step may end the command; what it ends with is a
-//! `CommandFault`, and what is said of it a `Reply`, which reaches the sink in one piece (`reply`). Linking (`link`) and running
-//! (`thread`) take one object so far, and `not_yet` says which jobs and objects are taken.
+//! `CommandFault`, and what is said of it a `Reply`, which reaches the sink in one piece (`reply`). Which jobs and objects are
+//! taken is said by the crate `not_yet`; `small_run` links the object and runs the call.
 #![tactic(auto)]
 
 mod command;
 mod fault;
 mod fetched;
-mod link;
-mod linked;
-mod not_yet;
 mod refusal;
 mod reply;
 mod status;
 #[cfg(test)]
 mod tests;
-mod thread;
 mod top;
 
 use ports::{HostSink, HostStore};

@@ -1,6 +1,7 @@
 //! The line that a refusal puts in place of the output.
-ghost use Rattle.std.specs.Prelude.{IfOk};
-ghost use Rattle.tlsld.specs.Delivery.{IsTextOf};
+ghost use Rattle.std.specs.Prelude.{◌≡◌, IfOk};
+ghost use Rattle.tlsld.specs.Says.{fault_text, not_yet_text};
+ghost use Rattle.tlsld.specs.Steps.{object_text, refusal_code, refusal_text};
 ghost use Rattle.tlsld.specs.Replies.{IsOfFiles};
 ghost use Rattle.tlsld.specs.Statuses.{code_of};
 
@@ -13,7 +14,8 @@ use std::alloc::{AllocError, Global};
 /// The reply that refuses.
 pub fn reply_of(alloc: Global, refusal: &Refusal) -> Result<Reply, AllocError>
     ensures status { IfOk result (λ reply. IsOfFiles reply.status) }
-    ensures text { IfOk result (λ reply. IsTextOf (code_of reply.status) reply.text.items) }
+    ensures code { IfOk result (λ reply. code_of reply.status ≡ refusal_code refusal.now) }
+    ensures text { IfOk result (λ reply. reply.text.items ≡ refusal_text refusal.now) }
 {
     match refusal {
         Refusal::JobNotYet => Ok(Reply {
@@ -27,7 +29,9 @@ pub fn reply_of(alloc: Global, refusal: &Refusal) -> Result<Reply, AllocError>
     }
 }
 
-fn object_line(alloc: Global, name: &str, reason: Reason) -> Result<Vec<u8>, AllocError> {
+fn object_line(alloc: Global, name: &str, reason: Reason) -> Result<Vec<u8>, AllocError>
+    ensures { IfOk result (λ text. text.items ≡ object_text name.now reason) }
+{
     match reason {
         Reason::Fault {
             section,
@@ -44,10 +48,14 @@ fn fault_line(
     section: u64,
     entry: u64,
     kind: FaultKind,
-) -> Result<Vec<u8>, AllocError> {
+) -> Result<Vec<u8>, AllocError>
+    ensures { IfOk result (λ text. text.items ≡ fault_text name.now section entry kind) }
+{
     Ok(format!(in alloc; "object {name} section {section} entry {entry} {kind}\n")?.into_bytes())
 }
 
-fn not_yet_line(alloc: Global, name: &str) -> Result<Vec<u8>, AllocError> {
+fn not_yet_line(alloc: Global, name: &str) -> Result<Vec<u8>, AllocError>
+    ensures { IfOk result (λ text. text.items ≡ not_yet_text name.now) }
+{
     Ok(format!(in alloc; "object {name} section 0 entry 0 NotYet\n")?.into_bytes())
 }

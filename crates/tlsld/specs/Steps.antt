@@ -1,0 +1,85 @@
+-- The steps of a command: what each answers over the files that the store tells, and which names were asked for.
+use Rattle.std.specs.Prelude.{◌≡◌, ℕ, List, [], ◌∷◌, ◌++◌, take, Option, Some, None, string_bytes, Result, Ok, Err}
+use Rattle.std.specs.Option.{option_map}
+use Rattle.job_text.specs.declared.fault.JobFault.{JobFault}
+use Rattle.job_text.specs.Jobs.{JobParts, job_of}
+use Rattle.not_yet.specs.SmallJobs.{Small, small_job}
+use Rattle.ports.specs.Files.{Files, file_at}
+use Rattle.small_run.specs.declared.refusal.Refusal.{Refusal as Why}
+use Rattle.small_run.specs.declared.refusal.Refusal.TheVariants as why
+use Rattle.tlsld.specs.Says.{SmallSays, JobSays, RunSays, ObjectSays, job_not_yet, fault_text, not_yet_text}
+use Rattle.tlsld.specs.Statuses.{code_of}
+use Rattle.tlsld.specs.declared.fault.CommandFault.{CommandFault}
+use Rattle.tlsld.specs.declared.fault.CommandFault.TheVariants as fault
+use Rattle.tlsld.specs.declared.fault.Refusal.{Refusal}
+use Rattle.tlsld.specs.declared.fault.Refusal.TheVariants.{JobNotYet, Object}
+use Rattle.tlsld.specs.declared.fault.Reason.{Reason}
+use Rattle.tlsld.specs.declared.fault.Reason.TheVariants.{Fault, NotYet}
+
+-- the status and the text of a refusal
+abbrev pub refusal_code : Refusal → ℕ
+refusal_code JobNotYet = 5
+refusal_code (Object name reason) = 6
+
+abbrev pub object_text : List ℕ → Reason → List ℕ
+object_text name (Fault section entry kind) = fault_text name section entry kind
+object_text name NotYet = not_yet_text name
+
+abbrev pub refusal_text : Refusal → List ℕ
+refusal_text JobNotYet = job_not_yet
+refusal_text (Object name reason) = object_text (string_bytes name) reason
+
+-- a step's answer is what says, but that the store may fail, and memory may be wanting
+abbrev pub Comes : (ℕ → List ℕ → Type 0) → Result (List ℕ) CommandFault → Type 0
+Comes Says (Ok text) = Says 0 text
+Comes Says (Err fault.Store) = Unit {0}
+Comes Says (Err fault.OutOfMemory) = Unit {0}
+Comes Says (Err (fault.Refused refusal)) = Says (refusal_code refusal) (refusal_text refusal)
+
+-- ---- the names asked for
+
+abbrev pub with_names : List (List ℕ) → Option (List (List ℕ)) → Option (List (List ℕ))
+with_names names = option_map (λ before. before ++ names)
+
+-- a front of these names
+abbrev pub AsksFront : List (List ℕ) → Option (List (List ℕ)) → Option (List (List ℕ)) → Type 0
+AsksFront names old new = (k : ℕ) × (new ≡ with_names (take k names) old)
+
+-- all of them where the step answered by itself
+abbrev pub Asks : {T : Type 0} → List (List ℕ) → Option (List (List ℕ)) → Option (List (List ℕ)) → Result T CommandFault → Type 0
+Asks names old new (Ok x) = new ≡ with_names names old
+Asks names old new (Err fault.Store) = AsksFront names old new
+Asks names old new (Err fault.OutOfMemory) = AsksFront names old new
+Asks names old new (Err (fault.Refused refusal)) = new ≡ with_names names old
+
+-- the object of a small job
+abbrev pub small_names : Option Small → List (List ℕ)
+small_names None = []
+small_names (Some small) = small.object ∷ []
+
+abbrev pub job_names : Result JobParts JobFault → List (List ℕ)
+job_names (Ok job) = small_names (small_job job)
+job_names (Err fault) = []
+
+abbrev pub file_names : Option (List ℕ) → List (List ℕ)
+file_names None = []
+file_names (Some bytes) = job_names (job_of bytes)
+
+-- the names that `run JOB` asks for over these files: the job, and then its object
+abbrev pub run_names : Files → List ℕ → List (List ℕ)
+run_names fs name = name ∷ file_names (file_at fs name)
+
+-- why there is no job
+abbrev pub IsNoJob : Result JobParts JobFault → CommandFault → Type 0
+IsNoJob (Ok job) f = f ≡ fault.OutOfMemory
+IsNoJob (Err e) fault.Store = ⊥
+IsNoJob (Err e) fault.OutOfMemory = Unit {0}
+IsNoJob (Err e) (fault.Refused refusal) = refusal ≡ JobNotYet
+
+-- a refusal of an object, as the command has it
+abbrev pub IsRefusalOf : List ℕ → Why → CommandFault → Type 0
+IsRefusalOf name why fault.Store = ⊥
+IsRefusalOf name why fault.OutOfMemory = Unit {0}
+IsRefusalOf name why.OutOfMemory (fault.Refused refusal) = ⊥
+IsRefusalOf name (why.Fault section entry kind) (fault.Refused refusal) = (refusal_code refusal ≡ 6) × (refusal_text refusal ≡ fault_text name section entry kind)
+IsRefusalOf name why.NotYet (fault.Refused refusal) = (refusal_code refusal ≡ 6) × (refusal_text refusal ≡ not_yet_text name)
