@@ -7,12 +7,14 @@ use Rattle.guest_machine.specs.Run.{Outcome, Ended, Waits, Stepping, run}
 use Rattle.job_text.specs.declared.event.Event.{Event}
 use Rattle.thread_blocks.specs.MachineTurns.{Loaded, CallLine, machine_turns}
 use Rattle.thread_blocks.specs.Spaces.{outcome_image, IsRunImage}
-use Rattle.thread_blocks.specs.Turns.{Said, Begun, Says, Calls, Turns, Phase, Idle, Mid, Thread, after_run, after_look, turn_at, turn, turns, ready, at_number}
+use Rattle.thread_blocks.specs.Turns.{Said, Begun, Says, Calls, Turns, Phase, Idle, Mid, Thread, after_run, after_look, turn_at, turn, turns, ready, at_number, by_order}
 use Rattle.thread_blocks.specs.TurnsAlike.{AllFronts}
 use Rattle.thread_blocks.proofs.Image.{run_image}
 use Rattle.thread_blocks.proofs.Turns.{order_points}
+use Rattle.job_meaning.specs.declared.values.Byte.{Byte}
+use Rattle.job_run.specs.Meaning.{meant_start, meant_turns}
 use Rattle.job_run.specs.Numbered.{Numbered, numbered, numbered_begun, numbered_phase, numbered_thread, each_steps, each}
-use Rattle.job_run.specs.Worlds.{Printed, printed_start, printed_by, printed_world, all_printed, threads_from, first_world, adds_none, said_by_each}
+use Rattle.job_run.specs.Worlds.{Printed, printed_start, printed_by, printed_world, meant_by, meant_world, all_printed, threads_from, first_world, adds_none, said_by_each}
 use Rattle.job_run.proofs.Said.{Any, any-fine, growing}
 
 module _ {S : Type 0} (x : ℕ → Stepping S) (number : ℕ) where
@@ -58,29 +60,46 @@ module _ {S L E : Type 0} where
   thread-at start first (lines ∷ more) zero number own e at = let same : number ≡ first = omega arith in let here : lines ≡ own = cc in rw (same, here) refl
   thread-at start first (lines ∷ more) (suc i) number own e at = thread-at start (suc first) more i number own (omega arith) at
 
--- ** the machine
+-- ** turns of calls
+
+module _ {S : Type 0} (fuel : ℕ) (x : ℕ → Turns S CallLine Event) (same_fuel : (number : ℕ) → (x number).fuel ≡ fuel) (start : ℕ → S) where
+  -- the law of an order
+  own_order : (lines : List (List CallLine)) (order : List ℕ) (thread : ℕ) (own : List CallLine) → at_number lines thread ≡ Some own
+      → (points : List (List Event)) × AllFronts points (by_order (each fuel x) adds_none order (first_world start lines)).events
+      × (at_number (said_by_each (by_order (each fuel x) adds_none order (first_world start lines))) thread ≡ Some (turns (x thread) (ready (start thread) own) points).said)
+  own_order lines order zero own at = cc
+  own_order lines order (suc i) own at =
+      let first = first_world {E = Event} start lines in
+      let end = by_order (each fuel x) adds_none order first in
+      let points = order_points (each fuel x) adds_none Any growing order first (suc i) (numbered_thread (suc i) (ready (start (suc i)) own))
+      (thread-at start 1 lines i (suc i) own (omega arith) at) (any-fine [] first.threads) in (
+        points.points,
+        points.fronts,
+        slice_get-map (λ (t : Thread (Numbered S) CallLine Event). t.said) end.threads i
+            ∙ ap (option_map (λ (t : Thread (Numbered S) CallLine Event). t.said)) (points.thread
+            ∙ ap Some (own_turns fuel x same_fuel (suc i) points.points (ready (start (suc i)) own))),
+      )
 
 machine-fuel : (loaded : Loaded ℕ) (fuel thread : ℕ) → (machine_turns {E = Event} loaded thread fuel).fuel ≡ 4 * fuel
 unfolding machine_turns
 machine-fuel loaded fuel thread = refl
+
+meant-fuel : (room : ℕ) (loaded : Loaded Byte) (fuel thread : ℕ) → (meant_turns {E = Event} room loaded thread fuel).fuel ≡ fuel
+unfolding meant_turns
+meant-fuel room loaded fuel thread = refl
 
 module _ (loaded : Loaded ℕ) (fuel : ℕ) where
   pub printed_turn : (thread : ℕ) (t : Thread (Printed Event) CallLine Event) (seen : List Event)
       → turn (all_printed loaded fuel) (numbered_thread thread t) seen ≡ numbered_thread thread (turn (machine_turns loaded thread fuel) t seen)
   printed_turn thread t seen = own_turn (4 * fuel) (λ thread. machine_turns loaded thread fuel) (machine-fuel loaded fuel) thread t seen
 
-  -- the law of an order
   pub printed_own : (lines : List (List CallLine)) (order : List ℕ) (thread : ℕ) (own : List CallLine) → at_number lines thread ≡ Some own
-      → (points : List (List Event)) × AllFronts points (printed_world loaded fuel lines order).events × (at_number (said_by_each (printed_world loaded fuel lines order)) thread ≡ Some (printed_by loaded thread fuel own points))
-  printed_own lines order zero own at = cc
-  printed_own lines order (suc i) own at =
-      let start = first_world {E = Event} (printed_start loaded) lines in
-      let end = printed_world loaded fuel lines order in
-      let points = order_points (all_printed loaded fuel) adds_none Any growing order start (suc i) (numbered_thread (suc i) (ready (printed_start loaded (suc i)) own))
-      (thread-at (printed_start loaded) 1 lines i (suc i) own (omega arith) at) (any-fine [] start.threads) in (
-        points.points,
-        points.fronts,
-        slice_get-map (λ (t : Thread (Numbered (Printed Event)) CallLine Event). t.said) end.threads i
-            ∙ ap (option_map (λ (t : Thread (Numbered (Printed Event)) CallLine Event). t.said)) (points.thread
-            ∙ ap Some (own_turns (4 * fuel) (λ thread. machine_turns loaded thread fuel) (machine-fuel loaded fuel) (suc i) points.points (ready (printed_start loaded (suc i)) own))),
-      )
+      → (points : List (List Event)) × AllFronts points (printed_world loaded fuel lines order).events
+      × (at_number (said_by_each (printed_world loaded fuel lines order)) thread ≡ Some (printed_by loaded thread fuel own points))
+  printed_own lines order thread own at = own_order (4 * fuel) (λ thread. machine_turns loaded thread fuel) (machine-fuel loaded fuel) (printed_start loaded) lines order thread own at
+
+module _ (room : ℕ) (loaded : Loaded Byte) (fuel : ℕ) where
+  pub meant_own : (lines : List (List CallLine)) (order : List ℕ) (thread : ℕ) (own : List CallLine) → at_number lines thread ≡ Some own
+      → (points : List (List Event)) × AllFronts points (meant_world room loaded fuel lines order).events
+      × (at_number (said_by_each (meant_world room loaded fuel lines order)) thread ≡ Some (meant_by room loaded thread fuel own points))
+  meant_own lines order thread own at = own_order fuel (λ thread. meant_turns room loaded thread fuel) (meant-fuel room loaded fuel) (meant_start loaded) lines order thread own at

@@ -144,16 +144,16 @@ module _ (image : Image) (entry : List ℕ → Option ℕ) (has : HasBytes image
   levels number (first ∷ lines) = (record { todo = refl; said = refl; seen = refl; phase = record { number = refl; state = start-same number } }, levels (suc number) lines)
 
 module _ (image : Image) (entry : List ℕ → Option ℕ) (has : HasBytes image) (room fuel : ℕ) where
-  one-said : (thread : ℕ) (lines : List CallLine) (points : List (List Event)) (t : Thread (Meant Event) CallLine Event) (t' : Thread (Printed Event) CallLine Event)
+  one-said : (t : Thread (Meant Event) CallLine Event) (t' : Thread (Printed Event) CallLine Event)
       → SameThread AtLook Between t t' → AreClean t.said → t'.said ≡ t.said
-  one-said thread lines points t t' (inl unclean) clean = absurd (clean unclean)
-  one-said thread lines points t t' (inr h) clean = h.said
+  one-said t t' (inl unclean) clean = absurd (clean unclean)
+  one-said t t' (inr h) clean = h.said
 
   -- the law of one thread
   pub thread_says : (thread : ℕ) (lines : List CallLine) (points : List (List Event)) → AreClean (meant_by room (meaning_loaded image entry) thread fuel lines points)
       → printed_by (machine_loaded image entry) thread fuel lines points ≡ meant_by room (meaning_loaded image entry) thread fuel lines points
   thread_says thread lines points clean =
-      one-said thread lines points (turns (meant_turns room (meaning_loaded image entry) thread fuel) (ready (meant_start (meaning_loaded image entry) thread) lines) points)
+      one-said (turns (meant_turns room (meaning_loaded image entry) thread fuel) (ready (meant_start (meaning_loaded image entry) thread) lines) points)
       (turns (machine_turns (machine_loaded image entry) thread fuel) (ready (printed_start (machine_loaded image entry) thread) lines) points)
       (turns_alike InCall AtLook Between Any (meant_turns room (meaning_loaded image entry) thread fuel) (machine_turns (machine_loaded image entry) thread fuel)
       (thread_alike image entry has room fuel Event thread) points (ready (meant_start (meaning_loaded image entry) thread) lines) (ready (printed_start (machine_loaded image entry) thread) lines)

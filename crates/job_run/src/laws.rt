@@ -1,6 +1,6 @@
 //! Laws of jobs. The functions do nothing: what they ensure is the law.
 
-ghost use Rattle.job_run.specs.Statements.{PrintsItsMeanings, PrintsItsMeaning, CallMeans, ThreadsTakeTheirOwnTurns, ThreadsSayTheirOwn};
+ghost use Rattle.job_run.specs.Statements.{PrintsItsMeanings, PrintsItsMeaning, CallMeans, ThreadsTakeTheirOwnTurns, ThreadsSayTheirOwn, ThreadsMeanTheirOwn};
 
 /// Where the meaning of no line is unclean, the machine over the linked image prints what all threads
 /// mean, in any order of their turns: the same history, and of each line the same.
@@ -28,4 +28,10 @@ pub fn threads_take_their_own_turns()
 /// fronts of the history.
 pub fn threads_say_their_own()
     ensures { ThreadsSayTheirOwn }
+{}
+
+/// What a thread means in an order of turns, it means alone where its looks see the same fronts of the
+/// history.
+pub fn threads_mean_their_own()
+    ensures { ThreadsMeanTheirOwn }
 {}
