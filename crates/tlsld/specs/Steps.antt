@@ -30,11 +30,11 @@ refusal_text JobNotYet = job_not_yet
 refusal_text (Object name reason) = object_text (string_bytes name) reason
 
 -- a step's answer is what says, but that the store may fail, and memory may be wanting
-abbrev pub Comes : (ℕ → List ℕ → Type 0) → Result (List ℕ) CommandFault → Type 0
-Comes Says (Ok text) = Says 0 text
-Comes Says (Err fault.Store) = Unit {0}
-Comes Says (Err fault.OutOfMemory) = Unit {0}
-Comes Says (Err (fault.Refused refusal)) = Says (refusal_code refusal) (refusal_text refusal)
+abbrev pub Comes : {T : Type 0} → (T → List ℕ) → (ℕ → List ℕ → Type 0) → Result T CommandFault → Type 0
+Comes text_of Says (Ok text) = Says 0 (text_of text)
+Comes text_of Says (Err fault.Store) = Unit {0}
+Comes text_of Says (Err fault.OutOfMemory) = Unit {0}
+Comes text_of Says (Err (fault.Refused refusal)) = Says (refusal_code refusal) (refusal_text refusal)
 
 -- ---- the names asked for
 

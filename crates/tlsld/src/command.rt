@@ -1,6 +1,5 @@
 //! The commands: for each one the steps from its words to its output, in the order in which their faults come.
 ghost use Rattle.std.specs.Prelude.{◌≡◌, ◌<◌, ◌^◌, Some, Ok, IfOk, IfErr, IfSome};
-ghost use Rattle.std.specs.Result.{result_map};
 ghost use Rattle.job_text.specs.Jobs.{job_of as job_of_text};
 ghost use Rattle.ports.specs.Files.{with_name};
 ghost use Rattle.tlsld.specs.Faults.{StoreCounts, NoStoreFault, IsNoStoreFault};
@@ -46,7 +45,7 @@ pub fn answer<S: Store>(alloc: Global, task: &Task, store: &mut S) -> Answer
 fn run<S: Store>(alloc: Global, store: &mut S, name: &str) -> Result<Vec<u8>, CommandFault>
     ensures files { S.files store.new ≡ S.files store.old }
     ensures cause { StoreCounts (S.faults store.old) (S.faults store.new) result }
-    ensures says { IfSome (S.files store.old) (λ fs. Comes (RunSays fs name.now) (result_map (λ text. text.items) result)) }
+    ensures says { IfSome (S.files store.old) (λ fs. Comes (λ text. text.items) (RunSays fs name.now) result) }
     ensures asks { IfSome (S.files store.old) (λ fs. Asks (run_names fs name.now) (S.asked store.old) (S.asked store.new) result) }
 {
     let text = whole_file(alloc, store, name)?;
@@ -57,7 +56,7 @@ fn run<S: Store>(alloc: Global, store: &mut S, name: &str) -> Result<Vec<u8>, Co
 fn run_job<S: Store>(alloc: Global, store: &mut S, text: &[u8]) -> Result<Vec<u8>, CommandFault>
     ensures files { S.files store.new ≡ S.files store.old }
     ensures cause { StoreCounts (S.faults store.old) (S.faults store.new) result }
-    ensures says { IfSome (S.files store.old) (λ fs. Comes (JobSays fs (job_of_text text.now)) (result_map (λ text. text.items) result)) }
+    ensures says { IfSome (S.files store.old) (λ fs. Comes (λ text. text.items) (JobSays fs (job_of_text text.now)) result) }
     ensures asks { Asks (job_names (job_of_text text.now)) (S.asked store.old) (S.asked store.new) result }
 {
     let job = job_of(alloc, text)?;
@@ -90,7 +89,7 @@ fn run_small_job<S: Store>(
     requires { small.now.fuel < 2 ^ 32 }
     ensures files { S.files store.new ≡ S.files store.old }
     ensures cause { StoreCounts (S.faults store.old) (S.faults store.new) result }
-    ensures says { IfSome (S.files store.old) (λ fs. Comes (SmallSays fs job.now (Some small.now)) (result_map (λ text. text.items) result)) }
+    ensures says { IfSome (S.files store.old) (λ fs. Comes (λ text. text.items) (SmallSays fs job.now (Some small.now)) result) }
     ensures asks { S.asked store.new ≡ with_name small.now.object (S.asked store.old) }
 {
     let bytes = whole_file(alloc, store, small.object)?;
@@ -105,7 +104,7 @@ fn run_object(
     bytes: &[u8],
 ) -> Result<Vec<u8>, CommandFault>
     requires { small.now.fuel < 2 ^ 32 }
-    ensures says { Comes (ObjectSays job.now small.now bytes.now) (result_map (λ text. text.items) result) }
+    ensures says { Comes (λ text. text.items) (ObjectSays job.now small.now bytes.now) result }
     ensures cause { NoStoreFault result }
 {
     match run_small(alloc, small, bytes) {
