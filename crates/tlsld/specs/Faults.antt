@@ -20,3 +20,9 @@ IsNoStoreFault (fault.Refused r) = Unit {0}
 abbrev pub NoStoreFault : {T : Type 0} → Result T CommandFault → Type 0
 NoStoreFault (Ok x) = Unit {0}
 NoStoreFault (Err f) = IsNoStoreFault f
+
+-- the file was not got; nothing is refused yet
+abbrev pub IsFetchFault : CommandFault → Type 0
+IsFetchFault fault.Store = Unit {0}
+IsFetchFault fault.OutOfMemory = Unit {0}
+IsFetchFault (fault.Refused r) = ⊥

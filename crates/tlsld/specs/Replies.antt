@@ -1,5 +1,5 @@
 -- What a command answers, and what that has to do with the store.
-use Rattle.std.specs.Prelude.{◌≡◌, ℕ, ◌⊎◌, List, Option, codes}
+use Rattle.std.specs.Prelude.{◌≡◌, ◌≤◌, ℕ, ◌⊎◌, List, Option, Some, None, codes}
 use Rattle.command_line.specs.declared.tasks.Task.{Task}
 use Rattle.command_line.specs.declared.tasks.Task.TheVariants as task
 use Rattle.ports.specs.Files.{Files}
@@ -60,3 +60,27 @@ abbrev pub IsOwnText : Answer → Type 0
 IsOwnText (Replies reply) = IsTextOf (code_of reply.status) reply.text.items
 IsOwnText StoreFails = Unit {0}
 IsOwnText NoMemory = Unit {0}
+
+-- ---- the whole command
+
+-- what is shown over these files: what the command says, or the line of a store that failed; a late number says that it did not get through
+abbrev pub Shows : Files → Task → SinkView → SinkView → ℕ → Type 0
+Shows fs asked old new code = IsLate code
+    ⊎ (((code ≡ 3) × IsTaken (codes "store fault\n") old new)
+    ⊎ ((text : List ℕ) × (RunSays fs (job_name asked) code text × IsTaken text old new)))
+
+-- the names asked for: a front of the command's, and all of them where it ended with a status of its own
+pub record Asked (fs : Files) (asked : Task) (old new : Option (List (List ℕ))) (code : ℕ) : Type 0 where
+  pub front : AsksFront (run_names fs (job_name asked)) old new
+  pub all : (code ≡ 0) ⊎ (5 ≤ code) → new ≡ with_names (run_names fs (job_name asked)) old
+
+-- ---- the words
+
+-- what is shown where the words are read: the line for words that are not taken, or what the task shows
+abbrev pub ShowsWords : Files → Option Task → SinkView → SinkView → ℕ → Type 0
+ShowsWords fs None old new code = IsLate code ⊎ ((code ≡ 2) × IsTaken (codes "usage\n") old new)
+ShowsWords fs (Some asked) old new code = Shows fs asked old new code
+
+abbrev pub AskedWords : Files → Option Task → Option (List (List ℕ)) → Option (List (List ℕ)) → ℕ → Type 0
+AskedWords fs None old new code = new ≡ old
+AskedWords fs (Some asked) old new code = Asked fs asked old new code

@@ -20,6 +20,7 @@ use small_run::run_small;
 use std::alloc::{AllocError, Global};
 
 /// What a command answers.
+#[tactic(auto, using(crate::proofs::Asked::asks_all))]
 pub fn answer<S: Store>(alloc: Global, task: &Task, store: &mut S) -> Answer
     ensures files { S.files store.new ≡ S.files store.old }
     ensures cause { AnswerCounts (S.faults store.old) (S.faults store.new) result }
@@ -48,8 +49,10 @@ fn run<S: Store>(alloc: Global, store: &mut S, name: &str) -> Result<Vec<u8>, Co
     ensures says { IfSome (S.files store.old) (λ fs. Comes (λ text. text.items) (RunSays fs name.now) result) }
     ensures asks { IfSome (S.files store.old) (λ fs. Asks (run_names fs name.now) (S.asked store.old) (S.asked store.new) result) }
 {
-    let text = whole_file(alloc, store, name)?;
-    run_job(alloc, store, text.as_slice())
+    match whole_file(alloc, store, name) {
+        Ok(text) => run_job(alloc, store, text.as_slice()),
+        Err(fault) => Err(fault),
+    }
 }
 
 /// The transcript of the job of a text.
@@ -92,8 +95,10 @@ fn run_small_job<S: Store>(
     ensures says { IfSome (S.files store.old) (λ fs. Comes (λ text. text.items) (SmallSays fs job.now (Some small.now)) result) }
     ensures asks { S.asked store.new ≡ with_name small.now.object (S.asked store.old) }
 {
-    let bytes = whole_file(alloc, store, small.object)?;
-    run_object(alloc, job, small, bytes.as_slice())
+    match whole_file(alloc, store, small.object) {
+        Ok(bytes) => run_object(alloc, job, small, bytes.as_slice()),
+        Err(fault) => Err(fault),
+    }
 }
 
 /// The transcript of a small job over the bytes of its object.
@@ -116,7 +121,7 @@ fn run_object(
 /// The text of a transcript of one thread with one line, which looked once and saw no event.
 #[tactic(auto, unfolding(crate::specs::Says::one_line_text))]
 fn transcript_of(alloc: Global, job: &Job, outcome: Outcome) -> Result<Vec<u8>, job_text::OutOfMemory>
-    ensures { IfOk result (λ text. text.items ≡ one_line_text job.now.images outcome.entry) }
+    ensures { IfOk result (λ text. text.items ≡ one_line_text job.now.images outcome) }
 {
     let points = Points::new(vec![in alloc; 0]?);
     let lines = vec![in alloc; Line { points, outcome }]?;

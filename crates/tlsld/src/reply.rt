@@ -2,7 +2,7 @@
 ghost use Rattle.std.specs.Prelude.{◌≡◌, ◌≤◌, ◌⊎◌, codes};
 ghost use Rattle.tlsld.specs.Delivery.{Says, Delivers, Replied};
 ghost use Rattle.tlsld.specs.Statuses.{SinkShown, code_of};
-ghost use Rattle.tlsld.specs.Replies.{IsDelivered, IsOwnText};
+ghost use Rattle.tlsld.specs.Replies.{IsDelivered, IsOwnText, Reached};
 
 use crate::status::Status;
 use ports::{PutFault, Sink};
@@ -65,6 +65,10 @@ pub fn deliver<K: Sink>(out: &mut K, answer: &Answer) -> u8
     requires { IsOwnText answer.now }
     ensures sink { SinkShown (K.faults out.old) (K.faults out.new) result }
     ensures own { IsDelivered answer.now result }
+    ensures reached { Reached answer.now
+        (record { bytes = K.bytes out.old; faults = K.faults out.old; shortages = K.shortages out.old; pieces = K.pieces out.old })
+        (record { bytes = K.bytes out.new; faults = K.faults out.new; shortages = K.shortages out.new; pieces = K.pieces out.new })
+        result }
     ensures replied { Replied
         (record { bytes = K.bytes out.old; faults = K.faults out.old; shortages = K.shortages out.old; pieces = K.pieces out.old })
         (record { bytes = K.bytes out.new; faults = K.faults out.new; shortages = K.shortages out.new; pieces = K.pieces out.new })

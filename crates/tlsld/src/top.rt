@@ -1,7 +1,8 @@
 //! The top calls, which `main` makes.
-ghost use Rattle.std.specs.Prelude.{◌≡◌, ◌≢◌, false, map, string_bytes};
+ghost use Rattle.std.specs.Prelude.{◌≡◌, ◌≢◌, IfSome, false, map, string_bytes};
 ghost use Rattle.command_line.specs.Words.{takes_words};
 ghost use Rattle.tlsld.specs.Delivery.{Replied};
+ghost use Rattle.tlsld.specs.Replies.{Asked, Shows};
 ghost use Rattle.tlsld.specs.Statuses.{UsageShown, StoreShown, SinkShown};
 
 use crate::command::answer;
@@ -48,6 +49,11 @@ pub fn tlsld_plain<S: Store, K: Sink>(alloc: Global, task: &Task, store: &mut S,
         (record { bytes = K.bytes out.old; faults = K.faults out.old; shortages = K.shortages out.old; pieces = K.pieces out.old })
         (record { bytes = K.bytes out.new; faults = K.faults out.new; shortages = K.shortages out.new; pieces = K.pieces out.new })
         result }
+    ensures shows { IfSome (S.files store.old) (λ fs. Shows fs task.now
+        (record { bytes = K.bytes out.old; faults = K.faults out.old; shortages = K.shortages out.old; pieces = K.pieces out.old })
+        (record { bytes = K.bytes out.new; faults = K.faults out.new; shortages = K.shortages out.new; pieces = K.pieces out.new })
+        result) }
+    ensures asked { IfSome (S.files store.old) (λ fs. Asked fs task.now (S.asked store.old) (S.asked store.new) result) }
 {
     let answer = answer(alloc, task, store);
     deliver(out, &answer)

@@ -1,0 +1,60 @@
+-- Names asked for, one after another.
+use Rattle.std.proofs.Common.{◌≡◌, ◌∙◌, ℕ, suc, List, [], ◌∷◌, ◌++◌, length, take, Option, Some, None, IfSome, Result, Ok, Err, ◌⊎◌, inl, inr, ◌≤◌, refl, sym, ap, subst, append_assoc, arith}
+use Rattle.command_line.specs.declared.tasks.Task.{Task}
+use Rattle.tlsld.specs.declared.reply.Answer.{Answer}
+use Rattle.tlsld.specs.declared.reply.Answer.TheVariants.{Replies, StoreFails, NoMemory}
+use Rattle.tlsld.specs.Replies.{Asked, AsksOfAnswer, IsDelivered, job_name}
+use Rattle.tlsld.specs.Statuses.{IsLate}
+use Rattle.std.proofs.Math.Seq.{take-length}
+use Rattle.job_text.specs.Jobs.{job_of}
+use Rattle.ports.specs.Files.{Files, file_at, with_name}
+use Rattle.tlsld.specs.Steps.{Asks, AsksFront, with_names, job_names, file_names, run_names}
+use Rattle.tlsld.specs.declared.fault.CommandFault.{CommandFault}
+use Rattle.tlsld.specs.declared.fault.CommandFault.TheVariants as fault
+
+abbrev Names : Type 0
+Names = List (List ℕ)
+
+one_more : (name : List ℕ) (names : Names) (old : Option Names) → with_names names (with_name name old) ≡ with_names (name ∷ names) old
+one_more name names None = refl
+one_more name names (Some before) = ap (λ (ns : Names). Some ns) (append_assoc before (name ∷ []) names)
+
+-- all names are a front of them
+pub asks_all : (names : Names) (old new : Option Names) → new ≡ with_names names old → AsksFront names old new
+asks_all names old new e = (length names, e ∙ ap (λ ns. with_names ns old) (sym (take-length names)))
+
+more_front : (name : List ℕ) (names : Names) (old mid new : Option Names) → mid ≡ with_name name old → AsksFront names mid new → AsksFront (name ∷ names) old new
+more_front name names old mid new first (k, e) = (suc k, e ∙ ap (with_names (take k names)) first ∙ one_more name (take k names) old)
+
+more : {T : Type 0} (name : List ℕ) (names : Names) (old mid new : Option Names) (r : Result T CommandFault) → mid ≡ with_name name old → Asks names mid new r → Asks (name ∷ names) old new r
+more name names old mid new (Ok x) first e = e ∙ ap (with_names names) first ∙ one_more name names old
+more name names old mid new (Err fault.Store) first h = more_front name names old mid new first h
+more name names old mid new (Err fault.OutOfMemory) first h = more_front name names old mid new first h
+more name names old mid new (Err (fault.Refused refusal)) first e = e ∙ ap (with_names names) first ∙ one_more name names old
+
+-- the job, and then what it asks for
+pub asks_after : {T : Type 0} (files : Option Files) (name text seen : List ℕ) (old mid new : Option Names) (r : Result T CommandFault) → mid ≡ with_name name old
+    → IfSome files (λ fs. file_at fs name ≡ Some text) → seen ≡ text → Asks (job_names (job_of seen)) mid new r → IfSome files (λ fs. Asks (run_names fs name) old new r)
+asks_after None name text seen old mid new r first there same h = tt
+asks_after (Some fs) name text seen old mid new r first there same h =
+    rw there (more name (job_names (job_of text)) old mid new r first (subst (λ (s : List ℕ). Asks (job_names (job_of s)) mid new r) same h))
+
+-- ** the whole command
+
+answered : (code : ℕ) → (code ≡ 3) ⊎ IsLate code → (code ≡ 0) ⊎ (5 ≤ code) → ⊥
+answered code (inl three) (inl zero) = omega arith
+answered code (inl three) (inr five) = omega arith
+answered code (inr (inl one)) (inl zero) = omega arith
+answered code (inr (inl one)) (inr five) = omega arith
+answered code (inr (inr four)) (inl zero) = omega arith
+answered code (inr (inr four)) (inr five) = omega arith
+
+pub asked_of : (fs : Files) (asked : Task) (answer : Answer) (old new : Option Names) (code : ℕ) → AsksOfAnswer fs asked old new answer → IsDelivered answer code → Asked fs asked old new code
+asked_of fs asked (Replies reply) old new code e delivered = record { front = asks_all (run_names fs (job_name asked)) old new e; all = λ own. e }
+asked_of fs asked StoreFails old new code front delivered = record { front = front; all = λ own. absurd (answered code delivered own) }
+asked_of fs asked NoMemory old new code front delivered = record { front = front; all = λ own. absurd (answered code (inr delivered) own) }
+
+pub asked_by : (files : Option Files) (asked : Task) (answer : Answer) (old new : Option Names) (code : ℕ) → IfSome files (λ fs. AsksOfAnswer fs asked old new answer) → IsDelivered answer code
+    → IfSome files (λ fs. Asked fs asked old new code)
+asked_by None asked answer old new code asks delivered = tt
+asked_by (Some fs) asked answer old new code asks delivered = asked_of fs asked answer old new code asks delivered
