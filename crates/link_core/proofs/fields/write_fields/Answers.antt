@@ -1,7 +1,5 @@
-use Rattle.std.proofs.Common.{rules, ◌≡◌, ◌∙◌, List, [], ◌∷◌, All, length, true, sym, ap, refl}
-use Rattle.std.specs.List.{list_all}
+use Rattle.std.proofs.Common.{rules, ◌∙◌, [], ◌∷◌, sym, ap}
 use Rattle.elf_object.specs.Lawful.{IsLawful}
-use Rattle.elf_object.specs.Lent.{relocations}
 use Rattle.link_core.specs.Fields.{with_fields}
 use Rattle.link_core.specs.Taken.{is_taken}
 use Rattle.tls_relocs.specs.Fields.{field_patch}
