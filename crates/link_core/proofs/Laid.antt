@@ -3,7 +3,7 @@ use Rattle.std.proofs.Common.{◌≡◌, ◌<◌, ◌≤◌, ◌+◌, ◌-◌, �
 use Rattle.std.proofs.Math.Seq.{drop-cons}
 use Rattle.std.specs.Prelude.{slice_index_or}
 use Rattle.std.specs.List.{flat_map, range_with_len}
-use Rattle.tls_relocs.specs.Laid.{Placed, laid, zeros, end_of}
+use Rattle.tls_relocs.specs.Laid.{Placed, laid, zeros}
 use Rattle.tls_layout.specs.Sections.{Layout}
 use Rattle.link_core.specs.Laying.{Progress, with_section, with_sections}
 use Rattle.link_core.specs.Parts.{placed_section, placed_object, placed_from}

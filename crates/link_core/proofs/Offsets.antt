@@ -1,20 +1,18 @@
 -- Offsets in the TLS segment are small.
-use Rattle.std.proofs.Common.{◌≡◌, ◌+◌, ◌<◌, ◌≤◌, ◌^◌, ℕ, Bool, true, false, List, Option, Some, None, IsSome, refl, sym, ap, ◌∙◌, subst, arith}
+use Rattle.std.proofs.Common.{◌≡◌, ◌+◌, ◌≤◌, ◌^◌, ℕ, true, List, Option, Some, None, IsSome, refl, sym, ap, ◌∙◌, subst, arith}
 use Rattle.elf_object.specs.declared.class.SectionClass.{SectionClass}
-use Rattle.elf_object.specs.declared.class.SectionClass.TheVariants.{Executable, ReadOnly, Tls, Writable}
 use Rattle.elf_object.specs.declared.symbol.SymbolPlace.TheVariants.{InSection}
 use Rattle.elf_object.specs.Faults.{IsObject}
-use Rattle.elf_object.specs.Lent.{section_class, section_size, symbol_place, symbol_value, symbol_size}
-use Rattle.elf_object.specs.Lawful.{IsPlaced, IsKeptAs}
+use Rattle.elf_object.specs.Lent.{section_class, symbol_place, symbol_value}
+use Rattle.elf_object.specs.Lawful.{IsPlaced}
 use Rattle.elf_object.specs.LawsOfSections.{kept_as}
 use Rattle.tls_layout.specs.Sections.{Layout}
 use Rattle.link_faults.specs.declared.image_kind.ImageKind.{ImageKind}
 use Rattle.link_faults.specs.declared.image_kind.ImageKind.TheVariants.{Exe, Pie, Start, Late}
 use Rattle.link_faults.specs.ImageKinds.{base_of}
-use Rattle.tls_layout.specs.Places.{tls_offset_of, tls_size, address_of, address_at, room, zero_data, section_named, IsLawful}
+use Rattle.tls_layout.specs.Places.{tls_offset_of, address_of, address_at, room, zero_data, IsLawful}
 use Rattle.tls_layout.proofs.LawsOfPlaces.{found_at, placed, lie_in_classes}
 use Rattle.tls_layout.proofs.Together.{page_limit}
-use Rattle.tls_layout.specs.Laws.{LiesInTls}
 use Rattle.tls_layout.proofs.LawsOfTls.{lie_in_segment}
 use Rattle.link_core.specs.Taken.{is_tls}
 

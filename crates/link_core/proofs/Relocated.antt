@@ -13,7 +13,7 @@ use Rattle.link_core.proofs.Search.{both_pass}
 use Rattle.link_core.proofs.Sections.{first_class, past_class}
 use Rattle.elf_object.specs.declared.relocation.Relocation.{Relocation}
 use Rattle.elf_object.specs.declared.relocation.RelocationKind.{RelocationKind}
-use Rattle.elf_object.specs.declared.relocation.RelocationKind.TheVariants.{Nothing, TpOff32}
+use Rattle.elf_object.specs.declared.relocation.RelocationKind.TheVariants.{Nothing}
 use Rattle.elf_object.specs.Lawful.{IsLawful, IsKeptAs, has_initial}
 use Rattle.elf_object.specs.Lent.{symbol_place, symbol_binding, section_class, section_bytes, section_size, kept_relocation_table, relocations_in}
 use Rattle.elf_object.specs.Parts.{symbol_count}

@@ -1,8 +1,8 @@
 -- What is lent past the table of sections.
-use Rattle.std.proofs.Common.{◌≡◌, ◌≤◌, ◌&&◌, ℕ, Bool, false, List, None, refl, arith}
-use Rattle.std.specs.Prelude.{nat_lt, if◌then◌else◌}
+use Rattle.std.proofs.Common.{◌≡◌, ◌≤◌, ◌&&◌, ℕ, false, List, None, refl, arith}
+use Rattle.std.specs.Prelude.{nat_lt}
 use Rattle.std.proofs.lemmas.Bool.Decides.{nat_tests}
-use Rattle.elf_object.specs.Parts.{header, is_section}
+use Rattle.elf_object.specs.Parts.{header}
 use Rattle.elf_object.specs.Lent.{section_class}
 use Rattle.elf_object.specs.Object.{section_count}
 

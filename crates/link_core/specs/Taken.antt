@@ -1,5 +1,5 @@
 -- Which relocations are taken so far.
-use Rattle.std.specs.Prelude.{◌-◌, ◌^◌, ◌&&◌, ◌==◌, ℕ, ℤ, pos, negsuc, Bool, true, false, List, Option, Some, None, nat_le, nat_lt}
+use Rattle.std.specs.Prelude.{◌-◌, ◌^◌, ◌&&◌, ℕ, ℤ, pos, negsuc, Bool, true, false, List, Option, Some, nat_le, nat_lt}
 use Rattle.std.specs.List.{list_all, range_with_len}
 use Rattle.elf_object.specs.declared.class.SectionClass.{SectionClass}
 use Rattle.elf_object.specs.declared.class.SectionClass.TheVariants.{Tls}

@@ -21,7 +21,13 @@ pub fn entry(placement: &Placement, objects: &[Object], name: &[u8]) -> Option<u
 
 /// The place of what lies in a section so far behind its start, if that is a byte of the executable class.
 #[tactic(auto, using(crate::proofs::Sections::past_class))]
-fn code_place(placement: &Placement, number: usize, object: &Object, place: SymbolPlace, value: u64) -> Option<u64>
+fn code_place(
+    placement: &Placement,
+    number: usize,
+    object: &Object,
+    place: SymbolPlace,
+    value: u64,
+) -> Option<u64>
     ensures { result ≡ code_place placement.now number object.now place value }
 {
     let SymbolPlace::InSection(section) = place else {
@@ -29,7 +35,11 @@ fn code_place(placement: &Placement, number: usize, object: &Object, place: Symb
     };
     match object.section(section) {
         Some(part) if is_of(PartKind::Code, part.class) => {
-            below(placement.executable().end, address_or_zero(placement, number, section), value)
+            below(
+                placement.executable().end,
+                address_or_zero(placement, number, section),
+                value,
+            )
         }
         _ => None,
     }

@@ -8,8 +8,8 @@ ghost use Rattle.link_core.specs.Fields.{block_offset as offset_of_block, field_
 ghost use Rattle.link_core.specs.Taken.{is_own_variable, is_taken, object_is_taken, section_is_taken};
 
 use elf_object::{Object, Relocation, SymbolPlace};
-use tls_layout::Placement;
 use std::alloc::{AllocError, Global};
+use tls_layout::Placement;
 use tls_relocs::{Field, apply, value};
 
 /// The offset in the TLS segment of a variable of an object's own thread-local storage.
@@ -26,6 +26,7 @@ fn symbol_offset(placement: &Placement, number: usize, object: &Object, symbol: 
     }
 }
 
+/// The offset in the TLS segment of what lies so far behind the start of a section; the value alone of what lies in none.
 #[tactic(auto, using(crate::proofs::Offsets::offset_small))]
 fn offset_in(placement: &Placement, number: usize, place: SymbolPlace, value: u64) -> u64
     requires { value ≤ 2 ^ 20 }
@@ -41,7 +42,7 @@ fn offset_in(placement: &Placement, number: usize, place: SymbolPlace, value: u6
     }
 }
 
-/// What a relocation that is taken stores.
+/// What a relocation that is taken stores. Its value always fits.
 #[tactic(auto, using(crate::proofs::Relocated::own_of_taken))]
 fn field_of(
     placement: &Placement,
@@ -84,7 +85,7 @@ fn write_fields(
     }
 }
 
-/// The bytes of a section of an object, once it is linked.
+/// The bytes of a section of an object, once it is linked. `number` is the object's place in the list, from 0.
 #[tactic(auto, using(crate::proofs::Relocated::section_taken), unfolding(crate::specs::Fields::linked_bytes))]
 pub fn linked_bytes(
     alloc: Global,
@@ -103,6 +104,13 @@ pub fn linked_bytes(
     ensures len { IfOk result (λ linked. length linked.items ≡ section_size object.now section) }
 {
     let mut linked = Vec::from_slice(alloc, bytes)?;
-    write_fields(placement, block_offset, number, object, section, linked.as_mut_slice());
+    write_fields(
+        placement,
+        block_offset,
+        number,
+        object,
+        section,
+        linked.as_mut_slice(),
+    );
     Ok(linked)
 }

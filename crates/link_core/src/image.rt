@@ -57,14 +57,14 @@ impl Linked {
         (self.code, self.constants, self.initial)
     }
 
-    /// How many bytes a block has.
+    /// How many bytes a block has: the size of the TLS segment.
     pub fn block_size(&self) -> u64
         ensures { result ≡ self.now.block_size }
     {
         self.block_size
     }
 
-    /// How far below the thread pointer a block begins.
+    /// How many bytes below the thread pointer a block begins.
     pub fn block_offset(&self) -> u64
         ensures { result ≡ self.now.block_offset }
     {
@@ -85,13 +85,9 @@ fn block_offset(alloc: Global, placement: &Placement) -> Result<u64, AllocError>
     Ok(offsets[0])
 }
 
-/// The image of objects that are placed. Each relocation of theirs is of those that are taken.
+/// The image of objects that are placed. Each must be one that [`takes`](crate::takes) accepts; the only error is want of memory.
 #[tactic(auto, unfolding(crate::specs::Parts::image_of))]
-pub fn link(
-    alloc: Global,
-    placement: &Placement,
-    objects: &[Object],
-) -> Result<Linked, AllocError>
+pub fn link(alloc: Global, placement: &Placement, objects: &[Object]) -> Result<Linked, AllocError>
     requires { All (λ b. object_is_taken b ≡ true) objects.now }
     ensures { IfOk result (λ linked. linked ≡ image_of placement.now objects.now) }
 {
@@ -99,7 +95,13 @@ pub fn link(
     Ok(Linked {
         code: part_of(alloc, placement, block_offset, PartKind::Code, objects)?,
         constants: part_of(alloc, placement, block_offset, PartKind::Constants, objects)?,
-        initial: part_of(alloc, placement, block_offset, PartKind::InitialTls, objects)?,
+        initial: part_of(
+            alloc,
+            placement,
+            block_offset,
+            PartKind::InitialTls,
+            objects,
+        )?,
         block_size: placement.tls_size(),
         block_offset,
     })

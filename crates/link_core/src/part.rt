@@ -47,6 +47,7 @@ impl Part {
         self.place
     }
 
+    /// The bytes, the first one at [`place`](Part::place).
     pub fn bytes(&self) -> &[u8]
         ensures { result.now ≡ self.now.bytes }
     {
@@ -149,8 +150,19 @@ fn push_section(
     if !is_of(kind, part.class) {
         return Ok(());
     }
-    let bytes = linked_bytes(alloc, placement, block_offset, number, object, section, part.bytes)?;
-    laying.push(address_or_zero(placement, number, section), bytes.as_slice())
+    let bytes = linked_bytes(
+        alloc,
+        placement,
+        block_offset,
+        number,
+        object,
+        section,
+        part.bytes,
+    )?;
+    laying.push(
+        address_or_zero(placement, number, section),
+        bytes.as_slice(),
+    )
 }
 
 /// The address of a section; 0 where it has none.
@@ -181,7 +193,16 @@ fn push_object(
     ensures { OnOk result (laying.new ≡ with_sections laying.old (placed_object placement.now kind number object.now)) }
 {
     for section in 0..object.section_count() {
-        push_section(alloc, placement, block_offset, kind, number, object, section, laying)?;
+        push_section(
+            alloc,
+            placement,
+            block_offset,
+            kind,
+            number,
+            object,
+            section,
+            laying,
+        )?;
     }
     Ok(())
 }

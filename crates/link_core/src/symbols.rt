@@ -11,6 +11,7 @@ use elf_object::{Object, SymbolBinding, SymbolPart, SymbolPlace};
 pub struct SymbolRef {
     /// The object's place in the list, from 0.
     pub object: u64,
+    /// Its number in the object's symbol table; 0 is reserved.
     pub symbol: u32,
 }
 
@@ -49,7 +50,9 @@ fn first_in(object: &Object, binding: SymbolBinding, name: &[u8]) -> Option<u32>
     ensures within { IfSome result (λ symbol. symbol < symbol_count object.now) }
 {
     for number in 1..object.symbol_count() {
-        if let Some(symbol) = object.symbol(number) && defines(&symbol, binding, name) {
+        if let Some(symbol) = object.symbol(number)
+            && defines(&symbol, binding, name)
+        {
             return Some(number);
         }
     }

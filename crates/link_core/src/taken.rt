@@ -65,6 +65,7 @@ fn is_own_variable(object: &Object, place: SymbolPlace) -> bool
     }
 }
 
+/// Whether an addend is from -2^20 to 2^20.
 fn is_small(addend: i64) -> bool
     ensures { result ≡ is_small addend }
 {

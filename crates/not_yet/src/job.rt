@@ -9,10 +9,15 @@ use std::marker::Model;
 /// A job that is taken: an executable of one object, and one function that its only thread calls.
 #[derive(Drop)]
 pub struct SmallJob<'a> {
+    /// The name of the executable's one object.
     pub object: &'a str,
+    /// The function that is called.
     pub symbol: &'a str,
+    /// The first argument.
     pub a: u64,
+    /// The second argument.
     pub b: u64,
+    /// The third argument.
     pub c: u64,
     /// How many steps of the meaning the call may take.
     pub fuel: u64,
@@ -63,6 +68,7 @@ fn only_call<'a>(fuel: u64, object: &'a str, job: &'a Job) -> Option<SmallJob<'a
     called(fuel, object, line)
 }
 
+/// The job of a line that calls.
 fn called<'a>(fuel: u64, object: &'a str, line: &'a ThreadLine) -> Option<SmallJob<'a>>
     ensures small { result ≡ called fuel object.now line.now.action }
     ensures fuel { IfSome result (λ small. small.fuel ≡ fuel) }

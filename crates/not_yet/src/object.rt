@@ -21,7 +21,7 @@ const RELOCATION_LIMIT: u64 = 1 << 19;
 const GET_ADDRESS: &[u8] = b"__tls_get_addr";
 
 /// Whether the path takes an object: it has at most 1,024 symbols with names of at most 255 bytes, no GLOBAL name twice, none
-/// `__tls_get_addr`, at most 2^19 relocations, and linking takes each of them.
+/// `__tls_get_addr`, at most 2^19 relocations, and linking takes each of them. The only error is want of memory.
 #[tactic(auto, unfolding(crate::specs::SmallObjects::is_small_object))]
 pub fn is_small_object(alloc: Global, object: &Object) -> Result<bool, AllocError>
     ensures { IfOk result (λ small. small ≡ is_small_object object.now) }
@@ -38,13 +38,16 @@ fn names_are_small(object: &Object) -> bool
     ensures { result ≡ names_are_small object.now }
 {
     for number in 1..object.symbol_count() {
-        if let Some(symbol) = object.symbol(number) && !is_small_name(symbol.name) {
+        if let Some(symbol) = object.symbol(number)
+            && !is_small_name(symbol.name)
+        {
             return false;
         }
     }
     true
 }
 
+/// Whether a name has at most 255 bytes and is not the run time's.
 fn is_small_name(name: &[u8]) -> bool
     ensures { result ≡ is_small_name name.now }
 {
@@ -66,7 +69,11 @@ fn names_differ(alloc: Global, object: &Object) -> Result<bool, AllocError>
 }
 
 /// Adds the name of a symbol, if it is GLOBAL. Answers false where the name was there.
-fn add_name<'a>(object: &Object<'a>, number: u32, names: &mut IndexSet<&'a [u8]>) -> Result<bool, AllocError>
+fn add_name<'a>(
+    object: &Object<'a>,
+    number: u32,
+    names: &mut IndexSet<&'a [u8]>,
+) -> Result<bool, AllocError>
     requires { number < symbol_count object.now }
     ensures fresh { IfOk result (λ fresh. fresh ≡ all_new (map (λ k. k.now) names.old.keys) (names_at object.now number)) }
     ensures names { IfOk result (λ fresh. IsTrue fresh → map (λ k. k.now) names.new.keys ≡ map (λ k. k.now) names.old.keys ++ names_at object.now number) }

@@ -36,8 +36,19 @@ refused_call loaded fuel line none = rw (none, call_said, machine_turns) refl
 -- the same parts are loaded
 same_loaded : (image : Image) (executable : Executable) (entry : List ℕ → Option ℕ) → IsExecutable image executable → loaded_of executable entry ≡ machine_loaded image entry
 same_loaded image executable entry is =
-    rw (is.code.place_is, is.code.bytes_are, is.constants.place_is, is.constants.bytes_are, is.initial.place_is, is.initial.bytes_are, is.size, is.offset,
-        map-id image.code.bytes, map-id image.constants.bytes, map-id image.initial.bytes) refl
+    rw (
+      is.code.place_is,
+      is.code.bytes_are,
+      is.constants.place_is,
+      is.constants.bytes_are,
+      is.initial.place_is,
+      is.initial.bytes_are,
+      is.size,
+      is.offset,
+      map-id image.code.bytes,
+      map-id image.constants.bytes,
+      map-id image.initial.bytes,
+    ) refl
 
 pub called_says : (image : Image) (executable : Executable) (job : Small) (call : Call) (outcome : Outcome) → IsExecutable image executable
     → call.a ≡ job.a → call.b ≡ job.b → call.c ≡ job.c → IsCallOutcome executable 1 job.fuel call outcome

@@ -23,6 +23,7 @@ pub fn executable_of(linked: Linked) -> Executable
     }
 }
 
+/// A part of the image.
 fn part_of(part: LinkedPart) -> Part
     ensures { IsPart part result }
 {

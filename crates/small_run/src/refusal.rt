@@ -11,8 +11,11 @@ pub enum Refusal {
     OutOfMemory,
     /// The object's first fault; `WritableData` where it has none but data that programs write.
     Fault {
+        /// The number of the section that it is in, from 0.
         section: u64,
+        /// The number of the symbol or relocation in that section, from 0; 0 where the fault is the section's own.
         entry: u64,
+        /// What is wrong.
         kind: FaultKind,
     },
     /// It has no fault, but the path does not take it yet.

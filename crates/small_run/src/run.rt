@@ -19,6 +19,8 @@ use thread_blocks::{Call, run_call};
 use tls_layout::{Placement, place};
 
 /// What a small job comes to over the bytes of its object: the one line of its one thread, or why the object is refused.
+///
+/// `job.fuel` is the number of steps that the call may take, below 2^32.
 pub fn run_small(alloc: Global, job: &SmallJob, bytes: &[u8]) -> Result<Outcome, Refusal>
     requires { job.now.fuel < 2 ^ 32 }
     ensures { Comes bytes.now job.now result }

@@ -1,7 +1,5 @@
-use Rattle.std.proofs.Common.{rules, ◌≡◌, ◌∙◌, List, [], ◌∷◌, All, length, true, sym, ap, refl}
-use Rattle.std.specs.List.{list_all}
+use Rattle.std.proofs.Common.{rules, ◌∙◌, [], ◌∷◌, sym, ap}
 use Rattle.elf_object.specs.Lawful.{IsLawful}
-use Rattle.elf_object.specs.Lent.{relocations}
 use Rattle.link_core.specs.Fields.{with_fields}
 use Rattle.link_core.specs.Taken.{is_taken}
 use Rattle.tls_relocs.specs.Fields.{field_patch}
@@ -25,11 +23,13 @@ loop-relocation-preserved c =
     let first = c.in-Some.ensures.steps in
     let b = c.args.object.now in
     let kept = c.loop-relocation.invariant in
-    let written = c.apply.ensures ∙ ap (λ f. patched (field_patch c.in-Some.relocation.offset f ∷ []) c.loop-relocation.bytes) c.field_of-field.ensures.field in
-    (tt, tt,
-     ap (with_fields c.args.placement.now c.args.number b c.next.new.self) written
-     ∙ sym (ap (λ rs. with_fields c.args.placement.now c.args.number b rs c.loop-relocation.bytes) first)
-     ∙ kept.2,
-     rest_passes (is_taken b) c.in-Some.relocation c.next.new.self c.loop-relocation.relocation-iterator first kept.3,
-     (search rules),
-     rest_all_of (IsLawful b c.args.section) c.in-Some.relocation c.next.new.self c.loop-relocation.relocation-iterator first kept.5)
+    let written = c.apply.ensures ∙ ap (λ f. patched (field_patch c.in-Some.relocation.offset f ∷ []) c.loop-relocation.bytes) c.field_of-field.ensures.field in (
+      tt,
+      tt,
+      ap (with_fields c.args.placement.now c.args.number b c.next.new.self) written
+          ∙ sym (ap (λ rs. with_fields c.args.placement.now c.args.number b rs c.loop-relocation.bytes) first)
+          ∙ kept.2,
+      rest_passes (is_taken b) c.in-Some.relocation c.next.new.self c.loop-relocation.relocation-iterator first kept.3,
+      (search rules),
+      rest_all_of (IsLawful b c.args.section) c.in-Some.relocation c.next.new.self c.loop-relocation.relocation-iterator first kept.5,
+    )

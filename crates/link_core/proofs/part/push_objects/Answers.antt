@@ -1,6 +1,6 @@
-use Rattle.std.proofs.Common.{rules, ◌≡◌, ◌∙◌, ◌+◌, ◌∷◌, sym, ap, drop}
+use Rattle.std.proofs.Common.{◌∙◌, ◌+◌, ◌∷◌, sym, ap, drop}
 use Rattle.link_core.specs.Laying.{with_sections}
-use Rattle.link_core.specs.Parts.{placed_from, placed_object}
+use Rattle.link_core.specs.Parts.{placed_from}
 use Rattle.link_core.proofs.Laid.{drop_here, objects_step}
 use Rattle.link_core.proofs.part.push_objects.Goals as goal
 

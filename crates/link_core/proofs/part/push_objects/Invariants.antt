@@ -1,4 +1,4 @@
-use Rattle.std.proofs.Common.{◌≡◌, [], drop}
+use Rattle.std.proofs.Common.{◌≡◌, drop}
 use Rattle.link_core.specs.Laying.{with_sections}
 use Rattle.link_core.specs.Parts.{placed_from}
 use Rattle.link_core.proofs.part.push_objects.Given as goal
