@@ -41,7 +41,7 @@ asks_after (Some fs) name text seen old mid new r first there same h =
 
 -- ** the whole command
 
-answered : (code : ℕ) → (code ≡ 3) ⊎ IsLate code → (code ≡ 0) ⊎ (5 ≤ code) → ⊥
+pub answered : (code : ℕ) → (code ≡ 3) ⊎ IsLate code → (code ≡ 0) ⊎ (5 ≤ code) → ⊥
 answered code (inl three) (inl zero) = omega arith
 answered code (inl three) (inr five) = omega arith
 answered code (inr (inl one)) (inl zero) = omega arith

@@ -1,7 +1,7 @@
 //! What a command answers, and how it reaches the sink.
 ghost use Rattle.std.specs.Prelude.{◌≡◌, ◌≤◌, ◌⊎◌, codes};
 ghost use Rattle.tlsld.specs.Delivery.{Says, Delivers, Replied};
-ghost use Rattle.tlsld.specs.Statuses.{SinkShown, code_of};
+ghost use Rattle.tlsld.specs.Statuses.{IsLate, SinkShown, code_of};
 ghost use Rattle.tlsld.specs.Replies.{IsDelivered, IsOwnText, Reached};
 
 use crate::status::Status;
@@ -53,6 +53,7 @@ pub fn say_no_memory<K: Sink>(out: &mut K) -> u8
         (record { bytes = K.bytes out.new; faults = K.faults out.new; shortages = K.shortages out.new; pieces = K.pieces out.new })
         result }
     ensures sink { SinkShown (K.faults out.old) (K.faults out.new) result }
+    ensures late { IsLate result }
 {
     match out.put(OUT_OF_MEMORY) {
         Ok(()) | Err(PutFault::OutOfMemory) => 1,

@@ -1,0 +1,51 @@
+-- What is shown of words.
+use Rattle.std.proofs.Common.{◌≡◌, ◌∙◌, ◌≤◌, ◌⊎◌, inl, inr, ℕ, List, [], take, Option, Some, None, IfSome, Bool, true, false, refl, sym, ap, subst, append-nil}
+use Rattle.std.specs.Prelude.{codes}
+use Rattle.command_line.specs.declared.tasks.Task.{Task}
+use Rattle.command_line.specs.Words.{asked, takes_words}
+use Rattle.ports.specs.Files.{Files}
+use Rattle.tlsld.specs.Delivery.{SinkView, Says, Delivers, IsTaken, memory_line}
+use Rattle.tlsld.specs.Replies.{Shows, ShowsWords, Asked, AskedWords, job_name}
+use Rattle.tlsld.specs.Statuses.{IsLate}
+use Rattle.tlsld.specs.Steps.{with_names, run_names}
+use Rattle.tlsld.proofs.Asked.{answered}
+
+abbrev Names : Type 0
+Names = List (List ℕ)
+
+pub shows_late : (files : Option Files) (task : Option Task) (old new : SinkView) (code : ℕ) → IsLate code → IfSome files (λ fs. ShowsWords fs task old new code)
+shows_late None task old new code late = tt
+shows_late (Some fs) None old new code late = inl late
+shows_late (Some fs) (Some task) old new code late = inl late
+
+none_more : (old : Option Names) → old ≡ with_names [] old
+none_more None = refl
+none_more (Some names) = ap (λ (ns : Names). Some ns) (sym (append-nil names))
+
+pub asked_late : (files : Option Files) (task : Option Task) (old : Option Names) (code : ℕ) → IsLate code → IfSome files (λ fs. AskedWords fs task old old code)
+asked_late None task old code late = tt
+asked_late (Some fs) None old code late = refl
+asked_late (Some fs) (Some task) old code late = record { front = (0, none_more old); all = λ own. absurd (answered code (inr late) own) }
+
+not_asked : (words : List (List ℕ)) → takes_words words ≡ false → asked words ≡ None
+unfolding asked
+not_asked words other = rw other refl
+
+pub shows_usage : (files : Option Files) (words : List (List ℕ)) (old new : SinkView) (code : ℕ) → takes_words words ≡ false → IsLate code ⊎ ((code ≡ 2) × IsTaken (codes "usage\n") old new)
+    → IfSome files (λ fs. ShowsWords fs (asked words) old new code)
+shows_usage None words old new code other shown = tt
+shows_usage (Some fs) words old new code other shown = rw (not_asked words other) shown
+
+pub asked_usage : (files : Option Files) (words : List (List ℕ)) (old : Option Names) (code : ℕ) → takes_words words ≡ false → IfSome files (λ fs. AskedWords fs (asked words) old old code)
+asked_usage None words old code other = tt
+asked_usage (Some fs) words old code other = rw (not_asked words other) refl
+
+pub shows_task : (files : Option Files) (words : List (List ℕ)) (task : Task) (old new : SinkView) (code : ℕ) → asked words ≡ Some task → IfSome files (λ fs. Shows fs task old new code)
+    → IfSome files (λ fs. ShowsWords fs (asked words) old new code)
+shows_task None words task old new code e shown = tt
+shows_task (Some fs) words task old new code e shown = rw e shown
+
+pub asked_task : (files : Option Files) (words : List (List ℕ)) (task : Task) (old new : Option Names) (code : ℕ) → asked words ≡ Some task → IfSome files (λ fs. Asked fs task old new code)
+    → IfSome files (λ fs. AskedWords fs (asked words) old new code)
+asked_task None words task old new code e shown = tt
+asked_task (Some fs) words task old new code e shown = rw e shown
