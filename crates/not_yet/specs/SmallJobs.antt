@@ -1,6 +1,5 @@
 -- Jobs that are taken: an executable of one object, and one function that its only thread calls.
 use Rattle.std.specs.Prelude.{ℕ, List, [], ◌∷◌, Option, Some, None}
-use Rattle.std.specs.Option.{option_map}
 use Rattle.job_text.specs.Jobs.{JobParts}
 use Rattle.job_text.specs.declared.images.Image.{Image}
 use Rattle.job_text.specs.declared.images.ImageKind.{ImageKind}

@@ -1,5 +1,5 @@
 -- Objects that are taken.
-use Rattle.std.specs.Prelude.{◌+◌, ◌-◌, ◌^◌, ◌&&◌, ◌||◌, ℕ, Bool, true, false, not, List, [], ◌∷◌, ◌++◌, codes, length, map, sum, nat_le, if◌then◌else◌}
+use Rattle.std.specs.Prelude.{◌-◌, ◌^◌, ◌&&◌, ℕ, Bool, true, not, List, [], ◌∷◌, ◌++◌, codes, length, map, sum, nat_le, if◌then◌else◌}
 use Rattle.std.specs.List.{list_all, list_any, flat_map, range_with_len}
 use Rattle.std.specs.Str.{bytes_eq}
 use Rattle.elf_object.specs.declared.symbol.SymbolBinding.TheVariants.{Global}

@@ -12,7 +12,7 @@
 //! ```
 //!
 //! [`small_job`] answers the object's name `a.o`, the symbol `f`, the arguments 0, 0 and 0 and the fuel. A second image, a
-//! second object, a shared library, a second thread or a second line makes it another job, which is not taken.
+//! second object, another kind of image, a second thread or a second line makes it another job, which is not taken.
 //!
 //! **An object is taken** if all of this holds:
 //!

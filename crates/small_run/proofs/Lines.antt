@@ -16,7 +16,7 @@ use Rattle.thread_blocks.specs.declared.call.Call.{Call}
 use Rattle.thread_blocks.specs.declared.parts.Executable.{Executable}
 use Rattle.thread_blocks.specs.MachineTurns.{Loaded, CallLine, call_said, machine_turns, shown}
 use Rattle.thread_blocks.specs.Parts.{loaded_of, IsCallOutcome}
-use Rattle.small_run.specs.Executables.{IsExecutable, IsPart}
+use Rattle.small_run.specs.Executables.{IsExecutable}
 use Rattle.link_core.specs.Taken.{object_is_taken}
 use Rattle.link_faults.specs.declared.image_kind.ImageKind.TheVariants.{Exe}
 use Rattle.not_yet.specs.SmallObjects.{is_small_object, names_are_small, all_new, global_names, symbols, relocation_count}

@@ -11,7 +11,6 @@ use Rattle.job_text.specs.declared.event.Event.{Event}
 use Rattle.link_core.specs.Parts.{Image}
 use Rattle.tls_layout.specs.Sections.{Layout}
 use Rattle.job_run.specs.Worlds.{AreClean}
-use Rattle.job_text.specs.declared.transcripts.Line.{Line}
 use Rattle.job_text.specs.declared.transcripts.Outcome.{Outcome}
 use Rattle.not_yet.specs.SmallJobs.{Small}
 use Rattle.small_run.specs.declared.refusal.Refusal.{Refusal}

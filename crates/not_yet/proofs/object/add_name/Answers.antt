@@ -1,7 +1,5 @@
-use Rattle.std.proofs.Common.{rules, ◌≡◌, ◌∙◌, List, [], ◌∷◌, map, not, ap, sym, true}
-use Rattle.std.specs.Str.{bytes_eq}
-use Rattle.std.specs.List.{list_any}
-use Rattle.not_yet.specs.SmallObjects.{all_new, names_at, is_global}
+use Rattle.std.proofs.Common.{◌∙◌, [], ◌∷◌, map, not, ap, sym}
+use Rattle.not_yet.specs.SmallObjects.{all_new}
 use Rattle.not_yet.proofs.Counted.{any_now, one_new, names_global}
 use Rattle.not_yet.proofs.object.add_name.Goals as goal
 

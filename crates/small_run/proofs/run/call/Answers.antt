@@ -1,6 +1,5 @@
-use Rattle.std.proofs.Common.{rules, ◌≡◌, ℕ, ap, subst}
+use Rattle.std.proofs.Common.{ℕ, ap, subst}
 use Rattle.thread_blocks.specs.Parts.{IsCallOutcome}
-use Rattle.small_run.specs.Runs.{IsCalled}
 use Rattle.small_run.proofs.Lines.{called_says, has_bytes}
 use Rattle.small_run.proofs.run.call.Goals as goal
 

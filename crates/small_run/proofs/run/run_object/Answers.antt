@@ -1,6 +1,4 @@
-use Rattle.std.proofs.Common.{rules, ◌≡◌, ◌∙◌, ◌∷◌, [], List, IfOk, refl, sym, ap, subst}
-use Rattle.link_core.specs.Parts.{image_of}
-use Rattle.small_run.specs.Narrow.{image_one, entry_one, layout_one}
+use Rattle.std.proofs.Common.{◌∙◌, IfOk, ap, subst}
 use Rattle.small_run.specs.Runs.{IsCalled}
 use Rattle.small_run.proofs.Lines.{taken_of_small, narrow_of, comes_called, comes_refused, not_placed, image_is, entry_is}
 use Rattle.small_run.proofs.run.run_object.Goals as goal

@@ -1,4 +1,4 @@
-use Rattle.std.proofs.Common.{rules, ◌≡◌, ◌∙◌, sym, ap}
+use Rattle.std.proofs.Common.{◌∙◌, sym, ap}
 use Rattle.not_yet.specs.SmallObjects.{is_small_object}
 use Rattle.small_run.proofs.Lines.{not_narrow}
 use Rattle.small_run.proofs.run.run_small.Goals as goal
