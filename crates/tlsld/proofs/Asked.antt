@@ -1,5 +1,5 @@
 -- Names asked for, one after another.
-use Rattle.std.proofs.Common.{◌≡◌, ◌∙◌, ℕ, suc, List, [], ◌∷◌, ◌++◌, length, take, Option, Some, None, IfSome, Result, Ok, Err, ◌⊎◌, inl, inr, ◌≤◌, refl, sym, ap, subst, append_assoc, arith}
+use Rattle.std.proofs.Common.{◌≡◌, ◌∙◌, ℕ, suc, List, [], ◌∷◌, length, take, Option, Some, None, IfSome, Result, Ok, Err, ◌⊎◌, inl, inr, ◌≤◌, refl, sym, ap, subst, append_assoc, arith}
 use Rattle.command_line.specs.declared.tasks.Task.{Task}
 use Rattle.tlsld.specs.declared.reply.Answer.{Answer}
 use Rattle.tlsld.specs.declared.reply.Answer.TheVariants.{Replies, StoreFails, NoMemory}
@@ -8,7 +8,7 @@ use Rattle.tlsld.specs.Statuses.{IsLate}
 use Rattle.std.proofs.Math.Seq.{take-length}
 use Rattle.job_text.specs.Jobs.{job_of}
 use Rattle.ports.specs.Files.{Files, file_at, with_name}
-use Rattle.tlsld.specs.Steps.{Asks, AsksFront, with_names, job_names, file_names, run_names}
+use Rattle.tlsld.specs.Steps.{Asks, AsksFront, with_names, job_names, run_names}
 use Rattle.tlsld.specs.declared.fault.CommandFault.{CommandFault}
 use Rattle.tlsld.specs.declared.fault.CommandFault.TheVariants as fault
 

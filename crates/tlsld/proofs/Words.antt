@@ -1,13 +1,13 @@
 -- What is shown of words.
-use Rattle.std.proofs.Common.{◌≡◌, ◌∙◌, ◌≤◌, ◌⊎◌, inl, inr, ℕ, List, [], take, Option, Some, None, IfSome, Bool, true, false, refl, sym, ap, subst, append-nil}
+use Rattle.std.proofs.Common.{◌≡◌, ◌⊎◌, inl, inr, ℕ, List, [], Option, Some, None, IfSome, false, refl, sym, ap, append-nil}
 use Rattle.std.specs.Prelude.{codes}
 use Rattle.command_line.specs.declared.tasks.Task.{Task}
 use Rattle.command_line.specs.Words.{asked, takes_words}
 use Rattle.ports.specs.Files.{Files}
-use Rattle.tlsld.specs.Delivery.{SinkView, Says, Delivers, IsTaken, memory_line}
-use Rattle.tlsld.specs.Replies.{Shows, ShowsWords, Asked, AskedWords, job_name}
+use Rattle.tlsld.specs.Delivery.{SinkView, IsTaken}
+use Rattle.tlsld.specs.Replies.{Shows, ShowsWords, Asked, AskedWords}
 use Rattle.tlsld.specs.Statuses.{IsLate}
-use Rattle.tlsld.specs.Steps.{with_names, run_names}
+use Rattle.tlsld.specs.Steps.{with_names}
 use Rattle.tlsld.proofs.Asked.{answered}
 
 abbrev Names : Type 0

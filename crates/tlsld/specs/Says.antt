@@ -10,7 +10,6 @@ use Rattle.job_text.specs.Jobs.{JobParts, job_of}
 use Rattle.job_text.specs.Texts.{transcript_text}
 use Rattle.not_yet.specs.SmallJobs.{Small, small_job}
 use Rattle.ports.specs.Files.{Files, file_at}
-use Rattle.small_run.specs.declared.refusal.Refusal.{Refusal as Why}
 use Rattle.small_run.specs.declared.refusal.Refusal.TheVariants as why
 use Rattle.small_run.specs.Runs.{HasRun, IsRefused}
 

@@ -7,8 +7,7 @@ use Rattle.not_yet.specs.SmallJobs.{Small, small_job}
 use Rattle.ports.specs.Files.{Files, file_at}
 use Rattle.small_run.specs.declared.refusal.Refusal.{Refusal as Why}
 use Rattle.small_run.specs.declared.refusal.Refusal.TheVariants as why
-use Rattle.tlsld.specs.Says.{SmallSays, JobSays, RunSays, ObjectSays, job_not_yet, fault_text, not_yet_text}
-use Rattle.tlsld.specs.Statuses.{code_of}
+use Rattle.tlsld.specs.Says.{job_not_yet, fault_text, not_yet_text}
 use Rattle.tlsld.specs.declared.fault.CommandFault.{CommandFault}
 use Rattle.tlsld.specs.declared.fault.CommandFault.TheVariants as fault
 use Rattle.tlsld.specs.declared.fault.Refusal.{Refusal}

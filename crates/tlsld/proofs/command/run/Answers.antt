@@ -1,4 +1,3 @@
-use Rattle.std.proofs.Common.{rules, ◌≡◌}
 use Rattle.tlsld.proofs.Asked.{asks_after}
 use Rattle.tlsld.proofs.command.run.Goals as goal
 

@@ -1,4 +1,4 @@
-use Rattle.std.proofs.Common.{rules, ◌≡◌, ℕ, Vec, Global, ap}
+use Rattle.std.proofs.Common.{ℕ, Vec, Global, ap}
 use Rattle.tlsld.proofs.Refused.{refusal_says}
 use Rattle.tlsld.proofs.command.run_object.Goals as goal
 

@@ -1,4 +1,3 @@
-use Rattle.std.proofs.Common.{rules, ◌≡◌}
 use Rattle.tlsld.proofs.Asked.{asked_by}
 use Rattle.tlsld.proofs.top.tlsld_plain.Goals as goal
 
