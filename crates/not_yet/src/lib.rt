@@ -4,7 +4,7 @@
 //! that may be wrong: that is this crate's use, and the reason for its name. What it takes is small enough that the later steps
 //! need no refusals of their own, and each limit is stated once, here.
 //!
-//! **A job is taken** if its lines are one image and one call, with any `fuel` line beside them:
+//! **A job is taken** if its lines are one image and one call, with any `fuel` and `order` beside them:
 //!
 //! ```text
 //! image app exe a.o          an executable of one object
@@ -33,6 +33,8 @@
 
 mod job;
 mod object;
+#[cfg(test)]
+mod tests;
 
 pub use job::{SmallJob, small_job};
 pub use object::is_small_object;

@@ -41,6 +41,8 @@ mod executable;
 mod object;
 mod refusal;
 mod run;
+#[cfg(test)]
+mod tests;
 
 pub use refusal::Refusal;
 pub use run::run_small;
