@@ -76,7 +76,15 @@ fn ends_with_4_where_the_sink_fails(rt: HostRuntime) -> Result<(), Fail> {
 #[test]
 fn refuses_jobs_and_objects(rt: HostRuntime) -> Result<(), Fail> {
     let cut = &OBJECT[..746];
-    let rows: [(&[u8], &[u8], u8, &[u8]); 8] = [
+    // The relocation names symbol 3, of a table of 3.
+    let far = patched(rt.alloc(), OBJECT, &[(0x2df, 3)])?;
+    // Section 3 is four bytes of constants, and f lies there.
+    let constant = patched(
+        rt.alloc(),
+        PLAIN_OBJECT,
+        &[(264, 2), (265, 0), (288, 4), (621, 3), (631, 0)],
+    )?;
+    let rows: [(&[u8], &[u8], u8, &[u8]); 10] = [
         (b"", OBJECT, 5, b"job 0 NotYet\n"),
         (
             b"image app exe a.o\n1 call app f 0 0 zz\n",
@@ -109,6 +117,13 @@ fn refuses_jobs_and_objects(rt: HostRuntime) -> Result<(), Fail> {
             0,
             b"t1 l1 g0 refused symbol\n",
         ),
+        (JOB, constant.as_slice(), 0, b"t1 l1 g0 refused symbol\n"),
+        (
+            JOB,
+            far.as_slice(),
+            6,
+            b"object a.o section 2 entry 0 RelocSymbol\n",
+        ),
         (JOB, cut, 6, b"object a.o section 2 entry 0 Truncated\n"),
         (JOB, b"", 6, b"object a.o section 0 entry 0 Truncated\n"),
     ];
@@ -121,6 +136,17 @@ fn refuses_jobs_and_objects(rt: HostRuntime) -> Result<(), Fail> {
         assert!(rt; out.bytes() == text);
     }
     Ok(())
+}
+
+/// An object with some of its bytes changed.
+fn patched(alloc: Global, object: &[u8], bytes: &[(usize, u8)]) -> Result<Vec<u8>, Fail> {
+    let mut object = object.to_vec(alloc)?;
+    for (at, byte) in bytes {
+        if let Some(place) = object.get_mut(*at) {
+            *place = *byte;
+        }
+    }
+    Ok(object)
 }
 
 /// The plain object, with this code over its own.
