@@ -1,6 +1,6 @@
 use crate::memory::GuestMemory;
 use crate::range::{GuestRange, Rights};
-use guest_machine::{GET_ADDRESS, Machine, Plain, RETURN, Stop};
+use guest_machine::{GET_ADDRESS, Machine, Plain, RETURN, Space, Stop};
 use std::alloc::Global;
 use std::test::Fail;
 
@@ -110,5 +110,14 @@ fn stops(rt: HostRuntime) -> Result<(), Fail> {
     assert_eq!(rt; undefined.run(&mut memory, 9), Stop::Code(CODE + 6));
     let mut elsewhere: Machine<Plain> = Machine::start(STACK, STACK, 0, 0, 0);
     assert_eq!(rt; elsewhere.run(&mut memory, 9), Stop::Code(STACK));
+    Ok(())
+}
+
+#[test]
+fn fields_are_told(rt: HostRuntime) -> Result<(), Fail> {
+    let mut memory: GuestMemory<u8> = GuestMemory::new(rt.alloc());
+    memory.add_field(CODE + 3).ok().ok_or("memory")?;
+    assert!(rt; <GuestMemory<u8> as Space<Plain>>::is_field(&memory, CODE + 3));
+    assert!(rt; !<GuestMemory<u8> as Space<Plain>>::is_field(&memory, CODE + 4));
     Ok(())
 }
