@@ -1,7 +1,6 @@
 -- The meaning's memory and the machine's: byte by byte the same, also under writes, and as code the same but where the linker's own stands.
-use Rattle.std.proofs.Common.{◌≡◌, ℕ, ◌||◌, ◌==◌, Bool, true, false, List, [], ◌∷◌, Option, None, refl, ◌∙◌}
+use Rattle.std.proofs.Common.{◌≡◌, ℕ, Bool, true, false, List, [], ◌∷◌, Option, None, refl, ◌∙◌}
 use Rattle.std.specs.Prelude.{if◌then◌else◌}
-use Rattle.std.proofs.lemmas.Bool.{eqb-true}
 use Rattle.guest_machine.specs.declared.cause.Cause.{Cause}
 use Rattle.guest_machine.specs.declared.cause.Cause.TheVariants.{Linker}
 use Rattle.guest_machine.specs.declared.space.Access.TheVariants.{Write}
@@ -108,13 +107,8 @@ module _ {E : Type 0} (room thread : ℕ) (loaded : Loaded Byte) (loaded' : Load
   unfolding meant_accesses
   called-shut m place e = (Linker, (rw e refl, rw e refl))
 
-  look-linkers : (a b : Bool) (place : ℕ) → (place == 0x1000) ≡ a → (place == 0x1800) ≡ b → (a || b) ≡ true → is_linkers room place ≡ true
-  look-linkers true b place e f look = rw (eqb-true place 0x1000 e) refl
-  look-linkers false true place e f look = rw (eqb-true place 0x1800 f) refl
-  look-linkers false false place e f look = absurd cc
-
   pub are_shut : AreShut (marked_operations owner_at) acc (meant_mark room)
-  are_shut m place look = called-shut m place (look-linkers (place == 0x1000) (place == 0x1800) place refl refl look)
+  are_shut m place look = called-shut m place (rw look refl)
 
   -- ** code
 

@@ -2,6 +2,7 @@
 use Rattle.std.specs.Prelude.{ℕ, ◌+◌, ◌^◌, ◌&&◌, ◌||◌, Bool, List, [], ◌∷◌, nat_le, nat_lt, None, if◌then◌else◌}
 use Rattle.guest_machine.specs.declared.cause.Cause.TheVariants.{Linker}
 use Rattle.guest_machine.specs.Access.{Accesses}
+use Rattle.guest_machine.specs.Run.{is_look}
 use Rattle.guest_machine.specs.Use.{After}
 use Rattle.job_meaning.specs.declared.marks.Mark.{Mark}
 use Rattle.job_meaning.specs.declared.marks.Mark.TheVariants.{Usual, Odd}
@@ -15,14 +16,6 @@ use Rattle.thread_blocks.specs.MachineTurns.{Loaded, CallLine, stack_start, fixe
 use Rattle.thread_blocks.specs.Spaces.{Space, space_accesses}
 use Rattle.thread_blocks.specs.Turns.{Said, Calls, Turns, ready, turn}
 
--- one of the eight bytes from a place on
-abbrev pub is_in_eight : ℕ → ℕ → Bool
-is_in_eight start place = nat_le start place && nat_lt place (start + 8)
-
--- where `__tls_get_addr` and the function of descriptors are called
-abbrev pub is_of_run_time : ℕ → Bool
-is_of_run_time place = is_in_eight 0x1000 place || is_in_eight 0x1800 place
-
 -- where an executable's space ends
 abbrev pub image_end : ℕ
 image_end = 0x400000 + 2 ^ 26
@@ -31,9 +24,10 @@ image_end = 0x400000 + 2 ^ 26
 abbrev pub is_in_room : ℕ → ℕ → Bool
 is_in_room room place = nat_le room place && nat_lt place image_end
 
--- whether a place is the linker's own; room: where the objects' sections end
+-- whether a place is the linker's own: where `__tls_get_addr` and the function of descriptors are called, and the room, which begins where the objects'
+-- sections end
 abbrev pub is_linkers : ℕ → ℕ → Bool
-is_linkers room place = is_of_run_time place || is_in_room room place
+is_linkers room place = is_look place || is_in_room room place
 
 -- what a thread of the meaning holds
 abbrev pub Meant : Type 0 → Type 0
