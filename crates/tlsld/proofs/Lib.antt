@@ -1,3 +1,5 @@
 mod Asked
+mod Counted
+mod Lines
 mod Refused
 mod Words

@@ -1,10 +1,10 @@
 -- What is said of an object that is refused.
 use Rattle.std.proofs.Common.{◌≡◌, ◌∙◌, ℕ, List, inl, inr, Err, ap}
 use Rattle.job_text.specs.Jobs.{JobParts}
-use Rattle.not_yet.specs.SmallJobs.{Small}
-use Rattle.small_run.specs.declared.refusal.Refusal.{Refusal as Why}
-use Rattle.small_run.specs.declared.refusal.Refusal.TheVariants as why
-use Rattle.small_run.specs.Runs.{IsRefused}
+use Rattle.tlsld.specs.SmallJobs.{Small}
+use Rattle.tlsld.specs.declared.small_run.refusal.ObjectRefusal.{ObjectRefusal as Why}
+use Rattle.tlsld.specs.declared.small_run.refusal.ObjectRefusal.TheVariants as why
+use Rattle.tlsld.specs.Runs.{IsRefused}
 use Rattle.tlsld.specs.Says.{ObjectSays, fault_text, not_yet_text}
 use Rattle.tlsld.specs.Steps.{Comes, IsRefusalOf}
 use Rattle.tlsld.specs.declared.fault.CommandFault.{CommandFault}

@@ -1,7 +1,12 @@
 pub mod Delivery
+pub mod Executables
 pub mod Faults
 pub mod FetchFaults
+pub mod Narrow
 pub mod Replies
+pub mod Runs
 pub mod Says
+pub mod SmallJobs
+pub mod SmallObjects
 pub mod Statuses
 pub mod Steps

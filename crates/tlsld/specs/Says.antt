@@ -8,10 +8,10 @@ use Rattle.job_text.specs.declared.images.Image.{Image}
 use Rattle.job_text.specs.declared.transcripts.Outcome.{Outcome}
 use Rattle.job_text.specs.Jobs.{JobParts, job_of}
 use Rattle.job_text.specs.Texts.{transcript_text}
-use Rattle.not_yet.specs.SmallJobs.{Small, small_job}
+use Rattle.tlsld.specs.SmallJobs.{Small, small_job}
 use Rattle.ports.specs.Files.{Files, file_at}
-use Rattle.small_run.specs.declared.refusal.Refusal.TheVariants as why
-use Rattle.small_run.specs.Runs.{HasRun, IsRefused}
+use Rattle.tlsld.specs.declared.small_run.refusal.ObjectRefusal.TheVariants as why
+use Rattle.tlsld.specs.Runs.{HasRun, IsRefused}
 
 -- ---- the texts
 

@@ -3,20 +3,20 @@ use Rattle.std.specs.Prelude.{◌≡◌, ℕ, List, [], ◌∷◌, ◌++◌, tak
 use Rattle.std.specs.Option.{option_map}
 use Rattle.job_text.specs.declared.fault.JobFault.{JobFault}
 use Rattle.job_text.specs.Jobs.{JobParts, job_of}
-use Rattle.not_yet.specs.SmallJobs.{Small, small_job}
+use Rattle.tlsld.specs.SmallJobs.{Small, small_job}
 use Rattle.ports.specs.Files.{Files, file_at}
-use Rattle.small_run.specs.declared.refusal.Refusal.{Refusal as Why}
-use Rattle.small_run.specs.declared.refusal.Refusal.TheVariants as why
+use Rattle.tlsld.specs.declared.small_run.refusal.ObjectRefusal.{ObjectRefusal as Why}
+use Rattle.tlsld.specs.declared.small_run.refusal.ObjectRefusal.TheVariants as why
 use Rattle.tlsld.specs.Says.{job_not_yet, fault_text, not_yet_text}
 use Rattle.tlsld.specs.declared.fault.CommandFault.{CommandFault}
 use Rattle.tlsld.specs.declared.fault.CommandFault.TheVariants as fault
-use Rattle.tlsld.specs.declared.fault.Refusal.{Refusal}
-use Rattle.tlsld.specs.declared.fault.Refusal.TheVariants.{JobNotYet, Object}
+use Rattle.tlsld.specs.declared.fault.InputRefusal.{InputRefusal}
+use Rattle.tlsld.specs.declared.fault.InputRefusal.TheVariants.{JobNotYet, Object}
 use Rattle.tlsld.specs.declared.fault.Reason.{Reason}
 use Rattle.tlsld.specs.declared.fault.Reason.TheVariants.{Fault, NotYet}
 
 -- the status and the text of a refusal
-abbrev pub refusal_code : Refusal → ℕ
+abbrev pub refusal_code : InputRefusal → ℕ
 refusal_code JobNotYet = 5
 refusal_code (Object name reason) = 6
 
@@ -24,7 +24,7 @@ abbrev pub object_text : List ℕ → Reason → List ℕ
 object_text name (Fault section entry kind) = fault_text name section entry kind
 object_text name NotYet = not_yet_text name
 
-abbrev pub refusal_text : Refusal → List ℕ
+abbrev pub refusal_text : InputRefusal → List ℕ
 refusal_text JobNotYet = job_not_yet
 refusal_text (Object name reason) = object_text (string_bytes name) reason
 

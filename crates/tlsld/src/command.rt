@@ -7,16 +7,16 @@ ghost use Rattle.tlsld.specs.Replies.{AnswerCounts, AnswerSays, AsksOfAnswer};
 ghost use Rattle.tlsld.specs.Says.{JobSays, ObjectSays, RunSays, SmallSays, one_line_text};
 ghost use Rattle.tlsld.specs.Steps.{Asks, Comes, IsNoJob, IsRefusalOf, job_names, run_names};
 
-use crate::fault::{CommandFault, Reason, Refusal};
+use crate::fault::{CommandFault, InputRefusal, Reason};
 use crate::fetched::whole_file;
+use crate::not_yet::{SmallJob, small_job};
 use crate::refusal::reply_of;
 use crate::reply::{Answer, Reply};
+use crate::small_run::{ObjectRefusal, run_small};
 use crate::status::Status;
 use command_line::Task;
 use job_text::{Job, JobFault, Line, Outcome, Points, Transcript};
-use not_yet::{SmallJob, small_job};
 use ports::Store;
-use small_run::run_small;
 use std::alloc::{AllocError, Global};
 
 /// What a command answers.
@@ -65,7 +65,7 @@ fn run_job<S: Store>(alloc: Global, store: &mut S, text: &[u8]) -> Result<Vec<u8
     let job = job_of(alloc, text)?;
     match small_job(&job) {
         Some(small) => run_small_job(alloc, store, &job, &small),
-        None => Err(CommandFault::Refused(Refusal::JobNotYet)),
+        None => Err(CommandFault::Refused(InputRefusal::JobNotYet)),
     }
 }
 
@@ -78,7 +78,7 @@ fn job_of(alloc: Global, text: &[u8]) -> Result<Job, CommandFault>
     match Job::read(alloc, text) {
         Ok(job) => Ok(job),
         Err(JobFault::OutOfMemory) => Err(CommandFault::OutOfMemory),
-        Err(JobFault::At { .. }) => Err(CommandFault::Refused(Refusal::JobNotYet)),
+        Err(JobFault::At { .. }) => Err(CommandFault::Refused(InputRefusal::JobNotYet)),
     }
 }
 
@@ -137,13 +137,13 @@ fn transcript_of(
 }
 
 /// The fault of a command whose object is refused.
-fn refused_object(alloc: Global, name: &str, why: small_run::Refusal) -> CommandFault
+fn refused_object(alloc: Global, name: &str, why: ObjectRefusal) -> CommandFault
     ensures says { IsRefusalOf name.now why result }
     ensures cause { IsNoStoreFault result }
 {
     let reason = match why {
-        small_run::Refusal::OutOfMemory => return CommandFault::OutOfMemory,
-        small_run::Refusal::Fault {
+        ObjectRefusal::OutOfMemory => return CommandFault::OutOfMemory,
+        ObjectRefusal::Fault {
             section,
             entry,
             kind,
@@ -152,10 +152,10 @@ fn refused_object(alloc: Global, name: &str, why: small_run::Refusal) -> Command
             entry,
             kind,
         },
-        small_run::Refusal::NotYet => Reason::NotYet,
+        ObjectRefusal::NotYet => Reason::NotYet,
     };
     match String::from_str(alloc, name) {
-        Ok(name) => CommandFault::Refused(Refusal::Object { name, reason }),
+        Ok(name) => CommandFault::Refused(InputRefusal::Object { name, reason }),
         Err(AllocError) => CommandFault::OutOfMemory,
     }
 }

@@ -13,12 +13,12 @@ pub enum CommandFault {
     /// There was no memory.
     OutOfMemory,
     /// The input is refused.
-    Refused(Refusal),
+    Refused(InputRefusal),
 }
 
 /// What of the input is refused.
 #[derive(Debug, Drop)]
-pub enum Refusal {
+pub enum InputRefusal {
     /// The path does not take this job yet.
     JobNotYet,
     /// The object of this name.

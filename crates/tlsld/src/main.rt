@@ -14,14 +14,16 @@
 //! A command is read from top to bottom in `command`: the job is fetched and read, then its object, then the object is linked,
 //! then a thread runs the call, then the transcript is written. Each step may end the command; what it ends with is a
 //! `CommandFault`, and what is said of it a `Reply`, which reaches the sink in one piece (`reply`). Which jobs and objects are
-//! taken is said by the crate `not_yet`; `small_run` links the object and runs the call.
+//! taken is said by `not_yet`; `small_run` links the object and runs the call.
 #![tactic(auto)]
 
 mod command;
 mod fault;
 mod fetched;
+mod not_yet;
 mod refusal;
 mod reply;
+mod small_run;
 mod status;
 #[cfg(test)]
 mod tests;

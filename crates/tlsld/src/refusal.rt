@@ -5,24 +5,24 @@ ghost use Rattle.tlsld.specs.Steps.{object_text, refusal_code, refusal_text};
 ghost use Rattle.tlsld.specs.Replies.{IsOfFiles};
 ghost use Rattle.tlsld.specs.Statuses.{code_of};
 
-use crate::fault::{Reason, Refusal};
+use crate::fault::{InputRefusal, Reason};
 use crate::reply::Reply;
 use crate::status::Status;
 use elf_object::FaultKind;
 use std::alloc::{AllocError, Global};
 
 /// The reply that refuses.
-pub fn reply_of(alloc: Global, refusal: &Refusal) -> Result<Reply, AllocError>
+pub fn reply_of(alloc: Global, refusal: &InputRefusal) -> Result<Reply, AllocError>
     ensures status { IfOk result (λ reply. IsOfFiles reply.status) }
     ensures code { IfOk result (λ reply. code_of reply.status ≡ refusal_code refusal.now) }
     ensures text { IfOk result (λ reply. reply.text.items ≡ refusal_text refusal.now) }
 {
     match refusal {
-        Refusal::JobNotYet => Ok(Reply {
+        InputRefusal::JobNotYet => Ok(Reply {
             status: Status::Job,
             text: Vec::from_slice(alloc, b"job 0 NotYet\n")?,
         }),
-        Refusal::Object { name, reason } => Ok(Reply {
+        InputRefusal::Object { name, reason } => Ok(Reply {
             status: Status::Object,
             text: object_line(alloc, name.as_str(), *reason)?,
         }),

@@ -1,2 +1,0 @@
-pub mod SmallJobs
-pub mod SmallObjects

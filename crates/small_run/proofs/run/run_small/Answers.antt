@@ -1,9 +1,0 @@
-use Rattle.std.proofs.Common.{◌∙◌, sym, ap}
-use Rattle.not_yet.specs.SmallObjects.{is_small_object}
-use Rattle.small_run.proofs.Lines.{not_narrow}
-use Rattle.small_run.proofs.run.run_small.Goals as goal
-
-pub returns-else-branch : goal.returns-else-branch
-returns-else-branch c =
-    let object = c.in_ok-object.ensures.object in
-    (object.1, not_narrow c.args.bytes.now (sym (c.in_ok-is_small_object.ensures ∙ ap is_small_object object.0) ∙ c.if-branch.false))

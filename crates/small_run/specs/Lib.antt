@@ -1,3 +1,0 @@
-pub mod Executables
-pub mod Narrow
-pub mod Runs
