@@ -1,5 +1,12 @@
-mod Laid
+pub mod Apart
+pub mod FieldBytes
+pub mod Fits
+pub mod Laid
+pub mod Rising
+pub mod Standing
+pub mod Meant
 pub mod Offsets
 pub mod Search
-mod Sections
-mod Relocated
+pub mod Sections
+pub mod Relocated
+pub mod Values

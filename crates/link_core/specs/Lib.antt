@@ -1,6 +1,8 @@
 pub mod Definitions
 pub mod Entries
 pub mod Fields
+pub mod Laws
 pub mod Laying
+pub mod Meant
 pub mod Parts
 pub mod Taken

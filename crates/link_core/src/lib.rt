@@ -32,6 +32,12 @@
 //! [`link`] makes the image of objects that [`takes`] accepts: each relocation is a TPOFF32 of a GLOBAL variable in the object's
 //! own thread-local storage, with an addend of -2^20 to 2^20, so that its value fits. [`definition`] and [`entry_place`] find names.
 //!
+//! The rule of meaning: **an image holds at each address what its objects mean there** (`specs/Meant`): the byte of the section that
+//! stands there, in a relocation's field the byte of its value, and between sections zero. That definition asks the objects and
+//! their layout alone, and nothing that this crate or `tls_relocs` writes, so the law (`laws::images_are_meant`) fails for a wrong
+//! field, also where definition and code are wrong alike. It stands on four others: relocations that are taken have values, fields
+//! share no byte, a linked section holds its fields and else its own bytes, and the sections of a part rise.
+//!
 //! `specs/Taken` says which relocations are taken, `specs/Fields` what is written in a section, `specs/Parts` how sections make an
 //! image, `specs/Laying` what stands after each section that is laid down, and `specs/Definitions` and `specs/Entries` what a
 //! name is and where it stands. Linking copies each section once, and writes each field once.
@@ -40,6 +46,7 @@
 mod entry;
 mod fields;
 mod image;
+pub mod laws;
 mod part;
 mod symbols;
 mod taken;

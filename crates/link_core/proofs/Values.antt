@@ -4,7 +4,7 @@ use Rattle.std.specs.Prelude.{slice_index_or, unwrap_or, if◌then◌else◌}
 use Rattle.std.specs.List.{list_all, fold}
 use Rattle.elf_object.specs.declared.relocation.Relocation.{Relocation}
 use Rattle.elf_object.specs.declared.relocation.RelocationKind.{RelocationKind}
-use Rattle.elf_object.specs.declared.relocation.RelocationKind.TheVariants.{Nothing, Absolute64, Pc32, Plt32, GotPcRel, Absolute32, Absolute32Signed, TlsGd, TlsLd, DtpOff32, GotTpOff, TpOff32, GotPc32TlsDesc, TlsDescCall, GotPcRelX, RexGotPcRelX}
+use Rattle.elf_object.specs.declared.relocation.RelocationKind.TheVariants.{Nothing}
 use Rattle.elf_object.specs.declared.symbol.SymbolBinding.TheVariants.{Global}
 use Rattle.elf_object.specs.declared.symbol.SymbolPlace.{SymbolPlace}
 use Rattle.elf_object.specs.declared.symbol.SymbolPlace.TheVariants.{Undefined, Absolute, InSection}
@@ -25,9 +25,10 @@ use Rattle.tls_relocs.specs.ValueLaws.{signed_fits}
 use Rattle.link_core.specs.Definitions.{same_binding}
 use Rattle.link_core.specs.Fields.{block_offset, offset_in, symbol_offset, field_of}
 use Rattle.link_core.specs.Taken.{is_own_variable, is_small, is_taken, is_tpoff}
+use Rattle.link_core.proofs.FieldBytes.{row_is}
 use Rattle.link_core.proofs.Offsets.{offset_small, value_small}
-use Rattle.link_laws.specs.Laws.{FieldsHoldTheirValues}
-use Rattle.link_laws.proofs.Fits.{small_fits}
+use Rattle.link_core.specs.Laws.{FieldsHaveValues}
+use Rattle.link_core.proofs.Fits.{small_fits}
 
 -- ** the block's distance from the thread pointer
 
@@ -92,25 +93,6 @@ parts_of b r taken =
     let h = parts (is_tpoff r.kind) (same_binding Global (symbol_binding b r.symbol)) (is_own_variable b (symbol_place b r.symbol)) (is_small r.addend) taken in
     record { kind = h.0; own = h.1; small = h.2 }
 
-module _ (o : ℕ) (a : ℤ) (b : ℕ) where
-  stored_some : (kind : RelocationKind) → is_tpoff kind ≡ true → IsSome (signed_field ((pos o +ℤ a) -ℤ pos b)) → IsSome (stored_field kind o a 0 b)
-  stored_some TpOff32 e some = some
-  stored_some Nothing e some = cc
-  stored_some Absolute64 e some = cc
-  stored_some Pc32 e some = cc
-  stored_some Plt32 e some = cc
-  stored_some GotPcRel e some = cc
-  stored_some Absolute32 e some = cc
-  stored_some Absolute32Signed e some = cc
-  stored_some TlsGd e some = cc
-  stored_some TlsLd e some = cc
-  stored_some DtpOff32 e some = cc
-  stored_some GotTpOff e some = cc
-  stored_some GotPc32TlsDesc e some = cc
-  stored_some TlsDescCall e some = cc
-  stored_some GotPcRelX e some = cc
-  stored_some RexGotPcRelX e some = cc
-
 no_nothing : (kind : RelocationKind) → is_tpoff kind ≡ true → kind ≡ Nothing → ⊥
 no_nothing kind e is = (subst (λ k. is_tpoff k ≡ true → ⊥) (sym is) (λ h. cc)) e
 
@@ -119,7 +101,7 @@ has_value p o b s r within object taken law =
     let h = parts_of b r taken in
     let there = (law.symbol (no_nothing r.kind h.kind)).1 in
     let fits = small_fits (symbol_offset p o b r.symbol) (block_offset p) r.addend (offset_bound p o b within object r.symbol there h.own) (block_small p within) h.small in
-    stored_some (symbol_offset p o b r.symbol) r.addend (block_offset p) r.kind h.kind ((signed_fits ((pos (symbol_offset p o b r.symbol) +ℤ r.addend) -ℤ pos (block_offset p))).1 fits)
+    subst (λ f. IsSome f) (sym (row_is (symbol_offset p o b r.symbol) r.addend (block_offset p) r.kind h.kind)) ((signed_fits ((pos (symbol_offset p o b r.symbol) +ℤ r.addend) -ℤ pos (block_offset p))).1 fits)
 
 -- ** all of a section
 
@@ -127,7 +109,7 @@ both : (x y : Bool) → (x && y) ≡ true → (x ≡ true) × (y ≡ true)
 both true y h = (refl, h)
 both false y h = cc
 
-each_passes : {X : Type 0} (P : X → Bool) (xs : List X) → list_all P xs ≡ true → All (λ x. P x ≡ true) xs
+pub each_passes : {X : Type 0} (P : X → Bool) (xs : List X) → list_all P xs ≡ true → All (λ x. P x ≡ true) xs
 each_passes P [] passes = λ k d h. absurd (omega arith)
 each_passes {X = X} P (x ∷ xs) passes = let h = both (P x) (list_all P xs) passes in at h.0 (each_passes P xs h.1)
   where
@@ -135,6 +117,6 @@ each_passes {X = X} P (x ∷ xs) passes = let h = both (P x) (list_all P xs) pas
     at first rest zero d below = first
     at first rest (suc k) d below = rest k d (omega arith)
 
-pub fields_hold : FieldsHoldTheirValues
+pub fields_hold : FieldsHaveValues
 fields_hold p o b s within object taken = λ k d below.
     has_value p o b s (slice_index_or (relocations b s) k d) within object (each_passes (is_taken b) (relocations b s) taken k d below) (lawful b object s k d below)
