@@ -32,5 +32,5 @@ mod rows;
 mod tests;
 
 pub use bytes::{Bytes, fetch, load, store};
-pub use memory::{GuestMemory, OutOfMemory};
+pub use memory::GuestMemory;
 pub use range::{GuestRange, Rights};

@@ -6,12 +6,8 @@ ghost use Rattle.guest_machine.specs.Ranges.{byte_in, with_byte};
 use crate::bytes::{Bytes, fetch, load, store};
 use crate::range::GuestRange;
 use guest_machine::{Access, Space, Values};
-use std::alloc::{AllocFailed, Global};
+use std::alloc::{AllocError, AllocFailed, Global};
 use std::marker::Model;
-
-/// No memory was left.
-#[derive(Clone, Copy, PartialEq, Eq, Debug)]
-pub struct OutOfMemory;
 
 /// Ranges of owned bytes, and the places of offset fields.
 #[derive(Drop)]
@@ -40,24 +36,24 @@ impl<B: Copy + Drop> GuestMemory<B> {
     }
 
     /// Adds a range behind the others.
-    pub fn add_range(&mut self, range: GuestRange<B>) -> Result<(), OutOfMemory>
+    pub fn add_range(&mut self, range: GuestRange<B>) -> Result<(), AllocError>
         ensures ok { OnOk result (self.new ≡ record self.old { ranges = self.old.ranges ++ range ∷ [] }) }
         ensures err { OnErr result (self.new ≡ self.old) }
     {
         match self.ranges.push(range) {
             Ok(()) => Ok(()),
-            Err(_) => Err(OutOfMemory),
+            Err(_) => Err(AllocError),
         }
     }
 
     /// Says that an offset field begins at a place.
-    pub fn add_field(&mut self, place: u64) -> Result<(), OutOfMemory>
+    pub fn add_field(&mut self, place: u64) -> Result<(), AllocError>
         ensures ok { OnOk result (self.new ≡ record self.old { fields = self.old.fields ++ place ∷ [] }) }
         ensures err { OnErr result (self.new ≡ self.old) }
     {
         match self.fields.push(place) {
             Ok(()) => Ok(()),
-            Err(_) => Err(OutOfMemory),
+            Err(_) => Err(AllocError),
         }
     }
 }

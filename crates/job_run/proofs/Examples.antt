@@ -23,7 +23,7 @@ use Rattle.job_meaning.specs.Marked.{marked_operations}
 use Rattle.job_meaning.specs.Owner.{owner_at}
 use Rattle.job_meaning.specs.Reading.{completed, hindrance, meaning_step}
 use Rattle.job_meaning.specs.Running.{meaning}
-use Rattle.job_text.specs.declared.event.Event.{Event}
+use Rattle.module_table.specs.declared.events.Event.{Event}
 use Rattle.link_core.specs.Parts.{Image}
 use Rattle.thread_blocks.specs.MachineTurns.{CallLine, call_said, zeros}
 use Rattle.thread_blocks.specs.Spaces.{space_accesses}

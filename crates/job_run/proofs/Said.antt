@@ -13,7 +13,7 @@ use Rattle.job_meaning.specs.Running.{meaning}
 use Rattle.job_meaning.specs.Same.{same}
 use Rattle.job_meaning.proofs.Running.{meaning_simulated}
 use Rattle.job_meaning.proofs.Same.{marked_follows}
-use Rattle.job_text.specs.declared.event.Event.{Event}
+use Rattle.module_table.specs.declared.events.Event.{Event}
 use Rattle.link_core.specs.Parts.{Image}
 use Rattle.thread_blocks.specs.MachineTurns.{Loaded, CallLine, fixed_of, begun_call, begin_call, machine_turns, call_said, SameRun, SameRest}
 use Rattle.thread_blocks.specs.Spaces.{SameRange, no_field}

@@ -1,7 +1,7 @@
 -- That the machine over a linked image prints what the job means, wherever that is clean.
 use Rattle.std.specs.Prelude.{◌≡◌, ℕ, List, Option, Some}
 use Rattle.job_meaning.specs.declared.values.Byte.{Byte}
-use Rattle.job_text.specs.declared.event.Event.{Event}
+use Rattle.module_table.specs.declared.events.Event.{Event}
 use Rattle.link_core.specs.Parts.{Image}
 use Rattle.thread_blocks.specs.MachineTurns.{Loaded, CallLine, machine_turns, call_said}
 use Rattle.thread_blocks.specs.Turns.{Thread, turn, at_number}

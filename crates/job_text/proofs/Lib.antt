@@ -1,5 +1,4 @@
 pub mod DraftLemmas
 pub mod JobLemmas
 pub mod NumberLemmas
-pub mod TextLemmas
 pub mod WordLemmas

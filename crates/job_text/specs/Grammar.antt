@@ -6,7 +6,7 @@ use Rattle.job_text.specs.Words.{word_at}
 use Rattle.job_text.specs.declared.grammar.Heading.{Heading}
 use Rattle.job_text.specs.declared.grammar.Heading.TheVariants as heading
 use Rattle.job_text.specs.declared.grammar.Verb.TheVariants.{Call, Open, Close, Peek}
-use Rattle.job_text.specs.declared.images.ImageKind.TheVariants.{Exe, Pie, Start, Late}
+use Rattle.link_faults.specs.declared.image_kind.ImageKind.TheVariants.{Exe, Pie, Start, Late}
 
 -- a digit
 abbrev pub is_digit_byte : ℕ → Bool

@@ -9,7 +9,5 @@ pub mod LineAnswers
 pub mod LineEffects
 pub mod LineFaults
 pub mod Numbers
-pub mod OutcomeWords
-pub mod Texts
 pub mod Threads
 pub mod Words

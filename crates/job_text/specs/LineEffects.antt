@@ -12,8 +12,8 @@ use Rattle.job_text.specs.declared.grammar.Heading.{Heading}
 use Rattle.job_text.specs.declared.grammar.Verb.TheVariants as verb
 use Rattle.job_text.specs.declared.grammar.Verb.{Verb}
 use Rattle.job_text.specs.declared.images.Image.{Image}
-use Rattle.job_text.specs.declared.images.ImageKind.TheVariants as image
-use Rattle.job_text.specs.declared.images.ImageKind.{ImageKind}
+use Rattle.link_faults.specs.declared.image_kind.ImageKind.TheVariants as image
+use Rattle.link_faults.specs.declared.image_kind.ImageKind.{ImageKind}
 use Rattle.job_text.specs.declared.thread_lines.Action.TheVariants as action
 use Rattle.job_text.specs.declared.thread_lines.Action.{Action}
 

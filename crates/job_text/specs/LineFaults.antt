@@ -11,8 +11,8 @@ use Rattle.job_text.specs.declared.grammar.Heading.TheVariants as heading
 use Rattle.job_text.specs.declared.grammar.Heading.{Heading}
 use Rattle.job_text.specs.declared.grammar.Verb.TheVariants as verb
 use Rattle.job_text.specs.declared.grammar.Verb.{Verb}
-use Rattle.job_text.specs.declared.images.ImageKind.TheVariants as image
-use Rattle.job_text.specs.declared.images.ImageKind.{ImageKind}
+use Rattle.link_faults.specs.declared.image_kind.ImageKind.TheVariants as image
+use Rattle.link_faults.specs.declared.image_kind.ImageKind.{ImageKind}
 
 -- the thread that a word names: it is one of those declared so far
 abbrev pub thread_named : Declared → List ℕ → Option ℕ

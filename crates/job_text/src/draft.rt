@@ -14,12 +14,13 @@ ghost use Rattle.job_text.specs.declared.grammar.Verb.TheVariants as verb;
 
 use crate::fault::{Flaw, JobFaultKind};
 use crate::grammar::{Heading, Verb, has_its_words, heading_of, is_image_name};
-use crate::images::{Image, ImageKind};
+use crate::images::Image;
 use crate::numbers::number_within;
 use crate::operands::{has_long_object, objects_of, read_action};
 use crate::spelling::Name;
 use crate::thread_lines::Action;
 use crate::words::Words;
+use link_faults::ImageKind;
 use std::alloc::{AllocError, Global};
 use std::collections::HashMap;
 use std::marker::Model;

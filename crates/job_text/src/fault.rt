@@ -8,23 +8,6 @@ use std::alloc::{AllocError, AllocFailed};
 use std::fmt;
 use thiserror::Error;
 
-/// There was no memory.
-#[derive(Clone, Copy, Debug, Error)]
-#[error("out of memory")]
-pub struct OutOfMemory;
-
-impl From<AllocError> for OutOfMemory {
-    fn from(_error: AllocError) -> OutOfMemory {
-        OutOfMemory
-    }
-}
-
-impl<T: Drop> From<AllocFailed<T>> for OutOfMemory {
-    fn from(_error: AllocFailed<T>) -> OutOfMemory {
-        OutOfMemory
-    }
-}
-
 /// The kinds of faults of a job, in the order in which a line is tested for them.
 #[derive(Clone, Copy, PartialEq, Eq, Debug)]
 pub enum JobFaultKind {

@@ -3,8 +3,8 @@
 ghost use Rattle.std.specs.Prelude.{◌≡◌};
 ghost use Rattle.job_text.specs.Grammar.{begins_with_digit, has_name_bytes, has_name_length, has_its_words, heading_of, is_image_name, is_name_byte, is_short_name, kind_heading, verb_heading};
 
-use crate::images::ImageKind;
 use crate::words::Words;
+use link_faults::ImageKind;
 
 /// What a thread does on its line.
 #[derive(Clone, Copy, PartialEq, Eq, Debug)]

@@ -263,3 +263,13 @@ fn number_of(place: Place, starts: u8) -> u32
         Place::Late(index) => 2 + u32::from(starts) + u32::from(index),
     }
 }
+
+/// Asks that threads may move a type's values, and share them.
+fn crosses_threads<T: Send + Sync>() {}
+
+/// Threads may move and share a job, and all that it is made of.
+pub fn jobs_cross_threads() {
+    crosses_threads::<Job>();
+    crosses_threads::<Image>();
+    crosses_threads::<ThreadLine>();
+}

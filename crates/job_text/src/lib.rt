@@ -1,4 +1,4 @@
-//! The job that a user writes, and the transcript that a run prints.
+//! The job that a user writes.
 //!
 //! A linker's work is seen only when its images run. A **job** says what to link and what to run: a
 //! text with a line for each image, and a line for each thing that a thread does.
@@ -23,25 +23,11 @@
 //! line, and in it the first of the kinds of [`JobFaultKind`], in their order. So a user is told one
 //! thing that is wrong, and always the same one. `specs/` has the grammar as definitions: a line is
 //! text (`Words`), has a heading (`Grammar`) and a fault or none (`LineFaults`), adds to what is
-//! declared (`LineEffects`), and the lines together make a job (`Jobs`).
-//!
-//! A **transcript** is what a run shows. Each line of each thread has its *points*: for each look at
-//! the module history, how many events it saw. The history's events follow. [`Transcript::text`]
-//! writes
-//!
-//! ```text
-//! t1 l1 g0 opened 2
-//! t1 l2 g1,1 = 0000000000000007
-//! t2 l1 g1 bytes 00000000
-//! e0 t1 l1 open plug
-//! ```
-//!
-//! The text is a function of the transcript and the job's names alone (`specs/Texts.antt`). Both the
-//! grammar and the text are this project's own; names and bytes in them are those of the objects.
+//! declared (`LineEffects`), and the lines together make a job (`Jobs`). The grammar is this
+//! project's own; the names in it are those of object files and of their symbols.
 #![tactic(auto)]
 
 mod draft;
-mod event;
 mod fault;
 mod grammar;
 mod images;
@@ -51,15 +37,11 @@ mod operands;
 mod spelling;
 #[cfg(test)]
 mod tests;
-mod text;
 mod thread_lines;
-mod transcripts;
 mod words;
 
-pub use crate::event::Event;
-pub use crate::fault::{JobFault, JobFaultKind, OutOfMemory};
-pub use crate::images::{Image, ImageKind};
-pub use crate::jobs::Job;
+pub use crate::fault::{JobFault, JobFaultKind};
+pub use crate::images::Image;
+pub use crate::jobs::{Job, jobs_cross_threads};
 pub use crate::spelling::{Name, Names};
 pub use crate::thread_lines::{Action, ThreadLine};
-pub use crate::transcripts::{Bytes, Line, LineFault, Outcome, Points, Refusal, Transcript};

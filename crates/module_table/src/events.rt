@@ -1,24 +1,6 @@
 //! The events of the history, and what an open or a close answers.
 
-use std::alloc::{AllocError, AllocFailed};
 use thiserror::Error;
-
-/// There was no memory.
-#[derive(Clone, Copy, PartialEq, Eq, Debug, Error)]
-#[error("out of memory")]
-pub struct OutOfMemory;
-
-impl From<AllocError> for OutOfMemory {
-    fn from(_error: AllocError) -> OutOfMemory {
-        OutOfMemory
-    }
-}
-
-impl<T: Drop> From<AllocFailed<T>> for OutOfMemory {
-    fn from(_error: AllocFailed<T>) -> OutOfMemory {
-        OutOfMemory
-    }
-}
 
 /// A successful open or close of a late image, as the history of modules keeps it.
 #[derive(Clone, Copy, PartialEq, Eq, Debug)]

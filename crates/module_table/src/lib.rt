@@ -43,7 +43,7 @@ mod table;
 #[cfg(test)]
 mod tests;
 
-pub use crate::events::{CloseRefusal, Closed, Event, OpenRefusal, Opened, OutOfMemory};
+pub use crate::events::{CloseRefusal, Closed, Event, OpenRefusal, Opened};
 pub use crate::modules::{ImageInfo, Module};
 pub use crate::registry::Registry;
 pub use crate::table::ModuleTable;

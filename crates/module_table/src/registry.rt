@@ -5,7 +5,7 @@ ghost use Rattle.module_table.specs.Modules.{AreInfos};
 ghost use Rattle.module_table.specs.Past.{start, module_of, live, offset, current, instance_of, accepts, open_refusal, close_refusal};
 ghost use Rattle.module_table.specs.History.{left, IsLegal, IsSame, Adds, open_answer, close_answer, OpenRefused, CloseRefused};
 
-use crate::events::{CloseRefusal, Closed, Event, OpenRefusal, Opened, OutOfMemory};
+use crate::events::{CloseRefusal, Closed, Event, OpenRefusal, Opened};
 use crate::modules::{ImageInfo, Module};
 use crate::table::ModuleTable;
 use std::alloc::{AllocError, Global};
@@ -36,11 +36,7 @@ impl Model for Registry {
 impl Registry {
     /// The registry before any event. Image 1 is the program, then come the images that start with it, then the late ones;
     /// the block of the last startup image begins `last_offset` bytes below the thread pointer.
-    pub fn new(
-        alloc: Global,
-        infos: &[ImageInfo],
-        last_offset: u64,
-    ) -> Result<Registry, OutOfMemory>
+    pub fn new(alloc: Global, infos: &[ImageInfo], last_offset: u64) -> Result<Registry, AllocError>
         requires infos { AreInfos infos.now }
         requires low { last_offset < 2 ^ 27 }
         ensures infos { IfOk result (λ registry. registry.infos ≡ infos.now) }
@@ -117,7 +113,7 @@ impl Registry {
     }
 
     /// Makes memory for one more event: after it, one open or close cannot answer `OutOfMemory`.
-    pub fn reserve(&mut self) -> Result<(), OutOfMemory>
+    pub fn reserve(&mut self) -> Result<(), AllocError>
         ensures spare { OnOk result (1 ≤ self.new.spare) }
         ensures same { IsSame self.old self.new }
         ensures legal { IsLegal self.new.infos self.new.last_offset self.new.events }
@@ -127,7 +123,7 @@ impl Registry {
     }
 
     /// The same history once more.
-    pub fn copy(&self) -> Result<Registry, OutOfMemory>
+    pub fn copy(&self) -> Result<Registry, AllocError>
         ensures { IfOk result (λ registry. IsSame self.now registry) }
     {
         Ok(Registry {

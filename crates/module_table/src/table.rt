@@ -4,12 +4,12 @@ ghost use Rattle.std.specs.Prelude.{◌≡◌, ◌<◌, ◌^◌, true, ◌+◌, 
 ghost use Rattle.module_table.specs.Modules.{AreInfos};
 ghost use Rattle.module_table.specs.Past.{start, live, offset, current, instance_of, image_of, module_of, open_refusal, close_refusal, accepts, after_one, loaded, retained, released, next_offset, opened, after, is_legal};
 
-use crate::events::{CloseRefusal, Event, OpenRefusal, OutOfMemory};
+use crate::events::{CloseRefusal, Event, OpenRefusal};
 use crate::ids::IdSet;
 use crate::modules::{ImageInfo, Module};
 use crate::start::{first_modules, ids_of, own_numbers, startup_count};
 use crate::{MOST_IDS, MOST_INSTANCES, SURPLUS};
-use std::alloc::Global;
+use std::alloc::{AllocError, Global};
 use std::marker::Model;
 
 /// What a history leaves. Contracts see a `Past`.
@@ -63,7 +63,7 @@ impl ModuleTable {
         alloc: Global,
         infos: &[ImageInfo],
         last_offset: u64,
-    ) -> Result<ModuleTable, OutOfMemory>
+    ) -> Result<ModuleTable, AllocError>
         requires infos { AreInfos infos.now }
         requires low { last_offset < 2 ^ 27 }
         ensures { IfOk result (λ table. table ≡ start infos.now last_offset) }
@@ -85,7 +85,7 @@ impl ModuleTable {
     }
 
     /// The same tables once more.
-    pub fn copy(&self) -> Result<ModuleTable, OutOfMemory>
+    pub fn copy(&self) -> Result<ModuleTable, AllocError>
         ensures { IfOk result (λ table. table ≡ self.now) }
     {
         Ok(ModuleTable {

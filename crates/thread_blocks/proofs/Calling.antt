@@ -10,9 +10,9 @@ use Rattle.guest_machine.specs.Ranges.{Range, AddressSpace}
 use Rattle.guest_machine.specs.Run.{Outcome, Ended, Waits, Stepping, run, machine, machine_of, stop_of, state_after, Runs}
 use Rattle.guest_machine.specs.State.{start_of}
 use Rattle.guest_machine.specs.Use.{After, left}
-use Rattle.job_text.specs.declared.event.Event.{Event}
-use Rattle.job_text.specs.declared.transcripts.Line.{Line}
-use Rattle.job_text.specs.declared.transcripts.Outcome.{Outcome as Answer}
+use Rattle.module_table.specs.declared.events.Event.{Event}
+use Rattle.transcript_text.specs.declared.outcomes.Line.{Line}
+use Rattle.transcript_text.specs.declared.outcomes.Outcome.{Outcome as Answer}
 use Rattle.thread_blocks.specs.declared.call.Call.{Call}
 use Rattle.thread_blocks.specs.declared.parts.Executable.{Executable}
 use Rattle.thread_blocks.specs.Turns.{Said, Stopped, Thread, after_run, after_look, turn}

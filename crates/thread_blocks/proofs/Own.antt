@@ -4,7 +4,7 @@ use Rattle.std.specs.Prelude.{slice_get}
 use Rattle.std.specs.Option.{option_map}
 use Rattle.std.proofs.lemmas.Option.{slice_get-map}
 use Rattle.guest_machine.specs.Run.{Outcome, Ended, Waits, Stepping, run}
-use Rattle.job_text.specs.declared.event.Event.{Event}
+use Rattle.module_table.specs.declared.events.Event.{Event}
 use Rattle.thread_blocks.specs.MachineTurns.{Loaded, CallLine, machine_turns}
 use Rattle.thread_blocks.specs.Spaces.{outcome_image, IsRunImage}
 use Rattle.thread_blocks.specs.Turns.{Said, Begun, Says, Calls, Turns, Phase, Idle, Mid, Thread, after_run, after_look, turn_at, turn, turns, ready, at_number, by_order}

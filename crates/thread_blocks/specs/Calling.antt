@@ -3,8 +3,8 @@ use Rattle.std.specs.Prelude.{◌≡◌, ℕ, Bool, List, [], ◌∷◌, ◌++�
 use Rattle.guest_machine.specs.Plain.{plain_operations}
 use Rattle.guest_machine.specs.Ranges.{Range, AddressSpace}
 use Rattle.guest_machine.specs.Use.{After}
-use Rattle.job_text.specs.declared.event.Event.{Event}
-use Rattle.job_text.specs.declared.transcripts.Outcome.{Outcome}
+use Rattle.module_table.specs.declared.events.Event.{Event}
+use Rattle.transcript_text.specs.declared.outcomes.Outcome.{Outcome}
 use Rattle.thread_blocks.specs.declared.call.Call.{Call}
 use Rattle.thread_blocks.specs.declared.parts.Executable.{Executable}
 use Rattle.thread_blocks.specs.Spaces.{Space}

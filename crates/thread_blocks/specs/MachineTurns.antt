@@ -11,11 +11,11 @@ use Rattle.guest_machine.specs.Run.{Next, Goes, Ends, Looks, Stepping, machine}
 use Rattle.guest_machine.specs.State.{start_of}
 use Rattle.guest_machine.specs.Use.{After, left}
 use Rattle.guest_machine.specs.Values.{Operations}
-use Rattle.job_text.specs.declared.transcripts.Line.{Line}
-use Rattle.job_text.specs.declared.transcripts.LineFault.TheVariants.{Address as AddressFault, Code as CodeFault, Steps as StepsFault}
-use Rattle.job_text.specs.declared.transcripts.Outcome.{Outcome as Answer}
-use Rattle.job_text.specs.declared.transcripts.Outcome.TheVariants.{Returned as ReturnedAnswer, Refused, Fault}
-use Rattle.job_text.specs.declared.transcripts.Refusal.TheVariants.{Symbol}
+use Rattle.transcript_text.specs.declared.outcomes.Line.{Line}
+use Rattle.transcript_text.specs.declared.outcomes.LineFault.TheVariants.{Address as AddressFault, Code as CodeFault, Steps as StepsFault}
+use Rattle.transcript_text.specs.declared.outcomes.Outcome.{Outcome as Answer}
+use Rattle.transcript_text.specs.declared.outcomes.Outcome.TheVariants.{Returned as ReturnedAnswer, Refused, Fault}
+use Rattle.transcript_text.specs.declared.outcomes.LineRefusal.TheVariants.{Symbol}
 use Rattle.thread_blocks.specs.Spaces.{Space, SameRange, SameSpace, space_accesses, open_everywhere, no_field}
 use Rattle.thread_blocks.specs.Turns.{Ending, Answered, Stopped, Said, Begun, Says, Calls, Turns, ready, turn}
 

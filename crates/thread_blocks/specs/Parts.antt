@@ -2,8 +2,8 @@
 use Rattle.std.specs.Prelude.{◌≡◌, ℕ, ◌-◌, true, false, List, [], ◌∷◌, ◌++◌, length, map, Option, Some, None}
 use Rattle.guest_machine.specs.Ranges.{Range}
 use Rattle.guest_machine.specs.Plain.{plain_operations}
-use Rattle.job_text.specs.declared.event.Event.{Event}
-use Rattle.job_text.specs.declared.transcripts.Outcome.{Outcome}
+use Rattle.module_table.specs.declared.events.Event.{Event}
+use Rattle.transcript_text.specs.declared.outcomes.Outcome.{Outcome}
 use Rattle.thread_blocks.specs.declared.parts.Part.{Part}
 use Rattle.thread_blocks.specs.declared.parts.BlockImage.{BlockImage}
 use Rattle.thread_blocks.specs.declared.parts.Executable.{Executable}

@@ -2,7 +2,7 @@
 use Rattle.std.specs.Prelude.{ℕ, zero, suc, ◌+◌, ◌-◌, ◌*◌, List, [], ◌∷◌, ◌++◌, length, replicate, slice_get, slice_set, Option, Some, None, option_and_then}
 use Rattle.guest_machine.specs.declared.stop.Stop.{Stop}
 use Rattle.guest_machine.specs.Run.{Stepping, Outcome, Ended, Waits, run}
-use Rattle.job_text.specs.declared.transcripts.Outcome.{Outcome as Answer}
+use Rattle.transcript_text.specs.declared.outcomes.Outcome.{Outcome as Answer}
 
 -- how a line ended: with an answer, or as the machine stopped
 pub data Ending : Type 0 where

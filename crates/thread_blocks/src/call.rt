@@ -6,15 +6,14 @@ ghost use Rattle.thread_blocks.specs.Calling.{IsCall};
 ghost use Rattle.thread_blocks.specs.MachineTurns.{answer_of_stop};
 ghost use Rattle.thread_blocks.specs.Parts.{IsCallOutcome, call_ranges};
 
-use crate::fault::OutOfMemory;
 use crate::memory::{end_of_stack, rest_of, stack_of, thread_pointer};
 use crate::parts::Executable;
 use crate::reach::Reach;
 use guest_machine::laws::plain_is_clean;
 use guest_machine::{Machine, Plain, Stop};
-use job_text::{LineFault, Outcome};
-use std::alloc::Global;
+use std::alloc::{AllocError, Global};
 use std::marker::Model;
+use transcript_text::{LineFault, Outcome};
 
 /// A call of the function at a place, with its three arguments.
 #[derive(Clone, Copy, Debug)]
@@ -65,7 +64,7 @@ impl ThreadMemory {
         alloc: Global,
         executable: &Executable,
         thread: u32,
-    ) -> Result<ThreadMemory, OutOfMemory>
+    ) -> Result<ThreadMemory, AllocError>
         requires { thread ≤ 64 }
         ensures { IfOk result (λ memory. memory ≡ record { thread = thread; memory = record { ranges = call_ranges executable.now thread; fields = [] } }) }
     {
@@ -79,7 +78,7 @@ impl ThreadMemory {
 
     /// Calls a function, for at most four times `fuel` steps. Where there is no memory for the stack,
     /// nothing has changed.
-    pub fn call(&mut self, alloc: Global, call: Call, fuel: u64) -> Result<Outcome, OutOfMemory>
+    pub fn call(&mut self, alloc: Global, call: Call, fuel: u64) -> Result<Outcome, AllocError>
         requires { fuel < 2 ^ 62 }
         ensures ok { IfOk result (λ outcome. IsCall self.old.thread fuel call outcome self.old.memory self.new.memory) }
         ensures err { OnErr result (self.new ≡ self.old) }
@@ -103,7 +102,7 @@ pub fn run_call(
     thread: u32,
     call: Call,
     fuel: u64,
-) -> Result<Outcome, OutOfMemory>
+) -> Result<Outcome, AllocError>
     requires thread { thread ≤ 64 }
     requires fuel { fuel < 2 ^ 62 }
     ensures { IfOk result (λ outcome. IsCallOutcome executable.now thread fuel call outcome) }

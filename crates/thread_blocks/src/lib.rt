@@ -46,7 +46,6 @@
 #![tactic(auto)]
 
 mod call;
-mod fault;
 mod memory;
 mod parts;
 mod reach;
@@ -54,5 +53,4 @@ mod reach;
 mod tests;
 
 pub use call::{Call, ThreadMemory, run_call};
-pub use fault::OutOfMemory;
 pub use parts::{BlockImage, Executable, Part};

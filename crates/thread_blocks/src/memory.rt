@@ -7,7 +7,6 @@ ghost use Rattle.thread_blocks.specs.Parts.{block_bytes, block_range, call_range
 ghost use Rattle.thread_blocks.specs.Calling.{behind_stack};
 ghost use Rattle.thread_blocks.specs.Spaces.{stack_range};
 
-use crate::fault::OutOfMemory;
 use crate::parts::{BlockImage, Executable, Part};
 use guest_machine::RETURN;
 use guest_memory::{GuestMemory, GuestRange, Rights};
@@ -120,7 +119,7 @@ pub(crate) fn rest_of(
     alloc: Global,
     executable: &Executable,
     thread: u32,
-) -> Result<GuestMemory<u8>, OutOfMemory>
+) -> Result<GuestMemory<u8>, AllocError>
     requires { thread ≤ 64 }
     ensures { IfOk result (λ memory. memory ≡ record { ranges = behind_stack (call_ranges executable.now thread); fields = [] }) }
 {

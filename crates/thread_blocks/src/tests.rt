@@ -1,8 +1,8 @@
 use crate::call::{Call, ThreadMemory, run_call};
 use crate::parts::{BlockImage, Executable, Part};
-use job_text::{LineFault, Outcome};
 use std::alloc::Global;
 use std::test::Fail;
+use transcript_text::{LineFault, Outcome};
 
 const CODE: u64 = 0x40_0000;
 

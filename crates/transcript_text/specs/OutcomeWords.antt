@@ -1,12 +1,12 @@
 -- The words of a transcript for refusals and faults.
 use Rattle.std.specs.Prelude.{ℕ, List, codes}
-use Rattle.job_text.specs.declared.transcripts.Refusal.{Refusal}
-use Rattle.job_text.specs.declared.transcripts.Refusal.TheVariants.{Unknown, Full, StaticFull, Permanent, NotOpen, Symbol, Length}
-use Rattle.job_text.specs.declared.transcripts.LineFault.{LineFault}
-use Rattle.job_text.specs.declared.transcripts.LineFault.TheVariants.{Address, Code, Unloaded, Steps}
+use Rattle.transcript_text.specs.declared.outcomes.LineRefusal.{LineRefusal}
+use Rattle.transcript_text.specs.declared.outcomes.LineRefusal.TheVariants.{Unknown, Full, StaticFull, Permanent, NotOpen, Symbol, Length}
+use Rattle.transcript_text.specs.declared.outcomes.LineFault.{LineFault}
+use Rattle.transcript_text.specs.declared.outcomes.LineFault.TheVariants.{Address, Code, Unloaded, Steps}
 
 -- the word for a refusal
-abbrev pub refusal_text : Refusal → List ℕ
+abbrev pub refusal_text : LineRefusal → List ℕ
 refusal_text Unknown = codes "unknown"
 refusal_text Full = codes "full"
 refusal_text StaticFull = codes "static-full"

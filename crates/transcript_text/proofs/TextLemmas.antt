@@ -1,10 +1,10 @@
 -- The steps of the loops that write lines: the text so far and the lines that are left stay the whole.
 use Rattle.std.proofs.Common.{◌≡◌, ℕ, ◌+◌, ◌<◌, ◌≤◌, List, [], ◌∷◌, ◌++◌, length, get_or, drop, map, sym, ap, ◌∙◌, append_assoc}
 use Rattle.std.proofs.lemmas.List.{append-nil, at_drop_more, at_drop_all}
-use Rattle.job_text.specs.declared.event.Event.{Event}
+use Rattle.module_table.specs.declared.events.Event.{Event}
 use Rattle.job_text.specs.declared.images.Image.{Image}
-use Rattle.job_text.specs.declared.transcripts.Line.{Line}
-use Rattle.job_text.specs.Texts.{line_text, lines_text, threads_text, event_text, events_text}
+use Rattle.transcript_text.specs.declared.outcomes.Line.{Line}
+use Rattle.transcript_text.specs.Texts.{line_text, lines_text, threads_text, event_text, events_text}
 
 -- texts written one after another
 regroup : (before piece rest now whole : List ℕ) → now ≡ before ++ piece → before ++ (piece ++ rest) ≡ whole → now ++ rest ≡ whole

@@ -1,5 +1,5 @@
-use Rattle.job_text.proofs.TextLemmas.{lines_more, lines_end}
-use Rattle.job_text.proofs.text.push_lines.Goals as goal
+use Rattle.transcript_text.proofs.TextLemmas.{lines_more, lines_end}
+use Rattle.transcript_text.proofs.text.push_lines.Goals as goal
 
 pub loop-index-preserved : goal.loop-index-preserved
 loop-index-preserved c =

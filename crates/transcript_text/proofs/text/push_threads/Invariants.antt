@@ -1,7 +1,7 @@
 use Rattle.std.proofs.Common.{◌≡◌, ◌+◌, ◌++◌, drop, map}
 use Rattle.std.specs.String.{string_bytes}
-use Rattle.job_text.specs.Texts.{threads_text}
-use Rattle.job_text.proofs.text.push_threads.Given as goal
+use Rattle.transcript_text.specs.Texts.{threads_text}
+use Rattle.transcript_text.proofs.text.push_threads.Given as goal
 
 -- the text so far, and then that of the threads that are left
 abbrev pub invariant-loop-index : goal.invariant-loop-index

@@ -2,11 +2,11 @@
 
 ghost use Rattle.std.specs.Prelude.{◌≡◌, ◌≤◌, ◌++◌, OnOk, All, length, map};
 ghost use Rattle.std.specs.String.{string_bytes};
-ghost use Rattle.job_text.specs.Texts.{IsImageNumber, bytes_text, outcome_text, points_text, line_text, lines_text, threads_text, event_word, image_name, event_text, events_text};
+ghost use Rattle.transcript_text.specs.Texts.{IsImageNumber, bytes_text, outcome_text, points_text, line_text, lines_text, threads_text, event_word, image_name, event_text, events_text};
 
-use crate::event::Event;
-use crate::images::Image;
-use crate::transcripts::{Bytes, Line, Outcome};
+use crate::outcomes::{Bytes, Line, Outcome};
+use job_text::Image;
+use module_table::Event;
 use std::alloc::AllocError;
 
 /// Appends the line of a thread's line.

@@ -4,12 +4,12 @@ use Rattle.std.specs.List.{flat_map}
 use Rattle.std.specs.Fmt.{decimal, digits, padded_integral, format_spec}
 use Rattle.hex.specs.Hex.{encode_lower}
 pub use Rattle.job_text.specs.Images.{IsImageNumber, image_name}
-use Rattle.job_text.specs.OutcomeWords.{refusal_text, fault_text}
-use Rattle.job_text.specs.declared.event.Event.{Event}
+use Rattle.transcript_text.specs.OutcomeWords.{refusal_text, fault_text}
+use Rattle.module_table.specs.declared.events.Event.{Event}
 use Rattle.job_text.specs.declared.images.Image.{Image}
-use Rattle.job_text.specs.declared.transcripts.Line.{Line}
-use Rattle.job_text.specs.declared.transcripts.Outcome.{Outcome}
-use Rattle.job_text.specs.declared.transcripts.Outcome.TheVariants.{Returned, Opened, Closed, Bytes, Refused, Fault}
+use Rattle.transcript_text.specs.declared.outcomes.Line.{Line}
+use Rattle.transcript_text.specs.declared.outcomes.Outcome.{Outcome}
+use Rattle.transcript_text.specs.declared.outcomes.Outcome.TheVariants.{Returned, Opened, Closed, Bytes, Refused, Fault}
 
 -- the lines of each thread, thread 1 first, and the history of the modules
 pub record Shown : Type 0 where

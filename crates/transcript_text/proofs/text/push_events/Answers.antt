@@ -1,5 +1,5 @@
-use Rattle.job_text.proofs.TextLemmas.{events_more, events_end}
-use Rattle.job_text.proofs.text.push_events.Goals as goal
+use Rattle.transcript_text.proofs.TextLemmas.{events_more, events_end}
+use Rattle.transcript_text.proofs.text.push_events.Goals as goal
 
 pub loop-index-preserved : goal.loop-index-preserved
 loop-index-preserved c =

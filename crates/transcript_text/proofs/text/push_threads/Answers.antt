@@ -1,5 +1,5 @@
-use Rattle.job_text.proofs.TextLemmas.{threads_more, threads_end}
-use Rattle.job_text.proofs.text.push_threads.Goals as goal
+use Rattle.transcript_text.proofs.TextLemmas.{threads_more, threads_end}
+use Rattle.transcript_text.proofs.text.push_threads.Goals as goal
 
 pub loop-index-preserved : goal.loop-index-preserved
 loop-index-preserved c =

@@ -1,7 +1,7 @@
 use Rattle.std.proofs.Common.{◌≡◌, ◌++◌, drop}
 use Rattle.std.specs.String.{string_bytes}
-use Rattle.job_text.specs.Texts.{events_text}
-use Rattle.job_text.proofs.text.push_events.Given as goal
+use Rattle.transcript_text.specs.Texts.{events_text}
+use Rattle.transcript_text.proofs.text.push_events.Given as goal
 
 -- the text so far, and then that of the events that are left
 abbrev pub invariant-loop-index : goal.invariant-loop-index

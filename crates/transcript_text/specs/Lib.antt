@@ -1,0 +1,2 @@
+pub mod OutcomeWords
+pub mod Texts
