@@ -5,10 +5,10 @@ use Rattle.job_meaning.specs.declared.values.Byte.{Byte}
 use Rattle.job_run.specs.Loading.{machine_loaded, meaning_loaded, HasBytes}
 use Rattle.job_run.specs.Meaning.{meant_said, meant_turns}
 use Rattle.job_run.specs.Statements.{CallMeans}
-use Rattle.job_text.specs.declared.event.Event.{Event}
-use Rattle.job_text.specs.declared.transcripts.Outcome.{Outcome}
-use Rattle.job_text.specs.declared.transcripts.Outcome.TheVariants.{Refused}
-use Rattle.job_text.specs.declared.transcripts.Refusal.TheVariants.{Symbol}
+use Rattle.module_table.specs.declared.events.Event.{Event}
+use Rattle.transcript_text.specs.declared.outcomes.Outcome.{Outcome}
+use Rattle.transcript_text.specs.declared.outcomes.Outcome.TheVariants.{Refused}
+use Rattle.transcript_text.specs.declared.outcomes.LineRefusal.TheVariants.{Symbol}
 use Rattle.link_core.specs.Entries.{entry_of}
 use Rattle.link_core.specs.Parts.{Image, image_of}
 use Rattle.tlsld.specs.SmallJobs.{Small}

@@ -2,7 +2,7 @@
 use Rattle.std.specs.Prelude.{◌^◌, ◌&&◌, ℕ, Bool, List, [], ◌∷◌, Option, nat_le}
 use Rattle.job_run.specs.Loading.{machine_loaded, meaning_loaded}
 use Rattle.job_run.specs.Meaning.{meant_said}
-use Rattle.job_text.specs.declared.event.Event.{Event}
+use Rattle.module_table.specs.declared.events.Event.{Event}
 use Rattle.link_core.specs.Entries.{entry_of}
 use Rattle.link_core.specs.Parts.{Image, image_of}
 use Rattle.link_faults.specs.declared.image_kind.ImageKind.TheVariants.{Exe}

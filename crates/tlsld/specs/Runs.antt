@@ -7,11 +7,11 @@ use Rattle.elf_object.specs.declared.fault.ObjectFault.{ObjectFault}
 use Rattle.elf_object.specs.Faults.{IsObject, IsFault, IsFirstAt}
 use Rattle.elf_object.specs.Object.{IsWritable}
 use Rattle.job_run.specs.Loading.{machine_loaded, HasBytes}
-use Rattle.job_text.specs.declared.event.Event.{Event}
+use Rattle.module_table.specs.declared.events.Event.{Event}
 use Rattle.link_core.specs.Parts.{Image}
 use Rattle.tls_layout.specs.Sections.{Layout}
 use Rattle.job_run.specs.Worlds.{AreClean}
-use Rattle.job_text.specs.declared.transcripts.Outcome.{Outcome}
+use Rattle.transcript_text.specs.declared.outcomes.Outcome.{Outcome}
 use Rattle.tlsld.specs.SmallJobs.{Small}
 use Rattle.tlsld.specs.declared.small_run.refusal.ObjectRefusal.{ObjectRefusal}
 use Rattle.tlsld.specs.declared.small_run.refusal.ObjectRefusal.TheVariants.{OutOfMemory, Fault, NotYet}

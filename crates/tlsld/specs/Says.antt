@@ -5,9 +5,9 @@ use Rattle.elf_object.specs.declared.fault.FaultKind.{FaultKind}
 use Rattle.elf_object.specs.FaultNames.{kind_name}
 use Rattle.job_text.specs.declared.fault.JobFault.{JobFault}
 use Rattle.job_text.specs.declared.images.Image.{Image}
-use Rattle.job_text.specs.declared.transcripts.Outcome.{Outcome}
+use Rattle.transcript_text.specs.declared.outcomes.Outcome.{Outcome}
 use Rattle.job_text.specs.Jobs.{JobParts, job_of}
-use Rattle.job_text.specs.Texts.{transcript_text}
+use Rattle.transcript_text.specs.Texts.{transcript_text}
 use Rattle.tlsld.specs.SmallJobs.{Small, small_job}
 use Rattle.ports.specs.Files.{Files, file_at}
 use Rattle.tlsld.specs.declared.small_run.refusal.ObjectRefusal.TheVariants as why

@@ -2,8 +2,8 @@
 use Rattle.std.specs.Prelude.{ℕ, List, [], ◌∷◌, Option, Some, None}
 use Rattle.job_text.specs.Jobs.{JobParts}
 use Rattle.job_text.specs.declared.images.Image.{Image}
-use Rattle.job_text.specs.declared.images.ImageKind.{ImageKind}
-use Rattle.job_text.specs.declared.images.ImageKind.TheVariants.{Exe}
+use Rattle.link_faults.specs.declared.image_kind.ImageKind.{ImageKind}
+use Rattle.link_faults.specs.declared.image_kind.ImageKind.TheVariants.{Exe}
 use Rattle.job_text.specs.declared.thread_lines.ThreadLine.{ThreadLine}
 use Rattle.job_text.specs.declared.thread_lines.Action.{Action}
 use Rattle.job_text.specs.declared.thread_lines.Action.TheVariants.{Call}

@@ -15,9 +15,10 @@ use crate::reply::{Answer, Reply};
 use crate::small_run::{ObjectRefusal, run_small};
 use crate::status::Status;
 use command_line::Task;
-use job_text::{Job, JobFault, Line, Outcome, Points, Transcript};
+use job_text::{Job, JobFault};
 use ports::Store;
 use std::alloc::{AllocError, Global};
+use transcript_text::{Line, Outcome, Points, Transcript};
 
 /// What a command answers.
 #[tactic(auto, using(crate::proofs::Asked::asks_all))]
@@ -124,7 +125,7 @@ fn transcript_of(
     alloc: Global,
     job: &Job,
     outcome: Outcome,
-) -> Result<Vec<u8>, job_text::OutOfMemory>
+) -> Result<Vec<u8>, AllocError>
     ensures { IfOk result (λ text. text.items ≡ one_line_text job.now.images outcome) }
 {
     let points = Points::new(vec![in alloc; 0]?);

@@ -69,13 +69,3 @@ impl<T: Drop> From<AllocFailed<T>> for CommandFault {
         CommandFault::OutOfMemory
     }
 }
-
-impl From<job_text::OutOfMemory> for CommandFault {
-    ghost use Rattle.tlsld.specs.declared.fault.CommandFault.TheVariants.{OutOfMemory};
-
-    ghost from_gives = { λ _ fault. fault ≡ OutOfMemory };
-
-    fn from(_error: job_text::OutOfMemory) -> CommandFault {
-        CommandFault::OutOfMemory
-    }
-}

@@ -3,7 +3,8 @@ ghost use Rattle.std.specs.Prelude.{◌≡◌, ◌<◌, ◌≤◌, ◌^◌, leng
 ghost use Rattle.std.specs.Option.{option_map};
 ghost use Rattle.tlsld.specs.SmallJobs.{exe_object, only_object, called, small_job, small_of};
 
-use job_text::{Action, Image, ImageKind, Job, Name, ThreadLine};
+use job_text::{Action, Image, Job, Name, ThreadLine};
+use link_faults::ImageKind;
 use std::marker::Model;
 
 /// A job that is taken: an executable of one object, and one function that its only thread calls.

@@ -31,13 +31,3 @@ impl From<AllocError> for ObjectRefusal {
         ObjectRefusal::OutOfMemory
     }
 }
-
-impl From<thread_blocks::OutOfMemory> for ObjectRefusal {
-    ghost use Rattle.tlsld.specs.declared.small_run.refusal.ObjectRefusal.TheVariants.{OutOfMemory};
-
-    ghost from_gives = { λ _ refusal. refusal ≡ OutOfMemory };
-
-    fn from(_error: thread_blocks::OutOfMemory) -> ObjectRefusal {
-        ObjectRefusal::OutOfMemory
-    }
-}

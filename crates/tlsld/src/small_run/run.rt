@@ -11,12 +11,12 @@ use super::refusal::ObjectRefusal;
 use crate::not_yet::{SmallJob, is_small_object};
 use elf_object::Object;
 use job_run::laws::call_means;
-use job_text::{Outcome, Refusal};
 use link_core::{Linked, entry_place, link};
 use link_faults::{ImageKind, LinkFault};
 use std::alloc::Global;
 use thread_blocks::{Call, run_call};
 use tls_layout::{Placement, place};
+use transcript_text::{LineRefusal, Outcome};
 
 /// What a small job comes to over the bytes of its object: the one line of its one thread, or why the object is refused.
 ///
@@ -49,7 +49,7 @@ fn run_object(alloc: Global, job: &SmallJob, object: Object) -> Result<Outcome, 
     let linked = link(alloc, &placement, &objects)?;
     match entry_place(&placement, &objects, job.symbol.as_bytes()) {
         Some(place) => call(alloc, job, linked, place),
-        None => Ok(Outcome::Refused(Refusal::Symbol)),
+        None => Ok(Outcome::Refused(LineRefusal::Symbol)),
     }
 }
 
