@@ -121,11 +121,7 @@ fn run_object(
 
 /// The text of a transcript of one thread with one line, which looked once and saw no event.
 #[tactic(auto, unfolding(crate::specs::Says::one_line_text))]
-fn transcript_of(
-    alloc: Global,
-    job: &Job,
-    outcome: Outcome,
-) -> Result<Vec<u8>, AllocError>
+fn transcript_of(alloc: Global, job: &Job, outcome: Outcome) -> Result<Vec<u8>, AllocError>
     ensures { IfOk result (λ text. text.items ≡ one_line_text job.now.images outcome) }
 {
     let points = Points::new(vec![in alloc; 0]?);
