@@ -41,7 +41,7 @@ visibility_numbered n = if n == STV_DEFAULT then Default else if n == STV_INTERN
 abbrev pub place_numbered : ℕ → SymbolPlace
 place_numbered n = if n == SHN_UNDEF then Undefined else if n == SHN_ABS then Absolute else InSection n
 
--- the text of a string table from a place up to the first zero byte
+-- the text of a string table from an offset up to the first zero byte
 unfoldable pub text_at : List ℕ → ℕ → List ℕ
 text_at table at = before_first (λ byte. byte == 0) (drop at table)
 
@@ -69,7 +69,6 @@ section_alignment b s = if is_section b s && not ((section b s).addralign == 0) 
 
 -- what is lent of section s
 pub record IsSectionPart (b : List ℕ) (s : ℕ) (part : SectionPart) : Type 0 where
-  pub name_is : part.name.now ≡ section_name b s
   pub class_is : part.class ≡ section_class b s
   pub bytes_are : part.bytes.now ≡ section_bytes b s
   pub size_is : part.size ≡ section_size b s
@@ -100,7 +99,6 @@ symbol_size b e = if nat_lt 0 e then (symbol b e).size else 0
 
 -- what is lent of symbol e
 pub record IsSymbolPart (b : List ℕ) (e : ℕ) (part : SymbolPart) : Type 0 where
-  pub name_is : part.name.now ≡ symbol_name b e
   pub binding_is : part.binding ≡ symbol_binding b e
   pub kind_is : part.kind ≡ symbol_type b e
   pub visibility_is : part.visibility ≡ symbol_visibility b e

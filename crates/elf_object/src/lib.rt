@@ -37,6 +37,7 @@ mod names;
 mod object;
 mod overlap;
 mod part;
+mod part_names;
 mod reloc_tests;
 mod relocation;
 mod relocs;

@@ -1,6 +1,6 @@
 //! Names in a string table: each ends at its first zero byte (gABI, "String Table").
 
-ghost use Rattle.std.specs.Prelude.{◌≡◌, ◌==◌, ◌+◌, ◌≤◌, length};
+ghost use Rattle.std.specs.Prelude.{◌≡◌, ◌==◌, ◌+◌, ◌<◌, ◌≤◌, drop, length, MatchOption};
 ghost use Rattle.std.specs.List.{position_or_len};
 ghost use Rattle.elf_object.specs.Names.{IsNamesEnd};
 ghost use Rattle.elf_object.specs.Lent.{text_at};
@@ -18,25 +18,47 @@ pub fn names_end(bytes: &[u8], from: u64, size: u64) -> u64
 }
 
 /// How many bytes come before the first zero byte.
+
 fn text_len(bytes: &[u8]) -> usize
     ensures { result ≡ position_or_len (λ byte. byte == 0) bytes.now }
 {
-    for (place, byte) in bytes.iter().enumerate() {
-        if *byte == 0 {
-            return place;
-        }
-    }
-    bytes.len()
+    bytes
+        .iter()
+        .position(|byte| *byte == 0)
+        .unwrap_or(bytes.len())
 }
 
-/// The text of a string table from a place up to the first zero byte.
-#[tactic(auto, unfolding(crate::specs::Lent::text_at))]
-pub fn text_at(table: &[u8], at: usize) -> &[u8]
-    ensures { result.now ≡ text_at table.now at }
+/// The bytes of a string table from an offset on; none past its end.
+fn rest_at(table: &[u8], at: usize) -> &[u8]
+    ensures { result.now ≡ drop at table.now }
 {
     if table.len() <= at {
         return &[];
     }
-    let rest = &table[at..];
+    &table[at..]
+}
+
+/// The text of a string table from an offset up to the first zero byte.
+#[tactic(auto, unfolding(crate::specs::Lent::text_at))]
+pub fn text_at(table: &[u8], at: usize) -> &[u8]
+    ensures { result.now ≡ text_at table.now at }
+{
+    let rest = rest_at(table, at);
     &rest[..text_len(rest)]
+}
+
+/// The same of a text of at most `limit` bytes; `None` of a longer one. No byte behind the limit is looked at.
+#[tactic(auto, unfolding(crate::specs::Lent::text_at), using(crate::proofs::EndsOfNames::longer_than, crate::proofs::EndsOfNames::is_short))]
+pub fn short_text_at(table: &[u8], at: usize, limit: usize) -> Option<&[u8]>
+    ensures { MatchOption result (limit < length (text_at table.now at)) (λ text. (text.now ≡ text_at table.now at) × (length text.now ≤ limit)) }
+{
+    let rest = rest_at(table, at);
+    if rest.len() <= limit {
+        return Some(&rest[..text_len(rest)]);
+    }
+    let len = text_len(&rest[..limit + 1]);
+    if len <= limit {
+        return Some(&rest[..len]);
+    }
+    None
 }

@@ -1,8 +1,9 @@
 //! An object: a file that was read and found without fault.
 
-ghost use Rattle.std.specs.Prelude.{◌≡◌, ◌≢◌, ◌<◌, ◌≤◌, ◌↔◌, ◌^◌, ℕ, length, All, IsNone, IfOk, IfErr, IfSome, OnSome};
+ghost use Rattle.std.specs.Prelude.{◌≡◌, ◌≢◌, ◌<◌, ◌≤◌, ◌↔◌, ◌^◌, ℕ, length, All, IsNone, IfOk, IfErr, IfSome, OnSome, MatchOption};
 ghost use Rattle.elf_object.specs.Parts.{symbol_count as count_of_symbols, symbol_table as table_of_symbols};
-ghost use Rattle.elf_object.specs.Lent.{IsSectionPart, IsSymbolPart, relocations as relocations_of, kept_relocation_table, relocation_target as target_of_relocations};
+ghost use Rattle.elf_object.specs.Lent.{IsSectionPart, IsSymbolPart, relocations as relocations_of, kept_relocation_table, relocation_target as target_of_relocations, section_name as name_of_section, symbol_name as name_of_symbol};
+ghost use Rattle.elf_object.specs.Firsts.{nonzero};
 ghost use Rattle.elf_object.specs.Lawful.{IsKeptAs, IsLawful, IsPlaced, IsShared};
 ghost use Rattle.elf_object.specs.Object.{section_count as count_of_sections, IsWritable};
 ghost use Rattle.elf_object.specs.Faults.{IsObject, IsFault, IsFirstAt, NoneBelow, Answers};
@@ -11,6 +12,7 @@ use crate::class::SectionClass;
 use crate::fault::{FaultKind, ObjectFault};
 use crate::overlap::ask_overlaps;
 use crate::part::{SectionPart, SymbolPart, class_in, section_part, symbol_part};
+use crate::part_names::{section_name, short_symbol_name, symbol_name};
 use crate::relocs::{Relocs, relocs_in, table_of, target_of};
 use crate::scan::{ask_relocs, ask_sections, ask_symbols};
 use crate::symbol::SymbolBinding;
@@ -144,7 +146,7 @@ impl<'a> Object<'a> {
 
     /// A symbol, by its number. `None` exactly past the table. Of number 0, which is reserved, nothing is lent.
     #[tactic(auto, using(crate::specs::LawsOfParts::placed, crate::specs::LawsOfParts::shared))]
-    pub fn symbol(&self, number: u32) -> Option<SymbolPart<'a>>
+    pub fn symbol(&self, number: u32) -> Option<SymbolPart>
         ensures past { IsNone result ↔ (count_of_symbols self.now ≤ number) }
         ensures part { IfSome result (IsSymbolPart self.now number) }
         ensures placed { OnSome result (IsPlaced self.now number) }
@@ -156,6 +158,33 @@ impl<'a> Object<'a> {
             return None;
         }
         Some(symbol_part(&self.tables, number))
+    }
+
+    /// The name of a section. It is looked for here, up to its last byte: what [`section`](Object::section) lends knows no name.
+    pub fn section_name(&self, number: u32) -> &'a [u8]
+        requires { number < count_of_sections self.now }
+        ensures name { result.now ≡ name_of_section self.now number }
+        ensures object { IsObject self.now }
+    {
+        section_name(&self.tables, u64::from(number))
+    }
+
+    /// The name of a symbol. It is looked for here, up to its last byte.
+    pub fn symbol_name(&self, number: u32) -> &'a [u8]
+        requires { number < count_of_symbols self.now }
+        ensures name { result.now ≡ name_of_symbol self.now number }
+        ensures object { IsObject self.now }
+    {
+        symbol_name(&self.tables, u64::from(number))
+    }
+
+    /// The name of a symbol, if it has at most `limit` bytes. No more than `limit + 1` bytes are looked at, however long it is.
+    pub fn short_symbol_name(&self, number: u32, limit: usize) -> Option<&'a [u8]>
+        requires { number < count_of_symbols self.now }
+        ensures name { MatchOption result (limit < length (name_of_symbol self.now number)) (λ name. (name.now ≡ name_of_symbol self.now number) × (length name.now ≤ limit)) }
+        ensures object { IsObject self.now }
+    {
+        short_symbol_name(&self.tables, u64::from(number), limit)
     }
 
     /// The relocations of a section that linking keeps, in the order of the file. There are none where no section holds any.
@@ -170,30 +199,39 @@ impl<'a> Object<'a> {
         relocs_in(&self.tables, table)
     }
 
-    /// The section that holds the symbols, 0 where there is none.
-    pub fn symbol_table(&self) -> u32
-        ensures table { result ≡ table_of_symbols self.now }
-        ensures few { result < 2 ^ 16 }
+    /// The section that holds the symbols, if there is one.
+    pub fn symbol_table(&self) -> Option<u32>
+        ensures table { result ≡ nonzero (table_of_symbols self.now) }
+        ensures few { IfSome result (λ table. table < 2 ^ 16) }
         ensures object { IsObject self.now }
     {
-        self.tables.symbols.table as u32
+        match self.tables.symbols.table {
+            0 => None,
+            table => Some(table as u32),
+        }
     }
 
-    /// The section that holds the relocations of a section that linking keeps, 0 where there is none.
-    pub fn relocation_table(&self, section: u32) -> u32
-        ensures table { result ≡ kept_relocation_table self.now section }
-        ensures few { result < 2 ^ 16 }
+    /// The section that holds the relocations of a section that linking keeps, if there is one.
+    pub fn relocation_table(&self, section: u32) -> Option<u32>
+        ensures table { result ≡ nonzero (kept_relocation_table self.now section) }
+        ensures few { IfSome result (λ table. table < 2 ^ 16) }
         ensures object { IsObject self.now }
     {
-        table_of(&self.tables, &self.targets, u64::from(section)) as u32
+        match table_of(&self.tables, &self.targets, u64::from(section)) {
+            0 => None,
+            table => Some(table as u32),
+        }
     }
 
-    /// The section, one that linking keeps, whose relocations a section holds; 0 where it holds none of such a section.
-    pub fn relocation_target(&self, table: u32) -> u32
-        ensures target { result ≡ target_of_relocations self.now table }
+    /// The section, one that linking keeps, whose relocations a section holds, if it holds those of such a section.
+    pub fn relocation_target(&self, table: u32) -> Option<u32>
+        ensures target { result ≡ nonzero (target_of_relocations self.now table) }
         ensures object { IsObject self.now }
     {
-        target_of(&self.tables, u64::from(table)) as u32
+        match target_of(&self.tables, u64::from(table)) {
+            0 => None,
+            target => Some(target as u32),
+        }
     }
 
     /// The lowest section of the writable class that has bytes, in memory or in the file.

@@ -2,20 +2,18 @@
 
 ghost use Rattle.std.specs.Prelude.{◌≡◌, ◌<◌, OnSome};
 ghost use Rattle.elf_object.specs.Parts.{symbol_count, IsSection};
-ghost use Rattle.elf_object.specs.Lent.{IsSectionPart, IsSymbolPart, section_class, section_name, section_alignment, symbol_name};
+ghost use Rattle.elf_object.specs.Lent.{IsSectionPart, IsSymbolPart, section_class, section_alignment};
 
 use crate::class::{SectionClass, kept_class};
-use crate::names::text_at;
 use crate::symbol::{
     SymbolBinding, SymbolPlace, SymbolType, Visibility, binding_numbered, place_numbered,
     type_numbered, visibility_numbered,
 };
 use crate::tables::{Tables, bytes_of};
 
-/// A section of an object. Name and bytes are the file's.
+/// A section of an object. Its bytes are the file's.
 #[derive(Clone, Copy, Debug)]
 pub struct SectionPart<'a> {
-    pub name: &'a [u8],
     /// What the section becomes; `None` where linking drops it.
     pub class: Option<SectionClass>,
     /// Its bytes in the file; none where its type says that it has no bytes there.
@@ -26,10 +24,9 @@ pub struct SectionPart<'a> {
     pub alignment: u64,
 }
 
-/// A symbol of an object. The name is the file's.
-#[derive(Clone, Copy, Debug)]
-pub struct SymbolPart<'a> {
-    pub name: &'a [u8],
+/// A symbol of an object.
+#[derive(Clone, Copy, PartialEq, Eq, Debug)]
+pub struct SymbolPart {
     pub binding: SymbolBinding,
     pub kind: SymbolType,
     pub visibility: Visibility,
@@ -51,21 +48,6 @@ pub fn class_in(tables: &Tables, number: u64) -> Option<SectionClass>
         return None;
     }
     kept_class(&tables.section(number))
-}
-
-/// The name of a section.
-#[tactic(auto, unfolding(crate::specs::Lent::section_name))]
-fn name_in<'a>(tables: &Tables<'a>, number: u64) -> &'a [u8]
-    requires { number < tables.now.count }
-    ensures { result.now ≡ section_name tables.now.bytes.now number }
-{
-    if number == 0 {
-        return &[];
-    }
-    text_at(
-        bytes_of(tables, tables.names),
-        tables.section(number).name as usize,
-    )
 }
 
 /// What the address of a section is to be a multiple of.
@@ -92,7 +74,6 @@ pub fn section_part<'a>(tables: &Tables<'a>, number: u64) -> SectionPart<'a>
         tables.section(number).size
     };
     SectionPart {
-        name: name_in(tables, number),
         class: class_in(tables, number),
         bytes: bytes_of(tables, number),
         size,
@@ -100,32 +81,14 @@ pub fn section_part<'a>(tables: &Tables<'a>, number: u64) -> SectionPart<'a>
     }
 }
 
-/// The name of a symbol.
-#[tactic(auto, unfolding(crate::specs::Lent::symbol_name))]
-fn symbol_name_in<'a>(tables: &Tables<'a>, number: u64) -> &'a [u8]
-    requires { number < symbol_count tables.now.bytes.now }
-    ensures { result.now ≡ symbol_name tables.now.bytes.now number }
-{
-    if number == 0 {
-        return &[];
-    }
-    let strings = u64::from(tables.section(tables.symbols.table).link);
-    text_at(
-        bytes_of(tables, strings),
-        tables.symbol(number).name as usize,
-    )
-}
-
 /// What is lent of a symbol.
 #[tactic(auto, unfolding(crate::specs::Lent::symbol_binding, crate::specs::Lent::symbol_type, crate::specs::Lent::symbol_visibility, crate::specs::Lent::symbol_place, crate::specs::Lent::symbol_value, crate::specs::Lent::symbol_size))]
-pub fn symbol_part<'a>(tables: &Tables<'a>, number: u64) -> SymbolPart<'a>
+pub fn symbol_part(tables: &Tables, number: u64) -> SymbolPart
     requires { number < symbol_count tables.now.bytes.now }
     ensures { IsSymbolPart tables.now.bytes.now number result }
 {
-    let name = symbol_name_in(tables, number);
     if number == 0 {
         return SymbolPart {
-            name,
             binding: SymbolBinding::Local,
             kind: SymbolType::NoType,
             visibility: Visibility::Default,
@@ -136,7 +99,6 @@ pub fn symbol_part<'a>(tables: &Tables<'a>, number: u64) -> SymbolPart<'a>
     }
     let symbol = tables.symbol(number);
     SymbolPart {
-        name,
         binding: binding_numbered(symbol.binding()),
         kind: type_numbered(symbol.kind()),
         visibility: visibility_numbered(symbol.visibility()),

@@ -278,12 +278,15 @@ fn lends_the_parts(rt: HostRuntime) -> Result<(), Fail> {
     assert!(rt; object.section(8).is_none());
     assert!(rt; object.symbol(3).is_none());
     let text = object.section(1).ok_or("there is .text")?;
-    assert_eq!(rt; text.name, b".text".as_slice());
+    assert!(rt; object.section_count() > 1);
+    assert_eq!(rt; object.section_name(1), b".text".as_slice());
     assert_eq!(rt; text.class, Some(SectionClass::Executable));
     assert_eq!(rt; text.bytes, &EXAMPLE[576..585]);
     assert_eq!(rt; text.alignment, 16);
     let x = object.symbol(2).ok_or("there is x")?;
-    assert_eq!(rt; x.name, b"x".as_slice());
+    assert_eq!(rt; object.symbol_name(2), b"x".as_slice());
+    assert_eq!(rt; object.short_symbol_name(2, 1), Some(b"x".as_slice()));
+    assert!(rt; object.short_symbol_name(2, 0).is_none());
     assert_eq!(rt; x.kind, SymbolType::Tls);
     assert_eq!(rt; x.place, SymbolPlace::InSection(3));
     let mut relocations = object.relocs(1);
@@ -307,18 +310,17 @@ fn numbers_sections(rt: HostRuntime) -> Result<(), Fail> {
     change(&mut bytes, "731+4=2")?;
     let object = Object::read(rt.alloc(), &bytes)?;
     assert_eq!(rt; object.writable(), Some(3));
-    assert_eq!(rt; object.symbol_table(), 5);
-    assert_eq!(rt;
-        (object.relocation_table(1), object.relocation_table(3)),
-        (2, 0)
-    );
-    assert_eq!(rt;
-        (object.relocation_target(2), object.relocation_target(5)),
-        (1, 0)
-    );
+    assert_eq!(rt; object.symbol_table(), Some(5));
+    assert_eq!(rt; object.relocation_table(1), Some(2));
+    assert_eq!(rt; object.relocation_table(3), None);
+    assert_eq!(rt; object.relocation_target(2), Some(1));
+    assert_eq!(rt; object.relocation_target(5), None);
     assert_eq!(rt; object.relocs(0).count(), 0);
     let reserved = object.section(0).ok_or("there is number 0")?;
-    assert_eq!(rt; (reserved.name.len(), reserved.bytes.len()), (0, 0));
+    assert_eq!(rt;
+        (object.section_name(0).len(), reserved.bytes.len()),
+        (0, 0)
+    );
     assert_eq!(rt; FaultKind::WritableData.name(), "WritableData");
     Ok(())
 }

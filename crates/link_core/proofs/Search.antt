@@ -1,5 +1,6 @@
 -- The first of some numbers that passes a test.
-use Rattle.std.proofs.Common.{◌≡◌, ◌+◌, ◌-◌, ◌<◌, ◌≤◌, ◌∙◌, ℕ, suc, Bool, true, false, List, [], ◌∷◌, Some, None, ◌&&◌, refl, sym, ap, subst, arith}
+use Rattle.std.proofs.Common.{◌≡◌, ◌+◌, ◌-◌, ◌<◌, ◌≤◌, ◌∙◌, ℕ, suc, Bool, true, false, List, [], ◌∷◌, Some, None, ◌&&◌, length, nat_eq, refl, sym, ap, subst, arith}
+use Rattle.std.specs.Str.{bytes_eq}
 use Rattle.std.specs.List.{All, find, list_all, range_with_len}
 
 pub range_first : (a n : ℕ) → a < n → range_with_len a (n - a) ≡ a ∷ range_with_len (a + 1) (n - (a + 1))
@@ -50,3 +51,14 @@ first_passes P x xs all first passes = (both_pass (P x) (list_all P xs) (sym (ap
 
 pub rest_passes : {X : Type 0} (P : X → Bool) (x : X) (xs all : List X) → all ≡ x ∷ xs → list_all P all ≡ true → list_all P xs ≡ true
 rest_passes P x xs all first passes = (both_pass (P x) (list_all P xs) (sym (ap (list_all P) first) ∙ passes)).1
+
+-- a longer name is another one
+pub longer_differs : (xs ys : List ℕ) → length xs < length ys → bytes_eq xs ys ≡ false
+longer_differs [] [] h = absurd (omega arith)
+longer_differs [] (y ∷ ys) h = refl
+longer_differs (x ∷ xs) [] h = absurd (omega arith)
+longer_differs (x ∷ xs) (y ∷ ys) h = ap (λ r. nat_eq x y && r) (longer_differs xs ys (omega arith)) ∙ and_false (nat_eq x y)
+  where
+    and_false : (t : Bool) → (t && false) ≡ false
+    and_false true = refl
+    and_false false = refl

@@ -1,10 +1,11 @@
 //! Functions by their names.
-ghost use Rattle.std.specs.Prelude.{◌≡◌, ◌<◌, ◌&&◌, IfSome};
+ghost use Rattle.std.specs.Prelude.{◌≡◌, ◌<◌, IfSome};
+ghost use Rattle.elf_object.specs.Lent.{symbol_name};
 ghost use Rattle.elf_object.specs.Parts.{symbol_count};
 ghost use Rattle.std.specs.Str.{bytes_eq};
-ghost use Rattle.link_core.specs.Definitions.{IsWithin, defines, first_in, first_from, definition_of, same_binding, is_defined};
+ghost use Rattle.link_core.specs.Definitions.{IsWithin, defines, first_in, first_from, definition_of};
 
-use elf_object::{Object, SymbolBinding, SymbolPart, SymbolPlace};
+use elf_object::{Object, SymbolBinding, SymbolPlace};
 
 /// A symbol of one of several objects.
 #[derive(Clone, Copy, PartialEq, Eq, Debug)]
@@ -50,18 +51,35 @@ fn first_in(object: &Object, binding: SymbolBinding, name: &[u8]) -> Option<u32>
     ensures within { IfSome result (λ symbol. symbol < symbol_count object.now) }
 {
     for number in 1..object.symbol_count() {
-        if let Some(symbol) = object.symbol(number)
-            && defines(&symbol, binding, name)
-        {
+        if defines(object, number, binding, name) {
             return Some(number);
         }
     }
     None
 }
 
-/// Whether a symbol defines the name, with this binding.
-fn defines(symbol: &SymbolPart, binding: SymbolBinding, name: &[u8]) -> bool
-    ensures { result ≡ (same_binding binding symbol.now.binding && (is_defined symbol.now.place && bytes_eq name.now symbol.now.name.now)) }
+/// Whether a symbol defines the name, with this binding. No more bytes of the symbol's name are looked at than the name has, and one.
+#[tactic(auto, using(crate::proofs::Search::longer_differs))]
+fn defines(object: &Object, number: u32, binding: SymbolBinding, name: &[u8]) -> bool
+    requires { number < symbol_count object.now }
+    ensures { result ≡ defines object.now binding name.now number }
 {
-    symbol.binding == binding && symbol.place != SymbolPlace::Undefined && symbol.name == name
+    match object.symbol(number) {
+        Some(symbol) if symbol.binding == binding && symbol.place != SymbolPlace::Undefined => {
+            is_named(object, number, name)
+        }
+        _ => false,
+    }
+}
+
+/// Whether a symbol has this name.
+#[tactic(auto, using(crate::proofs::Search::longer_differs))]
+fn is_named(object: &Object, number: u32, name: &[u8]) -> bool
+    requires { number < symbol_count object.now }
+    ensures { result ≡ bytes_eq name.now (symbol_name object.now number) }
+{
+    match object.short_symbol_name(number, name.len()) {
+        Some(found) => name == found,
+        None => false,
+    }
 }

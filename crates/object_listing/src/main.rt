@@ -12,11 +12,16 @@ fn text(name: &[u8]) -> &str {
 }
 
 /// Prints a section, unless linking drops it.
-fn print_section(rt: &impl Print, number: u32, section: &SectionPart) -> io::Result<()> {
+fn print_section(
+    rt: &impl Print,
+    number: u32,
+    name: &[u8],
+    section: &SectionPart,
+) -> io::Result<()> {
     let Some(class) = section.class else {
         return Ok(());
     };
-    let name = text(section.name);
+    let name = text(name);
     let held = section.bytes.len();
     let size = section.size;
     let alignment = section.alignment;
@@ -33,8 +38,8 @@ fn print_relocation(rt: &impl Print, relocation: &Relocation) -> io::Result<()> 
     println!(rt; "    at {offset}: {kind:?} of symbol {symbol}, addend {addend}")
 }
 
-fn print_symbol(rt: &impl Print, number: u32, symbol: &SymbolPart) -> io::Result<()> {
-    let name = text(symbol.name);
+fn print_symbol(rt: &impl Print, number: u32, name: &[u8], symbol: &SymbolPart) -> io::Result<()> {
+    let name = text(name);
     let binding = symbol.binding;
     let kind = symbol.kind;
     let place = symbol.place;
@@ -49,7 +54,7 @@ fn print_symbol(rt: &impl Print, number: u32, symbol: &SymbolPart) -> io::Result
 fn print_object(rt: &impl Print, object: &Object) -> io::Result<()> {
     for number in 0..object.section_count() {
         if let Some(section) = object.section(number) {
-            print_section(rt, number, &section)?;
+            print_section(rt, number, object.section_name(number), &section)?;
         }
         for relocation in object.relocs(number) {
             print_relocation(rt, &relocation)?;
@@ -57,7 +62,7 @@ fn print_object(rt: &impl Print, object: &Object) -> io::Result<()> {
     }
     for number in 1..object.symbol_count() {
         if let Some(symbol) = object.symbol(number) {
-            print_symbol(rt, number, &symbol)?;
+            print_symbol(rt, number, object.symbol_name(number), &symbol)?;
         }
     }
     if let Some(section) = object.writable() {

@@ -1,13 +1,14 @@
 -- Numbers from one to another, taken one by one: tests, sums and names.
-use Rattle.std.proofs.Common.{◌≡◌, ◌+◌, ◌-◌, ◌<◌, ◌≤◌, ℕ, Bool, true, false, not, List, [], ◌∷◌, ◌++◌, ◌&&◌, map, refl, sym, ap, ◌∙◌, append_assoc, append-nil, Bor, ◌||◌, arith}
+use Rattle.std.proofs.Common.{◌≡◌, ◌+◌, ◌-◌, ◌<◌, ◌≤◌, ℕ, Bool, true, false, not, List, [], ◌∷◌, ◌++◌, ◌&&◌, map, refl, sym, ap, ◌∙◌, append_assoc, append-nil, Bor, ◌||◌, length, nat_le, arith}
 use Rattle.std.proofs.Math.Bool.{and_assoc}
+use Rattle.std.proofs.lemmas.Bool.Decides.{nat_tests}
 use Rattle.std.specs.Str.{bytes_eq}
 use Rattle.std.specs.Prelude.{fold, sum}
 use Rattle.std.specs.List.{list_all, list_any, range_with_len}
 use Rattle.elf_object.specs.Lent.{symbol_name, symbol_binding}
 use Rattle.elf_object.specs.declared.symbol.SymbolBinding.TheVariants.{Global}
 use Rattle.link_core.proofs.Search.{range_first, range_none, all_fails, all_later, all_none}
-use Rattle.tlsld.specs.SmallObjects.{has_small_name, names_at, global_names, all_new}
+use Rattle.tlsld.specs.SmallObjects.{get_address, is_small_name, has_small_name, names_at, global_names, all_new}
 
 sums : (x y : ℕ) (xs : List ℕ) → fold (λ a b. a + b) (x + y) xs ≡ x + fold (λ a b. a + b) y xs
 sums x y [] = refl
@@ -49,6 +50,26 @@ new_then seen (x ∷ xs) ys =
 pub any_now : (name : List ℕ) (keys : List (Bor (List ℕ))) → list_any (λ k. bytes_eq name k.now) keys ≡ list_any (bytes_eq name) (map (λ k. k.now) keys)
 any_now name [] = refl
 any_now name (k ∷ ks) = ap (λ r. bytes_eq name k.now || r) (any_now name ks)
+
+-- a name of more than 255 bytes
+pub too_long : (name : List ℕ) → 255 < length name → is_small_name name ≡ false
+too_long name h = and_then (nat_le (length name) 255) (not (bytes_eq name get_address)) (fails (length name) h)
+  where
+    fails : (n : ℕ) → 255 < n → nat_le n 255 ≡ false
+    fails n h = grind (arith, nat_tests)
+
+    and_then : (s t : Bool) → s ≡ false → (s && t) ≡ false
+    and_then s t e = rw e refl
+
+-- one of at most 255
+pub short_enough : (name : List ℕ) → length name ≤ 255 → is_small_name name ≡ not (bytes_eq name get_address)
+short_enough name h = and_then (nat_le (length name) 255) (not (bytes_eq name get_address)) (passes (length name) h)
+  where
+    passes : (n : ℕ) → n ≤ 255 → nat_le n 255 ≡ true
+    passes n h = grind (arith, nat_tests)
+
+    and_then : (s t : Bool) → s ≡ true → (s && t) ≡ t
+    and_then s t e = rw e refl
 
 -- one name
 pub one_new : (seen : List (List ℕ)) (name : List ℕ) → all_new seen (name ∷ []) ≡ not (list_any (bytes_eq name) seen)

@@ -1,7 +1,7 @@
 //! Objects that are taken.
 ghost use Rattle.std.specs.Prelude.{◌≡◌, ◌++◌, ◌<◌, ◌≤◌, ◌^◌, [], IfOk, IsTrue, map, nat_le};
 ghost use Rattle.elf_object.specs.Parts.{symbol_count};
-ghost use Rattle.tlsld.specs.SmallObjects.{all_new, global_names, names_at, relocations_of, is_small_name, is_small_object, names_are_small, relocation_count, symbols};
+ghost use Rattle.tlsld.specs.SmallObjects.{all_new, global_names, names_at, relocations_of, has_small_name, is_small_object, names_are_small, relocation_count, symbols};
 
 use elf_object::{Object, SymbolBinding};
 use indexmap::IndexSet;
@@ -38,20 +38,23 @@ fn names_are_small(object: &Object) -> bool
     ensures { result ≡ names_are_small object.now }
 {
     for number in 1..object.symbol_count() {
-        if let Some(symbol) = object.symbol(number)
-            && !is_small_name(symbol.name)
-        {
+        if !has_small_name(object, number) {
             return false;
         }
     }
     true
 }
 
-/// Whether a name has at most 255 bytes and is not the run time's.
-fn is_small_name(name: &[u8]) -> bool
-    ensures { result ≡ is_small_name name.now }
+/// Whether a symbol's name has at most 255 bytes and is not the run time's.
+#[tactic(auto, using(crate::proofs::Counted::too_long, crate::proofs::Counted::short_enough))]
+fn has_small_name(object: &Object, number: u32) -> bool
+    requires { number < symbol_count object.now }
+    ensures { result ≡ has_small_name object.now number }
 {
-    name.len() <= NAME_LIMIT && name != GET_ADDRESS
+    match object.short_symbol_name(number, NAME_LIMIT) {
+        Some(name) => name != GET_ADDRESS,
+        None => false,
+    }
 }
 
 /// Whether no GLOBAL name comes twice.
@@ -83,7 +86,7 @@ fn add_name<'a>(
     };
     match symbol.binding {
         SymbolBinding::Global => {
-            let (_, fresh) = names.insert_full(symbol.name)?;
+            let (_, fresh) = names.insert_full(object.symbol_name(number))?;
             Ok(fresh)
         }
         _ => Ok(true),

@@ -1,9 +1,16 @@
-use Rattle.std.proofs.Common.{length, sym, arith}
-use Rattle.elf_object.proofs.EndsOfNames.{text_len_is}
+use Rattle.std.proofs.Common.{◌==◌, ◌∙◌, not, length, unwrap_or, ap, rules, tests}
+use Rattle.std.specs.List.{position_or_len}
+use Rattle.std.proofs.lemmas.Iterator.{YieldsList-from_slice}
+use Rattle.std.proofs.lemmas.Iterator.Search.{position_from_yields_List}
+use Rattle.std.proofs.lemmas.List.Sums.{prefix_len-le-length}
+use Rattle.elf_object.proofs.EndsOfNames.{first_or_length}
 use Rattle.elf_object.proofs.names.text_len.Goals as goal
 
-pub returns-then-byte-eq0 : goal.returns-then-byte-eq0
-returns-then-byte-eq0 c = sym (text_len_is c.args.bytes.now c.loop-place.place (omega arith) c.loop-place.invariant (λ _. c.if-byte-eq0.true))
-
 pub returns : goal.returns
-returns c = sym (text_len_is c.args.bytes.now (length c.args.bytes.now) (omega arith) (λ k h. c.loop-place.invariant k (omega arith)) (λ h. omega arith))
+returns c =
+    let bytes = c.args.bytes.now in
+    let found = position_from_yields_List (λ byte. byte == 0) _ _ c.position.result c.position.ensures.ran
+    (YieldsList-from_slice bytes c.iter.ensures.rest) (λ x b q k. search (rules, tests)) in
+    c.unwrap_or.ensures
+    ∙ ap (λ r. unwrap_or r (length bytes)) found
+    ∙ first_or_length (position_or_len (λ byte. byte == 0) bytes) (length bytes) (prefix_len-le-length _ bytes)

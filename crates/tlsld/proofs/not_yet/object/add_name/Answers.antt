@@ -7,6 +7,6 @@ pub returns-in_ok-fresh-in-Global-clause-fresh : goal.returns-in_ok-fresh-in-Glo
 returns-in_ok-fresh-in-Global-clause-fresh c =
     let seen = map (λ k. k.now) c.args.names.now.keys in
     c.in_ok-fresh-in-Global.ensures.added
-    ∙ ap (λ r. not r) (any_now c.in-Some.symbol.name.now c.args.names.now.keys)
-    ∙ sym (one_new seen c.in-Some.symbol.name.now)
-    ∙ ap (all_new seen) (ap (λ n. n ∷ []) c.in-Some.ensures.part.name_is ∙ sym (names_global c.args.object.now c.args.number (sym c.in-Some.ensures.part.binding_is ∙ c.in-Global.is)))
+    ∙ ap (λ r. not r) (any_now c.symbol_name.result.now c.args.names.now.keys)
+    ∙ sym (one_new seen c.symbol_name.result.now)
+    ∙ ap (all_new seen) (ap (λ n. n ∷ []) c.symbol_name.ensures.name ∙ sym (names_global c.args.object.now c.args.number (sym c.in-Some.ensures.part.binding_is ∙ c.in-Global.is)))
