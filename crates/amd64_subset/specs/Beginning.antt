@@ -1,5 +1,6 @@
 -- Which bytes begin a spelling and are none yet.
-use Rattle.std.specs.Prelude.{◌≡◌, ℕ, ◌+◌, ◌<◌, Bool, true, false, List, ◌++◌, length, Ok, Err, nat_lt, nat_le, if◌then◌else◌}
+use Rattle.std.specs.Prelude.{◌≡◌, ℕ, ◌+◌, ◌<◌, Bool, true, false, List, ◌++◌, length, Ok, Err, nat_lt, nat_le}
+use Rattle.std.specs.Prelude.{if◌then◌else◌}
 use Rattle.std.specs.List.{list_all}
 use Rattle.amd64_subset.specs.declared.fault.Fault.TheVariants.{Short, Wrong}
 use Rattle.amd64_subset.specs.declared.instr.Decoded.{Decoded}

@@ -28,7 +28,10 @@ end_branch_at prefixes bytes = if takes row.EndBranch prefixes then three bytes 
     three [] = Err (Short 3)
     three (a ∷ []) = if a == 0x0f then Err (Short 2) else Err Wrong
     three (a ∷ b ∷ []) = if a == 0x0f then (if b == 0x1e then Err (Short 1) else Err Wrong) else Err Wrong
-    three (a ∷ b ∷ c ∷ rest) = if a == 0x0f then (if b == 0x1e then (if c == 0xfa then Ok (row.EndBranch, rest) else Err Wrong) else Err Wrong) else Err Wrong
+    three (a ∷ b ∷ c ∷ rest) =
+        if a == 0x0f
+        then (if b == 0x1e then (if c == 0xfa then Ok (row.EndBranch, rest) else Err Wrong) else Err Wrong)
+        else Err Wrong
 
 unfoldable pub escaped_at : Prefixes → List ℕ → Read Row
 escaped_at prefixes [] = Err (Short (least_escaped prefixes))

@@ -1,7 +1,5 @@
 pub mod Beginning
-pub mod Canonical
 pub mod Decoding
-pub mod Form
 pub mod Meaning
 pub mod Number
 pub mod Prefix
@@ -10,4 +8,3 @@ pub mod Register
 pub mod Row
 pub mod Selectors
 pub mod Spelling
-pub mod Writing

@@ -2,6 +2,7 @@
 use Rattle.std.specs.Prelude.{ℕ, ◌+◌, ◌%◌, Bool, true, false, Option, Some, None, if◌then◌else◌}
 use Rattle.amd64_subset.specs.declared.register.Register.{Register}
 use Rattle.amd64_subset.specs.declared.register.Register.TheVariants.{Rax}
+use Rattle.amd64_subset.specs.declared.operand.Memory.{Memory}
 use Rattle.amd64_subset.specs.declared.operand.Operand.{Operand}
 use Rattle.amd64_subset.specs.declared.operand.Operand.TheVariants as operand
 use Rattle.amd64_subset.specs.declared.operand.Operands.{Operands}
@@ -18,7 +19,10 @@ use Rattle.amd64_subset.specs.declared.size.Numbers.{Numbers}
 use Rattle.amd64_subset.specs.declared.row.Numbered.{Numbered}
 use Rattle.amd64_subset.specs.declared.row.Numbered.TheVariants as numbered
 use Rattle.amd64_subset.specs.declared.row.Action.{Action}
-use Rattle.amd64_subset.specs.declared.row.Action.TheVariants as action
+use Rattle.amd64_subset.specs.declared.row.Action.TheVariants.{StoreByte, Store, Load, MoveImmediate, ExtendByte}
+use Rattle.amd64_subset.specs.declared.row.Action.TheVariants.{ExtendLong, LoadAddress, ComputeInto, ComputeFrom}
+use Rattle.amd64_subset.specs.declared.row.Action.TheVariants.{ComputeImmediate, TestWith, MultiplyBy, ShiftBy}
+use Rattle.amd64_subset.specs.declared.row.Action.TheVariants.{ShiftOnce, CallTarget, JumpTarget, Padding}
 use Rattle.amd64_subset.specs.declared.selectors.Selectors.{Selectors}
 use Rattle.amd64_subset.specs.declared.meaning.Body.{Body}
 use Rattle.amd64_subset.specs.Number.{count_of}
@@ -36,7 +40,8 @@ place_of size behind = None
 
 -- an instruction of an opcode alone
 abbrev pub alone_body : Operation → Body
-alone_body operation = record { instr = record { operation = operation; displacement = 0; immediate = 0 }; disp = None; imm = None }
+alone_body operation =
+    record { instr = record { operation = operation; displacement = 0; immediate = 0 }; disp = None; imm = None }
 
 -- the number is an immediate, not a distance
 abbrev pub is_immediate : Numbered → Bool
@@ -49,19 +54,24 @@ numbered_operation numbered.Call width number = operation.Call (Relative number)
 numbered_operation numbered.Jump width number = operation.Jump (Relative number)
 numbered_operation (numbered.JumpIf condition) width number = operation.JumpIf condition number
 numbered_operation (numbered.Move register) width number = operation.Move width (Immediate (operand.Register register))
-numbered_operation (numbered.Compute arithmetic) width number = operation.Compute arithmetic width (Immediate (operand.Register Rax))
+numbered_operation (numbered.Compute arithmetic) width number =
+    operation.Compute arithmetic width (Immediate (operand.Register Rax))
 
 -- an instruction whose opcode is followed by a number alone
 unfoldable pub numbered_body : Numbered → Width → Size → ℕ → Body
 numbered_body action width size number =
     if is_immediate action
-    then record { instr = record { operation = numbered_operation action width number; displacement = 0; immediate = number }; disp = None; imm = place_of size 0 }
+    then record {
+      instr = record { operation = numbered_operation action width number; displacement = 0; immediate = number };
+      disp = None;
+      imm = place_of size 0;
+    }
     else alone_body (numbered_operation action width number)
 
 -- the action has an immediate
 abbrev pub takes_immediate : Action → Bool
-takes_immediate action.MoveImmediate = true
-takes_immediate (action.ComputeImmediate arithmetic) = true
+takes_immediate MoveImmediate = true
+takes_immediate (ComputeImmediate arithmetic) = true
 takes_immediate action = false
 
 -- the operand is written, or compared, with the register
@@ -69,25 +79,32 @@ abbrev pub into_operand : Operand → Register → Operands
 into_operand (operand.Register to) register = IntoRegister to (operand.Register register)
 into_operand (operand.InMemory to) register = IntoMemory to register
 
--- what the action does with these operands, and with this count where it is a shift
+-- What each action does, a line each. As in the manual's tables, r is the register in ModRM's reg field, rm the
+-- operand, and m that operand where it lies in memory.
+abbrev pub does : Action → Width → Register → Operand → Memory → ℕ → Operation
+does StoreByte width r rm m count = operation.StoreByte m r  -- mov %r8, m
+does Store width r rm m count = operation.Move width (into_operand rm r)  -- mov %r, rm
+does Load width r rm m count = operation.Move width (IntoRegister r rm)  -- mov rm, %r
+does MoveImmediate width r rm m count = operation.Move width (Immediate rm)  -- mov $i, rm
+does ExtendByte width r rm m count = operation.ExtendByte width r rm  -- movzx rm, %r
+does ExtendLong width r rm m count = operation.ExtendLong r rm  -- movslq rm, %r
+does LoadAddress width r rm m count = operation.LoadAddress width r m  -- lea m, %r
+does (ComputeInto arithmetic) width r rm _ _ = operation.Compute arithmetic width (into_operand rm r)  -- add .. cmp %r, rm
+does (ComputeFrom arithmetic) width r rm _ _ = operation.Compute arithmetic width (IntoRegister r rm)  -- add .. cmp rm, %r
+does (ComputeImmediate arithmetic) width _ rm _ _ = operation.Compute arithmetic width (Immediate rm)  -- add .. cmp $i, rm
+does TestWith width r rm m count = operation.Test width rm r  -- test %r, rm
+does MultiplyBy width r rm m count = operation.Multiply width r rm  -- imul rm, %r
+does (ShiftBy shift) width r rm m count = operation.Shift shift width rm count  -- shl .. sar $i, rm
+does (ShiftOnce shift) width r rm m count = operation.Shift shift width rm 1  -- shl .. sar rm
+does CallTarget width r rm m count = operation.Call (Indirect rm)  -- call *rm
+does JumpTarget width r rm m count = operation.Jump (Indirect rm)  -- jmp *rm
+does Padding width r rm m count = operation.Nop (Some rm)  -- nop rm
+
+-- the same with the bytes' own operands, and with this count where it is a shift
 unfoldable pub operation_of : Action → Prefixes → Selectors → ℕ → Operation
-operation_of action.StoreByte prefixes selectors count = operation.StoreByte (memory_in prefixes selectors) (register_in prefixes selectors)
-operation_of action.Store prefixes selectors count = operation.Move (width_of prefixes) (into_operand (operand_in prefixes selectors) (register_in prefixes selectors))
-operation_of action.Load prefixes selectors count = operation.Move (width_of prefixes) (IntoRegister (register_in prefixes selectors) (operand_in prefixes selectors))
-operation_of action.MoveImmediate prefixes selectors count = operation.Move (width_of prefixes) (Immediate (operand_in prefixes selectors))
-operation_of action.ExtendByte prefixes selectors count = operation.ExtendByte (width_of prefixes) (register_in prefixes selectors) (operand_in prefixes selectors)
-operation_of action.ExtendLong prefixes selectors count = operation.ExtendLong (register_in prefixes selectors) (operand_in prefixes selectors)
-operation_of action.LoadAddress prefixes selectors count = operation.LoadAddress (width_of prefixes) (register_in prefixes selectors) (memory_in prefixes selectors)
-operation_of (action.ComputeInto arithmetic) prefixes selectors count = operation.Compute arithmetic (width_of prefixes) (into_operand (operand_in prefixes selectors) (register_in prefixes selectors))
-operation_of (action.ComputeFrom arithmetic) prefixes selectors count = operation.Compute arithmetic (width_of prefixes) (IntoRegister (register_in prefixes selectors) (operand_in prefixes selectors))
-operation_of (action.ComputeImmediate arithmetic) prefixes selectors count = operation.Compute arithmetic (width_of prefixes) (Immediate (operand_in prefixes selectors))
-operation_of action.TestWith prefixes selectors count = operation.Test (width_of prefixes) (operand_in prefixes selectors) (register_in prefixes selectors)
-operation_of action.MultiplyBy prefixes selectors count = operation.Multiply (width_of prefixes) (register_in prefixes selectors) (operand_in prefixes selectors)
-operation_of (action.ShiftBy shift) prefixes selectors count = operation.Shift shift (width_of prefixes) (operand_in prefixes selectors) count
-operation_of (action.ShiftOnce shift) prefixes selectors count = operation.Shift shift (width_of prefixes) (operand_in prefixes selectors) 1
-operation_of action.CallTarget prefixes selectors count = operation.Call (Indirect (operand_in prefixes selectors))
-operation_of action.JumpTarget prefixes selectors count = operation.Jump (Indirect (operand_in prefixes selectors))
-operation_of action.Padding prefixes selectors count = operation.Nop (Some (operand_in prefixes selectors))
+operation_of action prefixes selectors count =
+    does action (width_of prefixes) (register_in prefixes selectors) (operand_in prefixes selectors)
+    (memory_in prefixes selectors) count
 
 -- an instruction with a ModRM byte, and an immediate of this size
 unfoldable pub operand_body : Action → Prefixes → Selectors → Size → Numbers → Body

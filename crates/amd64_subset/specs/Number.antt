@@ -1,4 +1,5 @@
--- Numbers in an instruction's bytes: little-endian, and sign-extended to 64 bits (Intel's manual, volume 2, 2.1.5 and 2.2.1.3).
+-- Numbers in an instruction's bytes: little-endian, and sign-extended to 64 bits (Intel's manual, volume 2, 2.1.5 and
+-- 2.2.1.3).
 use Rattle.std.specs.Prelude.{ℕ, ◌+◌, List, slice_index, nat_lt, if◌then◌else◌}
 use Rattle.std.specs.Int.{w32, w64, from_le_bytes}
 use Rattle.amd64_subset.specs.declared.size.Size.{Size}

@@ -25,4 +25,10 @@ numbers_at displacement immediate bytes =
     let first = count_of displacement in
     let size = first + count_of immediate in
     if nat_lt (length bytes) size then Err (Short (size - length bytes)) else
-    Ok (record { displacement = signed_of displacement (take first bytes); immediate = signed_of immediate (take (count_of immediate) (drop first bytes)) }, drop (count_of immediate) (drop first bytes))
+    Ok (
+      record {
+        displacement = signed_of displacement (take first bytes);
+        immediate = signed_of immediate (take (count_of immediate) (drop first bytes));
+      },
+      drop (count_of immediate) (drop first bytes),
+    )

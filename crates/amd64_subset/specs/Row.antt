@@ -1,12 +1,15 @@
--- The opcode map (Intel's manual, volume 2, appendix A): what each opcode asks for and what it does. Each row is a line.
-use Rattle.std.specs.Prelude.{ℕ, ◌/◌, ◌%◌, Bool, true, false, Option, Some, None, is_none, not, ◌&&◌, ◌||◌, ◌==◌, if◌then◌else◌}
+-- The opcode map (Intel's manual, volume 2, appendix A): what each opcode asks for and does. Each row is a line.
+use Rattle.std.specs.Prelude.{ℕ, ◌/◌, ◌%◌, Bool, true, false, Option, Some, None, is_none, not, ◌&&◌, ◌||◌, ◌==◌}
+use Rattle.std.specs.Prelude.{if◌then◌else◌}
 use Rattle.std.specs.Option.{option_map}
 use Rattle.amd64_subset.specs.declared.instr.Arithmetic.{Arithmetic}
 use Rattle.amd64_subset.specs.declared.instr.Arithmetic.TheVariants.{Add, Or, And, Sub, Xor, Compare}
 use Rattle.amd64_subset.specs.declared.instr.Shift.{Shift}
 use Rattle.amd64_subset.specs.declared.instr.Shift.TheVariants.{Left, Right, RightSigned}
 use Rattle.amd64_subset.specs.declared.instr.Condition.{Condition}
-use Rattle.amd64_subset.specs.declared.instr.Condition.TheVariants.{Overflow, NotOverflow, Below, NotBelow, Equal, NotEqual, BelowOrEqual, Above, Sign, NotSign, Less, NotLess, LessOrEqual, Greater}
+use Rattle.amd64_subset.specs.declared.instr.Condition.TheVariants.{Overflow, NotOverflow, Below, NotBelow, Equal}
+use Rattle.amd64_subset.specs.declared.instr.Condition.TheVariants.{NotEqual, BelowOrEqual, Above, Sign, NotSign}
+use Rattle.amd64_subset.specs.declared.instr.Condition.TheVariants.{Less, NotLess, LessOrEqual, Greater}
 use Rattle.amd64_subset.specs.declared.instr.Operation.TheVariants.{Push, Pop, Leave, Return, Undefined}
 use Rattle.amd64_subset.specs.declared.prefix.Rex.{Rex}
 use Rattle.amd64_subset.specs.declared.prefix.Prefixes.{Prefixes}
@@ -17,7 +20,10 @@ use Rattle.amd64_subset.specs.declared.row.Numbered.TheVariants as numbered
 use Rattle.amd64_subset.specs.declared.row.Group.{Group}
 use Rattle.amd64_subset.specs.declared.row.Group.TheVariants as group
 use Rattle.amd64_subset.specs.declared.row.Action.{Action}
-use Rattle.amd64_subset.specs.declared.row.Action.TheVariants.{StoreByte, Store, Load, MoveImmediate, ExtendByte, ExtendLong, LoadAddress, ComputeInto, ComputeFrom, ComputeImmediate, TestWith, MultiplyBy, ShiftBy, ShiftOnce, CallTarget, JumpTarget, Padding}
+use Rattle.amd64_subset.specs.declared.row.Action.TheVariants.{StoreByte, Store, Load, MoveImmediate, ExtendByte}
+use Rattle.amd64_subset.specs.declared.row.Action.TheVariants.{ExtendLong, LoadAddress, ComputeInto, ComputeFrom}
+use Rattle.amd64_subset.specs.declared.row.Action.TheVariants.{ComputeImmediate, TestWith, MultiplyBy, ShiftBy}
+use Rattle.amd64_subset.specs.declared.row.Action.TheVariants.{ShiftOnce, CallTarget, JumpTarget, Padding}
 use Rattle.amd64_subset.specs.Register.{extended}
 use Rattle.amd64_subset.specs.Prefix.{takes_only_nops, has_none}
 
@@ -87,14 +93,17 @@ row_of rex opcode =
     if opcode / 16 == 0x4 then None  -- REX
     else if opcode / 8 == 0xa then Some (row.Alone (Push (extended (opcode % 8) rex.base)))  -- 50+r  push %r
     else if opcode / 8 == 0xb then Some (row.Alone (Pop (extended (opcode % 8) rex.base)))  -- 58+r  pop %r
-    else if opcode / 8 == 0x17 then Some (row.Number (numbered.Move (extended (opcode % 8) rex.base)) (if rex.wide then Eight else Four))  -- b8+r  mov $i, %r
-    else if opcode / 16 == 0x7 then option_map (λ condition. row.Number (numbered.JumpIf condition) One) (condition_of (opcode % 16))  -- 70+c  jcc
+    else if opcode / 8 == 0x17 then
+    Some (row.Number (numbered.Move (extended (opcode % 8) rex.base)) (if rex.wide then Eight else Four))  -- b8+r  mov $i, %r
+    else if opcode / 16 == 0x7 then
+    option_map (λ condition. row.Number (numbered.JumpIf condition) One) (condition_of (opcode % 16))  -- 70+c  jcc
     else fixed_row_of rex.wide opcode
 
 -- the opcodes behind 0f
 unfoldable pub escaped_row_of : ℕ → Option Row
 escaped_row_of opcode =
-    if opcode / 16 == 0x8 then option_map (λ condition. row.Number (numbered.JumpIf condition) Four) (condition_of (opcode % 16))  -- 0f 80+c  jcc
+    if opcode / 16 == 0x8 then
+    option_map (λ condition. row.Number (numbered.JumpIf condition) Four) (condition_of (opcode % 16))  -- 0f 80+c  jcc
     else if opcode == 0xb6 then Some (row.Register ExtendByte)  -- movzbl rm, %r
     else if opcode == 0xaf then Some (row.Register MultiplyBy)  -- imul rm, %r
     else if opcode == 0x1f then Some (row.Group group.Nop Zero)  -- nop rm

@@ -1,5 +1,7 @@
--- ModRM and SIB: which operands they select, and what follows them (Intel's manual, volume 2, 2.1.3 to 2.1.5, tables 2-2 and 2-3).
-use Rattle.std.specs.Prelude.{ℕ, ◌+◌, ◌/◌, ◌%◌, Bool, true, false, List, [], ◌∷◌, Option, Some, None, Result, Ok, Err, is_some, unwrap_or, not, nat_lt, ◌&&◌, ◌||◌, ◌==◌, if◌then◌else◌}
+-- ModRM and SIB: which operands they select, and what follows them (Intel's manual, volume 2, 2.1.3 to 2.1.5, tables
+-- 2-2 and 2-3).
+use Rattle.std.specs.Prelude.{ℕ, ◌+◌, ◌/◌, ◌%◌, Bool, true, false, List, [], ◌∷◌, Option, Some, None, Result, Ok, Err}
+use Rattle.std.specs.Prelude.{is_some, unwrap_or, not, nat_lt, ◌&&◌, ◌||◌, ◌==◌, if◌then◌else◌}
 use Rattle.amd64_subset.specs.declared.register.Register.{Register}
 use Rattle.amd64_subset.specs.declared.operand.Base.{Base}
 use Rattle.amd64_subset.specs.declared.operand.Base.TheVariants as base
@@ -67,25 +69,42 @@ abbrev pub register_in : Prefixes → Selectors → Register
 register_in prefixes selectors = extended ((selectors.modrm / 8) % 8) (bits_of prefixes).register
 
 abbrev pub rip_or_base : ℕ → Bool → Base
-rip_or_base modrm high = if (modrm / 64 == 0) && (modrm % 8 == 5) then base.NextInstruction else base.Register (extended (modrm % 8) high)
+rip_or_base modrm high =
+    if (modrm / 64 == 0) && (modrm % 8 == 5) then base.NextInstruction else base.Register (extended (modrm % 8) high)
 
 abbrev pub absolute_or_base : ℕ → ℕ → Bool → Base
-absolute_or_base modrm sib high = if (modrm / 64 == 0) && (sib % 8 == 5) then base.Absolute else base.Register (extended (sib % 8) high)
+absolute_or_base modrm sib high =
+    if (modrm / 64 == 0) && (sib % 8 == 5) then base.Absolute else base.Register (extended (sib % 8) high)
 
 abbrev pub scale_of : ℕ → Scale
-scale_of number = if number == 0 then scale.One else if number == 1 then scale.Two else if number == 2 then scale.Four else scale.Eight
+scale_of number =
+    if number == 0 then scale.One
+    else if number == 1 then scale.Two
+    else if number == 2 then scale.Four
+    else scale.Eight
 
 -- the index in a SIB byte; 100 without REX.X is none
 abbrev pub index_of : ℕ → Bool → Option Index
-index_of sib high = if ((sib / 8) % 8 == 4) && not high then None else Some (record { register = extended ((sib / 8) % 8) high; scale = scale_of (sib / 64) })
+index_of sib high =
+    if ((sib / 8) % 8 == 4) && not high
+    then None
+    else Some (record { register = extended ((sib / 8) % 8) high; scale = scale_of (sib / 64) })
 
 -- the memory operand that modes 0 to 2 name
 unfoldable pub memory_in : Prefixes → Selectors → Memory
 memory_in prefixes selectors = addressed selectors.sib
   where
     addressed : Option ℕ → Memory
-    addressed None = record { from_thread_pointer = prefixes.thread_pointer; base = rip_or_base selectors.modrm (bits_of prefixes).base; index = None }
-    addressed (Some sib) = record { from_thread_pointer = prefixes.thread_pointer; base = absolute_or_base selectors.modrm sib (bits_of prefixes).base; index = index_of sib (bits_of prefixes).index }
+    addressed None = record {
+      from_thread_pointer = prefixes.thread_pointer;
+      base = rip_or_base selectors.modrm (bits_of prefixes).base;
+      index = None;
+    }
+    addressed (Some sib) = record {
+      from_thread_pointer = prefixes.thread_pointer;
+      base = absolute_or_base selectors.modrm sib (bits_of prefixes).base;
+      index = index_of sib (bits_of prefixes).index;
+    }
 
 -- the register or the memory operand that ModRM's rm field names
 abbrev pub operand_in : Prefixes → Selectors → Operand

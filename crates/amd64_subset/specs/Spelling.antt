@@ -1,6 +1,7 @@
 -- Which bytes spell an instruction: whole lists of bytes, by the parts that they consist of (Intel's manual, volume 2,
 -- figure 2-1): prefixes, REX, opcode, ModRM, SIB, displacement, immediate.
-use Rattle.std.specs.Prelude.{◌≡◌, ℕ, suc, ◌+◌, ◌/◌, ◌%◌, ◌<◌, ◌≤◌, Bool, true, List, [], ◌∷◌, ◌++◌, length, Option, Some, None, IfSome, is_some, ◌&&◌, ◌||◌, ◌==◌, if◌then◌else◌}
+use Rattle.std.specs.Prelude.{◌≡◌, ℕ, suc, ◌+◌, ◌/◌, ◌%◌, ◌<◌, ◌≤◌, Bool, true, List, [], ◌∷◌, ◌++◌, length, Option}
+use Rattle.std.specs.Prelude.{Some, None, IfSome, is_some, ◌&&◌, ◌||◌, ◌==◌, if◌then◌else◌}
 use Rattle.std.specs.Option.{option_map, option_to_list}
 use Rattle.std.specs.List.{list_any, list_all}
 use Rattle.amd64_subset.specs.declared.instr.Operation.TheVariants as operation
@@ -46,7 +47,8 @@ prefixes_of marks rex = record {
 unfoldable pub named : Rex → List ℕ → Option Row
 named rex (a ∷ []) = row_of rex a
 named rex (a ∷ b ∷ []) = if a == 0x0f then escaped_row_of b else None
-named rex (a ∷ b ∷ c ∷ d ∷ []) = if (((a == 0xf3) && (b == 0x0f)) && (c == 0x1e)) && (d == 0xfa) then Some row.EndBranch else None
+named rex (a ∷ b ∷ c ∷ d ∷ []) =
+    if (((a == 0xf3) && (b == 0x0f)) && (c == 0x1e)) && (d == 0xfa) then Some row.EndBranch else None
 named rex bytes = None
 
 -- ModRM, SIB where it asks for one, a displacement as long as they say, an immediate of this size
@@ -62,14 +64,18 @@ pub record IsOperated (prefixes : Prefixes) (row : Row) (size : Size) (bytes : L
   pub has_sib : is_some sib ≡ has_sib modrm
   pub displacement-length : length displacement ≡ count_of (displacement_size (record { modrm = modrm; sib = sib }))
   pub immediate-length : length immediate ≡ count_of size
-  pub body-is : body ≡ operand_body action prefixes (record { modrm = modrm; sib = sib }) size (record { displacement = signed_of (displacement_size (record { modrm = modrm; sib = sib })) displacement; immediate = signed_of size immediate })
+  pub body-is : body ≡ operand_body action prefixes (record { modrm = modrm; sib = sib }) size (record {
+    displacement = signed_of (displacement_size (record { modrm = modrm; sib = sib })) displacement;
+    immediate = signed_of size immediate;
+  })
 
 -- what stands behind an opcode, row by row
 abbrev pub HasBody : Prefixes → Row → List ℕ → Body → Type 0
 HasBody prefixes (row.Alone operation) bytes body = (bytes ≡ []) × (body ≡ alone_body operation)
 HasBody prefixes row.Nop bytes body = (bytes ≡ []) × (body ≡ alone_body (operation.Nop None))
 HasBody prefixes row.EndBranch bytes body = (bytes ≡ []) × (body ≡ alone_body (operation.Nop None))
-HasBody prefixes (row.Number action size) bytes body = (length bytes ≡ count_of size) × (body ≡ numbered_body action (width_of prefixes) size (signed_of size bytes))
+HasBody prefixes (row.Number action size) bytes body =
+    (length bytes ≡ count_of size) × (body ≡ numbered_body action (width_of prefixes) size (signed_of size bytes))
 HasBody prefixes (row.Register action) bytes body = IsOperated prefixes (row.Register action) size.Zero bytes body
 HasBody prefixes (row.Group group size) bytes body = IsOperated prefixes (row.Group group size) size bytes body
 

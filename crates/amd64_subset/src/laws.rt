@@ -1,17 +1,11 @@
 //! Laws of spelling, for those who reason about code that they read in parts. Each is a function that does nothing; its
 //! clause is the law.
 
-ghost use Rattle.std.specs.Prelude.{◌≡◌, ◌≤◌, ◌<◌, ◌^◌, ◌++◌, ◌↔◌, ℕ, true, false, List, Some, None, length, take, slice_index};
+ghost use Rattle.std.specs.Prelude.{◌≡◌, ◌≤◌, ◌++◌, ◌↔◌, ℕ, true, false, List, Some, None, length, take};
 ghost use Rattle.amd64_subset.specs.declared.instr.Decoded.{Decoded};
 ghost use Rattle.amd64_subset.specs.Beginning.{BeginsSpelling, begins_of};
-ghost use Rattle.amd64_subset.specs.Canonical.{IsSpellable};
 ghost use Rattle.amd64_subset.specs.Decoding.{decoded};
 ghost use Rattle.amd64_subset.specs.Spelling.{Spells, IsPlaced, field_of, with_displacement, with_immediate};
-
-/// What is read of bytes has a spelling, so `encode` takes it.
-pub fn spellable()
-    ensures { (bytes : List ℕ) (d : Decoded) → ((i : ℕ) → slice_index bytes i < 2 ^ 8) → decoded bytes ≡ Some d → IsSpellable d.instr }
-{}
 
 /// No spelling begins another, and a list of bytes spells one instruction at most: where two
 /// spellings begin one list, they are the same.
@@ -26,7 +20,8 @@ pub fn spelled()
 
 /// An instruction depends on its own bytes alone.
 pub fn front()
-    ensures { (bytes tail : List ℕ) (d : Decoded) → decoded bytes ≡ Some d → decoded (take d.len bytes ++ tail) ≡ Some d }
+    ensures { (bytes tail : List ℕ) (d : Decoded)
+        → decoded bytes ≡ Some d → decoded (take d.len bytes ++ tail) ≡ Some d }
 {}
 
 /// An instruction has 1 to 15 bytes, its fields lie in them, and all are there.
@@ -38,18 +33,22 @@ pub fn inside()
 /// With another four bytes in the displacement's place the same instruction is read, but for that
 /// number.
 pub fn displacement_field()
-    ensures number { (bytes four tail : List ℕ) (d : Decoded) → length four ≡ 4 → decoded (bytes ++ (four ++ tail)) ≡ Some d → d.disp ≡ Some (length bytes)
+    ensures number { (bytes four tail : List ℕ) (d : Decoded) → length four ≡ 4
+        → decoded (bytes ++ (four ++ tail)) ≡ Some d → d.disp ≡ Some (length bytes)
         → d.instr.displacement ≡ field_of four }
-    ensures other { (bytes four other tail : List ℕ) (d : Decoded) → length four ≡ 4 → length other ≡ 4 → decoded (bytes ++ (four ++ tail)) ≡ Some d → d.disp ≡ Some (length bytes)
+    ensures other { (bytes four other tail : List ℕ) (d : Decoded) → length four ≡ 4 → length other ≡ 4
+        → decoded (bytes ++ (four ++ tail)) ≡ Some d → d.disp ≡ Some (length bytes)
         → decoded (bytes ++ (other ++ tail)) ≡ Some (with_displacement (field_of other) d) }
 {}
 
 /// With another four bytes in the immediate's place the same instruction is read, but for that
 /// number.
 pub fn immediate_field()
-    ensures number { (bytes four tail : List ℕ) (d : Decoded) → length four ≡ 4 → decoded (bytes ++ (four ++ tail)) ≡ Some d → d.imm ≡ Some (length bytes)
+    ensures number { (bytes four tail : List ℕ) (d : Decoded) → length four ≡ 4
+        → decoded (bytes ++ (four ++ tail)) ≡ Some d → d.imm ≡ Some (length bytes)
         → d.instr.immediate ≡ field_of four }
-    ensures other { (bytes four other tail : List ℕ) (d : Decoded) → length four ≡ 4 → length other ≡ 4 → decoded (bytes ++ (four ++ tail)) ≡ Some d → d.imm ≡ Some (length bytes)
+    ensures other { (bytes four other tail : List ℕ) (d : Decoded) → length four ≡ 4 → length other ≡ 4
+        → decoded (bytes ++ (four ++ tail)) ≡ Some d → d.imm ≡ Some (length bytes)
         → decoded (bytes ++ (other ++ tail)) ≡ Some (with_immediate (field_of other) d) }
 {}
 

@@ -2,8 +2,8 @@
 //!
 //! The subset has the moves, the arithmetic, the jumps, calls and stack operations that a compiler
 //! writes for small functions: about forty rows of the opcode map, each with every register, address
-//! and prefix that it may have. `decode` reads the instruction at the front of some bytes, `begins`
-//! says whether bytes too few for one may become one, and `encode` writes one.
+//! and prefix that it may have. `decode` reads the instruction at the front of some bytes, and
+//! `begins` says whether bytes too few for one may become one. (The crate `amd64_encoder` writes one.)
 //!
 //! An instruction is spelled by up to 15 bytes, in this order:
 //!
@@ -25,23 +25,21 @@
 //! Two spellings may be one instruction: a displacement of 16 fits one byte or four, `mov %eax, %ecx`
 //! is 89 c1 or 8b c8, and a REX may stand where no bit of it is read. An `Instr` is what they have in
 //! common, and `Decoded` adds what a linker needs of the one that it met: the length, and where the
-//! four-byte fields lie. `encode` takes the spelling with no redundant prefix, then the shortest, then
-//! the first in the rows of the opcode map; the assembler mostly does the same.
+//! four-byte fields lie.
 //!
 //! A linker rewrites code in place, and a machine runs code whose end may not be mapped. Both read
 //! bytes in parts, and must tell bytes that are no instruction from bytes that end too early: hence
 //! `begins`. No spelling begins another (`laws::one_spelling`), so what was read stays read whatever
 //! follows.
 //!
-//! `specs/Spelling` says what spells an instruction, `specs/Row` has the opcode map, and
-//! `specs/Canonical` says which spelling is written. They restate the Intel 64 manual, volume 2,
-//! chapter 2 and appendix A, as does AMD's, volume 3; the operands of the code sequences are those of
-//! the x86-64 psABI, in its part on thread-local storage. The opcodes of 8 and 16 bits, the string,
-//! vector and system instructions, and prefixes that lock or repeat are left out.
+//! `specs/Spelling` says what spells an instruction, and `specs/Row` has the opcode map. They restate
+//! the Intel 64 manual, volume 2, chapter 2 and appendix A, as does AMD's, volume 3; the operands of
+//! the code sequences are those of the x86-64 psABI, in its part on thread-local storage. The opcodes
+//! of 8 and 16 bits, the string, vector and system instructions, and prefixes that lock or repeat are
+//! left out.
 #![tactic(auto)]
 
 mod fault;
-mod form;
 mod instr;
 pub mod laws;
 mod meaning;
@@ -52,13 +50,17 @@ mod register;
 mod row;
 mod selectors;
 mod size;
-mod writing;
 
 pub use instr::{Arithmetic, Condition, Decoded, Instr, Operation, Shift, Target, Width};
 pub use operand::{Base, Index, Memory, Operand, Operands, Scale};
 pub use reading::{begins, decode};
 pub use register::Register;
-pub use writing::encode;
 
-#[cfg(test)]
-mod tests;
+/// The parts of an instruction's encoding, of which `specs/Spelling` speaks, for the encoder.
+pub mod encoding {
+    pub use crate::meaning::Body;
+    pub use crate::prefix::{Prefixes, Rex};
+    pub use crate::row::{Action, Group, Numbered, Row};
+    pub use crate::selectors::Selectors;
+    pub use crate::size::{Numbers, Size};
+}

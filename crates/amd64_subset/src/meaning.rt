@@ -1,5 +1,6 @@
 ghost use Rattle.std.specs.Prelude.{◌≡◌, ◌≤◌};
-ghost use Rattle.amd64_subset.specs.Meaning.{width_of, place_of, is_immediate, numbered_operation, takes_immediate, into_operand, operation_of, alone_body, numbered_body, operand_body};
+ghost use Rattle.amd64_subset.specs.Meaning.{width_of, place_of, is_immediate, numbered_operation, takes_immediate};
+ghost use Rattle.amd64_subset.specs.Meaning.{into_operand, operation_of, alone_body, numbered_body, operand_body};
 
 use crate::instr::{Instr, Operation, Target, Width};
 use crate::operand::{Operand, Operands};
@@ -11,7 +12,7 @@ use crate::size::{Numbers, Size};
 
 /// An instruction, and where its four-byte fields begin, counted back from its end.
 #[derive(Clone, Copy)]
-pub(crate) struct Body {
+pub struct Body {
     pub instr: Instr,
     pub disp: Option<u8>,
     pub imm: Option<u8>,
@@ -132,94 +133,39 @@ fn into_operand(operand: Operand, register: Register) -> Operands
     }
 }
 
+/// What each action does, a line each. As in the manual's tables, `r` is the register in ModRM's reg
+/// field, `rm` the operand, and `m` that operand where it lies in memory.
+#[rattlefmt::skip]
 #[tactic(auto, unfolding(crate::specs::Meaning::operation_of))]
 fn operation(action: Action, prefixes: Prefixes, selectors: Selectors, count: u8) -> Operation
     ensures { result ≡ operation_of action prefixes selectors count }
 {
+    use Action::*;
     let width = width(prefixes);
-    let register = selectors.register(prefixes);
-    let operand = selectors.operand(prefixes);
-    let loaded = Operands::IntoRegister {
-        to: register,
-        from: operand,
-    };
+    let r = selectors.register(prefixes);
+    let rm = selectors.operand(prefixes);
+    let m = selectors.memory(prefixes);
+    let stored = into_operand(rm, r);
+    let loaded = Operands::IntoRegister { to: r, from: rm };
+    let number = Operands::Immediate { to: rm };
     match action {
-        Action::StoreByte => Operation::StoreByte {
-            to: selectors.memory(prefixes),
-            from: register,
-        },
-        Action::Store => Operation::Move {
-            width,
-            operands: into_operand(operand, register),
-        },
-        Action::Load => Operation::Move {
-            width,
-            operands: loaded,
-        },
-        Action::MoveImmediate => Operation::Move {
-            width,
-            operands: Operands::Immediate { to: operand },
-        },
-        Action::ExtendByte => Operation::ExtendByte {
-            width,
-            to: register,
-            from: operand,
-        },
-        Action::ExtendLong => Operation::ExtendLong {
-            to: register,
-            from: operand,
-        },
-        Action::LoadAddress => Operation::LoadAddress {
-            width,
-            to: register,
-            from: selectors.memory(prefixes),
-        },
-        Action::ComputeInto(arithmetic) => Operation::Compute {
-            arithmetic,
-            width,
-            operands: into_operand(operand, register),
-        },
-        Action::ComputeFrom(arithmetic) => Operation::Compute {
-            arithmetic,
-            width,
-            operands: loaded,
-        },
-        Action::ComputeImmediate(arithmetic) => Operation::Compute {
-            arithmetic,
-            width,
-            operands: Operands::Immediate { to: operand },
-        },
-        Action::TestWith => Operation::Test {
-            width,
-            left: operand,
-            right: register,
-        },
-        Action::MultiplyBy => Operation::Multiply {
-            width,
-            to: register,
-            from: operand,
-        },
-        Action::ShiftBy(shift) => Operation::Shift {
-            shift,
-            width,
-            to: operand,
-            count,
-        },
-        Action::ShiftOnce(shift) => Operation::Shift {
-            shift,
-            width,
-            to: operand,
-            count: 1,
-        },
-        Action::CallTarget => Operation::Call {
-            target: Target::Indirect(operand),
-        },
-        Action::JumpTarget => Operation::Jump {
-            target: Target::Indirect(operand),
-        },
-        Action::Padding => Operation::Nop {
-            operand: Some(operand),
-        },
+        StoreByte => Operation::StoreByte { to: m, from: r },                                       // mov %r8, m
+        Store => Operation::Move { width, operands: stored },                                       // mov %r, rm
+        Load => Operation::Move { width, operands: loaded },                                        // mov rm, %r
+        MoveImmediate => Operation::Move { width, operands: number },                               // mov $i, rm
+        ExtendByte => Operation::ExtendByte { width, to: r, from: rm },                             // movzx rm, %r
+        ExtendLong => Operation::ExtendLong { to: r, from: rm },                                    // movslq rm, %r
+        LoadAddress => Operation::LoadAddress { width, to: r, from: m },                            // lea m, %r
+        ComputeInto(arithmetic) => Operation::Compute { arithmetic, width, operands: stored },      // add .. cmp %r, rm
+        ComputeFrom(arithmetic) => Operation::Compute { arithmetic, width, operands: loaded },      // add .. cmp rm, %r
+        ComputeImmediate(arithmetic) => Operation::Compute { arithmetic, width, operands: number }, // add .. cmp $i, rm
+        TestWith => Operation::Test { width, left: rm, right: r },                                  // test %r, rm
+        MultiplyBy => Operation::Multiply { width, to: r, from: rm },                               // imul rm, %r
+        ShiftBy(shift) => Operation::Shift { shift, width, to: rm, count },                         // shl .. sar $i, rm
+        ShiftOnce(shift) => Operation::Shift { shift, width, to: rm, count: 1 },                    // shl .. sar rm
+        CallTarget => Operation::Call { target: Target::Indirect(rm) },                             // call *rm
+        JumpTarget => Operation::Jump { target: Target::Indirect(rm) },                             // jmp *rm
+        Padding => Operation::Nop { operand: Some(rm) },                                            // nop rm
     }
 }
 

@@ -1,5 +1,6 @@
 ghost use Rattle.std.specs.Prelude.{◌≡◌};
-ghost use Rattle.amd64_subset.specs.Prefix.{rex_of, bits_of, takes_only_nops, has_none, least_opening, least_opcode, least_escaped, marks_at, rex_at, possible_at, prefixes_at};
+ghost use Rattle.amd64_subset.specs.Prefix.{rex_of, bits_of, takes_only_nops, has_none, least_opening, least_opcode};
+ghost use Rattle.amd64_subset.specs.Prefix.{least_escaped, marks_at, rex_at, possible_at, prefixes_at};
 ghost use Rattle.amd64_subset.specs.Reading.{Gives};
 
 use crate::fault::Fault;
@@ -7,7 +8,7 @@ use crate::fault::Fault;
 /// The four bits of a REX prefix: the width, and the fourth bits of the register numbers in ModRM's
 /// reg field, in SIB's index field, and in ModRM's rm field, SIB's base field or the opcode.
 #[derive(Clone, Copy, PartialEq, Eq, Debug)]
-pub(crate) struct Rex {
+pub struct Rex {
     pub wide: bool,
     pub register: bool,
     pub index: bool,
@@ -30,7 +31,7 @@ impl Rex {
 
 /// What stands before an opcode.
 #[derive(Clone, Copy, PartialEq, Eq, Debug)]
-pub(crate) struct Prefixes {
+pub struct Prefixes {
     /// 64, FS: the thread pointer is added to the address.
     pub thread_pointer: bool,
     /// 66, which only pads.

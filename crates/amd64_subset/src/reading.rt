@@ -1,10 +1,12 @@
+//! Reading an instruction from left to right, and whether bytes too few for one may become one.
+
 ghost use Rattle.std.specs.Prelude.{◌≡◌, ◌≤◌, ◌↔◌, ℕ, Some, IfSome, IsTrue, take, length};
 ghost use Rattle.amd64_subset.specs.Reading.{Gives};
 ghost use Rattle.amd64_subset.specs.declared.instr.Decoded.{Decoded};
 ghost use Rattle.amd64_subset.specs.Beginning.{BeginsSpelling, begins_of};
-ghost use Rattle.amd64_subset.specs.Canonical.{IsSpellable};
 ghost use Rattle.amd64_subset.specs.Spelling.{Spells, IsPlaced};
-ghost use Rattle.amd64_subset.specs.Decoding.{accepted_at, end_branch_at, escaped_at, row_at, operated_at, body_at, instruction_at, before, decoded};
+ghost use Rattle.amd64_subset.specs.Decoding.{accepted_at, end_branch_at, escaped_at, row_at, operated_at, body_at};
+ghost use Rattle.amd64_subset.specs.Decoding.{instruction_at, before, decoded};
 
 use crate::fault::Fault;
 use crate::instr::{Decoded, Operation};
@@ -162,8 +164,6 @@ pub fn decode(bytes: &[u8]) -> Option<Decoded>
     // It has 1 to 15 bytes, all of them among these, and its fields lie in it.
     ensures length { IfSome result (λ d. d.len ≤ length bytes.now) }
     ensures inside { IfSome result IsPlaced }
-    // It has a spelling, so `encode` takes it.
-    ensures spellable { IfSome result (λ d. IsSpellable d.instr) }
     // The same as a function of the list.
     ensures exact { result ≡ decoded bytes.now }
 {

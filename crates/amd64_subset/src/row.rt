@@ -1,5 +1,6 @@
 ghost use Rattle.std.specs.Prelude.{◌≡◌};
-ghost use Rattle.amd64_subset.specs.Row.{condition_of, row_of, fixed_row_of, escaped_row_of, arithmetic_of, shift_of, group_action, action_of, accesses, pads, takes};
+ghost use Rattle.amd64_subset.specs.Row.{condition_of, row_of, fixed_row_of, escaped_row_of, arithmetic_of, shift_of};
+ghost use Rattle.amd64_subset.specs.Row.{group_action, action_of, accesses, pads, takes};
 
 use crate::instr::{Arithmetic, Condition, Operation, Shift};
 use crate::prefix::{Prefixes, Rex};
@@ -10,7 +11,7 @@ use Arithmetic::*;
 
 /// What stands behind an opcode, and what the instruction does.
 #[derive(Clone, Copy)]
-pub(crate) enum Row {
+pub enum Row {
     /// Nothing stands behind it.
     Alone(Operation),
     /// nop in one byte: it takes 66 and 2e, and no REX.
@@ -27,7 +28,7 @@ pub(crate) enum Row {
 
 /// What an instruction does whose opcode is followed by a number alone.
 #[derive(Clone, Copy)]
-pub(crate) enum Numbered {
+pub enum Numbered {
     /// The number is a distance.
     Call,
     Jump,
@@ -39,7 +40,7 @@ pub(crate) enum Numbered {
 
 /// The opcodes that ModRM's reg field completes.
 #[derive(Clone, Copy)]
-pub(crate) enum Group {
+pub enum Group {
     Move,
     Arithmetic,
     Shift,
@@ -50,7 +51,7 @@ pub(crate) enum Group {
 
 /// What an instruction with a ModRM byte does. `Into` writes the operand, `From` the register.
 #[derive(Clone, Copy)]
-pub(crate) enum Action {
+pub enum Action {
     StoreByte,
     Store,
     Load,

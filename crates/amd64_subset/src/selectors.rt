@@ -1,5 +1,7 @@
 ghost use Rattle.std.specs.Prelude.{◌≡◌, ◌≤◌};
-ghost use Rattle.amd64_subset.specs.Selectors.{has_sib, least_displacement, byte_register, allowed, displacement_size, register_in, rip_or_base, absolute_or_base, index_of, memory_in, operand_in, sib_at, selectors_at};
+ghost use Rattle.amd64_subset.specs.Selectors.{has_sib, least_displacement, byte_register, allowed};
+ghost use Rattle.amd64_subset.specs.Selectors.{displacement_size, register_in, rip_or_base, absolute_or_base};
+ghost use Rattle.amd64_subset.specs.Selectors.{index_of, memory_in, operand_in, sib_at, selectors_at};
 ghost use Rattle.amd64_subset.specs.Reading.{Gives};
 
 use crate::fault::Fault;
@@ -13,7 +15,7 @@ use crate::size::Size;
 /// register or more of the opcode in the next three, a register or how memory is addressed in the
 /// last three; and SIB, where ModRM asks for one, with a scale, an index and a base.
 #[derive(Clone, Copy)]
-pub(crate) struct Selectors {
+pub struct Selectors {
     pub modrm: u8,
     pub sib: Option<u8>,
 }
@@ -67,7 +69,7 @@ fn allowed(action: Action, prefixes: Prefixes, modrm: u8) -> bool
 impl Selectors {
     /// How many bytes of displacement follow.
     #[tactic(auto, unfolding(crate::specs::Selectors::displacement_size))]
-    pub(crate) fn displacement_size(self) -> Size
+    pub fn displacement_size(self) -> Size
         ensures { result ≡ displacement_size self }
     {
         match self.modrm / 64 {

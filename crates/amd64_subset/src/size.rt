@@ -6,7 +6,7 @@ use crate::fault::Fault;
 
 /// How many bytes a displacement, a distance or an immediate has.
 #[derive(Clone, Copy, PartialEq, Eq, Debug)]
-pub(crate) enum Size {
+pub enum Size {
     Zero,
     One,
     Four,
@@ -14,7 +14,8 @@ pub(crate) enum Size {
 }
 
 impl Size {
-    pub(crate) fn count(self) -> u8
+    /// How many they are.
+    pub fn count(self) -> u8
         ensures value { result ≡ count_of self }
         ensures bound { result ≤ 8 }
     {
@@ -67,7 +68,7 @@ fn signed_long(number: u32) -> u64
 
 /// A displacement and an immediate (or a distance), sign-extended.
 #[derive(Clone, Copy)]
-pub(crate) struct Numbers {
+pub struct Numbers {
     pub displacement: u64,
     pub immediate: u64,
 }

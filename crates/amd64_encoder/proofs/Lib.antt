@@ -1,0 +1,14 @@
+pub mod Splices
+pub mod Digits
+pub mod Selected
+pub mod Built
+pub mod Named
+pub mod Operated
+pub mod Spelled
+pub mod Listed
+pub mod Costs
+pub mod Shortest
+pub mod Groups
+pub mod Canon
+pub mod Encoded
+pub mod Spellable

@@ -1,0 +1,110 @@
+//! Tests of `decode`, `begins` and `encode`, against what GNU as and objdump make of each row of the opcode map.
+
+use amd64_encoder::encode;
+use amd64_subset::{begins, decode};
+use std::alloc::Global;
+use std::process::Abort;
+use std::test::Fail;
+
+mod corners;
+mod listing;
+mod text;
+mod written;
+
+use corners::CORNERS;
+use listing::{OTHERS, SHORTEST};
+use written::WRITTEN;
+
+/// The columns of a table's line, of which the last is free text.
+fn columns(line: &str) -> Option<(&str, &str, &str)> {
+    let (first, rest) = line.split_once(' ')?;
+    let (second, text) = rest.trim_start().split_once(' ')?;
+    Some((first, second, text.trim_start()))
+}
+
+/// The bytes that a column has in hexadecimal digits.
+fn bytes(alloc: Global, digits: &str) -> Result<Vec<u8>, Fail> {
+    Ok(hex::decode(alloc, digits).ok().ok_or("hexadecimal digits")?)
+}
+
+/// The instruction of a line is read with its length and its text, and each of its fronts begins a
+/// spelling and is none.
+fn reads(rt: &impl Abort, alloc: Global, line: &str) -> Result<(), Fail> {
+    let (address, digits, text) = columns(line).ok_or("three columns")?;
+    let address = u64::from_str_radix(address, 16).ok().ok_or("an address")?;
+    let bytes = bytes(alloc, digits)?;
+    let read = decode(&bytes).ok_or("it is read")?;
+    assert_eq!(rt; read.len as usize, bytes.len(), "{line}");
+    let printed = text::text(alloc, read.instr, address.wrapping_add(read.len as u64))?;
+    assert_eq!(rt; printed.as_str(), text, "{line}");
+    assert!(rt; !begins(&bytes), "{line}");
+    for (end, _) in bytes.iter().enumerate() {
+        let front = &bytes[..end];
+        assert!(rt; begins(front), "{end} bytes of {line}");
+        assert_eq!(rt; decode(front), None, "{end} bytes of {line}");
+    }
+    Ok(())
+}
+
+#[test]
+fn reads_what_objdump_prints(rt: HostRuntime) -> Result<(), Fail> {
+    for table in [SHORTEST, OTHERS] {
+        for line in table.trim().lines() {
+            reads(&rt, rt.alloc(), line)?;
+        }
+    }
+    Ok(())
+}
+
+/// The bytes of a line are read with its length, if it has one, and begin a spelling where it says so.
+fn keeps(rt: &impl Abort, alloc: Global, line: &str) -> Result<(), Fail> {
+    let (digits, len, text) = columns(line).ok_or("three columns")?;
+    let bytes = bytes(alloc, digits)?;
+    let read = decode(&bytes).map(|read| read.len);
+    assert_eq!(rt; read, len.parse::<u8>().ok(), "{line}");
+    assert_eq!(rt; begins(&bytes), text.starts_with("begins"), "{line}");
+    Ok(())
+}
+
+#[test]
+fn keeps_to_the_corners(rt: HostRuntime) -> Result<(), Fail> {
+    assert!(&rt; begins(&[]), "no byte begins an instruction");
+    for line in CORNERS.trim().lines() {
+        keeps(&rt, rt.alloc(), line)?;
+    }
+    Ok(())
+}
+
+/// What is read of the first bytes is written as the second, nothing behind them, and read again.
+fn writes(rt: &impl Abort, from: &[u8], to: &[u8]) -> Result<(), Fail> {
+    let Some(read) = decode(from) else {
+        return Err(Fail::from("it is read"));
+    };
+    let mut written = [0xcc; 15];
+    let len = encode(&read.instr, &mut written) as usize;
+    assert_eq!(rt; &written[..len], to, "{from:?}");
+    assert!(rt; written[len..].iter().all(|byte| *byte == 0xcc), "{from:?}");
+    let again = decode(&written).ok_or("it is read again")?;
+    assert_eq!(rt; again.instr, read.instr, "{from:?}");
+    assert_eq!(rt; again.len as usize, len, "{from:?}");
+    Ok(())
+}
+
+#[test]
+fn writes_the_first_of_the_shortest(rt: HostRuntime) -> Result<(), Fail> {
+    for line in WRITTEN.trim().lines() {
+        let (from, to, _) = columns(line).ok_or("three columns")?;
+        writes(&rt, &bytes(rt.alloc(), from)?, &bytes(rt.alloc(), to)?)?;
+    }
+    Ok(())
+}
+
+#[test]
+fn writes_what_the_assembler_writes(rt: HostRuntime) -> Result<(), Fail> {
+    for line in SHORTEST.trim().lines() {
+        let (_, digits, _) = columns(line).ok_or("three columns")?;
+        let bytes = bytes(rt.alloc(), digits)?;
+        writes(&rt, &bytes, &bytes)?;
+    }
+    Ok(())
+}
