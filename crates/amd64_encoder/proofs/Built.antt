@@ -59,7 +59,8 @@ pub record IsBuilt (form : Form) (d : ℕ) (instr : Instr) : Type 0 where
   pub has_body : HasBody (prefixes_in form) row rest body
   pub instr-is : body.instr ≡ instr
   pub among : AreAmong (rex_bits form) (bits_read row rest)
-  pub asks : form.low_byte ≡ true → rex_bits form ≡ no_bits → IfSome (action_of row ((slice_index rest 0 / 8) % 8)) (λ action. allowed action (record { thread_pointer = segment_in form.fields; operand_size = false; code_segment = false; rex = None }) (slice_index rest 0) ≡ false)
+  pub asks : form.low_byte ≡ true → rex_bits form ≡ no_bits → IfSome (action_of row ((slice_index rest 0 / 8) % 8))
+      (λ action. allowed action (record { thread_pointer = segment_in form.fields; operand_size = false; code_segment = false; rex = None }) (slice_index rest 0) ≡ false)
   pub short : length rest ≤ 11
 
 -- ---- the whole
@@ -117,7 +118,8 @@ spelling_from form d instr built =
         whole = ap (λ (t : List ℕ). marks ++ (option_to_list (rex_in form) ++ (opcode_bytes form ++ t))) built.rest-is;
         are_marks = its.are_marks;
         is_rex = rex_some (is_needed form.low_byte all.wide all.register all.index all.base) all.wide all.register all.index all.base;
-        row-is = subst (λ (q : Prefixes). named (bits_of q) (opcode_bytes form) ≡ Some built.row) same (subst (λ (y : Rex). named y (opcode_bytes form) ≡ Some built.row) (sym (bits_again form)) built.row-is);
+        row-is = subst (λ (q : Prefixes). named (bits_of q) (opcode_bytes form) ≡ Some built.row) same
+            (subst (λ (y : Rex). named y (opcode_bytes form) ≡ Some built.row) (sym (bits_again form)) built.row-is);
         takes = subst (λ (q : Prefixes). takes built.row q ≡ true) same built.takes;
         has_body = subst (λ (q : Prefixes). HasBody q built.row built.rest built.body) same built.has_body;
       };
@@ -125,7 +127,8 @@ spelling_from form d instr built =
       no_redundant = record {
         marks = its.only_fs;
         rex = rex_needed form.low_byte all.wide all.register all.index all.base (bits_read built.row built.rest) (AsksForRex marks built.row built.rest) built.among
-            (λ low n. subst (λ (q : Prefixes). IfSome (action_of built.row ((slice_index built.rest 0 / 8) % 8)) (λ action. allowed action q (slice_index built.rest 0) ≡ false)) (sym none) (built.asks low n));
+            (λ low n. subst (λ (q : Prefixes). IfSome (action_of built.row ((slice_index built.rest 0 / 8) % 8))
+            (λ action. allowed action q (slice_index built.rest 0) ≡ false)) (sym none) (built.asks low n));
       };
       short =
           let a = its.few in

@@ -20,7 +20,8 @@ use Rattle.amd64_subset.specs.Register.{extended}
 use Rattle.amd64_subset.specs.Prefix.{bits_of, no_bits}
 use Rattle.amd64_subset.specs.Selectors.{has_sib, displacement_size, index_of, memory_in, operand_in, scale_of}
 use Rattle.amd64_encoder.specs.Form.{fits_byte, fits_long, low_bits}
-use Rattle.amd64_encoder.specs.Writing.{packed, is_high, sib_of, mode_of, needs_sib, address_of, selectors_of, selectors_in, selector_bytes, base_is_high, index_is_high, high_base, high_index, has_segment, when, rex_byte, rex_bits, rex_in, mark_in, form_bytes}
+use Rattle.amd64_encoder.specs.Writing.{packed, is_high, sib_of, mode_of, needs_sib, address_of, selectors_of, selectors_in, selector_bytes, base_is_high, index_is_high, high_base, high_index}
+use Rattle.amd64_encoder.specs.Writing.{has_segment, when, rex_byte, rex_bits, rex_in, mark_in, form_bytes}
 use Rattle.amd64_encoder.proofs.Digits.{high_digit, low_digit, extended-number, is_needed}
 use Rattle.amd64_encoder.proofs.Operated.{selected, size_few}
 use Rattle.amd64_encoder.proofs.Splices.{length-selectors, length-form}
@@ -40,8 +41,10 @@ few_of modrm sib d low mode same = go (eqb d 0) (eqb low 5) (fits_byte d) refl r
     go true false b ez ef eb = let m : modrm / 64 ≡ 0 = mode ∙ rw (ez, ef) refl in rw (m, same, ef) (record { none = λ h k. refl; byte = λ h. omega arith; long = omega arith })
     go true true true ez ef eb = let m : modrm / 64 ≡ 1 = mode ∙ rw (ez, ef, eb) refl in rw (m) (record { none = λ h k. absurd cc; byte = λ h. omega arith; long = omega arith })
     go true true false ez ef eb = let m : modrm / 64 ≡ 2 = mode ∙ rw (ez, ef, eb) refl in rw (m) (record { none = λ h k. absurd cc; byte = λ h. absurd cc; long = omega arith })
-    go false f true ez ef eb = let m : modrm / 64 ≡ 1 = mode ∙ rw (ez, eb) refl in rw (m) (record { none = λ h k. absurd (let t = ap (λ n. eqb n 0) h in cc); byte = λ h. omega arith; long = omega arith })
-    go false f false ez ef eb = let m : modrm / 64 ≡ 2 = mode ∙ rw (ez, eb) refl in rw (m) (record { none = λ h k. absurd (let t = ap (λ n. eqb n 0) h in cc); byte = λ h. absurd cc; long = omega arith })
+    go false f true ez ef eb = let m : modrm / 64 ≡ 1 = mode ∙ rw (ez, eb) refl in
+        rw (m) (record { none = λ h k. absurd (let t = ap (λ n. eqb n 0) h in cc); byte = λ h. omega arith; long = omega arith })
+    go false f false ez ef eb = let m : modrm / 64 ≡ 2 = mode ∙ rw (ez, eb) refl in
+        rw (m) (record { none = λ h k. absurd (let t = ap (λ n. eqb n 0) h in cc); byte = λ h. absurd cc; long = omega arith })
 
 -- SIB and the displacement beside a base
 pub record BaseCosts (g : ℕ) (r : Register) (index : Option Index) (d : ℕ) : Type 0 where
@@ -57,11 +60,13 @@ base_costs g r index d g-low = go (needs_sib index (low_bits r)) refl
   where
     go : (b : Bool) → needs_sib index (low_bits r) ≡ b → BaseCosts g r index d
     go true e = record {
-      few = rw (e) (few_of (packed (mode_of d (low_bits r)) g 4) (Some (sib_of index (low_bits r))) d (low_bits r) (high_digit (mode_of d (low_bits r)) g 4 g-low (omega arith)) (sib_low index (low_bits r) (omega arith)));
+      few = rw (e) (few_of (packed (mode_of d (low_bits r)) g 4) (Some (sib_of index (low_bits r))) d (low_bits r)
+          (high_digit (mode_of d (low_bits r)) g 4 g-low (omega arith)) (sib_low index (low_bits r) (omega arith)));
       sib = rw (e) (omega arith);
     }
     go false e = record {
-      few = rw (e) (few_of (packed (mode_of d (low_bits r)) g (low_bits r)) None d (low_bits r) (high_digit (mode_of d (low_bits r)) g (low_bits r) g-low (omega arith)) (low_digit (mode_of d (low_bits r)) g (low_bits r) g-low (omega arith)));
+      few = rw (e) (few_of (packed (mode_of d (low_bits r)) g (low_bits r)) None d (low_bits r)
+          (high_digit (mode_of d (low_bits r)) g (low_bits r) g-low (omega arith)) (low_digit (mode_of d (low_bits r)) g (low_bits r) g-low (omega arith)));
       sib = rw (e) (omega arith);
     }
 
@@ -85,7 +90,8 @@ signed_long_fits x = go (ltb x 0x8000_0000) refl
     go true e = rw (e, e) refl
     go false e = let h = ltb-false x 0x8000_0000 e in let t : leb 0xffff_ffff_8000_0000 (x + 0xffff_ffff_0000_0000) ≡ true = grind arith in rw (e) (right_of _ _ t)
 
-few_enough : (s : Selectors) (bytes : List ℕ) (d n : ℕ) → eqb (s.modrm / 64) 3 ≡ false → signed_of (displacement_size s) bytes ≡ d → d < 2 ^ 64 → Few d (unwrap_or s.sib s.modrm % 8) n → n ≤ count_of (displacement_size s)
+few_enough : (s : Selectors) (bytes : List ℕ) (d n : ℕ) → eqb (s.modrm / 64) 3 ≡ false → signed_of (displacement_size s) bytes ≡ d → d < 2 ^ 64
+    → Few d (unwrap_or s.sib s.modrm % 8) n → n ≤ count_of (displacement_size s)
 unfolding displacement_size signed_of
 few_enough s bytes d n three is lt few = go (eqb (s.modrm / 64) 1) (eqb (s.modrm / 64) 2) (eqb (unwrap_or s.sib s.modrm % 8) 5) refl refl refl
   where
@@ -131,27 +137,32 @@ low_again low false h = let n = extended-number low false h in omega arith
 
 -- the address of a spelling
 pub record AddressFits (s : Selectors) (m : Memory) (d : ℕ) : Type 0 where
-  pub tail : (g : ℕ) → g < 8 → length (option_to_list (address_of g m.base m.index d).sib) + count_of (displacement_size (address_of g m.base m.index d)) ≤ length (option_to_list s.sib) + count_of (displacement_size s)
+  pub tail : (g : ℕ) → g < 8 → length (option_to_list (address_of g m.base m.index d).sib) + count_of
+      (displacement_size (address_of g m.base m.index d)) ≤ length (option_to_list s.sib) + count_of (displacement_size s)
 
 -- a base of a spelling costs no more in a form
-base_fits : (s : Selectors) (bytes : List ℕ) (t : Bool) (r : Register) (index : Option Index) (d : ℕ) → eqb (s.modrm / 64) 3 ≡ false → signed_of (displacement_size s) bytes ≡ d → d < 2 ^ 64 → low_bits r ≡ unwrap_or s.sib s.modrm % 8
+base_fits : (s : Selectors) (bytes : List ℕ) (t : Bool) (r : Register) (index : Option Index) (d : ℕ) → eqb (s.modrm / 64) 3 ≡ false
+    → signed_of (displacement_size s) bytes ≡ d → d < 2 ^ 64 → low_bits r ≡ unwrap_or s.sib s.modrm % 8
     → cond (needs_sib index (low_bits r)) 1 0 ≤ length (option_to_list s.sib) → AddressFits s (record { from_thread_pointer = t; base = base.Register r; index = index }) d
 base_fits s bytes t r index d three is lt low sib = record {
   tail = λ g h.
       let c = base_costs g r index d h in
-      let f : Few d (unwrap_or s.sib s.modrm % 8) (count_of (displacement_size (address_of g (base.Register r) index d))) = subst (λ (x : ℕ). Few d x (count_of (displacement_size (address_of g (base.Register r) index d)))) low c.few in
+      let f : Few d (unwrap_or s.sib s.modrm % 8) (count_of (displacement_size (address_of g (base.Register r) index d))) =
+      subst (λ (x : ℕ). Few d x (count_of (displacement_size (address_of g (base.Register r) index d)))) low c.few in
       let n = few_enough s bytes d (count_of (displacement_size (address_of g (base.Register r) index d))) three is lt f in
       let m = c.sib in
       omega arith;
 }
 
-fixed_fits : (s : Selectors) (m : Memory) (d k : ℕ) → count_of (displacement_size s) ≡ 4 → length (option_to_list s.sib) ≡ k → ((g : ℕ) → length (option_to_list (address_of g m.base m.index d).sib) ≡ k) → AddressFits s m d
+fixed_fits : (s : Selectors) (m : Memory) (d k : ℕ) → count_of (displacement_size s) ≡ 4 → length (option_to_list s.sib) ≡ k
+    → ((g : ℕ) → length (option_to_list (address_of g m.base m.index d).sib) ≡ k) → AddressFits s m d
 fixed_fits s m d k four sib mine = record {
   tail = λ g h. let a = mine g in let b = size_few (address_of g m.base m.index d) in omega arith;
 }
 
 address_fits : (p : Prefixes) (modrm : ℕ) (sib : Option ℕ) (bytes : List ℕ) (d : ℕ) → eqb (modrm / 64) 3 ≡ false → is_some sib ≡ has_sib modrm
-    → signed_of (displacement_size (record { modrm = modrm; sib = sib })) bytes ≡ d → d < 2 ^ 64 → AddressFits (record { modrm = modrm; sib = sib }) (memory_in p (record { modrm = modrm; sib = sib })) d
+    → signed_of (displacement_size (record { modrm = modrm; sib = sib })) bytes ≡ d → d < 2 ^ 64
+    → AddressFits (record { modrm = modrm; sib = sib }) (memory_in p (record { modrm = modrm; sib = sib })) d
 unfolding memory_in displacement_size
 address_fits p modrm None bytes d three sib is lt = go (eqb (modrm / 64) 0 && eqb (modrm % 8) 5) refl
   where
@@ -166,7 +177,12 @@ address_fits p modrm None bytes d three sib is lt = go (eqb (modrm / 64) 0 && eq
     go true e =
         let parts = and_parts (eqb (modrm / 64) 0) (eqb (modrm % 8) 5) e in
         let zero-is = eqb-true (modrm / 64) 0 parts.0 in
-        rw (e) (fixed_fits (record { modrm = modrm; sib = None }) (record { from_thread_pointer = p.thread_pointer; base = base.NextInstruction; index = None }) d 0 (rw (zero-is, parts.1) refl) refl (λ g. refl))
+        rw (e) (fixed_fits (record { modrm = modrm; sib = None }) (record {
+          from_thread_pointer = p.thread_pointer;
+          base = base.NextInstruction;
+          index =
+              None;
+        }) d 0 (rw (zero-is, parts.1) refl) refl (λ g. refl))
     go false e =
         let low = low_again (modrm % 8) (bits_of p).base (omega arith) in
         rw (e) (base_fits (record { modrm = modrm; sib = None }) bytes p.thread_pointer (extended (modrm % 8) (bits_of p).base) None d three is lt low (rw (low, four) (omega arith)))
@@ -180,10 +196,16 @@ address_fits p modrm (Some sib) bytes d three has is lt = go (eqb (modrm / 64) 0
     go true e =
         let parts = and_parts (eqb (modrm / 64) 0) (eqb (sib % 8) 5) e in
         let zero-is = eqb-true (modrm / 64) 0 parts.0 in
-        rw (e) (fixed_fits (record { modrm = modrm; sib = Some sib }) (record { from_thread_pointer = p.thread_pointer; base = base.Absolute; index = index_of sib (bits_of p).index }) d 1 (rw (zero-is, parts.1) refl) refl (λ g. refl))
+        rw (e) (fixed_fits (record { modrm = modrm; sib = Some sib }) (record {
+          from_thread_pointer = p.thread_pointer;
+          base = base.Absolute;
+          index =
+              index_of sib (bits_of p).index;
+        }) d 1 (rw (zero-is, parts.1) refl) refl (λ g. refl))
     go false e =
         let low = low_again (sib % 8) (bits_of p).base (omega arith) in
-        rw (e) (base_fits (record { modrm = modrm; sib = Some sib }) bytes p.thread_pointer (extended (sib % 8) (bits_of p).base) (index_of sib (bits_of p).index) d three is lt low (at_most (needs_sib (index_of sib (bits_of p).index) (low_bits (extended (sib % 8) (bits_of p).base)))))
+        rw (e) (base_fits (record { modrm = modrm; sib = Some sib }) bytes p.thread_pointer (extended (sib % 8) (bits_of p).base)
+        (index_of sib (bits_of p).index) d three is lt low (at_most (needs_sib (index_of sib (bits_of p).index) (low_bits (extended (sib % 8) (bits_of p).base)))))
 
 pub fs_is : (p : Prefixes) (s : Selectors) → eqb (s.modrm / 64) 3 ≡ false → (memory_in p s).from_thread_pointer ≡ p.thread_pointer
 unfolding memory_in
@@ -193,7 +215,8 @@ fs_is p s three = go s.sib
     go None = refl
     go (Some x) = refl
 
-memory_low : (p : Prefixes) (modrm : ℕ) (sib : Option ℕ) → bits_of p ≡ no_bits → (base_is_high (memory_in p (record { modrm = modrm; sib = sib })).base ≡ false) × (index_is_high (memory_in p (record { modrm = modrm; sib = sib })).index ≡ false)
+memory_low : (p : Prefixes) (modrm : ℕ) (sib : Option ℕ) → bits_of p ≡ no_bits
+    → (base_is_high (memory_in p (record { modrm = modrm; sib = sib })).base ≡ false) × (index_is_high (memory_in p (record { modrm = modrm; sib = sib })).index ≡ false)
 unfolding memory_in
 memory_low p modrm None none = (rw (none) (go (eqb (modrm / 64) 0 && eqb (modrm % 8) 5)), refl)
   where
@@ -211,7 +234,8 @@ memory_low p modrm (Some sib) none = (rw (none) (go (eqb (modrm / 64) 0 && eqb (
     at false = low_extended ((sib / 8) % 8) (omega arith)
 
 -- the operand of a spelling costs no more in a form
-pub operand_fits : (p : Prefixes) (s : Selectors) (rex : Option ℕ) (marks : ℕ) (bytes : List ℕ) (d : ℕ) → (p.thread_pointer ≡ true → 1 ≤ marks) → (rex ≡ None → bits_of p ≡ no_bits) → is_some s.sib ≡ has_sib s.modrm
+pub operand_fits : (p : Prefixes) (s : Selectors) (rex : Option ℕ) (marks : ℕ) (bytes : List ℕ) (d : ℕ) → (p.thread_pointer ≡ true → 1 ≤ marks)
+    → (rex ≡ None → bits_of p ≡ no_bits) → is_some s.sib ≡ has_sib s.modrm
     → signed_of (displacement_size s) bytes ≡ d → d < 2 ^ 64 → Fits rex marks (length (option_to_list s.sib) + count_of (displacement_size s)) (operand_in p s) d
 unfolding selectors_of
 operand_fits p s rex marks bytes d fs none sib is lt = go (eqb (s.modrm / 64) 3) refl
@@ -236,7 +260,8 @@ mark_most : (b : Bool) (marks : ℕ) → (b ≡ true → 1 ≤ marks) → length
 mark_most true marks h = let t = h refl in omega arith
 mark_most false marks h = omega arith
 
-rex_most : (form : Form) (rex : Option ℕ) → (rex ≡ None → is_needed form.low_byte (rex_bits form).wide (rex_bits form).register (rex_bits form).index (rex_bits form).base ≡ false) → length (option_to_list (rex_in form)) ≤ length (option_to_list rex)
+rex_most : (form : Form) (rex : Option ℕ) → (rex ≡ None → is_needed form.low_byte (rex_bits form).wide (rex_bits form).register (rex_bits form).index
+    (rex_bits form).base ≡ false) → length (option_to_list (rex_in form)) ≤ length (option_to_list rex)
 unfolding rex_in
 rex_most form rex h = when_most (is_needed form.low_byte (rex_bits form).wide (rex_bits form).register (rex_bits form).index (rex_bits form).base) (rex_byte (rex_bits form)) rex h
 
@@ -248,7 +273,8 @@ no_mark : (r : Register) → (length (option_to_list (mark_in fields.Bare)) ≡ 
 unfolding mark_in
 no_mark r = (refl, refl)
 
-tail_most : (f : ℕ) (o : Operand) (d : ℕ) → length (selector_bytes (selectors_in (fields.Selected f o) d) d) ≡ 1 + length (option_to_list (selectors_of (f % 8) o d).sib) + count_of (displacement_size (selectors_of (f % 8) o d))
+tail_most : (f : ℕ) (o : Operand) (d : ℕ) → length (selector_bytes (selectors_in (fields.Selected f o) d) d) ≡ 1 + length
+    (option_to_list (selectors_of (f % 8) o d).sib) + count_of (displacement_size (selectors_of (f % 8) o d))
 unfolding selectors_in
 tail_most f o d = length-selectors (Some (selectors_of (f % 8) o d)) (selectors_of (f % 8) o d) d refl
 
@@ -269,7 +295,8 @@ selected_most escaped opcode w low f o size number d rex marks tail fits l wide 
     omega arith
 
 pub bare_most : (escaped : Bool) (opcode : ℕ) (w : Bool) (size : Size) (number d : ℕ) (rex : Option ℕ) → (rex ≡ None → w ≡ false)
-    → length (form_bytes (record { escaped = escaped; opcode = opcode; wide = w; low_byte = false; fields = fields.Bare; size = size; number = number }) d) ≤ length (option_to_list rex) + ((length (option_to_list (when escaped 0x0f)) + 1) + count_of size)
+    → length (form_bytes (record { escaped = escaped; opcode = opcode; wide = w; low_byte = false; fields = fields.Bare; size = size; number = number }) d) ≤
+    length (option_to_list rex) + ((length (option_to_list (when escaped 0x0f)) + 1) + count_of size)
 bare_most escaped opcode w size number d rex wide =
     let form : Form = record { escaped = escaped; opcode = opcode; wide = w; low_byte = false; fields = fields.Bare; size = size; number = number } in
     let all = length-form form d in
@@ -279,7 +306,8 @@ bare_most escaped opcode w size number d rex wide =
     omega arith
 
 pub low_most : (opcode : ℕ) (r : Register) (w : Bool) (size : Size) (number d : ℕ) (rex : Option ℕ) → (rex ≡ None → w ≡ false) → (rex ≡ None → is_high r ≡ false)
-    → length (form_bytes (record { escaped = false; opcode = opcode; wide = w; low_byte = false; fields = fields.Low r; size = size; number = number }) d) ≤ length (option_to_list rex) + (1 + count_of size)
+    → length (form_bytes (record { escaped = false; opcode = opcode; wide = w; low_byte = false; fields = fields.Low r; size = size; number = number }) d) ≤
+    length (option_to_list rex) + (1 + count_of size)
 low_most opcode r w size number d rex wide high =
     let form : Form = record { escaped = false; opcode = opcode; wide = w; low_byte = false; fields = fields.Low r; size = size; number = number } in
     let all = length-form form d in

@@ -95,7 +95,8 @@ low_reaches low w r x false h =
     let t : is_high (extended low false) ≡ false = grind arith in
     rw (t) refl
 
-move_size : (w : Bool) (r x b : Bool) (register : Register) → reaches (record { wide = w; register = r; index = x; base = b }) register ≡ true → is_short (record { wide = w; register = r; index = x; base = b }) (row.Number (numbered.Move register) (cond w size.Eight size.Four)) ≡ true
+move_size : (w : Bool) (r x b : Bool) (register : Register) → reaches (record { wide = w; register = r; index = x; base = b }) register ≡ true
+    → is_short (record { wide = w; register = r; index = x; base = b }) (row.Number (numbered.Move register) (cond w size.Eight size.Four)) ≡ true
 move_size true r x b register h = h
 move_size false r x b register h = h
 
@@ -167,7 +168,8 @@ found test None r e h = absurd cc
 found test (Some x) r e h = let same : x ≡ r = cc in subst (λ (y : Row). test y ≡ true) same h
 
 -- which rows an opcode names, by its length
-pub listed : (rex : Rex) (opcode : List ℕ) (r : Row) → named rex opcode ≡ Some r → ((is_short rex r ≡ true) × (length opcode ≡ 1)) ⊎ (((is_long r ≡ true) × (length opcode ≡ 2)) ⊎ ((r ≡ row.EndBranch) × (length opcode ≡ 4)))
+pub listed : (rex : Rex) (opcode : List ℕ) (r : Row) → named rex opcode ≡ Some r
+    → ((is_short rex r ≡ true) × (length opcode ≡ 1)) ⊎ (((is_long r ≡ true) × (length opcode ≡ 2)) ⊎ ((r ≡ row.EndBranch) × (length opcode ≡ 4)))
 unfolding named
 listed rex [] r e = absurd cc
 listed rex (a ∷ []) r e = inl (found (is_short rex) (row_of rex a) r e (short_row rex a), refl)

@@ -122,7 +122,8 @@ knows escaped opcode w low f o size number d is =
       fs-is = refl;
     }
 
-operated_from : (p : Prefixes) (r : Row) (size : Size) (a : Action) (s : Selectors) (w : Bool) (f : ℕ) (o : Operand) (d number : ℕ) → Knows p s w f o d → action_of r (f % 8) ≡ Some a → allowed a p s.modrm ≡ true
+operated_from : (p : Prefixes) (r : Row) (size : Size) (a : Action) (s : Selectors) (w : Bool) (f : ℕ) (o : Operand) (d number : ℕ) → Knows p s w f o d
+    → action_of r (f % 8) ≡ Some a → allowed a p s.modrm ≡ true
     → IsOperated p r size (s.modrm ∷ (option_to_list s.sib ++ (number_bytes (displacement_size s) d ++ number_bytes size number))) (operand_body a p s size (numbers s d size number))
 operated_from p r size a s w f o d number k action-is allows = record {
   modrm = s.modrm;
@@ -139,14 +140,16 @@ operated_from p r size a s w f o d number k action-is allows = record {
   body-is = refl;
 }
 
-rest_is : (s : Selectors) (d number : ℕ) (size : Size) → selector_bytes (Some s) d ++ number_bytes size number ≡ s.modrm ∷ (option_to_list s.sib ++ (number_bytes (displacement_size s) d ++ number_bytes size number))
+rest_is : (s : Selectors) (d number : ℕ) (size : Size) → selector_bytes (Some s) d ++ number_bytes size number ≡ s.modrm ∷
+    (option_to_list s.sib ++ (number_bytes (displacement_size s) d ++ number_bytes size number))
 rest_is s d number size = ap (λ (t : List ℕ). s.modrm ∷ t) (append_assoc (option_to_list s.sib) (number_bytes (displacement_size s) d) (number_bytes size number))
 
 -- /r
 pub register_built : (escaped : Bool) (opcode : ℕ) (w low : Bool) (f : ℕ) (o : Operand) (d : ℕ) (a : Action) (instr : Instr) → IsOperand o d
     → named (bits w (leb 8 f) (high_index o) (high_base o)) (opcode_bytes (selected escaped opcode w low f o size.Zero 0)) ≡ Some (row.Register a)
     → (has_segment o ≡ true → accesses (row.Register a) ≡ true)
-    → (Knows (prefixes_in (selected escaped opcode w low f o size.Zero 0)) (selectors_of (f % 8) o d) w f o d → allowed a (prefixes_in (selected escaped opcode w low f o size.Zero 0)) (selectors_of (f % 8) o d).modrm ≡ true)
+    → (Knows (prefixes_in (selected escaped opcode w low f o size.Zero 0)) (selectors_of (f % 8) o d) w f o d
+    → allowed a (prefixes_in (selected escaped opcode w low f o size.Zero 0)) (selectors_of (f % 8) o d).modrm ≡ true)
     → (w ≡ true → reads_wide (row.Register a) ≡ true)
     → (low ≡ true → leb 8 f ≡ false → high_base o ≡ false → (p : Prefixes) → p.thread_pointer ≡ has_segment o → p.rex ≡ None → allowed a p (selectors_of (f % 8) o d).modrm ≡ false)
     → ((p : Prefixes) (s : Selectors) → Knows p s w f o d → (operand_body a p s size.Zero (numbers s d size.Zero 0)).instr ≡ instr)

@@ -84,7 +84,8 @@ has_mode d low long = go (eqb d 0) (eqb low 5) (fits_byte d) refl refl refl
 no_register : (mode : ℕ) → mode < 3 → eqb mode 3 ≡ false
 no_register mode h = ne_eqb mode 3 (λ e. absurd (omega arith))
 
-base_selects : (p : Prefixes) (modrm field mode : ℕ) (t : Bool) (r : Register) (d : ℕ) (size : Size) → HasMode mode (low_bits r) d size → modrm / 64 ≡ mode → (modrm / 8) % 8 ≡ field → modrm % 8 ≡ low_bits r
+base_selects : (p : Prefixes) (modrm field mode : ℕ) (t : Bool) (r : Register) (d : ℕ) (size : Size) → HasMode mode (low_bits r) d size → modrm / 64 ≡ mode
+    → (modrm / 8) % 8 ≡ field → modrm % 8 ≡ low_bits r
     → eqb (low_bits r) 4 ≡ false → p.thread_pointer ≡ t → (bits_of p).base ≡ is_high r
     → Selects p (record { modrm = modrm; sib = None }) field (operand.InMemory (record { from_thread_pointer = t; base = base.Register r; index = None })) d
 unfolding memory_in
@@ -117,7 +118,8 @@ sib_low : (index : Option Index) (low : ℕ) → low < 8 → sib_of index low % 
 sib_low None low l = low_digit 0 4 low (omega arith) l
 sib_low (Some index) low l = low_digit (scale_number index.scale) (low_bits index.register) low (omega arith) l
 
-absolute_selects : (p : Prefixes) (modrm sib field : ℕ) (t : Bool) (index : Option Index) (d : ℕ) → modrm / 64 ≡ 0 → (modrm / 8) % 8 ≡ field → modrm % 8 ≡ 4 → sib % 8 ≡ 5 → index_of sib (bits_of p).index ≡ index → p.thread_pointer ≡ t → IsSignedLong d
+absolute_selects : (p : Prefixes) (modrm sib field : ℕ) (t : Bool) (index : Option Index) (d : ℕ) → modrm / 64 ≡ 0 → (modrm / 8) % 8 ≡ field → modrm % 8 ≡ 4
+    → sib % 8 ≡ 5 → index_of sib (bits_of p).index ≡ index → p.thread_pointer ≡ t → IsSignedLong d
     → Selects p (record { modrm = modrm; sib = Some sib }) field (operand.InMemory (record { from_thread_pointer = t; base = base.Absolute; index = index })) d
 unfolding displacement_size memory_in
 absolute_selects p modrm sib field t index d high middle low sib-is index-is fs long = record {
@@ -130,7 +132,8 @@ absolute_selects p modrm sib field t index d high middle low sib-is index-is fs 
   base-read = λ h more. absurd cc;
 }
 
-sib_selects : (p : Prefixes) (modrm sib field mode : ℕ) (t : Bool) (r : Register) (index : Option Index) (d : ℕ) (size : Size) → HasMode mode (low_bits r) d size → modrm / 64 ≡ mode → (modrm / 8) % 8 ≡ field → modrm % 8 ≡ 4
+sib_selects : (p : Prefixes) (modrm sib field mode : ℕ) (t : Bool) (r : Register) (index : Option Index) (d : ℕ) (size : Size)
+    → HasMode mode (low_bits r) d size → modrm / 64 ≡ mode → (modrm / 8) % 8 ≡ field → modrm % 8 ≡ 4
     → sib % 8 ≡ low_bits r → index_of sib (bits_of p).index ≡ index → p.thread_pointer ≡ t → (bits_of p).base ≡ is_high r
     → Selects p (record { modrm = modrm; sib = Some sib }) field (operand.InMemory (record { from_thread_pointer = t; base = base.Register r; index = index })) d
 unfolding memory_in
@@ -148,25 +151,29 @@ sib_selects p modrm sib field mode t r index d size has high middle low sib-is i
 
 -- ---- any operand
 
-memory_selects : (p : Prefixes) (field : ℕ) (t : Bool) (b : Base) (index : Option Index) (d : ℕ) → field < 8 → IsAddress b index → IsSignedLong d → p.thread_pointer ≡ t → (bits_of p).base ≡ base_is_high b → (bits_of p).index ≡ index_is_high index
+memory_selects : (p : Prefixes) (field : ℕ) (t : Bool) (b : Base) (index : Option Index) (d : ℕ) → field < 8 → IsAddress b index → IsSignedLong d
+    → p.thread_pointer ≡ t → (bits_of p).base ≡ base_is_high b → (bits_of p).index ≡ index_is_high index
     → Selects p (address_of field b index d) field (operand.InMemory (record { from_thread_pointer = t; base = b; index = index })) d
 memory_selects p field t base.NextInstruction index d f is long fs eb ex =
     rw (is) (rip_selects p (packed 0 field 5) field t d (high_digit 0 field 5 f (omega arith)) (middle_digit 0 field 5 f (omega arith)) (low_digit 0 field 5 f (omega arith)) fs long)
 memory_selects p field t base.Absolute index d f is long fs eb ex =
-    absolute_selects p (packed 0 field 4) (sib_of index 5) field t index d (high_digit 0 field 4 f (omega arith)) (middle_digit 0 field 4 f (omega arith)) (low_digit 0 field 4 f (omega arith)) (sib_low index 5 (omega arith)) (index_again _ index 5 (omega arith) is ex) fs long
+    absolute_selects p (packed 0 field 4) (sib_of index 5) field t index d (high_digit 0 field 4 f (omega arith)) (middle_digit 0 field 4 f (omega arith))
+    (low_digit 0 field 4 f (omega arith)) (sib_low index 5 (omega arith)) (index_again _ index 5 (omega arith) is ex) fs long
 memory_selects p field t (base.Register r) index d f is long fs eb ex =
     let has = has_mode d (low_bits r) long in
     let l : low_bits r < 8 = omega arith in
     plain_or_sib index is ex (eqb (low_bits r) 4) refl has.0 has.1 l
   where
     with_sib : (index : Option Index) → IfSome index IsIndex → (bits_of p).index ≡ index_is_high index → (size : Size) → HasMode (mode_of d (low_bits r)) (low_bits r) d size → low_bits r < 8
-        → Selects p (record { modrm = packed (mode_of d (low_bits r)) field 4; sib = Some (sib_of index (low_bits r)) }) field (operand.InMemory (record { from_thread_pointer = t; base = base.Register r; index = index })) d
+        → Selects p (record { modrm = packed (mode_of d (low_bits r)) field 4; sib = Some (sib_of index (low_bits r)) }) field
+        (operand.InMemory (record { from_thread_pointer = t; base = base.Register r; index = index })) d
     with_sib index is ex size has l =
         sib_selects p (packed (mode_of d (low_bits r)) field 4) (sib_of index (low_bits r)) field (mode_of d (low_bits r)) t r index d size has
         (high_digit (mode_of d (low_bits r)) field 4 f (omega arith)) (middle_digit (mode_of d (low_bits r)) field 4 f (omega arith)) (low_digit (mode_of d (low_bits r)) field 4 f (omega arith))
         (sib_low index (low_bits r) l) (index_again _ index (low_bits r) l is ex) fs eb
 
-    plain_or_sib : (index : Option Index) → IfSome index IsIndex → (bits_of p).index ≡ index_is_high index → (four : Bool) → eqb (low_bits r) 4 ≡ four → (size : Size) → HasMode (mode_of d (low_bits r)) (low_bits r) d size → low_bits r < 8
+    plain_or_sib : (index : Option Index) → IfSome index IsIndex → (bits_of p).index ≡ index_is_high index → (four : Bool) → eqb (low_bits r) 4 ≡ four
+        → (size : Size) → HasMode (mode_of d (low_bits r)) (low_bits r) d size → low_bits r < 8
         → Selects p (address_of field (base.Register r) index d) field (operand.InMemory (record { from_thread_pointer = t; base = base.Register r; index = index })) d
     plain_or_sib (Some index) is ex four e size has l = with_sib (Some index) is ex size has l
     plain_or_sib None is ex true e size has l = rw (e) (with_sib None is ex size has l)
@@ -178,5 +185,6 @@ pub selects : (p : Prefixes) (field : ℕ) (o : Operand) (d : ℕ) → field < 8
     → Selects p (selectors_of field o d) field o d
 unfolding selectors_of
 selects p field (operand.Register r) d f is fs eb ex =
-    register_selects p (packed 3 field (low_bits r)) field r d (high_digit 3 field (low_bits r) f (omega arith)) (middle_digit 3 field (low_bits r) f (omega arith)) (low_digit 3 field (low_bits r) f (omega arith)) eb is
+    register_selects p (packed 3 field (low_bits r)) field r d (high_digit 3 field (low_bits r) f (omega arith))
+    (middle_digit 3 field (low_bits r) f (omega arith)) (low_digit 3 field (low_bits r) f (omega arith)) eb is
 selects p field (operand.InMemory m) d f is fs eb ex = memory_selects p field m.from_thread_pointer m.base m.index d f is.0 is.1 fs eb ex

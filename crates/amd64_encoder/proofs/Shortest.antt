@@ -41,7 +41,8 @@ pub record BeatsIn (form : Form) (d : ℕ) (r : Row) (size : ℕ) : Type 0 where
   pub most : length (form_bytes form d) ≤ size
   pub line : size ≤ length (form_bytes form d) → (mine : Row) → named (rex_bits form) (opcode_bytes form) ≡ Some mine → line_of mine ≤ line_of r
 
-pub beats_row : (form : Form) (d : ℕ) (r mine : Row) (size : ℕ) → length (form_bytes form d) ≤ size → named (rex_bits form) (opcode_bytes form) ≡ Some mine → line_of mine ≤ line_of r → BeatsIn form d r size
+pub beats_row : (form : Form) (d : ℕ) (r mine : Row) (size : ℕ) → length (form_bytes form d) ≤ size → named (rex_bits form) (opcode_bytes form) ≡ Some mine
+    → line_of mine ≤ line_of r → BeatsIn form d r size
 beats_row form d r mine size most names le = record {
   most = most;
   line = λ h other e. let same : mine ≡ other = cc in subst (λ (x : Row). line_of x ≤ line_of r) same le;
@@ -99,23 +100,30 @@ less escaped opcode w low f o size number d rex marks tail r total fits l wide h
 -- ---- two operands
 
 -- a register into an operand, and an operand into a register: of two registers the former
-into_beats : (base : ℕ) (into from : Action) (width : Width) (r : Register) (o : Operand) (d : ℕ) (rex : Option ℕ) (marks tail total : ℕ) → Fits rex marks tail o d → (rex ≡ None → is_high r ≡ false) → (rex ≡ None → is_quad width ≡ false)
+into_beats : (base : ℕ) (into from : Action) (width : Width) (r : Register) (o : Operand) (d : ℕ) (rex : Option ℕ) (marks tail total : ℕ)
+    → Fits rex marks tail o d → (rex ≡ None → is_high r ≡ false) → (rex ≡ None → is_quad width ≡ false)
     → ((b : Rex) → named b ((base + 1) ∷ []) ≡ Some (row.Register into))
     → marks + (length (option_to_list rex) + (1 + ((1 + tail) + 0))) ≤ total
     → BeatsIn (two_operands base width (into_operand o r)) d (row.Register into) total
 into_beats base into from width r (operand.Register to) d rex marks tail total fits high wide names room =
-    same false (base + 1) (is_quad width) false (number_of r) (operand.Register to) size.Zero 0 d rex marks tail (row.Register into) (row.Register into) total fits (λ n. refl) wide high (names _) (omega arith) room
+    same false (base + 1) (is_quad width) false (number_of r) (operand.Register to) size.Zero 0 d rex marks tail (row.Register into)
+    (row.Register into) total fits (λ n. refl) wide high (names _) (omega arith) room
 into_beats base into from width r (operand.InMemory m) d rex marks tail total fits high wide names room =
-    same false (base + 1) (is_quad width) false (number_of r) (operand.InMemory m) size.Zero 0 d rex marks tail (row.Register into) (row.Register into) total fits (λ n. refl) wide high (names _) (omega arith) room
+    same false (base + 1) (is_quad width) false (number_of r) (operand.InMemory m) size.Zero 0 d rex marks tail (row.Register into)
+    (row.Register into) total fits (λ n. refl) wide high (names _) (omega arith) room
 
-from_beats : (base : ℕ) (into from : Action) (width : Width) (r : Register) (o : Operand) (d : ℕ) (rex : Option ℕ) (marks tail total : ℕ) → Fits rex marks tail o d → (rex ≡ None → is_high r ≡ false) → (rex ≡ None → is_quad width ≡ false)
-    → ((b : Rex) → named b ((base + 1) ∷ []) ≡ Some (row.Register into)) → ((b : Rex) → named b ((base + 3) ∷ []) ≡ Some (row.Register from)) → line_of (row.Register into) ≤ line_of (row.Register from)
+from_beats : (base : ℕ) (into from : Action) (width : Width) (r : Register) (o : Operand) (d : ℕ) (rex : Option ℕ) (marks tail total : ℕ)
+    → Fits rex marks tail o d → (rex ≡ None → is_high r ≡ false) → (rex ≡ None → is_quad width ≡ false)
+    → ((b : Rex) → named b ((base + 1) ∷ []) ≡ Some (row.Register into)) → ((b : Rex) → named b ((base + 3) ∷ []) ≡ Some (row.Register from))
+    → line_of (row.Register into) ≤ line_of (row.Register from)
     → marks + (length (option_to_list rex) + (1 + ((1 + tail) + 0))) ≤ total
     → BeatsIn (two_operands base width (IntoRegister r o)) d (row.Register from) total
 from_beats base into from width r (operand.Register q) d rex marks tail total fits high wide names other le room =
-    same false (base + 1) (is_quad width) false (number_of q) (operand.Register r) size.Zero 0 d rex marks tail (row.Register from) (row.Register into) total (register_fits rex marks tail r d high) (λ n. refl) wide fits.base (names _) le room
+    same false (base + 1) (is_quad width) false (number_of q) (operand.Register r) size.Zero 0 d rex marks tail (row.Register from) (row.Register into) total
+    (register_fits rex marks tail r d high) (λ n. refl) wide fits.base (names _) le room
 from_beats base into from width r (operand.InMemory m) d rex marks tail total fits high wide names other le room =
-    same false (base + 3) (is_quad width) false (number_of r) (operand.InMemory m) size.Zero 0 d rex marks tail (row.Register from) (row.Register from) total fits (λ n. refl) wide high (other _) (omega arith) room
+    same false (base + 3) (is_quad width) false (number_of r) (operand.InMemory m) size.Zero 0 d rex marks tail (row.Register from)
+    (row.Register from) total fits (λ n. refl) wide high (other _) (omega arith) room
 
 -- two operands are a register and an operand
 into-lt : (o : Operand) (r : Register) (width : Width) (d : ℕ) → IsOperation (operation.Move width (into_operand o r)) d 0 → d < 2 ^ 64
@@ -131,7 +139,8 @@ unfolding form_of
 move_form (operand.Register to) r width = refl
 move_form (operand.InMemory m) r width = refl
 
-compute_form : (o : Operand) (r : Register) (a : Arithmetic) (width : Width) → form_of (operation.Compute a width (into_operand o r)) 0 ≡ two_operands (8 * arithmetic_number a) width (into_operand o r)
+compute_form : (o : Operand) (r : Register) (a : Arithmetic) (width : Width)
+    → form_of (operation.Compute a width (into_operand o r)) 0 ≡ two_operands (8 * arithmetic_number a) width (into_operand o r)
 unfolding form_of
 compute_form (operand.Register to) r a width = refl
 compute_form (operand.InMemory m) r a width = refl
@@ -193,26 +202,37 @@ pub register_beats : (a : Action) (p : Prefixes) (s : Selectors) (rex : Option �
 unfolding form_of operation_of named row_of fixed_row_of escaped_row_of line_of allowed
 register_beats action.StoreByte p s rex marks bytes d total h ok is room listed =
     let three = no_register action.StoreByte p s.modrm (λ low. refl) ok in
-    let fits : Fits rex marks (tail_of s) (operand.InMemory (memory_in p s)) d = subst (λ (o : Operand). Fits rex marks (tail_of s) o d) (in_memory p s three) (fits_of p s rex marks bytes d h (long-lt d is.0.1)) in
+    let fits : Fits rex marks (tail_of s) (operand.InMemory (memory_in p s)) d =
+    subst (λ (o : Operand). Fits rex marks (tail_of s) o d) (in_memory p s three) (fits_of p s rex marks bytes d h (long-lt d is.0.1)) in
     let allows : byte_register p ((s.modrm / 8) % 8) ≡ true = rw (three) at ok in
-    same false 0x88 false (leb 4 (number_of (register_in p s))) (number_of (register_in p s)) (operand.InMemory (memory_in p s)) size.Zero 0 d rex marks (tail_of s) (row.Register action.StoreByte) (row.Register action.StoreByte) total fits
-    (λ n. byte_low p (register_in p s) ((s.modrm / 8) % 8) (let z = h.around.none n in let t = extended-number ((s.modrm / 8) % 8) false (omega arith) in rw (z) (omega arith)) (h.around.no_rex n) allows)
+    same false 0x88 false (leb 4 (number_of (register_in p s))) (number_of (register_in p s)) (operand.InMemory (memory_in p s)) size.Zero 0 d rex marks
+    (tail_of s) (row.Register action.StoreByte) (row.Register action.StoreByte) total fits
+    (λ n. byte_low p (register_in p s) ((s.modrm / 8) % 8) (let z = h.around.none n in let t = extended-number ((s.modrm / 8) % 8) false (omega arith) in
+    rw (z) (omega arith)) (h.around.no_rex n) allows)
     (λ n. refl) (high_of p s rex marks h.around) refl (omega arith) room
 register_beats action.Store p s rex marks bytes d total h ok is room listed =
     rw (move_form (operand_in p s) (register_in p s) (width_of p))
-    (into_beats 0x88 action.Store action.Load (width_of p) (register_in p s) (operand_in p s) d rex marks (tail_of s) total (fits_of p s rex marks bytes d h (into-lt (operand_in p s) (register_in p s) (width_of p) d is)) (high_of p s rex marks h.around) (wide_of p rex marks h.around) (λ b. refl) room)
+    (into_beats 0x88 action.Store action.Load (width_of p) (register_in p s) (operand_in p s) d rex marks (tail_of s) total
+    (fits_of p s rex marks bytes d h (into-lt (operand_in p s) (register_in p s) (width_of p) d is)) (high_of p s rex marks h.around) (wide_of p rex marks h.around) (λ b. refl) room)
 register_beats action.Load p s rex marks bytes d total h ok is room listed =
-    from_beats 0x88 action.Store action.Load (width_of p) (register_in p s) (operand_in p s) d rex marks (tail_of s) total (fits_of p s rex marks bytes d h (operand-lt (operand_in p s) d is.0)) (high_of p s rex marks h.around) (wide_of p rex marks h.around) (λ b. refl) (λ b. refl) (omega arith) room
+    from_beats 0x88 action.Store action.Load (width_of p) (register_in p s) (operand_in p s) d rex marks (tail_of s) total
+    (fits_of p s rex marks bytes d h (operand-lt (operand_in p s) d is.0)) (high_of p s rex marks h.around) (wide_of p rex marks h.around) (λ b. refl) (λ b. refl) (omega arith) room
 register_beats (action.ComputeInto a) p s rex marks bytes d total h ok is room listed =
     rw (compute_form (operand_in p s) (register_in p s) a (width_of p))
-    (into_beats (8 * arithmetic_number a) (action.ComputeInto a) (action.ComputeFrom a) (width_of p) (register_in p s) (operand_in p s) d rex marks (tail_of s) total (fits_of p s rex marks bytes d h (compute_into-lt (operand_in p s) (register_in p s) a (width_of p) d is)) (high_of p s rex marks h.around) (wide_of p rex marks h.around) (λ b. into_row b a) room)
+    (into_beats (8 * arithmetic_number a) (action.ComputeInto a) (action.ComputeFrom a) (width_of p) (register_in p s) (operand_in p s) d rex marks
+    (tail_of s) total (fits_of p s rex marks bytes d h (compute_into-lt (operand_in p s) (register_in p s) a (width_of p) d is))
+    (high_of p s rex marks h.around) (wide_of p rex marks h.around) (λ b. into_row b a) room)
 register_beats (action.ComputeFrom a) p s rex marks bytes d total h ok is room listed =
-    from_beats (8 * arithmetic_number a) (action.ComputeInto a) (action.ComputeFrom a) (width_of p) (register_in p s) (operand_in p s) d rex marks (tail_of s) total (fits_of p s rex marks bytes d h (operand-lt (operand_in p s) d is.0)) (high_of p s rex marks h.around) (wide_of p rex marks h.around) (λ b. into_row b a) (λ b. from_row b a) (omega arith) room
+    from_beats (8 * arithmetic_number a) (action.ComputeInto a) (action.ComputeFrom a) (width_of p) (register_in p s) (operand_in p s) d rex marks
+    (tail_of s) total (fits_of p s rex marks bytes d h (operand-lt (operand_in p s) d is.0)) (high_of p s rex marks h.around)
+    (wide_of p rex marks h.around) (λ b. into_row b a) (λ b. from_row b a) (omega arith) room
 register_beats action.ExtendByte p s rex marks bytes d total h ok is room listed =
-    same true 0xb6 (is_quad (width_of p)) (needs_rex (operand_in p s)) (number_of (register_in p s)) (operand_in p s) size.Zero 0 d rex marks (tail_of s) (row.Register action.ExtendByte) (row.Register action.ExtendByte) total (fits_of p s rex marks bytes d h (operand-lt (operand_in p s) d is.0))
+    same true 0xb6 (is_quad (width_of p)) (needs_rex (operand_in p s)) (number_of (register_in p s)) (operand_in p s) size.Zero 0 d rex marks (tail_of s)
+    (row.Register action.ExtendByte) (row.Register action.ExtendByte) total (fits_of p s rex marks bytes d h (operand-lt (operand_in p s) d is.0))
     (extend_low p s rex marks h.around ok) (wide_of p rex marks h.around) (high_of p s rex marks h.around) refl (omega arith) room
 register_beats action.ExtendLong p s rex marks bytes d total h ok is room listed =
-    same false 0x63 true false (number_of (register_in p s)) (operand_in p s) size.Zero 0 d rex marks (tail_of s) (row.Register action.ExtendLong) (row.Register action.ExtendLong) total (fits_of p s rex marks bytes d h (operand-lt (operand_in p s) d is.0))
+    same false 0x63 true false (number_of (register_in p s)) (operand_in p s) size.Zero 0 d rex marks (tail_of s) (row.Register action.ExtendLong)
+    (row.Register action.ExtendLong) total (fits_of p s rex marks bytes d h (operand-lt (operand_in p s) d is.0))
     (λ n. refl) (λ n. no_wide listed n) (high_of p s rex marks h.around) refl (omega arith) room
   where
     no_wide : (is_short (bits_of p) (row.Register action.ExtendLong) ≡ true) ⊎ (is_long (row.Register action.ExtendLong) ≡ true) → rex ≡ None → ◌≡◌ {A = Bool} true false
@@ -220,14 +240,18 @@ register_beats action.ExtendLong p s rex marks bytes d total h ok is room listed
     no_wide (inr e) n = absurd cc
 register_beats action.LoadAddress p s rex marks bytes d total h ok is room listed =
     let three = no_register action.LoadAddress p s.modrm (λ low. refl) ok in
-    let fits : Fits rex marks (tail_of s) (operand.InMemory (memory_in p s)) d = subst (λ (o : Operand). Fits rex marks (tail_of s) o d) (in_memory p s three) (fits_of p s rex marks bytes d h (long-lt d is.0.1)) in
-    same false 0x8d (is_quad (width_of p)) false (number_of (register_in p s)) (operand.InMemory (memory_in p s)) size.Zero 0 d rex marks (tail_of s) (row.Register action.LoadAddress) (row.Register action.LoadAddress) total fits
+    let fits : Fits rex marks (tail_of s) (operand.InMemory (memory_in p s)) d =
+    subst (λ (o : Operand). Fits rex marks (tail_of s) o d) (in_memory p s three) (fits_of p s rex marks bytes d h (long-lt d is.0.1)) in
+    same false 0x8d (is_quad (width_of p)) false (number_of (register_in p s)) (operand.InMemory (memory_in p s)) size.Zero 0 d rex marks (tail_of s)
+    (row.Register action.LoadAddress) (row.Register action.LoadAddress) total fits
     (λ n. refl) (wide_of p rex marks h.around) (high_of p s rex marks h.around) refl (omega arith) room
 register_beats action.TestWith p s rex marks bytes d total h ok is room listed =
-    same false 0x85 (is_quad (width_of p)) false (number_of (register_in p s)) (operand_in p s) size.Zero 0 d rex marks (tail_of s) (row.Register action.TestWith) (row.Register action.TestWith) total (fits_of p s rex marks bytes d h (operand-lt (operand_in p s) d is.0))
+    same false 0x85 (is_quad (width_of p)) false (number_of (register_in p s)) (operand_in p s) size.Zero 0 d rex marks (tail_of s)
+    (row.Register action.TestWith) (row.Register action.TestWith) total (fits_of p s rex marks bytes d h (operand-lt (operand_in p s) d is.0))
     (λ n. refl) (wide_of p rex marks h.around) (high_of p s rex marks h.around) refl (omega arith) room
 register_beats action.MultiplyBy p s rex marks bytes d total h ok is room listed =
-    same true 0xaf (is_quad (width_of p)) false (number_of (register_in p s)) (operand_in p s) size.Zero 0 d rex marks (tail_of s) (row.Register action.MultiplyBy) (row.Register action.MultiplyBy) total (fits_of p s rex marks bytes d h (operand-lt (operand_in p s) d is.0))
+    same true 0xaf (is_quad (width_of p)) false (number_of (register_in p s)) (operand_in p s) size.Zero 0 d rex marks (tail_of s)
+    (row.Register action.MultiplyBy) (row.Register action.MultiplyBy) total (fits_of p s rex marks bytes d h (operand-lt (operand_in p s) d is.0))
     (λ n. refl) (wide_of p rex marks h.around) (high_of p s rex marks h.around) refl (omega arith) room
 register_beats action.MoveImmediate p s rex marks bytes d total h ok is room (inl e) = absurd cc
 register_beats action.MoveImmediate p s rex marks bytes d total h ok is room (inr e) = absurd cc

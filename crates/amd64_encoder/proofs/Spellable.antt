@@ -1,5 +1,6 @@
 -- What is spelled by bytes is spellable, row by row.
-use Rattle.std.proofs.Common.{◌≡◌, ℕ, zero, suc, ◌+◌, ◌/◌, ◌%◌, ◌^◌, ◌<◌, ◌≤◌, Bool, true, false, cond, eqb, ltb, List, [], ◌∷◌, ◌++◌, length, Option, Some, None, refl, sym, ap, subst, ◌∙◌, arith, inl, inr}
+use Rattle.std.proofs.Common.{◌≡◌, ℕ, zero, suc, ◌+◌, ◌/◌, ◌%◌, ◌^◌, ◌<◌, ◌≤◌, Bool, true, false, cond, eqb, ltb, List, [], ◌∷◌, ◌++◌, length, Option, Some, None, refl, sym, ap, subst, ◌∙◌, arith}
+use Rattle.std.proofs.Common.{inl, inr}
 use Rattle.std.specs.Prelude.{not, ◌&&◌, ◌||◌, slice_index}
 use Rattle.std.specs.Option.{option_to_list}
 use Rattle.std.proofs.lemmas.Bool.{eqb-true, ltb-true, ltb-false, and_parts}
@@ -164,10 +165,12 @@ zero_there : (s : Selectors) (bytes : List ℕ) → s.modrm / 64 ≡ 3 → signe
 unfolding displacement_size signed_of
 zero_there s bytes e = rw (e) refl
 
-pub operand_is : (p : Prefixes) (s : Selectors) (bytes : List ℕ) → length bytes ≡ count_of (displacement_size s) → small bytes ≡ true → IsOperand (operand_in p s) (signed_of (displacement_size s) bytes)
+pub operand_is : (p : Prefixes) (s : Selectors) (bytes : List ℕ) → length bytes ≡ count_of (displacement_size s) → small bytes ≡ true
+    → IsOperand (operand_in p s) (signed_of (displacement_size s) bytes)
 operand_is p s bytes len h = go (eqb (s.modrm / 64) 3) refl
   where
-    go : (b : Bool) → eqb (s.modrm / 64) 3 ≡ b → IsOperand (cond b (operand.Register (extended (s.modrm % 8) (bits_of p).base)) (operand.InMemory (memory_in p s))) (signed_of (displacement_size s) bytes)
+    go : (b : Bool) → eqb (s.modrm / 64) 3 ≡ b → IsOperand (cond b (operand.Register (extended (s.modrm % 8) (bits_of p).base))
+        (operand.InMemory (memory_in p s))) (signed_of (displacement_size s) bytes)
     go true e = zero_there s bytes (eqb-true (s.modrm / 64) 3 e)
     go false e = (address_is p s.modrm s.sib, signed_is (displacement_size s) bytes (size_few s) len h)
 
@@ -201,7 +204,8 @@ named_is p s h = go (eqb (s.modrm / 64) 3) refl
     go true e = tt
     go false e = fs_is p s e ∙ h
 
-register_is : (a : Action) (p : Prefixes) (s : Selectors) (d few : ℕ) → IsOperand (operand_in p s) d → allowed a p s.modrm ≡ true → takes (row.Register a) p ≡ true → Listed (bits_of p) (row.Register a) few
+register_is : (a : Action) (p : Prefixes) (s : Selectors) (d few : ℕ) → IsOperand (operand_in p s) d → allowed a p s.modrm ≡ true
+    → takes (row.Register a) p ≡ true → Listed (bits_of p) (row.Register a) few
     → IsOperation (operation_of a p s 0) d (cond (takes_immediate a) 0 0)
 unfolding operation_of takes
 register_is action.StoreByte p s d few h ok fits way = (memory_of p s d (no_register action.StoreByte p s.modrm (λ low. refl) ok) h, refl)
@@ -246,7 +250,8 @@ unnamed_nop true b e = absurd cc
 unnamed_nop false b e = refl
 
 -- ModRM completes the opcode
-group_is : (g : Group) (size : Size) (a : Action) (p : Prefixes) (s : Selectors) (digit d few : ℕ) (bytes : List ℕ) → IsOperand (operand_in p s) d → group_action g digit ≡ Some a → takes (row.Group g size) p ≡ true → Listed (bits_of p) (row.Group g size) few
+group_is : (g : Group) (size : Size) (a : Action) (p : Prefixes) (s : Selectors) (digit d few : ℕ) (bytes : List ℕ) → IsOperand (operand_in p s) d
+    → group_action g digit ≡ Some a → takes (row.Group g size) p ≡ true → Listed (bits_of p) (row.Group g size) few
     → length bytes ≡ count_of size → small bytes ≡ true → IsOperation (operation_of a p s (signed_of size bytes % 256)) d (cond (takes_immediate a) (signed_of size bytes) 0)
 unfolding operation_of takes group_action
 group_is group.Move size.Zero a p s digit d few bytes h act fits (inl e) len ok = absurd (let t = e.0 in cc)
@@ -255,7 +260,9 @@ group_is group.Move size.Zero a p s digit d few bytes h act fits (inr (inr e)) l
 group_is group.Move size.One a p s digit d few bytes h act fits (inl e) len ok = absurd (let t = e.0 in cc)
 group_is group.Move size.One a p s digit d few bytes h act fits (inr (inl e)) len ok = absurd (let t = e.0 in cc)
 group_is group.Move size.One a p s digit d few bytes h act fits (inr (inr e)) len ok = absurd (let t = e.0 in cc)
-group_is group.Move size.Four a p s digit d few bytes h act fits (inl e) len ok = subst (λ (x : Action). IsOperation (operation_of x p s (signed_of size.Four bytes % 256)) d (cond (takes_immediate x) (signed_of size.Four bytes) 0)) (some_is _ _ _ act) (moved_is (operand_in p s) (width_of p) d (signed_of size.Four bytes) h (signed_is size.Four bytes (omega arith) len ok))
+group_is group.Move size.Four a p s digit d few bytes h act fits (inl e) len ok =
+    subst (λ (x : Action). IsOperation (operation_of x p s (signed_of size.Four bytes % 256)) d (cond (takes_immediate x) (signed_of size.Four bytes) 0))
+    (some_is _ _ _ act) (moved_is (operand_in p s) (width_of p) d (signed_of size.Four bytes) h (signed_is size.Four bytes (omega arith) len ok))
 group_is group.Move size.Four a p s digit d few bytes h act fits (inr (inl e)) len ok = absurd (let t = e.0 in cc)
 group_is group.Move size.Four a p s digit d few bytes h act fits (inr (inr e)) len ok = absurd (let t = e.0 in cc)
 group_is group.Move size.Eight a p s digit d few bytes h act fits (inl e) len ok = absurd (let t = e.0 in cc)
@@ -264,10 +271,14 @@ group_is group.Move size.Eight a p s digit d few bytes h act fits (inr (inr e)) 
 group_is group.Arithmetic size.Zero a p s digit d few bytes h act fits (inl e) len ok = absurd (let t = e.0 in cc)
 group_is group.Arithmetic size.Zero a p s digit d few bytes h act fits (inr (inl e)) len ok = absurd (let t = e.0 in cc)
 group_is group.Arithmetic size.Zero a p s digit d few bytes h act fits (inr (inr e)) len ok = absurd (let t = e.0 in cc)
-group_is group.Arithmetic size.One a p s digit d few bytes h act fits (inl e) len ok = let x = mapped_is action.ComputeImmediate _ _ act in subst (λ (x : Action). IsOperation (operation_of x p s (signed_of size.One bytes % 256)) d (cond (takes_immediate x) (signed_of size.One bytes) 0)) (x.1) ((h, signed_is size.One bytes (omega arith) len ok))
+group_is group.Arithmetic size.One a p s digit d few bytes h act fits (inl e) len ok = let x = mapped_is action.ComputeImmediate _ _ act in
+    subst (λ (x : Action). IsOperation (operation_of x p s (signed_of size.One bytes % 256)) d (cond (takes_immediate x) (signed_of size.One bytes) 0)) (x.1)
+    ((h, signed_is size.One bytes (omega arith) len ok))
 group_is group.Arithmetic size.One a p s digit d few bytes h act fits (inr (inl e)) len ok = absurd (let t = e.0 in cc)
 group_is group.Arithmetic size.One a p s digit d few bytes h act fits (inr (inr e)) len ok = absurd (let t = e.0 in cc)
-group_is group.Arithmetic size.Four a p s digit d few bytes h act fits (inl e) len ok = let x = mapped_is action.ComputeImmediate _ _ act in subst (λ (x : Action). IsOperation (operation_of x p s (signed_of size.Four bytes % 256)) d (cond (takes_immediate x) (signed_of size.Four bytes) 0)) (x.1) ((h, signed_is size.Four bytes (omega arith) len ok))
+group_is group.Arithmetic size.Four a p s digit d few bytes h act fits (inl e) len ok = let x = mapped_is action.ComputeImmediate _ _ act in
+    subst (λ (x : Action). IsOperation (operation_of x p s (signed_of size.Four bytes % 256)) d (cond (takes_immediate x) (signed_of size.Four bytes) 0)) (x.1)
+    ((h, signed_is size.Four bytes (omega arith) len ok))
 group_is group.Arithmetic size.Four a p s digit d few bytes h act fits (inr (inl e)) len ok = absurd (let t = e.0 in cc)
 group_is group.Arithmetic size.Four a p s digit d few bytes h act fits (inr (inr e)) len ok = absurd (let t = e.0 in cc)
 group_is group.Arithmetic size.Eight a p s digit d few bytes h act fits (inl e) len ok = absurd (let t = e.0 in cc)
@@ -276,7 +287,8 @@ group_is group.Arithmetic size.Eight a p s digit d few bytes h act fits (inr (in
 group_is group.Shift size.Zero a p s digit d few bytes h act fits (inl e) len ok = absurd (let t = e.0 in cc)
 group_is group.Shift size.Zero a p s digit d few bytes h act fits (inr (inl e)) len ok = absurd (let t = e.0 in cc)
 group_is group.Shift size.Zero a p s digit d few bytes h act fits (inr (inr e)) len ok = absurd (let t = e.0 in cc)
-group_is group.Shift size.One a p s digit d few bytes h act fits (inl e) len ok = let x = mapped_is action.ShiftBy _ _ act in subst (λ (x : Action). IsOperation (operation_of x p s (signed_of size.One bytes % 256)) d (cond (takes_immediate x) (signed_of size.One bytes) 0)) (x.1) ((h, refl, omega arith))
+group_is group.Shift size.One a p s digit d few bytes h act fits (inl e) len ok = let x = mapped_is action.ShiftBy _ _ act in
+    subst (λ (x : Action). IsOperation (operation_of x p s (signed_of size.One bytes % 256)) d (cond (takes_immediate x) (signed_of size.One bytes) 0)) (x.1) ((h, refl, omega arith))
 group_is group.Shift size.One a p s digit d few bytes h act fits (inr (inl e)) len ok = absurd (let t = e.0 in cc)
 group_is group.Shift size.One a p s digit d few bytes h act fits (inr (inr e)) len ok = absurd (let t = e.0 in cc)
 group_is group.Shift size.Four a p s digit d few bytes h act fits (inl e) len ok = absurd (let t = e.0 in cc)
@@ -285,7 +297,8 @@ group_is group.Shift size.Four a p s digit d few bytes h act fits (inr (inr e)) 
 group_is group.Shift size.Eight a p s digit d few bytes h act fits (inl e) len ok = absurd (let t = e.0 in cc)
 group_is group.Shift size.Eight a p s digit d few bytes h act fits (inr (inl e)) len ok = absurd (let t = e.0 in cc)
 group_is group.Shift size.Eight a p s digit d few bytes h act fits (inr (inr e)) len ok = absurd (let t = e.0 in cc)
-group_is group.ShiftOnce size.Zero a p s digit d few bytes h act fits (inl e) len ok = let x = mapped_is action.ShiftOnce _ _ act in subst (λ (x : Action). IsOperation (operation_of x p s (signed_of size.Zero bytes % 256)) d (cond (takes_immediate x) (signed_of size.Zero bytes) 0)) (x.1) ((h, refl, omega arith))
+group_is group.ShiftOnce size.Zero a p s digit d few bytes h act fits (inl e) len ok = let x = mapped_is action.ShiftOnce _ _ act in
+    subst (λ (x : Action). IsOperation (operation_of x p s (signed_of size.Zero bytes % 256)) d (cond (takes_immediate x) (signed_of size.Zero bytes) 0)) (x.1) ((h, refl, omega arith))
 group_is group.ShiftOnce size.Zero a p s digit d few bytes h act fits (inr (inl e)) len ok = absurd (let t = e.0 in cc)
 group_is group.ShiftOnce size.Zero a p s digit d few bytes h act fits (inr (inr e)) len ok = absurd (let t = e.0 in cc)
 group_is group.ShiftOnce size.One a p s digit d few bytes h act fits (inl e) len ok = absurd (let t = e.0 in cc)
@@ -297,7 +310,13 @@ group_is group.ShiftOnce size.Four a p s digit d few bytes h act fits (inr (inr 
 group_is group.ShiftOnce size.Eight a p s digit d few bytes h act fits (inl e) len ok = absurd (let t = e.0 in cc)
 group_is group.ShiftOnce size.Eight a p s digit d few bytes h act fits (inr (inl e)) len ok = absurd (let t = e.0 in cc)
 group_is group.ShiftOnce size.Eight a p s digit d few bytes h act fits (inr (inr e)) len ok = absurd (let t = e.0 in cc)
-group_is group.Target size.Zero a p s digit d few bytes h act fits (inl e) len ok = elim (chosen (eqb digit 2) _ _ _ act) [ inl t ↦ subst (λ (x : Action). IsOperation (operation_of x p s (signed_of size.Zero bytes % 256)) d (cond (takes_immediate x) (signed_of size.Zero bytes) 0)) (target_is t.1) ((h, refl)) | inr t ↦ subst (λ (x : Action). IsOperation (operation_of x p s (signed_of size.Zero bytes % 256)) d (cond (takes_immediate x) (signed_of size.Zero bytes) 0)) (some_is _ _ _ t.1) ((h, refl)) ]
+group_is group.Target size.Zero a p s digit d few bytes h act fits (inl e) len ok =
+    elim (chosen (eqb digit 2) _ _ _ act) [
+      | inl t ↦ subst (λ (x : Action). IsOperation (operation_of x p s (signed_of size.Zero bytes % 256)) d
+          (cond (takes_immediate x) (signed_of size.Zero bytes) 0)) (target_is t.1) ((h, refl))
+      | inr t ↦ subst (λ (x : Action). IsOperation (operation_of x p s (signed_of size.Zero bytes % 256)) d
+          (cond (takes_immediate x) (signed_of size.Zero bytes) 0)) (some_is _ _ _ t.1) ((h, refl))
+    ]
 group_is group.Target size.Zero a p s digit d few bytes h act fits (inr (inl e)) len ok = absurd (let t = e.0 in cc)
 group_is group.Target size.Zero a p s digit d few bytes h act fits (inr (inr e)) len ok = absurd (let t = e.0 in cc)
 group_is group.Target size.One a p s digit d few bytes h act fits (inl e) len ok = absurd (let t = e.0 in cc)
@@ -310,7 +329,9 @@ group_is group.Target size.Eight a p s digit d few bytes h act fits (inl e) len 
 group_is group.Target size.Eight a p s digit d few bytes h act fits (inr (inl e)) len ok = absurd (let t = e.0 in cc)
 group_is group.Target size.Eight a p s digit d few bytes h act fits (inr (inr e)) len ok = absurd (let t = e.0 in cc)
 group_is group.Nop size.Zero a p s digit d few bytes h act fits (inl e) len ok = absurd (let t = e.0 in cc)
-group_is group.Nop size.Zero a p s digit d few bytes h act fits (inr (inl e)) len ok = subst (λ (x : Action). IsOperation (operation_of x p s (signed_of size.Zero bytes % 256)) d (cond (takes_immediate x) (signed_of size.Zero bytes) 0)) (some_is _ _ _ act) ((h, refl, named_is p s (unnamed_nop p.thread_pointer _ fits)))
+group_is group.Nop size.Zero a p s digit d few bytes h act fits (inr (inl e)) len ok =
+    subst (λ (x : Action). IsOperation (operation_of x p s (signed_of size.Zero bytes % 256)) d (cond (takes_immediate x) (signed_of size.Zero bytes) 0))
+    (some_is _ _ _ act) ((h, refl, named_is p s (unnamed_nop p.thread_pointer _ fits)))
 group_is group.Nop size.Zero a p s digit d few bytes h act fits (inr (inr e)) len ok = absurd (let t = e.0 in cc)
 group_is group.Nop size.One a p s digit d few bytes h act fits (inl e) len ok = absurd (let t = e.0 in cc)
 group_is group.Nop size.One a p s digit d few bytes h act fits (inr (inl e)) len ok = absurd (let t = e.0 in cc)
@@ -323,7 +344,8 @@ group_is group.Nop size.Eight a p s digit d few bytes h act fits (inr (inl e)) l
 group_is group.Nop size.Eight a p s digit d few bytes h act fits (inr (inr e)) len ok = absurd (let t = e.0 in cc)
 
 -- a number alone
-number_is : (a : Numbered) (size : Size) (p : Prefixes) (bytes : List ℕ) (few : ℕ) → Listed (bits_of p) (row.Number a size) few → length bytes ≡ count_of size → small bytes ≡ true → IsSpellable (numbered_body a (width_of p) size (signed_of size bytes)).instr
+number_is : (a : Numbered) (size : Size) (p : Prefixes) (bytes : List ℕ) (few : ℕ) → Listed (bits_of p) (row.Number a size) few → length bytes ≡ count_of size
+    → small bytes ≡ true → IsSpellable (numbered_body a (width_of p) size (signed_of size bytes)).instr
 unfolding numbered_body IsSpellable
 number_is (numbered.Call) size.Zero p bytes few (inl e) len ok = absurd (let t = e.0 in cc)
 number_is (numbered.Call) size.Zero p bytes few (inr (inl e)) len ok = absurd (let t = e.0 in cc)
@@ -459,7 +481,8 @@ nop_is : IsSpellable (made_alone (operation.Nop None))
 unfolding IsSpellable
 nop_is = (refl, refl)
 
-register_body : (a : Action) (p : Prefixes) (few : ℕ) (rest : List ℕ) (body : Body) → IsOperated p (row.Register a) size.Zero rest body → takes (row.Register a) p ≡ true → Listed (bits_of p) (row.Register a) few → small rest ≡ true → IsSpellable body.instr
+register_body : (a : Action) (p : Prefixes) (few : ℕ) (rest : List ℕ) (body : Body) → IsOperated p (row.Register a) size.Zero rest body
+    → takes (row.Register a) p ≡ true → Listed (bits_of p) (row.Register a) few → small rest ≡ true → IsSpellable body.instr
 unfolding operand_body IsSpellable signed_of
 register_body a p few rest body q fits way ok =
     let s : Selectors = record { modrm = q.modrm; sib = q.sib } in
@@ -467,15 +490,18 @@ register_body a p few rest body q fits way ok =
     let both = operated_is p (row.Register a) size.Zero rest body q ok in
     let is : BodyIs a p s size.Zero q.displacement q.immediate body = moved_body a q.action p s size.Zero q.displacement q.immediate body e q.body-is in
     let allows : allowed a p q.modrm ≡ true = subst (λ (x : Action). allowed x p q.modrm ≡ true) (sym e) q.allows in
-    subst (λ (b : Body). IsSpellable b.instr) (sym is) (register_is a p s (signed_of (displacement_size s) q.displacement) few (operand_is p s q.displacement q.displacement-length both.0) allows fits way)
+    subst (λ (b : Body). IsSpellable b.instr) (sym is) (register_is a p s (signed_of (displacement_size s) q.displacement) few
+    (operand_is p s q.displacement q.displacement-length both.0) allows fits way)
 
-group_body : (g : Group) (size : Size) (p : Prefixes) (few : ℕ) (rest : List ℕ) (body : Body) → IsOperated p (row.Group g size) size rest body → takes (row.Group g size) p ≡ true → Listed (bits_of p) (row.Group g size) few → small rest ≡ true → IsSpellable body.instr
+group_body : (g : Group) (size : Size) (p : Prefixes) (few : ℕ) (rest : List ℕ) (body : Body) → IsOperated p (row.Group g size) size rest body
+    → takes (row.Group g size) p ≡ true → Listed (bits_of p) (row.Group g size) few → small rest ≡ true → IsSpellable body.instr
 unfolding operand_body IsSpellable
 group_body g size p few rest body q fits way ok =
     let s : Selectors = record { modrm = q.modrm; sib = q.sib } in
     let both = operated_is p (row.Group g size) size rest body q ok in
     subst (λ (b : Body). IsSpellable b.instr) (sym q.body-is)
-    (group_is g size q.action p s ((q.modrm / 8) % 8) (signed_of (displacement_size s) q.displacement) few q.immediate (operand_is p s q.displacement q.displacement-length both.0) q.action-is fits way q.immediate-length both.1)
+    (group_is g size q.action p s ((q.modrm / 8) % 8) (signed_of (displacement_size s) q.displacement) few q.immediate
+    (operand_is p s q.displacement q.displacement-length both.0) q.action-is fits way q.immediate-length both.1)
 
 body_is : (r : Row) (p : Prefixes) (few : ℕ) (rest : List ℕ) (body : Body) → HasBody p r rest body → takes r p ≡ true → Listed (bits_of p) r few → small rest ≡ true → IsSpellable body.instr
 unfolding operand_body

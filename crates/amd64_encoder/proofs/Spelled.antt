@@ -45,7 +45,8 @@ use Rattle.amd64_encoder.specs.Canonical.{IsSignedLong, IsOperand, IsNamed, IsMo
 use Rattle.amd64_encoder.proofs.Digits.{bits, low_digit, byte_again, long_again, whole_again, long-lt}
 use Rattle.amd64_encoder.proofs.Selected.{is_register}
 use Rattle.amd64_encoder.proofs.Built.{IsBuilt, prefixes_in, bits_again}
-use Rattle.amd64_encoder.proofs.Named.{push_row, pop_row, move_long_row, move_quad_row, into_row, from_row, rax_row, short_jump_row, long_jump_row, arithmetic_digit, arithmetic-lt, shift_digit, shift-lt}
+use Rattle.amd64_encoder.proofs.Named.{push_row, pop_row, move_long_row, move_quad_row, into_row, from_row, rax_row, short_jump_row, long_jump_row, arithmetic_digit, arithmetic-lt, shift_digit}
+use Rattle.amd64_encoder.proofs.Named.{shift-lt}
 use Rattle.amd64_encoder.proofs.Operated.{Knows, knows, memory-is, register-is, width-is, width_again, numbers, selected, allowed_any, register_built, group_built}
 use Rattle.amd64_encoder.proofs.Splices.{length-number}
 
@@ -185,16 +186,19 @@ fits_signed n e lt = way (ltb n 0x8000_0000) refl e
 pub move_built : (width : Width) (os : Operands) (d i : ℕ) → IsOperation (operation.Move width os) d i → IsBuilt (form_of (operation.Move width os) i) d (made (operation.Move width os) d i)
 unfolding form_of operand_body operation_of named row_of fixed_row_of group_action number_bytes numbered_body
 move_built width (IntoRegister to (operand.Register from)) d i is =
-    into_built 0x89 width from (operand.Register to) d action.Store (made (operation.Move width (IntoRegister to (operand.Register from))) d i) is.0 (λ rex. refl) refl (λ p low. refl) (λ p low. refl) refl
+    into_built 0x89 width from (operand.Register to) d action.Store (made (operation.Move width (IntoRegister to (operand.Register from))) d i) is.0
+    (λ rex. refl) refl (λ p low. refl) (λ p low. refl) refl
     (λ p s k. rw (width-is p s width (number_of from) (operand.Register to) d k, k.sel.operand-is, register-is p s (is_quad width) from (operand.Register to) d k, k.sel.number-is, is.1) refl)
 move_built width (IntoRegister to (operand.InMemory from)) d i is =
-    into_built 0x8b width to (operand.InMemory from) d action.Load (made (operation.Move width (IntoRegister to (operand.InMemory from))) d i) is.0 (λ rex. refl) refl (λ p low. refl) (λ p low. refl) refl
+    into_built 0x8b width to (operand.InMemory from) d action.Load (made (operation.Move width (IntoRegister to (operand.InMemory from))) d i) is.0
+    (λ rex. refl) refl (λ p low. refl) (λ p low. refl) refl
     (λ p s k. rw (width-is p s width (number_of to) (operand.InMemory from) d k, k.sel.operand-is, register-is p s (is_quad width) to (operand.InMemory from) d k, k.sel.number-is, is.1) refl)
 move_built width (IntoMemory to from) d i is =
     into_built 0x89 width from (operand.InMemory to) d action.Store (made (operation.Move width (IntoMemory to from)) d i) is.0 (λ rex. refl) refl (λ p low. refl) (λ p low. refl) refl
     (λ p s k. rw (width-is p s width (number_of from) (operand.InMemory to) d k, k.sel.operand-is, register-is p s (is_quad width) from (operand.InMemory to) d k, k.sel.number-is, is.1) refl)
 move_built width (Immediate (operand.InMemory m)) d i is =
-    group_built false 0xc7 (is_quad width) 0 (operand.InMemory m) group.Move size.Four i d action.MoveImmediate (made (operation.Move width (Immediate (operand.InMemory m))) d i) is.0 (omega arith) refl refl refl (λ h. refl) (λ p low. refl) (λ p low. refl) (λ h. refl)
+    group_built false 0xc7 (is_quad width) 0 (operand.InMemory m) group.Move size.Four i d action.MoveImmediate
+    (made (operation.Move width (Immediate (operand.InMemory m))) d i) is.0 (omega arith) refl refl refl (λ h. refl) (λ p low. refl) (λ p low. refl) (λ h. refl)
     (λ p s k. rw (width-is p s width 0 (operand.InMemory m) d k, k.sel.operand-is, k.sel.number-is, long_again i (moved width m is.1)) refl)
   where
     moved : (width : Width) (m : Memory) → IsMoved width (operand.InMemory m) i → IsSignedLong i
@@ -206,20 +210,26 @@ move_built Quad (Immediate (operand.Register r)) d i is = go (fits_long i) refl
   where
     go : (b : Bool) → fits_long i ≡ b → IsBuilt (form_of (operation.Move Quad (Immediate (operand.Register r))) i) d (made (operation.Move Quad (Immediate (operand.Register r))) d i)
     go true e = rw (e)
-        (group_built false 0xc7 true 0 (operand.Register r) group.Move size.Four i d action.MoveImmediate (made (operation.Move Quad (Immediate (operand.Register r))) d i) is.0 (omega arith) refl refl refl (λ h. refl) (λ p low. refl) (λ p low. refl) (λ h. refl)
+        (group_built false 0xc7 true 0 (operand.Register r) group.Move size.Four i d action.MoveImmediate
+        (made (operation.Move Quad (Immediate (operand.Register r))) d i) is.0 (omega arith) refl refl refl (λ h. refl) (λ p low. refl) (λ p low. refl) (λ h. refl)
         (λ p s k. rw (width-is p s Quad 0 (operand.Register r) d k, k.sel.operand-is, k.sel.number-is, long_again i (fits_signed i e is.1)) refl))
-    go false e = rw (e, is.0) (low_built 0xb8 r true size.Eight i (made (operation.Move Quad (Immediate (operand.Register r))) 0 i) (move_quad_row false false r) (λ p b. rw (b, whole_again i is.1) refl) (omega arith))
+    go false e = rw (e, is.0) (low_built 0xb8 r true size.Eight i (made (operation.Move Quad (Immediate (operand.Register r))) 0 i)
+        (move_quad_row false false r) (λ p b. rw (b, whole_again i is.1) refl) (omega arith))
 
-pub compute_built : (a : Arithmetic) (width : Width) (os : Operands) (d i : ℕ) → IsOperation (operation.Compute a width os) d i → IsBuilt (form_of (operation.Compute a width os) i) d (made (operation.Compute a width os) d i)
+pub compute_built : (a : Arithmetic) (width : Width) (os : Operands) (d i : ℕ) → IsOperation (operation.Compute a width os) d i
+    → IsBuilt (form_of (operation.Compute a width os) i) d (made (operation.Compute a width os) d i)
 unfolding form_of operand_body operation_of group_action numbered_body named row_of fixed_row_of number_of bits_read
 compute_built a width (IntoRegister to (operand.Register from)) d i is =
-    into_built (8 * arithmetic_number a + 1) width from (operand.Register to) d (action.ComputeInto a) (made (operation.Compute a width (IntoRegister to (operand.Register from))) d i) is.0 (λ rex. into_row rex a) refl (λ p low. refl) (λ p low. refl) refl
+    into_built (8 * arithmetic_number a + 1) width from (operand.Register to) d (action.ComputeInto a)
+    (made (operation.Compute a width (IntoRegister to (operand.Register from))) d i) is.0 (λ rex. into_row rex a) refl (λ p low. refl) (λ p low. refl) refl
     (λ p s k. rw (width-is p s width (number_of from) (operand.Register to) d k, k.sel.operand-is, register-is p s (is_quad width) from (operand.Register to) d k, k.sel.number-is, is.1) refl)
 compute_built a width (IntoRegister to (operand.InMemory from)) d i is =
-    into_built (8 * arithmetic_number a + 3) width to (operand.InMemory from) d (action.ComputeFrom a) (made (operation.Compute a width (IntoRegister to (operand.InMemory from))) d i) is.0 (λ rex. from_row rex a) refl (λ p low. refl) (λ p low. refl) refl
+    into_built (8 * arithmetic_number a + 3) width to (operand.InMemory from) d (action.ComputeFrom a)
+    (made (operation.Compute a width (IntoRegister to (operand.InMemory from))) d i) is.0 (λ rex. from_row rex a) refl (λ p low. refl) (λ p low. refl) refl
     (λ p s k. rw (width-is p s width (number_of to) (operand.InMemory from) d k, k.sel.operand-is, register-is p s (is_quad width) to (operand.InMemory from) d k, k.sel.number-is, is.1) refl)
 compute_built a width (IntoMemory to from) d i is =
-    into_built (8 * arithmetic_number a + 1) width from (operand.InMemory to) d (action.ComputeInto a) (made (operation.Compute a width (IntoMemory to from)) d i) is.0 (λ rex. into_row rex a) refl (λ p low. refl) (λ p low. refl) refl
+    into_built (8 * arithmetic_number a + 1) width from (operand.InMemory to) d (action.ComputeInto a)
+    (made (operation.Compute a width (IntoMemory to from)) d i) is.0 (λ rex. into_row rex a) refl (λ p low. refl) (λ p low. refl) refl
     (λ p s k. rw (width-is p s width (number_of from) (operand.InMemory to) d k, k.sel.operand-is, register-is p s (is_quad width) from (operand.InMemory to) d k, k.sel.number-is, is.1) refl)
 compute_built a width (Immediate to) d i is = go (fits_byte i) refl
   where
@@ -229,15 +239,29 @@ compute_built a width (Immediate to) d i is = go (fits_byte i) refl
     low : leb 8 (arithmetic_number a) ≡ false
     low = let t = arithmetic-lt a in grind arith
 
-    grouped : (opcode : ℕ) (size : Size) (o : Operand) → IsOperand o d → count_of size ≤ 4 → ((rex : Rex) → named rex (opcode ∷ []) ≡ Some (row.Group group.Arithmetic size)) → signed_of size (number_bytes size i) ≡ i
+    grouped : (opcode : ℕ) (size : Size) (o : Operand) → IsOperand o d → count_of size ≤ 4
+        → ((rex : Rex) → named rex (opcode ∷ []) ≡ Some (row.Group group.Arithmetic size)) → signed_of size (number_bytes size i) ≡ i
         → IsBuilt (selected false opcode (is_quad width) false (arithmetic_number a) o size i) d (made (operation.Compute a width (Immediate o)) d i)
     grouped opcode size o is-o few names number =
-        group_built false opcode (is_quad width) (arithmetic_number a) o group.Arithmetic size i d (action.ComputeImmediate a) (made (operation.Compute a width (Immediate o)) d i) is-o few (names (bits (is_quad width) (leb 8 (arithmetic_number a)) (high_index o) (high_base o))) digit low (λ h. refl) (λ p l. refl) (λ p l. refl) (λ h. refl)
+        group_built false opcode (is_quad width) (arithmetic_number a) o group.Arithmetic size i d (action.ComputeImmediate a)
+        (made (operation.Compute a width (Immediate o)) d i) is-o few
+        (names (bits (is_quad width) (leb 8 (arithmetic_number a)) (high_index o) (high_base o))) digit low (λ h. refl) (λ p l. refl) (λ p l. refl) (λ h. refl)
         (λ p s k. rw (width-is p s width (arithmetic_number a) o d k, k.sel.operand-is, k.sel.number-is, number) refl)
 
-    rax : d ≡ 0 → IsBuilt (record { escaped = false; opcode = 8 * arithmetic_number a + 5; wide = is_quad width; low_byte = false; fields = fields.Bare; size = size.Four; number = i }) d (made (operation.Compute a width (Immediate (operand.Register Rax))) d i)
+    rax : d ≡ 0 → IsBuilt (record {
+      escaped = false;
+      opcode = 8 * arithmetic_number a + 5;
+      wide = is_quad width;
+      low_byte = false;
+      fields = fields.Bare;
+      size =
+          size.Four;
+      number = i;
+    }) d (made (operation.Compute a width (Immediate (operand.Register Rax))) d i)
     rax none = rw (none)
-        (number_built false (8 * arithmetic_number a + 5) (is_quad width) (numbered.Compute a) size.Four i (made (operation.Compute a width (Immediate (operand.Register Rax))) 0 i) (rax_row (bits (is_quad width) false false false) a) (λ rest. (λ h. refl, λ h. absurd cc, λ h. absurd cc, λ h. absurd cc))
+        (number_built false (8 * arithmetic_number a + 5) (is_quad width) (numbered.Compute a) size.Four i
+        (made (operation.Compute a width (Immediate (operand.Register Rax))) 0 i) (rax_row (bits (is_quad width) false false false) a)
+        (λ rest. (λ h. refl, λ h. absurd cc, λ h. absurd cc, λ h. absurd cc))
         (λ p b. rw (b, width_again width, long_again i is.1) refl) (omega arith))
 
     far : (o : Operand) → IsOperand o d → IsBuilt (compute_long a width o i) d (made (operation.Compute a width (Immediate o)) d i)
@@ -263,7 +287,8 @@ compute_built a width (Immediate to) d i is = go (fits_byte i) refl
     go true e = rw (e) (grouped 0x83 size.One to is.0 (omega arith) (λ rex. refl) (byte_again i e (long-lt i is.1)))
     go false e = rw (e) (far to is.0)
 
-shift_built : (sh : Shift) (width : Width) (to : Operand) (count d i : ℕ) → IsOperation (operation.Shift sh width to count) d i → IsBuilt (form_of (operation.Shift sh width to count) i) d (made (operation.Shift sh width to count) d i)
+shift_built : (sh : Shift) (width : Width) (to : Operand) (count d i : ℕ) → IsOperation (operation.Shift sh width to count) d i
+    → IsBuilt (form_of (operation.Shift sh width to count) i) d (made (operation.Shift sh width to count) d i)
 unfolding form_of operand_body operation_of group_action named row_of fixed_row_of number_bytes signed_of
 shift_built sh width to count d i is = go (eqb count 1) refl
   where
@@ -279,10 +304,14 @@ shift_built sh width to count d i is = go (eqb count 1) refl
 
     go : (b : Bool) → eqb count 1 ≡ b → IsBuilt (form_of (operation.Shift sh width to count) i) d (made (operation.Shift sh width to count) d i)
     go true e = rw (e, eqb-true count 1 e)
-        (group_built false 0xd1 (is_quad width) (shift_number sh) to group.ShiftOnce size.Zero 0 d (action.ShiftOnce sh) (made (operation.Shift sh width to 1) d i) is.0 (omega arith) refl (ap (λ (o : Option Shift). option_map action.ShiftOnce o) (shift_digit sh)) low (λ h. refl) (λ p l. refl) (λ p l. refl) (λ h. refl)
+        (group_built false 0xd1 (is_quad width) (shift_number sh) to group.ShiftOnce size.Zero 0 d (action.ShiftOnce sh)
+        (made (operation.Shift sh width to 1) d i) is.0 (omega arith) refl (ap (λ (o : Option Shift). option_map action.ShiftOnce o) (shift_digit sh)) low
+        (λ h. refl) (λ p l. refl) (λ p l. refl) (λ h. refl)
         (λ p s k. rw (width-is p s width (shift_number sh) to d k, k.sel.operand-is, k.sel.number-is, is.1) refl))
     go false e = rw (e)
-        (group_built false 0xc1 (is_quad width) (shift_number sh) to group.Shift size.One count d (action.ShiftBy sh) (made (operation.Shift sh width to count) d i) is.0 (omega arith) refl (ap (λ (o : Option Shift). option_map action.ShiftBy o) (shift_digit sh)) low (λ h. refl) (λ p l. refl) (λ p l. refl) (λ h. refl)
+        (group_built false 0xc1 (is_quad width) (shift_number sh) to group.Shift size.One count d (action.ShiftBy sh)
+        (made (operation.Shift sh width to count) d i) is.0 (omega arith) refl
+        (ap (λ (o : Option Shift). option_map action.ShiftBy o) (shift_digit sh)) low (λ h. refl) (λ p l. refl) (λ p l. refl) (λ h. refl)
         (λ p s k. rw (width-is p s width (shift_number sh) to d k, k.sel.operand-is, k.sel.number-is, is.1, back) refl))
 
 -- ---- one byte
@@ -331,10 +360,12 @@ byte_stored r m d i is =
     (λ low high hb p fs none. rw (k.sel.mode-is) (low_falls p r _ k.sel.digit-is low high none))
     (λ p s k. rw (memory-is p s false f m d k, register-is p s false r o d k, k.sel.number-is, is.1) refl)
 
-byte_extended : (width : Width) (to : Register) (from : Operand) (d i : ℕ) → IsOperation (operation.ExtendByte width to from) d i → IsBuilt (form_of (operation.ExtendByte width to from) i) d (made (operation.ExtendByte width to from) d i)
+byte_extended : (width : Width) (to : Register) (from : Operand) (d i : ℕ) → IsOperation (operation.ExtendByte width to from) d i
+    → IsBuilt (form_of (operation.ExtendByte width to from) i) d (made (operation.ExtendByte width to from) d i)
 unfolding form_of operand_body operation_of named escaped_row_of allowed selectors_of
 byte_extended width to (operand.InMemory m) d i is =
-    plain_built true 0xb6 (is_quad width) to (operand.InMemory m) d action.ExtendByte (made (operation.ExtendByte width to (operand.InMemory m)) d i) is.0 refl (λ h. refl) (λ p low h. absurd cc) (λ p low. refl) (λ h. refl)
+    plain_built true 0xb6 (is_quad width) to (operand.InMemory m) d action.ExtendByte (made (operation.ExtendByte width to (operand.InMemory m)) d i) is.0 refl
+    (λ h. refl) (λ p low h. absurd cc) (λ p low. refl) (λ h. refl)
     (λ p s k. rw (width-is p s width (number_of to) (operand.InMemory m) d k, register-is p s (is_quad width) to (operand.InMemory m) d k, k.sel.operand-is, k.sel.number-is, is.1) refl)
 byte_extended width to (operand.Register q) d i is =
     let o = operand.Register q in
@@ -368,28 +399,34 @@ unfolding named row_of fixed_row_of
 target_built digit a to op d i is none found low reg mem instr-is =
     rw (none) (group_built false 0xff false digit to group.Target size.Zero 0 d a (made op d 0) is (omega arith) refl found low (λ h. refl) reg mem (λ h. absurd cc) instr-is)
 
-distance_built : (escaped : Bool) (opcode : ℕ) (a : Numbered) (size : Size) (distance : ℕ) (op : Operation) (d i : ℕ) → HasNone d i → signed_of size (number_bytes size distance) ≡ distance → count_of size ≤ 8
+distance_built : (escaped : Bool) (opcode : ℕ) (a : Numbered) (size : Size) (distance : ℕ) (op : Operation) (d i : ℕ) → HasNone d i
+    → signed_of size (number_bytes size distance) ≡ distance → count_of size ≤ 8
     → named (bits false false false false) (option_to_list (when escaped 0x0f) ++ (opcode ∷ [])) ≡ Some (row.Number a size)
     → ((p : Prefixes) → (numbered_body a (width_of p) size distance).instr ≡ made op 0 0)
     → IsBuilt (record { escaped = escaped; opcode = opcode; wide = false; low_byte = false; fields = fields.Bare; size = size; number = distance }) d (made op d i)
 distance_built escaped opcode a size distance op d i none number few names instr-is =
-    rw (none.0, none.1) (number_built escaped opcode false a size distance (made op 0 0) names (λ rest. (λ h. absurd cc, λ h. absurd cc, λ h. absurd cc, λ h. absurd cc)) (λ p b. rw (number) (instr-is p)) few)
+    rw (none.0, none.1) (number_built escaped opcode false a size distance (made op 0 0) names
+    (λ rest. (λ h. absurd cc, λ h. absurd cc, λ h. absurd cc, λ h. absurd cc)) (λ p b. rw (number) (instr-is p)) few)
 
 pub jump_built : (distance d i : ℕ) → HasNone d i → IsSignedLong distance → IsBuilt (form_of (operation.Jump (Relative distance)) i) d (made (operation.Jump (Relative distance)) d i)
 unfolding form_of named row_of fixed_row_of numbered_body
 jump_built distance d i none long = go (fits_byte distance) refl
   where
     go : (b : Bool) → fits_byte distance ≡ b → IsBuilt (form_of (operation.Jump (Relative distance)) i) d (made (operation.Jump (Relative distance)) d i)
-    go true e = rw (e) (distance_built false 0xeb numbered.Jump size.One distance (operation.Jump (Relative distance)) d i none (byte_again distance e (long-lt distance long)) (omega arith) refl (λ p. refl))
+    go true e = rw (e) (distance_built false 0xeb numbered.Jump size.One distance (operation.Jump (Relative distance)) d i none
+        (byte_again distance e (long-lt distance long)) (omega arith) refl (λ p. refl))
     go false e = rw (e) (distance_built false 0xe9 numbered.Jump size.Four distance (operation.Jump (Relative distance)) d i none (long_again distance long) (omega arith) refl (λ p. refl))
 
-pub jump_if_built : (condition : Condition) (distance d i : ℕ) → HasNone d i → IsSignedLong distance → IsBuilt (form_of (operation.JumpIf condition distance) i) d (made (operation.JumpIf condition distance) d i)
+pub jump_if_built : (condition : Condition) (distance d i : ℕ) → HasNone d i → IsSignedLong distance
+    → IsBuilt (form_of (operation.JumpIf condition distance) i) d (made (operation.JumpIf condition distance) d i)
 unfolding form_of numbered_body
 jump_if_built condition distance d i none long = go (fits_byte distance) refl
   where
     go : (b : Bool) → fits_byte distance ≡ b → IsBuilt (form_of (operation.JumpIf condition distance) i) d (made (operation.JumpIf condition distance) d i)
-    go true e = rw (e) (distance_built false (0x70 + condition_number condition) (numbered.JumpIf condition) size.One distance (operation.JumpIf condition distance) d i none (byte_again distance e (long-lt distance long)) (omega arith) (short_jump_row (bits false false false false) condition) (λ p. refl))
-    go false e = rw (e) (distance_built true (0x80 + condition_number condition) (numbered.JumpIf condition) size.Four distance (operation.JumpIf condition distance) d i none (long_again distance long) (omega arith) (long_jump_row (bits false false false false) condition) (λ p. refl))
+    go true e = rw (e) (distance_built false (0x70 + condition_number condition) (numbered.JumpIf condition) size.One distance
+        (operation.JumpIf condition distance) d i none (byte_again distance e (long-lt distance long)) (omega arith) (short_jump_row (bits false false false false) condition) (λ p. refl))
+    go false e = rw (e) (distance_built true (0x80 + condition_number condition) (numbered.JumpIf condition) size.Four distance
+        (operation.JumpIf condition distance) d i none (long_again distance long) (omega arith) (long_jump_row (bits false false false false) condition) (λ p. refl))
 
 pub built : (op : Operation) (d i : ℕ) → IsOperation op d i → IsBuilt (form_of op i) d (made op d i)
 unfolding form_of operand_body operation_of named row_of fixed_row_of escaped_row_of group_action number_bytes signed_of numbered_body
@@ -400,8 +437,16 @@ built (operation.ExtendLong to from) d i is =
     plain_built false 0x63 true to from d action.ExtendLong (made (operation.ExtendLong to from) d i) is.0 refl (λ h. refl) (λ p low h. refl) (λ p low. refl) (λ h. refl)
     (λ p s k. rw (register-is p s true to from d k, k.sel.operand-is, k.sel.number-is, is.1) refl)
 built (operation.LoadAddress width to from) d i is =
-    plain_built false 0x8d (is_quad width) to (operand.InMemory from) d action.LoadAddress (made (operation.LoadAddress width to from) d i) is.0 refl (λ h. absurd (let t = is.2 in cc)) (λ p low h. absurd cc) (λ p low. refl) (λ h. refl)
-    (λ p s k. rw (width-is p s width (number_of to) (operand.InMemory from) d k, register-is p s (is_quad width) to (operand.InMemory from) d k, memory-is p s (is_quad width) (number_of to) from d k, k.sel.number-is, is.1) refl)
+    plain_built false 0x8d (is_quad width) to (operand.InMemory from) d action.LoadAddress (made (operation.LoadAddress width to from) d i) is.0 refl
+    (λ h. absurd (let t = is.2 in cc)) (λ p low h. absurd cc) (λ p low. refl) (λ h. refl)
+    (λ p s k. rw (
+      width-is p s width (number_of to) (operand.InMemory from) d k,
+      register-is p s (is_quad width) to (operand.InMemory from) d k,
+      memory-is p s
+          (is_quad width) (number_of to) from d k,
+      k.sel.number-is,
+      is.1,
+    ) refl)
 built (operation.Compute arithmetic width os) d i is = compute_built arithmetic width os d i is
 built (operation.Test width left right) d i is =
     plain_built false 0x85 (is_quad width) right left d action.TestWith (made (operation.Test width left right) d i) is.0 refl (λ h. refl) (λ p low h. refl) (λ p low. refl) (λ h. refl)
@@ -413,14 +458,18 @@ built (operation.Shift sh width to count) d i is = shift_built sh width to count
 built (operation.Push r) d i is = rw (is.0, is.1) (stack_built 0x50 r (operation.Push r) (push_row false false false r))
 built (operation.Pop r) d i is = rw (is.0, is.1) (stack_built 0x58 r (operation.Pop r) (pop_row false false false r))
 built operation.Leave d i is = rw (is.0, is.1) (alone_built false 0xc9 operation.Leave refl)
-built (operation.Call (Relative distance)) d i is = distance_built false 0xe8 numbered.Call size.Four distance (operation.Call (Relative distance)) d i is.0 (long_again distance is.1) (omega arith) refl (λ p. refl)
-built (operation.Call (Indirect to)) d i is = target_built 2 action.CallTarget to (operation.Call (Indirect to)) d i is.0 is.1 refl refl (λ p low. refl) (λ p low. refl) (λ p s k. rw (k.sel.operand-is, k.sel.number-is) refl)
+built (operation.Call (Relative distance)) d i is = distance_built false 0xe8 numbered.Call size.Four distance (operation.Call (Relative distance)) d i is.0
+    (long_again distance is.1) (omega arith) refl (λ p. refl)
+built (operation.Call (Indirect to)) d i is = target_built 2 action.CallTarget to (operation.Call (Indirect to)) d i is.0 is.1 refl refl (λ p low. refl)
+    (λ p low. refl) (λ p s k. rw (k.sel.operand-is, k.sel.number-is) refl)
 built (operation.Jump (Relative distance)) d i is = jump_built distance d i is.0 is.1
-built (operation.Jump (Indirect to)) d i is = target_built 4 action.JumpTarget to (operation.Jump (Indirect to)) d i is.0 is.1 refl refl (λ p low. refl) (λ p low. refl) (λ p s k. rw (k.sel.operand-is, k.sel.number-is) refl)
+built (operation.Jump (Indirect to)) d i is = target_built 4 action.JumpTarget to (operation.Jump (Indirect to)) d i is.0 is.1 refl refl (λ p low. refl)
+    (λ p low. refl) (λ p s k. rw (k.sel.operand-is, k.sel.number-is) refl)
 built (operation.JumpIf condition distance) d i is = jump_if_built condition distance d i is.0 is.1
 built operation.Return d i is = rw (is.0, is.1) (alone_built false 0xc3 operation.Return refl)
 built (operation.Nop None) d i is = rw (is.0, is.1) nop_built
 built (operation.Nop (Some of)) d i is =
-    rw (is.1) (group_built true 0x1f false 0 of group.Nop size.Zero 0 d action.Padding (made (operation.Nop (Some of)) d 0) is.0 (omega arith) refl refl refl (λ h. absurd (fs_named of is.2 h)) (λ p low. refl) (λ p low. refl) (λ h. absurd cc)
+    rw (is.1) (group_built true 0x1f false 0 of group.Nop size.Zero 0 d action.Padding (made (operation.Nop (Some of)) d 0) is.0 (omega arith) refl refl refl
+    (λ h. absurd (fs_named of is.2 h)) (λ p low. refl) (λ p low. refl) (λ h. absurd cc)
     (λ p s k. rw (k.sel.operand-is, k.sel.number-is) refl))
 built operation.Undefined d i is = rw (is.0, is.1) (alone_built true 0x0b operation.Undefined refl)

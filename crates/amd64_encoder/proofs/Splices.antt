@@ -29,7 +29,8 @@ drop-spliced at n new bytes above inside =
     let split : (at + length new) + (n - (at + length new)) ≡ n = omega arith in
     ap (λ i. drop i (take at bytes ++ (new ++ drop (at + length new) bytes))) (sym split)
     ∙ sym (drop-drop (n - (at + length new)) (at + length new) (take at bytes ++ (new ++ drop (at + length new) bytes)))
-    ∙ ap (drop (n - (at + length new))) (ap (drop (at + length new)) (sym (append_assoc (take at bytes) new (drop (at + length new) bytes))) ∙ drop_at (take at bytes ++ new) (drop (at + length new) bytes) (at + length new) joined)
+    ∙ ap (drop (n - (at + length new))) (ap (drop (at + length new)) (sym (append_assoc (take at bytes) new (drop (at + length new) bytes)))
+    ∙ drop_at (take at bytes ++ new) (drop (at + length new) bytes) (at + length new) joined)
     ∙ drop-drop (n - (at + length new)) (at + length new) bytes
     ∙ ap (λ i. drop i bytes) split
 
@@ -78,7 +79,8 @@ selectors_spliced o s size d at one two r0 r1 r2 r3 is size-is inside first next
     let all = then_spliced at two ((s.modrm ∷ []) ++ option_to_list s.sib) (number_bytes size d) r0 r2 r3 two_parts third place inside in
     rw (is, ← size-is) (all ∙ ap (λ t. spliced at t r0) (append_assoc (s.modrm ∷ []) (option_to_list s.sib) (number_bytes size d)))
 
-pub length-form : (form : Form) (d : ℕ) → length (form_bytes form d) ≡ length (option_to_list (mark_in form.fields)) + (length (option_to_list (rex_in form)) + ((length (option_to_list (when form.escaped 0x0f)) + 1) + (length (selector_bytes (selectors_in form.fields d) d) + count_of form.size)))
+pub length-form : (form : Form) (d : ℕ) → length (form_bytes form d) ≡ length (option_to_list (mark_in form.fields)) +
+    (length (option_to_list (rex_in form)) + ((length (option_to_list (when form.escaped 0x0f)) + 1) + (length (selector_bytes (selectors_in form.fields d) d) + count_of form.size)))
 unfolding form_bytes
 length-form form d =
     let m = option_to_list (mark_in form.fields) in
@@ -86,7 +88,16 @@ length-form form d =
     let e = option_to_list (when form.escaped 0x0f) in
     let s = selector_bytes (selectors_in form.fields d) d in
     let n = number_bytes form.size form.number in
-    omega (arith, length-append m (x ++ ((e ++ (form.opcode ∷ [])) ++ (s ++ n))), length-append x ((e ++ (form.opcode ∷ [])) ++ (s ++ n)), length-append (e ++ (form.opcode ∷ [])) (s ++ n), length-append e (form.opcode ∷ []), length-append s n, length-number form.size form.number)
+    omega (
+      arith,
+      length-append m (x ++ ((e ++ (form.opcode ∷ [])) ++ (s ++ n))),
+      length-append x ((e ++ (form.opcode ∷ [])) ++ (s ++ n)),
+      length-append
+          (e ++ (form.opcode ∷ [])) (s ++ n),
+      length-append e (form.opcode ∷ []),
+      length-append s n,
+      length-number form.size form.number,
+    )
 
 -- six parts, the fourth of one byte
 pub form_spliced : (form : Form) (d a b c e f : ℕ) (r0 r1 r2 r3 r4 r5 r6 : List ℕ)

@@ -1,6 +1,8 @@
--- Which of an instruction's spellings is written: one with no redundant prefix, the shortest, and of those the one in the
--- first line of the opcode map. And which values are instructions that have a spelling at all.
-use Rattle.std.specs.Prelude.{◌≡◌, ◌≢◌, ℕ, ◌+◌, ◌-◌, ◌*◌, ◌^◌, ◌/◌, ◌%◌, ◌<◌, ◌≤◌, ◌⊎◌, ◌&&◌, Bool, true, false, List, ◌++◌, length, slice_index, Option, Some, None, IfSome, IsSomeAnd, not, ◌==◌, if◌then◌else◌}
+-- Which of an instruction's spellings is written: one with no redundant prefix, the shortest, and of those the one in
+-- the first line of the opcode map. And which values are instructions that have a spelling at all.
+use Rattle.std.specs.Prelude.{◌≡◌, ◌≢◌, ℕ, ◌+◌, ◌-◌, ◌*◌, ◌^◌, ◌/◌, ◌%◌, ◌<◌, ◌≤◌, ◌⊎◌, ◌&&◌, Bool, true, false, List}
+use Rattle.std.specs.Prelude.{◌++◌, length, slice_index, Option, Some, None, IfSome, IsSomeAnd, not, ◌==◌}
+use Rattle.std.specs.Prelude.{if◌then◌else◌}
 use Rattle.std.specs.List.{list_all}
 use Rattle.amd64_subset.specs.declared.register.Register.TheVariants.{Rsp}
 use Rattle.amd64_subset.specs.declared.operand.Base.{Base}
@@ -78,22 +80,30 @@ HasNone displacement immediate = (displacement ≡ 0) × (immediate ≡ 0)
 
 -- the operation with this displacement and this immediate
 abbrev pub IsOperation : Operation → ℕ → ℕ → Type 0
-IsOperation (operation.Move width (Immediate to)) displacement immediate = IsOperand to displacement × IsMoved width to immediate
+IsOperation (operation.Move width (Immediate to)) displacement immediate =
+    IsOperand to displacement × IsMoved width to immediate
 IsOperation (operation.Move width operands) displacement immediate = AreOperands operands displacement × (immediate ≡ 0)
 IsOperation (operation.StoreByte to from) displacement immediate = IsMemory to displacement × (immediate ≡ 0)
 IsOperation (operation.ExtendByte width to from) displacement immediate = IsOperand from displacement × (immediate ≡ 0)
 IsOperation (operation.ExtendLong to from) displacement immediate = IsOperand from displacement × (immediate ≡ 0)
-IsOperation (operation.LoadAddress width to from) displacement immediate = IsMemory from displacement × (immediate ≡ 0) × (from.from_thread_pointer ≡ false)
-IsOperation (operation.Compute arithmetic width (Immediate to)) displacement immediate = IsOperand to displacement × IsSignedLong immediate
-IsOperation (operation.Compute arithmetic width operands) displacement immediate = AreOperands operands displacement × (immediate ≡ 0)
+IsOperation (operation.LoadAddress width to from) displacement immediate =
+    IsMemory from displacement × (immediate ≡ 0) × (from.from_thread_pointer ≡ false)
+IsOperation (operation.Compute arithmetic width (Immediate to)) displacement immediate =
+    IsOperand to displacement × IsSignedLong immediate
+IsOperation (operation.Compute arithmetic width operands) displacement immediate =
+    AreOperands operands displacement × (immediate ≡ 0)
 IsOperation (operation.Test width left right) displacement immediate = IsOperand left displacement × (immediate ≡ 0)
 IsOperation (operation.Multiply width to from) displacement immediate = IsOperand from displacement × (immediate ≡ 0)
-IsOperation (operation.Shift shift width to count) displacement immediate = IsOperand to displacement × (immediate ≡ 0) × (count < 2 ^ 8)
-IsOperation (operation.Call (Relative distance)) displacement immediate = HasNone displacement immediate × IsSignedLong distance
+IsOperation (operation.Shift shift width to count) displacement immediate =
+    IsOperand to displacement × (immediate ≡ 0) × (count < 2 ^ 8)
+IsOperation (operation.Call (Relative distance)) displacement immediate =
+    HasNone displacement immediate × IsSignedLong distance
 IsOperation (operation.Call (Indirect to)) displacement immediate = IsOperand to displacement × (immediate ≡ 0)
-IsOperation (operation.Jump (Relative distance)) displacement immediate = HasNone displacement immediate × IsSignedLong distance
+IsOperation (operation.Jump (Relative distance)) displacement immediate =
+    HasNone displacement immediate × IsSignedLong distance
 IsOperation (operation.Jump (Indirect to)) displacement immediate = IsOperand to displacement × (immediate ≡ 0)
-IsOperation (operation.JumpIf condition distance) displacement immediate = HasNone displacement immediate × IsSignedLong distance
+IsOperation (operation.JumpIf condition distance) displacement immediate =
+    HasNone displacement immediate × IsSignedLong distance
 IsOperation (operation.Nop (Some of)) displacement immediate = IsOperand of displacement × (immediate ≡ 0) × IsNamed of
 IsOperation other displacement immediate = HasNone displacement immediate
 
@@ -120,23 +130,39 @@ names_base modrm sib = not ((modrm / 64 == 0) && ((if has_sib modrm then sib % 8
 
 -- the bits of REX that a row reads, with these bytes behind the opcode
 unfoldable pub bits_read : Row → List ℕ → Rex
-bits_read (row.Register action) rest = record { wide = reads_wide (row.Register action); register = true; index = has_sib (slice_index rest 0); base = names_base (slice_index rest 0) (slice_index rest 1) }
-bits_read (row.Group group size) rest = record { wide = reads_wide (row.Group group size); register = false; index = has_sib (slice_index rest 0); base = names_base (slice_index rest 0) (slice_index rest 1) }
-bits_read (row.Number (numbered.Move register) size) rest = record { wide = true; register = false; index = false; base = true }
+bits_read (row.Register action) rest = record {
+  wide = reads_wide (row.Register action);
+  register = true;
+  index = has_sib (slice_index rest 0);
+  base = names_base (slice_index rest 0) (slice_index rest 1);
+}
+bits_read (row.Group group size) rest = record {
+  wide = reads_wide (row.Group group size);
+  register = false;
+  index = has_sib (slice_index rest 0);
+  base = names_base (slice_index rest 0) (slice_index rest 1);
+}
+bits_read (row.Number (numbered.Move register) size) rest =
+    record { wide = true; register = false; index = false; base = true }
 bits_read (row.Alone operation) rest = record { wide = false; register = false; index = false; base = true }
 bits_read row rest = record { wide = reads_wide row; register = false; index = false; base = false }
 
 -- each bit of the first stands in the second
 abbrev pub AreAmong : Rex → Rex → Type 0
-AreAmong some all = (some.wide ≡ true → all.wide ≡ true) × (some.register ≡ true → all.register ≡ true) × (some.index ≡ true → all.index ≡ true) × (some.base ≡ true → all.base ≡ true)
+AreAmong some all =
+    (some.wide ≡ true → all.wide ≡ true) × (some.register ≡ true → all.register ≡ true)
+    × (some.index ≡ true → all.index ≡ true) × (some.base ≡ true → all.base ≡ true)
 
 -- without REX the row has no such operands: a register's low byte would be another's second byte
 abbrev pub AsksForRex : List ℕ → Row → List ℕ → Type 0
-AsksForRex marks row rest = IfSome (action_of row ((slice_index rest 0 / 8) % 8)) (λ action. allowed action (prefixes_of marks None) (slice_index rest 0) ≡ false)
+AsksForRex marks row rest =
+    IfSome (action_of row ((slice_index rest 0 / 8) % 8))
+    (λ action. allowed action (prefixes_of marks None) (slice_index rest 0) ≡ false)
 
 -- REX has no bit that its row does not read, and stands there without a bit only where the row asks for it
 abbrev pub IsNeeded : List ℕ → Row → List ℕ → ℕ → Type 0
-IsNeeded marks row rest byte = AreAmong (rex_of byte) (bits_read row rest) × (rex_of byte ≡ no_bits → AsksForRex marks row rest)
+IsNeeded marks row rest byte =
+    AreAmong (rex_of byte) (bits_read row rest) × (rex_of byte ≡ no_bits → AsksForRex marks row rest)
 
 -- The prefixes are FS alone, which the operand asks for, and REX where it is needed. (66 and 2e change no instruction.)
 pub record HasNoRedundant (bytes : List ℕ) (body : Body) (parts : HasParts bytes body) : Type 0 where
@@ -145,8 +171,8 @@ pub record HasNoRedundant (bytes : List ℕ) (body : Body) (parts : HasParts byt
 
 -- ---- the first line
 
--- An opcode's line in the table: those that do not share a line are in the order of specs/Row, the lines of one byte before
--- those behind 0f.
+-- An opcode's line in the table: those that do not share a line are in the order of amd64_subset's specs/Row, the
+-- lines of one byte before those behind 0f.
 unfoldable pub line_of : Row → ℕ
 line_of (row.Alone (operation.Push register)) = 0
 line_of (row.Alone (operation.Pop register)) = 1
@@ -181,8 +207,8 @@ line_of other = 50
 
 -- ---- the spelling that is written
 
--- The bytes spell this instruction, so: with no redundant prefix, as short as any of its spellings, and of those that are
--- as short in the first line of the table.
+-- The bytes spell this instruction, so: with no redundant prefix, as short as any of its spellings, and of those that
+-- are as short in the first line of the table.
 pub record IsCanonical (instr : Instr) (bytes : List ℕ) : Type 0 where
   pub body : Body
   pub parts : HasParts bytes body
@@ -190,7 +216,8 @@ pub record IsCanonical (instr : Instr) (bytes : List ℕ) : Type 0 where
   pub short : length bytes ≤ 15
   pub no_redundant : HasNoRedundant bytes body parts
   pub shortest : (other : List ℕ) (d : Decoded) → Spells other d → d.instr ≡ instr → length bytes ≤ length other
-  pub first : (other : List ℕ) (d : Decoded) (spells : Spells other d) → d.instr ≡ instr → length other ≡ length bytes → line_of parts.row ≤ line_of spells.parts.row
+  pub first : (other : List ℕ) (d : Decoded) (spells : Spells other d) → d.instr ≡ instr → length other ≡ length bytes
+      → line_of parts.row ≤ line_of spells.parts.row
 
 -- Whatever follows these bytes, the instruction is read from them, and takes so many.
 abbrev pub ReadsAs : Instr → ℕ → List ℕ → Type 0

@@ -1,5 +1,6 @@
 -- The bytes of a form: prefixes, REX, opcode, ModRM, SIB, displacement, immediate, each only where it is needed.
-use Rattle.std.specs.Prelude.{ℕ, ◌+◌, ◌*◌, ◌%◌, Bool, false, List, [], ◌∷◌, ◌++◌, length, take, drop, nat_le, Option, Some, None, is_some, not, ◌&&◌, ◌||◌, ◌==◌, if◌then◌else◌}
+use Rattle.std.specs.Prelude.{ℕ, ◌+◌, ◌*◌, ◌%◌, Bool, false, List, [], ◌∷◌, ◌++◌, length, take, drop, nat_le, Option}
+use Rattle.std.specs.Prelude.{Some, None, is_some, not, ◌&&◌, ◌||◌, ◌==◌, if◌then◌else◌}
 use Rattle.std.specs.Option.{option_to_list}
 use Rattle.std.specs.Int.{w64, to_le_bytes}
 use Rattle.amd64_subset.specs.declared.register.Register.{Register}
@@ -58,11 +59,15 @@ address_of field base.NextInstruction index displacement = record { modrm = pack
 address_of field base.Absolute index displacement = record { modrm = packed 0 field 4; sib = Some (sib_of index 5) }
 address_of field (base.Register register) index displacement =
     if needs_sib index (low_bits register)
-    then record { modrm = packed (mode_of displacement (low_bits register)) field 4; sib = Some (sib_of index (low_bits register)) }
+    then record {
+      modrm = packed (mode_of displacement (low_bits register)) field 4;
+      sib = Some (sib_of index (low_bits register));
+    }
     else record { modrm = packed (mode_of displacement (low_bits register)) field (low_bits register); sib = None }
 
 unfoldable pub selectors_of : ℕ → Operand → ℕ → Selectors
-selectors_of field (operand.Register register) displacement = record { modrm = packed 3 field (low_bits register); sib = None }
+selectors_of field (operand.Register register) displacement =
+    record { modrm = packed 3 field (low_bits register); sib = None }
 selectors_of field (operand.InMemory memory) displacement = address_of field memory.base memory.index displacement
 
 -- the fourth bits of an operand's registers
@@ -91,7 +96,8 @@ has_segment (operand.InMemory memory) = memory.from_thread_pointer
 abbrev pub bits_in : Bool → Fields → Rex
 bits_in wide fields.Bare = record { wide = wide; register = false; index = false; base = false }
 bits_in wide (fields.Low register) = record { wide = wide; register = false; index = false; base = is_high register }
-bits_in wide (fields.Selected field operand) = record { wide = wide; register = nat_le 8 field; index = high_index operand; base = high_base operand }
+bits_in wide (fields.Selected field operand) =
+    record { wide = wide; register = nat_le 8 field; index = high_index operand; base = high_base operand }
 
 abbrev pub rex_bits : Form → Rex
 rex_bits form = bits_in form.wide form.fields
@@ -128,7 +134,8 @@ number_bytes size number = take (count_of size) (to_le_bytes w64 number)
 -- ModRM, SIB and the displacement
 abbrev pub selector_bytes : Option Selectors → ℕ → List ℕ
 selector_bytes None displacement = []
-selector_bytes (Some selectors) displacement = selectors.modrm ∷ (option_to_list selectors.sib ++ number_bytes (displacement_size selectors) displacement)
+selector_bytes (Some selectors) displacement =
+    selectors.modrm ∷ (option_to_list selectors.sib ++ number_bytes (displacement_size selectors) displacement)
 
 abbrev pub opcode_bytes : Form → List ℕ
 opcode_bytes form = option_to_list (when form.escaped 0x0f) ++ (form.opcode ∷ [])

@@ -1,7 +1,10 @@
 //! The form in which an instruction is written: which row of the opcode map, and what stands in that row's fields.
 
 ghost use Rattle.std.specs.Prelude.{◌≡◌, ◌<◌, true};
-ghost use Rattle.amd64_encoder.specs.Form.{fits_byte, fits_long, is_quad, arithmetic_number, shift_number, condition_number, with_number, with_low, with_operand, two_operands, move_number, compute_number, shifted, needs_rex, jump, jump_if, other_form_of, form_of};
+ghost use Rattle.amd64_encoder.specs.Form.{fits_byte, fits_long, is_quad, arithmetic_number, shift_number};
+ghost use Rattle.amd64_encoder.specs.Form.{condition_number, with_number, with_low, with_operand, two_operands};
+ghost use Rattle.amd64_encoder.specs.Form.{move_number, compute_number, shifted, needs_rex, jump, jump_if};
+ghost use Rattle.amd64_encoder.specs.Form.{other_form_of, form_of};
 
 use amd64_subset::encoding::Size;
 use amd64_subset::{

@@ -7,5 +7,6 @@ ghost use Rattle.amd64_encoder.specs.Canonical.{IsSpellable};
 
 /// What is read of bytes has a spelling, so `encode` takes it.
 pub fn spellable()
-    ensures { (bytes : List ℕ) (d : Decoded) → ((i : ℕ) → slice_index bytes i < 2 ^ 8) → decoded bytes ≡ Some d → IsSpellable d.instr }
+    ensures { (bytes : List ℕ) (d : Decoded) → ((i : ℕ) → slice_index bytes i < 2 ^ 8)
+        → decoded bytes ≡ Some d → IsSpellable d.instr }
 {}

@@ -2,7 +2,10 @@
 
 ghost use Rattle.std.specs.Prelude.{◌≡◌, ◌≤◌, ◌<◌, ◌+◌, length, take, drop};
 ghost use Rattle.std.specs.Option.{option_to_list};
-ghost use Rattle.amd64_encoder.specs.Writing.{scale_number, sib_of, mode_of, needs_sib, address_of, selectors_of, high_base, high_index, has_segment, rex_bits, rex_byte, rex_in, mark_in, selectors_in, number_bytes, selector_bytes, form_bytes, spelling_of, spliced, packed, is_high, when};
+ghost use Rattle.amd64_encoder.specs.Writing.{scale_number, sib_of, mode_of, needs_sib, address_of, selectors_of};
+ghost use Rattle.amd64_encoder.specs.Writing.{high_base, high_index, has_segment, rex_bits, rex_byte, rex_in};
+ghost use Rattle.amd64_encoder.specs.Writing.{mark_in, selectors_in, number_bytes, selector_bytes, form_bytes};
+ghost use Rattle.amd64_encoder.specs.Writing.{spelling_of, spliced, packed, is_high, when};
 ghost use Rattle.amd64_subset.specs.Number.{count_of};
 ghost use Rattle.amd64_encoder.specs.Canonical.{IsSpellable, IsCanonical, ReadsAs};
 

@@ -70,7 +70,8 @@ four_back size.One behind back e = absurd cc
 four_back size.Four behind back e = (refl, cc)
 four_back size.Eight behind back e = absurd cc
 
-operated_displaced : (prefixes : Prefixes) (r : Row) (s : Size) (rest : List ℕ) (body : Body) (back : ℕ) → IsOperated prefixes r s rest body → ((o : List ℕ) (b : Body) → IsOperated prefixes r s o b → HasBody prefixes r o b) → body.disp ≡ Some back → HasGap prefixes r rest displaced back body body.instr.displacement
+operated_displaced : (prefixes : Prefixes) (r : Row) (s : Size) (rest : List ℕ) (body : Body) (back : ℕ) → IsOperated prefixes r s rest body
+    → ((o : List ℕ) (b : Body) → IsOperated prefixes r s o b → HasBody prefixes r o b) → body.disp ≡ Some back → HasGap prefixes r rest displaced back body body.instr.displacement
 unfolding operand_body
 operated_displaced prefixes r s rest body back h as_body e =
     let selectors : Selectors = record { modrm = h.modrm; sib = h.sib } in
@@ -97,7 +98,8 @@ operated_displaced prefixes r s rest body back h as_body e =
         has_sib = h.has_sib;
         displacement-length = len ∙ ap count_of (sym four-is);
         immediate-length = h.immediate-length;
-        body-is = ap (λ (b : Body). displaced (field_of o) b) h.body-is ∙ ap (λ (x : Size). operand_body h.action prefixes selectors s (record { displacement = signed_of x o; immediate = signed_of s h.immediate })) (sym four-is);
+        body-is = ap (λ (b : Body). displaced (field_of o) b) h.body-is
+            ∙ ap (λ (x : Size). operand_body h.action prefixes selectors s (record { displacement = signed_of x o; immediate = signed_of s h.immediate })) (sym four-is);
       });
     }
 
@@ -108,14 +110,17 @@ same_operation action.MoveImmediate prefixes selectors m n e = refl
 same_operation (action.ComputeImmediate arithmetic) prefixes selectors m n e = refl
 same_operation a prefixes selectors m n e = absurd cc
 
-rebuilt : (x y : Operation) (d m n : ℕ) (p q : Option ℕ) → x ≡ y → m ≡ n → ◌≡◌ {A = Body} (record { instr = record { operation = x; displacement = d; immediate = m }; disp = p; imm = q }) (record { instr = record { operation = y; displacement = d; immediate = n }; disp = p; imm = q })
+rebuilt : (x y : Operation) (d m n : ℕ) (p q : Option ℕ) → x ≡ y → m ≡ n
+    → ◌≡◌ {A = Body} (record { instr = record { operation = x; displacement = d; immediate = m }; disp = p; imm = q })
+    (record { instr = record { operation = y; displacement = d; immediate = n }; disp = p; imm = q })
 rebuilt x y d m n p q e f = rw (e, f) refl
 
 some_if : (b : Bool) (o : Option ℕ) (back : ℕ) → cond b o None ≡ Some back → (b ≡ true) × (o ≡ Some back)
 some_if true o back e = (refl, e)
 some_if false o back e = absurd cc
 
-operated_immediate : (prefixes : Prefixes) (r : Row) (s : Size) (rest : List ℕ) (body : Body) (back : ℕ) → IsOperated prefixes r s rest body → ((o : List ℕ) (b : Body) → IsOperated prefixes r s o b → HasBody prefixes r o b) → body.imm ≡ Some back → HasGap prefixes r rest immediately back body body.instr.immediate
+operated_immediate : (prefixes : Prefixes) (r : Row) (s : Size) (rest : List ℕ) (body : Body) (back : ℕ) → IsOperated prefixes r s rest body
+    → ((o : List ℕ) (b : Body) → IsOperated prefixes r s o b → HasBody prefixes r o b) → body.imm ≡ Some back → HasGap prefixes r rest immediately back body body.instr.immediate
 unfolding operand_body
 operated_immediate prefixes r s rest body back h as_body e =
     let selectors : Selectors = record { modrm = h.modrm; sib = h.sib } in
@@ -131,20 +136,23 @@ operated_immediate prefixes r s rest body back h as_body e =
       four-length = h.immediate-length ∙ ap count_of size-is.0;
       right-length = omega (arith, size-is.1);
       number-is = ap (λ (b : Body). b.instr.immediate) h.body-is ∙ number ∙ ap (λ (x : Size). signed_of x h.immediate) size-is.0;
-      other = λ o len. let number_of : field_of o ≡ cond (takes_immediate h.action) (signed_of s o) 0 = ap (λ (x : Size). signed_of x o) (sym size-is.0) ∙ sym (cond-true (takes_immediate h.action) (signed_of s o) 0 takes.0) in as_body ((h.modrm ∷ (option_to_list h.sib ++ h.displacement)) ++ (o ++ [])) (immediately (field_of o) body) (record {
-        modrm = h.modrm;
-        sib = h.sib;
-        displacement = h.displacement;
-        immediate = o;
-        action = h.action;
-        whole = simp (append_assoc, append-nil);
-        action-is = h.action-is;
-        allows = h.allows;
-        has_sib = h.has_sib;
-        displacement-length = h.displacement-length;
-        immediate-length = len ∙ ap count_of (sym size-is.0);
-        body-is = ap (λ (b : Body). immediately (field_of o) b) h.body-is ∙ rebuilt _ _ _ _ _ _ _ (same_operation h.action prefixes selectors (signed_of s h.immediate % 256) (signed_of s o % 256) takes.0) number_of;
-      });
+      other = λ o len. let number_of : field_of o ≡ cond (takes_immediate h.action) (signed_of s o) 0 = ap (λ (x : Size). signed_of x o) (sym size-is.0)
+          ∙ sym (cond-true (takes_immediate h.action) (signed_of s o) 0 takes.0) in
+          as_body ((h.modrm ∷ (option_to_list h.sib ++ h.displacement)) ++ (o ++ [])) (immediately (field_of o) body) (record {
+            modrm = h.modrm;
+            sib = h.sib;
+            displacement = h.displacement;
+            immediate = o;
+            action = h.action;
+            whole = simp (append_assoc, append-nil);
+            action-is = h.action-is;
+            allows = h.allows;
+            has_sib = h.has_sib;
+            displacement-length = h.displacement-length;
+            immediate-length = len ∙ ap count_of (sym size-is.0);
+            body-is = ap (λ (b : Body). immediately (field_of o) b) h.body-is
+                ∙ rebuilt _ _ _ _ _ _ _ (same_operation h.action prefixes selectors (signed_of s h.immediate % 256) (signed_of s o % 256) takes.0) number_of;
+          });
     }
 
 is_immediate_imm : (action : Numbered) (w : Width) (s : Size) (n back : ℕ) → (numbered_body action w s n).imm ≡ Some back → (is_immediate action ≡ true) × (place_of s 0 ≡ Some back)
@@ -176,7 +184,8 @@ numbered_disp (numbered.Move r) w s n = refl
 numbered_disp (numbered.Compute a) w s n = refl
 
 -- a number alone
-numbered_immediate : (action : Numbered) (s : Size) (prefixes : Prefixes) (rest : List ℕ) (body : Body) (back : ℕ) → HasBody prefixes (row.Number action s) rest body → body.imm ≡ Some back → HasGap prefixes (row.Number action s) rest immediately back body body.instr.immediate
+numbered_immediate : (action : Numbered) (s : Size) (prefixes : Prefixes) (rest : List ℕ) (body : Body) (back : ℕ)
+    → HasBody prefixes (row.Number action s) rest body → body.imm ≡ Some back → HasGap prefixes (row.Number action s) rest immediately back body body.instr.immediate
 numbered_immediate action s prefixes rest body back h e =
     let imm : (numbered_body action (width_of prefixes) s (signed_of s rest)).imm ≡ Some back = ap (λ (b : Body). b.imm) (sym h.1) ∙ e in
     let is = is_immediate_imm action (width_of prefixes) s (signed_of s rest) back imm in
@@ -189,24 +198,33 @@ numbered_immediate action s prefixes rest body back h e =
       four-length = h.0 ∙ ap count_of size-is.0;
       right-length = size-is.1;
       number-is = ap (λ (b : Body). b.instr.immediate) h.1 ∙ immediate_of action (width_of prefixes) s (signed_of s rest) is.0 ∙ ap (λ (x : Size). signed_of x rest) size-is.0;
-      other = λ o len. (ap length (append-nil o) ∙ len ∙ ap count_of (sym size-is.0), ap (λ (b : Body). immediately (field_of o) b) h.1 ∙ other_immediate action (width_of prefixes) s (signed_of s rest) (field_of o) is.0 ∙ ap (λ (n : ℕ). numbered_body action (width_of prefixes) s n) (ap (λ (x : Size). signed_of x o) (sym size-is.0) ∙ ap (λ (l : List ℕ). signed_of s l) (sym (append-nil o))));
+      other = λ o len. (
+        ap length (append-nil o) ∙ len ∙ ap count_of (sym size-is.0),
+        ap (λ (b : Body). immediately (field_of o) b) h.1
+            ∙ other_immediate action (width_of prefixes) s (signed_of s rest) (field_of o) is.0
+            ∙ ap (λ (n : ℕ). numbered_body action (width_of prefixes) s n) (ap (λ (x : Size). signed_of x o) (sym size-is.0) ∙ ap (λ (l : List ℕ). signed_of s l) (sym (append-nil o))),
+      );
     }
 
-no_displacement : (prefixes : Prefixes) (r : Row) (rest : List ℕ) (body : Body) (back : ℕ) → body.disp ≡ None → body.disp ≡ Some back → HasGap prefixes r rest displaced back body body.instr.displacement
+no_displacement : (prefixes : Prefixes) (r : Row) (rest : List ℕ) (body : Body) (back : ℕ) → body.disp ≡ None → body.disp ≡ Some back
+    → HasGap prefixes r rest displaced back body body.instr.displacement
 no_displacement prefixes r rest body back none some = absurd cc
 
-pub body_displaced : (prefixes : Prefixes) (r : Row) (rest : List ℕ) (body : Body) (back : ℕ) → HasBody prefixes r rest body → body.disp ≡ Some back → HasGap prefixes r rest displaced back body body.instr.displacement
+pub body_displaced : (prefixes : Prefixes) (r : Row) (rest : List ℕ) (body : Body) (back : ℕ) → HasBody prefixes r rest body → body.disp ≡ Some back
+    → HasGap prefixes r rest displaced back body body.instr.displacement
 body_displaced prefixes (row.Alone operation) rest body back h e = no_displacement prefixes (row.Alone operation) rest body back (ap (λ (b : Body). b.disp) h.1) e
 body_displaced prefixes row.Nop rest body back h e = no_displacement prefixes row.Nop rest body back (ap (λ (b : Body). b.disp) h.1) e
 body_displaced prefixes row.EndBranch rest body back h e = no_displacement prefixes row.EndBranch rest body back (ap (λ (b : Body). b.disp) h.1) e
-body_displaced prefixes (row.Number action s) rest body back h e = no_displacement prefixes (row.Number action s) rest body back (ap (λ (b : Body). b.disp) h.1 ∙ numbered_disp action (width_of prefixes) s (signed_of s rest)) e
+body_displaced prefixes (row.Number action s) rest body back h e = no_displacement prefixes (row.Number action s) rest body back
+    (ap (λ (b : Body). b.disp) h.1 ∙ numbered_disp action (width_of prefixes) s (signed_of s rest)) e
 body_displaced prefixes (row.Register action) rest body back h e = operated_displaced prefixes (row.Register action) size.Zero rest body back h (λ o b x. x) e
 body_displaced prefixes (row.Group group s) rest body back h e = operated_displaced prefixes (row.Group group s) s rest body back h (λ o b x. x) e
 
 no_immediate : (prefixes : Prefixes) (r : Row) (rest : List ℕ) (body : Body) (back : ℕ) → body.imm ≡ None → body.imm ≡ Some back → HasGap prefixes r rest immediately back body body.instr.immediate
 no_immediate prefixes r rest body back none some = absurd cc
 
-pub body_immediate : (prefixes : Prefixes) (r : Row) (rest : List ℕ) (body : Body) (back : ℕ) → HasBody prefixes r rest body → body.imm ≡ Some back → HasGap prefixes r rest immediately back body body.instr.immediate
+pub body_immediate : (prefixes : Prefixes) (r : Row) (rest : List ℕ) (body : Body) (back : ℕ) → HasBody prefixes r rest body → body.imm ≡ Some back
+    → HasGap prefixes r rest immediately back body body.instr.immediate
 body_immediate prefixes (row.Alone operation) rest body back h e = no_immediate prefixes (row.Alone operation) rest body back (ap (λ (b : Body). b.imm) h.1) e
 body_immediate prefixes row.Nop rest body back h e = no_immediate prefixes row.Nop rest body back (ap (λ (b : Body). b.imm) h.1) e
 body_immediate prefixes row.EndBranch rest body back h e = no_immediate prefixes row.EndBranch rest body back (ap (λ (b : Body). b.imm) h.1) e
@@ -231,7 +249,9 @@ regrouped left four right rest whole parts = rw (parts) (simp append_assoc)
 new_whole : (left o right rest bytes tail : List ℕ) → left ≡ bytes → right ++ rest ≡ tail → (left ++ (o ++ right)) ++ rest ≡ bytes ++ (o ++ tail)
 new_whole left o right rest bytes tail same end = rw (← same, ← end) (simp append_assoc)
 
-around : (bytes four tail whole rest : List ℕ) (body : Body) (change : ℕ → Body → Body) (number back : ℕ) (p : HasParts whole body) → length whole ≤ 15 → whole ++ rest ≡ bytes ++ (four ++ tail) → length four ≡ 4 → HasGap (prefixes_of p.marks p.rex) p.row p.rest change back body number → length whole - back ≡ length bytes → Around bytes four tail body (length whole) change number
+around : (bytes four tail whole rest : List ℕ) (body : Body) (change : ℕ → Body → Body) (number back : ℕ) (p : HasParts whole body) → length whole ≤ 15
+    → whole ++ rest ≡ bytes ++ (four ++ tail) → length four ≡ 4 → HasGap (prefixes_of p.marks p.rex) p.row p.rest change back body number
+    → length whole - back ≡ length bytes → Around bytes four tail body (length whole) change number
 around bytes four tail whole rest body change number back p short same four-length gap at =
     let left = p.marks ++ (option_to_list p.rex ++ (p.opcode ++ gap.left)) in
     let parts : whole ≡ left ++ (gap.four ++ gap.right) = p.whole ∙ ap (λ (t : List ℕ). p.marks ++ (option_to_list p.rex ++ (p.opcode ++ t))) gap.whole ∙ simp append_assoc in
@@ -243,7 +263,16 @@ around bytes four tail whole rest body change number back p short same four-leng
       number-is = gap.number-is ∙ ap field_of second.0;
       other = λ o o-length.
           let new = left ++ (o ++ gap.right) in
-          let new-length : length new ≡ length whole = omega (arith, ap length parts, length-append left (gap.four ++ gap.right), length-append gap.four gap.right, length-append left (o ++ gap.right), length-append o gap.right, gap.four-length) in
+          let new-length : length new ≡ length whole = omega (
+            arith,
+            ap length parts,
+            length-append left
+                (gap.four ++ gap.right),
+            length-append gap.four gap.right,
+            length-append left (o ++ gap.right),
+            length-append o gap.right,
+            gap.four-length,
+          ) in
           let new-parts : HasParts new (change (field_of o) body) = record {
             marks = p.marks;
             rex = p.rex;
@@ -257,11 +286,13 @@ around bytes four tail whole rest body change number back p short same four-leng
             takes = p.takes;
             has_body = gap.other o o-length;
           } in
-          let spells : Spells new (placed (length whole) (change (field_of o) body)) = record { body = change (field_of o) body; short = omega arith; parts = new-parts; decoded-is = ap (λ (n : ℕ). placed n (change (field_of o) body)) (sym new-length) } in
+          let spells : Spells new (placed (length whole) (change (field_of o) body)) =
+          record { body = change (field_of o) body; short = omega arith; parts = new-parts; decoded-is = ap (λ (n : ℕ). placed n (change (field_of o) body)) (sym new-length) } in
           ap decoded (sym (new_whole left o gap.right rest bytes tail first.0 second.1)) ∙ decoded_again new (placed (length whole) (change (field_of o) body)) rest spells;
     }
 
-pub displacement_around : (bytes four tail : List ℕ) (d : Decoded) → length four ≡ 4 → decoded (bytes ++ (four ++ tail)) ≡ Some d → d.disp ≡ Some (length bytes) → (d.instr.displacement ≡ field_of four) × ((o : List ℕ) → length o ≡ 4 → decoded (bytes ++ (o ++ tail)) ≡ Some (with_displacement (field_of o) d))
+pub displacement_around : (bytes four tail : List ℕ) (d : Decoded) → length four ≡ 4 → decoded (bytes ++ (four ++ tail)) ≡ Some d
+    → d.disp ≡ Some (length bytes) → (d.instr.displacement ≡ field_of four) × ((o : List ℕ) → length o ≡ 4 → decoded (bytes ++ (o ++ tail)) ≡ Some (with_displacement (field_of o) d))
 displacement_around bytes four tail d four-length e at =
     let whole = bytes ++ (four ++ tail) in
     let spells = (decoded_found whole d e).spells in
@@ -274,7 +305,8 @@ displacement_around bytes four tail d four-length e at =
       λ o len. a.other o len ∙ ap (λ (x : Decoded). Some (with_displacement (field_of o) x)) (sym spells.decoded-is),
     )
 
-pub immediate_around : (bytes four tail : List ℕ) (d : Decoded) → length four ≡ 4 → decoded (bytes ++ (four ++ tail)) ≡ Some d → d.imm ≡ Some (length bytes) → (d.instr.immediate ≡ field_of four) × ((o : List ℕ) → length o ≡ 4 → decoded (bytes ++ (o ++ tail)) ≡ Some (with_immediate (field_of o) d))
+pub immediate_around : (bytes four tail : List ℕ) (d : Decoded) → length four ≡ 4 → decoded (bytes ++ (four ++ tail)) ≡ Some d → d.imm ≡ Some (length bytes)
+    → (d.instr.immediate ≡ field_of four) × ((o : List ℕ) → length o ≡ 4 → decoded (bytes ++ (o ++ tail)) ≡ Some (with_immediate (field_of o) d))
 immediate_around bytes four tail d four-length e at =
     let whole = bytes ++ (four ++ tail) in
     let spells = (decoded_found whole d e).spells in

@@ -1,5 +1,6 @@
 -- Fields behind the opcode: what is read is what stands there, and what stands there is read.
-use Rattle.std.proofs.Common.{◌≡◌, ℕ, ◌+◌, ◌-◌, ◌/◌, ◌%◌, ◌≤◌, true, false, ltb, List, [], ◌∷◌, ◌++◌, length, take, drop, Option, Some, None, Ok, refl, sym, ap, subst, ◌∙◌, append_assoc, arith, inl, inr}
+use Rattle.std.proofs.Common.{◌≡◌, ℕ, ◌+◌, ◌-◌, ◌/◌, ◌%◌, ◌≤◌, true, false, ltb, List, [], ◌∷◌, ◌++◌, length, take, drop, Option, Some, None, Ok, refl, sym, ap, subst, ◌∙◌, append_assoc, arith}
+use Rattle.std.proofs.Common.{inl, inr}
 use Rattle.std.specs.Prelude.{not, is_some}
 use Rattle.std.specs.Option.{option_to_list}
 use Rattle.std.proofs.lemmas.Bool.{ltb-false, le-ltb, not-true, not-false}
@@ -49,7 +50,8 @@ numbers_takes d i bytes n rest e =
       is = sym n-is;
     }
 
-pub numbers_again : (d i : Size) (first second rest : List ℕ) → length first ≡ count_of d → length second ≡ count_of i → numbers_at d i (first ++ (second ++ rest)) ≡ Ok (record { displacement = signed_of d first; immediate = signed_of i second }, rest)
+pub numbers_again : (d i : Size) (first second rest : List ℕ) → length first ≡ count_of d → length second ≡ count_of i
+    → numbers_at d i (first ++ (second ++ rest)) ≡ Ok (record { displacement = signed_of d first; immediate = signed_of i second }, rest)
 unfolding numbers_at
 numbers_again d i first second rest f s =
     let long : ltb (length (first ++ (second ++ rest))) (count_of d + count_of i) ≡ false = le-ltb _ _ (omega (arith, length-append first (second ++ rest), length-append second rest)) in
@@ -57,7 +59,8 @@ numbers_again d i first second rest f s =
 
 -- ---- SIB
 
-pub sib_takes : (modrm : ℕ) (behind : Size) (bytes : List ℕ) (sib : Option ℕ) (rest : List ℕ) → sib_at modrm behind bytes ≡ Ok (sib, rest) → (bytes ≡ option_to_list sib ++ rest) × (is_some sib ≡ has_sib modrm)
+pub sib_takes : (modrm : ℕ) (behind : Size) (bytes : List ℕ) (sib : Option ℕ) (rest : List ℕ) → sib_at modrm behind bytes ≡ Ok (sib, rest)
+    → (bytes ≡ option_to_list sib ++ rest) × (is_some sib ≡ has_sib modrm)
 unfolding sib_at
 sib_takes modrm behind [] sib rest e =
     elim (chosen (not (has_sib modrm)) _ _ _ e) [
@@ -66,8 +69,16 @@ sib_takes modrm behind [] sib rest e =
     ]
 sib_takes modrm behind (byte ∷ bytes) sib rest e =
     elim (chosen (not (has_sib modrm)) _ _ _ e) [
-      | inl h ↦ let p = ok_is (None, byte ∷ bytes) (sib, rest) h.1 in (ap (λ (x : Option ℕ × List ℕ). option_to_list x.0 ++ x.1) p, ap (λ (x : Option ℕ × List ℕ). is_some x.0) (sym p) ∙ sym (not-true _ h.0))
-      | inr h ↦ let p = ok_is (Some byte, bytes) (sib, rest) h.1 in (ap (λ (x : Option ℕ × List ℕ). option_to_list x.0 ++ x.1) p, ap (λ (x : Option ℕ × List ℕ). is_some x.0) (sym p) ∙ sym (not-false _ h.0))
+      | inl h ↦ let p = ok_is (None, byte ∷ bytes) (sib, rest) h.1 in (
+        ap (λ (x : Option ℕ × List ℕ). option_to_list x.0 ++ x.1) p,
+        ap
+            (λ (x : Option ℕ × List ℕ). is_some x.0) (sym p) ∙ sym (not-true _ h.0),
+      )
+      | inr h ↦ let p = ok_is (Some byte, bytes) (sib, rest) h.1 in (
+        ap (λ (x : Option ℕ × List ℕ). option_to_list x.0 ++ x.1) p,
+        ap
+            (λ (x : Option ℕ × List ℕ). is_some x.0) (sym p) ∙ sym (not-false _ h.0),
+      )
     ]
 
 pub sib_again : (modrm : ℕ) (behind : Size) (sib : Option ℕ) (rest : List ℕ) → is_some sib ≡ has_sib modrm → sib_at modrm behind (option_to_list sib ++ rest) ≡ Ok (sib, rest)
@@ -83,7 +94,8 @@ pub record HasSelectors (prefixes : Prefixes) (row : Row) (bytes : List ℕ) (se
   pub allows : allowed selected.0 prefixes selected.1.modrm ≡ true
   pub has_sib : is_some selected.1.sib ≡ has_sib selected.1.modrm
 
-pub selectors_takes : (prefixes : Prefixes) (row : Row) (size : Size) (bytes : List ℕ) (selected : Action × Selectors) (rest : List ℕ) → selectors_at prefixes row size bytes ≡ Ok (selected, rest) → HasSelectors prefixes row bytes selected rest
+pub selectors_takes : (prefixes : Prefixes) (row : Row) (size : Size) (bytes : List ℕ) (selected : Action × Selectors) (rest : List ℕ)
+    → selectors_at prefixes row size bytes ≡ Ok (selected, rest) → HasSelectors prefixes row bytes selected rest
 unfolding selectors_at
 selectors_takes prefixes row size [] selected rest e = absurd cc
 selectors_takes prefixes row size (modrm ∷ bytes) selected rest e =
@@ -99,7 +111,9 @@ selectors_takes prefixes row size (modrm ∷ bytes) selected rest e =
       has_sib = front.1;
     })
 
-pub selectors_again : (prefixes : Prefixes) (row : Row) (size : Size) (modrm : ℕ) (sib : Option ℕ) (action : Action) (rest : List ℕ) → action_of row ((modrm / 8) % 8) ≡ Some action → allowed action prefixes modrm ≡ true → is_some sib ≡ has_sib modrm → selectors_at prefixes row size (modrm ∷ (option_to_list sib ++ rest)) ≡ Ok ((action, record { modrm = modrm; sib = sib }), rest)
+pub selectors_again : (prefixes : Prefixes) (row : Row) (size : Size) (modrm : ℕ) (sib : Option ℕ) (action : Action) (rest : List ℕ)
+    → action_of row ((modrm / 8) % 8) ≡ Some action → allowed action prefixes modrm ≡ true → is_some sib ≡ has_sib modrm
+    → selectors_at prefixes row size (modrm ∷ (option_to_list sib ++ rest)) ≡ Ok ((action, record { modrm = modrm; sib = sib }), rest)
 unfolding selectors_at
 selectors_again prefixes row size modrm sib action rest named allows has = rw (named, allows, sib_again modrm size sib rest has) refl
 
@@ -108,7 +122,8 @@ selectors_again prefixes row size modrm sib action rest named allows has = rw (n
 regroup : (m : ℕ) (s a b rest bytes middle end : List ℕ) → bytes ≡ m ∷ (s ++ middle) → middle ≡ a ++ (b ++ end) → end ≡ rest → bytes ≡ (m ∷ (s ++ (a ++ b))) ++ rest
 regroup m s a b rest bytes middle end whole parts same = rw (whole, parts, same) (simp append_assoc)
 
-pub operated_takes : (prefixes : Prefixes) (row : Row) (size : Size) (bytes : List ℕ) (body : Body) (rest : List ℕ) → operated_at prefixes row size bytes ≡ Ok (body, rest) → (front : List ℕ) × (bytes ≡ front ++ rest) × IsOperated prefixes row size front body
+pub operated_takes : (prefixes : Prefixes) (row : Row) (size : Size) (bytes : List ℕ) (body : Body) (rest : List ℕ)
+    → operated_at prefixes row size bytes ≡ Ok (body, rest) → (front : List ℕ) × (bytes ≡ front ++ rest) × IsOperated prefixes row size front body
 unfolding operated_at
 operated_takes prefixes row size bytes body rest e =
     let selected = bind_ok (selectors_at prefixes row size bytes) _ (body, rest) e in
@@ -139,9 +154,17 @@ operated_takes prefixes row size bytes body rest e =
       },
     )
 
-pub operated_again : (prefixes : Prefixes) (row : Row) (size : Size) (front : List ℕ) (body : Body) (rest : List ℕ) → IsOperated prefixes row size front body → operated_at prefixes row size (front ++ rest) ≡ Ok (body, rest)
+pub operated_again : (prefixes : Prefixes) (row : Row) (size : Size) (front : List ℕ) (body : Body) (rest : List ℕ) → IsOperated prefixes row size front body
+    → operated_at prefixes row size (front ++ rest) ≡ Ok (body, rest)
 unfolding operated_at
 operated_again prefixes row size front body rest h =
     let selectors : Selectors = record { modrm = h.modrm; sib = h.sib } in
     let regrouped : front ++ rest ≡ h.modrm ∷ (option_to_list h.sib ++ (h.displacement ++ (h.immediate ++ rest))) = ap (λ (t : List ℕ). t ++ rest) h.whole ∙ simp append_assoc in
-    rw (regrouped, selectors_again prefixes row size h.modrm h.sib h.action (h.displacement ++ (h.immediate ++ rest)) h.action-is h.allows h.has_sib, numbers_again (displacement_size selectors) size h.displacement h.immediate rest h.displacement-length h.immediate-length, h.body-is) refl
+    rw (
+      regrouped,
+      selectors_again prefixes row size h.modrm h.sib h.action
+          (h.displacement ++ (h.immediate ++ rest)) h.action-is h.allows h.has_sib,
+      numbers_again
+          (displacement_size selectors) size h.displacement h.immediate rest h.displacement-length h.immediate-length,
+      h.body-is,
+    ) refl

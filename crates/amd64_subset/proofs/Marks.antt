@@ -95,15 +95,18 @@ Apart t c marks = ((t || has 0x64 marks) && (c || has 0x2e marks)) ≡ false
 abbrev Over : Bool → Bool → Bool → Option Rex → List ℕ → List ℕ → Type 0
 Over t o c r marks rest = marks_at (prefixed t o c r) (marks ++ rest) ≡ Ok (merged t o c r marks, rest)
 
-fs_again : (t o c : Bool) (r : Option Rex) (marks rest : List ℕ) → (Once true marks → Apart true c marks → Over true o c r marks rest) → Once t (0x64 ∷ marks) → Apart t c (0x64 ∷ marks) → Over t o c r (0x64 ∷ marks) rest
+fs_again : (t o c : Bool) (r : Option Rex) (marks rest : List ℕ) → (Once true marks → Apart true c marks → Over true o c r marks rest) → Once t (0x64 ∷ marks)
+    → Apart t c (0x64 ∷ marks) → Over t o c r (0x64 ∷ marks) rest
 fs_again true o c r marks rest next once apart = absurd (omega (arith, once))
 fs_again false o true r marks rest next once apart = absurd cc
 fs_again false o false r marks rest next once apart = next (omega (arith, once)) apart
 
-operand_size_again : (t o c : Bool) (r : Option Rex) (marks rest : List ℕ) → (Once t marks → Apart t c marks → Over t true c r marks rest) → Once t (0x66 ∷ marks) → Apart t c (0x66 ∷ marks) → Over t o c r (0x66 ∷ marks) rest
+operand_size_again : (t o c : Bool) (r : Option Rex) (marks rest : List ℕ) → (Once t marks → Apart t c marks → Over t true c r marks rest)
+    → Once t (0x66 ∷ marks) → Apart t c (0x66 ∷ marks) → Over t o c r (0x66 ∷ marks) rest
 operand_size_again t o c r marks rest next once apart = rw (or_true o) (next once apart)
 
-code_segment_again : (t o c : Bool) (r : Option Rex) (marks rest : List ℕ) → (Once t marks → Apart t true marks → Over t o true r marks rest) → Once t (0x2e ∷ marks) → Apart t c (0x2e ∷ marks) → Over t o c r (0x2e ∷ marks) rest
+code_segment_again : (t o c : Bool) (r : Option Rex) (marks rest : List ℕ) → (Once t marks → Apart t true marks → Over t o true r marks rest)
+    → Once t (0x2e ∷ marks) → Apart t c (0x2e ∷ marks) → Over t o c r (0x2e ∷ marks) rest
 code_segment_again true o c r marks rest next once apart = absurd (let e = rw (or_true c) at apart in cc)
 code_segment_again false o c r marks rest next once apart = rw (or_true c) (next once (rw (or_true c) at apart))
 
@@ -159,7 +162,8 @@ possible_none : (t o c : Bool) (bytes rest : List ℕ) → Begins bytes → Poss
 unfolding rex_at
 possible_none t o c bytes rest (begins first more clear other) possible = rw (other, possible) refl
 
-pub rex_again : (t o c : Bool) (rex : Option ℕ) (rest : List ℕ) → IfSome rex (λ byte. byte / 16 ≡ 4) → Begins rest → Possible (prefixed t o c (option_map rex_of rex)) → rex_at (prefixed t o c None) (option_to_list rex ++ rest) ≡ Ok (prefixed t o c (option_map rex_of rex), rest)
+pub rex_again : (t o c : Bool) (rex : Option ℕ) (rest : List ℕ) → IfSome rex (λ byte. byte / 16 ≡ 4) → Begins rest
+    → Possible (prefixed t o c (option_map rex_of rex)) → rex_at (prefixed t o c None) (option_to_list rex ++ rest) ≡ Ok (prefixed t o c (option_map rex_of rex), rest)
 unfolding rex_at
 rex_again t o c None rest is_rex begin possible = possible_none t o c rest rest begin possible
 rex_again t o c (Some byte) rest is_rex begin possible = rw (eq-eqb (byte / 16) 4 is_rex, possible) refl
@@ -168,7 +172,8 @@ rex_again t o c (Some byte) rest is_rex begin possible = rw (eq-eqb (byte / 16) 
 
 pub rex_starts : (rex : Option ℕ) (rest : List ℕ) → IfSome rex (λ byte. byte / 16 ≡ 4) → Begins rest → Starts (option_to_list rex ++ rest)
 rex_starts None rest is_rex (begins first more clear other) = starts first more clear
-rex_starts (Some byte) rest is_rex begin = starts byte rest (or_from _ _ (or_from _ _ (ne_eqb byte 0x64 (λ same. omega arith)) (ne_eqb byte 0x66 (λ same. omega arith))) (ne_eqb byte 0x2e (λ same. omega arith)))
+rex_starts (Some byte) rest is_rex begin = starts byte rest (or_from _ _
+    (or_from _ _ (ne_eqb byte 0x64 (λ same. omega arith)) (ne_eqb byte 0x66 (λ same. omega arith))) (ne_eqb byte 0x2e (λ same. omega arith)))
 
 apart_from : (t o c w : Bool) → (t && (c || (o && not w))) ≡ false → (t && c) ≡ false
 apart_from true o true w e = absurd cc
@@ -202,8 +207,10 @@ prefixes_takes bytes q rest e =
       is = rex.is;
     }
 
-pub prefixes_again : (marks : List ℕ) (rex : Option ℕ) (rest : List ℕ) → AreMarks marks → IfSome rex (λ byte. byte / 16 ≡ 4) → Begins rest → Possible (prefixes_of marks rex) → prefixes_at (marks ++ (option_to_list rex ++ rest)) ≡ Ok (prefixes_of marks rex, rest)
+pub prefixes_again : (marks : List ℕ) (rex : Option ℕ) (rest : List ℕ) → AreMarks marks → IfSome rex (λ byte. byte / 16 ≡ 4) → Begins rest
+    → Possible (prefixes_of marks rex) → prefixes_at (marks ++ (option_to_list rex ++ rest)) ≡ Ok (prefixes_of marks rex, rest)
 unfolding prefixes_at
 prefixes_again marks rex rest are is_rex begin possible =
-    rw (marks_again false false false None marks (option_to_list rex ++ rest) are.0 (rex_starts rex rest is_rex begin) (omega (arith, are.1)) (apart_from (has 0x64 marks) (has 0x66 marks) (has 0x2e marks) (bits_of (prefixes_of marks rex)).wide possible))
+    rw (marks_again false false false None marks (option_to_list rex ++ rest) are.0 (rex_starts rex rest is_rex begin) (omega (arith, are.1))
+    (apart_from (has 0x64 marks) (has 0x66 marks) (has 0x2e marks) (bits_of (prefixes_of marks rex)).wide possible))
     (rex_again (has 0x64 marks) (has 0x66 marks) (has 0x2e marks) rex rest is_rex begin possible)

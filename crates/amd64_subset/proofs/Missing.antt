@@ -1,5 +1,6 @@
 -- How many bytes are missing: what stands behind an opcode.
-use Rattle.std.proofs.Common.{◌≡◌, ℕ, zero, suc, ◌+◌, ◌-◌, ◌/◌, ◌%◌, ◌<◌, ◌≤◌, Bool, true, false, cond, eqb, ltb, List, [], ◌∷◌, ◌++◌, length, take, drop, Option, Some, None, Result, Ok, Err, refl, sym, ap, ◌∙◌, arith, inl, inr}
+use Rattle.std.proofs.Common.{◌≡◌, ℕ, zero, suc, ◌+◌, ◌-◌, ◌/◌, ◌%◌, ◌<◌, ◌≤◌, Bool, true, false, cond, eqb, ltb, List, [], ◌∷◌, ◌++◌, length, take, drop, Option, Some, None, Result, Ok, Err}
+use Rattle.std.proofs.Common.{refl, sym, ap, ◌∙◌, arith, inl, inr}
 use Rattle.std.specs.Prelude.{not, replicate}
 use Rattle.std.specs.List.{list_all}
 use Rattle.std.specs.Option.{option_to_list}
@@ -128,15 +129,19 @@ abbrev sibbed : Prefixes → Size → Action → ℕ → List ℕ → Read Body
 sibbed prefixes s a modrm bytes = sib_at modrm s bytes >>= (λ sib. with_sib prefixes s a modrm sib.0 sib.1)
 
 -- where ModRM is allowed, SIB and the numbers follow
-operated-sibbed : (prefixes : Prefixes) (r : Row) (s : Size) (a : Action) (modrm : ℕ) (bytes : List ℕ) → action_of r ((modrm / 8) % 8) ≡ Some a → allowed a prefixes modrm ≡ true → operated_at prefixes r s (modrm ∷ bytes) ≡ sibbed prefixes s a modrm bytes
+operated-sibbed : (prefixes : Prefixes) (r : Row) (s : Size) (a : Action) (modrm : ℕ) (bytes : List ℕ) → action_of r ((modrm / 8) % 8) ≡ Some a
+    → allowed a prefixes modrm ≡ true → operated_at prefixes r s (modrm ∷ bytes) ≡ sibbed prefixes s a modrm bytes
 unfolding operated_at selectors_at
-operated-sibbed prefixes r s a modrm bytes named allows = rw (named, allows) (bind_assoc (sib_at modrm s bytes) (λ sib. Ok ((a, record { modrm = modrm; sib = sib.0 }), sib.1)) (λ selected. ended (displacement_size selected.0.1) s (operand_body selected.0.0 prefixes selected.0.1 s) selected.1))
+operated-sibbed prefixes r s a modrm bytes named allows = rw (named, allows)
+    (bind_assoc (sib_at modrm s bytes) (λ sib. Ok ((a, record { modrm = modrm; sib = sib.0 }), sib.1))
+    (λ selected. ended (displacement_size selected.0.1) s (operand_body selected.0.0 prefixes selected.0.1 s) selected.1))
 
 -- ModRM of a reading that was not refused was allowed
 abbrev Allowed : Prefixes → Row → ℕ → Type 0
 Allowed prefixes r modrm = (a : Action) × (action_of r ((modrm / 8) % 8) ≡ Some a) × (allowed a prefixes modrm ≡ true)
 
-selectors_allowed : (prefixes : Prefixes) (r : Row) (s : Size) (modrm : ℕ) (bytes : List ℕ) (y : (Action × Selectors) × List ℕ) → selectors_at prefixes r s (modrm ∷ bytes) ≡ Ok y → Allowed prefixes r modrm
+selectors_allowed : (prefixes : Prefixes) (r : Row) (s : Size) (modrm : ℕ) (bytes : List ℕ) (y : (Action × Selectors) × List ℕ)
+    → selectors_at prefixes r s (modrm ∷ bytes) ≡ Ok y → Allowed prefixes r modrm
 unfolding selectors_at
 selectors_allowed prefixes r s modrm bytes y e =
     let named = bind_ok (or_wrong (action_of r ((modrm / 8) % 8))) _ y e in
@@ -170,7 +175,8 @@ sibbed-none : (prefixes : Prefixes) (s : Size) (a : Action) (modrm : ℕ) (bytes
 unfolding sib_at
 sibbed-none prefixes s a modrm bytes e = rw (e) refl
 
-sibbed-some : (prefixes : Prefixes) (s : Size) (a : Action) (modrm sib : ℕ) (bytes : List ℕ) → has_sib modrm ≡ true → sibbed prefixes s a modrm (sib ∷ bytes) ≡ with_sib prefixes s a modrm (Some sib) bytes
+sibbed-some : (prefixes : Prefixes) (s : Size) (a : Action) (modrm sib : ℕ) (bytes : List ℕ) → has_sib modrm ≡ true
+    → sibbed prefixes s a modrm (sib ∷ bytes) ≡ with_sib prefixes s a modrm (Some sib) bytes
 unfolding sib_at
 sibbed-some prefixes s a modrm sib bytes e = rw (e) refl
 
@@ -210,8 +216,11 @@ sibbed_cuts prefixes s a modrm bytes tail x rest e inside = go (has_sib modrm) r
     k sib = operand_body a prefixes (record { modrm = modrm; sib = sib }) s
 
     go : (b : Bool) → has_sib modrm ≡ b → (bytes : List ℕ) → sibbed prefixes s a modrm (bytes ++ tail) ≡ Ok (x, rest) → Lacks (sibbed prefixes s a modrm bytes) rest tail
-    go false none bytes e = lacks_by _ _ rest tail (sibbed-none prefixes s a modrm bytes none) (ended_cuts (displacement_size (record { modrm = modrm; sib = None })) s (k None) bytes tail x rest (sym (sibbed-none prefixes s a modrm (bytes ++ tail) none) ∙ e) inside)
-    go true some (sib ∷ bytes) e = lacks_by _ _ rest tail (sibbed-some prefixes s a modrm sib bytes some) (ended_cuts (displacement_size (record { modrm = modrm; sib = Some sib })) s (k (Some sib)) bytes tail x rest (sym (sibbed-some prefixes s a modrm sib (bytes ++ tail) some) ∙ e) inside)
+    go false none bytes e = lacks_by _ _ rest tail (sibbed-none prefixes s a modrm bytes none)
+        (ended_cuts (displacement_size (record { modrm = modrm; sib = None })) s (k None) bytes tail x rest (sym (sibbed-none prefixes s a modrm (bytes ++ tail) none) ∙ e) inside)
+    go true some (sib ∷ bytes) e = lacks_by _ _ rest tail (sibbed-some prefixes s a modrm sib bytes some)
+        (ended_cuts (displacement_size (record { modrm = modrm; sib = Some sib })) s (k (Some sib)) bytes tail x rest
+        (sym (sibbed-some prefixes s a modrm sib (bytes ++ tail) some) ∙ e) inside)
     go true some [] e = at_end tail inside e
       where
         at_end : (tail : List ℕ) → length rest < length tail → sibbed prefixes s a modrm tail ≡ Ok (x, rest) → Lacks (sibbed prefixes s a modrm []) rest tail
@@ -234,8 +243,12 @@ sibbed_completes prefixes s a modrm bytes n e = go (has_sib modrm) refl bytes e
     k sib = operand_body a prefixes (record { modrm = modrm; sib = sib }) s
 
     go : (b : Bool) → has_sib modrm ≡ b → (bytes : List ℕ) → sibbed prefixes s a modrm bytes ≡ Err (Short n) → Fills (sibbed prefixes s a modrm) bytes n
-    go false none bytes e = fills_by (sibbed prefixes s a modrm) (with_sib prefixes s a modrm None) bytes n (λ more. sibbed-none prefixes s a modrm (bytes ++ more) none) (ended_completes (displacement_size (record { modrm = modrm; sib = None })) s (k None) bytes n (sym (sibbed-none prefixes s a modrm bytes none) ∙ e))
-    go true some (sib ∷ bytes) e = fills_after (sibbed prefixes s a modrm) (with_sib prefixes s a modrm (Some sib)) sib bytes n (λ more. sibbed-some prefixes s a modrm sib more some) (ended_completes (displacement_size (record { modrm = modrm; sib = Some sib })) s (k (Some sib)) bytes n (sym (sibbed-some prefixes s a modrm sib bytes some) ∙ e))
+    go false none bytes e = fills_by (sibbed prefixes s a modrm) (with_sib prefixes s a modrm None) bytes n
+        (λ more. sibbed-none prefixes s a modrm (bytes ++ more) none) (ended_completes (displacement_size (record { modrm = modrm; sib = None })) s
+        (k None) bytes n (sym (sibbed-none prefixes s a modrm bytes none) ∙ e))
+    go true some (sib ∷ bytes) e = fills_after (sibbed prefixes s a modrm) (with_sib prefixes s a modrm (Some sib)) sib bytes n
+        (λ more. sibbed-some prefixes s a modrm sib more some) (ended_completes (displacement_size (record { modrm = modrm; sib = Some sib })) s
+        (k (Some sib)) bytes n (sym (sibbed-some prefixes s a modrm sib bytes some) ∙ e))
     go true some [] e =
         let missing : 1 + least_displacement modrm + count_of s ≡ n = short_is (sym (sibbed-end prefixes s a modrm some) ∙ e) in
         let m : ℕ = least_displacement modrm + count_of s in
@@ -254,7 +267,16 @@ sibbed_completes prefixes s a modrm bytes n e = go (has_sib modrm) refl bytes e
 operated_least : (prefixes : Prefixes) (r : Row) (s : Size) (bytes : List ℕ) (x : Body) (rest : List ℕ) → operated_at prefixes r s bytes ≡ Ok (x, rest) → 1 + count_of s + length rest ≤ length bytes
 operated_least prefixes r s bytes x rest e =
     let t = operated_takes prefixes r s bytes x rest e in
-    omega (arith, ap length t.1, length-append t.0 rest, ap length t.2.whole, length-append (option_to_list t.2.sib) (t.2.displacement ++ t.2.immediate), length-append t.2.displacement t.2.immediate, t.2.immediate-length)
+    omega (
+      arith,
+      ap length t.1,
+      length-append t.0 rest,
+      ap length t.2.whole,
+      length-append (option_to_list t.2.sib)
+          (t.2.displacement ++ t.2.immediate),
+      length-append t.2.displacement t.2.immediate,
+      t.2.immediate-length,
+    )
 
 operated_end : (prefixes : Prefixes) (r : Row) (s : Size) → operated_at prefixes r s [] ≡ Err (Short (1 + count_of s))
 unfolding operated_at selectors_at
@@ -264,7 +286,8 @@ operated_cuts : (prefixes : Prefixes) (r : Row) (s : Size) (bytes : List ℕ) �
 operated_cuts prefixes r s [] tail x rest e inside = record { missing = 1 + count_of s; is = operated_end prefixes r s; bound = operated_least prefixes r s tail x rest e }
 operated_cuts prefixes r s (modrm ∷ bytes) tail x rest e inside =
     let a = operated_allowed prefixes r s modrm (bytes ++ tail) (x, rest) e in
-    lacks_by _ _ rest tail (operated-sibbed prefixes r s a.0 modrm bytes a.1 a.2) (sibbed_cuts prefixes s a.0 modrm bytes tail x rest (sym (operated-sibbed prefixes r s a.0 modrm (bytes ++ tail) a.1 a.2) ∙ e) inside)
+    lacks_by _ _ rest tail (operated-sibbed prefixes r s a.0 modrm bytes a.1 a.2)
+    (sibbed_cuts prefixes s a.0 modrm bytes tail x rest (sym (operated-sibbed prefixes r s a.0 modrm (bytes ++ tail) a.1 a.2) ∙ e) inside)
 
 -- the row has a ModRM byte that asks for nothing more
 pub record HasLeast (prefixes : Prefixes) (r : Row) : Type 0 where
@@ -291,7 +314,8 @@ operated_completes prefixes r s [] least n e =
     }
 operated_completes prefixes r s (modrm ∷ bytes) least n e =
     let a = operated_short prefixes r s modrm bytes n e in
-    fills_after (operated_at prefixes r s) (sibbed prefixes s a.0 modrm) modrm bytes n (λ more. operated-sibbed prefixes r s a.0 modrm more a.1 a.2) (sibbed_completes prefixes s a.0 modrm bytes n (sym (operated-sibbed prefixes r s a.0 modrm bytes a.1 a.2) ∙ e))
+    fills_after (operated_at prefixes r s) (sibbed prefixes s a.0 modrm) modrm bytes n (λ more. operated-sibbed prefixes r s a.0 modrm more a.1 a.2)
+    (sibbed_completes prefixes s a.0 modrm bytes n (sym (operated-sibbed prefixes r s a.0 modrm bytes a.1 a.2) ∙ e))
 
 allowed_least : (a : Action) (prefixes : Prefixes) → allowed a prefixes 0 ≡ true
 unfolding allowed

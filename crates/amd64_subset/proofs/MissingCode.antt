@@ -243,7 +243,8 @@ escaped-end : (prefixes : Prefixes) → escaped prefixes [] ≡ Err (Short (leas
 unfolding escaped_at
 escaped-end prefixes = refl
 
-after_least : (prefixes : Prefixes) (o : Option Row) (bytes : List ℕ) (x : Body) (rest : List ℕ) → after prefixes o bytes ≡ Ok (x, rest) → (r : Row) × (o ≡ Some r) × (takes r prefixes ≡ true) × (least_of r + length rest ≤ length bytes)
+after_least : (prefixes : Prefixes) (o : Option Row) (bytes : List ℕ) (x : Body) (rest : List ℕ) → after prefixes o bytes ≡ Ok (x, rest)
+    → (r : Row) × (o ≡ Some r) × (takes r prefixes ≡ true) × (least_of r + length rest ≤ length bytes)
 after_least prefixes o bytes x rest e =
     let r = after_ok prefixes o bytes (x, rest) e in
     (r.0, r.1, r.2, body_least prefixes r.0 bytes x rest (sym (after-taken prefixes o r.0 bytes r.1 r.2) ∙ e))
@@ -265,7 +266,8 @@ escaped_cuts prefixes (opcode ∷ bytes) tail x rest e inside =
 abbrev branched : Prefixes → List ℕ → Read Body
 branched prefixes bytes = end_branch_at prefixes bytes >>= (λ r. body_at prefixes r.0 r.1)
 
-three_bytes : (prefixes : Prefixes) (bytes : List ℕ) (r : Row) (rest : List ℕ) → end_branch_at prefixes bytes ≡ Ok (r, rest) → (takes row.EndBranch prefixes ≡ true) × (row.EndBranch ≡ r) × (bytes ≡ 0x0f ∷ 0x1e ∷ 0xfa ∷ rest)
+three_bytes : (prefixes : Prefixes) (bytes : List ℕ) (r : Row) (rest : List ℕ) → end_branch_at prefixes bytes ≡ Ok (r, rest)
+    → (takes row.EndBranch prefixes ≡ true) × (row.EndBranch ≡ r) × (bytes ≡ 0x0f ∷ 0x1e ∷ 0xfa ∷ rest)
 unfolding end_branch_at
 three_bytes prefixes [] r rest e = absurd (let k = kept_if (takes row.EndBranch prefixes) Wrong _ (r, rest) e in cc)
 three_bytes prefixes (a ∷ []) r rest e =
@@ -302,7 +304,9 @@ branch_takes prefixes bytes x rest e =
     let t = three_bytes prefixes bytes read.0.0 read.0.1 read.1 in
     (t.0, t.2 ∙ ap (λ (y : List ℕ). 0x0f ∷ 0x1e ∷ 0xfa ∷ y) (branch_rest prefixes read.0.0 read.0.1 x rest t.1 read.2))
 
-branched-end : (prefixes : Prefixes) → takes row.EndBranch prefixes ≡ true → (branched prefixes [] ≡ Err (Short 3)) × (branched prefixes (0x0f ∷ []) ≡ Err (Short 2)) × (branched prefixes (0x0f ∷ 0x1e ∷ []) ≡ Err (Short 1)) × ((x : Body) × (branched prefixes (0x0f ∷ 0x1e ∷ 0xfa ∷ []) ≡ Ok (x, [])))
+branched-end : (prefixes : Prefixes) → takes row.EndBranch prefixes ≡ true
+    → (branched prefixes [] ≡ Err (Short 3)) × (branched prefixes (0x0f ∷ []) ≡ Err (Short 2)) × (branched prefixes (0x0f ∷ 0x1e ∷ []) ≡ Err (Short 1))
+    × ((x : Body) × (branched prefixes (0x0f ∷ 0x1e ∷ 0xfa ∷ []) ≡ Ok (x, [])))
 unfolding end_branch_at body_at
 branched-end prefixes fits = (rw (fits) refl, rw (fits) refl, rw (fits) refl, (alone_body (operation.Nop None), rw (fits) refl))
 
@@ -318,13 +322,25 @@ branched_cuts prefixes (a ∷ b ∷ []) tail x rest e inside =
     let t = branch_takes prefixes (a ∷ b ∷ tail) x rest e in
     let first : a ≡ 0x0f = let same = t.1 in cc in
     let second : b ≡ 0x1e = let same = t.1 in cc in
-    record { missing = 1; is = ap (λ (y : ℕ). branched prefixes (y ∷ b ∷ [])) first ∙ ap (λ (y : ℕ). branched prefixes (0x0f ∷ y ∷ [])) second ∙ (branched-end prefixes t.0).2; bound = omega (arith, ap length t.1) }
+    record {
+      missing = 1;
+      is = ap (λ (y : ℕ). branched prefixes (y ∷ b ∷ [])) first ∙ ap (λ (y : ℕ). branched prefixes (0x0f ∷ y ∷ [])) second
+          ∙ (branched-end prefixes t.0).2;
+      bound = omega (arith, ap length t.1);
+    }
 branched_cuts prefixes (a ∷ b ∷ c ∷ bytes) tail x rest e inside =
     let t = branch_takes prefixes (a ∷ b ∷ c ∷ (bytes ++ tail)) x rest e in
     absurd (omega (arith, ap length t.1, length-append bytes tail))
 
-filled_branch : (prefixes : Prefixes) (bytes tail : List ℕ) (n : ℕ) → takes row.EndBranch prefixes ≡ true → length tail ≡ n → list_all is_byte tail ≡ true → bytes ++ tail ≡ 0x0f ∷ 0x1e ∷ 0xfa ∷ [] → Fills (branched prefixes) bytes n
-filled_branch prefixes bytes tail n fits len are whole = record { tail = tail; value = (branched-end prefixes fits).3.0; tail-length = len; are_bytes = are; read = ap (λ (y : List ℕ). branched prefixes y) whole ∙ (branched-end prefixes fits).3.1 }
+filled_branch : (prefixes : Prefixes) (bytes tail : List ℕ) (n : ℕ) → takes row.EndBranch prefixes ≡ true → length tail ≡ n → list_all is_byte tail ≡ true
+    → bytes ++ tail ≡ 0x0f ∷ 0x1e ∷ 0xfa ∷ [] → Fills (branched prefixes) bytes n
+filled_branch prefixes bytes tail n fits len are whole = record {
+  tail = tail;
+  value = (branched-end prefixes fits).3.0;
+  tail-length = len;
+  are_bytes = are;
+  read = ap (λ (y : List ℕ). branched prefixes y) whole ∙ (branched-end prefixes fits).3.1;
+}
 
 branch_completes : (prefixes : Prefixes) (bytes : List ℕ) (n : ℕ) → end_branch_at prefixes bytes ≡ Err (Short n) → Fills (branched prefixes) bytes n
 unfolding end_branch_at
@@ -360,18 +376,27 @@ unfolding row_at
 coded-end prefixes = refl
 
 -- which of the three ways an opcode goes
-coded-ways : (prefixes : Prefixes) (a : ℕ) (bytes : List ℕ) → coded prefixes (a ∷ bytes) ≡ cond (eqb a 0x0f) (escaped prefixes bytes) (cond (eqb a 0xf3) (branched prefixes bytes) (after prefixes (row_of (bits_of prefixes) a) bytes))
+coded-ways : (prefixes : Prefixes) (a : ℕ) (bytes : List ℕ) → coded prefixes (a ∷ bytes) ≡ cond (eqb a 0x0f) (escaped prefixes bytes)
+    (cond (eqb a 0xf3) (branched prefixes bytes) (after prefixes (row_of (bits_of prefixes) a) bytes))
 unfolding row_at
 coded-ways prefixes a bytes = ways (eqb a 0x0f) (eqb a 0xf3) (escaped_at prefixes bytes) (end_branch_at prefixes bytes) (accepted_at prefixes (row_of (bits_of prefixes) a) bytes)
   where
-    ways : (b c : Bool) (x y z : Read Row) → (cond b x (cond c y z) >>= (λ r. body_at prefixes r.0 r.1)) ≡ cond b (x >>= (λ r. body_at prefixes r.0 r.1)) (cond c (y >>= (λ r. body_at prefixes r.0 r.1)) (z >>= (λ r. body_at prefixes r.0 r.1)))
+    ways : (b c : Bool) (x y z : Read Row) → (cond b x (cond c y z) >>= (λ r. body_at prefixes r.0 r.1)) ≡ cond b (x >>= (λ r. body_at prefixes r.0 r.1))
+        (cond c (y >>= (λ r. body_at prefixes r.0 r.1)) (z >>= (λ r. body_at prefixes r.0 r.1)))
     ways true c x y z = refl
     ways false true x y z = refl
     ways false false x y z = refl
 
-ways_least : (b c : Bool) (prefixes : Prefixes) (a : ℕ) (bytes : List ℕ) (x : Body) (rest : List ℕ) → cond b (escaped prefixes bytes) (cond c (branched prefixes bytes) (after prefixes (row_of (bits_of prefixes) a) bytes)) ≡ Ok (x, rest) → least_code prefixes + length rest ≤ 1 + length bytes
+ways_least : (b c : Bool) (prefixes : Prefixes) (a : ℕ) (bytes : List ℕ) (x : Body) (rest : List ℕ)
+    → cond b (escaped prefixes bytes) (cond c (branched prefixes bytes) (after prefixes (row_of (bits_of prefixes) a) bytes)) ≡ Ok (x, rest)
+    → least_code prefixes + length rest ≤ 1 + length bytes
 ways_least true c prefixes a bytes x rest e = omega (arith, escaped_least prefixes bytes x rest e, code_escaped prefixes.thread_pointer (takes_only_nops prefixes) (is_some prefixes.rex))
-ways_least false true prefixes a bytes x rest e = omega (arith, ap length (branch_takes prefixes bytes x rest e).1, three_at_most (takes_only_nops prefixes && is_some prefixes.rex) prefixes.thread_pointer)
+ways_least false true prefixes a bytes x rest e = omega (
+  arith,
+  ap length (branch_takes prefixes bytes x rest e).1,
+  three_at_most
+      (takes_only_nops prefixes && is_some prefixes.rex) prefixes.thread_pointer,
+)
 ways_least false false prefixes a bytes x rest e =
     let r = after_least prefixes (row_of (bits_of prefixes) a) bytes x rest e in
     omega (arith, one_bound r.0 a prefixes r.1 r.2, r.3)
@@ -397,7 +422,12 @@ least_same prefixes has = rw (has) (same (takes_only_nops prefixes) prefixes.thr
     same false t = refl
 
 pub coded_cuts_end : (prefixes : Prefixes) → HasRex prefixes → Cuts (coded prefixes) []
-coded_cuts_end prefixes has tail x rest e inside = record { missing = least_opcode prefixes; is = coded-end prefixes; bound = omega (arith, coded_least prefixes tail x rest e, least_same prefixes has) }
+coded_cuts_end prefixes has tail x rest e inside = record {
+  missing = least_opcode prefixes;
+  is = coded-end prefixes;
+  bound =
+      omega (arith, coded_least prefixes tail x rest e, least_same prefixes has);
+}
 
 pub coded_cuts : (prefixes : Prefixes) (a : ℕ) (bytes : List ℕ) → Cuts (coded prefixes) (a ∷ bytes)
 coded_cuts prefixes a bytes tail x rest e inside =
@@ -440,7 +470,8 @@ all_append [] b p q = q
 all_append (x ∷ a) b p q = let h = and_parts (is_byte x) (list_all is_byte a) p in and_from (is_byte x) (list_all is_byte (a ++ b)) h.0 (all_append a b h.1 q)
 
 -- an opcode of these bytes completes
-with_opcode : (prefixes : Prefixes) (r : Row) (opcode : List ℕ) (n : ℕ) → named (bits_of prefixes) opcode ≡ Some r → takes r prefixes ≡ true → list_all is_byte opcode ≡ true → length opcode + least_of r ≡ n → Enough prefixes r → Fills (coded prefixes) [] n
+with_opcode : (prefixes : Prefixes) (r : Row) (opcode : List ℕ) (n : ℕ) → named (bits_of prefixes) opcode ≡ Some r → takes r prefixes ≡ true
+    → list_all is_byte opcode ≡ true → length opcode + least_of r ≡ n → Enough prefixes r → Fills (coded prefixes) [] n
 with_opcode prefixes r opcode n is fits are len h = record {
   tail = opcode ++ h.tail;
   value = h.value;

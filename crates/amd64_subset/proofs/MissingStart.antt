@@ -83,7 +83,8 @@ plain_bound false false false e = omega arith
 
 opened_least : (t o c : Bool) (bytes : List ℕ) (x : Body) (rest : List ℕ) → opened (prefixed t o c None) bytes ≡ Ok (x, rest) → least_opening (prefixed t o c None) + length rest ≤ length bytes
 opened_least t o c [] x rest e = absurd (let f = sym (opened-end (prefixed t o c None)) ∙ e in cc)
-opened_least t o c (b ∷ bytes) x rest e = let bound : cond t (cond o 3 2) 1 + length rest ≤ 1 + length bytes = go (eqb (b / 16) 4) (sym (opened-ways (prefixed t o c None) b bytes) ∙ e) in omega (arith, bound)
+opened_least t o c (b ∷ bytes) x rest e = let bound : cond t (cond o 3 2) 1 + length rest ≤ 1 + length bytes =
+    go (eqb (b / 16) 4) (sym (opened-ways (prefixed t o c None) b bytes) ∙ e) in omega (arith, bound)
   where
     go : (d : Bool) → cond d (allowed (with_rex (prefixed t o c None) b) bytes) (allowed (prefixed t o c None) (b ∷ bytes)) ≡ Ok (x, rest) → cond t (cond o 3 2) 1 + length rest ≤ 1 + length bytes
     go true e =
@@ -137,7 +138,9 @@ opened_completes t o c b bytes n e =
     go false n e = let h = allowed_completes (prefixed t o c None) (b ∷ bytes) n e in record { tail = h.tail; value = h.value; tail-length = h.tail-length; are_bytes = h.are_bytes; read = h.read }
 
 -- an opcode byte that is no REX, where nothing is refused
-with_first : (t o c : Bool) (r : Row) (a n : ℕ) → row_of no_bits a ≡ Some r → takes r (prefixed t o c None) ≡ true → Possible (prefixed t o c None) → eqb (a / 16) 4 ≡ false → is_byte a ≡ true → 1 + least_of r ≡ n → ((more : List ℕ) → marked (prefixed t o c None) (a ∷ more) ≡ opened (prefixed t o c None) (a ∷ more)) → Enough (prefixed t o c None) r → Fills (marked (prefixed t o c None)) [] n
+with_first : (t o c : Bool) (r : Row) (a n : ℕ) → row_of no_bits a ≡ Some r → takes r (prefixed t o c None) ≡ true → Possible (prefixed t o c None)
+    → eqb (a / 16) 4 ≡ false → is_byte a ≡ true → 1 + least_of r ≡ n → ((more : List ℕ)
+    → marked (prefixed t o c None) (a ∷ more) ≡ opened (prefixed t o c None) (a ∷ more)) → Enough (prefixed t o c None) r → Fills (marked (prefixed t o c None)) [] n
 unfolding named
 with_first t o c r a n is fits possible plain are len first h = record {
   tail = a ∷ h.tail;
@@ -161,7 +164,8 @@ opened_end_completes true true false e =
       are_bytes = h.are_bytes;
       read = opened-ways (prefixed true true false None) 0x48 h.tail ∙ h.read;
     }
-opened_end_completes true false false e = with_first true false false (row.Register action.Load) 0x8b 2 refl refl refl refl refl refl (λ more. refl) (register_enough (prefixed true false false None) action.Load)
+opened_end_completes true false false e = with_first true false false (row.Register action.Load) 0x8b 2 refl refl refl refl refl refl (λ more. refl)
+    (register_enough (prefixed true false false None) action.Load)
 opened_end_completes false o c e = with_first false o c row.Nop 0x90 1 refl refl refl refl refl refl (λ more. refl) (nop_enough (prefixed false o c None))
 
 -- ---- the prefixes before REX
@@ -173,13 +177,17 @@ way b1 b2 b3 t c x y z w = cond b1 (cond (t || c) (Err Wrong) x) (cond b2 y (con
 marked-end : (p : Prefixes) → marked p [] ≡ Err (Short (least_opening p))
 marked-end p = opened-end p
 
-marked-way : (t o c : Bool) (b : ℕ) (bytes : List ℕ) → marked (prefixed t o c None) (b ∷ bytes) ≡ way (eqb b 0x64) (eqb b 0x66) (eqb b 0x2e) t c (marked (prefixed true o c None) bytes) (marked (prefixed t true c None) bytes) (marked (prefixed t o true None) bytes) (opened (prefixed t o c None) (b ∷ bytes))
-marked-way t o c b bytes = go (eqb b 0x64) (eqb b 0x66) (eqb b 0x2e) (t || c) t (marks_at (prefixed true o c None) bytes) (marks_at (prefixed t true c None) bytes) (marks_at (prefixed t o true None) bytes)
+marked-way : (t o c : Bool) (b : ℕ) (bytes : List ℕ) → marked (prefixed t o c None) (b ∷ bytes) ≡ way (eqb b 0x64) (eqb b 0x66) (eqb b 0x2e) t c
+    (marked (prefixed true o c None) bytes) (marked (prefixed t true c None) bytes) (marked (prefixed t o true None) bytes) (opened (prefixed t o c None) (b ∷ bytes))
+marked-way t o c b bytes = go (eqb b 0x64) (eqb b 0x66) (eqb b 0x2e) (t || c) t (marks_at (prefixed true o c None) bytes)
+    (marks_at (prefixed t true c None) bytes) (marks_at (prefixed t o true None) bytes)
   where
     stop : Read Prefixes
     stop = Ok (prefixed t o c None, b ∷ bytes)
 
-    go : (b1 b2 b3 d u : Bool) (x y z : Read Prefixes) → (cond b1 (cond d (Err Wrong) x) (cond b2 y (cond b3 (cond u (Err Wrong) z) stop)) >>= (λ q. opened q.0 q.1)) ≡ cond b1 (cond d (Err Wrong) (x >>= (λ q. opened q.0 q.1))) (cond b2 (y >>= (λ q. opened q.0 q.1)) (cond b3 (cond u (Err Wrong) (z >>= (λ q. opened q.0 q.1))) (opened (prefixed t o c None) (b ∷ bytes))))
+    go : (b1 b2 b3 d u : Bool) (x y z : Read Prefixes) → (cond b1 (cond d (Err Wrong) x) (cond b2 y (cond b3 (cond u (Err Wrong) z) stop)) >>=
+        (λ q. opened q.0 q.1)) ≡ cond b1 (cond d (Err Wrong) (x >>= (λ q. opened q.0 q.1)))
+        (cond b2 (y >>= (λ q. opened q.0 q.1)) (cond b3 (cond u (Err Wrong) (z >>= (λ q. opened q.0 q.1))) (opened (prefixed t o c None) (b ∷ bytes))))
     go true b2 b3 true u x y z = refl
     go true b2 b3 false u x y z = refl
     go false true b3 d u x y z = refl
@@ -211,13 +219,16 @@ opening_size false o = omega arith
 marked_least : (t o c : Bool) (bytes : List ℕ) (x : Body) (rest : List ℕ) → marked (prefixed t o c None) bytes ≡ Ok (x, rest) → least_opening (prefixed t o c None) + length rest ≤ length bytes
 marked_least t o c [] x rest e = absurd (let f = sym (marked-end (prefixed t o c None)) ∙ e in cc)
 marked_least t o c (b ∷ bytes) x rest e =
-    way_ok {P = least_opening (prefixed t o c None) + length rest ≤ length (b ∷ bytes)} (eqb b 0x64) (eqb b 0x66) (eqb b 0x2e) t c (marked (prefixed true o c None) bytes) (marked (prefixed t true c None) bytes) (marked (prefixed t o true None) bytes) (opened (prefixed t o c None) (b ∷ bytes)) (x, rest) (sym (marked-way t o c b bytes) ∙ e)
+    way_ok {P = least_opening (prefixed t o c None) + length rest ≤ length (b ∷ bytes)} (eqb b 0x64) (eqb b 0x66) (eqb b 0x2e) t c
+    (marked (prefixed true o c None) bytes) (marked (prefixed t true c None) bytes) (marked (prefixed t o true None) bytes)
+    (opened (prefixed t o c None) (b ∷ bytes)) (x, rest) (sym (marked-way t o c b bytes) ∙ e)
     (λ f. omega (arith, marked_least true o c bytes x rest f, opening_fs t o))
     (λ f. omega (arith, marked_least t true c bytes x rest f, opening_size t o))
     (λ f. omega (arith, marked_least t o true bytes x rest f))
     (λ f. opened_least t o c (b ∷ bytes) x rest f)
 
-way_cuts : (b1 b2 b3 t c : Bool) (X Y Z W : List ℕ → Read Body) (bytes : List ℕ) → Cuts X bytes → Cuts Y bytes → Cuts Z bytes → Cuts W bytes → Cuts (λ y. way b1 b2 b3 t c (X y) (Y y) (Z y) (W y)) bytes
+way_cuts : (b1 b2 b3 t c : Bool) (X Y Z W : List ℕ → Read Body) (bytes : List ℕ) → Cuts X bytes → Cuts Y bytes → Cuts Z bytes → Cuts W bytes
+    → Cuts (λ y. way b1 b2 b3 t c (X y) (Y y) (Z y) (W y)) bytes
 way_cuts true b2 b3 true c X Y Z W bytes p q r s tail x rest e inside = absurd cc
 way_cuts true b2 b3 false true X Y Z W bytes p q r s tail x rest e inside = absurd cc
 way_cuts true b2 b3 false false X Y Z W bytes p q r s tail x rest e inside = p tail x rest e inside
@@ -229,13 +240,16 @@ way_cuts false false false t c X Y Z W bytes p q r s tail x rest e inside = s ta
 marked_cuts : (t o c : Bool) (bytes : List ℕ) → Cuts (marked (prefixed t o c None)) bytes
 marked_cuts t o c [] tail x rest e inside = record { missing = least_opening (prefixed t o c None); is = marked-end (prefixed t o c None); bound = marked_least t o c tail x rest e }
 marked_cuts t o c (b ∷ bytes) tail x rest e inside =
-    let h = way_cuts (eqb b 0x64) (eqb b 0x66) (eqb b 0x2e) t c (marked (prefixed true o c None)) (marked (prefixed t true c None)) (marked (prefixed t o true None)) (λ y. opened (prefixed t o c None) (b ∷ y)) bytes (marked_cuts true o c bytes) (marked_cuts t true c bytes) (marked_cuts t o true bytes) (opened_cuts t o c b bytes) tail x rest (sym (marked-way t o c b (bytes ++ tail)) ∙ e) inside in
+    let h = way_cuts (eqb b 0x64) (eqb b 0x66) (eqb b 0x2e) t c (marked (prefixed true o c None)) (marked (prefixed t true c None))
+    (marked (prefixed t o true None)) (λ y. opened (prefixed t o c None) (b ∷ y)) bytes (marked_cuts true o c bytes) (marked_cuts t true c bytes)
+    (marked_cuts t o true bytes) (opened_cuts t o c b bytes) tail x rest (sym (marked-way t o c b (bytes ++ tail)) ∙ e) inside in
     record { missing = h.missing; is = marked-way t o c b bytes ∙ h.is; bound = h.bound }
 
 same_fills : (R Q : List ℕ → Read Body) (bytes : List ℕ) (n : ℕ) → ((more : List ℕ) → Q (bytes ++ more) ≡ R (bytes ++ more)) → Fills R bytes n → Fills Q bytes n
 same_fills R Q bytes n same h = record { tail = h.tail; value = h.value; tail-length = h.tail-length; are_bytes = h.are_bytes; read = same h.tail ∙ h.read }
 
-way_completes : (b1 b2 b3 t c : Bool) (X Y Z W : List ℕ → Read Body) (bytes : List ℕ) → ((t || c) ≡ false → Completes X bytes) → Completes Y bytes → (t ≡ false → Completes Z bytes) → Completes W bytes → Completes (λ y. way b1 b2 b3 t c (X y) (Y y) (Z y) (W y)) bytes
+way_completes : (b1 b2 b3 t c : Bool) (X Y Z W : List ℕ → Read Body) (bytes : List ℕ) → ((t || c) ≡ false → Completes X bytes) → Completes Y bytes
+    → (t ≡ false → Completes Z bytes) → Completes W bytes → Completes (λ y. way b1 b2 b3 t c (X y) (Y y) (Z y) (W y)) bytes
 way_completes true b2 b3 true c X Y Z W bytes p q r s n e = absurd cc
 way_completes true b2 b3 false true X Y Z W bytes p q r s n e = absurd cc
 way_completes true b2 b3 false false X Y Z W bytes p q r s n e = same_fills X _ bytes n (λ more. refl) (p refl n e)
@@ -257,7 +271,9 @@ marked_completes t o c apart [] n e =
     let missing : least_opening (prefixed t o c None) ≡ n = short_is (sym (marked-end (prefixed t o c None)) ∙ e) in
     subst (λ (m : ℕ). Fills (marked (prefixed t o c None)) [] m) missing (opened_end_completes t o c apart)
 marked_completes t o c apart (b ∷ bytes) n e =
-    let h = way_completes (eqb b 0x64) (eqb b 0x66) (eqb b 0x2e) t c (marked (prefixed true o c None)) (marked (prefixed t true c None)) (marked (prefixed t o true None)) (λ y. opened (prefixed t o c None) (b ∷ y)) bytes (λ f. marked_completes true o c (fs_apart t c f) bytes) (marked_completes t true c apart bytes) (λ f. marked_completes t o true (segment_apart t f) bytes) (opened_completes t o c b bytes) n (sym (marked-way t o c b bytes) ∙ e) in
+    let h = way_completes (eqb b 0x64) (eqb b 0x66) (eqb b 0x2e) t c (marked (prefixed true o c None)) (marked (prefixed t true c None))
+    (marked (prefixed t o true None)) (λ y. opened (prefixed t o c None) (b ∷ y)) bytes (λ f. marked_completes true o c (fs_apart t c f) bytes)
+    (marked_completes t true c apart bytes) (λ f. marked_completes t o true (segment_apart t f) bytes) (opened_completes t o c b bytes) n (sym (marked-way t o c b bytes) ∙ e) in
     record { tail = h.tail; value = h.value; tail-length = h.tail-length; are_bytes = h.are_bytes; read = marked-way t o c b (bytes ++ h.tail) ∙ h.read }
 
 -- ---- the whole

@@ -27,12 +27,14 @@ empty : (bytes : List ℕ) → length bytes ≡ 0 → bytes ≡ []
 empty [] e = refl
 empty (b ∷ bytes) e = absurd (omega arith)
 
-alone_takes : (body : Body) (bytes : List ℕ) (x : Body) (rest : List ℕ) → ◌≡◌ {A = Read Body} (Ok (x, bytes)) (Ok (body, rest)) → (front : List ℕ) × (bytes ≡ front ++ rest) × ((front ≡ []) × (body ≡ x))
+alone_takes : (body : Body) (bytes : List ℕ) (x : Body) (rest : List ℕ) → ◌≡◌ {A = Read Body} (Ok (x, bytes)) (Ok (body, rest))
+    → (front : List ℕ) × (bytes ≡ front ++ rest) × ((front ≡ []) × (body ≡ x))
 alone_takes body bytes x rest e =
     let is = ok_is (x, bytes) (body, rest) e in
     ([], ap (λ (p : Body × List ℕ). p.1) is, (refl, ap (λ (p : Body × List ℕ). p.0) (sym is)))
 
-pub body_takes : (prefixes : Prefixes) (r : Row) (bytes : List ℕ) (body : Body) (rest : List ℕ) → body_at prefixes r bytes ≡ Ok (body, rest) → (front : List ℕ) × (bytes ≡ front ++ rest) × HasBody prefixes r front body
+pub body_takes : (prefixes : Prefixes) (r : Row) (bytes : List ℕ) (body : Body) (rest : List ℕ) → body_at prefixes r bytes ≡ Ok (body, rest)
+    → (front : List ℕ) × (bytes ≡ front ++ rest) × HasBody prefixes r front body
 unfolding body_at
 body_takes prefixes (row.Alone operation) bytes body rest e = alone_takes body bytes (alone_body operation) rest e
 body_takes prefixes row.Nop bytes body rest e = alone_takes body bytes (alone_body (operation.Nop None)) rest e
@@ -65,7 +67,8 @@ body_again prefixes (row.Group group wide) front body rest h = operated_again pr
 
 -- ---- the opcode
 
-pub accepted_takes : (prefixes : Prefixes) (o : Option Row) (bytes : List ℕ) (r : Row) (rest : List ℕ) → accepted_at prefixes o bytes ≡ Ok (r, rest) → (o ≡ Some r) × (takes r prefixes ≡ true) × (bytes ≡ rest)
+pub accepted_takes : (prefixes : Prefixes) (o : Option Row) (bytes : List ℕ) (r : Row) (rest : List ℕ) → accepted_at prefixes o bytes ≡ Ok (r, rest)
+    → (o ≡ Some r) × (takes r prefixes ≡ true) × (bytes ≡ rest)
 accepted_takes prefixes None bytes r rest e = absurd cc
 accepted_takes prefixes (Some x) bytes r rest e =
     let fits = kept_if (takes x prefixes) Wrong _ (r, rest) e in
@@ -188,7 +191,13 @@ is_opcode rex (a ∷ b ∷ c ∷ d ∷ x ∷ more) r e = absurd cc
 pub row_again : (prefixes : Prefixes) (opcode : List ℕ) (r : Row) (rest : List ℕ) → named (bits_of prefixes) opcode ≡ Some r → takes r prefixes ≡ true → row_at prefixes (opcode ++ rest) ≡ Ok (r, rest)
 unfolding named row_at escaped_at end_branch_at
 row_again prefixes [] r rest e fits = absurd cc
-row_again prefixes (a ∷ []) r rest e fits = rw (differs (bits_of prefixes) a 0x0f r (none_at (bits_of prefixes)).0 e, differs (bits_of prefixes) a 0xf3 r (none_at (bits_of prefixes)).1 e, e, fits) refl
+row_again prefixes (a ∷ []) r rest e fits = rw (
+  differs (bits_of prefixes) a 0x0f r (none_at (bits_of prefixes)).0 e,
+  differs (bits_of prefixes) a 0xf3 r
+      (none_at (bits_of prefixes)).1 e,
+  e,
+  fits,
+) refl
 row_again prefixes (a ∷ b ∷ []) r rest e fits =
     elim (chosen (eqb a 0x0f) _ _ _ e) [
       | inl h ↦ rw (h.0, h.1, fits) refl

@@ -45,13 +45,22 @@ operated_back : (prefixes : Prefixes) (r : Row) (s : Size) (bytes : List ℕ) (b
 unfolding operand_body
 operated_back prefixes r s bytes body h =
     let selectors : Selectors = record { modrm = h.modrm; sib = h.sib } in
-    let len : count_of (displacement_size selectors) + count_of s ≤ length bytes = rw (h.whole) (omega (arith, length-append (option_to_list h.sib) (h.displacement ++ h.immediate), length-append h.displacement h.immediate, h.displacement-length, h.immediate-length)) in
+    let len : count_of (displacement_size selectors) + count_of s ≤ length bytes =
+    rw (h.whole) (omega (
+      arith,
+      length-append (option_to_list h.sib)
+          (h.displacement ++ h.immediate),
+      length-append h.displacement h.immediate,
+      h.displacement-length,
+      h.immediate-length,
+    )) in
     rw (h.body-is) (record {
       disp = place_back (displacement_size selectors) (count_of s) (length bytes) len;
       imm = if_back (takes_immediate h.action) (place_of s 0) (length bytes) (place_back s 0 (length bytes) (omega arith));
     })
 
-numbered_back : (action : Numbered) (prefixes : Prefixes) (s : Size) (bytes : List ℕ) → length bytes ≡ count_of s → HasBack (length bytes) (numbered_body action (width_of prefixes) s (signed_of s bytes))
+numbered_back : (action : Numbered) (prefixes : Prefixes) (s : Size) (bytes : List ℕ) → length bytes ≡ count_of s
+    → HasBack (length bytes) (numbered_body action (width_of prefixes) s (signed_of s bytes))
 unfolding numbered_body
 numbered_back numbered.Call prefixes s bytes len = record { disp = tt; imm = tt }
 numbered_back numbered.Jump prefixes s bytes len = record { disp = tt; imm = tt }
@@ -76,7 +85,14 @@ spells_placed bytes d h =
     let p = h.parts in
     let back = body_back (prefixes_of p.marks p.rex) p.row p.rest h.body p.has_body in
     let opcode = is_opcode (bits_of (prefixes_of p.marks p.rex)) p.opcode p.row p.row-is in
-    let less : length p.rest < length bytes = rw (p.whole) (omega (arith, length-append p.marks (option_to_list p.rex ++ (p.opcode ++ p.rest)), length-append (option_to_list p.rex) (p.opcode ++ p.rest), length-append p.opcode p.rest, ap length opcode.whole)) in
+    let less : length p.rest < length bytes = rw (p.whole) (omega (
+      arith,
+      length-append p.marks (option_to_list p.rex ++ (p.opcode ++ p.rest)),
+      length-append
+          (option_to_list p.rex) (p.opcode ++ p.rest),
+      length-append p.opcode p.rest,
+      ap length opcode.whole,
+    )) in
     rw (h.decoded-is) (record {
       some = omega arith;
       most = h.short;

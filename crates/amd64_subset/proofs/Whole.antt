@@ -55,7 +55,8 @@ clear true false e = refl
 clear false b e = absurd cc
 
 -- what a row takes leaves something possible
-pub possible : (r : Row) (t o c : Bool) (x : Option Rex) → takes r (record { thread_pointer = t; operand_size = o; code_segment = c; rex = x }) ≡ true → Possible (record { thread_pointer = t; operand_size = o; code_segment = c; rex = x })
+pub possible : (r : Row) (t o c : Bool) (x : Option Rex) → takes r (record { thread_pointer = t; operand_size = o; code_segment = c; rex = x }) ≡ true
+    → Possible (record { thread_pointer = t; operand_size = o; code_segment = c; rex = x })
 unfolding takes
 possible r false o c x e = refl
 possible row.EndBranch true o c x e = absurd cc
@@ -76,7 +77,13 @@ instruction_again front body rest h =
     let regrouped : front ++ rest ≡ h.marks ++ (option_to_list h.rex ++ (h.opcode ++ (h.rest ++ rest))) = ap (λ (t : List ℕ). t ++ rest) h.whole ∙ simp append_assoc in
     let begin : Begins (h.opcode ++ (h.rest ++ rest)) = opcode_begins h.opcode (h.rest ++ rest) (is_opcode (bits_of p) h.opcode h.row h.row-is) in
     let fits : Possible p = possible h.row p.thread_pointer p.operand_size p.code_segment p.rex h.takes in
-    rw (regrouped, prefixes_again h.marks h.rex (h.opcode ++ (h.rest ++ rest)) h.are_marks h.is_rex begin fits, row_again p h.opcode h.row (h.rest ++ rest) h.row-is h.takes, body_again p h.row h.rest body rest h.has_body) refl
+    rw (
+      regrouped,
+      prefixes_again h.marks h.rex (h.opcode ++ (h.rest ++ rest)) h.are_marks h.is_rex begin fits,
+      row_again p h.opcode h.row
+          (h.rest ++ rest) h.row-is h.takes,
+      body_again p h.row h.rest body rest h.has_body,
+    ) refl
 
 -- ---- decode
 
@@ -90,7 +97,8 @@ pub record Found (bytes : List ℕ) (d : Decoded) : Type 0 where
   pub spells : Spells (take d.len bytes) d
   pub len-length : length (take d.len bytes) ≡ d.len
 
-found_front : (bytes : List ℕ) (d : Decoded) (body : Body) (front rest : List ℕ) → take 15 bytes ≡ front ++ rest → HasParts front body → placed (length (take 15 bytes) - length rest) body ≡ d → Found bytes d
+found_front : (bytes : List ℕ) (d : Decoded) (body : Body) (front rest : List ℕ) → take 15 bytes ≡ front ++ rest → HasParts front body
+    → placed (length (take 15 bytes) - length rest) body ≡ d → Found bytes d
 found_front bytes d body front rest whole parts is =
     let size : length (take 15 bytes) - length rest ≡ length front = rw (whole) (omega (arith, length-append front rest)) in
     let d-is : d ≡ placed (length front) body = sym is ∙ ap (λ (n : ℕ). placed n body) size in

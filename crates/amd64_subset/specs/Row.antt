@@ -93,17 +93,17 @@ row_of rex opcode =
     if opcode / 16 == 0x4 then None  -- REX
     else if opcode / 8 == 0xa then Some (row.Alone (Push (extended (opcode % 8) rex.base)))  -- 50+r  push %r
     else if opcode / 8 == 0xb then Some (row.Alone (Pop (extended (opcode % 8) rex.base)))  -- 58+r  pop %r
-    else if opcode / 8 == 0x17 then
-    Some (row.Number (numbered.Move (extended (opcode % 8) rex.base)) (if rex.wide then Eight else Four))  -- b8+r  mov $i, %r
-    else if opcode / 16 == 0x7 then
-    option_map (λ condition. row.Number (numbered.JumpIf condition) One) (condition_of (opcode % 16))  -- 70+c  jcc
+    else if opcode / 8 == 0x17  -- b8+r  mov $i, %r
+    then Some (row.Number (numbered.Move (extended (opcode % 8) rex.base)) (if rex.wide then Eight else Four))
+    else if opcode / 16 == 0x7  -- 70+c  jcc
+    then option_map (λ condition. row.Number (numbered.JumpIf condition) One) (condition_of (opcode % 16))
     else fixed_row_of rex.wide opcode
 
 -- the opcodes behind 0f
 unfoldable pub escaped_row_of : ℕ → Option Row
 escaped_row_of opcode =
-    if opcode / 16 == 0x8 then
-    option_map (λ condition. row.Number (numbered.JumpIf condition) Four) (condition_of (opcode % 16))  -- 0f 80+c  jcc
+    if opcode / 16 == 0x8  -- 0f 80+c  jcc
+    then option_map (λ condition. row.Number (numbered.JumpIf condition) Four) (condition_of (opcode % 16))
     else if opcode == 0xb6 then Some (row.Register ExtendByte)  -- movzbl rm, %r
     else if opcode == 0xaf then Some (row.Register MultiplyBy)  -- imul rm, %r
     else if opcode == 0x1f then Some (row.Group group.Nop Zero)  -- nop rm
