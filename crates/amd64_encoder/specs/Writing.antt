@@ -150,6 +150,6 @@ form_bytes form displacement =
 unfoldable pub spelling_of : Instr → List ℕ
 spelling_of instr = form_bytes (form_of instr.operation instr.immediate) instr.displacement
 
--- the list with a part written over it, from this place on
+-- the list with a part written over it, from this index on
 unfoldable pub spliced : ℕ → List ℕ → List ℕ → List ℕ
 spliced at part bytes = take at bytes ++ (part ++ drop (at + length part) bytes)

@@ -224,7 +224,7 @@ impl Form {
     }
 }
 
-/// Writes these bytes from this place on, and answers the place behind them.
+/// Writes these bytes from this index on, and answers the index behind them.
 fn put_all(into: &mut [u8; 15], at: u8, part: &[u8]) -> u8
     requires { at + length part.now ≤ 15 }
     ensures written { into.new ≡ spliced at part.now into.old }

@@ -19,7 +19,7 @@ use Rattle.amd64_subset.specs.declared.selectors.Selectors.{Selectors}
 use Rattle.amd64_subset.specs.declared.meaning.Body.{Body}
 use Rattle.amd64_subset.specs.Number.{count_of, signed_of}
 use Rattle.amd64_subset.specs.Selectors.{displacement_size}
-use Rattle.amd64_subset.specs.Meaning.{width_of, place_of, is_immediate, takes_immediate, numbered_body, operation_of, operand_body}
+use Rattle.amd64_subset.specs.Meaning.{width_of, from_end, is_immediate, takes_immediate, numbered_body, operation_of, operand_body}
 use Rattle.amd64_subset.specs.Decoding.{before, placed, decoded}
 use Rattle.amd64_subset.specs.Spelling.{prefixes_of, IsOperated, HasBody, HasParts, Spells, field_of, with_displacement, with_immediate}
 use Rattle.amd64_subset.proofs.Whole.{decoded_found, decoded_again}
@@ -64,7 +64,7 @@ displaced number body = record body { instr = record body.instr { displacement =
 abbrev pub immediately : ℕ → Body → Body
 immediately number body = record body { instr = record body.instr { immediate = number } }
 
-four_back : (s : Size) (behind back : ℕ) → place_of s behind ≡ Some back → (s ≡ size.Four) × (back ≡ behind + 4)
+four_back : (s : Size) (behind back : ℕ) → from_end s behind ≡ Some back → (s ≡ size.Four) × (back ≡ behind + 4)
 four_back size.Zero behind back e = absurd cc
 four_back size.One behind back e = absurd cc
 four_back size.Four behind back e = (refl, cc)
@@ -75,7 +75,7 @@ operated_displaced : (prefixes : Prefixes) (r : Row) (s : Size) (rest : List ℕ
 unfolding operand_body
 operated_displaced prefixes r s rest body back h as_body e =
     let selectors : Selectors = record { modrm = h.modrm; sib = h.sib } in
-    let place : place_of (displacement_size selectors) (count_of s) ≡ Some back = ap (λ (b : Body). b.disp) (sym h.body-is) ∙ e in
+    let place : from_end (displacement_size selectors) (count_of s) ≡ Some back = ap (λ (b : Body). b.disp) (sym h.body-is) ∙ e in
     let size-is = four_back (displacement_size selectors) (count_of s) back place in
     let four-is : displacement_size selectors ≡ size.Four = size-is.0 in
     record {
@@ -124,8 +124,8 @@ operated_immediate : (prefixes : Prefixes) (r : Row) (s : Size) (rest : List ℕ
 unfolding operand_body
 operated_immediate prefixes r s rest body back h as_body e =
     let selectors : Selectors = record { modrm = h.modrm; sib = h.sib } in
-    let imm : cond (takes_immediate h.action) (place_of s 0) None ≡ Some back = ap (λ (b : Body). b.imm) (sym h.body-is) ∙ e in
-    let takes = some_if (takes_immediate h.action) (place_of s 0) back imm in
+    let imm : cond (takes_immediate h.action) (from_end s 0) None ≡ Some back = ap (λ (b : Body). b.imm) (sym h.body-is) ∙ e in
+    let takes = some_if (takes_immediate h.action) (from_end s 0) back imm in
     let size-is = four_back s 0 back takes.1 in
     let number : cond (takes_immediate h.action) (signed_of s h.immediate) 0 ≡ signed_of s h.immediate = rw (takes.0) refl in
     record {
@@ -155,7 +155,7 @@ operated_immediate prefixes r s rest body back h as_body e =
           });
     }
 
-is_immediate_imm : (action : Numbered) (w : Width) (s : Size) (n back : ℕ) → (numbered_body action w s n).imm ≡ Some back → (is_immediate action ≡ true) × (place_of s 0 ≡ Some back)
+is_immediate_imm : (action : Numbered) (w : Width) (s : Size) (n back : ℕ) → (numbered_body action w s n).imm ≡ Some back → (is_immediate action ≡ true) × (from_end s 0 ≡ Some back)
 unfolding numbered_body
 is_immediate_imm numbered.Call w s n back e = absurd cc
 is_immediate_imm numbered.Jump w s n back e = absurd cc

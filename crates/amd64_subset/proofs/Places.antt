@@ -16,7 +16,7 @@ use Rattle.amd64_subset.specs.declared.meaning.Body.{Body}
 use Rattle.amd64_subset.specs.Number.{count_of, signed_of}
 use Rattle.amd64_subset.specs.Prefix.{bits_of}
 use Rattle.amd64_subset.specs.Selectors.{displacement_size}
-use Rattle.amd64_subset.specs.Meaning.{width_of, place_of, takes_immediate, numbered_body, operand_body}
+use Rattle.amd64_subset.specs.Meaning.{width_of, from_end, takes_immediate, numbered_body, operand_body}
 use Rattle.amd64_subset.specs.Decoding.{before, decoded}
 use Rattle.amd64_subset.specs.Spelling.{prefixes_of, IsOperated, HasBody, Spells, HasField, IsPlaced}
 use Rattle.amd64_subset.proofs.Parts.{is_opcode}
@@ -27,7 +27,7 @@ abbrev pub IsBack : ℕ → ℕ → Type 0
 IsBack len back = (4 ≤ back) × (back ≤ len)
 
 -- a four-byte field of this size ends where so many bytes follow
-place_back : (s : Size) (behind len : ℕ) → count_of s + behind ≤ len → IfSome (place_of s behind) (IsBack len)
+place_back : (s : Size) (behind len : ℕ) → count_of s + behind ≤ len → IfSome (from_end s behind) (IsBack len)
 place_back size.Zero behind len fits = tt
 place_back size.One behind len fits = tt
 place_back size.Four behind len fits = (omega arith, omega arith)
@@ -56,7 +56,7 @@ operated_back prefixes r s bytes body h =
     )) in
     rw (h.body-is) (record {
       disp = place_back (displacement_size selectors) (count_of s) (length bytes) len;
-      imm = if_back (takes_immediate h.action) (place_of s 0) (length bytes) (place_back s 0 (length bytes) (omega arith));
+      imm = if_back (takes_immediate h.action) (from_end s 0) (length bytes) (place_back s 0 (length bytes) (omega arith));
     })
 
 numbered_back : (action : Numbered) (prefixes : Prefixes) (s : Size) (bytes : List ℕ) → length bytes ≡ count_of s

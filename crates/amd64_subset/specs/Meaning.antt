@@ -33,10 +33,10 @@ use Rattle.amd64_subset.specs.Selectors.{displacement_size, register_in, memory_
 abbrev pub width_of : Prefixes → Width
 width_of prefixes = if (bits_of prefixes).wide then Quad else Long
 
--- where a four-byte field begins that so many bytes follow, counted back from the end
-abbrev pub place_of : Size → ℕ → Option ℕ
-place_of size.Four behind = Some (behind + 4)
-place_of size behind = None
+-- how far before the end a four-byte field begins that so many bytes follow
+abbrev pub from_end : Size → ℕ → Option ℕ
+from_end size.Four behind = Some (behind + 4)
+from_end size behind = None
 
 -- an instruction of an opcode alone
 abbrev pub alone_body : Operation → Body
@@ -64,7 +64,7 @@ numbered_body action width size number =
     then record {
       instr = record { operation = numbered_operation action width number; displacement = 0; immediate = number };
       disp = None;
-      imm = place_of size 0;
+      imm = from_end size 0;
     }
     else alone_body (numbered_operation action width number)
 
@@ -114,6 +114,6 @@ operand_body action prefixes selectors size numbers = record {
     displacement = numbers.displacement;
     immediate = if takes_immediate action then numbers.immediate else 0;
   };
-  disp = place_of (displacement_size selectors) (count_of size);
-  imm = if takes_immediate action then place_of size 0 else None;
+  disp = from_end (displacement_size selectors) (count_of size);
+  imm = if takes_immediate action then from_end size 0 else None;
 }

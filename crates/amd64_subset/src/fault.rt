@@ -1,3 +1,5 @@
+//! Why bytes are no instruction.
+
 /// Why no instruction was read.
 #[derive(Clone, Copy, PartialEq, Eq, Debug)]
 pub(crate) enum Fault {

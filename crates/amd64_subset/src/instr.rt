@@ -1,3 +1,5 @@
+//! Instructions as values: what one does, and where its fields lie in its bytes.
+
 use crate::operand::{Memory, Operand, Operands};
 use crate::register::Register;
 
@@ -48,96 +50,50 @@ pub enum Condition {
 /// Where a jump or a call goes.
 #[derive(Clone, Copy, PartialEq, Eq, Debug)]
 pub enum Target {
-    /// A distance from the place behind the instruction, sign-extended to 64 bits.
+    /// A distance from the next instruction's address, sign-extended to 64 bits.
     Relative(u64),
-    /// The place that the operand holds.
+    /// The address that the operand holds.
     Indirect(Operand),
 }
 
 /// What an instruction does, but for its displacement and its immediate.
+#[rattlefmt::skip]
 #[derive(Clone, Copy, PartialEq, Eq, Debug)]
 pub enum Operation {
     /// mov
-    Move {
-        width: Width,
-        operands: Operands,
-    },
+    Move { width: Width, operands: Operands },
     /// mov of a register's low byte
-    StoreByte {
-        to: Memory,
-        from: Register,
-    },
+    StoreByte { to: Memory, from: Register },
     /// movzx from 8 bits
-    ExtendByte {
-        width: Width,
-        to: Register,
-        from: Operand,
-    },
+    ExtendByte { width: Width, to: Register, from: Operand },
     /// movslq
-    ExtendLong {
-        to: Register,
-        from: Operand,
-    },
+    ExtendLong { to: Register, from: Operand },
     /// lea
-    LoadAddress {
-        width: Width,
-        to: Register,
-        from: Memory,
-    },
+    LoadAddress { width: Width, to: Register, from: Memory },
     /// add, or, and, sub, xor, cmp
-    Compute {
-        arithmetic: Arithmetic,
-        width: Width,
-        operands: Operands,
-    },
+    Compute { arithmetic: Arithmetic, width: Width, operands: Operands },
     /// test
-    Test {
-        width: Width,
-        left: Operand,
-        right: Register,
-    },
+    Test { width: Width, left: Operand, right: Register },
     /// imul
-    Multiply {
-        width: Width,
-        to: Register,
-        from: Operand,
-    },
+    Multiply { width: Width, to: Register, from: Operand },
     /// shl, shr, sar, with the count as it is written
-    Shift {
-        shift: Shift,
-        width: Width,
-        to: Operand,
-        count: u8,
-    },
+    Shift { shift: Shift, width: Width, to: Operand, count: u8 },
     /// push, of 64 bits
-    Push {
-        from: Register,
-    },
+    Push { from: Register },
     /// pop, of 64 bits
-    Pop {
-        to: Register,
-    },
+    Pop { to: Register },
     /// leave
     Leave,
     /// call
-    Call {
-        target: Target,
-    },
+    Call { target: Target },
     /// jmp
-    Jump {
-        target: Target,
-    },
+    Jump { target: Target },
     /// jcc
-    JumpIf {
-        condition: Condition,
-        distance: u64,
-    },
+    JumpIf { condition: Condition, distance: u64 },
     /// ret
     Return,
     /// nop and endbr64: no access, and no use of the operand's registers
-    Nop {
-        operand: Option<Operand>,
-    },
+    Nop { operand: Option<Operand> },
     /// ud2
     Undefined,
 }

@@ -1,5 +1,6 @@
-//! Laws of spelling, for those who reason about code that they read in parts. Each is a function that does nothing; its
-//! clause is the law.
+//! Laws of spelling, for those who reason about code that they read in parts.
+//!
+//! Each is a function that does nothing; its clause is the law.
 
 ghost use Rattle.std.specs.Prelude.{◌≡◌, ◌≤◌, ◌++◌, ◌↔◌, ℕ, true, false, List, Some, None, length, take};
 ghost use Rattle.amd64_subset.specs.declared.instr.Decoded.{Decoded};
@@ -30,8 +31,7 @@ pub fn inside()
     ensures placed { (bytes : List ℕ) (d : Decoded) → decoded bytes ≡ Some d → IsPlaced d }
 {}
 
-/// With another four bytes in the displacement's place the same instruction is read, but for that
-/// number.
+/// With another four bytes as its displacement the same instruction is read, but for that number.
 pub fn displacement_field()
     ensures number { (bytes four tail : List ℕ) (d : Decoded) → length four ≡ 4
         → decoded (bytes ++ (four ++ tail)) ≡ Some d → d.disp ≡ Some (length bytes)
@@ -41,8 +41,7 @@ pub fn displacement_field()
         → decoded (bytes ++ (other ++ tail)) ≡ Some (with_displacement (field_of other) d) }
 {}
 
-/// With another four bytes in the immediate's place the same instruction is read, but for that
-/// number.
+/// With another four bytes as its immediate the same instruction is read, but for that number.
 pub fn immediate_field()
     ensures number { (bytes four tail : List ℕ) (d : Decoded) → length four ≡ 4
         → decoded (bytes ++ (four ++ tail)) ≡ Some d → d.imm ≡ Some (length bytes)

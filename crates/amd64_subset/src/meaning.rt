@@ -1,5 +1,7 @@
+//! What the parts of an instruction's bytes mean together.
+
 ghost use Rattle.std.specs.Prelude.{◌≡◌, ◌≤◌};
-ghost use Rattle.amd64_subset.specs.Meaning.{width_of, place_of, is_immediate, numbered_operation, takes_immediate};
+ghost use Rattle.amd64_subset.specs.Meaning.{width_of, from_end, is_immediate, numbered_operation, takes_immediate};
 ghost use Rattle.amd64_subset.specs.Meaning.{into_operand, operation_of, alone_body, numbered_body, operand_body};
 
 use crate::instr::{Instr, Operation, Target, Width};
@@ -10,7 +12,7 @@ use crate::row::{Action, Numbered};
 use crate::selectors::Selectors;
 use crate::size::{Numbers, Size};
 
-/// An instruction, and where its four-byte fields begin, counted back from its end.
+/// An instruction, and how far before its end its four-byte fields begin.
 #[derive(Clone, Copy)]
 pub struct Body {
     pub instr: Instr,
@@ -29,10 +31,10 @@ pub(crate) fn width(prefixes: Prefixes) -> Width
     }
 }
 
-/// Where a four-byte field begins that so many bytes follow, from the end.
-fn place(size: Size, behind: u8) -> Option<u8>
+/// How far before the end a four-byte field begins that so many bytes follow.
+fn from_end(size: Size, behind: u8) -> Option<u8>
     requires { behind ≤ 8 }
-    ensures { result ≡ place_of size behind }
+    ensures { result ≡ from_end size behind }
 {
     match size {
         Size::Four => Some(behind + 4),
@@ -62,33 +64,20 @@ fn is_immediate(action: Numbered) -> bool
     matches!(action, Numbered::Move(_) | Numbered::Compute(_))
 }
 
+/// What each instruction does whose opcode is followed by a number alone, a line each.
+#[rattlefmt::skip]
 fn numbered_operation(action: Numbered, width: Width, number: u64) -> Operation
     ensures { result ≡ numbered_operation action width number }
 {
+    use Numbered::*;
+    use Operands::Immediate;
+    let rax = Immediate { to: Operand::Register(Register::Rax) };
     match action {
-        Numbered::Call => Operation::Call {
-            target: Target::Relative(number),
-        },
-        Numbered::Jump => Operation::Jump {
-            target: Target::Relative(number),
-        },
-        Numbered::JumpIf(condition) => Operation::JumpIf {
-            condition,
-            distance: number,
-        },
-        Numbered::Move(register) => Operation::Move {
-            width,
-            operands: Operands::Immediate {
-                to: Operand::Register(register),
-            },
-        },
-        Numbered::Compute(arithmetic) => Operation::Compute {
-            arithmetic,
-            width,
-            operands: Operands::Immediate {
-                to: Operand::Register(Register::Rax),
-            },
-        },
+        Call => Operation::Call { target: Target::Relative(number) },                             // call
+        Jump => Operation::Jump { target: Target::Relative(number) },                             // jmp
+        JumpIf(condition) => Operation::JumpIf { condition, distance: number },                   // jcc
+        Move(to) => Operation::Move { width, operands: Immediate { to: Operand::Register(to) } }, // mov $i, %r
+        Compute(arithmetic) => Operation::Compute { arithmetic, width, operands: rax },           // add .. cmp $i, %rax
     }
 }
 
@@ -106,7 +95,7 @@ pub(crate) fn numbered_body(action: Numbered, width: Width, size: Size, number: 
                 immediate: number,
             },
             disp: None,
-            imm: place(size, 0),
+            imm: from_end(size, 0),
         }
     } else {
         alone_body(operation)
@@ -192,9 +181,9 @@ pub(crate) fn operand_body(
     };
     Body {
         instr,
-        disp: place(selectors.displacement_size(), size.count()),
+        disp: from_end(selectors.displacement_size(), size.count()),
         imm: if takes_immediate(action) {
-            place(size, 0)
+            from_end(size, 0)
         } else {
             None
         },

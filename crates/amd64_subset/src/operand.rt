@@ -1,3 +1,5 @@
+//! What an instruction reads and writes: registers and operands in memory.
+
 use crate::register::Register;
 
 /// What an address starts from.
@@ -7,7 +9,7 @@ pub enum Base {
     Absolute,
     /// A general register.
     Register(Register),
-    /// The place behind the instruction, in %rip. There is no index then.
+    /// The next instruction's address, %rip. There is no index then.
     NextInstruction,
 }
 
@@ -36,7 +38,7 @@ pub struct Memory {
     pub index: Option<Index>,
 }
 
-/// A register or a place in memory.
+/// A register or an operand in memory.
 #[derive(Clone, Copy, PartialEq, Eq, Debug)]
 pub enum Operand {
     Register(Register),

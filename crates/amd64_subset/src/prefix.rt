@@ -1,3 +1,5 @@
+//! The prefixes: FS, what only pads, and REX.
+
 ghost use Rattle.std.specs.Prelude.{◌≡◌};
 ghost use Rattle.amd64_subset.specs.Prefix.{rex_of, bits_of, takes_only_nops, has_none, least_opening, least_opcode};
 ghost use Rattle.amd64_subset.specs.Prefix.{least_escaped, marks_at, rex_at, possible_at, prefixes_at};

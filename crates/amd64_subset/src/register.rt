@@ -1,7 +1,9 @@
+//! The general registers and their numbers.
+
 ghost use Rattle.std.specs.Prelude.{◌≡◌, ◌<◌};
 ghost use Rattle.amd64_subset.specs.Register.{register_of, number_of, extended};
 
-/// One of the sixteen general registers. Its place in this list is its number in an encoding: the
+/// One of the sixteen general registers. Its index in this list is its number in an encoding: the
 /// low three bits stand in an instruction's own bytes, the fourth in its REX prefix.
 #[derive(Clone, Copy, PartialEq, Eq, Debug)]
 pub enum Register {

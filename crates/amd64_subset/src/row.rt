@@ -1,3 +1,5 @@
+//! The opcode map: what stands behind each opcode, and what the instruction does.
+
 ghost use Rattle.std.specs.Prelude.{◌≡◌};
 ghost use Rattle.amd64_subset.specs.Row.{condition_of, row_of, fixed_row_of, escaped_row_of, arithmetic_of, shift_of};
 ghost use Rattle.amd64_subset.specs.Row.{group_action, action_of, accesses, pads, takes};

@@ -1,3 +1,5 @@
+//! ModRM and SIB: which operands they select.
+
 ghost use Rattle.std.specs.Prelude.{◌≡◌, ◌≤◌};
 ghost use Rattle.amd64_subset.specs.Selectors.{has_sib, least_displacement, byte_register, allowed};
 ghost use Rattle.amd64_subset.specs.Selectors.{displacement_size, register_in, rip_or_base, absolute_or_base};

@@ -1,3 +1,5 @@
+//! The numbers in an instruction's bytes, and how many bytes each has.
+
 ghost use Rattle.std.specs.Prelude.{◌≡◌, ◌≤◌, length};
 ghost use Rattle.amd64_subset.specs.Number.{count_of, signed_of, signed_byte_of, signed_long_of};
 ghost use Rattle.amd64_subset.specs.Reading.{Gives, numbers_at};
