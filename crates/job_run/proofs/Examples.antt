@@ -19,6 +19,7 @@ use Rattle.guest_machine.specs.Effect.{with_changes, condition_of}
 use Rattle.guest_machine.specs.Operand.{base_of, index_of, address_of, kept, carried, number_at, taken, put}
 use Rattle.guest_machine.specs.State.{register_of, with_register, start_of}
 use Rattle.guest_machine.specs.Step.{act, frame_of, move_of, move_in, stored, multiply_of, finished, return_of, jump_of, jump_if}
+use Rattle.job_meaning.specs.declared.values.Byte.TheVariants.{Value}
 use Rattle.job_meaning.specs.Marked.{marked_operations}
 use Rattle.job_meaning.specs.Owner.{owner_at}
 use Rattle.job_meaning.specs.Reading.{completed, hindrance, meaning_step}
@@ -29,9 +30,11 @@ use Rattle.thread_blocks.specs.MachineTurns.{CallLine, call_said, zeros}
 use Rattle.thread_blocks.specs.Spaces.{space_accesses}
 use Rattle.thread_blocks.specs.Turns.{Said, Stopped}
 use Rattle.thread_blocks.specs.TurnsAlike.{HasUnclean}
-use Rattle.job_run.specs.Loading.{machine_loaded, meaning_loaded, HasBytes}
+use Rattle.job_run.specs.Loading.{loaded_by, machine_loaded, HasBytes}
 use Rattle.job_run.specs.Meaning.{meant_accesses, meant_turns, meant_said}
-use Rattle.job_run.specs.Worlds.{threads_from, meant_world, said_by_each, meant_by, AreClean}
+use Rattle.thread_blocks.specs.Worlds.{threads_from, said_by_each}
+use Rattle.job_run.specs.Worlds.{meant_world, meant_by, AreClean}
+use Rattle.job_run.proofs.Loaded.{seen_both}
 use Rattle.job_run.proofs.Said.{call_says}
 
 -- an image whose one block, of every thread, is the four bytes below the thread pointer
@@ -54,7 +57,7 @@ line = record { symbol = []; a = 0; b = 0; c = 0 }
 -- thread 1 calls it, for at most so many steps, where the room begins at a place
 said : ℕ → ℕ → List ℕ → List Said
 unfolding meant_said meant_turns meant_accesses meaning meaning_step hindrance completed begins_of end_branch_at escaped_at row_at operated_at body_at instruction_at decoded numbered_body operation_of operand_body signed_of rex_at prefixes_at numbers_at named_register number_of encoded_condition fixed_row_of row_of escaped_row_of arithmetic_of shift_of group_action takes allowed displacement_size memory_in sib_at selectors_at fetch_of load_of store_of space_accesses marked_operations register_of with_register start_of base_of index_of address_of kept carried number_at taken put product_fits product_effect with_changes condition_of move_of move_in stored multiply_of finished return_of jump_of jump_if act frame_of zeros owner_at threads_from
-said room fuel code = meant_said Event room (meaning_loaded (image code) entry) 1 fuel line
+said room fuel code = meant_said Event room (loaded_by Value (image code) entry) 1 fuel line
 
 abbrev ends : Stop → List Said
 ends stop = record { points = 0 ∷ []; ending = Stopped stop } ∷ []
@@ -124,13 +127,13 @@ jumps_out = refl
 -- ** lines and threads
 
 -- mov %fs:-4, %eax; mov %edi, %fs:-4; ret, called with 3 and then with 5: a block keeps its bytes from line to line
-keeps : meant_by 0x402000 (meaning_loaded (image (0x64 ∷ 0x8b ∷ 0x04 ∷ 0x25 ∷ 0xfc ∷ 0xff ∷ 0xff ∷ 0xff ∷ 0x64 ∷ 0x89 ∷ 0x3c ∷ 0x25 ∷ 0xfc ∷ 0xff ∷ 0xff ∷ 0xff ∷ 0xc3 ∷ [])) entry) 1 3
+keeps : meant_by 0x402000 (loaded_by Value (image (0x64 ∷ 0x8b ∷ 0x04 ∷ 0x25 ∷ 0xfc ∷ 0xff ∷ 0xff ∷ 0xff ∷ 0x64 ∷ 0x89 ∷ 0x3c ∷ 0x25 ∷ 0xfc ∷ 0xff ∷ 0xff ∷ 0xff ∷ 0xc3 ∷ [])) entry) 1 3
     (record line { a = 3 } ∷ record line { a = 5 } ∷ []) ([] ∷ [] ∷ []) ≡ ends (Returned 0x2a) ++ ends (Returned 3)
 unfolding said
 keeps = refl
 
 -- the same of two threads, of which the second takes the first turn: each has a block of its own
-apart : said_by_each (meant_world 0x402000 (meaning_loaded (image (0x64 ∷ 0x8b ∷ 0x04 ∷ 0x25 ∷ 0xfc ∷ 0xff ∷ 0xff ∷ 0xff ∷ 0x64 ∷ 0x89 ∷ 0x3c ∷ 0x25 ∷ 0xfc ∷ 0xff ∷ 0xff ∷ 0xff ∷ 0xc3 ∷ [])) entry) 3
+apart : said_by_each (meant_world 0x402000 (loaded_by Value (image (0x64 ∷ 0x8b ∷ 0x04 ∷ 0x25 ∷ 0xfc ∷ 0xff ∷ 0xff ∷ 0xff ∷ 0x64 ∷ 0x89 ∷ 0x3c ∷ 0x25 ∷ 0xfc ∷ 0xff ∷ 0xff ∷ 0xff ∷ 0xc3 ∷ [])) entry) 3
     ((record line { a = 3 } ∷ []) ∷ (record line { a = 5 } ∷ []) ∷ []) (2 ∷ 1 ∷ [])) ≡ ends (Returned 0x2a) ∷ ends (Returned 0x2a) ∷ []
 unfolding said
 apart = refl
@@ -157,4 +160,4 @@ is_clean (inr unclean) = absurd unclean
 
 prints : call_said Event (machine_loaded (image (0xc3 ∷ [])) entry) 1 1 line ≡ ends (Returned 0)
 unfolding said
-prints = call_says (image (0xc3 ∷ [])) entry has_bytes 0x400001 1 1 line (subst AreClean (sym returns) is_clean) ∙ returns
+prints = call_says (loaded_by Value (image (0xc3 ∷ [])) entry) (machine_loaded (image (0xc3 ∷ [])) entry) (seen_both (image (0xc3 ∷ [])) entry has_bytes) 0x400001 1 1 line (subst AreClean (sym returns) is_clean) ∙ returns

@@ -1,23 +1,30 @@
--- What is loaded of an image is the same for the meaning and for the machine: byte by byte, and as code.
-use Rattle.std.proofs.Common.{◌≡◌, ℕ, zero, suc, ◌-◌, ◌<◌, Bool, true, false, List, [], ◌∷◌, ◌++◌, length, map, Option, Some, None, refl, arith}
+-- What is loaded of an image is what its objects mean: byte by byte, and as code.
+use Rattle.std.proofs.Common.{◌≡◌, ℕ, zero, suc, ◌-◌, ◌<◌, Bool, true, false, List, [], ◌∷◌, ◌++◌, length, map, Option, Some, None, refl, sym, subst, ◌∙◌, arith}
 use Rattle.std.specs.Prelude.{if◌then◌else◌, slice_get, option_and_then}
 use Rattle.std.specs.List.{All}
 use Rattle.std.specs.Option.{option_map}
 use Rattle.std.proofs.lemmas.List.{length-map, map-id}
 use Rattle.std.proofs.lemmas.Option.{slice_get-map}
-use Rattle.guest_machine.specs.declared.space.Access.TheVariants.{Run}
+use Rattle.guest_machine.specs.declared.space.Access.TheVariants.{Read, Write, Run}
 use Rattle.guest_machine.specs.Follow.{All2}
 use Rattle.guest_machine.specs.Ranges.{Range, grants, byte_in}
 use Rattle.job_meaning.specs.declared.values.Byte.{Byte}
 use Rattle.job_meaning.specs.declared.values.Byte.TheVariants.{Value}
 use Rattle.job_meaning.specs.Marked.{code_byte}
 use Rattle.job_meaning.specs.Same.{SameByte}
-use Rattle.link_core.specs.Parts.{Image}
+use Rattle.link_core.specs.Laws.{AreLinked}
+use Rattle.link_core.specs.Meant.{meant_image}
+use Rattle.link_core.specs.Parts.{Image, image_of}
+use Rattle.link_core.proofs.Meant.{images_meant}
+use Rattle.link_faults.specs.declared.image_kind.ImageKind.{ImageKind}
+use Rattle.tls_layout.specs.Sections.{layout_of}
 use Rattle.tls_relocs.specs.Laid.{Placed}
 use Rattle.thread_blocks.specs.MachineTurns.{pointer_of, zeros}
 use Rattle.thread_blocks.specs.Spaces.{SameRange}
-use Rattle.thread_blocks.proofs.Spaces.{all2-append}
-use Rattle.job_run.specs.Loading.{code_range, block_bytes, machine_loaded, meaning_loaded, HasBytes}
+use Rattle.thread_blocks.proofs.Spaces.{all2-append, byte_in-same}
+use Rattle.job_run.specs.Linked.{nothing, SameBytes, IsLinked}
+use Rattle.job_run.specs.Loading.{code_range, block_bytes, loaded_by, machine_loaded, meaning_loaded, HasBytes}
+use Rattle.job_run.specs.Statements.{ImagesAreLinked}
 
 -- ** bytes
 
@@ -41,7 +48,7 @@ module _ (start base given : ℕ → ℕ → ℕ) where
 
   module _ (image : Image) (entry : List ℕ → Option ℕ) (has : HasBytes image) where
     -- code and constants
-    pub fixed_parts_alike : All2 (SameRange Alike) (meaning_loaded image entry).fixed (machine_loaded image entry).fixed
+    pub fixed_parts_alike : All2 (SameRange Alike) (loaded_by Value image entry).fixed (machine_loaded image entry).fixed
     fixed_parts_alike = (
       record { start = refl; readable = refl; writable = refl; runnable = refl; bytes = values-alike image.code.bytes has.code },
       (
@@ -51,7 +58,7 @@ module _ (start base given : ℕ → ℕ → ℕ) where
     )
 
     -- a thread's blocks
-    pub blocks_alike : (thread : ℕ) → All2 (SameRange Alike) ((meaning_loaded image entry).blocks thread) ((machine_loaded image entry).blocks thread)
+    pub blocks_alike : (thread : ℕ) → All2 (SameRange Alike) ((loaded_by Value image entry).blocks thread) ((machine_loaded image entry).blocks thread)
     blocks_alike thread = (record { start = refl; readable = refl; writable = refl; runnable = refl; bytes = block-alike image has }, tt)
 
 -- ** code
@@ -78,7 +85,7 @@ code-in part = record {
   byte = λ place granted. rw (slice_get-map (λ number. number) part.bytes (place - part.place), slice_get-map Value part.bytes (place - part.place)) (value-code (slice_get part.bytes (place - part.place)));
 }
 
-pub code_of_image : (image : Image) (entry : List ℕ → Option ℕ) → All2 SameCodeIn (meaning_loaded image entry).fixed (machine_loaded image entry).fixed
+pub code_of_image : (image : Image) (entry : List ℕ → Option ℕ) → All2 SameCodeIn (loaded_by Value image entry).fixed (machine_loaded image entry).fixed
 code_of_image image entry = (code-in image.code, (none_in _ _ refl refl, (none_in _ _ refl refl, tt)))
 
 either-code : (g : Bool) (a b : Option Byte) (a' b' : Option ℕ) → (g ≡ true → option_and_then (λ (byte : ℕ). Some byte) a' ≡ option_and_then code_byte a)
@@ -97,21 +104,29 @@ code_same (range ∷ ranges) (range' ∷ ranges') place h =
     rw (h.0.reach place) (either-code (grants Run range place) (slice_get range.bytes (place - range.start)) (byte_in Run ranges place) (slice_get range'.bytes (place - range'.start)) (byte_in Run ranges' place)
     (h.0.byte place) (code_same ranges ranges' place h.1))
 
--- ** what the machine sees
+-- ** the two loads
 
--- bytes are themselves to it
-pub machine_loaded_is : (image : Image) (entry : List ℕ → Option ℕ) → machine_loaded image entry ≡ record {
-  entry = entry;
-  fixed = record { start = image.code.place; bytes = image.code.bytes; readable = false; writable = false; runnable = true }
-      ∷ record { start = image.constants.place; bytes = image.constants.bytes; readable = true; writable = false; runnable = false }
-      ∷ record { start = image.initial.place; bytes = image.initial.bytes; readable = true; writable = false; runnable = false }
-      ∷ [];
-  blocks = λ thread. record {
-    start = pointer_of thread - image.block_offset;
-    bytes = image.initial.bytes ++ zeros 0 (image.block_size - length image.initial.bytes);
-    readable = true;
-    writable = true;
-    runnable = false;
-  } ∷ [];
-}
-machine_loaded_is image entry = rw (map-id image.code.bytes, map-id image.constants.bytes, map-id image.initial.bytes) refl
+and-some : (o : Option ℕ) → option_and_then (λ (byte : ℕ). Some byte) o ≡ o
+and-some None = refl
+and-some (Some byte) = refl
+
+-- one image, loaded as the meaning sees it and as the machine does
+pub seen_both : (image : Image) (entry : List ℕ → Option ℕ) → HasBytes image → IsLinked (loaded_by Value image entry) (machine_loaded image entry)
+seen_both image entry has =
+    let parts = fixed_parts_alike nothing nothing nothing image entry has in
+    record {
+      entry = λ name. refl;
+      reads = λ place. byte_in-same SameBytes Read (loaded_by Value image entry).fixed (machine_loaded image entry).fixed place parts;
+      writes = λ place. byte_in-same SameBytes Write (loaded_by Value image entry).fixed (machine_loaded image entry).fixed place parts;
+      code = λ place.
+          (sym (and-some (byte_in Run (machine_loaded image entry).fixed place))
+          ∙ code_same (loaded_by Value image entry).fixed (machine_loaded image entry).fixed place (code_of_image image entry));
+      blocks = λ thread. blocks_alike nothing nothing nothing image entry has thread;
+      no_code = λ thread. (refl, tt);
+    }
+
+-- the law: an image holds what its objects mean
+pub images_linked : ImagesAreLinked
+images_linked kind objects entry linked has =
+    subst (λ (image : Image). IsLinked (loaded_by Value image entry) (machine_loaded (image_of (layout_of kind objects) objects) entry)) (images_meant kind objects linked)
+    (seen_both (image_of (layout_of kind objects) objects) entry has)

@@ -1,32 +1,31 @@
 -- The meaning's memory and the machine's: byte by byte the same, also under writes, and as code the same but where the linker's own stands.
-use Rattle.std.proofs.Common.{◌≡◌, ℕ, Bool, true, false, List, [], ◌∷◌, Option, None, refl, ◌∙◌}
-use Rattle.std.specs.Prelude.{if◌then◌else◌}
+use Rattle.std.proofs.Common.{◌≡◌, ℕ, Bool, true, false, List, [], ◌∷◌, ◌++◌, Option, Some, None, refl, sym, ap, ◌∙◌, arith}
+use Rattle.std.specs.Prelude.{if◌then◌else◌, option_and_then}
 use Rattle.guest_machine.specs.declared.cause.Cause.{Cause}
 use Rattle.guest_machine.specs.declared.cause.Cause.TheVariants.{Linker}
-use Rattle.guest_machine.specs.declared.space.Access.TheVariants.{Write}
+use Rattle.guest_machine.specs.declared.space.Access.{Access}
+use Rattle.guest_machine.specs.declared.space.Access.TheVariants.{Read, Write, Run}
 use Rattle.guest_machine.specs.Access.{Accesses}
 use Rattle.guest_machine.specs.Follow.{All2, IsKept}
 use Rattle.guest_machine.specs.Plain.{plain_operations}
-use Rattle.guest_machine.specs.Ranges.{Range, grants, with_byte}
+use Rattle.guest_machine.specs.Ranges.{Range, byte_in, grants, with_byte}
 use Rattle.job_meaning.specs.declared.marks.Mark.TheVariants.{Usual, Odd}
 use Rattle.job_meaning.specs.declared.values.Byte.{Byte}
 use Rattle.job_meaning.specs.Code.{SameCodeByte, SameCode}
-use Rattle.job_meaning.specs.Marked.{marked_operations}
+use Rattle.job_meaning.specs.Marked.{code_byte, marked_operations}
 use Rattle.job_meaning.specs.Owner.{owner_at}
 use Rattle.job_meaning.specs.Reading.{starts_field}
 use Rattle.job_meaning.specs.Running.{AreShut}
-use Rattle.job_meaning.specs.Same.{same, SameByte}
+use Rattle.job_meaning.specs.Same.{same}
+use Rattle.job_meaning.proofs.Same.{marked_follows}
 use Rattle.thread_blocks.specs.MachineTurns.{Loaded, stack_start, fixed_of}
-use Rattle.thread_blocks.specs.Spaces.{Space, SameRange, SameSpace, space_accesses, open_everywhere, ranges_of, stack_range}
-use Rattle.thread_blocks.proofs.Spaces.{spaces_kept, all2-append}
+use Rattle.thread_blocks.specs.Spaces.{Space, FoundAlike, NoneRunnable, SameRange, SameSpace, space_accesses, open_everywhere, ranges_of, stack_range}
+use Rattle.thread_blocks.proofs.Begin.{fixed_alike}
+use Rattle.thread_blocks.proofs.Spaces.{spaces_kept}
+use Rattle.job_run.specs.Linked.{nothing, SameBytes, IsLinked}
 use Rattle.job_run.specs.Meaning.{is_linkers, meant_accesses, meant_mark}
-use Rattle.job_run.proofs.Loaded.{SameCodeIn, none_in, code_same}
 
 -- ** what can be run
-
-abbrev pub NoneRunnable : {B : Type 0} → List (Range B) → Type 0
-NoneRunnable [] = Unit {0}
-NoneRunnable (range ∷ ranges) = (range.runnable ≡ false) × NoneRunnable ranges
 
 module _ {B : Type 0} where
   either-none : (g : Bool) (xs ys : List (Range B)) → NoneRunnable xs → NoneRunnable ys → NoneRunnable (if g then xs else ys)
@@ -48,13 +47,20 @@ module _ {E B : Type 0} where
   own-either true space stack own h k = h
   own-either false space stack own h k = k
 
--- ** no token ever arises from such an image, so what one would stand for does not matter
+-- what cannot be run is no code
+none-runs : {B : Type 0} (ranges rest : List (Range B)) (place : ℕ) → NoneRunnable ranges → byte_in Run (ranges ++ rest) place ≡ byte_in Run rest place
+none-runs [] rest place none = refl
+none-runs (range ∷ ranges) rest place none = rw none.0 (none-runs ranges rest place none.1)
 
-pub nothing : ℕ → ℕ → ℕ
-nothing a b = 0
+own-none : (own : List (Range Byte)) (own' : List (Range ℕ)) → All2 (SameRange SameBytes) own own' → NoneRunnable own → NoneRunnable own'
+own-none [] [] h none = tt
+own-none [] (range' ∷ own') h none = absurd h
+own-none (range ∷ own) [] h none = absurd h
+own-none (range ∷ own) (range' ∷ own') h none = (h.0.runnable ∙ none.0, own-none own own' h.1 none.1)
 
-abbrev pub SameBytes : Byte → ℕ → Type 0
-SameBytes = SameByte nothing nothing nothing
+and-some : (o : Option ℕ) → option_and_then (λ (byte : ℕ). Some byte) o ≡ o
+and-some None = refl
+and-some (Some byte) = refl
 
 -- two memories of a thread that saw these events
 pub record SameAt {E : Type 0} (seen : List E) (m : Space E Byte) (m' : Space E ℕ) : Type 0 where
@@ -62,8 +68,20 @@ pub record SameAt {E : Type 0} (seen : List E) (m : Space E Byte) (m' : Space E 
   pub events : m.seen ≡ seen
   pub none : NoneRunnable m.own
 
+zero-byte : (same nothing owner_at nothing nothing).byte ((marked_operations owner_at).byte 0) (plain_operations.byte 0)
+unfolding same marked_operations plain_operations
+zero-byte = (refl, omega arith)
+
+either-mark : (own : Bool) (a a' : Option ℕ) → a' ≡ a → SameCodeByte (if own then Odd Linker else Usual) (if own then None else a) a'
+either-mark true a a' e = tt
+either-mark false a a' e = e
+
+no-field : (own : Bool) → starts_field (if own then Odd Linker else Usual) ≡ true → ⊥
+no-field true e = cc
+no-field false e = cc
+
 module _ {E : Type 0} (room thread : ℕ) (loaded : Loaded Byte) (loaded' : Loaded ℕ)
-    (fixed : (seen : List E) → All2 (SameRange SameBytes) (fixed_of (marked_operations owner_at) loaded thread seen) (fixed_of plain_operations loaded' thread seen)) where
+    (linked : IsLinked loaded loaded') where
   abbrev pub acc : Accesses (Space E Byte) Byte
   acc = meant_accesses room loaded thread
 
@@ -74,11 +92,17 @@ module _ {E : Type 0} (room thread : ℕ) (loaded : Loaded Byte) (loaded' : Load
   abbrev whole : Accesses (Space E Byte) Byte
   whole = space_accesses (marked_operations owner_at) (stack_start thread) (fixed_of (marked_operations owner_at) loaded thread) (λ seen. is_linkers room)
 
+  fixed-same : (access : Access) → ((place : ℕ) → FoundAlike SameBytes (byte_in access loaded.fixed place) (byte_in access loaded'.fixed place)) → (seen : List E) (place : ℕ)
+      → FoundAlike SameBytes (byte_in access (fixed_of (marked_operations owner_at) loaded thread seen) place) (byte_in access (fixed_of plain_operations loaded' thread seen) place)
+  unfolding same
+  fixed-same access parts seen place =
+      fixed_alike (same nothing owner_at nothing nothing) (marked_operations owner_at) plain_operations (marked_follows nothing owner_at nothing nothing) zero-byte loaded loaded' thread access parts seen place
+
   whole_kept : IsKept (same nothing owner_at nothing nothing) whole acc' (SameSpace {E = E} SameBytes)
   unfolding same
   whole_kept =
       spaces_kept (same nothing owner_at nothing nothing) (marked_operations owner_at) plain_operations (stack_start thread) (fixed_of (marked_operations owner_at) loaded thread)
-      (fixed_of plain_operations loaded' thread) (λ seen. is_linkers room) fixed
+      (fixed_of plain_operations loaded' thread) (λ seen. is_linkers room) (fixed-same Read linked.reads) (fixed-same Write linked.writes)
 
   put_seen : (m : Space E Byte) (place : ℕ) (byte : Byte) → (whole.put m place byte).seen ≡ m.seen
   unfolding space_accesses
@@ -112,38 +136,17 @@ module _ {E : Type 0} (room thread : ℕ) (loaded : Loaded Byte) (loaded' : Load
 
   -- ** code
 
-  own-code : (own : List (Range Byte)) (own' : List (Range ℕ)) → All2 (SameRange SameBytes) own own' → NoneRunnable own → All2 SameCodeIn own own'
-  own-code [] [] h none = tt
-  own-code [] (range' ∷ own') h none = absurd h
-  own-code (range ∷ own) [] h none = absurd h
-  own-code (range ∷ own) (range' ∷ own') h none = (none_in range range' none.0 (h.0.runnable ∙ none.0), own-code own own' h.1 none.1)
+  whole-code : (m : Space E Byte) (m' : Space E ℕ) (place : ℕ) → SameSpace SameBytes m m' → NoneRunnable m.own → acc'.code m' place ≡ whole.code m place
+  unfolding space_accesses plain_operations marked_operations
+  whole-code m m' place h none =
+      and-some (byte_in Run (ranges_of (stack_start thread) (fixed_of plain_operations loaded' thread) m') place)
+      ∙ none-runs m'.own (fixed_of plain_operations loaded' thread m'.seen) place (own-none m.own m'.own h.own none)
+      ∙ linked.code place
+      ∙ ap (option_and_then code_byte) (sym (none-runs m.own (fixed_of (marked_operations owner_at) loaded thread m.seen) place none))
 
-  module _ (parts : All2 SameCodeIn loaded.fixed loaded'.fixed) where
-    ranges-code : (m : Space E Byte) (m' : Space E ℕ) → SameSpace SameBytes m m' → NoneRunnable m.own
-        → All2 SameCodeIn (ranges_of (stack_start thread) (fixed_of (marked_operations owner_at) loaded thread) m) (ranges_of (stack_start thread) (fixed_of plain_operations loaded' thread) m')
-    ranges-code m m' h none = (
-      none_in _ _ refl refl,
-      all2-append SameCodeIn m.own (fixed_of (marked_operations owner_at) loaded thread m.seen) m'.own (fixed_of plain_operations loaded' thread m'.seen)
-          (own-code m.own m'.own h.own none) (none_in _ _ refl refl, parts),
-    )
-
-    whole-code : (m : Space E Byte) (m' : Space E ℕ) (place : ℕ) → SameSpace SameBytes m m' → NoneRunnable m.own → acc'.code m' place ≡ whole.code m place
-    unfolding space_accesses plain_operations marked_operations
-    whole-code m m' place h none =
-        code_same (ranges_of (stack_start thread) (fixed_of (marked_operations owner_at) loaded thread) m) (ranges_of (stack_start thread) (fixed_of plain_operations loaded' thread) m') place
-        (ranges-code m m' h none)
-
-    either-mark : (own : Bool) (a a' : Option ℕ) → a' ≡ a → SameCodeByte (if own then Odd Linker else Usual) (if own then None else a) a'
-    either-mark true a a' e = tt
-    either-mark false a a' e = e
-
-    no-field : (own : Bool) → starts_field (if own then Odd Linker else Usual) ≡ true → ⊥
-    no-field true e = cc
-    no-field false e = cc
-
-    pub code_kept : (SameField : ℕ → ℕ → ℕ → Type 0) (seen : List E) (m : Space E Byte) (m' : Space E ℕ) → SameAt seen m m' → SameCode (meant_mark room m) SameField acc acc' m m'
-    unfolding meant_accesses
-    code_kept SameField seen m m' h = record {
-      byte = λ place. either-mark (is_linkers room place) (whole.code m place) (acc'.code m' place) (whole-code m m' place h.space h.none);
-      field = λ place marked four. absurd (no-field (is_linkers room place) marked);
-    }
+  pub code_kept : (SameField : ℕ → ℕ → ℕ → Type 0) (seen : List E) (m : Space E Byte) (m' : Space E ℕ) → SameAt seen m m' → SameCode (meant_mark room m) SameField acc acc' m m'
+  unfolding meant_accesses
+  code_kept SameField seen m m' h = record {
+    byte = λ place. either-mark (is_linkers room place) (whole.code m place) (acc'.code m' place) (whole-code m m' place h.space h.none);
+    field = λ place marked four. absurd (no-field (is_linkers room place) marked);
+  }

@@ -14,21 +14,20 @@ use Rattle.job_meaning.specs.Same.{same}
 use Rattle.job_meaning.proofs.Running.{meaning_simulated}
 use Rattle.job_meaning.proofs.Same.{marked_follows}
 use Rattle.module_table.specs.declared.events.Event.{Event}
-use Rattle.link_core.specs.Parts.{Image}
 use Rattle.thread_blocks.specs.MachineTurns.{Loaded, CallLine, fixed_of, begun_call, begin_call, machine_turns, call_said, SameRun, SameRest}
-use Rattle.thread_blocks.specs.Spaces.{SameRange, no_field}
+use Rattle.thread_blocks.specs.Spaces.{NoneRunnable, SameRange, no_field}
 use Rattle.thread_blocks.specs.Turns.{Begun, Says, Calls, Thread, ready, turns}
 use Rattle.thread_blocks.specs.TurnsAlike.{SameBegun, IsAlike, Level, SameThread, Rises, IsGrowing, AllFine}
-use Rattle.thread_blocks.proofs.Begin.{fixed_alike, begin_call_alike}
+use Rattle.thread_blocks.proofs.Begin.{begin_call_alike}
 use Rattle.thread_blocks.proofs.Turns.{turns_alike, order_says}
-use Rattle.job_run.specs.Loading.{machine_loaded, meaning_loaded, HasBytes}
+use Rattle.job_run.specs.Linked.{nothing, SameBytes, IsLinked}
 use Rattle.job_run.specs.Meaning.{Meant, meant_mark, meant_turns, meant_start, meant_said}
-use Rattle.job_run.specs.Numbered.{each}
-use Rattle.job_run.specs.Worlds.{Printed, printed_start, threads_from, adds_none, first_world, meant_world, printed_world, said_by_each, IsCleanWorld, meant_by, printed_by, AreClean}
-use Rattle.job_run.proofs.Alone.{alone_simulated}
-use Rattle.job_run.proofs.Each.{Each, each_alike}
-use Rattle.job_run.proofs.Loaded.{fixed_parts_alike, blocks_alike, code_of_image}
-use Rattle.job_run.proofs.Memory.{NoneRunnable, nothing, SameBytes, SameAt, acc, acc', memory_kept, are_shut, code_kept}
+use Rattle.thread_blocks.specs.Numbered.{each}
+use Rattle.thread_blocks.specs.Worlds.{Printed, printed_start, threads_from, adds_none, first_world, printed_world, said_by_each, printed_by}
+use Rattle.job_run.specs.Worlds.{meant_world, IsCleanWorld, meant_by, AreClean}
+use Rattle.thread_blocks.proofs.Alone.{alone_simulated}
+use Rattle.thread_blocks.proofs.Each.{Each, each_alike}
+use Rattle.job_run.proofs.Memory.{SameAt, acc, acc', memory_kept, are_shut, code_kept}
 
 -- ** what a thread of the meaning and one of the machine have in common
 
@@ -71,21 +70,11 @@ zero-byte : Values.byte ((marked_operations owner_at).byte 0) (plain_operations.
 unfolding same marked_operations plain_operations
 zero-byte = (refl, omega arith)
 
-module _ (image : Image) (entry : List ℕ → Option ℕ) (has : HasBytes image) (room fuel : ℕ) (E : Type 0) where
-  abbrev loaded : Loaded Byte
-  loaded = meaning_loaded image entry
-
-  abbrev loaded' : Loaded ℕ
-  loaded' = machine_loaded image entry
-
+module _ (loaded : Loaded Byte) (loaded' : Loaded ℕ) (linked : IsLinked loaded loaded') (room fuel : ℕ) (E : Type 0) where
   module _ (thread : ℕ) where
-    fixed-same : (seen : List E) → All2 (SameRange SameBytes) (fixed_of (marked_operations owner_at) loaded thread seen) (fixed_of plain_operations loaded' thread seen)
-    unfolding same
-    fixed-same seen = fixed_alike Values (marked_operations owner_at) plain_operations followed zero-byte loaded loaded' thread (fixed_parts_alike nothing nothing nothing image entry has) seen
-
     start-same : Between {E = E} [] (meant_start loaded thread) (printed_start loaded' thread)
     unfolding same
-    start-same = record { own = blocks_alike nothing nothing nothing image entry has thread; none = (refl, tt) }
+    start-same = record { own = linked.blocks thread; none = linked.no_code thread }
 
     call-rests : (seen : List E) (s : Meant E) (s' : Printed E) → InCall seen s s' → Between seen s s'
     call-rests seen s s' h = record { own = h.memory.space.own; none = h.memory.none }
@@ -97,11 +86,11 @@ module _ (image : Image) (entry : List ℕ → Option ℕ) (has : HasBytes image
     steps-same : (seen : List E) → IsSimulated (meant_turns {E = E} room loaded thread fuel).steps (machine_turns {E = E} loaded' thread fuel).steps (InCall seen) (AtLook seen) (Between seen)
     unfolding meant_turns machine_turns
     steps-same seen =
-        alone_simulated (meaning (marked_operations owner_at) (acc {E = E} room thread loaded loaded' fixed-same) (meant_mark room))
-        (machine plain_operations (acc' {E = E} room thread loaded loaded' fixed-same) no_field) (λ at. at.state.place) (InCall seen) (InCall seen) (AtLook seen) (Between seen) (call-rests seen)
-        (meaning_simulated Values (marked_operations owner_at) plain_operations followed (acc room thread loaded loaded' fixed-same) (acc' room thread loaded loaded' fixed-same) (SameAt seen)
-        (memory_kept room thread loaded loaded' fixed-same seen) (meant_mark room) no_field (λ m' place. refl) plain-field (are_shut room thread loaded loaded' fixed-same)
-        (λ m m' h. code_kept room thread loaded loaded' fixed-same (code_of_image image entry) (λ place n n'. Values.field (Some place) None n n') seen m m' h) (λ s s'. ⊥))
+        alone_simulated (meaning (marked_operations owner_at) (acc {E = E} room thread loaded loaded' linked) (meant_mark room))
+        (machine plain_operations (acc' {E = E} room thread loaded loaded' linked) no_field) (λ at. at.state.place) (InCall seen) (InCall seen) (AtLook seen) (Between seen) (call-rests seen)
+        (meaning_simulated Values (marked_operations owner_at) plain_operations followed (acc room thread loaded loaded' linked) (acc' room thread loaded loaded' linked) (SameAt seen)
+        (memory_kept room thread loaded loaded' linked seen) (meant_mark room) no_field (λ m' place. refl) plain-field (are_shut room thread loaded loaded' linked)
+        (λ m m' h. code_kept room thread loaded loaded' linked (λ place n n'. Values.field (Some place) None n n') seen m m' h) (λ s s'. ⊥))
 
     begun-same : (found : Option ℕ) (line : CallLine) (seen : List E) (at : Meant E) (b' : Begun (Printed E)) → NoneRunnable at.memory.own
         → SameBegun (SameRun Values) (λ (seen : List E). SameRest Values) seen (begun_call (marked_operations owner_at) thread line seen at found) b'
@@ -117,8 +106,8 @@ module _ (image : Image) (entry : List ℕ → Option ℕ) (has : HasBytes image
         → SameBegun InCall Between seen (begin_call (marked_operations owner_at) loaded thread line seen at) (begin_call plain_operations loaded' thread line seen at')
     unfolding same
     begin-same line seen at at' own none =
-        begun-same (entry line.symbol) line seen at (begin_call plain_operations loaded' thread line seen at') none
-        (begin_call_alike Values (marked_operations owner_at) plain_operations followed zero-byte loaded loaded' thread (λ symbol. refl) line seen at at' (record { own = own }))
+        begun-same (loaded.entry line.symbol) line seen at (begin_call plain_operations loaded' thread line seen at') none
+        (begin_call_alike Values (marked_operations owner_at) plain_operations followed zero-byte loaded loaded' thread linked.entry line seen at at' (record { own = own }))
 
     -- turns of the meaning and of the machine
     pub thread_alike : IsAlike InCall AtLook Between Any (meant_turns {E = E} room loaded thread fuel) (machine_turns {E = E} loaded' thread fuel)
@@ -143,34 +132,34 @@ module _ (image : Image) (entry : List ℕ → Option ℕ) (has : HasBytes image
   levels number [] = tt
   levels number (first ∷ lines) = (record { todo = refl; said = refl; seen = refl; phase = record { number = refl; state = start-same number } }, levels (suc number) lines)
 
-module _ (image : Image) (entry : List ℕ → Option ℕ) (has : HasBytes image) (room fuel : ℕ) where
+module _ (loaded : Loaded Byte) (loaded' : Loaded ℕ) (linked : IsLinked loaded loaded') (room fuel : ℕ) where
   one-said : (t : Thread (Meant Event) CallLine Event) (t' : Thread (Printed Event) CallLine Event)
       → SameThread AtLook Between t t' → AreClean t.said → t'.said ≡ t.said
   one-said t t' (inl unclean) clean = absurd (clean unclean)
   one-said t t' (inr h) clean = h.said
 
   -- the law of one thread
-  pub thread_says : (thread : ℕ) (lines : List CallLine) (points : List (List Event)) → AreClean (meant_by room (meaning_loaded image entry) thread fuel lines points)
-      → printed_by (machine_loaded image entry) thread fuel lines points ≡ meant_by room (meaning_loaded image entry) thread fuel lines points
+  pub thread_says : (thread : ℕ) (lines : List CallLine) (points : List (List Event)) → AreClean (meant_by room loaded thread fuel lines points)
+      → printed_by loaded' thread fuel lines points ≡ meant_by room loaded thread fuel lines points
   thread_says thread lines points clean =
-      one-said (turns (meant_turns room (meaning_loaded image entry) thread fuel) (ready (meant_start (meaning_loaded image entry) thread) lines) points)
-      (turns (machine_turns (machine_loaded image entry) thread fuel) (ready (printed_start (machine_loaded image entry) thread) lines) points)
-      (turns_alike InCall AtLook Between Any (meant_turns room (meaning_loaded image entry) thread fuel) (machine_turns (machine_loaded image entry) thread fuel)
-      (thread_alike image entry has room fuel Event thread) points (ready (meant_start (meaning_loaded image entry) thread) lines) (ready (printed_start (machine_loaded image entry) thread) lines)
-      (any-rises [] points) (inr (level image entry has room fuel Event thread lines))) clean
+      one-said (turns (meant_turns room loaded thread fuel) (ready (meant_start loaded thread) lines) points)
+      (turns (machine_turns loaded' thread fuel) (ready (printed_start loaded' thread) lines) points)
+      (turns_alike InCall AtLook Between Any (meant_turns room loaded thread fuel) (machine_turns loaded' thread fuel)
+      (thread_alike loaded loaded' linked room fuel Event thread) points (ready (meant_start loaded thread) lines) (ready (printed_start loaded' thread) lines)
+      (any-rises [] points) (inr (level loaded loaded' linked room fuel Event thread lines))) clean
 
   -- the law of one call
-  pub call_says : (thread : ℕ) (line : CallLine) → AreClean (meant_said Event room (meaning_loaded image entry) thread fuel line)
-      → call_said Event (machine_loaded image entry) thread fuel line ≡ meant_said Event room (meaning_loaded image entry) thread fuel line
+  pub call_says : (thread : ℕ) (line : CallLine) → AreClean (meant_said Event room loaded thread fuel line)
+      → call_said Event loaded' thread fuel line ≡ meant_said Event room loaded thread fuel line
   unfolding meant_said call_said
   call_says thread line clean = thread_says thread (line ∷ []) ([] ∷ []) clean
 
   -- the law of all threads
-  pub worlds_say : (lines : List (List CallLine)) (order : List ℕ) → IsCleanWorld (meant_world room (meaning_loaded image entry) fuel lines order)
-      → ((printed_world (machine_loaded image entry) fuel lines order).events ≡ (meant_world room (meaning_loaded image entry) fuel lines order).events)
-      × (said_by_each (printed_world (machine_loaded image entry) fuel lines order) ≡ said_by_each (meant_world room (meaning_loaded image entry) fuel lines order))
+  pub worlds_say : (lines : List (List CallLine)) (order : List ℕ) → IsCleanWorld (meant_world room loaded fuel lines order)
+      → ((printed_world loaded' fuel lines order).events ≡ (meant_world room loaded fuel lines order).events)
+      × (said_by_each (printed_world loaded' fuel lines order) ≡ said_by_each (meant_world room loaded fuel lines order))
   worlds_say lines order clean =
-      order_says (Each InCall) (Each AtLook) (Each Between) Any (each fuel (λ thread. meant_turns room (meaning_loaded image entry) thread fuel))
-      (each (4 * fuel) (λ thread. machine_turns (machine_loaded image entry) thread fuel)) (worlds_alike image entry has room fuel Event) adds_none growing order
-      (first_world (meant_start (meaning_loaded image entry)) lines) (first_world (printed_start (machine_loaded image entry)) lines)
-      (any-fine [] (threads_from (meant_start (meaning_loaded image entry)) 1 lines)) (record { events = refl; threads = levels image entry has room fuel Event 1 lines }) clean
+      order_says (Each InCall) (Each AtLook) (Each Between) Any (each fuel (λ thread. meant_turns room loaded thread fuel))
+      (each (4 * fuel) (λ thread. machine_turns loaded' thread fuel)) (worlds_alike loaded loaded' linked room fuel Event) adds_none growing order
+      (first_world (meant_start loaded) lines) (first_world (printed_start loaded') lines)
+      (any-fine [] (threads_from (meant_start loaded) 1 lines)) (record { events = refl; threads = levels loaded loaded' linked room fuel Event 1 lines }) clean

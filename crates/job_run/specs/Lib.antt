@@ -1,5 +1,5 @@
+pub mod Linked
 pub mod Loading
 pub mod Meaning
-pub mod Numbered
 pub mod Statements
 pub mod Worlds

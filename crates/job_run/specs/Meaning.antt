@@ -24,8 +24,8 @@ image_end = 0x400000 + 2 ^ 26
 abbrev pub is_in_room : ℕ → ℕ → Bool
 is_in_room room place = nat_le room place && nat_lt place image_end
 
--- whether a place is the linker's own: where `__tls_get_addr` and the function of descriptors are called, and the room, which begins where the objects'
--- sections end
+-- whether a place is the linker's own: where `__tls_get_addr` and the function of descriptors are called, and the room, which
+-- begins where the objects' sections end
 abbrev pub is_linkers : ℕ → ℕ → Bool
 is_linkers room place = is_look place || is_in_room room place
 
@@ -36,7 +36,8 @@ Meant E = After Word Flag (Space E Byte)
 -- what its memory lets it do: at a place of the linker's own nothing
 unfoldable pub meant_accesses : {E : Type 0} → ℕ → Loaded Byte → ℕ → Accesses (Space E Byte) Byte
 meant_accesses {E} room loaded thread =
-    let acc = space_accesses {E = E} (marked_operations owner_at) (stack_start thread) (fixed_of (marked_operations owner_at) loaded thread) (λ seen. is_linkers room) in record {
+    let acc = space_accesses {E = E} (marked_operations owner_at) (stack_start thread)
+    (fixed_of (marked_operations owner_at) loaded thread) (λ seen. is_linkers room) in record {
       byte = acc.byte;
       writes = acc.writes;
       put = acc.put;
@@ -62,4 +63,5 @@ meant_start loaded thread = thread_start (marked_operations owner_at) loaded thr
 
 -- what a thread means that has one line, which sees no event
 unfoldable pub meant_said : (E : Type 0) → ℕ → Loaded Byte → ℕ → ℕ → CallLine → List Said
-meant_said E room loaded thread fuel line = (turn (meant_turns {E = E} room loaded thread fuel) (ready (meant_start loaded thread) (line ∷ [])) []).said
+meant_said E room loaded thread fuel line =
+    (turn (meant_turns {E = E} room loaded thread fuel) (ready (meant_start loaded thread) (line ∷ [])) []).said

@@ -1,6 +1,13 @@
 //! Laws of jobs. The functions do nothing: what they ensure is the law.
 
-ghost use Rattle.job_run.specs.Statements.{PrintsItsMeanings, PrintsItsMeaning, CallMeans, ThreadsTakeTheirOwnTurns, ThreadsSayTheirOwn, ThreadsMeanTheirOwn};
+ghost use Rattle.job_run.specs.Statements.{ImagesAreLinked, PrintsItsMeanings, PrintsItsMeaning, CallMeans, ThreadsMeanTheirOwn};
+
+/// A linked image stands to its objects as it should: what is loaded of it is what they mean, byte by byte
+/// and as code.
+#[tactic(auto, using(crate::proofs::Loaded::images_linked))]
+pub fn images_are_linked()
+    ensures { ImagesAreLinked }
+{}
 
 /// Where the meaning of no line is unclean, the machine over the linked image prints what all threads
 /// mean, in any order of their turns: the same history, and of each line the same.
@@ -17,17 +24,6 @@ pub fn prints_its_meaning()
 /// Where its meaning is clean, the machine prints what one call means.
 pub fn call_means()
     ensures { CallMeans }
-{}
-
-/// Among others a thread of the machine takes the turns that it would take alone.
-pub fn threads_take_their_own_turns()
-    ensures { ThreadsTakeTheirOwnTurns }
-{}
-
-/// What a thread of the machine says in an order of turns, it says alone where its looks see the same
-/// fronts of the history.
-pub fn threads_say_their_own()
-    ensures { ThreadsSayTheirOwn }
 {}
 
 /// What a thread means in an order of turns, it means alone where its looks see the same fronts of the

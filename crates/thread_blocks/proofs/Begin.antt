@@ -1,14 +1,16 @@
 -- A call begins alike over related values: one definition serves both, and so its first looks do the same.
-use Rattle.std.proofs.Common.{◌≡◌, ℕ, zero, suc, ◌+◌, ◌-◌, ◌≤◌, false, List, Option, Some, None, refl, subst, sym, inr, arith}
+use Rattle.std.proofs.Common.{◌≡◌, ℕ, zero, suc, ◌+◌, ◌-◌, ◌≤◌, false, List, [], ◌∷◌, Option, Some, None, refl, subst, sym, inr, arith}
+use Rattle.guest_machine.specs.declared.space.Access.{Access}
 use Rattle.guest_machine.specs.Access.{bytes_from}
 use Rattle.guest_machine.specs.Follow.{All2, Alike, IsFollowed, SameState}
+use Rattle.guest_machine.specs.Ranges.{byte_in}
 use Rattle.guest_machine.specs.State.{start_of}
 use Rattle.guest_machine.specs.Use.{After}
 use Rattle.guest_machine.specs.Values.{Operations}
 use Rattle.thread_blocks.specs.MachineTurns.{stack_size, stack_end, return_place, pointer_of, zeros, word_bytes, fresh_stack, pointer_word, Loaded, fixed_of, CallLine, begun_call, begin_call, thread_start, SameRun, SameRest}
-use Rattle.thread_blocks.specs.Spaces.{Space, SameRange}
+use Rattle.thread_blocks.specs.Spaces.{Space, FoundAlike, SameRange}
 use Rattle.thread_blocks.specs.TurnsAlike.{SameBegun}
-use Rattle.thread_blocks.proofs.Spaces.{all2-append}
+use Rattle.thread_blocks.proofs.Spaces.{all2-append, byte_in-front}
 
 module _ {W F B W' F' B' : Type 0} (same : Alike W F B W' F' B') (ops : Operations W F B) (ops' : Operations W' F' B') (followed : IsFollowed same ops ops')
     (zero_byte : same.byte (ops.byte 0) (ops'.byte 0)) where
@@ -47,8 +49,10 @@ module _ {W F B W' F' B' : Type 0} (same : Alike W F B W' F' B') (ops : Operatio
 
   module _ {E : Type 0} (loaded : Loaded B) (loaded' : Loaded B') (thread : ℕ) where
     -- what stands there to be read and to be run
-    pub fixed_alike : All2 (SameRange same.byte) loaded.fixed loaded'.fixed → (seen : List E) → All2 (SameRange same.byte) (fixed_of ops loaded thread seen) (fixed_of ops' loaded' thread seen)
-    fixed_alike h seen = (pointer_word_alike thread, h)
+    pub fixed_alike : (access : Access) → ((place : ℕ) → FoundAlike same.byte (byte_in access loaded.fixed place) (byte_in access loaded'.fixed place))
+        → (seen : List E) (place : ℕ) → FoundAlike same.byte (byte_in access (fixed_of ops loaded thread seen) place) (byte_in access (fixed_of ops' loaded' thread seen) place)
+    fixed_alike access h seen place =
+        byte_in-front same.byte access (pointer_word ops thread ∷ []) loaded.fixed (pointer_word ops' thread ∷ []) loaded'.fixed place (pointer_word_alike thread, tt) (h place)
 
     -- a thread before its first line
     pub thread_start_alike : All2 (SameRange same.byte) (loaded.blocks thread) (loaded'.blocks thread) → SameRest same {E = E} (thread_start ops loaded thread) (thread_start ops' loaded' thread)

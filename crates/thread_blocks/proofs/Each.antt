@@ -6,7 +6,7 @@ use Rattle.guest_machine.specs.Simulate.{Moves, Advances, OverAlike, IsSimulated
 use Rattle.thread_blocks.specs.Spaces.{next_image}
 use Rattle.thread_blocks.specs.Turns.{Begun, Says, Calls, Turns}
 use Rattle.thread_blocks.specs.TurnsAlike.{SameBegun, IsAlike}
-use Rattle.job_run.specs.Numbered.{Numbered, numbered, numbered_begun, each_steps, each, SameNumbered}
+use Rattle.thread_blocks.specs.Numbered.{Numbered, numbered, numbered_begun, each_steps, each, SameNumbered}
 
 module _ {S S' : Type 0} where
   both-numbered : (R : S → S' → Type 0) (i : ℕ) (s : S) (s' : S') → R s s' → SameNumbered R (numbered i s) (numbered i s')

@@ -6,3 +6,6 @@ pub mod Finish
 pub mod Begin
 pub mod Calling
 pub mod Examples
+pub mod Alone
+pub mod Each
+pub mod Own

@@ -9,7 +9,7 @@ use Rattle.guest_machine.specs.Ranges.{Range, grants, byte_in, with_byte, range_
 use Rattle.guest_machine.specs.Run.{run, machine, machine_of}
 use Rattle.guest_machine.specs.Use.{After}
 use Rattle.guest_machine.specs.Values.{Operations}
-use Rattle.thread_blocks.specs.Spaces.{Space, stack_range, ranges_of, address_space_of, put_byte, unless_shut, space_accesses, open_everywhere, no_field, NoneWritable, IsImage, after_of, outcome_image, IsRunImage, SameRange, SameSpace}
+use Rattle.thread_blocks.specs.Spaces.{Space, stack_range, ranges_of, address_space_of, put_byte, unless_shut, space_accesses, open_everywhere, no_field, NoneWritable, IsImage, after_of, outcome_image, IsRunImage, FoundAlike, SameRange, SameSpace}
 use Rattle.thread_blocks.proofs.Image.{machine_image, run_image}
 
 -- ** a space as its ranges
@@ -65,12 +65,6 @@ module _ {W F E B : Type 0} (ops : Operations W F B) (start : ℕ) (fixed : List
 
 -- ** spaces part by part
 
-OptionAlike : {B B' : Type 0} → (B → B' → Type 0) → Option B → Option B' → Type 0
-OptionAlike R None None = Unit {0}
-OptionAlike R None (Some b') = ⊥
-OptionAlike R (Some b) None = ⊥
-OptionAlike R (Some b) (Some b') = R b b'
-
 grants-parts : (a a' : Bool) (start start' n n' place : ℕ) → a' ≡ a → start' ≡ start → n' ≡ n
     → (a' && (nat_le start' place && nat_lt (place - start') n')) ≡ (a && (nat_le start place && nat_lt (place - start) n))
 grants-parts a a' start start' n n' place e f g = rw (e, f, g) refl
@@ -92,8 +86,7 @@ module _ {A A' : Type 0} (Q : A → A' → Type 0) where
   all2-length (x ∷ xs) [] h = absurd h
   all2-length (x ∷ xs) (y ∷ ys) h = ap suc (all2-length xs ys h.1)
 
-  all2-get : (xs : List A) (ys : List A') (i : ℕ) → All2 Q xs ys → OptionAlike Q (slice_get xs i) (slice_get ys i)
-  unfolding OptionAlike
+  all2-get : (xs : List A) (ys : List A') (i : ℕ) → All2 Q xs ys → FoundAlike Q (slice_get xs i) (slice_get ys i)
   all2-get [] [] i h = tt
   all2-get [] (y ∷ ys) i h = absurd h
   all2-get (x ∷ xs) [] i h = absurd h
@@ -107,7 +100,7 @@ module _ {A A' : Type 0} (Q : A → A' → Type 0) where
   all2-set (x ∷ xs) (y ∷ ys) zero a a' h k = (k, h.1)
   all2-set (x ∷ xs) (y ∷ ys) (suc i) a a' h k = (h.0, all2-set xs ys i a a' h.1 k)
 
-  either-option : (g g' : Bool) (x y : Option A) (x' y' : Option A') → g' ≡ g → OptionAlike Q x x' → OptionAlike Q y y' → OptionAlike Q (if g then x else y) (if g' then x' else y')
+  either-option : (g g' : Bool) (x y : Option A) (x' y' : Option A') → g' ≡ g → FoundAlike Q x x' → FoundAlike Q y y' → FoundAlike Q (if g then x else y) (if g' then x' else y')
   either-option true g' x y x' y' e h k = rw e h
   either-option false g' x y x' y' e h k = rw e k
 
@@ -120,17 +113,28 @@ module _ {B B' : Type 0} (R : B → B' → Type 0) where
   grants-same Run range range' place h =
       grants-parts range.runnable range'.runnable range.start range'.start (length range.bytes) (length range'.bytes) place h.runnable h.start (all2-length R range.bytes range'.bytes h.bytes)
 
-  byte_in-same : (access : Access) (ranges : List (Range B)) (ranges' : List (Range B')) (place : ℕ) → All2 (SameRange R) ranges ranges'
-      → OptionAlike R (byte_in access ranges place) (byte_in access ranges' place)
-  unfolding OptionAlike
+  pub byte_in-same : (access : Access) (ranges : List (Range B)) (ranges' : List (Range B')) (place : ℕ) → All2 (SameRange R) ranges ranges'
+      → FoundAlike R (byte_in access ranges place) (byte_in access ranges' place)
   byte_in-same access [] [] place h = tt
   byte_in-same access [] (range' ∷ ranges') place h = absurd h
   byte_in-same access (range ∷ ranges) [] place h = absurd h
   byte_in-same access (range ∷ ranges) (range' ∷ ranges') place h =
       either-option R (grants access range place) (grants access range' place) _ _ _ _ (grants-same access range range' place h.0)
-      (subst (λ start. OptionAlike R (slice_get range.bytes (place - range.start)) (slice_get range'.bytes (place - start))) (sym h.0.start)
+      (subst (λ start. FoundAlike R (slice_get range.bytes (place - range.start)) (slice_get range'.bytes (place - start))) (sym h.0.start)
       (all2-get R range.bytes range'.bytes (place - range.start) h.0.bytes))
       (byte_in-same access ranges ranges' place h.1)
+
+  -- ranges in front of others
+  pub byte_in-front : (access : Access) (ranges xs : List (Range B)) (ranges' xs' : List (Range B')) (place : ℕ) → All2 (SameRange R) ranges ranges'
+      → FoundAlike R (byte_in access xs place) (byte_in access xs' place) → FoundAlike R (byte_in access (ranges ++ xs) place) (byte_in access (ranges' ++ xs') place)
+  byte_in-front access [] xs [] xs' place h k = k
+  byte_in-front access [] xs (range' ∷ ranges') xs' place h k = absurd h
+  byte_in-front access (range ∷ ranges) xs [] xs' place h k = absurd h
+  byte_in-front access (range ∷ ranges) xs (range' ∷ ranges') xs' place h k =
+      either-option R (grants access range place) (grants access range' place) _ _ _ _ (grants-same access range range' place h.0)
+      (subst (λ start. FoundAlike R (slice_get range.bytes (place - range.start)) (slice_get range'.bytes (place - start))) (sym h.0.start)
+      (all2-get R range.bytes range'.bytes (place - range.start) h.0.bytes))
+      (byte_in-front access ranges xs ranges' xs' place h.1 k)
 
   set-same : (range : Range B) (range' : Range B') (place : ℕ) (b : B) (b' : B') → SameRange R range range' → R b b'
       → SameRange R (record range { bytes = slice_set range.bytes (place - range.start) b }) (record range' { bytes = slice_set range'.bytes (place - range'.start) b' })
@@ -157,17 +161,15 @@ module _ {B B' : Type 0} (R : B → B' → Type 0) where
 
   -- ** reaches
 
-  reach-byte : (shut : Bool) (o : Option B) (o' : Option B') → OptionAlike R o o' → Reaches R (unless_shut shut (ok_or o Refused)) (ok_or o' Refused)
-  unfolding OptionAlike
+  reach-byte : (shut : Bool) (o : Option B) (o' : Option B') → FoundAlike R o o' → Reaches R (unless_shut shut (ok_or o Refused)) (ok_or o' Refused)
   reach-byte true o o' h = tt
   reach-byte false None None h = tt
   reach-byte false None (Some b') h = absurd h
   reach-byte false (Some b) None h = absurd h
   reach-byte false (Some b) (Some b') h = h
 
-  reach-write : (shut : Bool) (o : Option B) (o' : Option B') → OptionAlike R o o'
+  reach-write : (shut : Bool) (o : Option B) (o' : Option B') → FoundAlike R o o'
       → Reaches (λ (a : Unit {0}) (b : Unit {0}). Unit {0}) (unless_shut shut (reached (λ byte. tt) (ok_or o Refused))) (reached (λ byte. tt) (ok_or o' Refused))
-  unfolding OptionAlike
   reach-write true o o' h = tt
   reach-write false None None h = tt
   reach-write false None (Some b') h = absurd h
@@ -211,8 +213,7 @@ module _ {B : Type 0} where
       either-shape (grants Write range place) (range ∷ ranges) _ _
       (range-set range (place - range.start) b, ranges-refl ranges) (range-refl range, with_byte-shape ranges place b)
 
-  write-same : (o o' : Option B) → OptionAlike Any o o' → reached (λ byte. tt {0}) (ok_or o' Refused) ≡ reached (λ byte. tt {0}) (ok_or o Refused)
-  unfolding OptionAlike
+  write-same : (o o' : Option B) → FoundAlike Any o o' → reached (λ byte. tt {0}) (ok_or o' Refused) ≡ reached (λ byte. tt {0}) (ok_or o Refused)
   write-same None None h = refl
   write-same None (Some b) h = absurd h
   write-same (Some a) None h = absurd h
@@ -237,13 +238,15 @@ module _ {E B : Type 0} (start : ℕ) (fixed : List E → List (Range B)) (shut 
 
 module _ {W F E B W' F' B' : Type 0} (same : Alike W F B W' F' B') (ops : Operations W F B) (ops' : Operations W' F' B') (start : ℕ)
     (fixed : List E → List (Range B)) (fixed' : List E → List (Range B')) (shut : List E → ℕ → Bool)
-    (same_fixed : (seen : List E) → All2 (SameRange same.byte) (fixed seen) (fixed' seen)) where
-  ranges-same : (space : Space E B) (space' : Space E B') → SameSpace same.byte space space' → All2 (SameRange same.byte) (ranges_of start fixed space) (ranges_of start fixed' space')
-  ranges-same space space' h = (
-    stack-same same.byte start space.stack space'.stack h.stack,
-    all2-append (SameRange same.byte) space.own (fixed space.seen) space'.own (fixed' space'.seen) h.own
-        (subst (λ seen. All2 (SameRange same.byte) (fixed space.seen) (fixed' seen)) (sym h.seen) (same_fixed space.seen)),
-  )
+    (reads : (seen : List E) (place : ℕ) → FoundAlike same.byte (byte_in Read (fixed seen) place) (byte_in Read (fixed' seen) place))
+    (writes : (seen : List E) (place : ℕ) → FoundAlike same.byte (byte_in Write (fixed seen) place) (byte_in Write (fixed' seen) place)) where
+  found-same : (access : Access) → ((seen : List E) (place : ℕ) → FoundAlike same.byte (byte_in access (fixed seen) place) (byte_in access (fixed' seen) place))
+      → (space : Space E B) (space' : Space E B') (place : ℕ) → SameSpace same.byte space space'
+      → FoundAlike same.byte (byte_in access (ranges_of start fixed space) place) (byte_in access (ranges_of start fixed' space') place)
+  found-same access alike space space' place h =
+      byte_in-front same.byte access (stack_range start space.stack ∷ space.own) (fixed space.seen) (stack_range start space'.stack ∷ space'.own) (fixed' space'.seen) place
+      (stack-same same.byte start space.stack space'.stack h.stack, h.own)
+      (subst (λ seen. FoundAlike same.byte (byte_in access (fixed space.seen) place) (byte_in access (fixed' seen) place)) (sym h.seen) (alike space.seen place))
 
   put-same : (g g' : Bool) (space : Space E B) (space' : Space E B') (place : ℕ) (b : B) (b' : B') → g' ≡ g → SameSpace same.byte space space' → same.byte b b'
       → SameSpace same.byte (if g then record space { stack = slice_set space.stack (place - start) b } else record space { own = with_byte space.own place b })
@@ -252,12 +255,12 @@ module _ {W F E B W' F' B' : Type 0} (same : Alike W F B W' F' B') (ops : Operat
       rw e (record { seen = h.seen; stack = all2-set same.byte space.stack space'.stack (place - start) b b' h.stack k; own = h.own })
   put-same false g' space space' place b b' e h k = rw e (record { seen = h.seen; stack = h.stack; own = with_byte-same same.byte space.own space'.own place b b' h.own k })
 
-  -- the law: spaces that are related part by part are related under reads and writes
+  -- the law: spaces that are related part by part are related under reads and writes, where what no thread writes is alike at each place
   pub spaces_kept : IsKept same (space_accesses ops start fixed shut) (space_accesses ops' start fixed' open_everywhere) (SameSpace {E = E} same.byte)
   unfolding space_accesses
   spaces_kept = record {
-    byte = λ space space' h place. reach-byte same.byte (shut space.seen place) _ _ (byte_in-same same.byte Read (ranges_of start fixed space) (ranges_of start fixed' space') place (ranges-same space space' h));
-    writes = λ space space' h place. reach-write same.byte (shut space.seen place) _ _ (byte_in-same same.byte Write (ranges_of start fixed space) (ranges_of start fixed' space') place (ranges-same space space' h));
+    byte = λ space space' h place. reach-byte same.byte (shut space.seen place) _ _ (found-same Read reads space space' place h);
+    writes = λ space space' h place. reach-write same.byte (shut space.seen place) _ _ (found-same Write writes space space' place h);
     put = λ space space' h place b b' k allowed. put-same (grants Write (stack_range start space.stack) place) (grants Write (stack_range start space'.stack) place) space space' place b b'
         (grants-same same.byte Write (stack_range start space.stack) (stack_range start space'.stack) place (stack-same same.byte start space.stack space'.stack h.stack)) h k;
     still = λ space place at b. put-still start fixed shut (grants Write (stack_range start space.stack) place) space place at b (put_byte start space place b) refl;

@@ -4,3 +4,6 @@ pub mod Spaces
 pub mod MachineTurns
 pub mod Parts
 pub mod Calling
+pub mod Numbered
+pub mod Worlds
+pub mod Statements

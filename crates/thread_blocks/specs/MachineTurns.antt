@@ -53,7 +53,13 @@ module _ {W F B : Type 0} (ops : Operations W F B) where
 
   -- the word at the thread pointer, which holds it and can only be read (psABI, section 3.4.6)
   abbrev pub pointer_word : ℕ → Range B
-  pointer_word thread = record { start = pointer_of thread; bytes = word_bytes (pointer_of thread); readable = true; writable = false; runnable = false }
+  pointer_word thread = record {
+    start = pointer_of thread;
+    bytes = word_bytes (pointer_of thread);
+    readable = true;
+    writable = false;
+    runnable = false;
+  }
 
 -- ---- what is loaded
 
@@ -82,7 +88,9 @@ pub record CallLine : Type 0 where
 module _ {W F B : Type 0} (ops : Operations W F B) where
   -- a machine before a call: its arguments in %rdi, %rsi and %rdx (psABI, section 3.2.3), and %rsp at the return address
   abbrev pub call_start : ℕ → ℕ → CallLine → State W F
-  call_start thread place line = record (start_of ops place (stack_end thread - 8) (ops.word line.a) (ops.word line.b) (ops.word line.c)) { thread_pointer = pointer_of thread }
+  call_start thread place line =
+      let start = start_of ops place (stack_end thread - 8) (ops.word line.a) (ops.word line.b) (ops.word line.c) in
+      record start { thread_pointer = pointer_of thread }
 
   -- a fresh stack, and the blocks as the line before left them
   abbrev pub fresh_space : {E : Type 0} → List E → List (Range B) → Space E B
@@ -91,22 +99,27 @@ module _ {W F B : Type 0} (ops : Operations W F B) where
   abbrev pub looked : {E : Type 0} → List E → After W F (Space E B) → After W F (Space E B)
   looked seen at = left at.state (record at.memory { seen = seen })
 
-  abbrev pub begun_call : {E : Type 0} → ℕ → CallLine → List E → After W F (Space E B) → Option ℕ → Begun (After W F (Space E B))
+  abbrev pub begun_call : {E : Type 0} → ℕ → CallLine → List E → After W F (Space E B) → Option ℕ
+      → Begun (After W F (Space E B))
   begun_call thread line seen at None = Says (Answered (Refused Symbol)) (looked seen at)
-  begun_call thread line seen at (Some place) = Calls (left (call_start thread place line) (fresh_space seen at.memory.own))
+  begun_call thread line seen at (Some place) =
+      Calls (left (call_start thread place line) (fresh_space seen at.memory.own))
 
   -- the first look of a line that calls
-  abbrev pub begin_call : {E : Type 0} → Loaded B → ℕ → CallLine → List E → After W F (Space E B) → Begun (After W F (Space E B))
+  abbrev pub begin_call : {E : Type 0} → Loaded B → ℕ → CallLine → List E → After W F (Space E B)
+      → Begun (After W F (Space E B))
   begin_call loaded thread line seen at = begun_call thread line seen at (loaded.entry line.symbol)
 
   -- what a thread holds before its first line
   abbrev pub thread_start : {E : Type 0} → Loaded B → ℕ → After W F (Space E B)
-  thread_start loaded thread = left (start_of ops 0 0 (ops.word 0) (ops.word 0) (ops.word 0)) (record { seen = []; stack = []; own = loaded.blocks thread })
+  thread_start loaded thread =
+      left (start_of ops 0 0 (ops.word 0) (ops.word 0) (ops.word 0))
+      (record { seen = []; stack = []; own = loaded.blocks thread })
 
 -- ---- runs with nobody to answer
 
--- where another would have to answer, none does, for no part of an image that is taken so far can be written, and what is asked for
--- would lie in one
+-- where another would have to answer, none does, for no part of an image that is taken so far can be written, and what is
+-- asked for would lie in one
 abbrev pub alone_next : {S : Type 0} → ℕ → Next S → Next S
 alone_next place (Goes t) = Goes t
 alone_next place (Ends stop) = Ends stop
@@ -124,7 +137,10 @@ alone place_of x = record {
 -- a call's machine takes at most four times `fuel` steps
 unfoldable pub machine_turns : {E : Type 0} → Loaded ℕ → ℕ → ℕ → Turns (After ℕ Bool (Space E ℕ)) CallLine E
 machine_turns {E} loaded thread fuel = record {
-  steps = alone (λ at. at.state.place) (machine plain_operations (space_accesses plain_operations (stack_start thread) (fixed_of plain_operations loaded thread) open_everywhere) no_field);
+  steps = alone (λ at. at.state.place)
+      (machine plain_operations
+      (space_accesses plain_operations (stack_start thread) (fixed_of plain_operations loaded thread) open_everywhere)
+      no_field);
   fuel = 4 * fuel;
   begin = λ line seen at. begin_call plain_operations loaded thread line seen at;
   resume = λ seen at. Calls (looked plain_operations seen at);
@@ -149,13 +165,15 @@ shown said = option_map (λ outcome. record { points = said.points; outcome = ou
 
 -- what a thread says that has one line, which sees no event
 unfoldable pub call_said : (E : Type 0) → Loaded ℕ → ℕ → ℕ → CallLine → List Said
-call_said E loaded thread fuel line = (turn (machine_turns {E = E} loaded thread fuel) (ready (thread_start plain_operations loaded thread) (line ∷ [])) []).said
+call_said E loaded thread fuel line =
+    (turn (machine_turns {E = E} loaded thread fuel) (ready (thread_start plain_operations loaded thread) (line ∷ [])) []).said
 
 -- ---- two threads, one over values of each kind
 
 module _ {W F B W' F' B' : Type 0} (same : Alike W F B W' F' B') where
   -- in a call, where the events were seen
-  pub record SameRun {E : Type 0} (seen : List E) (at : After W F (Space E B)) (at' : After W' F' (Space E B')) : Type 0 where
+  pub record SameRun {E : Type 0} (seen : List E)
+      (at : After W F (Space E B)) (at' : After W' F' (Space E B')) : Type 0 where
     pub after : SameAfter same (SameSpace same.byte) at at'
     pub events : at.memory.seen ≡ seen
 

@@ -21,7 +21,8 @@ module _ {S : Type 0} where
   numbered_phase number (Mid left points s) = Mid left points (numbered number s)
 
   abbrev pub numbered_thread : {L E : Type 0} → ℕ → Thread S L E → Thread (Numbered S) L E
-  numbered_thread number t = record { todo = t.todo; phase = numbered_phase number t.phase; said = t.said; seen = t.seen }
+  numbered_thread number t =
+      record { todo = t.todo; phase = numbered_phase number t.phase; said = t.said; seen = t.seen }
 
   -- the steps of each thread
   abbrev pub each_steps : (ℕ → Stepping S) → Stepping (Numbered S)

@@ -13,10 +13,12 @@ use Rattle.thread_blocks.specs.MachineTurns.{Loaded, pointer_of, stack_start, ze
 
 -- code can be fetched, and not be read
 abbrev pub code_range : Part → Range ℕ
-code_range part = record { start = part.place; bytes = part.bytes.items; readable = false; writable = false; runnable = true }
+code_range part =
+    record { start = part.place; bytes = part.bytes.items; readable = false; writable = false; runnable = true }
 
 abbrev pub constant_range : Part → Range ℕ
-constant_range part = record { start = part.place; bytes = part.bytes.items; readable = true; writable = false; runnable = false }
+constant_range part =
+    record { start = part.place; bytes = part.bytes.items; readable = true; writable = false; runnable = false }
 
 -- a block as it is at first: the initial image and then zeros (gABI, "Program Loading": p_filesz and p_memsz)
 abbrev pub block_bytes : BlockImage → List ℕ
@@ -24,7 +26,13 @@ block_bytes block = block.initial.bytes.items ++ zeros 0 (block.size - length bl
 
 -- the block lies below the thread pointer (Drepper, section 3, variant II)
 abbrev pub block_range : BlockImage → ℕ → Range ℕ
-block_range block thread = record { start = pointer_of thread - block.offset; bytes = block_bytes block; readable = true; writable = true; runnable = false }
+block_range block thread = record {
+  start = pointer_of thread - block.offset;
+  bytes = block_bytes block;
+  readable = true;
+  writable = true;
+  runnable = false;
+}
 
 abbrev pub loaded_of : Executable → (List ℕ → Option ℕ) → Loaded ℕ
 loaded_of executable entry = record {
@@ -37,10 +45,12 @@ loaded_of executable entry = record {
 abbrev pub call_ranges : Executable → ℕ → List (Range ℕ)
 call_ranges executable thread =
     let loaded = loaded_of executable (λ symbol. None) in
-    ranges_of {E = Event} (stack_start thread) (fixed_of plain_operations loaded thread) (fresh_space plain_operations [] (loaded.blocks thread))
+    ranges_of {E = Event} (stack_start thread) (fixed_of plain_operations loaded thread)
+    (fresh_space plain_operations [] (loaded.blocks thread))
 
 -- where the function of some name begins at the call's place, this is what a thread says of the one line that calls it
 pub record IsCallOutcome (executable : Executable) (thread fuel : ℕ) (call : Call) (outcome : Outcome) : Type 0 where
   pub says : (entry : List ℕ → Option ℕ) (symbol : List ℕ) → entry symbol ≡ Some call.place
-      → map shown (call_said Event (loaded_of executable entry) thread fuel (record { symbol = symbol; a = call.a; b = call.b; c = call.c }))
+      → map shown (call_said Event (loaded_of executable entry) thread fuel
+      (record { symbol = symbol; a = call.a; b = call.b; c = call.c }))
       ≡ Some (record { points = 0 ∷ []; outcome = outcome }) ∷ []

@@ -1,5 +1,5 @@
 -- What a thread's memory is: its stack, its own blocks, and what stands there to be read and to be run.
-use Rattle.std.specs.Prelude.{◌≡◌, ℕ, ◌-◌, Bool, true, false, List, [], ◌∷◌, ◌++◌, slice_set, Result, Ok, Err, ok_or, option_and_then, if◌then◌else◌}
+use Rattle.std.specs.Prelude.{◌≡◌, ℕ, ◌-◌, Bool, true, false, List, [], ◌∷◌, ◌++◌, slice_set, Option, Some, None, Result, Ok, Err, ok_or, option_and_then, if◌then◌else◌}
 use Rattle.guest_machine.specs.declared.space.Access.TheVariants.{Read, Write, Run}
 use Rattle.guest_machine.specs.declared.stop.Stop.{Stop}
 use Rattle.guest_machine.specs.Access.{Refusal, Refused, Shut, Accesses, reached}
@@ -43,10 +43,14 @@ unless_shut true access = Err Shut
 unless_shut false access = access
 
 -- what such a memory lets a machine do; shut: the places that are the linker's own where the events were seen
-unfoldable pub space_accesses : {W F E B : Type 0} → Operations W F B → ℕ → (List E → List (Range B)) → (List E → ℕ → Bool) → Accesses (Space E B) B
+unfoldable pub space_accesses : {W F E B : Type 0} → Operations W F B → ℕ → (List E → List (Range B))
+    → (List E → ℕ → Bool) → Accesses (Space E B) B
 space_accesses ops start fixed shut = record {
-  byte = λ space place. unless_shut (shut space.seen place) (ok_or (byte_in Read (ranges_of start fixed space) place) Refused);
-  writes = λ space place. unless_shut (shut space.seen place) (reached (λ byte. tt) (ok_or (byte_in Write (ranges_of start fixed space) place) Refused));
+  byte = λ space place.
+      unless_shut (shut space.seen place) (ok_or (byte_in Read (ranges_of start fixed space) place) Refused);
+  writes = λ space place.
+      unless_shut (shut space.seen place)
+      (reached (λ byte. tt) (ok_or (byte_in Write (ranges_of start fixed space) place) Refused));
   put = λ space place byte. put_byte start space place byte;
   code = λ space place. option_and_then ops.code (byte_in Run (ranges_of start fixed space) place);
 }
@@ -104,6 +108,17 @@ pub record SameRange {B B' : Type 0} (R : B → B' → Type 0) (range : Range B)
   pub writable : range'.writable ≡ range.writable
   pub runnable : range'.runnable ≡ range.runnable
   pub bytes : All2 R range.bytes range'.bytes
+
+-- what is found at a place on the two sides
+abbrev pub FoundAlike : {B B' : Type 0} → (B → B' → Type 0) → Option B → Option B' → Type 0
+FoundAlike R None None = Unit {0}
+FoundAlike R None (Some b') = ⊥
+FoundAlike R (Some b) None = ⊥
+FoundAlike R (Some b) (Some b') = R b b'
+
+abbrev pub NoneRunnable : {B : Type 0} → List (Range B) → Type 0
+NoneRunnable [] = Unit {0}
+NoneRunnable (range ∷ ranges) = (range.runnable ≡ false) × NoneRunnable ranges
 
 pub record SameSpace {E B B' : Type 0} (R : B → B' → Type 0) (space : Space E B) (space' : Space E B') : Type 0 where
   pub seen : space'.seen ≡ space.seen

@@ -1,4 +1,4 @@
--- What threads do, turn by turn: a turn is a look at the events so far and the private steps up to the thread's next look.
+-- What threads do, turn by turn: a turn is a look at the events so far and the private steps up to the next look.
 use Rattle.std.specs.Prelude.{ℕ, zero, suc, ◌+◌, ◌-◌, ◌*◌, List, [], ◌∷◌, ◌++◌, length, replicate, slice_get, slice_set, Option, Some, None, option_and_then}
 use Rattle.guest_machine.specs.declared.stop.Stop.{Stop}
 use Rattle.guest_machine.specs.Run.{Stepping, Outcome, Ended, Waits, run}
@@ -29,8 +29,8 @@ pub record Turns (S L E : Type 0) : Type 0 where
   -- a look in the middle of a line
   pub resume : List E → S → Begun S
 
--- where a thread stands: between two lines, or at a look in the middle of one, with the steps left (the look's own step is still
--- to be paid) and the looks so far
+-- where a thread stands: between two lines, or at a look in the middle of one, with the steps left (the look's own step is
+-- still to be paid) and the looks so far
 pub data Phase (S : Type 0) : Type 0 where
   Idle : S → Phase S
   Mid : ℕ → List ℕ → S → Phase S
@@ -51,12 +51,18 @@ with_last xs x = xs ++ x ∷ []
 module _ {S L E : Type 0} where
   -- a thread whose line is over
   abbrev pub over_with : List L → List Said → List E → List ℕ → Ending → S → Thread S L E
-  over_with todo said seen points ending s = record { todo = todo; phase = Idle s; said = with_last said (record { points = points; ending = ending }); seen = seen }
+  over_with todo said seen points ending s = record {
+    todo = todo;
+    phase = Idle s;
+    said = with_last said (record { points = points; ending = ending });
+    seen = seen;
+  }
 
   -- what a run leaves of a thread
   abbrev pub after_run : List L → List Said → List E → List ℕ → Outcome S → Thread S L E
   after_run todo said seen points (Ended stop left s) = over_with todo said seen points (Stopped stop) s
-  after_run todo said seen points (Waits left s) = record { todo = todo; phase = Mid left points s; said = said; seen = seen }
+  after_run todo said seen points (Waits left s) =
+      record { todo = todo; phase = Mid left points s; said = said; seen = seen }
 
 module _ {S L E : Type 0} (x : Turns S L E) where
   -- what a look leaves of a thread, with so many steps to go
@@ -68,7 +74,8 @@ module _ {S L E : Type 0} (x : Turns S L E) where
   abbrev pub turn_at : List L → Phase S → List Said → List E → List E → Thread S L E
   turn_at [] (Idle s) said old seen = record { todo = []; phase = Idle s; said = said; seen = old }
   turn_at (line ∷ todo) (Idle s) said old seen = after_look x.fuel todo said seen (length seen ∷ []) (x.begin line seen s)
-  turn_at todo (Mid left points s) said old seen = after_look (left - 1) todo said seen (with_last points (length seen)) (x.resume seen s)
+  turn_at todo (Mid left points s) said old seen =
+      after_look (left - 1) todo said seen (with_last points (length seen)) (x.resume seen s)
 
   abbrev pub turn : Thread S L E → List E → Thread S L E
   turn t seen = turn_at t.todo t.phase t.said t.seen seen
@@ -112,7 +119,10 @@ module _ {S L E : Type 0} (x : Turns S L E) (event : L → List E → Option E) 
   -- a turn of thread i, if there is one
   abbrev pub taken_by : World S L E → ℕ → Option (Thread S L E) → World S L E
   taken_by w i None = w
-  taken_by w i (Some t) = record { threads = with_number w.threads i (turn x t w.events); events = with_event w.events (event_of event t w.events) }
+  taken_by w i (Some t) = record {
+    threads = with_number w.threads i (turn x t w.events);
+    events = with_event w.events (event_of event t w.events);
+  }
 
   -- the turn sees the whole history, and what its line adds comes after it
   abbrev pub taken : World S L E → ℕ → World S L E

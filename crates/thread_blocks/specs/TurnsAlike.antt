@@ -1,4 +1,4 @@
--- That threads of one kind do what threads of another do, turn by turn, but that an unclean line of the first allows anything.
+-- That threads of one kind do what threads of another do, turn by turn; an unclean line of the first allows anything.
 use Rattle.std.specs.Prelude.{◌≡◌, ◌⊎◌, ℕ, ◌+◌, ◌*◌, ◌≤◌, List, [], ◌∷◌, ◌++◌, Option, Some}
 use Rattle.guest_machine.specs.Simulate.{IsUnclean, IsSimulated}
 use Rattle.guest_machine.specs.Follow.{All2}
@@ -26,20 +26,23 @@ SameBegun Rel Rest seen (Calls s) (Says ending' s') = ⊥
 SameBegun Rel Rest seen (Calls s) (Calls s') = Rel seen s s'
 
 module _ {S S' L E : Type 0} (Rel Wait Rest : List E → S → S' → Type 0) where
-  -- Fine old new: after the events `old` a thread may see the events `new`. The relations are those where the events are seen:
-  -- Rel of states in a run, Wait at a look in the middle of a line, Rest between two lines
+  -- Fine old new: after the events `old` a thread may see the events `new`. The relations are those where the events are
+  -- seen: Rel of states in a run, Wait at a look in the middle of a line, Rest between two lines
   pub record IsAlike (Fine : List E → List E → Type 0) (x : Turns S L E) (y : Turns S' L E) : Type 0 where
     pub steps : (seen : List E) → IsSimulated x.steps y.steps (Rel seen) (Wait seen) (Rest seen)
     pub fuel : 4 * x.fuel ≤ y.fuel
-    pub begin : (old new : List E) → Fine old new → (line : L) (s : S) (s' : S') → Rest old s s' → SameBegun Rel Rest new (x.begin line new s) (y.begin line new s')
-    pub resume : (old new : List E) → Fine old new → (s : S) (s' : S') → Wait old s s' → SameBegun Rel Rest new (x.resume new s) (y.resume new s')
+    pub begin : (old new : List E) → Fine old new → (line : L) (s : S) (s' : S') → Rest old s s'
+        → SameBegun Rel Rest new (x.begin line new s) (y.begin line new s')
+    pub resume : (old new : List E) → Fine old new → (s : S) (s' : S') → Wait old s s'
+        → SameBegun Rel Rest new (x.resume new s) (y.resume new s')
 
 module _ {S S' E : Type 0} (Wait Rest : List E → S → S' → Type 0) where
   abbrev pub SamePhase : List E → Phase S → Phase S' → Type 0
   SamePhase seen (Idle s) (Idle s') = Rest seen s s'
   SamePhase seen (Idle s) (Mid left' points' s') = ⊥
   SamePhase seen (Mid left points s) (Idle s') = ⊥
-  SamePhase seen (Mid left points s) (Mid left' points' s') = (1 ≤ left) × ((4 * left ≤ left' + 3) × ((points' ≡ points) × Wait seen s s'))
+  SamePhase seen (Mid left points s) (Mid left' points' s') =
+      (1 ≤ left) × ((4 * left ≤ left' + 3) × ((points' ≡ points) × Wait seen s s'))
 
   -- two threads that did the same so far
   pub record Level {L : Type 0} (t : Thread S L E) (t' : Thread S' L E) : Type 0 where
@@ -78,7 +81,8 @@ AllFine Fine events [] = Unit {0}
 AllFine Fine events (t ∷ threads) = Fine t.seen events × AllFine Fine events threads
 
 -- the turns of thread i in an order are its turns at fronts of the final history, one after another
-pub record AtPoints {S L E : Type 0} (x : Turns S L E) (Fine : List E → List E → Type 0) (t : Thread S L E) (i : ℕ) (w : World S L E) : Type 0 where
+pub record AtPoints {S L E : Type 0} (x : Turns S L E) (Fine : List E → List E → Type 0)
+    (t : Thread S L E) (i : ℕ) (w : World S L E) : Type 0 where
   pub points : List (List E)
   pub rises : Rises Fine t.seen points
   pub fronts : AllFronts points w.events

@@ -31,7 +31,8 @@ fn outcome_of(stop: Stop) -> Outcome
 {
     match stop {
         Stop::Returned(number) => Outcome::Returned(number),
-        // No part of an image that is taken so far can be written, where a call of the run time would find what is asked for.
+        // No part of an image that is taken so far can be written, where a call of the run time would find
+        // what is asked for.
         Stop::Address(_) | Stop::Look(_) => Outcome::Fault(LineFault::Address),
         // Plain numbers have no step without a meaning.
         Stop::Code(_) | Stop::Unclean(_, _) => Outcome::Fault(LineFault::Code),

@@ -46,6 +46,7 @@
 #![tactic(auto)]
 
 mod call;
+pub mod laws;
 mod memory;
 mod parts;
 mod reach;

@@ -10,8 +10,8 @@ pub struct Part {
 /// What each thread's block of thread-local storage is made of.
 #[derive(Drop)]
 pub struct BlockImage {
-    /// The initial image, which can be read where it stands in the image. A block begins with these bytes; the rest of it are
-    /// zeros.
+    /// The initial image, which can be read where it stands in the image. A block begins with these bytes; the
+    /// rest of it are zeros.
     pub initial: Part,
     /// How many bytes a block has.
     pub size: u64,

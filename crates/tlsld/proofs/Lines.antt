@@ -2,9 +2,11 @@
 use Rattle.std.proofs.Common.{◌≡◌, ◌<◌, ◌^◌, ◌∙◌, ◌&&◌, ℕ, zero, suc, Bool, true, false, List, [], ◌∷◌, All, map, map-id, Option, Some, None, Result, Ok, Err, IfOk, refl, sym, ap, subst, arith}
 use Rattle.std.specs.Prelude.{IfErr, nat_le, slice_index_or}
 use Rattle.job_meaning.specs.declared.values.Byte.{Byte}
+use Rattle.elf_object.specs.Faults.{IsObject}
+use Rattle.job_run.specs.Linked.{IsLinked}
 use Rattle.job_run.specs.Loading.{machine_loaded, meaning_loaded, HasBytes}
 use Rattle.job_run.specs.Meaning.{meant_said, meant_turns}
-use Rattle.job_run.specs.Statements.{CallMeans}
+use Rattle.job_run.specs.Statements.{CallMeans, ImagesAreLinked}
 use Rattle.module_table.specs.declared.events.Event.{Event}
 use Rattle.transcript_text.specs.declared.outcomes.Outcome.{Outcome}
 use Rattle.transcript_text.specs.declared.outcomes.Outcome.TheVariants.{Refused}
@@ -21,7 +23,7 @@ use Rattle.link_core.specs.Taken.{object_is_taken}
 use Rattle.link_faults.specs.declared.image_kind.ImageKind.TheVariants.{Exe}
 use Rattle.tlsld.specs.SmallObjects.{is_small_object, names_are_small, all_new, global_names, symbols, relocation_count}
 use Rattle.elf_object.specs.Parts.{symbol_count}
-use Rattle.tls_layout.specs.Places.{room}
+use Rattle.tls_layout.specs.Places.{room, IsLawful}
 use Rattle.tls_layout.specs.Sections.{Layout, layout_of}
 use Rattle.tlsld.specs.declared.small_run.refusal.ObjectRefusal.{ObjectRefusal}
 use Rattle.tlsld.specs.declared.small_run.refusal.ObjectRefusal.TheVariants.{OutOfMemory, Fault, NotYet}
@@ -91,7 +93,15 @@ narrow_of b p is small fit = rw small (subst (λ (q : Layout). fits q ≡ true) 
 
 -- ** what a small job comes to
 
-module _ (b : List ℕ) (job : Small) (plain : IsPlainObject b) (narrow : is_narrow b ≡ true) where
+module _ (b : List ℕ) (job : Small) (plain : IsPlainObject b) (narrow : is_narrow b ≡ true) (lawful : IsLawful (layout_one b)) (taken : All (λ b. object_is_taken b ≡ true) (b ∷ [])) (images : ImagesAreLinked) where
+  only : IsObject b → (k : ℕ) (d : List ℕ) → k < 1 → IsObject (slice_index_or (b ∷ []) k d)
+  only object zero d h = object
+  only object (suc k) d h = absurd (omega arith)
+
+  is_linked : HasBytes (image_one b) → IsLinked (meaning_loaded (layout_one b) (b ∷ []) (entry_one b)) (machine_loaded (image_one b) (entry_one b))
+  unfolding layout_one image_one
+  is_linked has = images Exe (b ∷ []) (entry_one b) (record { lawful = lawful; are_objects = only plain.0; taken = taken }) has
+
   ran : (place : ℕ) (outcome : Outcome) → CallMeans → entry_one b job.symbol ≡ Some place → IsCalled (image_one b) job place outcome → HasRun b job outcome
   unfolding printed meant
   ran place outcome means found called = record {
@@ -99,7 +109,8 @@ module _ (b : List ℕ) (job : Small) (plain : IsPlainObject b) (narrow : is_nar
     narrow = narrow;
     printed_is = called.says (entry_one b) found;
     meant_is = λ clean. subst (λ said. IsLine said outcome)
-        (means (image_one b) (entry_one b) (room (layout_one b).kind (layout_one b).sections) 1 job.fuel (call_line job) called.bytes clean) (called.says (entry_one b) found);
+        (means (meaning_loaded (layout_one b) (b ∷ []) (entry_one b)) (machine_loaded (image_one b) (entry_one b)) (room (layout_one b).kind (layout_one b).sections) 1 job.fuel (call_line job)
+        (is_linked called.bytes) clean) (called.says (entry_one b) found);
   }
 
   pub comes_called : (place : ℕ) (r : Result Outcome ObjectRefusal) → CallMeans → entry_one b job.symbol ≡ Some place → IfOk r (IsCalled (image_one b) job place) → IfErr r (λ refusal. refusal ≡ OutOfMemory) → Comes b job r
@@ -112,12 +123,16 @@ module _ (b : List ℕ) (job : Small) (plain : IsPlainObject b) (narrow : is_nar
     object = plain;
     narrow = narrow;
     printed_is = refused_call (machine_loaded (image_one b) (entry_one b)) job.fuel (call_line job) none;
-    meant_is = λ clean. refused_meaning (room (layout_one b).kind (layout_one b).sections) (meaning_loaded (image_one b) (entry_one b)) job.fuel (call_line job) none;
+    meant_is = λ clean. refused_meaning (room (layout_one b).kind (layout_one b).sections) (meaning_loaded (layout_one b) (b ∷ []) (entry_one b)) job.fuel (call_line job) none;
   }
 
 -- ** what stands for the object is its own
 
 module _ (b : List ℕ) (p : Layout) (is : p ≡ layout_of Exe (b ∷ [])) where
+  pub lawful_is : IsLawful p → IsLawful (layout_one b)
+  unfolding layout_one
+  lawful_is lawful = subst (λ (q : Layout). IsLawful q) is lawful
+
   pub image_is : (image : Image) → image ≡ image_of p (b ∷ []) → image ≡ image_one b
   unfolding image_one layout_one
   image_is image e = e ∙ ap (λ q. image_of q (b ∷ [])) is

@@ -39,6 +39,6 @@ call_line job = record { symbol = job.symbol; a = job.a; b = job.b; c = job.c }
 unfoldable pub printed : List ℕ → Small → List Said
 printed b job = call_said Event (machine_loaded (image_one b) (entry_one b)) 1 job.fuel (call_line job)
 
--- and by the object's meaning, which knows no linker
+-- and by the object's meaning, over its own sections at their places
 unfoldable pub meant : List ℕ → Small → List Said
-meant b job = meant_said Event (room (layout_one b).kind (layout_one b).sections) (meaning_loaded (image_one b) (entry_one b)) 1 job.fuel (call_line job)
+meant b job = meant_said Event (room (layout_one b).kind (layout_one b).sections) (meaning_loaded (layout_one b) (b ∷ []) (entry_one b)) 1 job.fuel (call_line job)

@@ -3,6 +3,7 @@ ghost use Rattle.std.specs.Prelude.{◌≡◌, ◌<◌, ◌^◌, IfOk, IfErr, tr
 ghost use Rattle.tlsld.specs.SmallObjects.{is_small_object};
 ghost use Rattle.tlsld.specs.Narrow.{fits};
 ghost use Rattle.tlsld.specs.Runs.{Comes, IsCalled, IsPlainObject, NotPlaced};
+ghost use Rattle.tls_layout.specs.Places.{IsLawful};
 ghost use Rattle.tls_layout.specs.Sections.{layout_of};
 
 use super::executable::executable_of;
@@ -10,7 +11,7 @@ use super::object::plain_object;
 use super::refusal::ObjectRefusal;
 use crate::not_yet::{SmallJob, is_small_object};
 use elf_object::Object;
-use job_run::laws::call_means;
+use job_run::laws::{call_means, images_are_linked};
 use link_core::{Linked, entry_place, link};
 use link_faults::{ImageKind, LinkFault};
 use std::alloc::Global;
@@ -40,6 +41,7 @@ fn run_object(alloc: Global, job: &SmallJob, object: Object) -> Result<Outcome, 
     requires small { is_small_object object ≡ true }
     ensures { Comes object.entry job.now result }
 {
+    images_are_linked();
     call_means();
     let objects = [object];
     let placement = match placement_of(alloc, &objects) {
@@ -56,6 +58,7 @@ fn run_object(alloc: Global, job: &SmallJob, object: Object) -> Result<Outcome, 
 /// Where the sections of the executable of objects go.
 fn placement_of(alloc: Global, objects: &[Object]) -> Result<Placement, ObjectRefusal>
     ensures placed { IfOk result (λ p. (p ≡ layout_of ImageKind.Exe objects.now) × (fits p ≡ true)) }
+    ensures lawful { IfOk result IsLawful }
     ensures refused { IfErr result (NotPlaced (layout_of ImageKind.Exe objects.now)) }
 {
     match place(alloc, objects, ImageKind::Exe) {

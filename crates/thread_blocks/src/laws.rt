@@ -1,0 +1,14 @@
+//! Laws of threads among others. The functions do nothing: what they ensure is the law.
+
+ghost use Rattle.thread_blocks.specs.Statements.{ThreadsTakeTheirOwnTurns, ThreadsSayTheirOwn};
+
+/// Among others a thread of the machine takes the turns that it would take alone.
+pub fn threads_take_their_own_turns()
+    ensures { ThreadsTakeTheirOwnTurns }
+{}
+
+/// What a thread of the machine says in an order of turns, it says alone where its looks see the same fronts of
+/// the history, each of which the next one continues.
+pub fn threads_say_their_own()
+    ensures { ThreadsSayTheirOwn }
+{}
