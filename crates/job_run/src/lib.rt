@@ -7,21 +7,31 @@
 //! numbers. That is what the command does (`thread_blocks`), and it depends on the linker: where it put a
 //! stub or a table, a program can read those bytes, or jump into them.
 //!
-//! **The meaning's.** Run the calls over the bytes of the objects' own sections, with marked values
-//! (`job_meaning`), where some places are the linker's own and no program's: the room behind the last
-//! section, up to the end of the image, and the places at which the functions of the run time are
-//! called, 0x1000 and 0x1800 (`is_linkers`, `specs/Meaning.antt`). What stands there is nothing that a
-//! job can mean, so a line that reads, writes or runs one of these bytes is **unclean**, with the cause
-//! `Linker`; so is a line that uses what is unknown, such as a flag that an instruction leaves undefined
-//! (Intel's manual, volume 1, appendix A), and one whose steps are used up.
+//! **The meaning's.** Run the calls over the bytes of the objects' own sections, each at its place, with
+//! marked values (`job_meaning`). What stands at an address is said by `link_core`'s `specs/Meant`: the
+//! byte of the section that stands there, in a relocation's field the byte of the value that the psABI's
+//! table gives, and between sections zero; nothing of it is taken from a linked image. Some places are the
+//! linker's own and no program's: the room behind the last section, up to the end of the image, and the
+//! places at which the functions of the run time are called, 0x1000 and 0x1800 (`is_linkers`,
+//! `specs/Meaning.antt`). What stands there is nothing that a job can mean, so a line that reads, writes or
+//! runs one of these bytes is **unclean**, with the cause `Linker`; so is a line that uses what is unknown,
+//! such as a flag that an instruction leaves undefined (Intel's manual, volume 1, appendix A), and one whose
+//! steps are used up.
 //!
-//! A line that is clean has one answer, which no linker can change. The laws (`laws`) say that it is
-//! the machine's, for the image that was linked:
+//! A line that is clean has one answer, which no linker can change. The laws (`laws`) are over two loads,
+//! the meaning's and the image's, and say that it is the machine's wherever the two are **linked**
+//! (`IsLinked`, `specs/Linked.antt`: the same functions, data alike byte by byte, the same code, fresh
+//! blocks alike):
 //!
+//! - `images_are_linked`: what is loaded of a linked image stands so to what its objects mean;
 //! - `call_means`: one thread with one line;
 //! - `prints_its_meaning`: one thread with any lines, whatever events its looks see;
 //! - `prints_its_meanings`: all threads in any order of their turns. Then each thread says the same of each
-//!   line, the numbers of events that its looks saw included, and the histories are the same.
+//!   line, the numbers of events that its looks saw included, and the histories are the same;
+//! - `threads_mean_their_own`: what a thread means in an order it means alone.
+//!
+//! The first is a law of the link alone, with no thread in it, and rests on `link_core`'s
+//! `images_are_meant`: a wrong field in an image fails there.
 //!
 //! Where a line is unclean the laws promise nothing of the whole job, and they could not: what a program
 //! makes of the linker's bytes it may store, in its block of thread-local storage, and so the next line,
@@ -36,20 +46,16 @@
 //! then `8b 04 25 00 20 40 00`, mov 0x402000, %eax, is unclean at 0x400000 with the cause `Linker`, and
 //! the machine may load what it finds there. `proofs/Examples.antt` computes both, and more.
 //!
-//! **How the two are related** (`proofs/Memory.antt`). One definition loads an image for both
-//! (`loaded_by`, `specs/Loading.antt`): the machine sees each byte as a number, the meaning as a value. From
-//! there on registers, stacks and blocks stay related byte by byte, what can be fetched is the same
-//! wherever it is not the linker's, and no block can be run, since writes keep rights. One step of the meaning
-//! is one step of the machine, so four times the meaning's steps are more than enough for it.
-//!
-//! **Threads among others** (`specs/Numbered.antt`) have their number in their state, since each has its own
-//! stack, thread pointer and blocks. Each takes the turns that it would take alone
-//! (`threads_take_their_own_turns`, `threads_say_their_own`).
+//! **How the two are related** (`proofs/Memory.antt`). From two loads that are linked on, registers, stacks
+//! and blocks stay related byte by byte, what can be fetched is the same wherever it is not the linker's,
+//! and no block can be run, since writes keep rights. One step of the meaning is one step of the machine,
+//! so four times the meaning's steps are more than enough for it.
 //!
 //! **What grows later.** No byte of these images is a token, and no sequence is rewritten. Where one is, its
 //! places get marks of their own, a base gets a number by the function `base` of `job_meaning`'s relation,
 //! which here is never asked, and a line may look in its middle. Lines that open and close modules add
-//! events, and what is loaded becomes a function of these. The statements stay as they are.
+//! events, and what is loaded becomes a function of these; `IsLinked` then says so where the events are
+//! seen. The statements stay as they are.
 #![tactic(auto)]
 
 pub mod laws;

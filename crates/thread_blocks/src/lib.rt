@@ -19,6 +19,10 @@
 //! - an order gives each thread fronts of the final history, one after another (`order_points`);
 //! - each thread comes to its end (`order_ends`).
 //!
+//! **Threads among others** (`specs/Numbered.antt`, `specs/Worlds.antt`) have their number in their state, since
+//! each has its own stack, thread pointer and blocks. Each takes the turns that it would take alone, at fronts
+//! of the history that never get shorter (`laws`).
+//!
 //! **A thread's memory** (`specs/Spaces.antt`) has three parts: its stack; its blocks of thread-local
 //! storage; and what no thread writes, which is a function of the events seen: code, constants, and the
 //! eight bytes at the thread pointer, which hold it. A machine over these parts is the machine over the
