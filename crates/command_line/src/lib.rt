@@ -34,8 +34,6 @@
 
 mod command_set;
 mod tasks;
-#[cfg(test)]
-mod tests;
 mod text;
 mod words;
 

@@ -3,5 +3,6 @@ pub mod Entries
 pub mod Errors
 pub mod Files
 pub mod Pieces
+pub mod Sinks
 pub mod States
 pub mod Streams

@@ -1,11 +1,13 @@
 -- What a contract sees of a store and of a sink in memory.
-use Rattle.std.specs.Prelude.{ℕ, ◌-◌, ◌==◌, if◌then◌else◌, List, ◌++◌, take, refl, Option, Result, Ok, Err}
+use Rattle.std.specs.Prelude.{ℕ, ◌-◌, ◌==◌, if◌then◌else◌, List, ◌++◌, take, refl, Option, Some, Result, Ok, Err}
 use Rattle.std.specs.Coded.{Coded, code_by, coded×, coded_ℕ, coded_list}
 use Rattle.std.specs.FinMap as map
 use Rattle.ports.specs.declared.faults.PutFault.{PutFault}
 use Rattle.ports.specs.declared.faults.PutFault.TheVariants as put
 use Rattle.ports.specs.Counts.{counted}
 use Rattle.ports.specs.Files.{Files}
+use Rattle.ports.specs.Pieces.{untold_bytes, untold_pieces}
+use Rattle.ports.specs.Sinks.{SinkView}
 
 -- the files, how often the store has failed, and which call fails next, counted from 1, 0 being none
 pub record StoreState : Type 0 where
@@ -31,6 +33,15 @@ pub record SinkState : Type 0 where
   pub fails_in : ℕ
   pub part : ℕ
 
+-- a sink in memory tells its bytes
+abbrev pub memory_view : SinkState → SinkView
+memory_view sink = record {
+  bytes = Some sink.bytes;
+  pieces = untold_pieces;
+  faults = sink.faults;
+  shortages = sink.shortages;
+}
+
 -- what a put appends: the whole piece, but only its first part where the call is the one that fails
 abbrev pub appended : SinkState → List ℕ → List ℕ
 appended sink piece = if sink.fails_in == 1 then take sink.part piece else piece
@@ -50,3 +61,12 @@ pub record HostSinkState : Type 0 where
   pub written : Option (List ℕ)
   pub faults : ℕ
   pub shortages : ℕ
+
+-- a sink of the host tells its counts alone
+abbrev pub host_view : HostSinkState → SinkView
+host_view sink = record {
+  bytes = untold_bytes;
+  pieces = untold_pieces;
+  faults = sink.faults;
+  shortages = sink.shortages;
+}

@@ -31,7 +31,8 @@
 //!
 //! [`HostStore`] and [`HostSink`] are the host's files and one of its writers. No clause can say what a
 //! disk or a pipe holds, so these two are the edge where trust begins: their counts, and how they treat a
-//! buffer and a writer, are proved; that a path names a file, and that the host keeps it, is only tested.
+//! buffer and a writer, are proved; that a path names a file, that the host keeps it, and that a writer was
+//! flushed, is only tested.
 #![tactic(auto)]
 
 mod faults;
@@ -39,8 +40,6 @@ mod host;
 mod memory;
 mod sinks;
 mod stores;
-#[cfg(test)]
-mod tests;
 
 pub use faults::{FetchFault, PutFault};
 pub use host::{HostSink, HostStore, LARGEST_FILE};

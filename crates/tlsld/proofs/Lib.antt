@@ -2,4 +2,5 @@ mod Asked
 mod Counted
 mod Lines
 mod Refused
+mod Shown
 mod Words

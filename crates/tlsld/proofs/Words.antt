@@ -1,10 +1,9 @@
 -- What is shown of words.
 use Rattle.std.proofs.Common.{◌≡◌, ◌⊎◌, inl, inr, ℕ, List, [], Option, Some, None, IfSome, false, refl, sym, ap, append-nil}
-use Rattle.std.specs.Prelude.{codes}
 use Rattle.command_line.specs.declared.tasks.Task.{Task}
 use Rattle.command_line.specs.Words.{asked, takes_words}
-use Rattle.ports.specs.Files.{Files}
-use Rattle.tlsld.specs.Delivery.{SinkView, IsTaken}
+use Rattle.ports.specs.Files.{Files, untold_files}
+use Rattle.ports.specs.Sinks.{SinkView}
 use Rattle.tlsld.specs.Replies.{Shows, ShowsWords, Asked, AskedWords}
 use Rattle.tlsld.specs.Statuses.{IsLate}
 use Rattle.tlsld.specs.Steps.{with_names}
@@ -12,11 +11,6 @@ use Rattle.tlsld.proofs.Asked.{answered}
 
 abbrev Names : Type 0
 Names = List (List ℕ)
-
-pub shows_late : (files : Option Files) (task : Option Task) (old new : SinkView) (code : ℕ) → IsLate code → IfSome files (λ fs. ShowsWords fs task old new code)
-shows_late None task old new code late = tt
-shows_late (Some fs) None old new code late = inl late
-shows_late (Some fs) (Some task) old new code late = inl late
 
 none_more : (old : Option Names) → old ≡ with_names [] old
 none_more None = refl
@@ -31,19 +25,17 @@ not_asked : (words : List (List ℕ)) → takes_words words ≡ false → asked 
 unfolding asked
 not_asked words other = rw other refl
 
-pub shows_usage : (files : Option Files) (words : List (List ℕ)) (old new : SinkView) (code : ℕ) → takes_words words ≡ false → IsLate code ⊎ ((code ≡ 2) × IsTaken (codes "usage\n") old new)
-    → IfSome files (λ fs. ShowsWords fs (asked words) old new code)
-shows_usage None words old new code other shown = tt
-shows_usage (Some fs) words old new code other shown = rw (not_asked words other) shown
+pub shows_usage : (files : Option Files) (words : List (List ℕ)) (old new : SinkView) (code : ℕ) → takes_words words ≡ false → ShowsWords untold_files None old new code
+    → ShowsWords files (asked words) old new code
+shows_usage files words old new code other shown = rw (not_asked words other) shown
 
 pub asked_usage : (files : Option Files) (words : List (List ℕ)) (old : Option Names) (code : ℕ) → takes_words words ≡ false → IfSome files (λ fs. AskedWords fs (asked words) old old code)
 asked_usage None words old code other = tt
 asked_usage (Some fs) words old code other = rw (not_asked words other) refl
 
-pub shows_task : (files : Option Files) (words : List (List ℕ)) (task : Task) (old new : SinkView) (code : ℕ) → asked words ≡ Some task → IfSome files (λ fs. Shows fs task old new code)
-    → IfSome files (λ fs. ShowsWords fs (asked words) old new code)
-shows_task None words task old new code e shown = tt
-shows_task (Some fs) words task old new code e shown = rw e shown
+pub shows_task : (files : Option Files) (words : List (List ℕ)) (task : Task) (old new : SinkView) (code : ℕ) → asked words ≡ Some task → Shows files task old new code
+    → ShowsWords files (asked words) old new code
+shows_task files words task old new code e shown = rw e shown
 
 pub asked_task : (files : Option Files) (words : List (List ℕ)) (task : Task) (old new : Option Names) (code : ℕ) → asked words ≡ Some task → IfSome files (λ fs. Asked fs task old new code)
     → IfSome files (λ fs. AskedWords fs (asked words) old new code)

@@ -1,12 +1,13 @@
--- What a command answers, and what that has to do with the store.
-use Rattle.std.specs.Prelude.{◌≡◌, ◌≤◌, ℕ, ◌⊎◌, List, Option, Some, None, codes}
+-- What a command answers, what the top calls show of it, and what that has to do with the store.
+use Rattle.std.specs.Prelude.{◌≡◌, ◌≤◌, ℕ, ◌⊎◌, List, Option, Some, None}
 use Rattle.command_line.specs.declared.tasks.Task.{Task}
 use Rattle.command_line.specs.declared.tasks.Task.TheVariants as task
 use Rattle.ports.specs.Files.{Files}
+use Rattle.ports.specs.Sinks.{SinkView}
 use Rattle.tlsld.specs.Says.{RunSays}
 use Rattle.tlsld.specs.Steps.{AsksFront, run_names, with_names}
 use Rattle.tlsld.specs.Statuses.{code_of, IsLate}
-use Rattle.tlsld.specs.Delivery.{IsTextOf, IsTaken, SinkView}
+use Rattle.tlsld.specs.Delivery.{Delivered, store_line, usage_line}
 use Rattle.ports.specs.Counts.{Counted}
 use Rattle.tlsld.specs.declared.status.Status.{Status}
 use Rattle.tlsld.specs.declared.status.Status.TheVariants as status
@@ -49,25 +50,24 @@ AsksOfAnswer fs asked old new (Replies reply) = new ≡ with_names (run_names fs
 AsksOfAnswer fs asked old new StoreFails = AsksFront (run_names fs (job_name asked)) old new
 AsksOfAnswer fs asked old new NoMemory = AsksFront (run_names fs (job_name asked)) old new
 
--- what reached the sink: the reply, or the line of a store that failed; a late number says that it did not
-abbrev pub Reached : Answer → SinkView → SinkView → ℕ → Type 0
-Reached (Replies reply) old new code = IsLate code ⊎ ((code ≡ code_of reply.status) × IsTaken reply.text.items old new)
-Reached StoreFails old new code = IsLate code ⊎ ((code ≡ 3) × IsTaken (codes "store fault\n") old new)
-Reached NoMemory old new code = IsLate code
-
--- a reply's text goes with its status
-abbrev pub IsOwnText : Answer → Type 0
-IsOwnText (Replies reply) = IsTextOf (code_of reply.status) reply.text.items
-IsOwnText StoreFails = Unit {0}
-IsOwnText NoMemory = Unit {0}
+-- the status and the text of an answer
+abbrev pub IsAnswer : Answer → ℕ → List ℕ → Type 0
+IsAnswer (Replies reply) own text = (own ≡ code_of reply.status) × (text ≡ reply.text.items)
+IsAnswer StoreFails own text = (own ≡ 3) × (text ≡ store_line)
+IsAnswer NoMemory own text = ⊥
 
 -- ---- the whole command
 
--- what is shown over these files: what the command says, or the line of a store that failed; a late number says that it did not get through
-abbrev pub Shows : Files → Task → SinkView → SinkView → ℕ → Type 0
-Shows fs asked old new code = IsLate code
-    ⊎ (((code ≡ 3) × IsTaken (codes "store fault\n") old new)
-    ⊎ ((text : List ℕ) × (RunSays fs (job_name asked) code text × IsTaken text old new)))
+-- what a task may say, and with which status: that the store failed, or what the command says over the store's files;
+-- where the store tells none, any text with a status of its own
+abbrev pub MaySay : Option Files → Task → ℕ → List ℕ → Type 0
+MaySay None asked own text = ((own ≡ 3) × (text ≡ store_line)) ⊎ ((own ≡ 0) ⊎ (5 ≤ own))
+MaySay (Some fs) asked own text = ((own ≡ 3) × (text ≡ store_line)) ⊎ RunSays fs (job_name asked) own text
+
+-- what is shown: 1 is want of memory, and comes after a front of another text only where the sink had no memory for it;
+-- 4 is a sink that failed; and every other status goes with the whole of its text
+abbrev pub Shows : Option Files → Task → SinkView → SinkView → ℕ → Type 0
+Shows files asked old new code = Delivered (MaySay files asked) old new code
 
 -- the names asked for: a front of the command's, and all of them where it ended with a status of its own
 pub record Asked (fs : Files) (asked : Task) (old new : Option (List (List ℕ))) (code : ℕ) : Type 0 where
@@ -76,10 +76,13 @@ pub record Asked (fs : Files) (asked : Task) (old new : Option (List (List ℕ))
 
 -- ---- the words
 
--- what is shown where the words are read: the line for words that are not taken, or what the task shows
-abbrev pub ShowsWords : Files → Option Task → SinkView → SinkView → ℕ → Type 0
-ShowsWords fs None old new code = IsLate code ⊎ ((code ≡ 2) × IsTaken (codes "usage\n") old new)
-ShowsWords fs (Some asked) old new code = Shows fs asked old new code
+-- what words may say: that they are not taken, or what their task may say
+abbrev pub WordsMaySay : Option Files → Option Task → ℕ → List ℕ → Type 0
+WordsMaySay files None own text = (own ≡ 2) × (text ≡ usage_line)
+WordsMaySay files (Some asked) own text = MaySay files asked own text
+
+abbrev pub ShowsWords : Option Files → Option Task → SinkView → SinkView → ℕ → Type 0
+ShowsWords files asked old new code = Delivered (WordsMaySay files asked) old new code
 
 abbrev pub AskedWords : Files → Option Task → Option (List (List ℕ)) → Option (List (List ℕ)) → ℕ → Type 0
 AskedWords fs None old new code = new ≡ old

@@ -1,8 +1,7 @@
 //! What a command answers, and how it reaches the sink.
-ghost use Rattle.std.specs.Prelude.{◌≡◌, ◌≤◌, ◌⊎◌, codes};
-ghost use Rattle.tlsld.specs.Delivery.{Says, Delivers, Replied};
+ghost use Rattle.tlsld.specs.Delivery.{Says, Delivers, Delivered, memory_line};
 ghost use Rattle.tlsld.specs.Statuses.{IsLate, SinkShown, code_of};
-ghost use Rattle.tlsld.specs.Replies.{IsDelivered, IsOwnText, Reached};
+ghost use Rattle.tlsld.specs.Replies.{IsDelivered, IsAnswer};
 
 use crate::status::Status;
 use ports::{PutFault, Sink};
@@ -33,11 +32,8 @@ pub enum Answer {
 /// Puts the text, and gives the status to end with: its own; 4 where the sink failed; where the sink had no memory, what
 /// saying so gives.
 pub fn say<K: Sink>(out: &mut K, status: Status, text: &[u8]) -> u8
-    ensures delivers { Delivers text.now (codes "out of memory\n") (code_of status)
-        (record { bytes = K.bytes out.old; faults = K.faults out.old; shortages = K.shortages out.old; pieces = K.pieces out.old })
-        (record { bytes = K.bytes out.new; faults = K.faults out.new; shortages = K.shortages out.new; pieces = K.pieces out.new })
-        result }
-    ensures sink { SinkShown (K.faults out.old) (K.faults out.new) result }
+    ensures delivers { Delivers text.now (code_of status) (K.view out.old) (K.view out.new) result }
+    ensures sink { SinkShown (K.view out.old).faults (K.view out.new).faults result }
 {
     match out.put(text) {
         Ok(()) => status.code(),
@@ -48,11 +44,8 @@ pub fn say<K: Sink>(out: &mut K, status: Status, text: &[u8]) -> u8
 
 /// Puts the line for want of memory, and gives 1, or 4 where the sink failed.
 pub fn say_no_memory<K: Sink>(out: &mut K) -> u8
-    ensures says { Says (codes "out of memory\n") 1
-        (record { bytes = K.bytes out.old; faults = K.faults out.old; shortages = K.shortages out.old; pieces = K.pieces out.old })
-        (record { bytes = K.bytes out.new; faults = K.faults out.new; shortages = K.shortages out.new; pieces = K.pieces out.new })
-        result }
-    ensures sink { SinkShown (K.faults out.old) (K.faults out.new) result }
+    ensures says { Says memory_line 1 (K.view out.old) (K.view out.new) result }
+    ensures sink { SinkShown (K.view out.old).faults (K.view out.new).faults result }
     ensures late { IsLate result }
 {
     match out.put(OUT_OF_MEMORY) {
@@ -63,17 +56,9 @@ pub fn say_no_memory<K: Sink>(out: &mut K) -> u8
 
 /// Puts the answer's text, and gives the status to end with.
 pub fn deliver<K: Sink>(out: &mut K, answer: &Answer) -> u8
-    requires { IsOwnText answer.now }
-    ensures sink { SinkShown (K.faults out.old) (K.faults out.new) result }
+    ensures delivered { Delivered (IsAnswer answer.now) (K.view out.old) (K.view out.new) result }
+    ensures sink { SinkShown (K.view out.old).faults (K.view out.new).faults result }
     ensures own { IsDelivered answer.now result }
-    ensures reached { Reached answer.now
-        (record { bytes = K.bytes out.old; faults = K.faults out.old; shortages = K.shortages out.old; pieces = K.pieces out.old })
-        (record { bytes = K.bytes out.new; faults = K.faults out.new; shortages = K.shortages out.new; pieces = K.pieces out.new })
-        result }
-    ensures replied { Replied
-        (record { bytes = K.bytes out.old; faults = K.faults out.old; shortages = K.shortages out.old; pieces = K.pieces out.old })
-        (record { bytes = K.bytes out.new; faults = K.faults out.new; shortages = K.shortages out.new; pieces = K.pieces out.new })
-        result }
 {
     match answer {
         Answer::Replies(reply) => say(out, reply.status, reply.text.as_slice()),

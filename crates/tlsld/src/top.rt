@@ -1,9 +1,9 @@
 //! The top calls, which `main` makes.
-ghost use Rattle.std.specs.Prelude.{◌≡◌, ◌≢◌, ◌⊎◌, codes, IfSome, false, map, string_bytes};
+ghost use Rattle.std.specs.Prelude.{◌≡◌, ◌≢◌, IfSome, Some, None, false, map, string_bytes};
 ghost use Rattle.command_line.specs.Words.{asked, takes_words};
-ghost use Rattle.tlsld.specs.Delivery.{IsTaken, Replied};
+ghost use Rattle.ports.specs.Files.{untold_files};
 ghost use Rattle.tlsld.specs.Replies.{Asked, AskedWords, Shows, ShowsWords};
-ghost use Rattle.tlsld.specs.Statuses.{IsLate, UsageShown, StoreShown, SinkShown};
+ghost use Rattle.tlsld.specs.Statuses.{UsageShown, StoreShown, SinkShown};
 
 use crate::command::answer;
 use crate::reply::{deliver, say, say_no_memory};
@@ -16,7 +16,7 @@ use std::thread::Threads;
 
 /// Reads the words, which hold no program name, and answers the command that they are: puts its output, or the one line that
 /// says why there is none, and gives the status to end with.
-#[tactic(auto, using(crate::proofs::Words::shows_late, crate::proofs::Words::asked_late, crate::proofs::Words::shows_usage, crate::proofs::Words::asked_usage, crate::proofs::Words::shows_task, crate::proofs::Words::asked_task))]
+#[tactic(auto, using(crate::proofs::Words::asked_late, crate::proofs::Words::asked_usage, crate::proofs::Words::shows_task, crate::proofs::Words::asked_task))]
 pub fn tlsld<R: Threads + Wait + Sync, S: Store, K: Sink>(
     _rt: &R,
     alloc: Global,
@@ -26,17 +26,12 @@ pub fn tlsld<R: Threads + Wait + Sync, S: Store, K: Sink>(
 ) -> u8
     ensures usage { UsageShown (takes_words (map string_bytes words.now)) result }
     ensures store { StoreShown (S.faults store.old) (S.faults store.new) result }
-    ensures sink { SinkShown (K.faults out.old) (K.faults out.new) result }
+    ensures sink { SinkShown (K.view out.old).faults (K.view out.new).faults result }
     ensures files { S.files store.new ≡ S.files store.old }
-    ensures replied { Replied
-        (record { bytes = K.bytes out.old; faults = K.faults out.old; shortages = K.shortages out.old; pieces = K.pieces out.old })
-        (record { bytes = K.bytes out.new; faults = K.faults out.new; shortages = K.shortages out.new; pieces = K.pieces out.new })
-        result }
-    ensures shows { IfSome (S.files store.old) (λ fs. ShowsWords fs (asked (map string_bytes words.now))
-        (record { bytes = K.bytes out.old; faults = K.faults out.old; shortages = K.shortages out.old; pieces = K.pieces out.old })
-        (record { bytes = K.bytes out.new; faults = K.faults out.new; shortages = K.shortages out.new; pieces = K.pieces out.new })
-        result) }
-    ensures asked { IfSome (S.files store.old) (λ fs. AskedWords fs (asked (map string_bytes words.now)) (S.asked store.old) (S.asked store.new) result) }
+    ensures shows { ShowsWords (S.files store.old) (asked (map string_bytes words.now))
+        (K.view out.old) (K.view out.new) result }
+    ensures asked { IfSome (S.files store.old) (λ fs. AskedWords fs (asked (map string_bytes words.now))
+        (S.asked store.old) (S.asked store.new) result) }
 {
     match read_words(alloc, words) {
         Ok(task) => tlsld_plain(alloc, &task, store, out),
@@ -49,16 +44,9 @@ pub fn tlsld<R: Threads + Wait + Sync, S: Store, K: Sink>(
 pub fn tlsld_plain<S: Store, K: Sink>(alloc: Global, task: &Task, store: &mut S, out: &mut K) -> u8
     ensures taken { result ≢ 2 }
     ensures store { StoreShown (S.faults store.old) (S.faults store.new) result }
-    ensures sink { SinkShown (K.faults out.old) (K.faults out.new) result }
+    ensures sink { SinkShown (K.view out.old).faults (K.view out.new).faults result }
     ensures files { S.files store.new ≡ S.files store.old }
-    ensures replied { Replied
-        (record { bytes = K.bytes out.old; faults = K.faults out.old; shortages = K.shortages out.old; pieces = K.pieces out.old })
-        (record { bytes = K.bytes out.new; faults = K.faults out.new; shortages = K.shortages out.new; pieces = K.pieces out.new })
-        result }
-    ensures shows { IfSome (S.files store.old) (λ fs. Shows fs task.now
-        (record { bytes = K.bytes out.old; faults = K.faults out.old; shortages = K.shortages out.old; pieces = K.pieces out.old })
-        (record { bytes = K.bytes out.new; faults = K.faults out.new; shortages = K.shortages out.new; pieces = K.pieces out.new })
-        result) }
+    ensures shows { Shows (S.files store.old) task.now (K.view out.old) (K.view out.new) result }
     ensures asked { IfSome (S.files store.old) (λ fs. Asked fs task.now (S.asked store.old) (S.asked store.new) result) }
 {
     let answer = answer(alloc, task, store);
@@ -68,14 +56,8 @@ pub fn tlsld_plain<S: Store, K: Sink>(alloc: Global, task: &Task, store: &mut S,
 /// Puts the line for words that are not taken.
 fn say_usage<K: Sink>(out: &mut K) -> u8
     ensures usage { UsageShown false result }
-    ensures shows { IsLate result ⊎ ((result ≡ 2) × IsTaken (codes "usage\n")
-        (record { bytes = K.bytes out.old; faults = K.faults out.old; shortages = K.shortages out.old; pieces = K.pieces out.old })
-        (record { bytes = K.bytes out.new; faults = K.faults out.new; shortages = K.shortages out.new; pieces = K.pieces out.new })) }
-    ensures sink { SinkShown (K.faults out.old) (K.faults out.new) result }
-    ensures replied { Replied
-        (record { bytes = K.bytes out.old; faults = K.faults out.old; shortages = K.shortages out.old; pieces = K.pieces out.old })
-        (record { bytes = K.bytes out.new; faults = K.faults out.new; shortages = K.shortages out.new; pieces = K.pieces out.new })
-        result }
+    ensures shows { ShowsWords untold_files None (K.view out.old) (K.view out.new) result }
+    ensures sink { SinkShown (K.view out.old).faults (K.view out.new).faults result }
 {
     say(out, Status::Usage, b"usage\n")
 }

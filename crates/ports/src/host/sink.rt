@@ -1,8 +1,7 @@
 //! A writer of the host as a sink.
 ghost use Rattle.std.specs.Prelude.{◌≡◌, [], OnOk, OnErr, IsOk};
 ghost use Rattle.std.specs.Io.KnownBytes.{Appends};
-ghost use Rattle.ports.specs.Counts.{PutCounts, MemoryCounts};
-ghost use Rattle.ports.specs.Pieces.{with_piece, AddsFront, next_piece};
+ghost use Rattle.ports.specs.Sinks.{Puts};
 ghost use Rattle.ports.specs.Streams.{AppendsFront};
 
 use super::streams::write_all;
@@ -74,22 +73,12 @@ fn write_through<W: Write>(to: &mut W, piece: &[u8]) -> Result<(), PutFault>
 }
 
 impl<W: Write + Drop> Sink for HostSink<W> {
-    ghost use Rattle.ports.specs.Pieces.{untold_bytes, untold_pieces};
+    ghost use Rattle.ports.specs.States.{host_view};
 
-    ghost bytes = { λ _. untold_bytes };
-
-    ghost faults = { λ s. s.faults };
-
-    ghost shortages = { λ s. s.shortages };
-
-    ghost pieces = { λ _. untold_pieces };
+    ghost view = { host_view };
 
     fn put(&mut self, piece: &[u8]) -> Result<(), PutFault>
-        ensures ok { OnOk result (untold_bytes ≡ with_piece piece.now untold_bytes) }
-        ensures err { OnErr result (AddsFront untold_bytes piece.now untold_bytes) }
-        ensures cause { PutCounts self.old.faults self.new.faults result }
-        ensures memory { MemoryCounts self.old.shortages self.new.shortages result }
-        ensures pieces { untold_pieces ≡ next_piece untold_pieces }
+        ensures puts { Puts piece.now (host_view self.old) (host_view self.new) result }
 
         ensures written { OnOk result (Appends self.old.written self.new.written piece.now) }
         ensures cut { OnErr result (AppendsFront self.old.written self.new.written piece.now) }

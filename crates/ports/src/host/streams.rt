@@ -1,5 +1,5 @@
 //! Whole streams, by single reads and writes.
-ghost use Rattle.std.specs.Prelude.{◌≡◌, [], ◌+◌, ◌++◌, ◌≤◌, length, take, OnOk, OnErr, IsOk, IfSome};
+ghost use Rattle.std.specs.Prelude.{◌≡◌, [], ◌+◌, ◌++◌, ◌≤◌, length, take, OnOk, OnErr, IsOk, IfErr, IfSome};
 ghost use Rattle.std.specs.Io.{ReadsAtMost, WritesAtMost};
 ghost use Rattle.std.specs.Io.KnownBytes.{ReadConsumes, WriteAppends, Appends};
 ghost use Rattle.ports.specs.Streams.{AppendsFront};
@@ -61,8 +61,17 @@ fn read_rest<R: Read>(from: &mut R, into: &mut Vec<u8>, mut room: usize) -> Resu
             return Err(FetchFault::Failed);
         }
         room -= count;
-        into.extend_from_slice(&buffer[..count])?;
+        append(into, &buffer[..count])?;
     }
+}
+
+/// Appends the bytes. The only fault is want of memory.
+fn append(into: &mut Vec<u8>, bytes: &[u8]) -> Result<(), FetchFault>
+    ensures ok { OnOk result (into.new.items ≡ into.old.items ++ bytes.now) }
+    ensures err { OnErr result (into.new.items ≡ into.old.items) }
+    ensures cause { IfErr result (λ fault. fault ≡ FetchFault.OutOfMemory) }
+{
+    Ok(into.extend_from_slice(bytes)?)
 }
 
 /// Appends what the reader has left. It leaves `into` as it was where a read fails, and where more than

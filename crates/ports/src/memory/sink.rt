@@ -1,7 +1,7 @@
 //! A stream in memory.
 ghost use Rattle.std.specs.Prelude.{◌≡◌, ◌≢◌, [], ◌++◌, take, OnOk, OnErr, IsErrOf, IfErr};
-ghost use Rattle.ports.specs.Counts.{PutCounts, MemoryCounts, counted};
-ghost use Rattle.ports.specs.Pieces.{with_piece, AddsFront, next_piece};
+ghost use Rattle.ports.specs.Counts.{MemoryCounts, counted};
+ghost use Rattle.ports.specs.Sinks.{Puts};
 ghost use Rattle.ports.specs.States.{appended, sink_after_put};
 
 use super::plan::FaultPlan;
@@ -107,23 +107,12 @@ impl MemorySink {
 }
 
 impl Sink for MemorySink {
-    ghost use Rattle.std.specs.Prelude.{Some};
-    ghost use Rattle.ports.specs.Pieces.{untold_pieces};
+    ghost use Rattle.ports.specs.States.{memory_view};
 
-    ghost bytes = { λ s. Some s.bytes };
-
-    ghost faults = { λ s. s.faults };
-
-    ghost shortages = { λ s. s.shortages };
-
-    ghost pieces = { λ _. untold_pieces };
+    ghost view = { memory_view };
 
     fn put(&mut self, piece: &[u8]) -> Result<(), PutFault>
-        ensures ok { OnOk result (Some self.new.bytes ≡ with_piece piece.now (Some self.old.bytes)) }
-        ensures err { OnErr result (AddsFront (Some self.old.bytes) piece.now (Some self.new.bytes)) }
-        ensures cause { PutCounts self.old.faults self.new.faults result }
-        ensures memory { MemoryCounts self.old.shortages self.new.shortages result }
-        ensures pieces { untold_pieces ≡ next_piece untold_pieces }
+        ensures puts { Puts piece.now (memory_view self.old) (memory_view self.new) result }
 
         ensures taken { OnOk result (self.old.fails_in ≢ 1) }
         ensures failed { IsErrOf result PutFault.Failed → self.old.fails_in ≡ 1 }

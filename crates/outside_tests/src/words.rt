@@ -1,5 +1,5 @@
 //! The words of each kind that users write, and what they ask for.
-use crate::{Task, WordsFault, read_words};
+use command_line::{Task, WordsFault, read_words};
 use std::alloc::Global;
 use std::test::Fail;
 

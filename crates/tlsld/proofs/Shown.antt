@@ -1,0 +1,38 @@
+-- What an answer shows.
+use Rattle.std.proofs.Common.{◌≡◌, ◌×◌, ◌≤◌, ℕ, List, Option, Some, None, IfSome, ◌⊎◌, inl, inr, refl, sym, subst, arith}
+use Rattle.command_line.specs.declared.tasks.Task.{Task}
+use Rattle.ports.specs.Files.{Files}
+use Rattle.ports.specs.Sinks.{SinkView}
+use Rattle.tlsld.specs.Delivery.{Delivered}
+use Rattle.tlsld.specs.Replies.{AnswerCounts, AnswerSays, IsAnswer, IsOfFiles, MaySay, Shows, job_name}
+use Rattle.tlsld.specs.Says.{RunSays}
+use Rattle.tlsld.specs.Statuses.{code_of}
+use Rattle.tlsld.specs.declared.reply.Answer.{Answer}
+use Rattle.tlsld.specs.declared.reply.Answer.TheVariants.{Replies, StoreFails, NoMemory}
+use Rattle.tlsld.specs.declared.status.Status.{Status}
+use Rattle.tlsld.specs.declared.status.Status.TheVariants as status
+
+-- what may say more says as much
+delivered_weaker : (P Q : ℕ → List ℕ → Type 0) (old new : SinkView) (code : ℕ) → ((own : ℕ) (text : List ℕ) → P own text → Q own text) → Delivered P old new code → Delivered Q old new code
+delivered_weaker P Q old new code more (inl line) = inl line
+delivered_weaker P Q old new code more (inr (own, (text, (may, delivers)))) = inr (own, (text, (more own text may, delivers)))
+
+own_code : (s : Status) → IsOfFiles s → (code_of s ≡ 0) ⊎ (5 ≤ code_of s)
+own_code status.Done h = inl refl
+own_code status.Usage h = absurd h
+own_code status.Store h = absurd h
+own_code status.Job h = inr (omega arith)
+own_code status.Object h = inr (omega arith)
+
+answer_may : (files : Option Files) (task : Task) (answer : Answer) (before now own : ℕ) (text : List ℕ) → AnswerCounts before now answer → IfSome files (λ fs. AnswerSays fs task answer)
+    → IsAnswer answer own text → MaySay files task own text
+answer_may None task (Replies reply) before now own text counts says is = inr (subst (λ (c : ℕ). (c ≡ 0) ⊎ (5 ≤ c)) (sym is.0) (own_code reply.status counts.1))
+answer_may (Some fs) task (Replies reply) before now own text counts says is = inr (rw (is.0, is.1) says)
+answer_may None task StoreFails before now own text counts says is = inl is
+answer_may (Some fs) task StoreFails before now own text counts says is = inl is
+answer_may files task NoMemory before now own text counts says is = absurd is
+
+pub answer_shows : (files : Option Files) (task : Task) (answer : Answer) (before now : ℕ) (old new : SinkView) (code : ℕ) → AnswerCounts before now answer
+    → IfSome files (λ fs. AnswerSays fs task answer) → Delivered (IsAnswer answer) old new code → Shows files task old new code
+answer_shows files task answer before now old new code counts says delivered =
+    delivered_weaker (IsAnswer answer) (MaySay files task) old new code (λ own text is. answer_may files task answer before now own text counts says is) delivered
