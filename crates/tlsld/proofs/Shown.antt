@@ -1,5 +1,5 @@
 -- What an answer shows.
-use Rattle.std.proofs.Common.{◌≡◌, ◌×◌, ◌≤◌, ℕ, List, Option, Some, None, IfSome, ◌⊎◌, inl, inr, refl, sym, subst, arith}
+use Rattle.std.proofs.Common.{◌≡◌, ◌≤◌, ℕ, List, Option, Some, None, IfSome, ◌⊎◌, inl, inr, refl, sym, subst, arith}
 use Rattle.command_line.specs.declared.tasks.Task.{Task}
 use Rattle.ports.specs.Files.{Files}
 use Rattle.ports.specs.Sinks.{SinkView}
