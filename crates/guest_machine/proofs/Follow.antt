@@ -9,19 +9,20 @@ use Rattle.amd64_subset.specs.declared.operand.Base.{Base}
 use Rattle.amd64_subset.specs.declared.operand.Base.TheVariants.{Absolute, NextInstruction, Register as OfRegister}
 use Rattle.amd64_subset.specs.declared.operand.Index.{Index}
 use Rattle.amd64_subset.specs.declared.operand.Memory.{Memory}
-use Rattle.guest_machine.specs.declared.cause.Cause.{Cause}
+use Rattle.guest_arithmetic.specs.declared.cause.Cause.{Cause}
 use Rattle.guest_machine.specs.declared.frame.Frame.{Frame}
 use Rattle.guest_machine.specs.declared.state.Registers.{Registers}
 use Rattle.guest_machine.specs.declared.state.State.{State}
 use Rattle.guest_machine.specs.declared.stop.Stop.{Stop}
 use Rattle.guest_machine.specs.declared.stop.Stop.TheVariants.{Returned, Look, Address, Code, Unclean, Steps}
 use Rattle.guest_machine.specs.Access.{Refusal, Refused, Shut}
-use Rattle.guest_machine.specs.Arithmetic.{low}
+use Rattle.guest_arithmetic.specs.Arithmetic.{low}
 use Rattle.guest_machine.specs.Follow.{Uses, Reaches, Follows, Alike, IsFollowed, SameRegisters, SameState, SameFrame}
-use Rattle.guest_machine.specs.Operand.{factor_of, used, charged, carried_as, unmoved, moved_by, base_of, index_of, address_of, kept, kept_byte, number_at}
+use Rattle.guest_arithmetic.specs.Cause.{used, both}
+use Rattle.guest_machine.specs.Operand.{factor_of, charged, carried_as, unmoved, moved_by, base_of, index_of, address_of, kept, kept_byte, number_at}
 use Rattle.guest_machine.specs.State.{register_of, with_register, with_word, with_stack, at_place}
-use Rattle.guest_machine.specs.Use.{◌>>=◌, plus, both, clean, there}
-use Rattle.guest_machine.specs.Values.{Operations}
+use Rattle.guest_machine.specs.Use.{◌>>=◌, plus, clean, there}
+use Rattle.guest_arithmetic.specs.Values.{Operations}
 
 -- ** stops
 

@@ -2,7 +2,7 @@
 use Rattle.std.proofs.Common.{◌≡◌, ℕ, zero, suc, ◌+◌, ◌≤◌, List, [], ◌∷◌, length, Result, Ok, Err, refl, ap, ◌∙◌, inl, inr, arith}
 use Rattle.guest_machine.specs.Access.{Refusal, Refused, Shut, Accesses, IsSize, next_place, both_reached, reached, cons, bytes_from, bytes_at, all_write, put_all, load_of, store_of}
 use Rattle.guest_machine.specs.Follow.{Reaches, All2, Alike, IsFollowed, IsKept}
-use Rattle.guest_machine.specs.Values.{Operations}
+use Rattle.guest_arithmetic.specs.Values.{Operations}
 
 reaches-reached : {A A' C C' : Type 0} (R : A → A' → Type 0) (Q : C → C' → Type 0) (f : A → C) (g : A' → C') (r : Result A Refusal) (r' : Result A' Refusal)
     → Reaches R r r' → ((a : A) (a' : A') → R a a' → Q (f a) (g a')) → Reaches Q (reached f r) (reached g r')

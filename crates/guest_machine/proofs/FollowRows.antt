@@ -18,27 +18,28 @@ use Rattle.amd64_subset.specs.declared.operand.Operand.{Operand}
 use Rattle.amd64_subset.specs.declared.operand.Operand.TheVariants.{InMemory, Register as InRegister}
 use Rattle.amd64_subset.specs.declared.operand.Operands.{Operands}
 use Rattle.amd64_subset.specs.declared.operand.Operands.TheVariants.{IntoRegister, IntoMemory, Immediate}
-use Rattle.guest_machine.specs.declared.cause.Cause.{Cause}
-use Rattle.guest_machine.specs.declared.effect.Change.{Change}
-use Rattle.guest_machine.specs.declared.effect.Change.TheVariants.{Set, Unsettled, Kept}
-use Rattle.guest_machine.specs.declared.effect.Changes.{Changes}
-use Rattle.guest_machine.specs.declared.effect.Effect.{Effect}
+use Rattle.guest_arithmetic.specs.declared.cause.Cause.{Cause}
+use Rattle.guest_arithmetic.specs.declared.effect.Change.{Change}
+use Rattle.guest_arithmetic.specs.declared.effect.Change.TheVariants.{Set, Unsettled, Kept}
+use Rattle.guest_arithmetic.specs.declared.effect.Changes.{Changes}
+use Rattle.guest_arithmetic.specs.declared.effect.Effect.{Effect}
 use Rattle.guest_machine.specs.declared.frame.Frame.{Frame}
 use Rattle.guest_machine.specs.declared.slot.Slot.{Slot}
 use Rattle.guest_machine.specs.declared.slot.Slot.TheVariants.{Place, Register as OfSlot}
 use Rattle.guest_machine.specs.declared.slot.Taken.{Taken}
-use Rattle.guest_machine.specs.declared.state.Flags.{Flags}
+use Rattle.guest_arithmetic.specs.declared.flags.Flags.{Flags}
 use Rattle.guest_machine.specs.declared.state.State.{State}
 use Rattle.guest_machine.specs.declared.stop.Stop.TheVariants.{Address, Code}
 use Rattle.guest_machine.specs.Access.{Refusal, Refused, Shut, Accesses, IsSize, load_of}
-use Rattle.guest_machine.specs.Arithmetic.{low, differ, bits_of, sum_effect, compute_effect, product_effect, shift_effect}
-use Rattle.guest_machine.specs.Effect.{changed, with_changes, is_less, is_less_or_equal, is_below_or_equal, condition_of}
+use Rattle.guest_arithmetic.specs.Arithmetic.{low, differ, bits_of, sum_effect, compute_effect, product_effect, shift_effect}
+use Rattle.guest_arithmetic.specs.Flags.{changed, with_changes, is_less, is_less_or_equal, is_below_or_equal, condition_of}
 use Rattle.guest_machine.specs.Follow.{Uses, Reaches, Follows, Alike, IsFollowed, IsKept, SameFlags, SameState, SameFrame, SameAfter}
-use Rattle.guest_machine.specs.Operand.{size_of, used, charged, address_of, number_at, carried, weighed, taken_at, taken, put}
+use Rattle.guest_arithmetic.specs.Cause.{used, both}
+use Rattle.guest_machine.specs.Operand.{size_of, charged, address_of, number_at, carried, weighed, taken_at, taken, put}
 use Rattle.guest_machine.specs.State.{register_of}
 use Rattle.guest_machine.specs.Step.{immediate_of, sign_extended, all_unsettled, is_cleared, settled, nop_use, finished, concluded, move_in, stored, store_byte, move_number, move_of, extend_byte, extend_long, load_address, compute_in, compute_out, add_field, compute_plain, compute_number, compute_of, test_of, multiply_of, shift_of, pushed, push_of, pop_of, leave_of, return_of, call_of, jump_of, jump_if, nop_of, act}
-use Rattle.guest_machine.specs.Use.{◌>>=◌, plus, both, clean, there, After, left}
-use Rattle.guest_machine.specs.Values.{Operations}
+use Rattle.guest_machine.specs.Use.{◌>>=◌, plus, clean, there, After, left}
+use Rattle.guest_arithmetic.specs.Values.{Operations}
 use Rattle.guest_machine.proofs.Follow.{follows-then, follows-same, follows-clean, follows-there, follows-if, uses-used, uses-same, uses-both, uses-charged, same_register, same_with, same_word, same_stack, same_place, carried-same, kept-same, kept_byte-same, number_at-uses, address-uses, unmoved-uses}
 use Rattle.guest_machine.proofs.FollowMemory.{load-reach, store-reach}
 

@@ -4,7 +4,7 @@ use Rattle.std.specs.Prelude.{◌==◌}
 use Rattle.guest_machine.specs.declared.stop.Stop.{Stop}
 use Rattle.guest_machine.specs.declared.stop.Stop.TheVariants.{Steps, Look}
 use Rattle.guest_machine.specs.declared.state.State.{State}
-use Rattle.guest_machine.specs.Values.{Operations}
+use Rattle.guest_arithmetic.specs.Values.{Operations}
 use Rattle.guest_machine.specs.Ranges.{AddressSpace, range_accesses, is_field_of}
 use Rattle.guest_machine.specs.Machine.{Standing}
 use Rattle.guest_machine.specs.Run.{Goes, Ends, Looks, Ended, Waits, Stepping, run, machine, machine_of, is_look, returned, Runs}

@@ -1,12 +1,14 @@
 -- What a memory lets a machine do, one byte at a time, and the accesses of several bytes that follow.
 use Rattle.std.specs.Prelude.{◌≡◌, ◌⊎◌, ℕ, Bool, true, false, zero, suc, ◌+◌, ◌%◌, ◌^◌, List, [], ◌∷◌, Option, Some, None, Result, Ok, Err}
-use Rattle.guest_machine.specs.Values.{Operations}
+use Rattle.guest_arithmetic.specs.Values.{Operations}
+use Rattle.guest_machine.specs.declared.space.Size.{Size}
+use Rattle.guest_machine.specs.declared.space.Size.TheVariants.{Byte, Long, Quad}
 
 -- why an access does not take place
 pub data Refusal : Type 0 where
   -- nobody may touch the byte so
   Refused : Refusal
-  -- the byte is the linker's own, which no program may touch
+  -- the byte is one of those that were closed
   Shut : Refusal
 
 -- M: a memory, B: a byte
@@ -20,7 +22,26 @@ pub record Accesses (M B : Type 0) : Type 0 where
   -- the byte of code at a place, where it may be run
   pub code : M → ℕ → Option ℕ
 
--- how many bytes an access has
+-- an access, unless its byte is closed
+abbrev pub unless_shut : {A : Type 0} → Bool → Result A Refusal → Result A Refusal
+unless_shut true access = Err Shut
+unless_shut false access = access
+
+-- the same memory, of which some bytes are closed
+abbrev pub closed : {M B : Type 0} → (M → ℕ → Bool) → Accesses M B → Accesses M B
+closed shut acc = record {
+  byte = λ memory place. unless_shut (shut memory place) (acc.byte memory place);
+  writes = λ memory place. unless_shut (shut memory place) (acc.writes memory place);
+  put = acc.put;
+  code = acc.code;
+}
+
+-- how many bytes an access of data has
+abbrev pub bytes_in : Size → ℕ
+bytes_in Byte = 1
+bytes_in Long = 4
+bytes_in Quad = 8
+
 abbrev pub IsSize : ℕ → Type 0
 IsSize size = (size ≡ 1) ⊎ ((size ≡ 4) ⊎ (size ≡ 8))
 
@@ -28,7 +49,7 @@ IsSize size = (size ≡ 1) ⊎ ((size ≡ 4) ⊎ (size ≡ 8))
 abbrev pub next_place : ℕ → ℕ
 next_place place = (place + 1) % 2 ^ 64
 
--- a byte and those behind it: of two refusals, the linker's is given
+-- a byte and those behind it: of two refusals, the closed byte's is given
 abbrev pub both_reached : {A C D : Type 0} → (A → C → D) → Result A Refusal → Result C Refusal → Result D Refusal
 both_reached f (Ok a) (Ok c) = Ok (f a c)
 both_reached f (Ok a) (Err why) = Err why
@@ -87,8 +108,3 @@ module _ {W F M B : Type 0} (ops : Operations W F B) (acc : Accesses M B) where
   -- the memory with the lowest bytes of a word written at a place
   unfoldable pub store_of : M → ℕ → ℕ → W → Result M Refusal
   store_of memory place size word = reached (λ done. put_all acc memory place (bytes_from ops word 0 size)) (all_write acc memory place size)
-
--- what a store answered and left is what is said, and a refused one leaves all as it was
-abbrev pub Stores : {M : Type 0} → Bool → M → M → Result M Refusal → Type 0
-Stores true old new next = next ≡ Ok new
-Stores false old new next = (next ≡ Err Refused) × (new ≡ old)

@@ -1,17 +1,17 @@
 -- That one machine follows another: what the first does from related states the second does too, but that an unclean stop of the
 -- first allows anything. What words, flags, bytes and offset fields have to do with each other is a parameter.
 use Rattle.std.specs.Prelude.{◌≡◌, ℕ, ◌<◌, Bool, List, [], ◌∷◌, length, Option, Some, None, Result, Ok, Err}
-use Rattle.guest_machine.specs.declared.cause.Cause.{Cause}
+use Rattle.guest_arithmetic.specs.declared.cause.Cause.{Cause}
 use Rattle.guest_machine.specs.declared.frame.Frame.{Frame}
 use Rattle.guest_machine.specs.declared.state.Registers.{Registers}
-use Rattle.guest_machine.specs.declared.state.Flags.{Flags}
+use Rattle.guest_arithmetic.specs.declared.flags.Flags.{Flags}
 use Rattle.guest_machine.specs.declared.state.State.{State}
 use Rattle.guest_machine.specs.declared.stop.Stop.{Stop}
 use Rattle.guest_machine.specs.declared.stop.Stop.TheVariants.{Returned, Look, Address, Code, Unclean, Steps}
 use Rattle.guest_machine.specs.Access.{Refusal, Refused, Shut, Accesses, IsSize}
 use Rattle.guest_machine.specs.Operand.{unmoved, moved_by}
 use Rattle.guest_machine.specs.Use.{After}
-use Rattle.guest_machine.specs.Values.{Operations}
+use Rattle.guest_arithmetic.specs.Values.{Operations}
 
 -- a use in the first is that use in the second; where the first may not be used, anything may stand
 abbrev pub Uses : {A A' : Type 0} → (A → A' → Type 0) → Result A Cause → Result A' Cause → Type 0

@@ -2,7 +2,7 @@
 use Rattle.std.specs.Prelude.{◌≡◌, ℕ, ◌+◌, Bool, true, false, Result, Ok, IsErr}
 use Rattle.guest_machine.specs.declared.stop.Stop.{Stop}
 use Rattle.guest_machine.specs.declared.state.State.{State}
-use Rattle.guest_machine.specs.Values.{Operations}
+use Rattle.guest_arithmetic.specs.Values.{Operations}
 use Rattle.guest_machine.specs.Access.{Accesses}
 use Rattle.guest_machine.specs.Use.{After, left}
 use Rattle.guest_machine.specs.Step.{return_of}

@@ -10,21 +10,24 @@ use Rattle.amd64_subset.specs.declared.operand.Index.{Index}
 use Rattle.amd64_subset.specs.declared.operand.Memory.{Memory}
 use Rattle.amd64_subset.specs.declared.operand.Operand.{Operand}
 use Rattle.amd64_subset.specs.declared.operand.Operand.TheVariants.{InMemory, Register as InRegister}
-use Rattle.guest_machine.specs.declared.cause.Cause.{Cause}
-use Rattle.guest_machine.specs.declared.cause.Cause.TheVariants.{Field}
+use Rattle.guest_arithmetic.specs.declared.cause.Cause.{Cause}
+use Rattle.guest_arithmetic.specs.declared.cause.Cause.TheVariants.{Field}
 use Rattle.guest_machine.specs.declared.stop.Stop.{Stop}
 use Rattle.guest_machine.specs.declared.stop.Stop.TheVariants.{Unclean}
 use Rattle.guest_machine.specs.declared.state.Registers.{Registers}
 use Rattle.guest_machine.specs.declared.state.State.{State}
 use Rattle.guest_machine.specs.declared.frame.Frame.{Frame}
-use Rattle.guest_machine.specs.Values.{Operations}
-use Rattle.guest_machine.specs.Access.{Refusal, Accesses, load_of, store_of}
+use Rattle.guest_arithmetic.specs.Values.{Operations}
+use Rattle.guest_machine.specs.Access.{Refusal, Accesses, bytes_in, load_of, store_of}
 use Rattle.guest_machine.specs.declared.slot.Slot.{Slot}
+use Rattle.guest_machine.specs.declared.space.Size.{Size}
+use Rattle.guest_machine.specs.declared.space.Size.TheVariants.{Long as LongSize, Quad as QuadSize}
 use Rattle.guest_machine.specs.declared.slot.Slot.TheVariants.{Place, Register as OfSlot}
 use Rattle.guest_machine.specs.declared.slot.Taken.{Taken}
-use Rattle.guest_machine.specs.Arithmetic.{low}
+use Rattle.guest_arithmetic.specs.Arithmetic.{low}
 use Rattle.guest_machine.specs.State.{register_of, with_word}
-use Rattle.guest_machine.specs.Use.{◌>>=◌, plus, both, clean, there, cause_with, refused_with, After, left}
+use Rattle.guest_arithmetic.specs.Cause.{used, both, cause_with}
+use Rattle.guest_machine.specs.Use.{◌>>=◌, plus, clean, there, refused_with, After, left}
 
 abbrev pub factor_of : Scale → ℕ
 factor_of One = 1
@@ -33,14 +36,12 @@ factor_of Four = 4
 factor_of Eight = 8
 
 -- how many bytes an operand of this width has
-abbrev pub size_of : Width → ℕ
-size_of Long = 4
-size_of Quad = 8
+abbrev pub size_for : Width → Size
+size_for Long = LongSize
+size_for Quad = QuadSize
 
--- a use, and what follows from the number
-abbrev pub used : {A B : Type 0} → (A → B) → Result A Cause → Result B Cause
-used f (Ok x) = Ok (f x)
-used f (Err cause) = Err cause
+abbrev pub size_of : Width → ℕ
+size_of width = bytes_in (size_for width)
 
 -- where an offset field stands, anything but the one allowed use is a misuse of the field
 abbrev pub charged : {A : Type 0} → Option ℕ → Result A Cause → Result A Cause

@@ -19,10 +19,10 @@ use Rattle.amd64_subset.specs.declared.instr.Operation.{Operation}
 use Rattle.amd64_subset.specs.declared.instr.Operation.TheVariants.{Move, StoreByte, ExtendByte, ExtendLong, LoadAddress, Compute, Test, Multiply, Shift as ShiftBy, Push, Pop, Leave, Call, Jump, JumpIf, Return, Nop, Undefined}
 use Rattle.amd64_subset.specs.declared.instr.Decoded.{Decoded}
 use Rattle.amd64_subset.specs.Decoding.{decoded}
-use Rattle.guest_machine.specs.declared.cause.Cause.{Cause}
-use Rattle.guest_machine.specs.declared.effect.Change.TheVariants.{Unsettled}
-use Rattle.guest_machine.specs.declared.effect.Changes.{Changes}
-use Rattle.guest_machine.specs.declared.effect.Effect.{Effect}
+use Rattle.guest_arithmetic.specs.declared.cause.Cause.{Cause}
+use Rattle.guest_arithmetic.specs.declared.effect.Change.TheVariants.{Unsettled}
+use Rattle.guest_arithmetic.specs.declared.effect.Changes.{Changes}
+use Rattle.guest_arithmetic.specs.declared.effect.Effect.{Effect}
 use Rattle.guest_machine.specs.declared.frame.Frame.{Frame}
 use Rattle.guest_machine.specs.declared.slot.Slot.{Slot}
 use Rattle.guest_machine.specs.declared.slot.Slot.TheVariants.{Register as OfSlot}
@@ -30,12 +30,13 @@ use Rattle.guest_machine.specs.declared.state.State.{State}
 use Rattle.guest_machine.specs.declared.stop.Stop.{Stop}
 use Rattle.guest_machine.specs.declared.stop.Stop.TheVariants.{Code}
 use Rattle.guest_machine.specs.Access.{Accesses, load_of, store_of, fetch_of}
-use Rattle.guest_machine.specs.Arithmetic.{low, bits_of, compute_effect, product_effect, shift_effect}
-use Rattle.guest_machine.specs.Effect.{with_changes, condition_of}
-use Rattle.guest_machine.specs.Operand.{size_of, used, charged, unmoved, carried_as, address_of, kept, kept_byte, number_at, carried, taken, put}
+use Rattle.guest_arithmetic.specs.Arithmetic.{low, bits_of, compute_effect, product_effect, shift_effect}
+use Rattle.guest_arithmetic.specs.Flags.{with_changes, condition_of}
+use Rattle.guest_arithmetic.specs.Cause.{used}
+use Rattle.guest_machine.specs.Operand.{size_of, charged, unmoved, carried_as, address_of, kept, kept_byte, number_at, carried, taken, put}
 use Rattle.guest_machine.specs.State.{register_of, with_word, with_stack, at_place}
 use Rattle.guest_machine.specs.Use.{◌>>=◌, plus, clean, there, After, left}
-use Rattle.guest_machine.specs.Values.{Operations}
+use Rattle.guest_arithmetic.specs.Values.{Operations}
 
 -- the lower half as a signed number of 64 bits
 abbrev pub sign_extended : ℕ → ℕ

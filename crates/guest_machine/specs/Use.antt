@@ -1,12 +1,14 @@
 -- How a step asks for what it needs: values that it uses, bytes that it reaches.
 use Rattle.std.specs.Prelude.{◌≡◌, ℕ, ◌+◌, ◌%◌, ◌^◌, Result, Ok, Err}
-use Rattle.guest_machine.specs.declared.cause.Cause.{Cause}
-use Rattle.guest_machine.specs.declared.cause.Cause.TheVariants.{Linker}
+use Rattle.guest_arithmetic.specs.declared.cause.Cause.{Cause}
+use Rattle.guest_arithmetic.specs.declared.cause.Cause.TheVariants.{Linker}
 use Rattle.guest_machine.specs.declared.stop.Stop.{Stop}
 use Rattle.guest_machine.specs.declared.stop.Stop.TheVariants.{Address, Unclean}
 use Rattle.guest_machine.specs.declared.state.State.{State}
-use Rattle.guest_machine.specs.Access.{Refusal, Refused, Shut}
-use Rattle.guest_machine.specs.Cause.{first_cause}
+use Rattle.guest_machine.specs.Access.{Refusal, Refused, Shut, Accesses}
+use Rattle.guest_machine.specs.Ranges.{AddressSpace, range_accesses}
+use Rattle.guest_arithmetic.specs.Cause.{cause_with}
+use Rattle.guest_arithmetic.specs.Values.{Operations}
 
 infixl 10 ◌>>=◌
 -- one thing after another, up to the first stop
@@ -18,13 +20,6 @@ abbrev pub ◌>>=◌ : {A B : Type 0} → Result A Stop → (A → Result B Stop
 abbrev pub plus : ℕ → ℕ → ℕ
 plus a b = (a + b) % 2 ^ 64
 
--- two uses: the first cause is given where both fail
-abbrev pub both : {A B : Type 0} → Result A Cause → Result B Cause → Result (A × B) Cause
-both (Ok a) (Ok b) = Ok (a, b)
-both (Ok a) (Err cause) = Err cause
-both (Err cause) (Ok b) = Err cause
-both (Err cause) (Err other) = Err (first_cause cause other)
-
 -- a use at an instruction
 abbrev pub clean : {A : Type 0} → ℕ → Result A Cause → Result A Stop
 clean here (Ok x) = Ok x
@@ -35,11 +30,6 @@ abbrev pub there : {A : Type 0} → ℕ → Result A Refusal → Result A Stop
 there here (Ok x) = Ok x
 there here (Err Refused) = Err (Address here)
 there here (Err Shut) = Err (Unclean here Linker)
-
--- a cause beside another use
-abbrev pub cause_with : {A : Type 0} → Cause → Result A Cause → Cause
-cause_with cause (Ok x) = cause
-cause_with cause (Err other) = first_cause cause other
 
 -- a refused access beside another use, which was asked before
 abbrev pub refused_with : {A : Type 0} → ℕ → Refusal → Result A Cause → Stop
@@ -59,6 +49,11 @@ left state memory = record { state = state; memory = memory }
 abbrev pub Leaves : {W F M : Type 0} → Result (Unit {0}) Stop → After W F M → After W F M → Result (After W F M) Stop → Type 0
 Leaves (Ok done) old new next = next ≡ Ok new
 Leaves (Err stop) old new next = (next ≡ Err stop) × (new ≡ old)
+
+-- the same of a step that is made over a memory of ranges
+abbrev pub Does : {W F B : Type 0} → Operations W F B → Result (Unit {0}) Stop → State W F → AddressSpace B → State W F → AddressSpace B
+    → (Operations W F B → Accesses (AddressSpace B) B → State W F → AddressSpace B → Result (After W F (AddressSpace B)) Stop) → Type 0
+Does ops result old memory new memory' step = Leaves result (left old memory) (left new memory') (step ops (range_accesses ops) old memory)
 
 -- the same for a memory alone
 abbrev pub LeavesMemory : {M : Type 0} → Result (Unit {0}) Stop → M → M → Result M Stop → Type 0

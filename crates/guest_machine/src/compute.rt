@@ -1,11 +1,8 @@
 ghost use Rattle.std.specs.Prelude.{◌≡◌};
-ghost use Rattle.guest_machine.specs.Ranges.{range_accesses};
-ghost use Rattle.guest_machine.specs.Effect.{with_changes};
+ghost use Rattle.guest_arithmetic.specs.Flags.{with_changes};
 ghost use Rattle.guest_machine.specs.Step.{is_cleared, finished, concluded, settled, compute_in, compute_out, add_field, compute_plain, compute_number, compute_of, test_of, multiply_of, shift_of, all_unsettled};
-ghost use Rattle.guest_machine.specs.Use.{Leaves, left};
+ghost use Rattle.guest_machine.specs.Use.{Does};
 
-use crate::arithmetic::{compute, product, shift};
-use crate::effect::{Change, Changes, Effect, with_changes};
 use crate::frame::Frame;
 use crate::moves::immediate;
 use crate::operand::charged;
@@ -14,8 +11,8 @@ use crate::space::Space;
 use crate::state::{State, register};
 use crate::stop::Stop;
 use crate::uses::used;
-use crate::values::Values;
 use amd64_subset::{Arithmetic, Memory, Operand, Operands, Register, Shift, Width};
+use guest_arithmetic::{Change, Changes, Effect, Values, compute, product, shift, with_changes};
 
 /// Whether a register is combined with itself to 0, whatever it holds.
 #[tactic(auto, unfolding(crate::specs::Step::is_cleared))]
@@ -47,7 +44,8 @@ fn finish<V: Values, S: Space<V>>(
     state: &mut State<V::Word, V::Flag>,
     space: &mut S,
 ) -> Result<(), Stop>
-    ensures { Leaves result (left state.old (S.memory space.old)) (left state.new (S.memory space.new)) (finished V.operations (range_accesses V.operations) width slot effect.now frame.now state.old (S.memory space.old)) }
+    ensures { Does V.operations result state.old (S.memory space.old) state.new (S.memory space.new)
+        (λ ops acc s m. finished ops acc width slot effect.now frame.now s m) }
 {
     put::<V, S>(width, slot, V::word(effect.number), state, space)?;
     settle::<V>(&effect.changes, frame, state);
@@ -65,7 +63,8 @@ fn conclude<V: Values, S: Space<V>>(
     state: &mut State<V::Word, V::Flag>,
     space: &mut S,
 ) -> Result<(), Stop>
-    ensures { Leaves result (left state.old (S.memory space.old)) (left state.new (S.memory space.new)) (concluded V.operations (range_accesses V.operations) arithmetic width slot effect.now frame.now state.old (S.memory space.old)) }
+    ensures { Does V.operations result state.old (S.memory space.old) state.new (S.memory space.new)
+        (λ ops acc s m. concluded ops acc arithmetic width slot effect.now frame.now s m) }
 {
     match arithmetic {
         Arithmetic::Compare => {
@@ -87,7 +86,8 @@ fn compute_in<V: Values, S: Space<V>>(
     state: &mut State<V::Word, V::Flag>,
     space: &mut S,
 ) -> Result<(), Stop>
-    ensures { Leaves result (left state.old (S.memory space.old)) (left state.new (S.memory space.new)) (compute_in V.operations (range_accesses V.operations) arithmetic width frame.now state.old (S.memory space.old) to from.now) }
+    ensures { Does V.operations result state.old (S.memory space.old) state.new (S.memory space.new)
+        (λ ops acc s m. compute_in ops acc arithmetic width frame.now s m to from.now) }
 {
     if is_cleared(arithmetic, to, from) {
         let effect = compute(arithmetic, width, 0, 0);
@@ -118,7 +118,8 @@ fn compute_out<V: Values, S: Space<V>>(
     state: &mut State<V::Word, V::Flag>,
     space: &mut S,
 ) -> Result<(), Stop>
-    ensures { Leaves result (left state.old (S.memory space.old)) (left state.new (S.memory space.new)) (compute_out V.operations (range_accesses V.operations) arithmetic width frame.now state.old (S.memory space.old) to.now from) }
+    ensures { Does V.operations result state.old (S.memory space.old) state.new (S.memory space.new)
+        (λ ops acc s m. compute_out ops acc arithmetic width frame.now s m to.now from) }
 {
     let right = number_at::<V>(width, register(&state.registers, from));
     let to = Operand::InMemory(*to);
@@ -136,7 +137,8 @@ fn add_field<V: Values, S: Space<V>>(
     state: &mut State<V::Word, V::Flag>,
     space: &mut S,
 ) -> Result<(), Stop>
-    ensures { Leaves result (left state.old (S.memory space.old)) (left state.new (S.memory space.new)) (add_field V.operations (range_accesses V.operations) frame.now state.old (S.memory space.old) to at) }
+    ensures { Does V.operations result state.old (S.memory space.old) state.new (S.memory space.new)
+        (λ ops acc s m. add_field ops acc frame.now s m to at) }
 {
     let moved = V::moved(register(&state.registers, to), frame.immediate, at);
     let number = used(state.place, charged(Some(at), moved))?;
@@ -167,7 +169,8 @@ fn compute_plain<V: Values, S: Space<V>>(
     state: &mut State<V::Word, V::Flag>,
     space: &mut S,
 ) -> Result<(), Stop>
-    ensures { Leaves result (left state.old (S.memory space.old)) (left state.new (S.memory space.new)) (compute_plain V.operations (range_accesses V.operations) arithmetic width frame.now.immediate_field frame.now state.old (S.memory space.old) to.now) }
+    ensures { Does V.operations result state.old (S.memory space.old) state.new (S.memory space.new)
+        (λ ops acc s m. compute_plain ops acc arithmetic width frame.now.immediate_field frame.now s m to.now) }
 {
     let right = immediate::<V>(width, frame);
     let it = take_operand::<V, S>(width, frame, state, space, to, right)?;
@@ -185,7 +188,8 @@ fn compute_number<V: Values, S: Space<V>>(
     state: &mut State<V::Word, V::Flag>,
     space: &mut S,
 ) -> Result<(), Stop>
-    ensures { Leaves result (left state.old (S.memory space.old)) (left state.new (S.memory space.new)) (compute_number V.operations (range_accesses V.operations) arithmetic width frame.now.immediate_field frame.now state.old (S.memory space.old) to.now) }
+    ensures { Does V.operations result state.old (S.memory space.old) state.new (S.memory space.new)
+        (λ ops acc s m. compute_number ops acc arithmetic width frame.now.immediate_field frame.now s m to.now) }
 {
     match (arithmetic, width, frame.immediate_field, to) {
         (Arithmetic::Add, Width::Quad, Some(at), Operand::Register(to)) => {
@@ -205,7 +209,8 @@ pub(crate) fn compute_operands<V: Values, S: Space<V>>(
     state: &mut State<V::Word, V::Flag>,
     space: &mut S,
 ) -> Result<(), Stop>
-    ensures { Leaves result (left state.old (S.memory space.old)) (left state.new (S.memory space.new)) (compute_of V.operations (range_accesses V.operations) arithmetic width frame.now state.old (S.memory space.old) operands.now) }
+    ensures { Does V.operations result state.old (S.memory space.old) state.new (S.memory space.new)
+        (λ ops acc s m. compute_of ops acc arithmetic width frame.now s m operands.now) }
 {
     match operands {
         Operands::IntoRegister { to, from } => {
@@ -230,7 +235,8 @@ pub(crate) fn test<V: Values, S: Space<V>>(
     state: &mut State<V::Word, V::Flag>,
     space: &S,
 ) -> Result<(), Stop>
-    ensures { Leaves result (left state.old (S.memory space.now)) (left state.new (S.memory space.now)) (test_of V.operations (range_accesses V.operations) width frame.now state.old (S.memory space.now) from.now right) }
+    ensures { Does V.operations result state.old (S.memory space.now) state.new (S.memory space.now)
+        (λ ops acc s m. test_of ops acc width frame.now s m from.now right) }
 {
     let right = number_at::<V>(width, register(&state.registers, right));
     let it = take_operand::<V, S>(width, frame, state, space, from, right)?;
@@ -249,7 +255,8 @@ pub(crate) fn multiply<V: Values, S: Space<V>>(
     state: &mut State<V::Word, V::Flag>,
     space: &mut S,
 ) -> Result<(), Stop>
-    ensures { Leaves result (left state.old (S.memory space.old)) (left state.new (S.memory space.new)) (multiply_of V.operations (range_accesses V.operations) width frame.now state.old (S.memory space.old) to from.now) }
+    ensures { Does V.operations result state.old (S.memory space.old) state.new (S.memory space.new)
+        (λ ops acc s m. multiply_of ops acc width frame.now s m to from.now) }
 {
     let left = number_at::<V>(width, register(&state.registers, to));
     let it = take_operand::<V, S>(width, frame, state, space, from, left)?;
@@ -268,7 +275,8 @@ pub(crate) fn shift_operand<V: Values, S: Space<V>>(
     state: &mut State<V::Word, V::Flag>,
     space: &mut S,
 ) -> Result<(), Stop>
-    ensures { Leaves result (left state.old (S.memory space.old)) (left state.new (S.memory space.new)) (shift_of V.operations (range_accesses V.operations) kind width frame.now state.old (S.memory space.old) to.now count) }
+    ensures { Does V.operations result state.old (S.memory space.old) state.new (S.memory space.new)
+        (λ ops acc s m. shift_of ops acc kind width frame.now s m to.now count) }
 {
     let it = take_operand::<V, S>(width, frame, state, space, to, Ok(0))?;
     let effect = shift(kind, width, it.number, count);

@@ -3,8 +3,8 @@ ghost use Rattle.guest_machine.specs.Ranges.{is_field_of};
 ghost use Rattle.guest_machine.specs.Step.{frame_of, field_at};
 
 use crate::space::Space;
-use crate::values::Values;
 use amd64_subset::Decoded;
+use guest_arithmetic::Values;
 
 /// What stands around an instruction's operation.
 #[derive(Clone, Copy, Debug)]

@@ -1,10 +1,7 @@
 ghost use Rattle.std.specs.Prelude.{◌≡◌};
-ghost use Rattle.guest_machine.specs.Ranges.{range_accesses};
 ghost use Rattle.guest_machine.specs.Step.{jump_of, jump_if, nop_use, nop_of};
-ghost use Rattle.guest_machine.specs.Use.{Leaves, left};
+ghost use Rattle.guest_machine.specs.Use.{Does};
 
-use crate::cause::Cause;
-use crate::effect::condition;
 use crate::frame::Frame;
 use crate::operand::address;
 use crate::slot::take_operand;
@@ -12,8 +9,8 @@ use crate::space::Space;
 use crate::state::State;
 use crate::stop::Stop;
 use crate::uses::used;
-use crate::values::Values;
 use amd64_subset::{Condition, Operand, Target, Width};
+use guest_arithmetic::{Cause, Values, condition};
 
 /// jmp
 #[tactic(auto, unfolding(crate::specs::Step::jump_of))]
@@ -23,7 +20,8 @@ pub(crate) fn jump<V: Values, S: Space<V>>(
     state: &mut State<V::Word, V::Flag>,
     space: &S,
 ) -> Result<(), Stop>
-    ensures { Leaves result (left state.old (S.memory space.now)) (left state.new (S.memory space.now)) (jump_of V.operations (range_accesses V.operations) frame.now state.old (S.memory space.now) target.now) }
+    ensures { Does V.operations result state.old (S.memory space.now) state.new (S.memory space.now)
+        (λ ops acc s m. jump_of ops acc frame.now s m target.now) }
 {
     match target {
         Target::Relative(distance) => {
@@ -47,7 +45,8 @@ pub(crate) fn jump_if<V: Values, S: Space<V>>(
     state: &mut State<V::Word, V::Flag>,
     space: &S,
 ) -> Result<(), Stop>
-    ensures { Leaves result (left state.old (S.memory space.now)) (left state.new (S.memory space.now)) (jump_if V.operations (range_accesses V.operations) frame.now state.old (S.memory space.now) when distance) }
+    ensures { Does V.operations result state.old (S.memory space.now) state.new (S.memory space.now)
+        (λ ops acc s m. jump_if ops acc frame.now s m when distance) }
 {
     let holds = used(state.place, condition::<V>(when, &state.flags))?;
     state.place = if holds {
@@ -80,7 +79,8 @@ pub(crate) fn nop<V: Values, S: Space<V>>(
     state: &mut State<V::Word, V::Flag>,
     space: &S,
 ) -> Result<(), Stop>
-    ensures { Leaves result (left state.old (S.memory space.now)) (left state.new (S.memory space.now)) (nop_of V.operations (range_accesses V.operations) frame.now state.old (S.memory space.now) operand.now) }
+    ensures { Does V.operations result state.old (S.memory space.now) state.new (S.memory space.now)
+        (λ ops acc s m. nop_of ops acc frame.now s m operand.now) }
 {
     let _unused = used(state.place, nop_use::<V>(frame, state, operand))?;
     state.place = frame.next;

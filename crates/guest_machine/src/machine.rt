@@ -1,18 +1,22 @@
 ghost use Rattle.std.specs.Prelude.{◌≡◌, ◌-◌, ◌^◌, ◌<◌, ◌≤◌, max};
 ghost use Rattle.amd64_subset.specs.Register.{register_of};
 ghost use Rattle.guest_machine.specs.Machine.{Answers, answer_of};
-ghost use Rattle.guest_machine.specs.Ranges.{range_accesses};
+ghost use Rattle.guest_machine.specs.Ranges.{range_accesses, is_field_of};
 ghost use Rattle.guest_machine.specs.Run.{Runs};
 ghost use Rattle.guest_machine.specs.State.{start_of, with_register};
 ghost use Rattle.guest_machine.specs.State as state;
+ghost use Rattle.guest_machine.specs.Touch.{next_touches};
 
+use crate::frame::frame_at;
 use crate::run::run;
 use crate::space::Space;
 use crate::stack::return_from;
-use crate::state::{Flags, State, register, set_register, start};
+use crate::state::{State, register, set_register, start};
+use crate::step::instruction;
 use crate::stop::Stop;
-use crate::values::Values;
+use crate::touch::{Touches, touches_of};
 use amd64_subset::Register;
+use guest_arithmetic::{Flags, Values};
 use std::marker::Model;
 
 /// A machine and the number of steps that it took.
@@ -110,6 +114,26 @@ impl<V: Values> Machine<V> {
         ensures { self.new ≡ record self.old { state = record self.old.state { thread_pointer = thread_pointer } } }
     {
         self.state.thread_pointer = thread_pointer;
+    }
+
+    /// The data bytes that the next instruction touches, without an access to one: its accesses in
+    /// their order, those left out whose address is no number. Where no instruction is, there are none.
+    /// The first that is refused is the last that is made.
+    #[tactic(auto, unfolding(crate::specs::Touch::next_touches))]
+    pub fn touches<S: Space<V>>(&self, space: &S) -> Touches
+        ensures { result ≡ next_touches V.operations (range_accesses V.operations) (is_field_of (S.memory space.now))
+            self.now.state (S.memory space.now) }
+    {
+        match instruction::<V, S>(space, self.state.place) {
+            None => Touches {
+                first: None,
+                second: None,
+            },
+            Some(decoded) => {
+                let frame = frame_at::<V, S>(space, self.state.place, &decoded);
+                touches_of::<V>(&frame, &self.state, &decoded.instr.operation)
+            }
+        }
     }
 
     /// Answers for another in one step: the word goes into %rax, and the return address is popped.

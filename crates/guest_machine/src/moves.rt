@@ -1,21 +1,18 @@
 ghost use Rattle.std.specs.Prelude.{◌≡◌, ◌<◌, IfOk};
-ghost use Rattle.guest_machine.specs.Access.{IsSize};
-ghost use Rattle.guest_machine.specs.Arithmetic.{span_of};
+ghost use Rattle.guest_machine.specs.Access.{bytes_in};
+ghost use Rattle.guest_arithmetic.specs.Arithmetic.{span_of};
 ghost use Rattle.guest_machine.specs.Operand.{carried_as};
-ghost use Rattle.guest_machine.specs.Ranges.{range_accesses};
 ghost use Rattle.guest_machine.specs.Step.{immediate_of, sign_extended, move_in, stored, store_byte, move_number, move_of, extend_byte, extend_long, load_address};
-ghost use Rattle.guest_machine.specs.Use.{Leaves, left};
+ghost use Rattle.guest_machine.specs.Use.{Does};
 
-use crate::arithmetic::low;
-use crate::cause::Cause;
 use crate::frame::Frame;
 use crate::operand::{address, carried, kept, kept_byte, size, unmoved};
-use crate::space::Space;
+use crate::space::{Size, Space};
 use crate::state::{State, register, set_register};
 use crate::stop::Stop;
 use crate::uses::{load, store, used};
-use crate::values::Values;
 use amd64_subset::{Memory, Operand, Operands, Register, Width};
+use guest_arithmetic::{Cause, Values, low};
 
 /// The immediate at a width.
 #[tactic(auto, unfolding(crate::specs::Step::immediate_of))]
@@ -49,7 +46,8 @@ fn move_in<V: Values, S: Space<V>>(
     state: &mut State<V::Word, V::Flag>,
     space: &S,
 ) -> Result<(), Stop>
-    ensures { Leaves result (left state.old (S.memory space.now)) (left state.new (S.memory space.now)) (move_in V.operations (range_accesses V.operations) width frame.now state.old (S.memory space.now) to from.now) }
+    ensures { Does V.operations result state.old (S.memory space.now) state.new (S.memory space.now)
+        (λ ops acc s m. move_in ops acc width frame.now s m to from.now) }
 {
     let word = carried::<V, S>(width, frame, state, space, from)?;
     set_register(&mut state.registers, to, word);
@@ -60,15 +58,15 @@ fn move_in<V: Values, S: Space<V>>(
 /// A word's lowest bytes into a memory operand.
 #[tactic(auto, unfolding(crate::specs::Step::stored))]
 fn stored<V: Values, S: Space<V>>(
-    size: u8,
+    size: Size,
     frame: &Frame,
     to: &Memory,
     word: V::Word,
     state: &mut State<V::Word, V::Flag>,
     space: &mut S,
 ) -> Result<(), Stop>
-    requires { IsSize size }
-    ensures { Leaves result (left state.old (S.memory space.old)) (left state.new (S.memory space.new)) (stored V.operations (range_accesses V.operations) size frame.now state.old (S.memory space.old) to.now word) }
+    ensures { Does V.operations result state.old (S.memory space.old) state.new (S.memory space.new)
+        (λ ops acc s m. stored ops acc (bytes_in size) frame.now s m to.now word) }
 {
     let place = used(state.place, address::<V>(frame, state, to))?;
     store::<V, S>(space, state.place, place, size, word)?;
@@ -85,10 +83,11 @@ pub(crate) fn store_byte<V: Values, S: Space<V>>(
     state: &mut State<V::Word, V::Flag>,
     space: &mut S,
 ) -> Result<(), Stop>
-    ensures { Leaves result (left state.old (S.memory space.old)) (left state.new (S.memory space.new)) (store_byte V.operations (range_accesses V.operations) frame.now state.old (S.memory space.old) to.now from) }
+    ensures { Does V.operations result state.old (S.memory space.old) state.new (S.memory space.new)
+        (λ ops acc s m. store_byte ops acc frame.now s m to.now from) }
 {
     let byte = kept_byte::<V>(register(&state.registers, from));
-    stored::<V, S>(1, frame, to, byte, state, space)
+    stored::<V, S>(Size::Byte, frame, to, byte, state, space)
 }
 
 /// mov r/m, imm
@@ -100,7 +99,8 @@ fn move_number<V: Values, S: Space<V>>(
     state: &mut State<V::Word, V::Flag>,
     space: &mut S,
 ) -> Result<(), Stop>
-    ensures { Leaves result (left state.old (S.memory space.old)) (left state.new (S.memory space.new)) (move_number V.operations (range_accesses V.operations) width frame.now state.old (S.memory space.old) to.now) }
+    ensures { Does V.operations result state.old (S.memory space.old) state.new (S.memory space.new)
+        (λ ops acc s m. move_number ops acc width frame.now s m to.now) }
 {
     let number = used(state.place, immediate::<V>(width, frame))?;
     match to {
@@ -124,7 +124,8 @@ pub(crate) fn move_operands<V: Values, S: Space<V>>(
     state: &mut State<V::Word, V::Flag>,
     space: &mut S,
 ) -> Result<(), Stop>
-    ensures { Leaves result (left state.old (S.memory space.old)) (left state.new (S.memory space.new)) (move_of V.operations (range_accesses V.operations) width frame.now state.old (S.memory space.old) operands.now) }
+    ensures { Does V.operations result state.old (S.memory space.old) state.new (S.memory space.new)
+        (λ ops acc s m. move_of ops acc width frame.now s m operands.now) }
 {
     match operands {
         Operands::IntoRegister { to, from } => {
@@ -147,13 +148,14 @@ pub(crate) fn extend_byte<V: Values, S: Space<V>>(
     state: &mut State<V::Word, V::Flag>,
     space: &S,
 ) -> Result<(), Stop>
-    ensures { Leaves result (left state.old (S.memory space.now)) (left state.new (S.memory space.now)) (extend_byte V.operations (range_accesses V.operations) frame.now state.old (S.memory space.now) to from.now) }
+    ensures { Does V.operations result state.old (S.memory space.now) state.new (S.memory space.now)
+        (λ ops acc s m. extend_byte ops acc frame.now s m to from.now) }
 {
     let word = match from {
         Operand::Register(from) => kept_byte::<V>(register(&state.registers, *from)),
         Operand::InMemory(from) => {
             let place = used(state.place, address::<V>(frame, state, from))?;
-            load::<V, S>(space, state.place, place, 1)?
+            load::<V, S>(space, state.place, place, Size::Byte)?
         }
     };
     set_register(&mut state.registers, to, word);
@@ -170,7 +172,8 @@ pub(crate) fn extend_long<V: Values, S: Space<V>>(
     state: &mut State<V::Word, V::Flag>,
     space: &S,
 ) -> Result<(), Stop>
-    ensures { Leaves result (left state.old (S.memory space.now)) (left state.new (S.memory space.now)) (extend_long V.operations (range_accesses V.operations) frame.now state.old (S.memory space.now) to from.now) }
+    ensures { Does V.operations result state.old (S.memory space.now) state.new (S.memory space.now)
+        (λ ops acc s m. extend_long ops acc frame.now s m to from.now) }
 {
     let word = extended::<V>(carried::<V, S>(Width::Long, frame, state, space, from)?);
     set_register(&mut state.registers, to, word);
@@ -198,7 +201,8 @@ pub(crate) fn load_address<V: Values, S: Space<V>>(
     state: &mut State<V::Word, V::Flag>,
     space: &S,
 ) -> Result<(), Stop>
-    ensures { Leaves result (left state.old (S.memory space.now)) (left state.new (S.memory space.now)) (load_address V.operations (range_accesses V.operations) width frame.now state.old (S.memory space.now) to from.now) }
+    ensures { Does V.operations result state.old (S.memory space.now) state.new (S.memory space.now)
+        (λ ops acc s m. load_address ops acc width frame.now s m to from.now) }
 {
     let place = used(state.place, address::<V>(frame, state, from))?;
     set_register(&mut state.registers, to, V::word(low(width, place)));

@@ -1,16 +1,14 @@
 ghost use Rattle.std.specs.Prelude.{◌≡◌, ◌<◌, ◌%◌, if◌then◌else◌};
-ghost use Rattle.guest_machine.specs.Access.{IsSize};
-ghost use Rattle.guest_machine.specs.Operand.{factor_of, size_of, charged, unmoved, moved_by, base_of, index_of, address_of, kept, kept_byte, carried_as, carried};
+ghost use Rattle.guest_machine.specs.Operand.{factor_of, size_for, charged, unmoved, moved_by, base_of, index_of, address_of, kept, kept_byte, carried_as, carried};
 ghost use Rattle.guest_machine.specs.Ranges.{range_accesses};
 
-use crate::cause::Cause;
 use crate::frame::Frame;
-use crate::space::Space;
+use crate::space::{Size, Space};
 use crate::state::{Registers, State, register};
 use crate::stop::Stop;
-use crate::uses::{both, load, used};
-use crate::values::Values;
+use crate::uses::{load, used};
 use amd64_subset::{Base, Index, Memory, Operand, Scale, Width};
+use guest_arithmetic::{Cause, Values, both};
 
 fn factor(scale: Scale) -> u64
     ensures { result ≡ factor_of scale }
@@ -24,13 +22,12 @@ fn factor(scale: Scale) -> u64
 }
 
 /// How many bytes an operand of the width has.
-pub(crate) fn size(width: Width) -> u8
-    ensures value { result ≡ size_of width }
-    ensures size { IsSize result }
+pub(crate) fn size(width: Width) -> Size
+    ensures { result ≡ size_for width }
 {
     match width {
-        Width::Long => 4,
-        Width::Quad => 8,
+        Width::Long => Size::Long,
+        Width::Quad => Size::Quad,
     }
 }
 

@@ -1,12 +1,11 @@
 ghost use Rattle.std.specs.Prelude.{◌≡◌};
 ghost use Rattle.guest_machine.specs.Run.{Runs, returned, is_look};
 
-use crate::cause::Cause;
 use crate::space::Space;
 use crate::state::State;
 use crate::step::step;
 use crate::stop::Stop;
-use crate::values::Values;
+use guest_arithmetic::{Cause, Values};
 
 /// Where a call returns to.
 pub const RETURN: u64 = 0x2000;

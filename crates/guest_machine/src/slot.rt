@@ -1,20 +1,19 @@
 ghost use Rattle.std.specs.Prelude.{◌≡◌, ◌<◌, IfOk};
-ghost use Rattle.guest_machine.specs.Arithmetic.{span_of};
+ghost use Rattle.guest_arithmetic.specs.Arithmetic.{span_of};
 ghost use Rattle.guest_machine.specs.Operand.{size_of, number_at, weighed, taken_at, taken, put};
 ghost use Rattle.guest_machine.specs.Access.{load_of};
 ghost use Rattle.guest_machine.specs.Ranges.{range_accesses};
-ghost use Rattle.guest_machine.specs.Use.{cause_with, Leaves, left};
+ghost use Rattle.guest_arithmetic.specs.Cause.{cause_with};
+ghost use Rattle.guest_machine.specs.Use.{Does};
 
-use crate::arithmetic::low;
-use crate::cause::Cause;
 use crate::frame::Frame;
 use crate::operand::{address, size};
 use crate::space::Space;
 use crate::state::{State, register, set_register};
 use crate::stop::Stop;
-use crate::uses::{both, store, used};
-use crate::values::Values;
+use crate::uses::{store, used};
 use amd64_subset::{Operand, Register, Width};
+use guest_arithmetic::{Cause, Values, both, low};
 
 /// Where a result goes.
 #[derive(Clone, Copy, Debug)]
@@ -136,7 +135,8 @@ pub(crate) fn put<V: Values, S: Space<V>>(
     state: &mut State<V::Word, V::Flag>,
     space: &mut S,
 ) -> Result<(), Stop>
-    ensures { Leaves result (left state.old (S.memory space.old)) (left state.new (S.memory space.new)) (put V.operations (range_accesses V.operations) width slot word state.old (S.memory space.old)) }
+    ensures { Does V.operations result state.old (S.memory space.old) state.new (S.memory space.new)
+        (λ ops acc s m. put ops acc width slot word s m) }
 {
     match slot {
         Slot::Register(name) => {

@@ -1,17 +1,16 @@
 ghost use Rattle.std.specs.Prelude.{◌≡◌};
 ghost use Rattle.amd64_subset.specs.declared.instr.Target.TheVariants.{Indirect};
-ghost use Rattle.guest_machine.specs.Ranges.{range_accesses};
 ghost use Rattle.guest_machine.specs.Step.{pushed, push_of, pop_of, leave_of, return_of, call_of};
-ghost use Rattle.guest_machine.specs.Use.{Leaves, left};
+ghost use Rattle.guest_machine.specs.Use.{Does};
 
 use crate::frame::Frame;
 use crate::slot::take_operand;
-use crate::space::Space;
+use crate::space::{Size, Space};
 use crate::state::{State, register, set_register};
 use crate::stop::Stop;
 use crate::uses::{load, store, used};
-use crate::values::Values;
 use amd64_subset::{Operand, Register, Target, Width};
+use guest_arithmetic::Values;
 
 /// A word onto the stack, from where %rsp points.
 #[tactic(auto, unfolding(crate::specs::Step::pushed))]
@@ -21,10 +20,11 @@ fn push_word<V: Values, S: Space<V>>(
     state: &mut State<V::Word, V::Flag>,
     space: &mut S,
 ) -> Result<(), Stop>
-    ensures { Leaves result (left state.old (S.memory space.old)) (left state.new (S.memory space.new)) (pushed V.operations (range_accesses V.operations) stack word state.old (S.memory space.old)) }
+    ensures { Does V.operations result state.old (S.memory space.old) state.new (S.memory space.new)
+        (λ ops acc s m. pushed ops acc stack word s m) }
 {
     let place = stack.wrapping_sub(8);
-    store::<V, S>(space, state.place, place, 8, word)?;
+    store::<V, S>(space, state.place, place, Size::Quad, word)?;
     state.registers.rsp = V::word(place);
     Ok(())
 }
@@ -37,7 +37,8 @@ pub(crate) fn push<V: Values, S: Space<V>>(
     state: &mut State<V::Word, V::Flag>,
     space: &mut S,
 ) -> Result<(), Stop>
-    ensures { Leaves result (left state.old (S.memory space.old)) (left state.new (S.memory space.new)) (push_of V.operations (range_accesses V.operations) frame.now state.old (S.memory space.old) from) }
+    ensures { Does V.operations result state.old (S.memory space.old) state.new (S.memory space.new)
+        (λ ops acc s m. push_of ops acc frame.now s m from) }
 {
     let stack = used(state.place, V::number_of(state.registers.rsp))?;
     let word = register(&state.registers, from);
@@ -54,10 +55,11 @@ pub(crate) fn pop<V: Values, S: Space<V>>(
     state: &mut State<V::Word, V::Flag>,
     space: &S,
 ) -> Result<(), Stop>
-    ensures { Leaves result (left state.old (S.memory space.now)) (left state.new (S.memory space.now)) (pop_of V.operations (range_accesses V.operations) frame.now state.old (S.memory space.now) to) }
+    ensures { Does V.operations result state.old (S.memory space.now) state.new (S.memory space.now)
+        (λ ops acc s m. pop_of ops acc frame.now s m to) }
 {
     let stack = used(state.place, V::number_of(state.registers.rsp))?;
-    let word = load::<V, S>(space, state.place, stack, 8)?;
+    let word = load::<V, S>(space, state.place, stack, Size::Quad)?;
     state.registers.rsp = V::word(stack.wrapping_add(8));
     set_register(&mut state.registers, to, word);
     state.place = frame.next;
@@ -71,10 +73,11 @@ pub(crate) fn leave<V: Values, S: Space<V>>(
     state: &mut State<V::Word, V::Flag>,
     space: &S,
 ) -> Result<(), Stop>
-    ensures { Leaves result (left state.old (S.memory space.now)) (left state.new (S.memory space.now)) (leave_of V.operations (range_accesses V.operations) frame.now state.old (S.memory space.now)) }
+    ensures { Does V.operations result state.old (S.memory space.now) state.new (S.memory space.now)
+        (λ ops acc s m. leave_of ops acc frame.now s m) }
 {
     let base = used(state.place, V::number_of(state.registers.rbp))?;
-    let word = load::<V, S>(space, state.place, base, 8)?;
+    let word = load::<V, S>(space, state.place, base, Size::Quad)?;
     state.registers.rsp = V::word(base.wrapping_add(8));
     state.registers.rbp = word;
     state.place = frame.next;
@@ -87,10 +90,11 @@ pub(crate) fn return_from<V: Values, S: Space<V>>(
     state: &mut State<V::Word, V::Flag>,
     space: &S,
 ) -> Result<(), Stop>
-    ensures { Leaves result (left state.old (S.memory space.now)) (left state.new (S.memory space.now)) (return_of V.operations (range_accesses V.operations) state.old (S.memory space.now)) }
+    ensures { Does V.operations result state.old (S.memory space.now) state.new (S.memory space.now)
+        (λ ops acc s m. return_of ops acc s m) }
 {
     let stack = used(state.place, V::number_of(state.registers.rsp))?;
-    let word = load::<V, S>(space, state.place, stack, 8)?;
+    let word = load::<V, S>(space, state.place, stack, Size::Quad)?;
     let place = used(state.place, V::number_of(word))?;
     state.registers.rsp = V::word(stack.wrapping_add(8));
     state.place = place;
@@ -105,7 +109,8 @@ pub(crate) fn call<V: Values, S: Space<V>>(
     state: &mut State<V::Word, V::Flag>,
     space: &mut S,
 ) -> Result<(), Stop>
-    ensures { Leaves result (left state.old (S.memory space.old)) (left state.new (S.memory space.new)) (call_of V.operations (range_accesses V.operations) frame.now state.old (S.memory space.old) target.now) }
+    ensures { Does V.operations result state.old (S.memory space.old) state.new (S.memory space.new)
+        (λ ops acc s m. call_of ops acc frame.now s m target.now) }
 {
     match target {
         Target::Relative(distance) => {
@@ -126,7 +131,8 @@ fn call_at<V: Values, S: Space<V>>(
     state: &mut State<V::Word, V::Flag>,
     space: &mut S,
 ) -> Result<(), Stop>
-    ensures { Leaves result (left state.old (S.memory space.old)) (left state.new (S.memory space.new)) (call_of V.operations (range_accesses V.operations) frame.now state.old (S.memory space.old) (Indirect operand.now)) }
+    ensures { Does V.operations result state.old (S.memory space.old) state.new (S.memory space.new)
+        (λ ops acc s m. call_of ops acc frame.now s m (Indirect operand.now)) }
 {
     let stack = V::number_of(state.registers.rsp);
     let it = take_operand::<V, S>(Width::Quad, frame, state, space, operand, stack)?;

@@ -1,8 +1,8 @@
 ghost use Rattle.std.specs.Prelude.{◌≡◌};
 ghost use Rattle.guest_machine.specs.State.{register_of, with_register, start_of};
 
-use crate::values::Values;
 use amd64_subset::Register;
+use guest_arithmetic::{Flags, Values};
 
 /// The sixteen general registers.
 #[derive(Clone, Copy, Debug)]
@@ -23,15 +23,6 @@ pub struct Registers<W> {
     pub r13: W,
     pub r14: W,
     pub r15: W,
-}
-
-/// The flags that instructions of the subset set and read.
-#[derive(Clone, Copy, Debug)]
-pub struct Flags<F> {
-    pub zero: F,
-    pub sign: F,
-    pub carry: F,
-    pub overflow: F,
 }
 
 /// All that a machine holds besides its memory.

@@ -1,7 +1,9 @@
 ghost use Rattle.std.specs.Prelude.{◌≡◌};
 ghost use Rattle.guest_machine.specs.Ranges.{range_accesses, is_field_of};
+ghost use Rattle.amd64_subset.specs.Decoding.{decoded};
+ghost use Rattle.guest_machine.specs.Access.{fetch_of};
 ghost use Rattle.guest_machine.specs.Step.{act, step_of};
-ghost use Rattle.guest_machine.specs.Use.{Leaves, left};
+ghost use Rattle.guest_machine.specs.Use.{Does};
 
 use crate::compute::{compute_operands, multiply, shift_operand, test};
 use crate::frame::{Frame, frame_at};
@@ -11,12 +13,12 @@ use crate::space::Space;
 use crate::stack::{call, leave, pop, push, return_from};
 use crate::state::State;
 use crate::stop::Stop;
-use crate::values::Values;
 use amd64_subset::Operation::{
     Call, Compute, ExtendByte, ExtendLong, Jump, JumpIf, Leave, LoadAddress, Move, Multiply, Nop,
     Pop, Push, Return, Shift, StoreByte, Test, Undefined,
 };
-use amd64_subset::{Operation, decode};
+use amd64_subset::{Decoded, Operation, decode};
+use guest_arithmetic::Values;
 
 /// One instruction.
 #[tactic(auto, unfolding(crate::specs::Step::act))]
@@ -26,7 +28,8 @@ fn act<V: Values, S: Space<V>>(
     state: &mut State<V::Word, V::Flag>,
     space: &mut S,
 ) -> Result<(), Stop>
-    ensures { Leaves result (left state.old (S.memory space.old)) (left state.new (S.memory space.new)) (act V.operations (range_accesses V.operations) frame.now operation.now state.old (S.memory space.old)) }
+    ensures { Does V.operations result state.old (S.memory space.old) state.new (S.memory space.new)
+        (λ ops acc s m. act ops acc frame.now operation.now s m) }
 {
     match operation {
         Move { width, operands } => move_operands::<V, S>(*width, frame, operands, state, space),
@@ -64,17 +67,25 @@ fn act<V: Values, S: Space<V>>(
     }
 }
 
+/// The instruction that may be fetched at an address, if one is there.
+pub(crate) fn instruction<V: Values, S: Space<V>>(space: &S, address: u64) -> Option<Decoded>
+    ensures { result ≡ decoded (fetch_of (range_accesses V.operations) (S.memory space.now) address) }
+{
+    let mut bytes = [0; 15];
+    let count = space.fetch(address, &mut bytes);
+    decode(&bytes[..usize::from(count)])
+}
+
 /// One step: an instruction is fetched, read and done.
 #[tactic(auto, unfolding(crate::specs::Step::step_of))]
 pub(crate) fn step<V: Values, S: Space<V>>(
     state: &mut State<V::Word, V::Flag>,
     space: &mut S,
 ) -> Result<(), Stop>
-    ensures { Leaves result (left state.old (S.memory space.old)) (left state.new (S.memory space.new)) (step_of V.operations (range_accesses V.operations) (is_field_of (S.memory space.old)) state.old (S.memory space.old)) }
+    ensures { Does V.operations result state.old (S.memory space.old) state.new (S.memory space.new)
+        (λ ops acc s m. step_of ops acc (is_field_of m) s m) }
 {
-    let mut bytes = [0; 15];
-    let count = space.fetch(state.place, &mut bytes);
-    match decode(&bytes[..usize::from(count)]) {
+    match instruction::<V, S>(space, state.place) {
         None => Err(Stop::Code(state.place)),
         Some(decoded) => {
             let frame = frame_at::<V, S>(space, state.place, &decoded);

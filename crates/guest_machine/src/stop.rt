@@ -1,4 +1,4 @@
-use crate::cause::Cause;
+use guest_arithmetic::Cause;
 
 /// Why a run does not go on. A place is the instruction's own, of which nothing was done.
 #[derive(Clone, Copy, PartialEq, Eq, Debug)]

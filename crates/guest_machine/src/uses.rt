@@ -1,27 +1,11 @@
 ghost use Rattle.std.specs.Prelude.{◌≡◌};
-ghost use Rattle.guest_machine.specs.Access.{IsSize, load_of, store_of};
+ghost use Rattle.guest_machine.specs.Access.{bytes_in, load_of, store_of};
 ghost use Rattle.guest_machine.specs.Ranges.{range_accesses};
-ghost use Rattle.guest_machine.specs.Use.{both, clean, there, LeavesMemory};
+ghost use Rattle.guest_machine.specs.Use.{clean, there, LeavesMemory};
 
-use crate::cause::Cause;
-use crate::space::Space;
+use crate::space::{Size, Space};
 use crate::stop::Stop;
-use crate::values::Values;
-
-/// Two uses: where both fail, the cause that comes first is given.
-pub(crate) fn both<A: Copy, B: Copy>(
-    left: Result<A, Cause>,
-    right: Result<B, Cause>,
-) -> Result<(A, B), Cause>
-    ensures { result ≡ both left right }
-{
-    match (left, right) {
-        (Ok(a), Ok(b)) => Ok((a, b)),
-        (Ok(_), Err(cause)) => Err(cause),
-        (Err(cause), Ok(_)) => Err(cause),
-        (Err(cause), Err(other)) => Err(cause.first(other)),
-    }
-}
+use guest_arithmetic::{Cause, Values};
 
 /// A use by the instruction at a place.
 pub(crate) fn used<A: Copy>(here: u64, answer: Result<A, Cause>) -> Result<A, Stop>
@@ -37,13 +21,13 @@ pub(crate) fn used<A: Copy>(here: u64, answer: Result<A, Cause>) -> Result<A, St
 pub(crate) fn load<V: Values, S: Space<V>>(
     space: &S,
     here: u64,
-    place: u64,
-    size: u8,
+    address: u64,
+    size: Size,
 ) -> Result<V::Word, Stop>
-    requires { IsSize size }
-    ensures { result ≡ there here (load_of V.operations (range_accesses V.operations) (S.memory space.now) place size) }
+    ensures { result ≡ there here
+        (load_of V.operations (range_accesses V.operations) (S.memory space.now) address (bytes_in size)) }
 {
-    match space.load(place, size) {
+    match space.load(address, size) {
         Some(word) => Ok(word),
         None => Err(Stop::Address(here)),
     }
@@ -53,14 +37,14 @@ pub(crate) fn load<V: Values, S: Space<V>>(
 pub(crate) fn store<V: Values, S: Space<V>>(
     space: &mut S,
     here: u64,
-    place: u64,
-    size: u8,
+    address: u64,
+    size: Size,
     word: V::Word,
 ) -> Result<(), Stop>
-    requires { IsSize size }
-    ensures { LeavesMemory result (S.memory space.old) (S.memory space.new) (there here (store_of V.operations (range_accesses V.operations) (S.memory space.old) place size word)) }
+    ensures { LeavesMemory result (S.memory space.old) (S.memory space.new) (there here
+        (store_of V.operations (range_accesses V.operations) (S.memory space.old) address (bytes_in size) word)) }
 {
-    if space.store(place, size, word) {
+    if space.store(address, size, word) {
         return Ok(());
     }
     Err(Stop::Address(here))

@@ -2,7 +2,7 @@
 use Rattle.std.proofs.Common.{◌≡◌, ℕ, zero, suc, Bool, true, false, List, Option, Some, None, Result, Ok, Err, refl}
 use Rattle.std.specs.Prelude.{ok_or, option_map, is_some, ◌&&◌}
 use Rattle.guest_machine.specs.declared.space.Access.TheVariants.{Read, Write}
-use Rattle.guest_machine.specs.Values.{Operations}
+use Rattle.guest_arithmetic.specs.Values.{Operations}
 use Rattle.guest_machine.specs.Access.{Refusal, Refused, both_reached, reached, cons, next_place, bytes_at, all_write, load_of, store_of, put_all, bytes_from}
 use Rattle.guest_machine.specs.Ranges.{AddressSpace, byte_in, range_accesses}
 use Rattle.guest_memory.specs.Several.{before, bytes_in, all_writable}

@@ -1,11 +1,14 @@
-ghost use Rattle.std.specs.Prelude.{◌≡◌, length, take, ok_or, is_some, option_map};
-ghost use Rattle.guest_machine.specs.Access.{IsSize, Refused, fetch_of, load_of, store_of, Stores};
-ghost use Rattle.guest_machine.specs.Four.{bytes_of};
+//! Accesses of several bytes, made of their bytes.
+
+ghost use Rattle.std.specs.Prelude.{◌≡◌, ◌≤◌, length, take, is_some, option_map};
+ghost use Rattle.guest_machine.specs.Access.{fetch_of, store_of};
+ghost use Rattle.guest_arithmetic.specs.Four.{bytes_of};
 ghost use Rattle.guest_machine.specs.declared.space.Access.TheVariants.{Read, Write, Run};
-ghost use Rattle.guest_machine.specs.Ranges.{AddressSpace, range_accesses, is_field_of, byte_in, with_byte};
+ghost use Rattle.guest_machine.specs.Ranges.{AddressSpace, range_accesses, is_field_of, byte_in, with_byte, Loads, Stores, StoresAs};
 ghost use Rattle.guest_memory.specs.Several.{bytes_in, all_writable};
 
-use guest_machine::{Four, Values};
+use guest_arithmetic::{Four, Values};
+use guest_machine::Size;
 
 /// A memory that is reached one byte at a time. Where it can do this, `load`, `store` and `fetch`
 /// below do the rest of a `Space`.
@@ -73,23 +76,35 @@ fn load_quad<V: Values, M: Bytes<V>>(memory: &M, place: u64) -> Option<V::Word>
     Some(V::joined_quad(low, high))
 }
 
-/// The word of 1, 4 or 8 bytes at a place, unless one of them may not be read.
+/// The word of so many bytes at an address, unless one of them may not be read.
 #[tactic(auto, using(crate::proofs::Several::load_of_ranges))]
-pub fn load<V: Values, M: Bytes<V>>(memory: &M, place: u64, size: u8) -> Option<V::Word>
-    requires { IsSize size }
-    ensures { ok_or result Refused ≡ load_of V.operations (range_accesses V.operations) (M.memory memory.now) place size }
+pub fn load<V: Values, M: Bytes<V>>(memory: &M, address: u64, size: Size) -> Option<V::Word>
+    ensures { Loads V.operations result (M.memory memory.now) address size }
 {
     match size {
-        1 => load_byte::<V, M>(memory, place),
-        4 => load_long::<V, M>(memory, place),
-        _ => load_quad::<V, M>(memory, place),
+        Size::Byte => load_byte::<V, M>(memory, address),
+        Size::Long => load_long::<V, M>(memory, address),
+        Size::Quad => load_quad::<V, M>(memory, address),
     }
 }
 
-/// Writes the lowest bytes of a word at a place, unless one of them may not be written.
-pub fn store<V: Values, M: Bytes<V>>(memory: &mut M, place: u64, size: u8, word: V::Word) -> bool
-    requires { IsSize size }
-    ensures { Stores result (M.memory memory.old) (M.memory memory.new) (store_of V.operations (range_accesses V.operations) (M.memory memory.old) place size word) }
+/// Writes a word's lowest bytes at an address, unless one of them may not be written.
+pub fn store<V: Values, M: Bytes<V>>(
+    memory: &mut M,
+    address: u64,
+    size: Size,
+    word: V::Word,
+) -> bool
+    ensures { Stores V.operations result (M.memory memory.old) (M.memory memory.new) address size word }
+{
+    store_bytes::<V, M>(memory, address, size.bytes(), word)
+}
+
+/// Writes so many bytes of a word.
+fn store_bytes<V: Values, M: Bytes<V>>(memory: &mut M, place: u64, size: u8, word: V::Word) -> bool
+    requires { size ≤ 8 }
+    ensures { StoresAs result (M.memory memory.old) (M.memory memory.new)
+        (store_of V.operations (range_accesses V.operations) (M.memory memory.old) place size word) }
 {
     if !may_write_all::<V, M>(memory, place, size) {
         return false;

@@ -5,7 +5,8 @@ ghost use Rattle.guest_machine.specs.Ranges.{byte_in, with_byte};
 
 use crate::bytes::{Bytes, fetch, load, store};
 use crate::range::GuestRange;
-use guest_machine::{Access, Space, Values};
+use guest_arithmetic::Values;
+use guest_machine::{Access, Size, Space};
 use std::alloc::{AllocError, AllocFailed, Global};
 use std::marker::Model;
 
@@ -131,11 +132,11 @@ impl<V: Values> Space<V> for GuestMemory<V::Byte> {
         fetch::<V, GuestMemory<V::Byte>>(self, place, into)
     }
 
-    fn load(&self, place: u64, size: u8) -> Option<V::Word> {
+    fn load(&self, place: u64, size: Size) -> Option<V::Word> {
         load::<V, GuestMemory<V::Byte>>(self, place, size)
     }
 
-    fn store(&mut self, place: u64, size: u8, word: V::Word) -> bool {
+    fn store(&mut self, place: u64, size: Size, word: V::Word) -> bool {
         store::<V, GuestMemory<V::Byte>>(self, place, size, word)
     }
 

@@ -4,7 +4,8 @@ use crate::memory::GuestMemory;
 use crate::range::GuestRange;
 use crate::rows::{ROWS_1, ROWS_2, ROWS_3, ROWS_4};
 use crate::tests::{RUNNABLE, WRITABLE, add};
-use guest_machine::{Machine, Plain, RETURN, Space, Stop};
+use guest_arithmetic::Plain;
+use guest_machine::{Machine, RETURN, Size, Space, Stop};
 use std::alloc::{AllocError, Global};
 use std::process::Abort;
 use std::test::Fail;
@@ -103,7 +104,7 @@ fn run_row(rt: &impl Abort, alloc: Global, line: &str) -> Result<(), Fail> {
     assert_eq!(rt; stop, Stop::Returned(rax), "{line}");
     assert_eq!(rt; machine.register(1), number(words.next()), "{line}");
     assert_eq!(rt; machine.register(2), number(words.next()), "{line}");
-    let word = <GuestMemory<u8> as Space<Plain>>::load(&memory, DATA, 8);
+    let word = <GuestMemory<u8> as Space<Plain>>::load(&memory, DATA, Size::Quad);
     assert_eq!(rt; word, Some(number(words.next())), "{line}");
     assert_eq!(rt;
         few(&machine) & defined,

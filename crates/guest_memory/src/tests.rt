@@ -1,6 +1,7 @@
 use crate::memory::GuestMemory;
 use crate::range::{GuestRange, Rights};
-use guest_machine::{GET_ADDRESS, Machine, Plain, RETURN, Space, Stop};
+use guest_arithmetic::Plain;
+use guest_machine::{GET_ADDRESS, Machine, RETURN, Space, Stop};
 use std::alloc::Global;
 use std::test::Fail;
 

@@ -1,9 +1,9 @@
 -- The definitions at values.
 use Rattle.std.proofs.Common.{◌≡◌, ℕ, true, [], ◌∷◌, Ok, Err, refl}
-use Rattle.guest_machine.specs.declared.cause.Cause.TheVariants as cause
+use Rattle.guest_arithmetic.specs.declared.cause.Cause.TheVariants as cause
 use Rattle.guest_machine.specs.Operand.{kept, kept_byte}
 use Rattle.amd64_subset.specs.declared.instr.Width.TheVariants.{Long}
-use Rattle.guest_machine.specs.Values.{Operations}
+use Rattle.guest_arithmetic.specs.Values.{Operations}
 use Rattle.guest_machine.specs.Access.{bytes_from}
 use Rattle.job_meaning.specs.declared.values.Block.{Block}
 use Rattle.job_meaning.specs.declared.values.Token.{Token}

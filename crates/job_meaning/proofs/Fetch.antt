@@ -5,7 +5,7 @@ use Rattle.guest_machine.specs.Access.{Accesses, next_place, code_then, code_at}
 use Rattle.guest_machine.specs.Use.{plus}
 use Rattle.job_meaning.specs.declared.marks.Mark.{Mark}
 use Rattle.job_meaning.specs.declared.marks.Mark.TheVariants.{Usual, Field, Odd}
-use Rattle.job_meaning.specs.Code.{SameCodeByte}
+use Rattle.job_meaning.specs.Code.{SameCodeByte, SameCodeAt}
 use Rattle.job_meaning.specs.Reading.{place_at}
 
 -- the place so many bytes behind another is a sum
@@ -49,8 +49,14 @@ module _ {M B : Type 0} (acc : Accesses M B) (m : M) where
       then_part None rest h e = absurd (omega arith)
       then_part (Some a) rest h e = e (omega arith)
 
-module _ {M M' B B' : Type 0} (mark : ℕ → Mark) (acc : Accesses M B) (acc' : Accesses M' B') (m : M) (m' : M')
-    (same : (place : ℕ) → SameCodeByte (mark place) (acc.code m place) (acc'.code m' place)) where
+module _ {M M' B B' : Type 0} (mark : ℕ → Mark) (acc : Accesses M B) (acc' : Accesses M' B') (m : M) (m' : M') where
+  abbrev Same : ℕ → ℕ → Type 0
+  Same = SameCodeAt mark acc acc' m m'
+
+  -- what is the same from the next place on
+  behind : (n place : ℕ) → Same place (suc n) → Same (next_place place) n
+  behind n place same k low = same (suc k) (omega (arith, low))
+
   longer : (μ : Mark) (o o' : Option ℕ) (rest rest' : List ℕ) → SameCodeByte μ o o' → length rest ≤ length rest' → length (code_then o rest) ≤ length (code_then o' rest')
   longer Usual None o' rest rest' s h = omega arith
   longer Usual (Some a) o' rest rest' s h = rw s (omega arith)
@@ -62,9 +68,9 @@ module _ {M M' B B' : Type 0} (mark : ℕ → Mark) (acc : Accesses M B) (acc' :
   longer (Odd why) (Some a) (Some a') rest rest' s h = omega arith
 
   -- the image has at least those bytes
-  pub code-longer : (n place : ℕ) → length (code_at acc m place n) ≤ length (code_at acc' m' place n)
-  code-longer zero place = omega arith
-  code-longer (suc n) place = longer (mark place) _ _ _ _ (same place) (code-longer n (next_place place))
+  pub code-longer : (n place : ℕ) → Same place n → length (code_at acc m place n) ≤ length (code_at acc' m' place n)
+  code-longer zero place same = omega arith
+  code-longer (suc n) place same = longer (mark place) _ _ _ _ (same 0 (omega arith)) (code-longer n (next_place place) (behind n place same))
 
   as_long : (μ : Mark) (o o' : Option ℕ) (rest rest' : List ℕ) → SameCodeByte μ o o' → (o ≡ None → NotOdd μ) → ((a : ℕ) → o ≡ Some a → length rest ≡ length rest')
       → length (code_then o rest) ≡ length (code_then o' rest')
@@ -78,13 +84,13 @@ module _ {M M' B B' : Type 0} (mark : ℕ → Mark) (acc : Accesses M B) (acc' :
   as_long (Odd why) (Some a) (Some a') rest rest' s odd h = ap suc (h a refl)
 
   -- and no more where the last of them is not followed by an odd place
-  pub code-as_long : (n place : ℕ) → (length (code_at acc m place n) < n → NotOdd (mark (place_at place (length (code_at acc m place n)))))
+  pub code-as_long : (n place : ℕ) → Same place n → (length (code_at acc m place n) < n → NotOdd (mark (place_at place (length (code_at acc m place n)))))
       → length (code_at acc m place n) ≡ length (code_at acc' m' place n)
-  code-as_long zero place odd = refl
-  code-as_long (suc n) place odd =
-      as_long (mark place) (acc.code m place) (acc'.code m' place) (code_at acc m (next_place place) n) (code_at acc' m' (next_place place) n) (same place)
+  code-as_long zero place same odd = refl
+  code-as_long (suc n) place same odd =
+      as_long (mark place) (acc.code m place) (acc'.code m' place) (code_at acc m (next_place place) n) (code_at acc' m' (next_place place) n) (same 0 (omega arith))
       (λ e. at_end (acc.code m place) e odd)
-      (λ a e. code-as_long n (next_place place) (λ short. later (acc.code m place) a e odd short))
+      (λ a e. code-as_long n (next_place place) (behind n place same) (λ short. later (acc.code m place) a e odd short))
     where
       at_end : (o : Option ℕ) → o ≡ None → (length (code_then o (code_at acc m (next_place place) n)) < suc n → NotOdd (mark (place_at place (length (code_then o (code_at acc m (next_place place) n))))))
           → NotOdd (mark place)
@@ -113,9 +119,9 @@ module _ {M M' B B' : Type 0} (mark : ℕ → Mark) (acc : Accesses M B) (acc' :
   usual_rest (Odd why) (Some a) (Some a') rest rest' k s low h = h (omega arith)
 
   -- a usual byte is the same
-  pub code-usual : (n place k : ℕ) → k < length (code_at acc m place n) → mark (place_at place k) ≡ Usual → slice_get (code_at acc m place n) k ≡ slice_get (code_at acc' m' place n) k
-  code-usual zero place k low usual = refl
-  code-usual (suc n) place zero low usual = usual_first (mark place) _ _ _ _ (same place) usual
-  code-usual (suc n) place (suc k) low usual =
-      usual_rest (mark place) _ _ (code_at acc m (next_place place) n) (code_at acc' m' (next_place place) n) k (same place) low
-      (λ within. code-usual n (next_place place) k within usual)
+  pub code-usual : (n place : ℕ) → Same place n → (k : ℕ) → k < length (code_at acc m place n) → mark (place_at place k) ≡ Usual → slice_get (code_at acc m place n) k ≡ slice_get (code_at acc' m' place n) k
+  code-usual zero place same k low usual = refl
+  code-usual (suc n) place same zero low usual = usual_first (mark place) _ _ _ _ (same 0 (omega arith)) usual
+  code-usual (suc n) place same (suc k) low usual =
+      usual_rest (mark place) _ _ (code_at acc m (next_place place) n) (code_at acc' m' (next_place place) n) k (same 0 (omega arith)) low
+      (λ within. code-usual n (next_place place) (behind n place same) k within usual)

@@ -17,8 +17,9 @@ use Rattle.amd64_subset.specs.Spelling.{field_of}
 use Rattle.guest_machine.specs.declared.state.State.{State}
 use Rattle.guest_machine.specs.Access.{Refused, Accesses, code_at, fetch_of}
 use Rattle.guest_machine.specs.Operand.{base_of, index_of, address_of}
-use Rattle.guest_machine.specs.Plain.{plain_operations}
+use Rattle.guest_arithmetic.specs.Plain.{plain_operations}
 use Rattle.guest_machine.specs.State.{register_of, with_register, with_word, at_place, start_of}
+use Rattle.guest_machine.specs.Touch.{touches_of, next_touches, touched}
 use Rattle.guest_machine.specs.Step.{load_address, act, frame_of, step_of}
 use Rattle.guest_machine.specs.Use.{left}
 use Rattle.job_meaning.specs.declared.marks.Mark.{Mark}
@@ -30,7 +31,7 @@ use Rattle.job_meaning.specs.declared.values.Flag.{Flag}
 use Rattle.job_meaning.specs.declared.values.Byte.{Byte}
 use Rattle.job_meaning.specs.Code.{SameCodeByte, SameCode}
 use Rattle.job_meaning.specs.Marked.{marked_operations}
-use Rattle.job_meaning.specs.Reading.{starts_field, completed, hindrance, meaning_step}
+use Rattle.job_meaning.specs.Reading.{starts_field, place_at, completed, hindrance, read_step, reaches_linker, meaning_step}
 use Rattle.job_meaning.specs.Same.{SameField}
 
 -- memories of code alone
@@ -82,9 +83,13 @@ same_fields (suc (suc (suc (suc (suc zero))))) marked four = absurd cc
 same_fields (suc (suc (suc (suc (suc (suc zero)))))) marked four = absurd cc
 same_fields (suc (suc (suc (suc (suc (suc (suc place))))))) marked four = absurd cc
 
+-- nothing is the linker's own
+abbrev nowhere : ℕ → Bool
+nowhere place = false
+
 -- the premise on code is met
-same_code : SameCode mark (λ place n n'. SameField start owner base (Some place) None n n') objects image tt tt
-same_code = record { byte = same_bytes; field = same_fields }
+same_code : SameCode mark nowhere (λ place n n'. SameField start owner base (Some place) None n n') objects image tt tt
+same_code = record { byte = λ here outside k low. same_bytes (place_at here k); field = same_fields }
 
 abbrev state : State Word Flag
 state = with_word (start_of (marked_operations owner) 0 0x8000 (Number 0) (Number 0) (Number 0)) Rax (Marked (Base (record { thread = 1; instance = 1; start = 0x7000 })))
@@ -93,8 +98,8 @@ abbrev state' : State ℕ Bool
 state' = with_word (start_of plain_operations 0 0x8000 0 0 0) Rax 0x7040
 
 -- and both steps give one address
-meaning_gives : meaning_step (marked_operations owner) objects mark state tt ≡ Ok (left (at_place (with_word state Rdi (Number 0x7010)) 7) tt)
-unfolding hindrance completed begins_of end_branch_at escaped_at row_at operated_at body_at instruction_at decoded numbered_body operation_of operand_body signed_of rex_at prefixes_at numbers_at named_register number_of condition_of fixed_row_of row_of escaped_row_of arithmetic_of shift_of group_action takes allowed displacement_size memory_in sib_at selectors_at fetch_of base_of index_of address_of plain_operations marked_operations register_of with_register start_of load_address act frame_of step_of meaning_step
+meaning_gives : meaning_step (marked_operations owner) objects mark nowhere state tt ≡ Ok (left (at_place (with_word state Rdi (Number 0x7010)) 7) tt)
+unfolding hindrance completed begins_of end_branch_at escaped_at row_at operated_at body_at instruction_at decoded numbered_body operation_of operand_body signed_of rex_at prefixes_at numbers_at named_register number_of condition_of fixed_row_of row_of escaped_row_of arithmetic_of shift_of group_action takes allowed displacement_size memory_in sib_at selectors_at fetch_of base_of index_of address_of plain_operations marked_operations register_of with_register start_of load_address act frame_of step_of meaning_step read_step reaches_linker next_touches touches_of touched
 meaning_gives = refl
 
 image_gives : step_of plain_operations image (λ place. false) state' tt ≡ Ok (left (at_place (with_word state' Rdi 0x7010) 7) tt)

@@ -1,9 +1,9 @@
 -- The image's step follows the meaning's, whatever numbers a linker writes into fields.
 use Rattle.std.proofs.Common.{◌≡◌, ℕ, zero, suc, ◌+◌, ◌-◌, ◌<◌, ◌≤◌, ◌⊎◌, inl, inr, Bool, true, false, ◌&&◌, ◌||◌, List, ◌++◌, length, take, drop, Option, Some, None, Err, refl, sym, ap, subst, ◌∙◌, append_assoc, arith}
 use Rattle.std.specs.Prelude.{if◌then◌else◌, nat_lt, nat_le, replicate}
-use Rattle.std.specs.List.{slice_get}
+use Rattle.std.specs.List.{list_any, slice_get}
 use Rattle.std.specs.Option.{option_or}
-use Rattle.std.proofs.lemmas.Bool.{eqb-true, and_parts, or_cases, leb-true, ltb-true, cases_lt}
+use Rattle.std.proofs.lemmas.Bool.{eqb-true, and_parts, or_cases, or_parts, leb-true, ltb-true, cases_lt}
 use Rattle.std.proofs.lemmas.List.{length-append, take-append-drop}
 use Rattle.std.proofs.Math.Seq.{take-length}
 use Rattle.amd64_subset.specs.declared.instr.Decoded.{Decoded}
@@ -11,20 +11,22 @@ use Rattle.amd64_subset.specs.Beginning.{begins_of}
 use Rattle.amd64_subset.specs.Decoding.{decoded}
 use Rattle.amd64_subset.specs.Spelling.{field_of}
 use Rattle.amd64_subset.proofs.Beginning.{none_lem}
-use Rattle.guest_machine.specs.declared.cause.Cause.{Cause}
-use Rattle.guest_machine.specs.declared.cause.Cause.TheVariants as cause
+use Rattle.guest_arithmetic.specs.declared.cause.Cause.{Cause}
+use Rattle.guest_arithmetic.specs.declared.cause.Cause.TheVariants as cause
 use Rattle.guest_machine.specs.declared.state.State.{State}
 use Rattle.guest_machine.specs.declared.stop.Stop.TheVariants.{Code}
-use Rattle.guest_machine.specs.Access.{Accesses, code_at, fetch_of}
+use Rattle.guest_machine.specs.Access.{Accesses, closed, code_at, fetch_of}
 use Rattle.guest_machine.specs.Follow.{Follows, Alike, IsFollowed, IsKept, SameState, SameFrame, SameAfter}
 use Rattle.guest_machine.specs.Step.{field_at, frame_of, act_if, step_of}
+use Rattle.guest_machine.specs.Touch.{touches_of, touches_if, next_touches, touched}
 use Rattle.guest_machine.specs.Use.{plus}
-use Rattle.guest_machine.specs.Values.{Operations}
+use Rattle.guest_arithmetic.specs.Values.{Operations}
 use Rattle.guest_machine.proofs.FollowRows.{act_follows}
+use Rattle.guest_machine.proofs.Touching.{Free, act-open}
 use Rattle.job_meaning.specs.declared.marks.Mark.{Mark}
 use Rattle.job_meaning.specs.declared.marks.Mark.TheVariants.{Usual, Field, Odd}
-use Rattle.job_meaning.specs.Code.{SameCode}
-use Rattle.job_meaning.specs.Reading.{place_at, completed, is_at, is_field, covers, hindrance_of, hindered, first_hindrance, hindrance, read_as, meaning_step}
+use Rattle.job_meaning.specs.Code.{SameCodeAt, SameCode}
+use Rattle.job_meaning.specs.Reading.{place_at, completed, is_at, is_field, covers, hindrance_of, hindered, first_hindrance, hindrance, read_as, read_step, beside_linker, reaches_linker, meaning_step}
 use Rattle.job_meaning.proofs.Fetch.{place-is, NotOdd, code-part, code-longer, code-as_long, code-usual}
 use Rattle.job_meaning.proofs.Lists.{same-take, get-tails, get-front, first_false}
 use Rattle.job_meaning.proofs.Reading.{placed_of, length_of, length-four, front-begins, spelled-more, spelled-less, picked, with_numbers, displaced, immediately, IsIn, field_place, InField, Agrees, exchanged}
@@ -208,7 +210,7 @@ module _ (mark : ℕ → Mark) (here : ℕ) where
 -- ** one step
 
 module _ {W F B W' F' B' : Type 0} (same : Alike W F B W' F' B') (ops : Operations W F B) (ops' : Operations W' F' B') (followed : IsFollowed same ops ops')
-    {M M' : Type 0} (acc : Accesses M B) (acc' : Accesses M' B') (Same : M → M' → Type 0) (kept : IsKept same acc acc' Same)
+    {M M' : Type 0} (acc : Accesses M B) (acc' : Accesses M' B') (Same : M → M' → Type 0) (shut : M → ℕ → Bool) (kept : IsKept same (closed shut acc) acc' Same)
     (mark : ℕ → Mark) (is_field' : ℕ → Bool) (none : (place : ℕ) → is_field' place ≡ false) (plain : (n : ℕ) → same.field None None n n) where
   abbrev FieldsAlike : ℕ → ℕ → ℕ → Type 0
   FieldsAlike place n n' = same.field (Some place) None n n'
@@ -226,7 +228,11 @@ module _ {W F B W' F' B' : Type 0} (same : Alike W F B W' F' B') (ops : Operatio
         | false ↦ λ e. plain n
       ]) refl)
 
-  module _ (s : State W F) (s' : State W' F') (m : M) (m' : M') (h : SameState same s s') (k : Same m m') (code : SameCode mark FieldsAlike acc acc' m m') where
+  module _ (s : State W F) (s' : State W' F') (m : M) (m' : M') (h : SameState same s s') (k : Same m m') (code : SameCode mark (shut m) FieldsAlike acc acc' m m')
+      (outside : shut m s.place ≡ false) (untouched : Free acc shut m (next_touches ops acc (is_field mark) s m)) where
+    near : SameCodeAt mark acc acc' m m' s.place 15
+    near = code.byte s.place outside
+
     abbrev read : List ℕ
     read = code_at acc m s.place 15
 
@@ -238,7 +244,7 @@ module _ {W F B W' F' B' : Type 0} (same : Alike W F B W' F' B') (ops : Operatio
         → FieldsAlike (plus s.place at) n (field_of (take 4 (drop at read')))
     field-alike n zero some within is marked = absurd (omega arith)
     field-alike n (suc at) some within is marked =
-        let longer : length read ≤ length read' = code-longer mark acc acc' m m' code.byte 15 s.place in
+        let longer : length read ≤ length read' = code-longer mark acc acc' m m' 15 s.place near in
         let place : place_at s.place (suc at) ≡ plus s.place (suc at) = place-is at s.place in
         let part : take 4 (drop (suc at) read) ≡ code_at acc m (plus s.place (suc at)) 4 =
         code-part acc m (suc at) 15 s.place within ∙ ap (λ p. code_at acc m p 4) place in
@@ -273,26 +279,42 @@ module _ {W F B W' F' B' : Type 0} (same : Alike W F B W' F' B') (ops : Operatio
 
       reads-same : (d : Decoded) → decoded read ≡ Some d
           → decoded read' ≡ Some (with_numbers (picked (field_in mark s.place d.disp) read' d.instr.displacement) (picked (field_in mark s.place d.imm) read' d.instr.immediate) d)
-      reads-same = reads mark s.place read read' (code-usual mark acc acc' m m' code.byte 15 s.place) (code-longer mark acc acc' m m' code.byte 15 s.place)
-          (λ even. code-as_long mark acc acc' m m' code.byte 15 s.place (λ short. even)) each-free
+      reads-same = reads mark s.place read read' (code-usual mark acc acc' m m' 15 s.place near) (code-longer mark acc acc' m m' 15 s.place near)
+          (λ even. code-as_long mark acc acc' m m' 15 s.place near (λ short. even)) each-free
 
       reads-none : decoded read ≡ None → decoded read' ≡ None
-      reads-none = reads_none mark s.place read read' (code-usual mark acc acc' m m' code.byte 15 s.place) (code-longer mark acc acc' m m' code.byte 15 s.place)
-          (λ even. code-as_long mark acc acc' m m' code.byte 15 s.place (λ short. even)) each-free
+      reads-none = reads_none mark s.place read read' (code-usual mark acc acc' m m' 15 s.place near) (code-longer mark acc acc' m m' 15 s.place near)
+          (λ even. code-as_long mark acc acc' m m' 15 s.place near (λ short. even)) each-free
+
+      touches : (d : Decoded) → decoded read ≡ Some d → Free acc shut m (touches_of ops (frame_of (is_field mark) s.place d) s d.instr.operation)
+      unfolding next_touches fetch_of
+      touches d e = subst (λ (o : Option Decoded). Free acc shut m (touches_if ops (is_field mark) o s)) e untouched
 
       acts : (o : Option Decoded) → decoded read ≡ o
           → Follows (SameAfter same Same) (act_if ops acc (is_field mark) o s m) (act_if ops' acc' is_field' (decoded (code_at acc' m' s'.place 15)) s' m')
       acts None e = rw (read-elsewhere None (reads-none e)) (ap (λ place. Err (Code place)) (sym h.place))
       acts (Some d) e =
-          rw (read-elsewhere _ (reads-same d e))
-          (act_follows same ops ops' followed acc acc' Same kept _ _ (frame-same d e) d.instr.operation s s' m m' h k)
+          rw (read-elsewhere _ (reads-same d e), ← act-open ops acc shut m (frame_of (is_field mark) s.place d) s d.instr.operation (touches d e))
+          (act_follows same ops ops' followed (closed shut acc) acc' Same kept _ _ (frame-same d e) d.instr.operation s s' m m' h k)
 
-    -- the law of one step
-    pub meaning_follows : Follows (SameAfter same Same) (meaning_step ops acc mark s m) (step_of ops' acc' is_field' s' m')
-    unfolding meaning_step step_of fetch_of
-    meaning_follows =
+    -- what is read
+    read_follows : Follows (SameAfter same Same) (read_step ops acc mark s m) (step_of ops' acc' is_field' s' m')
+    unfolding read_step step_of fetch_of
+    read_follows =
         (elim (hindrance mark s.place read) as (λ r. hindrance mark s.place read ≡ r
         → Follows (SameAfter same Same) (read_as ops acc mark r (decoded read) s m) (act_if ops' acc' is_field' (decoded (code_at acc' m' s'.place 15)) s' m')) [
           | None ↦ λ e. acts e (decoded read) refl
           | Some why ↦ λ e. tt
         ]) refl
+
+  -- the law of one step
+  pub meaning_follows : (s : State W F) (s' : State W' F') (m : M) (m' : M') → SameState same s s' → Same m m' → SameCode mark (shut m) FieldsAlike acc acc' m m'
+      → Follows (SameAfter same Same) (meaning_step ops acc mark (shut m) s m) (step_of ops' acc' is_field' s' m')
+  unfolding meaning_step reaches_linker
+  meaning_follows s s' m m' h k code =
+      let reaches = shut m s.place || list_any (shut m) (touched acc m (next_touches ops acc (is_field mark) s m)) in
+      (elim reaches as (λ b. reaches ≡ b → Follows (SameAfter same Same) (beside_linker b s.place (read_step ops acc mark s m)) (step_of ops' acc' is_field' s' m')) [
+        | true ↦ λ e. tt
+        | false ↦ λ e. let parts = or_parts (shut m s.place) (list_any (shut m) (touched acc m (next_touches ops acc (is_field mark) s m))) e in
+            read_follows s s' m m' h k code parts.0 parts.1
+      ]) refl

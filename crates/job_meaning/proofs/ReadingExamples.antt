@@ -10,7 +10,7 @@ use Rattle.amd64_subset.specs.Reading.{numbers_at}
 use Rattle.amd64_subset.specs.Register.{register_of, number_of}
 use Rattle.amd64_subset.specs.Row.{condition_of, fixed_row_of, row_of, escaped_row_of, arithmetic_of, shift_of, group_action, takes}
 use Rattle.amd64_subset.specs.Selectors.{allowed, displacement_size, memory_in, sib_at, selectors_at}
-use Rattle.guest_machine.specs.declared.cause.Cause.TheVariants as cause
+use Rattle.guest_arithmetic.specs.declared.cause.Cause.TheVariants as cause
 use Rattle.job_meaning.specs.declared.marks.Mark.{Mark}
 use Rattle.job_meaning.specs.declared.marks.Mark.TheVariants.{Usual, Field, Odd}
 use Rattle.job_meaning.specs.Reading.{completed, hindrance}
@@ -57,11 +57,6 @@ ends = refl
 no_instruction : hindrance (marks 0x3000 0x2002 (Odd cause.Inside)) 0x2000 (0x0f ∷ 0xff ∷ []) ≡ None
 unfolding hindrance completed begins_of end_branch_at escaped_at row_at operated_at body_at instruction_at decoded numbered_body operation_of operand_body signed_of rex_at prefixes_at numbers_at register_of number_of condition_of fixed_row_of row_of escaped_row_of arithmetic_of shift_of group_action takes allowed displacement_size memory_in sib_at selectors_at
 no_instruction = refl
-
--- the linker's own code
-linker : hindrance (marks 0x3000 0x2000 (Odd cause.Linker)) 0x2000 [] ≡ Some cause.Linker
-unfolding hindrance completed begins_of end_branch_at escaped_at row_at operated_at body_at instruction_at decoded numbered_body operation_of operand_body signed_of rex_at prefixes_at numbers_at register_of number_of condition_of fixed_row_of row_of escaped_row_of arithmetic_of shift_of group_action takes allowed displacement_size memory_in sib_at selectors_at
-linker = refl
 
 -- add $number, field(%rax): behind the field, which is the displacement, the number would lie in a sequence
 behind : hindrance (marks 0x2003 0x2008 (Odd cause.Inside)) 0x2000 (0x48 ∷ 0x81 ∷ 0x80 ∷ 0x10 ∷ 0 ∷ 0 ∷ 0 ∷ 0x01 ∷ []) ≡ Some cause.Inside

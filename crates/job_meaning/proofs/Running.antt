@@ -1,30 +1,23 @@
 -- Runs of the meaning are runs of the image.
 use Rattle.std.proofs.Common.{◌≡◌, ◌*◌, ◌≤◌, ℕ, ◌⊎◌, inl, inr, Bool, true, false, ◌==◌, [], Option, Some, None, Result, Ok, Err, refl, sym, ap, ◌∙◌, arith}
 use Rattle.std.specs.Prelude.{if◌then◌else◌}
-use Rattle.amd64_subset.specs.Beginning.{begins_of}
-use Rattle.amd64_subset.specs.Decoding.{row_at, instruction_at}
-use Rattle.amd64_subset.specs.Prefix.{rex_at, prefixes_at}
-use Rattle.guest_machine.specs.declared.cause.Cause.{Cause}
+use Rattle.guest_arithmetic.specs.declared.cause.Cause.{Cause}
 use Rattle.guest_machine.specs.declared.state.State.{State}
 use Rattle.guest_machine.specs.declared.stop.Stop.{Stop}
 use Rattle.guest_machine.specs.declared.stop.Stop.TheVariants.{Returned, Look, Address, Code, Unclean, Steps}
-use Rattle.guest_machine.specs.Access.{Accesses, fetch_of}
+use Rattle.guest_machine.specs.Access.{Accesses, closed}
 use Rattle.guest_machine.specs.Follow.{Uses, Follows, Alike, IsFollowed, IsKept, SameAfter}
 use Rattle.guest_machine.specs.Run.{Ends, Stepping, next_of, returned, is_look, machine, run}
 use Rattle.guest_machine.specs.Simulate.{IsUnclean, Advances, OverAlike, IsSimulated, SameOut}
 use Rattle.guest_machine.specs.Step.{step_of}
 use Rattle.guest_machine.specs.Use.{After}
-use Rattle.guest_machine.specs.Values.{Operations}
+use Rattle.guest_arithmetic.specs.Values.{Operations}
 use Rattle.job_meaning.specs.declared.marks.Mark.{Mark}
 use Rattle.job_meaning.specs.Code.{SameCode}
-use Rattle.job_meaning.specs.Reading.{hindrance, meaning_step}
+use Rattle.job_meaning.specs.Reading.{linker_with, read_step, reaches_linker, meaning_step}
 use Rattle.job_meaning.specs.Running.{asked, meaning, AreShut}
 use Rattle.guest_machine.proofs.Simulate.{same_run}
 use Rattle.job_meaning.proofs.Meaning.{meaning_follows}
-
-begins-nothing : begins_of [] ≡ true
-unfolding begins_of instruction_at prefixes_at rex_at row_at
-begins-nothing = refl
 
 asked-unclean : {A : Type 0} (place : ℕ) (r : Result A Stop) → IsUnclean (asked place r)
 asked-unclean place (Ok after) = tt
@@ -36,23 +29,23 @@ asked-unclean place (Err (Unclean at why)) = tt
 asked-unclean place (Err (Steps at)) = tt
 
 module _ {W F B W' F' B' : Type 0} (same : Alike W F B W' F' B') (ops : Operations W F B) (ops' : Operations W' F' B') (followed : IsFollowed same ops ops')
-    {M M' : Type 0} (acc : Accesses M B) (acc' : Accesses M' B') (Same : M → M' → Type 0) (kept : IsKept same acc acc' Same)
-    (mark : M → ℕ → Mark) (is_field' : M' → ℕ → Bool) (none : (m' : M') (place : ℕ) → is_field' m' place ≡ false) (plain : (n : ℕ) → same.field None None n n)
-    (shut : AreShut ops acc mark)
-    (code : (m : M) (m' : M') → Same m m' → SameCode (mark m) (λ place n n'. same.field (Some place) None n n') acc acc' m m') where
+    {M M' : Type 0} (acc : Accesses M B) (acc' : Accesses M' B') (Same : M → M' → Type 0) (mark : M → ℕ → Mark) (shut : M → ℕ → Bool) (kept : IsKept same (closed shut acc) acc' Same)
+    (is_field' : M' → ℕ → Bool) (none : (m' : M') (place : ℕ) → is_field' m' place ≡ false) (plain : (n : ℕ) → same.field None None n n)
+    (are_shut : AreShut shut)
+    (code : (m : M) (m' : M') → Same m m' → SameCode (mark m) (shut m) (λ place n n'. same.field (Some place) None n n') acc acc' m m') where
   abbrev Both : After W F M → After W' F' M' → Type 0
   Both = SameAfter same Same
 
   abbrev x : Stepping (After W F M)
-  x = meaning ops acc mark
+  x = meaning ops acc mark shut
 
   abbrev y : Stepping (After W' F' M')
   y = machine ops' acc' is_field'
 
   -- where the linker's functions are called the meaning is unclean
-  shut-unclean : (s : State W F) (m : M) → is_look s.place ≡ true → (why : Cause) × (meaning_step ops acc (mark m) s m ≡ Err (Unclean s.place why))
-  unfolding meaning_step fetch_of hindrance
-  shut-unclean s m look = let p = shut m s.place look in (p.0, rw (p.1.1, begins-nothing, p.1.0) refl)
+  shut-unclean : (s : State W F) (m : M) → is_look s.place ≡ true → (why : Cause) × (meaning_step ops acc (mark m) (shut m) s m ≡ Err (Unclean s.place why))
+  unfolding meaning_step reaches_linker
+  shut-unclean s m look = (linker_with (read_step ops acc (mark m) s m), rw (are_shut m s.place look) refl)
 
   returned-alike : (r r' : Result ℕ Cause) (p p' : ℕ) → Uses (λ m n. m ≡ n) r r' → IsUnclean (returned r p) ⊎ (◌≡◌ {A = Option Stop} (Some (returned r' p')) (Some (returned r p)))
   returned-alike (Ok a) (Ok b) p p' e = inr (ap (λ n. Some (Returned n)) (sym e))
@@ -89,7 +82,7 @@ module _ {W F B W' F' B' : Type 0} (same : Alike W F B W' F' B') (ops : Operatio
 
   spent-unclean : (s : After W F M) → IsUnclean (x.spent s)
   unfolding meaning
-  spent-unclean s = asked-unclean s.state.place (meaning_step ops acc (mark s.memory) s.state s.memory)
+  spent-unclean s = asked-unclean s.state.place (meaning_step ops acc (mark s.memory) (shut s.memory) s.state s.memory)
 
   module _ (Wait : After W F M → After W' F' M' → Type 0) where
     ends : (stop : Stop) (s : After W F M) (s' : After W' F' M') (r' : Result (After W' F' M') Stop) → Both s s' → y.over s' ≡ None → y.step s' ≡ next_of r'
@@ -110,10 +103,10 @@ module _ {W F B W' F' B' : Type 0} (same : Alike W F B W' F' B') (ops : Operatio
     step-same : (s : After W F M) (s' : After W' F' M') → Both s s' → x.over s ≡ None → Advances y Both Wait Both s (x.step s) s'
     unfolding meaning
     step-same s s' h on =
-        (elim (is_look s.state.place) as (λ c. is_look s.state.place ≡ c → Advances y Both Wait Both s (next_of (meaning_step ops acc (mark s.memory) s.state s.memory)) s') [
+        (elim (is_look s.state.place) as (λ c. is_look s.state.place ≡ c → Advances y Both Wait Both s (next_of (meaning_step ops acc (mark s.memory) (shut s.memory) s.state s.memory)) s') [
           | true ↦ λ e. let p = shut-unclean s.state s.memory e in rw p.1 (inl tt)
           | false ↦ λ e. advances s s' _ (step_of ops' acc' (is_field' s'.memory) s'.state s'.memory) h (not-over s s' h on) (machine-steps s s' h e)
-              (meaning_follows same ops ops' followed acc acc' Same kept (mark s.memory) (is_field' s'.memory) (none s'.memory) plain s.state s'.state s.memory s'.memory h.state h.memory (code s.memory s'.memory h.memory))
+              (meaning_follows same ops ops' followed acc acc' Same shut kept (mark s.memory) (is_field' s'.memory) (none s'.memory) plain s.state s'.state s.memory s'.memory h.state h.memory (code s.memory s'.memory h.memory))
         ]) refl
 
     -- the law of runs

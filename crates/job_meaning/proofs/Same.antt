@@ -2,11 +2,11 @@
 use Rattle.std.proofs.Common.{◌≡◌, ℕ, zero, suc, ◌+◌, ◌%◌, ◌^◌, ◌<◌, Bool, true, false, ◌&&◌, ◌==◌, List, [], ◌∷◌, length, Option, Some, None, Ok, Err, refl, sym, ap, arith}
 use Rattle.std.specs.Prelude.{if◌then◌else◌}
 use Rattle.std.proofs.lemmas.Bool.{eqb-true, and_parts}
-use Rattle.guest_machine.specs.declared.cause.Cause.TheVariants as cause
+use Rattle.guest_arithmetic.specs.declared.cause.Cause.TheVariants as cause
 use Rattle.guest_machine.specs.Follow.{Uses, All2, IsFollowed}
 use Rattle.guest_machine.specs.Operand.{moved_by}
-use Rattle.guest_machine.specs.Plain.{plain_operations}
-use Rattle.guest_machine.specs.Values.{number_from, digit}
+use Rattle.guest_arithmetic.specs.Plain.{plain_operations}
+use Rattle.guest_arithmetic.specs.Values.{number_from, digit}
 use Rattle.job_meaning.specs.declared.values.Block.{Block}
 use Rattle.job_meaning.specs.declared.values.Token.{Token}
 use Rattle.job_meaning.specs.declared.values.Token.TheVariants.{Base, Descriptor}

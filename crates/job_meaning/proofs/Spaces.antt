@@ -7,7 +7,7 @@ use Rattle.guest_machine.specs.declared.space.Access.TheVariants.{Read, Write, R
 use Rattle.guest_machine.specs.Access.{Refusal, Refused, reached}
 use Rattle.guest_machine.specs.Follow.{Reaches, All2, Alike, IsKept}
 use Rattle.guest_machine.specs.Ranges.{Range, allows, holds, grants, byte_in, with_byte, range_accesses}
-use Rattle.guest_machine.specs.Values.{Operations}
+use Rattle.guest_arithmetic.specs.Values.{Operations}
 use Rattle.job_meaning.specs.Spaces.{SameRange, SameSpace}
 
 -- ** rights to write

@@ -6,19 +6,17 @@ use Rattle.std.proofs.lemmas.List.{length-take-le}
 use Rattle.amd64_subset.specs.declared.instr.Decoded.{Decoded}
 use Rattle.amd64_subset.specs.Beginning.{begins_of}
 use Rattle.amd64_subset.specs.Decoding.{decoded}
-use Rattle.guest_machine.specs.declared.cause.Cause.{Cause}
+use Rattle.guest_arithmetic.specs.declared.cause.Cause.{Cause}
 use Rattle.guest_machine.specs.declared.state.State.{State}
 use Rattle.guest_machine.specs.Access.{Accesses, code_at, fetch_of}
-use Rattle.guest_machine.specs.Follow.{Follows, Alike, IsFollowed, IsKept, SameState, SameAfter}
 use Rattle.guest_machine.specs.Step.{field_at, frame_of, act, act_if, step_of}
 use Rattle.guest_machine.specs.Use.{plus}
-use Rattle.guest_machine.specs.Values.{Operations}
+use Rattle.guest_arithmetic.specs.Values.{Operations}
 use Rattle.job_meaning.specs.declared.marks.Mark.{Mark}
 use Rattle.job_meaning.specs.declared.marks.Mark.TheVariants.{Usual, Field, Odd}
 use Rattle.job_meaning.specs.Code.{AreUsual}
-use Rattle.job_meaning.specs.Reading.{starts_field, place_at, completed, is_field, hindrance_of, hindered, first_hindrance, hindrance, meaning_step}
+use Rattle.job_meaning.specs.Reading.{starts_field, place_at, completed, is_field, hindrance_of, hindered, first_hindrance, hindrance, read_step, reaches_linker, meaning_step}
 use Rattle.job_meaning.proofs.Fetch.{place-is, code-length}
-use Rattle.job_meaning.proofs.Meaning.{meaning_follows}
 use Rattle.job_meaning.proofs.Reading.{placed_of, field_place}
 
 module _ (mark : ℕ → Mark) (here : ℕ) (usual : AreUsual mark here) where
@@ -77,22 +75,14 @@ module _ {W F B M : Type 0} (ops : Operations W F B) (acc : Accesses M B) (mark 
   acts-plain bytes None e = refl
   acts-plain bytes (Some d) e = ap (λ f. act ops acc f d.instr.operation s m) (frame-plain mark s.place usual bytes d e)
 
-  -- the law of usual code
-  pub usual_step : meaning_step ops acc mark s m ≡ step_of ops acc (λ place. false) s m
-  unfolding meaning_step step_of fetch_of
-  usual_step =
+  usual_read : read_step ops acc mark s m ≡ step_of ops acc (λ place. false) s m
+  unfolding read_step step_of fetch_of
+  usual_read =
       let bytes = code_at acc m s.place 15 in
       let none : hindrance mark s.place bytes ≡ None = free mark s.place usual bytes (code-length acc m 15 s.place) in
       rw none (acts-plain bytes (decoded bytes) refl)
 
-module _ {W F B W' F' B' : Type 0} (same : Alike W F B W' F' B') (ops : Operations W F B) (ops' : Operations W' F' B') (followed : IsFollowed same ops ops')
-    {M M' : Type 0} (acc : Accesses M B) (acc' : Accesses M' B') (Same : M → M' → Type 0) (kept : IsKept same acc acc' Same)
-    (mark : ℕ → Mark) (is_field' : ℕ → Bool) (none : (place : ℕ) → is_field' place ≡ false) (plain : (n : ℕ) → same.field None None n n)
-    (s : State W F) (s' : State W' F') (m : M) (m' : M') (h : SameState same s s') (k : Same m m') (usual : AreUsual mark s.place) where
-  -- the law of usual code that is the same in both
-  pub plain_follows : ((place : ℕ) → acc'.code m' place ≡ acc.code m place) → Follows (SameAfter same Same) (meaning_step ops acc mark s m) (step_of ops' acc' is_field' s' m')
-  plain_follows code =
-      let one : meaning_step ops acc mark s m ≡ meaning_step ops acc (λ place. Usual) s m =
-      usual_step ops acc mark s m usual ∙ sym (usual_step ops acc (λ place. Usual) s m (λ j low. refl)) in
-      rw one (meaning_follows same ops ops' followed acc acc' Same kept (λ place. Usual) is_field' none plain s s' m m' h k
-      (record { byte = code; field = λ place marked four. absurd (cc) }))
+  -- the law of usual code
+  pub usual_step : (shut : ℕ → Bool) → reaches_linker ops acc mark shut s m ≡ false → meaning_step ops acc mark shut s m ≡ step_of ops acc (λ place. false) s m
+  unfolding meaning_step
+  usual_step shut none = rw none usual_read

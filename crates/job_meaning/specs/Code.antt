@@ -1,5 +1,5 @@
 -- What code of the meaning is in an image: the same bytes, but for fields and odd places.
-use Rattle.std.specs.Prelude.{◌≡◌, ◌<◌, ℕ, true, length, Option, Some, None}
+use Rattle.std.specs.Prelude.{◌≡◌, ◌<◌, ℕ, Bool, true, false, length, Option, Some, None}
 use Rattle.amd64_subset.specs.Spelling.{field_of}
 use Rattle.guest_machine.specs.Access.{Accesses, code_at}
 use Rattle.job_meaning.specs.declared.marks.Mark.{Mark}
@@ -16,9 +16,15 @@ SameCodeByte (Odd why) None a' = Unit {0}
 SameCodeByte (Odd why) (Some a) None = ⊥
 SameCodeByte (Odd why) (Some a) (Some a') = Unit {0}
 
+-- what an instruction that begins at a place may be read from
+module _ {M M' B B' : Type 0} (mark : ℕ → Mark) (acc : Accesses M B) (acc' : Accesses M' B') (m : M) (m' : M') where
+  abbrev pub SameCodeAt : ℕ → ℕ → Type 0
+  SameCodeAt place size = (k : ℕ) → k < size → SameCodeByte (mark (place_at place k)) (acc.code m (place_at place k)) (acc'.code m' (place_at place k))
+
+-- shut: the linker's own, where no instruction of the program begins, so only what one can reach that begins elsewhere counts
 -- SameField: what a field at a place has to do with what stands there in the image
-pub record SameCode {M M' B B' : Type 0} (mark : ℕ → Mark) (SameField : ℕ → ℕ → ℕ → Type 0) (acc : Accesses M B) (acc' : Accesses M' B') (m : M) (m' : M') : Type 0 where
-  pub byte : (place : ℕ) → SameCodeByte (mark place) (acc.code m place) (acc'.code m' place)
+pub record SameCode {M M' B B' : Type 0} (mark : ℕ → Mark) (shut : ℕ → Bool) (SameField : ℕ → ℕ → ℕ → Type 0) (acc : Accesses M B) (acc' : Accesses M' B') (m : M) (m' : M') : Type 0 where
+  pub byte : (here : ℕ) → shut here ≡ false → SameCodeAt mark acc acc' m m' here 15
   -- a field that stands there whole
   pub field : (place : ℕ) → starts_field (mark place) ≡ true → length (code_at acc m place 4) ≡ 4
       → SameField place (field_of (code_at acc m place 4)) (field_of (code_at acc' m' place 4))

@@ -1,8 +1,8 @@
 -- Marked values: what only the linker knows is a token, which may be carried and is no number.
 use Rattle.std.specs.Prelude.{ℕ, ◌+◌, ◌%◌, ◌^◌, ◌==◌, ◌&&◌, Bool, false, List, [], ◌∷◌, Option, Some, None, Result, Ok, Err, if◌then◌else◌}
-use Rattle.guest_machine.specs.declared.cause.Cause.{Cause}
-use Rattle.guest_machine.specs.declared.cause.Cause.TheVariants as cause
-use Rattle.guest_machine.specs.Values.{Operations, number_from, digit}
+use Rattle.guest_arithmetic.specs.declared.cause.Cause.{Cause}
+use Rattle.guest_arithmetic.specs.declared.cause.Cause.TheVariants as cause
+use Rattle.guest_arithmetic.specs.Values.{Operations, number_from, digit}
 use Rattle.job_meaning.specs.declared.values.Block.{Block}
 use Rattle.job_meaning.specs.declared.values.Token.{Token}
 use Rattle.job_meaning.specs.declared.values.Token.TheVariants.{Base, Descriptor}

@@ -1,8 +1,8 @@
 -- Marked values keep the laws of values.
 use Rattle.std.proofs.Common.{◌≡◌, ℕ, ◌%◌, ◌^◌, ◌<◌, Bool, List, [], ◌∷◌, map, Some, Ok, refl, ap, arith}
-use Rattle.guest_machine.specs.Plain.{plain_operations}
-use Rattle.guest_machine.specs.PlainLaws.{plain_laws}
-use Rattle.guest_machine.specs.Values.{IsLawful}
+use Rattle.guest_arithmetic.specs.Plain.{plain_operations}
+use Rattle.guest_arithmetic.specs.PlainLaws.{plain_laws}
+use Rattle.guest_arithmetic.specs.Values.{IsLawful}
 use Rattle.job_meaning.specs.declared.values.Word.{Word}
 use Rattle.job_meaning.specs.declared.values.Word.TheVariants.{Number, Undefined, Marked}
 use Rattle.job_meaning.specs.declared.values.Flag.{Flag}

@@ -1,18 +1,21 @@
 -- How the meaning reads an instruction, where code has fields that only the linker knows and places that are not the program's.
 use Rattle.std.specs.Prelude.{ℕ, zero, suc, ◌+◌, ◌-◌, ◌==◌, ◌&&◌, ◌||◌, Bool, false, List, ◌++◌, length, take, replicate, nat_lt, nat_le, Option, Some, None, Result, Err, if◌then◌else◌}
+use Rattle.std.specs.List.{list_any}
 use Rattle.std.specs.Option.{option_or}
 use Rattle.amd64_subset.specs.declared.instr.Decoded.{Decoded}
 use Rattle.amd64_subset.specs.Beginning.{begins_of}
 use Rattle.amd64_subset.specs.Decoding.{decoded}
-use Rattle.guest_machine.specs.declared.cause.Cause.{Cause}
-use Rattle.guest_machine.specs.declared.cause.Cause.TheVariants as cause
+use Rattle.guest_arithmetic.specs.declared.cause.Cause.{Cause}
+use Rattle.guest_arithmetic.specs.declared.cause.Cause.TheVariants as cause
 use Rattle.guest_machine.specs.declared.state.State.{State}
 use Rattle.guest_machine.specs.declared.stop.Stop.{Stop}
 use Rattle.guest_machine.specs.declared.stop.Stop.TheVariants.{Unclean}
 use Rattle.guest_machine.specs.Access.{Accesses, next_place, fetch_of}
 use Rattle.guest_machine.specs.Step.{act_if}
+use Rattle.guest_machine.specs.Touch.{next_touches, touched}
 use Rattle.guest_machine.specs.Use.{After, plus}
-use Rattle.guest_machine.specs.Values.{Operations}
+use Rattle.guest_arithmetic.specs.Cause.{first_cause}
+use Rattle.guest_arithmetic.specs.Values.{Operations}
 use Rattle.job_meaning.specs.declared.marks.Mark.{Mark}
 use Rattle.job_meaning.specs.declared.marks.Mark.TheVariants.{Usual, Field, Odd}
 
@@ -64,12 +67,31 @@ module _ (mark : ℕ → Mark) where
   unfoldable pub hindrance : ℕ → List ℕ → Option Cause
   hindrance here bytes = first_hindrance here bytes 0 (length bytes)
 
+-- what a step's cause is that reaches for what is the linker's: of two the one that comes first
+abbrev pub linker_with : {A : Type 0} → Result A Stop → Cause
+linker_with (Err (Unclean at why)) = first_cause why cause.Linker
+linker_with other = cause.Linker
+
+abbrev pub beside_linker : {A : Type 0} → Bool → ℕ → Result A Stop → Result A Stop
+beside_linker reaches here step = if reaches then Err (Unclean here (linker_with step)) else step
+
 module _ {W F B M : Type 0} (ops : Operations W F B) (acc : Accesses M B) (mark : ℕ → Mark) where
   abbrev pub read_as : Option Cause → Option Decoded → State W F → M → Result (After W F M) Stop
   read_as None it state memory = act_if ops acc (is_field mark) it state memory
   read_as (Some why) it state memory = Err (Unclean state.place why)
 
-  -- one step of the meaning, where no sequence begins: the instruction is read from bytes that are not odd
-  unfoldable pub meaning_step : State W F → M → Result (After W F M) Stop
-  meaning_step state memory =
+  -- one step where no sequence begins: the instruction is read from bytes that are not odd
+  unfoldable pub read_step : State W F → M → Result (After W F M) Stop
+  read_step state memory =
       read_as (hindrance mark state.place (fetch_of acc memory state.place)) (decoded (fetch_of acc memory state.place)) state memory
+
+  -- shut: the places that are the linker's own
+  module _ (shut : ℕ → Bool) where
+    -- whether an instruction begins there, or touches a data byte there
+    unfoldable pub reaches_linker : State W F → M → Bool
+    reaches_linker state memory =
+        shut state.place || list_any shut (touched acc memory (next_touches ops acc (is_field mark) state memory))
+
+    -- one step of the meaning
+    unfoldable pub meaning_step : State W F → M → Result (After W F M) Stop
+    meaning_step state memory = beside_linker (reaches_linker state memory) state.place (read_step state memory)

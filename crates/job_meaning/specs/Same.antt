@@ -2,7 +2,7 @@
 -- what is unknown nothing is said.
 use Rattle.std.specs.Prelude.{◌≡◌, ℕ, ◌+◌, ◌%◌, ◌^◌, ◌<◌, Bool, Option, Some, None}
 use Rattle.guest_machine.specs.Follow.{Alike}
-use Rattle.guest_machine.specs.Values.{digit}
+use Rattle.guest_arithmetic.specs.Values.{digit}
 use Rattle.job_meaning.specs.declared.values.Token.{Token}
 use Rattle.job_meaning.specs.declared.values.Token.TheVariants.{Base, Descriptor}
 use Rattle.job_meaning.specs.declared.values.Word.{Word}

@@ -1,12 +1,12 @@
 //! Laws of the meaning. The functions do nothing: what they ensure is the law.
 //!
 //! The laws over any values and any memory are the lemmas `meaning_follows` of `proofs/Meaning.antt` and
-//! `usual_step` and `plain_follows` of `proofs/Usual.antt`.
+//! `usual_step` of `proofs/Usual.antt`.
 
 ghost use Rattle.std.specs.Prelude.{ℕ};
 ghost use Rattle.guest_machine.specs.Follow.{IsFollowed};
-ghost use Rattle.guest_machine.specs.Plain.{plain_operations};
-ghost use Rattle.guest_machine.specs.Values.{IsLawful};
+ghost use Rattle.guest_arithmetic.specs.Plain.{plain_operations};
+ghost use Rattle.guest_arithmetic.specs.Values.{IsLawful};
 ghost use Rattle.job_meaning.specs.Laws.{UsualCode, StepFollows};
 ghost use Rattle.job_meaning.specs.Marked.{marked_operations};
 ghost use Rattle.job_meaning.specs.Same.{same};
@@ -21,7 +21,8 @@ pub fn values_follow()
     ensures { (start : ℕ → ℕ → ℕ) (owner : ℕ → ℕ) (base given : ℕ → ℕ → ℕ) → IsFollowed (same start owner base given) (marked_operations owner) plain_operations }
 {}
 
-/// Where code is usual, the meaning's step is the machine's over marked values.
+/// Where code is usual, the meaning's step is the machine's over marked values, unless it reaches for
+/// what is the linker's.
 pub fn usual_code()
     ensures { UsualCode }
 {}

@@ -19,11 +19,18 @@
 //! the meaning: it is where the meaning's own block lies.
 //!
 //! **Code is marked.** A place of code is a usual one, or it is part of a field whose number the linker
-//! writes, or it is odd: part of a sequence that the linker may rewrite, or the linker's own. An
+//! writes, or it is odd: part of a sequence that the linker may rewrite. An
 //! instruction is read from usual bytes, and from a field where it is its displacement or its
 //! immediate: `48 8d b8` and then a field is `lea x@dtpoff(%rax), %rdi`. What begins an instruction
 //! and needs other bytes for its end is unclean; what no further byte makes an instruction stops with
 //! `Code`, as on the processor.
+//!
+//! **Some places are the linker's own**: where it may put tables, and where `__tls_get_addr` is called. A
+//! step whose instruction begins there, or that touches a data byte there, is unclean with the cause
+//! `Linker`, whatever it would use: of several causes the first is given. Its data bytes are those of its
+//! accesses in their order, up to the first that is refused. An instruction that begins elsewhere and would
+//! go on there has no more bytes than are loaded: `48`, a REX prefix, as the last byte of all code stops with
+//! `Code`.
 //!
 //! **The laws** (`laws`) say that marked values keep what a machine asks of its values, and that the
 //! machine over plain numbers does to an image what the meaning's clean step does to the objects. What

@@ -1,13 +1,13 @@
 ghost use Rattle.std.specs.Prelude.{◌≡◌, ◌+◌, ◌%◌, ◌^◌, ◌≤◌, ◌++◌, length};
 ghost use Rattle.std.specs.Option.{option_map};
-ghost use Rattle.guest_machine.specs.Four.{bytes_of};
-ghost use Rattle.guest_machine.specs.Values.{number_from};
+ghost use Rattle.guest_arithmetic.specs.Four.{bytes_of};
+ghost use Rattle.guest_arithmetic.specs.Values.{number_from};
 ghost use Rattle.job_meaning.specs.Marked.{marked_operations, is_same_block, is_same, cause_of, values_of, are_parts, whole, joined_as};
 ghost use Rattle.job_meaning.specs.MarkedLaws.{marked_lawful};
 ghost use Rattle.job_meaning.specs.Owner.{owner_at};
 
 use crate::values::{Block, Byte, Flag, Token, Word};
-use guest_machine::{Cause, Four, Values};
+use guest_arithmetic::{Cause, Four, Values};
 
 /// Marked values, for a machine that finds out whether a program is clean.
 pub struct MarkedValues;

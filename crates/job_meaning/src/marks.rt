@@ -1,4 +1,6 @@
-use guest_machine::Cause;
+//! What a place of code is.
+
+use guest_arithmetic::Cause;
 
 /// What a place of code is.
 #[derive(Clone, Copy, PartialEq, Eq, Debug)]
@@ -7,7 +9,6 @@ pub enum Mark {
     Usual,
     /// One of the four bytes of a field, byte 0 to 3, whose number only the linker knows.
     Field(u8),
-    /// No byte of the program's own: part of a sequence that a linker may rewrite, or the linker's.
-    /// With the cause that a step has which would read it.
+    /// Part of a sequence that a linker may rewrite, with the cause of a step that would read it.
     Odd(Cause),
 }

@@ -1,5 +1,5 @@
 use crate::{Block, MarkedValues, Token, Word};
-use guest_machine::{Cause, Four, Values};
+use guest_arithmetic::{Cause, Four, Values};
 
 /// A word as it is stored and loaded again.
 fn stored_and_loaded<V: Values>(word: V::Word) -> V::Word {

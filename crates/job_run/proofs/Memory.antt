@@ -1,13 +1,13 @@
 -- The meaning's memory and the machine's: byte by byte the same, also under writes, and as code the same but where the linker's own stands.
 use Rattle.std.proofs.Common.{◌≡◌, ℕ, Bool, true, false, List, [], ◌∷◌, ◌++◌, Option, Some, None, refl, sym, ap, ◌∙◌, arith}
 use Rattle.std.specs.Prelude.{if◌then◌else◌, option_and_then}
-use Rattle.guest_machine.specs.declared.cause.Cause.{Cause}
-use Rattle.guest_machine.specs.declared.cause.Cause.TheVariants.{Linker}
+use Rattle.guest_arithmetic.specs.declared.cause.Cause.{Cause}
+use Rattle.guest_arithmetic.specs.declared.cause.Cause.TheVariants.{Linker}
 use Rattle.guest_machine.specs.declared.space.Access.{Access}
 use Rattle.guest_machine.specs.declared.space.Access.TheVariants.{Read, Write, Run}
 use Rattle.guest_machine.specs.Access.{Accesses}
 use Rattle.guest_machine.specs.Follow.{All2, IsKept}
-use Rattle.guest_machine.specs.Plain.{plain_operations}
+use Rattle.guest_arithmetic.specs.Plain.{plain_operations}
 use Rattle.guest_machine.specs.Ranges.{Range, byte_in, grants, with_byte}
 use Rattle.job_meaning.specs.declared.marks.Mark.TheVariants.{Usual, Odd}
 use Rattle.job_meaning.specs.declared.values.Byte.{Byte}

@@ -1,7 +1,7 @@
 -- What the machine's threads say of their lines is what these mean.
 use Rattle.std.proofs.Common.{◌≡◌, ℕ, suc, ◌*◌, Bool, List, [], ◌∷◌, Option, Some, None, refl, inl, inr, arith}
 use Rattle.guest_machine.specs.Follow.{All2, Alike, IsFollowed, SameAfter}
-use Rattle.guest_machine.specs.Plain.{plain_operations}
+use Rattle.guest_arithmetic.specs.Plain.{plain_operations}
 use Rattle.guest_machine.specs.Run.{machine}
 use Rattle.guest_machine.specs.Simulate.{IsSimulated}
 use Rattle.job_meaning.specs.declared.values.Byte.{Byte}

@@ -1,6 +1,6 @@
 -- Lines that call a function, as the meaning has them: over marked values, and with places that are the linker's own.
 use Rattle.std.specs.Prelude.{ℕ, ◌+◌, ◌^◌, ◌&&◌, ◌||◌, Bool, List, [], ◌∷◌, nat_le, nat_lt, None, if◌then◌else◌}
-use Rattle.guest_machine.specs.declared.cause.Cause.TheVariants.{Linker}
+use Rattle.guest_arithmetic.specs.declared.cause.Cause.TheVariants.{Linker}
 use Rattle.guest_machine.specs.Access.{Accesses}
 use Rattle.guest_machine.specs.Run.{is_look}
 use Rattle.guest_machine.specs.Use.{After}

@@ -6,7 +6,7 @@ use Rattle.guest_machine.specs.Follow.{All2, Alike, IsFollowed, SameState}
 use Rattle.guest_machine.specs.Ranges.{byte_in}
 use Rattle.guest_machine.specs.State.{start_of}
 use Rattle.guest_machine.specs.Use.{After}
-use Rattle.guest_machine.specs.Values.{Operations}
+use Rattle.guest_arithmetic.specs.Values.{Operations}
 use Rattle.thread_blocks.specs.MachineTurns.{stack_size, stack_end, return_place, pointer_of, zeros, word_bytes, fresh_stack, pointer_word, Loaded, fixed_of, CallLine, begun_call, begin_call, thread_start, SameRun, SameRest}
 use Rattle.thread_blocks.specs.Spaces.{Space, FoundAlike, SameRange}
 use Rattle.thread_blocks.specs.TurnsAlike.{SameBegun}

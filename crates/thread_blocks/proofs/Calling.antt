@@ -5,7 +5,7 @@ use Rattle.guest_machine.specs.declared.state.State.{State}
 use Rattle.guest_machine.specs.declared.stop.Stop.{Stop}
 use Rattle.guest_machine.specs.declared.stop.Stop.TheVariants.{Address}
 use Rattle.guest_machine.specs.Machine.{Standing}
-use Rattle.guest_machine.specs.Plain.{plain_operations}
+use Rattle.guest_arithmetic.specs.Plain.{plain_operations}
 use Rattle.guest_machine.specs.Ranges.{Range, AddressSpace}
 use Rattle.guest_machine.specs.Run.{Outcome, Ended, Waits, Stepping, run, machine, machine_of, stop_of, state_after, Runs}
 use Rattle.guest_machine.specs.State.{start_of}

@@ -4,14 +4,14 @@ use Rattle.std.specs.Prelude.{if◌then◌else◌}
 use Rattle.guest_machine.specs.declared.stop.Stop.{Stop}
 use Rattle.guest_machine.specs.declared.stop.Stop.TheVariants.{Address}
 use Rattle.guest_machine.specs.Access.{Accesses}
-use Rattle.guest_machine.specs.Plain.{plain_operations}
+use Rattle.guest_arithmetic.specs.Plain.{plain_operations}
 use Rattle.guest_machine.specs.Run.{Next, Goes, Ends, Looks, Outcome, Ended, Waits, Stepping, over_or, go_on, run, machine, machine_of, is_look, next_of, stop_of, Runs}
 use Rattle.guest_machine.specs.Ranges.{AddressSpace}
 use Rattle.guest_machine.specs.Machine.{Standing}
 use Rattle.guest_machine.specs.State.{start_of}
 use Rattle.guest_machine.specs.Step.{step_of}
 use Rattle.guest_machine.specs.Use.{After, left}
-use Rattle.guest_machine.specs.Values.{Operations}
+use Rattle.guest_arithmetic.specs.Values.{Operations}
 use Rattle.thread_blocks.specs.Spaces.{NoneWritable}
 use Rattle.thread_blocks.specs.MachineTurns.{Loaded, alone_next, alone, fixed_of, stack_end, pointer_of, call_start}
 

@@ -8,7 +8,7 @@ use Rattle.guest_machine.specs.Follow.{All2, Reaches, Alike, IsKept}
 use Rattle.guest_machine.specs.Ranges.{Range, grants, byte_in, with_byte, range_accesses, is_field_of}
 use Rattle.guest_machine.specs.Run.{run, machine, machine_of}
 use Rattle.guest_machine.specs.Use.{After}
-use Rattle.guest_machine.specs.Values.{Operations}
+use Rattle.guest_arithmetic.specs.Values.{Operations}
 use Rattle.thread_blocks.specs.Spaces.{Space, stack_range, ranges_of, address_space_of, put_byte, unless_shut, space_accesses, open_everywhere, no_field, NoneWritable, IsImage, after_of, outcome_image, IsRunImage, FoundAlike, SameRange, SameSpace}
 use Rattle.thread_blocks.proofs.Image.{machine_image, run_image}
 

@@ -1,6 +1,6 @@
 -- A thread's memory from call to call.
 use Rattle.std.specs.Prelude.{◌≡◌, ℕ, Bool, List, [], ◌∷◌, ◌++◌, length, Option, Some, None}
-use Rattle.guest_machine.specs.Plain.{plain_operations}
+use Rattle.guest_arithmetic.specs.Plain.{plain_operations}
 use Rattle.guest_machine.specs.Ranges.{Range, AddressSpace}
 use Rattle.guest_machine.specs.Use.{After}
 use Rattle.module_table.specs.declared.events.Event.{Event}

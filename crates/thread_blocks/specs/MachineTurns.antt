@@ -5,12 +5,12 @@ use Rattle.guest_machine.specs.declared.stop.Stop.{Stop}
 use Rattle.guest_machine.specs.declared.stop.Stop.TheVariants.{Returned, Look, Address, Code, Unclean, Steps}
 use Rattle.guest_machine.specs.Access.{bytes_from}
 use Rattle.guest_machine.specs.Follow.{All2, Alike, SameAfter}
-use Rattle.guest_machine.specs.Plain.{plain_operations}
+use Rattle.guest_arithmetic.specs.Plain.{plain_operations}
 use Rattle.guest_machine.specs.Ranges.{Range}
 use Rattle.guest_machine.specs.Run.{Next, Goes, Ends, Looks, Stepping, machine}
 use Rattle.guest_machine.specs.State.{start_of}
 use Rattle.guest_machine.specs.Use.{After, left}
-use Rattle.guest_machine.specs.Values.{Operations}
+use Rattle.guest_arithmetic.specs.Values.{Operations}
 use Rattle.transcript_text.specs.declared.outcomes.Line.{Line}
 use Rattle.transcript_text.specs.declared.outcomes.LineFault.TheVariants.{Address as AddressFault, Code as CodeFault, Steps as StepsFault}
 use Rattle.transcript_text.specs.declared.outcomes.Outcome.{Outcome as Answer}

@@ -1,7 +1,7 @@
 -- What the parts of a linked executable are in a thread's memory.
 use Rattle.std.specs.Prelude.{◌≡◌, ℕ, ◌-◌, true, false, List, [], ◌∷◌, ◌++◌, length, map, Option, Some, None}
 use Rattle.guest_machine.specs.Ranges.{Range}
-use Rattle.guest_machine.specs.Plain.{plain_operations}
+use Rattle.guest_arithmetic.specs.Plain.{plain_operations}
 use Rattle.module_table.specs.declared.events.Event.{Event}
 use Rattle.transcript_text.specs.declared.outcomes.Outcome.{Outcome}
 use Rattle.thread_blocks.specs.declared.parts.Part.{Part}

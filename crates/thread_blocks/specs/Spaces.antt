@@ -7,7 +7,7 @@ use Rattle.guest_machine.specs.Follow.{All2}
 use Rattle.guest_machine.specs.Ranges.{Range, AddressSpace, grants, byte_in, with_byte}
 use Rattle.guest_machine.specs.Run.{Next, Goes, Ends, Looks, Outcome, Ended, Waits, Stepping}
 use Rattle.guest_machine.specs.Use.{After, left}
-use Rattle.guest_machine.specs.Values.{Operations}
+use Rattle.guest_arithmetic.specs.Values.{Operations}
 
 -- E: an event, B: a byte
 pub record Space (E B : Type 0) : Type 0 where

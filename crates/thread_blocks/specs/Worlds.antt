@@ -1,6 +1,6 @@
 -- All threads of a job whose lines call functions, as the machine runs them.
 use Rattle.std.specs.Prelude.{ℕ, suc, ◌*◌, Bool, List, [], ◌∷◌, map, Option, None}
-use Rattle.guest_machine.specs.Plain.{plain_operations}
+use Rattle.guest_arithmetic.specs.Plain.{plain_operations}
 use Rattle.guest_machine.specs.Use.{After}
 use Rattle.module_table.specs.declared.events.Event.{Event}
 use Rattle.thread_blocks.specs.MachineTurns.{Loaded, CallLine, machine_turns, thread_start}

@@ -1,7 +1,7 @@
 //! The parts of a thread's memory.
 
 ghost use Rattle.std.specs.Prelude.{◌≡◌, ◌≤◌, [], IfOk};
-ghost use Rattle.guest_machine.specs.Plain.{plain_operations};
+ghost use Rattle.guest_arithmetic.specs.Plain.{plain_operations};
 ghost use Rattle.thread_blocks.specs.MachineTurns.{pointer_of, stack_start, stack_end, zeros, word_bytes, fresh_stack, pointer_word};
 ghost use Rattle.thread_blocks.specs.Parts.{block_bytes, block_range, call_ranges, code_range, constant_range};
 ghost use Rattle.thread_blocks.specs.Calling.{behind_stack};
@@ -59,7 +59,7 @@ fn zeros(alloc: Global, count: usize) -> Result<Vec<u8>, AllocError>
 }
 
 /// The eight bytes of a number.
-#[tactic(auto, unfolding(guest_machine::specs::Plain::plain_operations))]
+#[tactic(auto, unfolding(guest_arithmetic::specs::Plain::plain_operations))]
 fn bytes_of(alloc: Global, number: u64) -> Result<Vec<u8>, AllocError>
     ensures { IfOk result (λ bytes. bytes.items ≡ word_bytes plain_operations number) }
 {
@@ -67,7 +67,7 @@ fn bytes_of(alloc: Global, number: u64) -> Result<Vec<u8>, AllocError>
 }
 
 /// The stack before a call: zeros, and in its last eight bytes the address to return to.
-#[tactic(auto, unfolding(guest_machine::specs::Plain::plain_operations))]
+#[tactic(auto, unfolding(guest_arithmetic::specs::Plain::plain_operations))]
 pub(crate) fn stack_of(alloc: Global, thread: u32) -> Result<GuestRange<u8>, AllocError>
     requires { thread ≤ 64 }
     ensures { IfOk result (λ range. range ≡ stack_range (stack_start thread) (fresh_stack plain_operations)) }

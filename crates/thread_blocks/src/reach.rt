@@ -3,7 +3,8 @@
 ghost use Rattle.std.specs.Prelude.{◌≡◌, ◌∷◌};
 ghost use Rattle.thread_blocks.specs.Calling.{behind_stack};
 
-use guest_machine::{Access, Plain, Space};
+use guest_arithmetic::Plain;
+use guest_machine::{Access, Size, Space};
 use guest_memory::{Bytes, GuestMemory, GuestRange, fetch, load, store};
 use std::marker::Model;
 
@@ -83,11 +84,11 @@ impl Space<Plain> for Reach {
         fetch::<Plain, Reach>(self, place, into)
     }
 
-    fn load(&self, place: u64, size: u8) -> Option<u64> {
+    fn load(&self, place: u64, size: Size) -> Option<u64> {
         load::<Plain, Reach>(self, place, size)
     }
 
-    fn store(&mut self, place: u64, size: u8, word: u64) -> bool {
+    fn store(&mut self, place: u64, size: Size, word: u64) -> bool {
         store::<Plain, Reach>(self, place, size, word)
     }
 

@@ -1,49 +1,21 @@
+//! The four flags: how they change, and when a condition holds.
+
 ghost use Rattle.std.specs.Prelude.{◌≡◌};
-ghost use Rattle.guest_machine.specs.Arithmetic.{by_result};
-ghost use Rattle.guest_machine.specs.Effect.{changed, with_changes, is_less, is_less_or_equal, is_below_or_equal, condition_of};
+ghost use Rattle.guest_arithmetic.specs.Flags.{changed, with_changes, is_less, is_less_or_equal, is_below_or_equal, condition_of};
 
-use crate::arithmetic::{differ, is_negative};
-use crate::cause::Cause;
-use crate::state::Flags;
-use crate::uses::both;
+use crate::arithmetic::differ;
+use crate::cause::{Cause, both};
+use crate::effect::{Change, Changes};
 use crate::values::Values;
-use amd64_subset::{Condition, Width};
+use amd64_subset::Condition;
 
-/// What an instruction does to one flag.
+/// The flags that instructions of the subset set and read.
 #[derive(Clone, Copy, Debug)]
-pub enum Change {
-    Set(bool),
-    /// The manual leaves the flag undefined.
-    Unsettled,
-    Kept,
-}
-
-/// What an instruction does to the flags.
-#[derive(Clone, Copy, Debug)]
-pub struct Changes {
-    pub zero: Change,
-    pub sign: Change,
-    pub carry: Change,
-    pub overflow: Change,
-}
-
-/// A result and what becomes of the flags.
-#[derive(Clone, Copy, Debug)]
-pub struct Effect {
-    pub number: u64,
-    pub changes: Changes,
-}
-
-/// ZF and SF by the result.
-pub(crate) fn by_result(width: Width, number: u64, carry: Change, overflow: Change) -> Changes
-    ensures { result ≡ by_result width number carry overflow }
-{
-    Changes {
-        zero: Change::Set(number == 0),
-        sign: Change::Set(is_negative(width, number)),
-        carry,
-        overflow,
-    }
+pub struct Flags<F> {
+    pub zero: F,
+    pub sign: F,
+    pub carry: F,
+    pub overflow: F,
 }
 
 fn changed<V: Values>(change: Change, flag: V::Flag) -> V::Flag
@@ -57,8 +29,8 @@ fn changed<V: Values>(change: Change, flag: V::Flag) -> V::Flag
 }
 
 /// The flags after an instruction.
-#[tactic(auto, unfolding(crate::specs::Effect::with_changes))]
-pub(crate) fn with_changes<V: Values>(changes: &Changes, flags: &Flags<V::Flag>) -> Flags<V::Flag>
+#[tactic(auto, unfolding(crate::specs::Flags::with_changes))]
+pub fn with_changes<V: Values>(changes: &Changes, flags: &Flags<V::Flag>) -> Flags<V::Flag>
     ensures { result ≡ with_changes V.operations changes.now flags.now }
 {
     Flags {
@@ -70,7 +42,7 @@ pub(crate) fn with_changes<V: Values>(changes: &Changes, flags: &Flags<V::Flag>)
 }
 
 /// Whether SF and OF differ.
-#[tactic(auto, unfolding(crate::specs::Effect::is_less))]
+#[tactic(auto, unfolding(crate::specs::Flags::is_less))]
 fn is_less<V: Values>(flags: &Flags<V::Flag>) -> Result<bool, Cause>
     ensures { result ≡ is_less V.operations flags.now }
 {
@@ -79,7 +51,7 @@ fn is_less<V: Values>(flags: &Flags<V::Flag>) -> Result<bool, Cause>
 }
 
 /// Whether CF or ZF is set.
-#[tactic(auto, unfolding(crate::specs::Effect::is_below_or_equal))]
+#[tactic(auto, unfolding(crate::specs::Flags::is_below_or_equal))]
 fn is_below_or_equal<V: Values>(flags: &Flags<V::Flag>) -> Result<bool, Cause>
     ensures { result ≡ is_below_or_equal V.operations flags.now }
 {
@@ -88,7 +60,7 @@ fn is_below_or_equal<V: Values>(flags: &Flags<V::Flag>) -> Result<bool, Cause>
 }
 
 /// Whether ZF is set, or SF and OF differ.
-#[tactic(auto, unfolding(crate::specs::Effect::is_less_or_equal))]
+#[tactic(auto, unfolding(crate::specs::Flags::is_less_or_equal))]
 fn is_less_or_equal<V: Values>(flags: &Flags<V::Flag>) -> Result<bool, Cause>
     ensures { result ≡ is_less_or_equal V.operations flags.now }
 {
@@ -97,11 +69,8 @@ fn is_less_or_equal<V: Values>(flags: &Flags<V::Flag>) -> Result<bool, Cause>
 }
 
 /// Whether a condition holds.
-#[tactic(auto, unfolding(crate::specs::Effect::condition_of))]
-pub(crate) fn condition<V: Values>(
-    condition: Condition,
-    flags: &Flags<V::Flag>,
-) -> Result<bool, Cause>
+#[tactic(auto, unfolding(crate::specs::Flags::condition_of))]
+pub fn condition<V: Values>(condition: Condition, flags: &Flags<V::Flag>) -> Result<bool, Cause>
     ensures { result ≡ condition_of V.operations condition flags.now }
 {
     match condition {

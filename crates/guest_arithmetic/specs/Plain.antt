@@ -1,6 +1,6 @@
 -- Plain numbers: a word is a number below 2^64, a flag a truth value, a byte a number below 256.
 use Rattle.std.specs.Prelude.{ℕ, ◌+◌, ◌%◌, ◌^◌, Bool, Some, Ok}
-use Rattle.guest_machine.specs.Values.{Operations, number_from, digit}
+use Rattle.guest_arithmetic.specs.Values.{Operations, number_from, digit}
 
 unfoldable pub plain_operations : Operations ℕ Bool ℕ
 plain_operations = record {

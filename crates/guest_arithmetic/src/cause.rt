@@ -1,5 +1,7 @@
+//! Why a step has no meaning, and which cause is given where two stand.
+
 ghost use Rattle.std.specs.Prelude.{◌≡◌};
-ghost use Rattle.guest_machine.specs.Cause.{rank_of, first_cause};
+ghost use Rattle.guest_arithmetic.specs.Cause.{rank_of, first_cause, both};
 
 /// Why a step has no meaning, in the order in which causes are given. Values give `Undefined`,
 /// `Flags`, `Base` and `Descriptor`; the machine itself gives `Field` and `Answer`; the others are
@@ -54,5 +56,20 @@ impl Cause {
         } else {
             other
         }
+    }
+}
+
+/// Two uses: where both fail, the cause that comes first is given.
+pub fn both<A: Copy, B: Copy>(
+    left: Result<A, Cause>,
+    right: Result<B, Cause>,
+) -> Result<(A, B), Cause>
+    ensures { result ≡ both left right }
+{
+    match (left, right) {
+        (Ok(a), Ok(b)) => Ok((a, b)),
+        (Ok(_), Err(cause)) => Err(cause),
+        (Err(cause), Ok(_)) => Err(cause),
+        (Err(cause), Err(other)) => Err(cause.first(other)),
     }
 }

@@ -2,15 +2,14 @@
 use Rattle.std.specs.Prelude.{Bool, not, ◌||◌, Result}
 use Rattle.amd64_subset.specs.declared.instr.Condition.{Condition}
 use Rattle.amd64_subset.specs.declared.instr.Condition.TheVariants.{Overflow, NotOverflow, Below, NotBelow, Equal, NotEqual, BelowOrEqual, Above, Sign, NotSign, Less, NotLess, LessOrEqual, Greater}
-use Rattle.guest_machine.specs.declared.cause.Cause.{Cause}
-use Rattle.guest_machine.specs.declared.effect.Change.{Change}
-use Rattle.guest_machine.specs.declared.effect.Change.TheVariants.{Set, Unsettled, Kept}
-use Rattle.guest_machine.specs.declared.effect.Changes.{Changes}
-use Rattle.guest_machine.specs.declared.state.Flags.{Flags}
-use Rattle.guest_machine.specs.Arithmetic.{differ}
-use Rattle.guest_machine.specs.Operand.{used}
-use Rattle.guest_machine.specs.Use.{both}
-use Rattle.guest_machine.specs.Values.{Operations}
+use Rattle.guest_arithmetic.specs.declared.cause.Cause.{Cause}
+use Rattle.guest_arithmetic.specs.declared.effect.Change.{Change}
+use Rattle.guest_arithmetic.specs.declared.effect.Change.TheVariants.{Set, Unsettled, Kept}
+use Rattle.guest_arithmetic.specs.declared.effect.Changes.{Changes}
+use Rattle.guest_arithmetic.specs.declared.flags.Flags.{Flags}
+use Rattle.guest_arithmetic.specs.Arithmetic.{differ}
+use Rattle.guest_arithmetic.specs.Cause.{used, both}
+use Rattle.guest_arithmetic.specs.Values.{Operations}
 
 module _ {W F B : Type 0} (ops : Operations W F B) where
   abbrev pub changed : Change → F → F

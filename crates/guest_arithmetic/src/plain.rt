@@ -1,8 +1,10 @@
+//! Plain numbers as values.
+
 ghost use Rattle.std.specs.Prelude.{◌≡◌, ◌%◌, ◌^◌, ◌++◌};
-ghost use Rattle.guest_machine.specs.Four.{bytes_of};
-ghost use Rattle.guest_machine.specs.Plain.{plain_operations};
-ghost use Rattle.guest_machine.specs.PlainLaws.{plain_laws};
-ghost use Rattle.guest_machine.specs.Values.{number_from};
+ghost use Rattle.guest_arithmetic.specs.Four.{bytes_of};
+ghost use Rattle.guest_arithmetic.specs.Plain.{plain_operations};
+ghost use Rattle.guest_arithmetic.specs.PlainLaws.{plain_laws};
+ghost use Rattle.guest_arithmetic.specs.Values.{number_from};
 
 use crate::cause::Cause;
 use crate::values::{Four, Values};

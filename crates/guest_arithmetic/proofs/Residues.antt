@@ -2,7 +2,7 @@
 use Rattle.std.proofs.Common.{◌≡◌, ℕ, ◌+◌, ◌-◌, ◌%◌, ◌^◌, ◌<◌, arith}
 use Rattle.amd64_subset.specs.declared.instr.Width.{Width}
 use Rattle.amd64_subset.specs.declared.instr.Width.TheVariants.{Long, Quad}
-use Rattle.guest_machine.specs.Arithmetic.{span_of}
+use Rattle.guest_arithmetic.specs.Arithmetic.{span_of}
 
 pub low_again : (width : Width) (n : ℕ) → n % 2 ^ 64 % span_of width ≡ n % span_of width
 low_again Long n = omega arith

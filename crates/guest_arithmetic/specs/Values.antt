@@ -1,6 +1,6 @@
 -- What words, flags and bytes are, as one record of operations, and the laws that it keeps.
 use Rattle.std.specs.Prelude.{◌≡◌, ℕ, ◌+◌, ◌*◌, ◌/◌, ◌%◌, ◌^◌, ◌<◌, ◌≤◌, Bool, List, [], ◌∷◌, length, map, Option, Some, Result, Ok}
-use Rattle.guest_machine.specs.declared.cause.Cause.{Cause}
+use Rattle.guest_arithmetic.specs.declared.cause.Cause.{Cause}
 
 -- byte k of a number, the lowest being byte 0
 abbrev pub digit : ℕ → ℕ → ℕ

@@ -1,7 +1,9 @@
+//! What arithmetic makes of plain numbers at a width, and of the flags.
+
 ghost use Rattle.std.specs.Prelude.{◌≡◌, ◌<◌, ◌≤◌, ◌%◌, ◌^◌, ◌==◌, if◌then◌else◌};
 ghost use Rattle.amd64_subset.specs.declared.instr.Shift.TheVariants.{RightSigned};
-ghost use Rattle.guest_machine.specs.declared.effect.Change.TheVariants.{Set, Unsettled, Kept};
-ghost use Rattle.guest_machine.specs.Arithmetic.{bits_of, span_of, half_of, is_negative, differ, biased, sum_overflows, difference_overflows, sum_effect, difference_effect, logic_effect, compute_effect, magnitude, product_fits, product_effect, greatest, shifted, bit_out, shift_overflows, shift_effect};
+ghost use Rattle.guest_arithmetic.specs.declared.effect.Change.TheVariants.{Set, Unsettled, Kept};
+ghost use Rattle.guest_arithmetic.specs.Arithmetic.{bits_of, span_of, half_of, is_negative, differ, biased, sum_overflows, difference_overflows, sum_effect, difference_effect, logic_effect, compute_effect, magnitude, product_fits, product_effect, greatest, shifted, bit_out, shift_overflows, shift_effect};
 
 use crate::effect::{Change, Changes, Effect, by_result};
 use amd64_subset::{Arithmetic, Shift, Width};
@@ -13,7 +15,7 @@ pub(crate) fn differ(left: bool, right: bool) -> bool
 }
 
 /// A number modulo those of the width.
-pub(crate) fn low(width: Width, number: u64) -> u64
+pub fn low(width: Width, number: u64) -> u64
     ensures value { result ≡ number % span_of width }
     ensures small { result < span_of width }
 {
@@ -51,7 +53,7 @@ pub(crate) fn is_negative(width: Width, number: u64) -> bool
 }
 
 /// The signed number plus half the span.
-#[tactic(auto, using(crate::proofs::Low::low_again))]
+#[tactic(auto, using(crate::proofs::Residues::low_again))]
 fn biased(width: Width, number: u64) -> u64
     ensures { result ≡ biased width number }
 {
@@ -79,7 +81,7 @@ fn difference_overflows(width: Width, left: u64, right: u64) -> bool
     left + half < right || right + half <= left
 }
 
-#[tactic(auto, unfolding(crate::specs::Arithmetic::sum_effect), using(crate::proofs::Low::low_again))]
+#[tactic(auto, unfolding(crate::specs::Arithmetic::sum_effect), using(crate::proofs::Residues::low_again))]
 fn sum(width: Width, left: u64, right: u64) -> Effect
     ensures { result ≡ sum_effect width left right }
 {
@@ -102,7 +104,7 @@ fn span(width: Width) -> u128
     }
 }
 
-#[tactic(auto, unfolding(crate::specs::Arithmetic::difference_effect), using(crate::proofs::Low::low_difference))]
+#[tactic(auto, unfolding(crate::specs::Arithmetic::difference_effect), using(crate::proofs::Residues::low_difference))]
 fn difference(width: Width, left: u64, right: u64) -> Effect
     requires { right < span_of width }
     ensures { result ≡ difference_effect width left right }
@@ -132,7 +134,7 @@ fn logic(width: Width, number: u64) -> Effect
 
 /// add, or, and, sub, xor, cmp
 #[tactic(auto, unfolding(crate::specs::Arithmetic::compute_effect))]
-pub(crate) fn compute(arithmetic: Arithmetic, width: Width, left: u64, right: u64) -> Effect
+pub fn compute(arithmetic: Arithmetic, width: Width, left: u64, right: u64) -> Effect
     requires { right < span_of width }
     ensures { result ≡ compute_effect arithmetic width left right }
 {
@@ -174,8 +176,8 @@ fn product_fits(width: Width, left: u64, right: u64) -> bool
 }
 
 /// imul
-#[tactic(auto, unfolding(crate::specs::Arithmetic::product_effect), using(crate::proofs::Low::low_again))]
-pub(crate) fn product(width: Width, left: u64, right: u64) -> Effect
+#[tactic(auto, unfolding(crate::specs::Arithmetic::product_effect), using(crate::proofs::Residues::low_again))]
+pub fn product(width: Width, left: u64, right: u64) -> Effect
     requires left { left < span_of width }
     requires right { right < span_of width }
     ensures { result ≡ product_effect width left right }
@@ -203,7 +205,7 @@ fn greatest(width: Width) -> u64
 }
 
 /// A shift by a count below the number of bits.
-#[tactic(auto, unfolding(crate::specs::Arithmetic::shifted), using(crate::proofs::Low::low_again))]
+#[tactic(auto, unfolding(crate::specs::Arithmetic::shifted), using(crate::proofs::Residues::low_again))]
 fn shifted(shift: Shift, width: Width, number: u64, count: u8) -> u64
     requires count { count < 64 }
     requires number { number < span_of width }
@@ -310,7 +312,7 @@ fn shift_by(shift: Shift, width: Width, number: u64, count: u8) -> Effect
 }
 
 /// shl, shr, sar: of the count the width's bits are taken.
-pub(crate) fn shift(shift: Shift, width: Width, number: u64, count: u8) -> Effect
+pub fn shift(shift: Shift, width: Width, number: u64, count: u8) -> Effect
     requires { number < span_of width }
     ensures { result ≡ shift_effect shift width number (count % bits_of width) }
 {

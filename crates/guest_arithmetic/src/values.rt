@@ -1,6 +1,8 @@
+//! What a machine computes with, as a parameter.
+
 ghost use Rattle.std.specs.Prelude.{◌≡◌, ◌<◌, [], ◌∷◌, ◌++◌};
-ghost use Rattle.guest_machine.specs.Values.{Operations, IsLawful};
-ghost use Rattle.guest_machine.specs.Four.{bytes_of};
+ghost use Rattle.guest_arithmetic.specs.Values.{Operations, IsLawful};
+ghost use Rattle.guest_arithmetic.specs.Four.{bytes_of};
 
 use crate::cause::Cause;
 

@@ -1,7 +1,7 @@
 use Rattle.std.proofs.Common.{refl, sym, ap, Ok, ◌∙◌, arith}
 use Rattle.guest_memory.proofs.Loops.{store-more, store-all}
 use Rattle.guest_memory.proofs.Several.{store_of-not, store_of-all}
-use Rattle.guest_memory.proofs.bytes.store.Goals as goal
+use Rattle.guest_memory.proofs.bytes.store_bytes.Goals as goal
 
 pub returns-then-not-may_write_all : goal.returns-then-not-may_write_all
 returns-then-not-may_write_all g c = (

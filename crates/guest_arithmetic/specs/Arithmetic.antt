@@ -6,10 +6,10 @@ use Rattle.amd64_subset.specs.declared.instr.Arithmetic.{Arithmetic}
 use Rattle.amd64_subset.specs.declared.instr.Arithmetic.TheVariants.{Add, Or, And, Sub, Xor, Compare}
 use Rattle.amd64_subset.specs.declared.instr.Shift.{Shift}
 use Rattle.amd64_subset.specs.declared.instr.Shift.TheVariants.{Left, Right, RightSigned}
-use Rattle.guest_machine.specs.declared.effect.Change.{Change}
-use Rattle.guest_machine.specs.declared.effect.Change.TheVariants.{Set, Unsettled, Kept}
-use Rattle.guest_machine.specs.declared.effect.Changes.{Changes}
-use Rattle.guest_machine.specs.declared.effect.Effect.{Effect}
+use Rattle.guest_arithmetic.specs.declared.effect.Change.{Change}
+use Rattle.guest_arithmetic.specs.declared.effect.Change.TheVariants.{Set, Unsettled, Kept}
+use Rattle.guest_arithmetic.specs.declared.effect.Changes.{Changes}
+use Rattle.guest_arithmetic.specs.declared.effect.Effect.{Effect}
 
 abbrev pub bits_of : Width → ℕ
 bits_of Long = 32

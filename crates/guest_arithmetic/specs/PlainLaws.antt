@@ -1,7 +1,7 @@
 -- Plain numbers keep the laws.
 use Rattle.std.proofs.Common.{◌≡◌, ℕ, suc, zero, ◌%◌, ◌^◌, ◌<◌, List, [], ◌∷◌, map, refl, ap, arith}
-use Rattle.guest_machine.specs.Values.{IsLawful, number_from, digit}
-use Rattle.guest_machine.specs.Plain.{plain_operations}
+use Rattle.guest_arithmetic.specs.Values.{IsLawful, number_from, digit}
+use Rattle.guest_arithmetic.specs.Plain.{plain_operations}
 
 same_list : (ns : List ℕ) → map (λ n. n) ns ≡ ns
 same_list [] = refl
