@@ -1,6 +1,7 @@
 mod Examples
 pub mod Fetch
 mod LinkedExample
+mod LinkerExamples
 pub mod Lists
 pub mod Meaning
 pub mod Reading

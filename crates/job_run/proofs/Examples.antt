@@ -20,9 +20,10 @@ use Rattle.guest_machine.specs.Operand.{base_of, index_of, address_of, kept, car
 use Rattle.guest_machine.specs.State.{register_of, with_register, start_of}
 use Rattle.guest_machine.specs.Step.{act, frame_of, move_of, move_in, stored, multiply_of, finished, return_of, jump_of, jump_if}
 use Rattle.job_meaning.specs.declared.values.Byte.TheVariants.{Value}
+use Rattle.guest_machine.specs.Touch.{touches_of, next_touches, touched}
 use Rattle.job_meaning.specs.Marked.{marked_operations}
 use Rattle.job_meaning.specs.Owner.{owner_at}
-use Rattle.job_meaning.specs.Reading.{completed, hindrance, meaning_step}
+use Rattle.job_meaning.specs.Reading.{completed, hindrance, read_step, reaches_linker, meaning_step}
 use Rattle.job_meaning.specs.Running.{meaning}
 use Rattle.module_table.specs.declared.events.Event.{Event}
 use Rattle.link_core.specs.Parts.{Image}
@@ -56,7 +57,7 @@ line = record { symbol = []; a = 0; b = 0; c = 0 }
 
 -- thread 1 calls it, for at most so many steps, where the room begins at a place
 said : ℕ → ℕ → List ℕ → List Said
-unfolding meant_said meant_turns meant_accesses meaning meaning_step hindrance completed begins_of end_branch_at escaped_at row_at operated_at body_at instruction_at decoded numbered_body operation_of operand_body signed_of rex_at prefixes_at numbers_at named_register number_of encoded_condition fixed_row_of row_of escaped_row_of arithmetic_of shift_of group_action takes allowed displacement_size memory_in sib_at selectors_at fetch_of load_of store_of space_accesses marked_operations register_of with_register start_of base_of index_of address_of kept carried number_at taken put product_fits product_effect with_changes condition_of move_of move_in stored multiply_of finished return_of jump_of jump_if act frame_of zeros owner_at threads_from
+unfolding meant_said meant_turns meant_accesses meaning meaning_step read_step reaches_linker next_touches touches_of touched hindrance completed begins_of end_branch_at escaped_at row_at operated_at body_at instruction_at decoded numbered_body operation_of operand_body signed_of rex_at prefixes_at numbers_at named_register number_of encoded_condition fixed_row_of row_of escaped_row_of arithmetic_of shift_of group_action takes allowed displacement_size memory_in sib_at selectors_at fetch_of load_of store_of space_accesses marked_operations register_of with_register start_of base_of index_of address_of kept carried number_at taken put product_fits product_effect with_changes condition_of move_of move_in stored multiply_of finished return_of jump_of jump_if act frame_of zeros owner_at threads_from
 said room fuel code = meant_said Event room (loaded_by Value (image code) entry) 1 fuel line
 
 abbrev ends : Stop → List Said
@@ -84,8 +85,8 @@ tests : said 0x402000 2 (0x0f ∷ 0xaf ∷ 0xff ∷ 0x74 ∷ 0 ∷ []) ≡ ends 
 unfolding said
 tests = refl
 
--- a REX prefix, whose instruction would go on in the room
-goes_on : said 0x400001 1 (0x48 ∷ []) ≡ ends (Unclean 0x400000 Linker)
+-- a REX prefix, whose instruction would go on in the room: nothing there may be run
+goes_on : said 0x400001 1 (0x48 ∷ []) ≡ ends (Code 0x400000)
 unfolding said
 goes_on = refl
 

@@ -1,29 +1,27 @@
 -- The meaning's memory and the machine's: byte by byte the same, also under writes, and as code the same but where the linker's own stands.
 use Rattle.std.proofs.Common.{◌≡◌, ℕ, Bool, true, false, List, [], ◌∷◌, ◌++◌, Option, Some, None, refl, sym, ap, ◌∙◌, arith}
 use Rattle.std.specs.Prelude.{if◌then◌else◌, option_and_then}
-use Rattle.guest_arithmetic.specs.declared.cause.Cause.{Cause}
-use Rattle.guest_arithmetic.specs.declared.cause.Cause.TheVariants.{Linker}
 use Rattle.guest_machine.specs.declared.space.Access.{Access}
 use Rattle.guest_machine.specs.declared.space.Access.TheVariants.{Read, Write, Run}
-use Rattle.guest_machine.specs.Access.{Accesses}
+use Rattle.guest_machine.specs.Access.{Accesses, closed}
 use Rattle.guest_machine.specs.Follow.{All2, IsKept}
 use Rattle.guest_arithmetic.specs.Plain.{plain_operations}
 use Rattle.guest_machine.specs.Ranges.{Range, byte_in, grants, with_byte}
-use Rattle.job_meaning.specs.declared.marks.Mark.TheVariants.{Usual, Odd}
 use Rattle.job_meaning.specs.declared.values.Byte.{Byte}
-use Rattle.job_meaning.specs.Code.{SameCodeByte, SameCode}
+use Rattle.job_meaning.specs.Code.{SameCode}
 use Rattle.job_meaning.specs.Marked.{code_byte, marked_operations}
 use Rattle.job_meaning.specs.Owner.{owner_at}
-use Rattle.job_meaning.specs.Reading.{starts_field}
+use Rattle.job_meaning.specs.Reading.{place_at}
 use Rattle.job_meaning.specs.Running.{AreShut}
 use Rattle.job_meaning.specs.Same.{same}
 use Rattle.job_meaning.proofs.Same.{marked_follows}
 use Rattle.thread_blocks.specs.MachineTurns.{Loaded, stack_start, fixed_of}
 use Rattle.thread_blocks.specs.Spaces.{Space, FoundAlike, NoneRunnable, SameRange, SameSpace, space_accesses, open_everywhere, ranges_of, stack_range}
 use Rattle.thread_blocks.proofs.Begin.{fixed_alike}
+use Rattle.guest_machine.proofs.Closed.{closed_kept}
 use Rattle.thread_blocks.proofs.Spaces.{spaces_kept}
 use Rattle.job_run.specs.Linked.{nothing, SameBytes, IsLinked}
-use Rattle.job_run.specs.Meaning.{is_linkers, meant_accesses, meant_mark}
+use Rattle.job_run.specs.Meaning.{meant_accesses, meant_mark, meant_shut}
 
 -- ** what can be run
 
@@ -72,25 +70,13 @@ zero-byte : (same nothing owner_at nothing nothing).byte ((marked_operations own
 unfolding same marked_operations plain_operations
 zero-byte = (refl, omega arith)
 
-either-mark : (own : Bool) (a a' : Option ℕ) → a' ≡ a → SameCodeByte (if own then Odd Linker else Usual) (if own then None else a) a'
-either-mark true a a' e = tt
-either-mark false a a' e = e
-
-no-field : (own : Bool) → starts_field (if own then Odd Linker else Usual) ≡ true → ⊥
-no-field true e = cc
-no-field false e = cc
-
 module _ {E : Type 0} (room thread : ℕ) (loaded : Loaded Byte) (loaded' : Loaded ℕ)
     (linked : IsLinked loaded loaded') where
   abbrev pub acc : Accesses (Space E Byte) Byte
-  acc = meant_accesses room loaded thread
+  acc = meant_accesses loaded thread
 
   abbrev pub acc' : Accesses (Space E ℕ) ℕ
   acc' = space_accesses plain_operations (stack_start thread) (fixed_of plain_operations loaded' thread) open_everywhere
-
-  -- the same accesses, with all of the code
-  abbrev whole : Accesses (Space E Byte) Byte
-  whole = space_accesses (marked_operations owner_at) (stack_start thread) (fixed_of (marked_operations owner_at) loaded thread) (λ seen. is_linkers room)
 
   fixed-same : (access : Access) → ((place : ℕ) → FoundAlike SameBytes (byte_in access loaded.fixed place) (byte_in access loaded'.fixed place)) → (seen : List E) (place : ℕ)
       → FoundAlike SameBytes (byte_in access (fixed_of (marked_operations owner_at) loaded thread seen) place) (byte_in access (fixed_of plain_operations loaded' thread seen) place)
@@ -98,24 +84,24 @@ module _ {E : Type 0} (room thread : ℕ) (loaded : Loaded Byte) (loaded' : Load
   fixed-same access parts seen place =
       fixed_alike (same nothing owner_at nothing nothing) (marked_operations owner_at) plain_operations (marked_follows nothing owner_at nothing nothing) zero-byte loaded loaded' thread access parts seen place
 
-  whole_kept : IsKept (same nothing owner_at nothing nothing) whole acc' (SameSpace {E = E} SameBytes)
-  unfolding same
+  whole_kept : IsKept (same nothing owner_at nothing nothing) acc acc' (SameSpace {E = E} SameBytes)
+  unfolding same meant_accesses
   whole_kept =
       spaces_kept (same nothing owner_at nothing nothing) (marked_operations owner_at) plain_operations (stack_start thread) (fixed_of (marked_operations owner_at) loaded thread)
-      (fixed_of plain_operations loaded' thread) (λ seen. is_linkers room) (fixed-same Read linked.reads) (fixed-same Write linked.writes)
+      (fixed_of plain_operations loaded' thread) open_everywhere (fixed-same Read linked.reads) (fixed-same Write linked.writes)
 
-  put_seen : (m : Space E Byte) (place : ℕ) (byte : Byte) → (whole.put m place byte).seen ≡ m.seen
-  unfolding space_accesses
+  put_seen : (m : Space E Byte) (place : ℕ) (byte : Byte) → (acc.put m place byte).seen ≡ m.seen
+  unfolding space_accesses meant_accesses
   put_seen m place byte = seen-either (grants Write (stack_range (stack_start thread) m.stack) place) m _ _
 
-  put_none : (m : Space E Byte) (place : ℕ) (byte : Byte) → NoneRunnable m.own → NoneRunnable (whole.put m place byte).own
-  unfolding space_accesses
+  put_none : (m : Space E Byte) (place : ℕ) (byte : Byte) → NoneRunnable m.own → NoneRunnable (acc.put m place byte).own
+  unfolding space_accesses meant_accesses
   put_none m place byte h = own-either (grants Write (stack_range (stack_start thread) m.stack) place) m _ (with_byte m.own place byte) h (none-with m.own place byte h)
 
   -- reads and writes
-  pub memory_kept : (seen : List E) → IsKept (same nothing owner_at nothing nothing) acc acc' (SameAt seen)
-  unfolding same meant_accesses
-  memory_kept seen = record {
+  all_kept : (seen : List E) → IsKept (same nothing owner_at nothing nothing) acc acc' (SameAt seen)
+  unfolding same
+  all_kept seen = record {
     byte = λ m m' h place. whole_kept.byte m m' h.space place;
     writes = λ m m' h place. whole_kept.writes m m' h.space place;
     put = λ m m' h place b b' k allowed. record {
@@ -126,27 +112,27 @@ module _ {E : Type 0} (room thread : ℕ) (loaded : Loaded Byte) (loaded' : Load
     still = λ m place at b. whole_kept.still m place at b;
   }
 
-  -- where the linker's functions are called nothing is the program's
-  called-shut : (m : Space E Byte) (place : ℕ) → is_linkers room place ≡ true → (why : Cause) × ((meant_mark room m place ≡ Odd why) × (acc.code m place ≡ None))
-  unfolding meant_accesses
-  called-shut m place e = (Linker, (rw e refl, rw e refl))
+  -- the same where the linker's own is closed
+  pub memory_kept : (seen : List E) → IsKept (same nothing owner_at nothing nothing) (closed (meant_shut room) acc) acc' (SameAt seen)
+  memory_kept seen = closed_kept (same nothing owner_at nothing nothing) acc acc' (SameAt seen) (all_kept seen) (meant_shut room) (λ m place at b. refl)
 
-  pub are_shut : AreShut (marked_operations owner_at) acc (meant_mark room)
-  are_shut m place look = called-shut m place (rw look refl)
+  -- where the linker's functions are called is the linker's own
+  pub are_shut : AreShut (meant_shut {E = E} room)
+  are_shut m place look = rw look refl
 
   -- ** code
 
-  whole-code : (m : Space E Byte) (m' : Space E ℕ) (place : ℕ) → SameSpace SameBytes m m' → NoneRunnable m.own → acc'.code m' place ≡ whole.code m place
-  unfolding space_accesses plain_operations marked_operations
+  whole-code : (m : Space E Byte) (m' : Space E ℕ) (place : ℕ) → SameSpace SameBytes m m' → NoneRunnable m.own → acc'.code m' place ≡ acc.code m place
+  unfolding meant_accesses space_accesses plain_operations marked_operations
   whole-code m m' place h none =
       and-some (byte_in Run (ranges_of (stack_start thread) (fixed_of plain_operations loaded' thread) m') place)
       ∙ none-runs m'.own (fixed_of plain_operations loaded' thread m'.seen) place (own-none m.own m'.own h.own none)
       ∙ linked.code place
       ∙ ap (option_and_then code_byte) (sym (none-runs m.own (fixed_of (marked_operations owner_at) loaded thread m.seen) place none))
 
-  pub code_kept : (SameField : ℕ → ℕ → ℕ → Type 0) (seen : List E) (m : Space E Byte) (m' : Space E ℕ) → SameAt seen m m' → SameCode (meant_mark room m) SameField acc acc' m m'
-  unfolding meant_accesses
+  pub code_kept : (SameField : ℕ → ℕ → ℕ → Type 0) (seen : List E) (m : Space E Byte) (m' : Space E ℕ) → SameAt seen m m'
+      → SameCode (meant_mark m) (meant_shut room m) SameField acc acc' m m'
   code_kept SameField seen m m' h = record {
-    byte = λ place. either-mark (is_linkers room place) (whole.code m place) (acc'.code m' place) (whole-code m m' place h.space h.none);
-    field = λ place marked four. absurd (no-field (is_linkers room place) marked);
+    byte = λ here outside k low. whole-code m m' (place_at here k) h.space h.none;
+    field = λ place marked four. absurd cc;
   }

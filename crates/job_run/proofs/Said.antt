@@ -21,7 +21,7 @@ use Rattle.thread_blocks.specs.TurnsAlike.{SameBegun, IsAlike, Level, SameThread
 use Rattle.thread_blocks.proofs.Begin.{begin_call_alike}
 use Rattle.thread_blocks.proofs.Turns.{turns_alike, order_says}
 use Rattle.job_run.specs.Linked.{nothing, SameBytes, IsLinked}
-use Rattle.job_run.specs.Meaning.{Meant, meant_mark, meant_turns, meant_start, meant_said}
+use Rattle.job_run.specs.Meaning.{Meant, meant_mark, meant_shut, meant_turns, meant_start, meant_said}
 use Rattle.thread_blocks.specs.Numbered.{each}
 use Rattle.thread_blocks.specs.Worlds.{Printed, printed_start, threads_from, adds_none, first_world, printed_world, said_by_each, printed_by}
 use Rattle.job_run.specs.Worlds.{meant_world, IsCleanWorld, meant_by, AreClean}
@@ -86,10 +86,10 @@ module _ (loaded : Loaded Byte) (loaded' : Loaded ℕ) (linked : IsLinked loaded
     steps-same : (seen : List E) → IsSimulated (meant_turns {E = E} room loaded thread fuel).steps (machine_turns {E = E} loaded' thread fuel).steps (InCall seen) (AtLook seen) (Between seen)
     unfolding meant_turns machine_turns
     steps-same seen =
-        alone_simulated (meaning (marked_operations owner_at) (acc {E = E} room thread loaded loaded' linked) (meant_mark room))
+        alone_simulated (meaning (marked_operations owner_at) (acc {E = E} room thread loaded loaded' linked) meant_mark (meant_shut room))
         (machine plain_operations (acc' {E = E} room thread loaded loaded' linked) no_field) (λ at. at.state.place) (InCall seen) (InCall seen) (AtLook seen) (Between seen) (call-rests seen)
-        (meaning_simulated Values (marked_operations owner_at) plain_operations followed (acc room thread loaded loaded' linked) (acc' room thread loaded loaded' linked) (SameAt seen)
-        (memory_kept room thread loaded loaded' linked seen) (meant_mark room) no_field (λ m' place. refl) plain-field (are_shut room thread loaded loaded' linked)
+        (meaning_simulated Values (marked_operations owner_at) plain_operations followed (acc room thread loaded loaded' linked) (acc' room thread loaded loaded' linked) (SameAt seen) meant_mark (meant_shut room)
+        (memory_kept room thread loaded loaded' linked seen) no_field (λ m' place. refl) plain-field (are_shut room thread loaded loaded' linked)
         (λ m m' h. code_kept room thread loaded loaded' linked (λ place n n'. Values.field (Some place) None n n') seen m m' h) (λ s s'. ⊥))
 
     begun-same : (found : Option ℕ) (line : CallLine) (seen : List E) (at : Meant E) (b' : Begun (Printed E)) → NoneRunnable at.memory.own
