@@ -1,5 +1,6 @@
 -- Where the images of a draft stand, when one more is declared.
-use Rattle.std.proofs.Common.{◌≡◌, ℕ, ◌+◌, ◌-◌, get_or, map, slice_set, slice_index_or, ◌<◌, Bool, true, false, cond, List, [], ◌∷◌, ◌++◌, length, Option, Some, None, refl, sym, ap, ◌∙◌, subst, arith, length-append}
+use Rattle.std.proofs.Common.{◌≡◌, ℕ, ◌+◌, ◌-◌, get_or, map, slice_set, slice_index_or, ◌<◌, Bool, true, false, cond, List, [], ◌∷◌, ◌++◌, length, Option, Some, None, refl, sym, ap, ◌∙◌, subst}
+use Rattle.std.proofs.Common.{arith, length-append}
 use Rattle.std.proofs.lemmas.Bool.{false≢true}
 use Rattle.std.proofs.lemmas.List.{map-set, get_or-map, length-map, length-set}
 use Rattle.std.proofs.lemmas.Slice.Eq.{bytes_eq-Decides}
@@ -10,14 +11,14 @@ use Rattle.std.specs.List.{All, position_from}
 use Rattle.std.specs.Option.{IfSome, option_map}
 use Rattle.std.specs.Str.{bytes_eq}
 use Rattle.job_text.specs.Threads.{IsThread}
-use Rattle.job_text.specs.Drafts.{Declared, IsDraft, IsPlace, IsPlan, is_named, or_else, place_among, program_place}
+use Rattle.job_text.specs.Drafts.{Declared, IsDraft, IsSlot, IsPlan, is_named, or_else, slot_among, program_slot}
 use Rattle.job_text.specs.LineEffects.{with_line}
-use Rattle.job_text.specs.declared.draft.Place.{Place}
-use Rattle.job_text.specs.declared.draft.Place.TheVariants.{Program, Start, Late}
+use Rattle.job_text.specs.declared.draft.Slot.{Slot}
+use Rattle.job_text.specs.declared.draft.Slot.TheVariants.{Program, Start, Late}
 use Rattle.job_text.specs.declared.draft.Plan.{Plan}
 use Rattle.job_text.specs.declared.images.Image.{Image}
 
--- the first place at which a test passes, in a list that grew by one
+-- the first index at which a test passes, in a list that grew by one
 position_missed : {X : Type 0} (t : X → Bool) (i : ℕ) (xs : List X) (y : X) → t y ≡ false → position_from t i (xs ++ y ∷ []) ≡ position_from t i xs
 position_missed t i [] y e = rw e refl
 position_missed t i (x ∷ xs) y e = ap (λ rest. cond (t x) (Some i) rest) (position_missed t (i + 1) xs y e)
@@ -32,11 +33,11 @@ position_added t i (x ∷ xs) y n e =
     let parts = none_after (t x) i (position_from t (i + 1) xs) n in
     rw parts.0 (position_added t (i + 1) xs y parts.1 e ∙ ap Some (omega arith))
 
-both_missing : (a b : Option Place) → or_else a b ≡ None → (a ≡ None) × (b ≡ None)
+both_missing : (a b : Option Slot) → or_else a b ≡ None → (a ≡ None) × (b ≡ None)
 both_missing None b e = (refl, e)
 both_missing (Some p) b e = cc
 
-unmapped : (f : ℕ → Place) (o : Option ℕ) → option_map f o ≡ None → o ≡ None
+unmapped : (f : ℕ → Slot) (o : Option ℕ) → option_map f o ≡ None → o ≡ None
 unmapped f None e = refl
 unmapped f (Some k) e = cc
 
@@ -51,51 +52,51 @@ other_name name q image e b = unnamed (is_named q image) refl
     unnamed true h = absurd (false≢true (sym b ∙ (bytes_eq-Decides name q).1 (sym e ∙ sym ((bytes_eq-Decides q image.name).0 h))))
     unnamed false h = refl
 
-late_by : (b : Bool) (program : Option Image) (starts lates : List Image) (name q : List ℕ) (image : Image) → image.name ≡ name → place_among program starts lates name ≡ None
-    → bytes_eq name q ≡ b → place_among program starts (lates ++ image ∷ []) q ≡ cond b (Some (Late (length lates))) (place_among program starts lates q)
-unfolding place_among
+late_by : (b : Bool) (program : Option Image) (starts lates : List Image) (name q : List ℕ) (image : Image) → image.name ≡ name → slot_among program starts lates name ≡ None
+    → bytes_eq name q ≡ b → slot_among program starts (lates ++ image ∷ []) q ≡ cond b (Some (Late (length lates))) (slot_among program starts lates q)
+unfolding slot_among
 late_by true program starts lates name q image e none b =
-    let first = both_missing (program_place name program) _ none in
+    let first = both_missing (program_slot name program) _ none in
     let second = both_missing (option_map Start (position_from (is_named name) 0 starts)) _ first.1 in
-    subst (λ (n : List ℕ). place_among program starts (lates ++ image ∷ []) n ≡ Some (Late (length lates))) ((bytes_eq-Decides name q).0 b)
+    subst (λ (n : List ℕ). slot_among program starts (lates ++ image ∷ []) n ≡ Some (Late (length lates))) ((bytes_eq-Decides name q).0 b)
     (rw (first.0, second.0, position_added (is_named name) 0 lates image (unmapped Late _ second.1) (same_name name image e)) (ap (λ k. Some (Late k)) (omega arith)))
 late_by false program starts lates name q image e none b = rw (position_missed (is_named q) 0 lates image (other_name name q image e b)) refl
 
 -- a late image joins
-pub late_place : (program : Option Image) (starts lates now : List Image) (name q : List ℕ) (image : Image) (n : ℕ) → image.name ≡ name → place_among program starts lates name ≡ None
+pub late_slot : (program : Option Image) (starts lates now : List Image) (name q : List ℕ) (image : Image) (n : ℕ) → image.name ≡ name → slot_among program starts lates name ≡ None
     → now ≡ lates ++ image ∷ [] → n ≡ length lates
-    → cond (bytes_eq name q) (Some (Late n)) (place_among program starts lates q) ≡ place_among program starts now q
-late_place program starts lates now name q image n e none pushed count =
+    → cond (bytes_eq name q) (Some (Late n)) (slot_among program starts lates q) ≡ slot_among program starts now q
+late_slot program starts lates now name q image n e none pushed count =
     rw (pushed, count) (sym (late_by (bytes_eq name q) program starts lates name q image e none refl))
 
-start_by : (b : Bool) (program : Option Image) (starts lates : List Image) (name q : List ℕ) (image : Image) → image.name ≡ name → place_among program starts lates name ≡ None
-    → bytes_eq name q ≡ b → place_among program (starts ++ image ∷ []) lates q ≡ cond b (Some (Start (length starts))) (place_among program starts lates q)
-unfolding place_among
+start_by : (b : Bool) (program : Option Image) (starts lates : List Image) (name q : List ℕ) (image : Image) → image.name ≡ name → slot_among program starts lates name ≡ None
+    → bytes_eq name q ≡ b → slot_among program (starts ++ image ∷ []) lates q ≡ cond b (Some (Start (length starts))) (slot_among program starts lates q)
+unfolding slot_among
 start_by true program starts lates name q image e none b =
-    let first = both_missing (program_place name program) _ none in
+    let first = both_missing (program_slot name program) _ none in
     let second = both_missing (option_map Start (position_from (is_named name) 0 starts)) _ first.1 in
-    subst (λ (n : List ℕ). place_among program (starts ++ image ∷ []) lates n ≡ Some (Start (length starts))) ((bytes_eq-Decides name q).0 b)
+    subst (λ (n : List ℕ). slot_among program (starts ++ image ∷ []) lates n ≡ Some (Start (length starts))) ((bytes_eq-Decides name q).0 b)
     (rw (first.0, position_added (is_named name) 0 starts image (unmapped Start _ second.0) (same_name name image e)) (ap (λ k. Some (Start k)) (omega arith)))
 start_by false program starts lates name q image e none b = rw (position_missed (is_named q) 0 starts image (other_name name q image e b)) refl
 
 -- a start image joins
-pub start_place : (program : Option Image) (starts lates now : List Image) (name q : List ℕ) (image : Image) (n : ℕ) → image.name ≡ name → place_among program starts lates name ≡ None
+pub start_slot : (program : Option Image) (starts lates now : List Image) (name q : List ℕ) (image : Image) (n : ℕ) → image.name ≡ name → slot_among program starts lates name ≡ None
     → now ≡ starts ++ image ∷ [] → n ≡ length starts
-    → cond (bytes_eq name q) (Some (Start n)) (place_among program starts lates q) ≡ place_among program now lates q
-start_place program starts lates now name q image n e none pushed count =
+    → cond (bytes_eq name q) (Some (Start n)) (slot_among program starts lates q) ≡ slot_among program now lates q
+start_slot program starts lates now name q image n e none pushed count =
     rw (pushed, count) (sym (start_by (bytes_eq name q) program starts lates name q image e none refl))
 
 program_by : (b : Bool) (starts lates : List Image) (name q : List ℕ) (image : Image) → image.name ≡ name
-    → bytes_eq name q ≡ b → place_among (Some image) starts lates q ≡ cond b (Some Program) (place_among None starts lates q)
-unfolding place_among
+    → bytes_eq name q ≡ b → slot_among (Some image) starts lates q ≡ cond b (Some Program) (slot_among None starts lates q)
+unfolding slot_among
 program_by true starts lates name q image e b =
-    subst (λ (n : List ℕ). place_among (Some image) starts lates n ≡ Some Program) ((bytes_eq-Decides name q).0 b)
+    subst (λ (n : List ℕ). slot_among (Some image) starts lates n ≡ Some Program) ((bytes_eq-Decides name q).0 b)
     (rw (same_name name image e) refl)
 program_by false starts lates name q image e b = rw (other_name name q image e b) refl
 
 -- the program is declared
 pub program_at : (program : Option Image) (starts lates : List Image) (name q : List ℕ) (image : Image) → image.name ≡ name → program ≡ None
-    → cond (bytes_eq name q) (Some Program) (place_among program starts lates q) ≡ place_among (Some image) starts lates q
+    → cond (bytes_eq name q) (Some Program) (slot_among program starts lates q) ≡ slot_among (Some image) starts lates q
 program_at program starts lates name q image e none =
     rw none (sym (program_by (bytes_eq name q) starts lates name q image e refl))
 
@@ -113,7 +114,7 @@ line_added view d lines thread old now plan e h is added =
     ap (λ (ls : List (List Plan)). record d { lines = ls }) (lines_added view lines (thread - 1) old now plan h is added)
     ∙ ap (λ (ls : List (List Plan)). record d { lines = slice_set ls (thread - 1) (slice_index_or ls (thread - 1) [] ++ plan ∷ []) }) (sym e)
 
--- a place that was found is one of an image
+-- a slot that was found is one of an image
 position_inside : {X : Type 0} (t : X → Bool) (i k : ℕ) (xs : List X) → position_from t i xs ≡ Some k → k < i + length xs
 position_inside t i k [] e = cc
 position_inside t i k (x ∷ xs) e = inside (t x) e (λ h. position_inside t (i + 1) k xs h)
@@ -122,56 +123,58 @@ position_inside t i k (x ∷ xs) e = inside (t x) e (λ h. position_inside t (i 
     inside true h more = let same : i ≡ k = cc in omega arith
     inside false h more = omega (arith, more h)
 
-start_found : (o : Option ℕ) (rest : Option Place) (place : Place) (program : Option Image) (starts lates : List Image) → ((k : ℕ) → o ≡ Some k → k < length starts)
-    → (rest ≡ Some place → IsPlace program starts lates place) → or_else (option_map Start o) rest ≡ Some place → IsPlace program starts lates place
-start_found None rest place program starts lates inside more e = more e
-start_found (Some k) rest place program starts lates inside more e = let same : Start k ≡ place = cc in subst (IsPlace program starts lates) same (inside k refl)
+start_found : (o : Option ℕ) (rest : Option Slot) (slot : Slot) (program : Option Image) (starts lates : List Image) → ((k : ℕ) → o ≡ Some k → k < length starts)
+    → (rest ≡ Some slot → IsSlot program starts lates slot) → or_else (option_map Start o) rest ≡ Some slot → IsSlot program starts lates slot
+start_found None rest slot program starts lates inside more e = more e
+start_found (Some k) rest slot program starts lates inside more e = let same : Start k ≡ slot = cc in subst (IsSlot program starts lates) same (inside k refl)
 
-late_found : (o : Option ℕ) (place : Place) (program : Option Image) (starts lates : List Image) → ((k : ℕ) → o ≡ Some k → k < length lates)
-    → option_map Late o ≡ Some place → IsPlace program starts lates place
-late_found None place program starts lates inside e = cc
-late_found (Some k) place program starts lates inside e = let same : Late k ≡ place = cc in subst (IsPlace program starts lates) same (inside k refl)
+late_found : (o : Option ℕ) (slot : Slot) (program : Option Image) (starts lates : List Image) → ((k : ℕ) → o ≡ Some k → k < length lates)
+    → option_map Late o ≡ Some slot → IsSlot program starts lates slot
+late_found None slot program starts lates inside e = cc
+late_found (Some k) slot program starts lates inside e = let same : Late k ≡ slot = cc in subst (IsSlot program starts lates) same (inside k refl)
 
-program_found : (program : Option Image) (name : List ℕ) (rest : Option Place) (place : Place) (starts lates : List Image)
-    → (rest ≡ Some place → IsPlace program starts lates place) → or_else (program_place name program) rest ≡ Some place → IsPlace program starts lates place
-program_found None name rest place starts lates more e = more e
-program_found (Some image) name rest place starts lates more e = by_test (is_named name image) e
+program_found : (program : Option Image) (name : List ℕ) (rest : Option Slot) (slot : Slot) (starts lates : List Image)
+    → (rest ≡ Some slot → IsSlot program starts lates slot) → or_else (program_slot name program) rest ≡ Some slot → IsSlot program starts lates slot
+program_found None name rest slot starts lates more e = more e
+program_found (Some image) name rest slot starts lates more e = by_test (is_named name image) e
   where
-    by_test : (b : Bool) → or_else (cond b (Some Program) None) rest ≡ Some place → IsPlace (Some image) starts lates place
-    by_test true h = let same : Program ≡ place = cc in subst (IsPlace (Some image) starts lates) same refl
+    by_test : (b : Bool) → or_else (cond b (Some Program) None) rest ≡ Some slot → IsSlot (Some image) starts lates slot
+    by_test true h = let same : Program ≡ slot = cc in subst (IsSlot (Some image) starts lates) same refl
     by_test false h = more h
 
-pub place_found : (program : Option Image) (starts lates : List Image) (name : List ℕ) (place : Place) → place_among program starts lates name ≡ Some place → IsPlace program starts lates place
-unfolding place_among
-place_found program starts lates name place e =
-    program_found program name _ place starts lates
-    (λ h. start_found (position_from (is_named name) 0 starts) _ place program starts lates (λ k f. omega (arith, position_inside (is_named name) 0 k starts f))
-    (λ r. late_found (position_from (is_named name) 0 lates) place program starts lates (λ k f. omega (arith, position_inside (is_named name) 0 k lates f)) r) h)
+pub slot_found : (program : Option Image) (starts lates : List Image) (name : List ℕ) (slot : Slot) → slot_among program starts lates name ≡ Some slot → IsSlot program starts lates slot
+unfolding slot_among
+slot_found program starts lates name slot e =
+    program_found program name _ slot starts lates
+    (λ h. start_found (position_from (is_named name) 0 starts) _ slot program starts lates (λ k f. omega (arith, position_inside (is_named name) 0 k starts f))
+    (λ r. late_found (position_from (is_named name) 0 lates) slot program starts lates (λ k f. omega (arith, position_inside (is_named name) 0 k lates f)) r) h)
     e
 
-pub if_found : (o : Option Place) (program : Option Image) (starts lates : List Image) (name : List ℕ) → o ≡ place_among program starts lates name → IfSome o (IsPlace program starts lates)
+pub if_found : (o : Option Slot) (program : Option Image) (starts lates : List Image) (name : List ℕ) → o ≡ slot_among program starts lates name → IfSome o (IsSlot program starts lates)
 if_found None program starts lates name e = tt
-if_found (Some place) program starts lates name e = place_found program starts lates name place (sym e)
+if_found (Some slot) program starts lates name e = slot_found program starts lates name slot (sym e)
 
--- plans stay plans where each place stays a place
+-- plans stay plans where each slot stays a slot
 plans_kept : (program program' : Option Image) (starts starts' lates lates' : List Image) (lines : List (List Plan))
-    → ((place : Place) → IsPlace program starts lates place → IsPlace program' starts' lates' place)
+    → ((slot : Slot) → IsSlot program starts lates slot → IsSlot program' starts' lates' slot)
     → All (All (IsPlan program starts lates)) lines → All (All (IsPlan program' starts' lates')) lines
 plans_kept program program' starts starts' lates lates' lines keep all =
     All-weaker (All (IsPlan program starts lates)) (All (IsPlan program' starts' lates'))
-    (λ plans h. All-weaker (IsPlan program starts lates) (IsPlan program' starts' lates') (λ plan p. record { placed = keep plan.place p.placed; shown = p.shown }) plans h) lines all
+    (λ plans h. All-weaker (IsPlan program starts lates) (IsPlan program' starts' lates') (λ plan p. record { placed = keep plan.slot p.placed; shown = p.shown }) plans h) lines all
 
-kept_by_start : (program : Option Image) (starts now lates : List Image) (image : Image) → now ≡ starts ++ image ∷ [] → (place : Place) → IsPlace program starts lates place → IsPlace program now lates place
+kept_by_start : (program : Option Image) (starts now lates : List Image) (image : Image) → now ≡ starts ++ image ∷ [] → (slot : Slot) → IsSlot program starts lates slot
+    → IsSlot program now lates slot
 kept_by_start program starts now lates image e Program h = h
 kept_by_start program starts now lates image e (Start k) h = rw e (omega (arith, length-append starts (image ∷ [])))
 kept_by_start program starts now lates image e (Late k) h = h
 
-kept_by_late : (program : Option Image) (starts lates now : List Image) (image : Image) → now ≡ lates ++ image ∷ [] → (place : Place) → IsPlace program starts lates place → IsPlace program starts now place
+kept_by_late : (program : Option Image) (starts lates now : List Image) (image : Image) → now ≡ lates ++ image ∷ [] → (slot : Slot) → IsSlot program starts lates slot
+    → IsSlot program starts now slot
 kept_by_late program starts lates now image e Program h = h
 kept_by_late program starts lates now image e (Start k) h = h
 kept_by_late program starts lates now image e (Late k) h = rw e (omega (arith, length-append lates (image ∷ [])))
 
-kept_by_program : (program : Option Image) (starts lates : List Image) (image : Image) → (place : Place) → IsPlace program starts lates place → IsPlace (Some image) starts lates place
+kept_by_program : (program : Option Image) (starts lates : List Image) (image : Image) → (slot : Slot) → IsSlot program starts lates slot → IsSlot (Some image) starts lates slot
 kept_by_program program starts lates image Program h = refl
 kept_by_program program starts lates image (Start k) h = h
 kept_by_program program starts lates image (Late k) h = h
@@ -189,18 +192,20 @@ pub plans_with_program : (program : Option Image) (starts lates : List Image) (i
 plans_with_program program starts lates image lines = plans_kept program (Some image) starts starts lates lates lines (kept_by_program program starts lates image)
 
 -- a thread's lines are replaced by others that are plans
-pub plans_with_line : {X : Type 0} (view : X → List Plan) (P : Plan → Type 0) (lines : List X) (i : ℕ) (now : X) → All (All P) (map view lines) → All P (view now) → All (All P) (map view (slice_set lines i now))
+pub plans_with_line : {X : Type 0} (view : X → List Plan) (P : Plan → Type 0) (lines : List X) (i : ℕ) (now : X) → All (All P) (map view lines) → All P (view now)
+    → All (All P) (map view (slice_set lines i now))
 plans_with_line view P lines i now all h =
     subst (All (All P)) (sym (map-set view lines i now)) (All-set (All P) (map view lines) i (view now) h all)
 
 -- the lines of a thread of a draft
-pub plans_of_thread : {X : Type 0} (view : X → List Plan) (P : Plan → Type 0) (lines : List X) (i : ℕ) (old : X) → i < length lines → old ≡ get_or lines i old → All (All P) (map view lines) → All P (view old)
+pub plans_of_thread : {X : Type 0} (view : X → List Plan) (P : Plan → Type 0) (lines : List X) (i : ℕ) (old : X) → i < length lines → old ≡ get_or lines i old → All (All P) (map view lines)
+    → All P (view old)
 plans_of_thread view P lines i old h is all =
     let inside : i < length (map view lines) = omega (arith, length-map lines view) in
     subst (All P) (get_or-map view lines i old [] h ∙ ap view (sym is)) (All-get_or (All P) (map view lines) i [] inside all)
 
 -- a draft in which the lines of a thread are replaced by others that are plans
-pub draft_with_line : {S X : Type 0} (view : X → List Plan) (names : HashMap (Bor (List ℕ)) Place S) (d : Declared) (lines : List X) (i : ℕ) (now : X) → d.lines ≡ map view lines
+pub draft_with_line : {S X : Type 0} (view : X → List Plan) (names : HashMap (Bor (List ℕ)) Slot S) (d : Declared) (lines : List X) (i : ℕ) (now : X) → d.lines ≡ map view lines
     → IsDraft names d → All (IsPlan d.program d.starts d.lates) (view now) → IsDraft names (record d { lines = map view (slice_set lines i now) })
 draft_with_line view names d lines i now e h plans =
     let same : length (map view (slice_set lines i now)) ≡ length d.lines = omega (arith, length-map (slice_set lines i now) view, length-set lines i now, length-map lines view, ap length e) in
@@ -212,7 +217,7 @@ draft_with_line view names d lines i now e h plans =
         one_thread = λ f. same ∙ h.within.one_thread f;
         fuel_within = h.within.fuel_within;
       };
-      places = h.places;
+      slots = h.slots;
       plans = plans_with_line view (IsPlan d.program d.starts d.lates) lines i now (subst (All (All (IsPlan d.program d.starts d.lates))) e h.plans) plans;
       order_named = λ order o. subst (λ (n : ℕ). All (IsThread n) order) (sym same) (h.order_named order o);
     }

@@ -1,5 +1,6 @@
 -- The job that a draft declares, part by part.
-use Rattle.std.proofs.Common.{◌≡◌, ℕ, Bool, ltb, nat_lt, slice_index_or, ◌-◌, ◌+◌, ◌<◌, ◌≤◌, ◌^◌, List, [], Option, Some, None, Result, Ok, Err, is_some, get_or, drop, length, map, refl, sym, ap, ◌∙◌, subst, arith, lit<, lit≤, length-append, unwrap_or, cond, true, false}
+use Rattle.std.proofs.Common.{◌≡◌, ℕ, Bool, ltb, nat_lt, slice_index_or, ◌-◌, ◌+◌, ◌<◌, ◌≤◌, ◌^◌, List, [], Option, Some, None, Result, Ok, Err, is_some, get_or, drop, length, map, refl, sym, ap}
+use Rattle.std.proofs.Common.{◌∙◌, subst, arith, lit<, lit≤, length-append, unwrap_or, cond, true, false}
 use Rattle.std.proofs.lemmas.Bool.{ltb-true, ltb-false}
 use Rattle.std.proofs.lemmas.List.{at_drop_more, at_drop_all, get_or_past, length-map}
 use Rattle.std.proofs.lemmas.List.FromFn.{length-enumerate_from, get_or-enumerate_from}
@@ -8,15 +9,15 @@ use Rattle.std.specs.Borrow.{Bor}
 use Rattle.std.specs.HashMap.{HashMap}
 use Rattle.std.specs.List.{All, enumerate_from}
 use Rattle.job_text.specs.Threads.{IsThread}
-use Rattle.job_text.specs.Drafts.{Declared, IsDraft, IsPlace, IsPlan}
+use Rattle.job_text.specs.Drafts.{Declared, IsDraft, IsSlot, IsPlan}
 use Rattle.job_text.specs.LineAnswers.{IsLineAnswer}
 use Rattle.job_text.specs.LineEffects.{with_text}
 use Rattle.job_text.specs.LineFaults.{fault_of}
 use Rattle.job_text.specs.Flaws.{fault_at}
 use Rattle.job_text.specs.Images.{IsImageNumber}
 use Rattle.job_text.specs.Jobs.{JobParts, IsAnswer, IsJob, IsLineOf, fault_or, in_image_order, job_declared, job_from, job_parts, lines_of_thread, number_of, numbered_line}
-use Rattle.job_text.specs.declared.draft.Place.{Place}
-use Rattle.job_text.specs.declared.draft.Place.TheVariants.{Program, Start, Late}
+use Rattle.job_text.specs.declared.draft.Slot.{Slot}
+use Rattle.job_text.specs.declared.draft.Slot.TheVariants.{Program, Start, Late}
 use Rattle.job_text.specs.declared.draft.Plan.{Plan}
 use Rattle.job_text.specs.declared.fault.Flaw.{Flaw}
 use Rattle.job_text.specs.declared.fault.Flaw.TheVariants as flaw
@@ -36,15 +37,15 @@ fuel_given : (told : Option ℕ) (fuel : ℕ) → fuel ≡ unwrap_or told 100000
 fuel_given None fuel e h = rw e (lit≤ tt, lit< tt)
 fuel_given (Some steps) fuel e h = rw e (h steps refl)
 
-number_within : (program : Option Image) (p : Image) (starts lates : List Image) (place : Place) → program ≡ Some p → IsPlace program starts lates place
-    → IsImageNumber (in_image_order p starts lates) (number_of (length starts) place)
+number_within : (program : Option Image) (p : Image) (starts lates : List Image) (slot : Slot) → program ≡ Some p → IsSlot program starts lates slot
+    → IsImageNumber (in_image_order p starts lates) (number_of (length starts) slot)
 number_within program p starts lates Program e h = (lit≤ tt, omega (arith, length-append starts lates))
 number_within program p starts lates (Start k) e h = (omega arith, omega (arith, length-append starts lates))
 number_within program p starts lates (Late k) e h = (omega arith, omega (arith, length-append starts lates))
 
 line_of : (program : Option Image) (p : Image) (starts lates : List Image) (plan : Plan) → program ≡ Some p → IsPlan program starts lates plan
     → IsLineOf (in_image_order p starts lates) (numbered_line (length starts) plan)
-line_of program p starts lates plan e h = record { image = number_within program p starts lates plan.place e h.placed; shown = h.shown }
+line_of program p starts lates plan e h = record { image = number_within program p starts lates plan.slot e h.placed; shown = h.shown }
 
 lines_of : (program : Option Image) (p : Image) (starts lates : List Image) (lines : List (List Plan)) → program ≡ Some p → All (All (IsPlan program starts lates)) lines
     → All (All (IsLineOf (in_image_order p starts lates))) (map (map (numbered_line (length starts))) lines)
@@ -60,7 +61,7 @@ order_given threads None order e h = subst (All (IsThread threads)) (sym e) (All
 order_given threads (Some o) order e h = subst (All (IsThread threads)) (sym e) (h o refl)
 
 -- it is a job
-pub is_job : {S : Type 0} (names : HashMap (Bor (List ℕ)) Place S) (d : Declared) (program : Image) (images : List Image) (fuel : ℕ) (order : List ℕ) (lines : List (List ThreadLine))
+pub is_job : {S : Type 0} (names : HashMap (Bor (List ℕ)) Slot S) (d : Declared) (program : Image) (images : List Image) (fuel : ℕ) (order : List ℕ) (lines : List (List ThreadLine))
     → IsDraft names d → d.program ≡ Some program → images ≡ in_image_order program d.starts d.lates → fuel ≡ unwrap_or d.fuel 100000 → order ≡ unwrap_or d.order []
     → lines ≡ map (map (numbered_line (length d.starts))) d.lines
     → IsJob (job_parts images fuel order lines)
@@ -130,10 +131,10 @@ job_end d n k lines right h inv = sym (at_drop_all (job_from d n) lines k h) ∙
 pub thread_placed : (job : JobParts) (thread : ℕ) → IsJob job → All (IsLineOf job.images) (lines_of_thread job thread)
 thread_placed job thread h = by_test (nat_lt 0 thread)
   where
-    by_place : (t : Bool) → ltb (thread - 1) (length job.lines) ≡ t → All (IsLineOf job.images) (slice_index_or job.lines (thread - 1) [])
-    by_place true e = All-get_or (All (IsLineOf job.images)) job.lines (thread - 1) [] (ltb-true (thread - 1) (length job.lines) e) h.lines_placed
-    by_place false e = subst (All (IsLineOf job.images)) (sym (get_or_past job.lines (thread - 1) [] (ltb-false (thread - 1) (length job.lines) e))) (All-nil (IsLineOf job.images))
+    by_slot : (t : Bool) → ltb (thread - 1) (length job.lines) ≡ t → All (IsLineOf job.images) (slice_index_or job.lines (thread - 1) [])
+    by_slot true e = All-get_or (All (IsLineOf job.images)) job.lines (thread - 1) [] (ltb-true (thread - 1) (length job.lines) e) h.lines_placed
+    by_slot false e = subst (All (IsLineOf job.images)) (sym (get_or_past job.lines (thread - 1) [] (ltb-false (thread - 1) (length job.lines) e))) (All-nil (IsLineOf job.images))
 
     by_test : (t : Bool) → All (IsLineOf job.images) (cond t (slice_index_or job.lines (thread - 1) []) [])
-    by_test true = by_place (ltb (thread - 1) (length job.lines)) refl
+    by_test true = by_slot (ltb (thread - 1) (length job.lines)) refl
     by_test false = All-nil (IsLineOf job.images)

@@ -3,13 +3,14 @@ use Rattle.std.specs.Borrow.{Bor}
 use Rattle.std.specs.HashMap.{HashMap, get_by}
 use Rattle.std.specs.List.{All, position_from}
 use Rattle.std.specs.Option.{option_map}
-use Rattle.std.specs.Prelude.{◌≡◌, ℕ, ◌+◌, ◌^◌, ◌≤◌, ◌<◌, Bool, false, if◌then◌else◌, IsTrue, List, [], ◌∷◌, length, Option, Some, None, is_some}
+use Rattle.std.specs.Prelude.{◌≡◌, ℕ, ◌+◌, ◌^◌, ◌≤◌, ◌<◌, Bool, false, if◌then◌else◌, IsTrue, List, [], ◌∷◌, length}
+use Rattle.std.specs.Prelude.{Option, Some, None, is_some}
 use Rattle.std.specs.Str.{bytes_eq}
 use Rattle.job_text.specs.Actions.{IsAction}
 pub use Rattle.job_text.specs.Images.{is_named}
 use Rattle.job_text.specs.Threads.{IsThread}
-use Rattle.job_text.specs.declared.draft.Place.TheVariants as place
-use Rattle.job_text.specs.declared.draft.Place.{Place}
+use Rattle.job_text.specs.declared.draft.Slot.TheVariants as slot
+use Rattle.job_text.specs.declared.draft.Slot.{Slot}
 use Rattle.job_text.specs.declared.draft.Plan.{Plan}
 use Rattle.job_text.specs.declared.images.Image.{Image}
 
@@ -25,9 +26,11 @@ pub record Declared : Type 0 where
   pub lines : List (List Plan)
 
 -- the record of these parts
-abbrev pub declared : Option Image → List Image → List Image → Bool → Option ℕ → Option (List ℕ) → List (List Plan) → Declared
+abbrev pub declared : Option Image → List Image → List Image → Bool → Option ℕ → Option (List ℕ) → List (List Plan)
+    → Declared
 declared program starts lates has_threads fuel order lines =
-    record { program = program; starts = starts; lates = lates; has_threads = has_threads; fuel = fuel; order = order; lines = lines }
+    record { program = program; starts = starts; lates = lates; has_threads = has_threads; fuel = fuel;
+        order = order; lines = lines }
 
 -- before the first line there is one thread
 abbrev pub nothing_declared : Declared
@@ -46,37 +49,39 @@ pub record IsWithinLimits (d : Declared) : Type 0 where
   pub fuel_within : (steps : ℕ) → d.fuel ≡ Some steps → (1 ≤ steps) × (steps < 2 ^ 32)
 
 -- the first of two that is there
-abbrev pub or_else : Option Place → Option Place → Option Place
+abbrev pub or_else : Option Slot → Option Slot → Option Slot
 or_else None other = other
-or_else (Some place) other = Some place
+or_else (Some slot) other = Some slot
 
--- the program's place, if it has the name
-abbrev pub program_place : List ℕ → Option Image → Option Place
-program_place name None = None
-program_place name (Some image) = if is_named name image then Some place.Program else None
+-- the program's slot, if it has the name
+abbrev pub program_slot : List ℕ → Option Image → Option Slot
+program_slot name None = None
+program_slot name (Some image) = if is_named name image then Some slot.Program else None
 
--- the place of the image of a name, among a program, start images and late ones
-unfoldable pub place_among : Option Image → List Image → List Image → List ℕ → Option Place
-place_among program starts lates name =
-    or_else (program_place name program) (or_else (option_map place.Start (position_from (is_named name) 0 starts)) (option_map place.Late (position_from (is_named name) 0 lates)))
+-- the slot of the image of a name, among a program, start images and late ones
+unfoldable pub slot_among : Option Image → List Image → List Image → List ℕ → Option Slot
+slot_among program starts lates name =
+    or_else (program_slot name program)
+        (or_else (option_map slot.Start (position_from (is_named name) 0 starts))
+        (option_map slot.Late (position_from (is_named name) 0 lates)))
 
--- the place of the image of a name that an earlier line declares
-abbrev pub place_of : Declared → List ℕ → Option Place
-place_of d name = place_among d.program d.starts d.lates name
+-- the slot of the image of a name that an earlier line declares
+abbrev pub slot_of : Declared → List ℕ → Option Slot
+slot_of d name = slot_among d.program d.starts d.lates name
 
--- the map of names finds each declared image's place
-abbrev pub FindsPlaces : {S : Type 0} → HashMap (Bor (List ℕ)) Place S → Declared → Type 0
-FindsPlaces names d = (name : List ℕ) → get_by (λ key. bytes_eq name key.now) names ≡ place_of d name
+-- the map of names finds each declared image's slot
+abbrev pub FindsSlots : {S : Type 0} → HashMap (Bor (List ℕ)) Slot S → Declared → Type 0
+FindsSlots names d = (name : List ℕ) → get_by (λ key. bytes_eq name key.now) names ≡ slot_of d name
 
--- a place where an image stands
-abbrev pub IsPlace : Option Image → List Image → List Image → Place → Type 0
-IsPlace program starts lates place.Program = IsTrue (is_some program)
-IsPlace program starts lates (place.Start index) = index < length starts
-IsPlace program starts lates (place.Late index) = index < length lates
+-- a slot where an image stands
+abbrev pub IsSlot : Option Image → List Image → List Image → Slot → Type 0
+IsSlot program starts lates slot.Program = IsTrue (is_some program)
+IsSlot program starts lates (slot.Start index) = index < length starts
+IsSlot program starts lates (slot.Late index) = index < length lates
 
 -- a line of a thread whose image is declared
 pub record IsPlan (program : Option Image) (starts lates : List Image) (plan : Plan) : Type 0 where
-  pub placed : IsPlace program starts lates plan.place
+  pub placed : IsSlot program starts lates plan.slot
   pub shown : IsAction plan.action
 
 -- the lines of all threads are such
@@ -88,8 +93,8 @@ abbrev pub IsOrder : Declared → Type 0
 IsOrder d = (order : List ℕ) → d.order ≡ Some order → All (IsThread (length d.lines)) order
 
 -- what is true of a draft at any time
-pub record IsDraft {S : Type 0} (names : HashMap (Bor (List ℕ)) Place S) (d : Declared) : Type 0 where
+pub record IsDraft {S : Type 0} (names : HashMap (Bor (List ℕ)) Slot S) (d : Declared) : Type 0 where
   pub within : IsWithinLimits d
-  pub places : FindsPlaces names d
+  pub slots : FindsSlots names d
   pub plans : ArePlans d
   pub order_named : IsOrder d

@@ -1,6 +1,7 @@
 -- A job, as contracts see it, and how it is made of what its lines declare.
 use Rattle.std.specs.List.{All}
-use Rattle.std.specs.Prelude.{◌≡◌, ℕ, ◌+◌, ◌≤◌, ◌<◌, ◌^◌, List, [], ◌∷◌, ◌++◌, length, map, Option, Some, None, unwrap_or, Result, Ok, Err}
+use Rattle.std.specs.Prelude.{◌≡◌, ℕ, ◌+◌, ◌≤◌, ◌<◌, ◌^◌, List, [], ◌∷◌, ◌++◌, length, map, Option, Some, None}
+use Rattle.std.specs.Prelude.{unwrap_or, Result, Ok, Err}
 use Rattle.job_text.specs.Actions.{IsAction}
 use Rattle.job_text.specs.Threads.{IsThread, of_thread}
 use Rattle.job_text.specs.Drafts.{Declared, nothing_declared}
@@ -8,8 +9,8 @@ use Rattle.job_text.specs.LineEffects.{with_text}
 use Rattle.job_text.specs.LineFaults.{fault_of}
 use Rattle.job_text.specs.Images.{IsImageNumber}
 use Rattle.job_text.specs.Words.{lines_of}
-use Rattle.job_text.specs.declared.draft.Place.{Place}
-use Rattle.job_text.specs.declared.draft.Place.TheVariants.{Program, Start, Late}
+use Rattle.job_text.specs.declared.draft.Slot.{Slot}
+use Rattle.job_text.specs.declared.draft.Slot.TheVariants.{Program, Start, Late}
 use Rattle.job_text.specs.declared.draft.Plan.{Plan}
 use Rattle.job_text.specs.declared.fault.JobFault.{JobFault}
 use Rattle.job_text.specs.declared.fault.JobFault.TheVariants.{At, OutOfMemory}
@@ -52,14 +53,14 @@ lines_of_thread job thread = of_thread job.lines thread
 
 -- the number of an image, where so many images start with the program: the program is 1, then come
 -- the start images, then the late ones
-abbrev pub number_of : ℕ → Place → ℕ
+abbrev pub number_of : ℕ → Slot → ℕ
 number_of starts Program = 1
 number_of starts (Start index) = 2 + index
 number_of starts (Late index) = 2 + starts + index
 
 -- a line of a thread, with its image's number
 abbrev pub numbered_line : ℕ → Plan → ThreadLine
-numbered_line starts plan = record { image = number_of starts plan.place; action = plan.action }
+numbered_line starts plan = record { image = number_of starts plan.slot; action = plan.action }
 
 -- the images in image order
 abbrev pub in_image_order : Image → List Image → List Image → List Image
@@ -92,7 +93,8 @@ fault_or number (Some kind) rest = Err (At number kind)
 -- the fault of the first faulty line
 unfoldable pub job_from : Declared → ℕ → List (List ℕ) → Result JobParts JobFault
 job_from d number [] = job_declared d
-job_from d number (line ∷ more) = fault_or number (fault_of d number line) (job_from (with_text line d) (number + 1) more)
+job_from d number (line ∷ more) =
+    fault_or number (fault_of d number line) (job_from (with_text line d) (number + 1) more)
 
 -- the job that a text spells, or its first fault
 unfoldable pub job_of : List ℕ → Result JobParts JobFault

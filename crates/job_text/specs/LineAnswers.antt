@@ -19,7 +19,8 @@ IsRead fault value (Err (flaw.Kind kind)) = fault ≡ Some kind
 
 -- the threads of an order are read where each of its words names one
 abbrev pub IsOrderAnswer : Declared → List (List ℕ) → Result (Vec ℕ Global) Flaw → Type 0
-IsOrderAnswer d words (Ok order) = (has_bad_number d heading.Order words ≡ false) × (order.items ≡ filter_map number (drop 1 words))
+IsOrderAnswer d words (Ok order) =
+    (has_bad_number d heading.Order words ≡ false) × (order.items ≡ filter_map number (drop 1 words))
 IsOrderAnswer d words (Err flaw.OutOfMemory) = Unit {0}
 IsOrderAnswer d words (Err (flaw.Kind found)) = (has_bad_number d heading.Order words ≡ true) × (found ≡ kind.Number)
 

@@ -1,11 +1,12 @@
 -- What a line without fault adds to what is declared.
 use Rattle.std.specs.List.{filter_map}
-use Rattle.std.specs.Prelude.{ℕ, ◌-◌, true, if◌then◌else◌, List, [], ◌∷◌, ◌++◌, drop, replicate, slice_set, slice_index_or, Option, Some, None, unwrap_or}
-use Rattle.job_text.specs.Drafts.{Declared, place_of}
+use Rattle.std.specs.Prelude.{ℕ, ◌-◌, true, if◌then◌else◌, List, [], ◌∷◌, ◌++◌, drop, replicate, slice_set}
+use Rattle.std.specs.Prelude.{slice_index_or, Option, Some, None, unwrap_or}
+use Rattle.job_text.specs.Drafts.{Declared, slot_of}
 use Rattle.job_text.specs.Grammar.{heading_of}
 use Rattle.job_text.specs.Numbers.{number}
 use Rattle.job_text.specs.Words.{is_skipped, word_at, words_of}
-use Rattle.job_text.specs.declared.draft.Place.TheVariants as place
+use Rattle.job_text.specs.declared.draft.Slot.TheVariants as slot
 use Rattle.job_text.specs.declared.draft.Plan.{Plan}
 use Rattle.job_text.specs.declared.grammar.Heading.TheVariants as heading
 use Rattle.job_text.specs.declared.grammar.Heading.{Heading}
@@ -37,16 +38,20 @@ action_of verb.Peek words = action.Peek (word_at 3 words) (number_at 4 words)
 
 -- a line joins those of its thread
 abbrev pub with_line : ℕ → Plan → Declared → Declared
-with_line thread plan d = record d { lines = slice_set d.lines (thread - 1) (slice_index_or d.lines (thread - 1) [] ++ plan ∷ []) }
+with_line thread plan d =
+    record d { lines = slice_set d.lines (thread - 1) (slice_index_or d.lines (thread - 1) [] ++ plan ∷ []) }
 
 -- what a line without fault adds
 abbrev pub with_words : Heading → List (List ℕ) → Declared → Declared
-with_words (heading.Image kind) words d = with_image (record { name = word_at 1 words; kind = kind; objects = drop 3 words }) kind d
-with_words heading.Threads words d = record d { has_threads = true; lines = d.lines ++ replicate (number_at 1 words - 1) [] }
+with_words (heading.Image kind) words d =
+    with_image (record { name = word_at 1 words; kind = kind; objects = drop 3 words }) kind d
+with_words heading.Threads words d =
+    record d { has_threads = true; lines = d.lines ++ replicate (number_at 1 words - 1) [] }
 with_words heading.Fuel words d = record d { fuel = number (word_at 1 words) }
 with_words heading.Order words d = record d { order = Some (filter_map number (drop 1 words)) }
 with_words (heading.Thread verb) words d =
-    with_line (number_at 0 words) (record { place = unwrap_or (place_of d (word_at 2 words)) place.Program; action = action_of verb words }) d
+    with_line (number_at 0 words)
+        (record { slot = unwrap_or (slot_of d (word_at 2 words)) slot.Program; action = action_of verb words }) d
 with_words heading.Short words d = d
 
 -- the same by the line's own words

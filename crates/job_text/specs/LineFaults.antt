@@ -1,7 +1,8 @@
 -- What is wrong with a line: the kinds of faults, each by itself, and their order.
 use Rattle.std.specs.List.{list_any}
-use Rattle.std.specs.Prelude.{ℕ, ◌==◌, Bool, true, false, not, ◌&&◌, ◌||◌, nat_lt, if◌then◌else◌, List, length, drop, Option, Some, None, is_some, is_none}
-use Rattle.job_text.specs.Drafts.{Declared, image_count, place_of}
+use Rattle.std.specs.Prelude.{ℕ, ◌==◌, Bool, true, false, not, ◌&&◌, ◌||◌, nat_lt, if◌then◌else◌, List, length, drop}
+use Rattle.std.specs.Prelude.{Option, Some, None, is_some, is_none}
+use Rattle.job_text.specs.Drafts.{Declared, image_count, slot_of}
 use Rattle.job_text.specs.Grammar.{has_its_words, heading_of, is_image_name, is_short_name}
 use Rattle.job_text.specs.Numbers.{number, number_within}
 use Rattle.job_text.specs.Words.{is_skipped, is_text, word_at, words_of}
@@ -36,11 +37,13 @@ is_image heading.Short = false
 
 -- Count: a wrong number of words, a 65th image, or a line past 65,536
 abbrev pub is_miscounted : Declared → ℕ → Heading → ℕ → Bool
-is_miscounted d number heading count = not (has_its_words heading count) || (is_image heading && (image_count d == 64)) || nat_lt 65536 number
+is_miscounted d number heading count =
+    not (has_its_words heading count) || (is_image heading && (image_count d == 64)) || nat_lt 65536 number
 
 -- the arguments of a call, its words 4, 5 and 6
 abbrev pub has_bad_argument : List (List ℕ) → Bool
-has_bad_argument words = is_none (number (word_at 4 words)) || is_none (number (word_at 5 words)) || is_none (number (word_at 6 words))
+has_bad_argument words =
+    is_none (number (word_at 4 words)) || is_none (number (word_at 5 words)) || is_none (number (word_at 6 words))
 
 -- the numbers behind a verb
 abbrev pub has_bad_operand : Verb → List (List ℕ) → Bool
@@ -55,7 +58,8 @@ has_bad_number d (heading.Image kind) words = false
 has_bad_number d heading.Threads words = is_none (number_within 1 64 (word_at 1 words))
 has_bad_number d heading.Fuel words = is_none (number_within 1 4294967295 (word_at 1 words))
 has_bad_number d heading.Order words = list_any (λ word. is_none (thread_named d word)) (drop 1 words)
-has_bad_number d (heading.Thread verb) words = is_none (thread_named d (word_at 0 words)) || has_bad_operand verb words
+has_bad_number d (heading.Thread verb) words =
+    is_none (thread_named d (word_at 0 words)) || has_bad_operand verb words
 has_bad_number d heading.Short words = false
 
 -- whether the line of a thread names a symbol, its word 3
@@ -79,12 +83,13 @@ has_bad_name d (heading.Image kind) words = not (is_image_name (word_at 1 words)
 has_bad_name d heading.Threads words = false
 has_bad_name d heading.Fuel words = false
 has_bad_name d heading.Order words = false
-has_bad_name d (heading.Thread verb) words = has_long_symbol verb words || is_none (place_of d (word_at 2 words))
+has_bad_name d (heading.Thread verb) words = has_long_symbol verb words || is_none (slot_of d (word_at 2 words))
 has_bad_name d heading.Short words = false
 
 -- Twice: a second image of the name, a second program, or a second `threads`, `fuel` or `order`
 abbrev pub is_second : Declared → Heading → List (List ℕ) → Bool
-is_second d (heading.Image kind) words = is_some (place_of d (word_at 1 words)) || (is_program kind && is_some d.program)
+is_second d (heading.Image kind) words =
+    is_some (slot_of d (word_at 1 words)) || (is_program kind && is_some d.program)
 is_second d heading.Threads words = d.has_threads
 is_second d heading.Fuel words = is_some d.fuel
 is_second d heading.Order words = is_some d.order

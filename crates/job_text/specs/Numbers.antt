@@ -1,5 +1,6 @@
 -- The numbers that words write.
-use Rattle.std.specs.Prelude.{ℕ, ◌^◌, Bool, not, ◌&&◌, ◌==◌, nat_lt, nat_le, List, length, drop, slice_index, codes, nat_eq, Option, Some, None, if◌then◌else◌}
+use Rattle.std.specs.Prelude.{ℕ, ◌^◌, Bool, not, ◌&&◌, ◌==◌, nat_lt, nat_le, List, length, drop, slice_index, codes}
+use Rattle.std.specs.Prelude.{nat_eq, Option, Some, None, if◌then◌else◌}
 use Rattle.std.specs.Char.{digit_value}
 use Rattle.std.specs.List.{list_all, starts_with}
 use Rattle.std.specs.Str.Parse.{digits_value}
@@ -10,7 +11,8 @@ is_numeral base digits = not (length digits == 0) && list_all (λ c. nat_lt (dig
 
 -- the number that digits of a base write, if it is below 2^64
 unfoldable pub numeral : ℕ → List ℕ → Option ℕ
-numeral base digits = if is_numeral base digits && nat_lt (digits_value base digits) (2 ^ 64) then Some (digits_value base digits) else None
+numeral base digits = if is_numeral base digits && nat_lt (digits_value base digits) (2 ^ 64)
+    then Some (digits_value base digits) else None
 
 -- a zero before other bytes
 abbrev pub has_leading_zero : List ℕ → Bool

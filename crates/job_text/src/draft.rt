@@ -1,12 +1,14 @@
 //! A job as far as it is read.
 
-ghost use Rattle.std.specs.Prelude.{All, ◌≡◌, ◌≤◌, ◌<◌, ◌++◌, ◌∷◌, ◌||◌, ◌&&◌, [], false, Some, is_some, IfOk, IfSome, IsTrue, OnOk, None, length, map, replicate, drop};
+ghost use Rattle.std.specs.Prelude.{All, ◌≡◌, ◌≤◌, ◌<◌, ◌++◌, ◌∷◌, ◌||◌, ◌&&◌, [], false, Some, is_some, IfOk};
+ghost use Rattle.std.specs.Prelude.{IfSome, IsTrue, OnOk, None, length, map, replicate, drop};
 ghost use Rattle.job_text.specs.Actions.{IsAction};
 ghost use Rattle.job_text.specs.Threads.{IsThread};
-ghost use Rattle.job_text.specs.Drafts.{IsPlace, IsPlan, image_count, nothing_declared, place_of};
+ghost use Rattle.job_text.specs.Drafts.{IsSlot, IsPlan, image_count, nothing_declared, slot_of};
 ghost use Rattle.job_text.specs.LineAnswers.{IsLineAnswer, IsOrderAnswer, IsRead};
 ghost use Rattle.job_text.specs.LineEffects.{action_of, with_heading, with_image, with_line, with_words};
-ghost use Rattle.job_text.specs.LineFaults.{action_fault, fault_in_words, fault_under, has_long_object, is_image, is_miscounted, is_program, symbol_fault, thread_named};
+ghost use Rattle.job_text.specs.LineFaults.{action_fault, fault_in_words, fault_under, has_long_object, is_image};
+ghost use Rattle.job_text.specs.LineFaults.{is_miscounted, is_program, symbol_fault, thread_named};
 ghost use Rattle.job_text.specs.Grammar.{heading_of};
 ghost use Rattle.job_text.specs.Words.{word_at, words_of};
 ghost use Rattle.job_text.specs.declared.grammar.Heading.TheVariants as heading;
@@ -36,7 +38,7 @@ const MAX_FUEL: u64 = 0xffff_ffff;
 
 /// Where an image stands: each group of images is counted from 0 in the order of the job.
 #[derive(Clone, Copy, PartialEq, Eq, Debug)]
-pub(crate) enum Place {
+pub(crate) enum Slot {
     Program,
     Start(u8),
     Late(u8),
@@ -45,14 +47,14 @@ pub(crate) enum Place {
 /// A line of a thread, before all images are known.
 #[derive(Drop)]
 pub(crate) struct Plan {
-    pub(crate) place: Place,
+    pub(crate) slot: Slot,
     pub(crate) action: Action,
 }
 
 /// What the lines so far declare.
 #[derive(Drop)]
 pub(crate) struct Draft<'a> {
-    pub(crate) names: HashMap<&'a str, Place>,
+    pub(crate) names: HashMap<&'a str, Slot>,
     pub(crate) program: Option<Image>,
     pub(crate) starts: Vec<Image>,
     pub(crate) lates: Vec<Image>,
@@ -69,9 +71,12 @@ impl<'a> Model for Draft<'a> {
 
     ghost Value = { Declared };
 
-    ghost view = { λ d. declared d.program d.starts.items d.lates.items d.has_threads d.fuel (option_map (λ threads. threads.items) d.order) (map (λ lines. lines.items) d.lines.items) };
+    ghost view = { λ d. declared d.program d.starts.items d.lates.items d.has_threads d.fuel
+        (option_map (λ threads. threads.items) d.order) (map (λ lines. lines.items) d.lines.items) };
 
-    ghost invariant = { λ d. IsDraft d.names (declared d.program d.starts.items d.lates.items d.has_threads d.fuel (option_map (λ threads. threads.items) d.order) (map (λ lines. lines.items) d.lines.items)) };
+    ghost invariant = { λ d. IsDraft d.names
+        (declared d.program d.starts.items d.lates.items d.has_threads d.fuel
+        (option_map (λ threads. threads.items) d.order) (map (λ lines. lines.items) d.lines.items)) };
 }
 
 impl<'a> Draft<'a> {
@@ -100,7 +105,8 @@ impl<'a> Draft<'a> {
         number: u64,
         text: &'a str,
     ) -> Result<(), Flaw>
-        ensures { IsLineAnswer (fault_under self.old number (heading_of (words_of text.now)) (words_of text.now)) (with_heading (heading_of (words_of text.now)) (words_of text.now) self.old) self.new result }
+        ensures { IsLineAnswer (fault_under self.old number (heading_of (words_of text.now)) (words_of text.now))
+            (with_heading (heading_of (words_of text.now)) (words_of text.now) self.old) self.new result }
     {
         let words = Words::of(alloc, text)?;
         match heading_of(&words) {
@@ -116,7 +122,8 @@ impl<'a> Draft<'a> {
         heading: Heading,
         words: &Words<'a>,
     ) -> Result<(), Flaw>
-        ensures { IsLineAnswer (fault_under self.old number (Some heading) words.now) (with_words heading words.now self.old) self.new result }
+        ensures { IsLineAnswer (fault_under self.old number (Some heading) words.now)
+            (with_words heading words.now self.old) self.new result }
     {
         if self.is_miscounted(number, heading, words.count()) {
             return Err(Flaw::Kind(JobFaultKind::Count));
@@ -150,7 +157,8 @@ impl<'a> Draft<'a> {
 
     fn read_image(&mut self, alloc: Global, kind: ImageKind, words: &Words<'a>) -> Result<(), Flaw>
         requires { image_count self.old < 64 }
-        ensures { IsLineAnswer (fault_in_words self.old (heading.Image kind) words.now) (with_words (heading.Image kind) words.now self.old) self.new result }
+        ensures { IsLineAnswer (fault_in_words self.old (heading.Image kind) words.now)
+            (with_words (heading.Image kind) words.now self.old) self.new result }
     {
         let name = words.at(1);
         if !is_image_name(name) || has_long_object(words) {
@@ -170,15 +178,15 @@ impl<'a> Draft<'a> {
 
     /// Whether an image of the name, or a program as this one, is declared.
     fn is_declared(&self, kind: ImageKind, name: &'a str) -> bool
-        ensures { result ≡ (is_some (place_of self.now name.now) || (is_program kind && is_some self.now.program)) }
+        ensures { result ≡ (is_some (slot_of self.now name.now) || (is_program kind && is_some self.now.program)) }
     {
-        self.place_of(name).is_some() || (is_program(kind) && self.program.is_some())
+        self.slot_of(name).is_some() || (is_program(kind) && self.program.is_some())
     }
 
-    /// The place of the image of a name.
-    fn place_of(&self, name: &'a str) -> Option<Place>
-        ensures value { result ≡ place_of self.now name.now }
-        ensures place { IfSome result (IsPlace self.now.program self.now.starts self.now.lates) }
+    /// The slot of the image of a name.
+    fn slot_of(&self, name: &'a str) -> Option<Slot>
+        ensures value { result ≡ slot_of self.now name.now }
+        ensures slot { IfSome result (IsSlot self.now.program self.now.starts self.now.lates) }
     {
         self.names.get(&name).copied()
     }
@@ -187,7 +195,7 @@ impl<'a> Draft<'a> {
     fn declare(&mut self, name: &'a str, image: Image) -> Result<(), AllocError>
         requires room { image_count self.old < 64 }
         requires named { image.name ≡ name.now }
-        requires undeclared { place_of self.old name.now ≡ None }
+        requires undeclared { slot_of self.old name.now ≡ None }
         requires program { IsTrue (is_program image.kind) → self.old.program ≡ None }
         ensures { OnOk result (self.new ≡ with_image image image.kind self.old) }
     {
@@ -201,11 +209,11 @@ impl<'a> Draft<'a> {
     fn declare_program(&mut self, name: &'a str, image: Image) -> Result<(), AllocError>
         requires room { image_count self.old < 64 }
         requires named { image.name ≡ name.now }
-        requires undeclared { place_of self.old name.now ≡ None }
+        requires undeclared { slot_of self.old name.now ≡ None }
         requires program { self.old.program ≡ None }
         ensures { OnOk result (self.new ≡ record self.old { program = Some image }) }
     {
-        self.names.insert(name, Place::Program)?;
+        self.names.insert(name, Slot::Program)?;
         self.program = Some(image);
         Ok(())
     }
@@ -213,12 +221,12 @@ impl<'a> Draft<'a> {
     fn declare_start(&mut self, name: &'a str, image: Image) -> Result<(), AllocError>
         requires room { image_count self.old < 64 }
         requires named { image.name ≡ name.now }
-        requires undeclared { place_of self.old name.now ≡ None }
+        requires undeclared { slot_of self.old name.now ≡ None }
         ensures { OnOk result (self.new ≡ record self.old { starts = self.old.starts ++ image ∷ [] }) }
     {
         self.starts.reserve(1)?;
         self.names
-            .insert(name, Place::Start(self.starts.len() as u8))?;
+            .insert(name, Slot::Start(self.starts.len() as u8))?;
         self.starts.push(image).unwrap();
         Ok(())
     }
@@ -226,18 +234,19 @@ impl<'a> Draft<'a> {
     fn declare_late(&mut self, name: &'a str, image: Image) -> Result<(), AllocError>
         requires room { image_count self.old < 64 }
         requires named { image.name ≡ name.now }
-        requires undeclared { place_of self.old name.now ≡ None }
+        requires undeclared { slot_of self.old name.now ≡ None }
         ensures { OnOk result (self.new ≡ record self.old { lates = self.old.lates ++ image ∷ [] }) }
     {
         self.lates.reserve(1)?;
         self.names
-            .insert(name, Place::Late(self.lates.len() as u8))?;
+            .insert(name, Slot::Late(self.lates.len() as u8))?;
         self.lates.push(image).unwrap();
         Ok(())
     }
 
     fn read_threads(&mut self, alloc: Global, words: &Words<'a>) -> Result<(), Flaw>
-        ensures { IsLineAnswer (fault_in_words self.old heading.Threads words.now) (with_words heading.Threads words.now self.old) self.new result }
+        ensures { IsLineAnswer (fault_in_words self.old heading.Threads words.now)
+            (with_words heading.Threads words.now self.old) self.new result }
     {
         let Some(count) = number_within(words.at(1), 1, MAX_THREADS) else {
             return Err(Flaw::Kind(JobFaultKind::Number));
@@ -252,7 +261,8 @@ impl<'a> Draft<'a> {
     }
 
     fn read_fuel(&mut self, words: &Words<'a>) -> Result<(), Flaw>
-        ensures { IsLineAnswer (fault_in_words self.old heading.Fuel words.now) (with_words heading.Fuel words.now self.old) self.new result }
+        ensures { IsLineAnswer (fault_in_words self.old heading.Fuel words.now)
+            (with_words heading.Fuel words.now self.old) self.new result }
     {
         let Some(steps) = number_within(words.at(1), 1, MAX_FUEL) else {
             return Err(Flaw::Kind(JobFaultKind::Number));
@@ -265,7 +275,8 @@ impl<'a> Draft<'a> {
     }
 
     fn read_order(&mut self, alloc: Global, words: &Words<'a>) -> Result<(), Flaw>
-        ensures { IsLineAnswer (fault_in_words self.old heading.Order words.now) (with_words heading.Order words.now self.old) self.new result }
+        ensures { IsLineAnswer (fault_in_words self.old heading.Order words.now)
+            (with_words heading.Order words.now self.old) self.new result }
     {
         let order = self.threads_of(alloc, words)?;
         if self.order.is_some() {
@@ -281,8 +292,8 @@ impl<'a> Draft<'a> {
         ensures named { IfOk result (λ order. All (IsThread (length self.now.lines)) order.items) }
     {
         let mut order = Vec::new(alloc);
-        for place in 1..words.count() {
-            let Some(thread) = self.thread_named(words.at(place)) else {
+        for index in 1..words.count() {
+            let Some(thread) = self.thread_named(words.at(index)) else {
                 return Err(Flaw::Kind(JobFaultKind::Number));
             };
             order.push(thread)?;
@@ -291,16 +302,17 @@ impl<'a> Draft<'a> {
     }
 
     fn read_thread_line(&mut self, alloc: Global, verb: Verb, words: &Words<'a>) -> Result<(), Flaw>
-        ensures { IsLineAnswer (fault_in_words self.old (heading.Thread verb) words.now) (with_words (heading.Thread verb) words.now self.old) self.new result }
+        ensures { IsLineAnswer (fault_in_words self.old (heading.Thread verb) words.now)
+            (with_words (heading.Thread verb) words.now self.old) self.new result }
     {
         let Some(thread) = self.thread_named(words.at(0)) else {
             return Err(Flaw::Kind(JobFaultKind::Number));
         };
         let action = read_action(alloc, verb, words)?;
-        let Some(place) = self.place_of(words.at(2)) else {
+        let Some(slot) = self.slot_of(words.at(2)) else {
             return Err(Flaw::Kind(JobFaultKind::Name));
         };
-        self.add_line(thread, Plan { place, action })?;
+        self.add_line(thread, Plan { slot, action })?;
         Ok(())
     }
 

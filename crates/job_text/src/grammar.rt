@@ -1,7 +1,9 @@
 //! What the words of a line begin.
 
 ghost use Rattle.std.specs.Prelude.{◌≡◌};
-ghost use Rattle.job_text.specs.Grammar.{begins_with_digit, has_name_bytes, has_name_length, has_its_words, heading_of, is_image_name, is_name_byte, is_short_name, kind_heading, verb_heading};
+ghost use Rattle.job_text.specs.Grammar.{begins_with_digit, has_name_bytes, has_name_length, has_its_words};
+ghost use Rattle.job_text.specs.Grammar.{heading_of, is_image_name, is_name_byte, is_short_name, kind_heading};
+ghost use Rattle.job_text.specs.Grammar.{verb_heading};
 
 use crate::words::Words;
 use link_faults::ImageKind;

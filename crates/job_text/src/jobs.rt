@@ -1,6 +1,7 @@
 //! The job.
 
-ghost use Rattle.std.specs.Prelude.{All, ◌≡◌, ◌-◌, ◌≤◌, IfSome, Some, slice_get, ◌<◌, ◌^◌, [], IfOk, length, map, unwrap_or};
+ghost use Rattle.std.specs.Prelude.{All, ◌≡◌, ◌-◌, ◌≤◌, IfSome, Some, slice_get, ◌<◌, ◌^◌, [], IfOk, length, map};
+ghost use Rattle.std.specs.Prelude.{unwrap_or};
 ghost use Rattle.std.specs.Option.{option_map};
 ghost use Rattle.job_text.specs.LineAnswers.{IsLineAnswer};
 ghost use Rattle.job_text.specs.LineEffects.{with_text};
@@ -8,7 +9,7 @@ ghost use Rattle.job_text.specs.LineFaults.{fault_of};
 ghost use Rattle.job_text.specs.Images.{IsImageNumber, image_number};
 ghost use Rattle.job_text.specs.Jobs.{IsAnswer, in_image_order, job_declared, job_of, number_of, numbered_line};
 
-use crate::draft::{Draft, Place, Plan};
+use crate::draft::{Draft, Slot, Plan};
 use crate::fault::{Flaw, JobFault, JobFaultKind};
 use crate::images::Image;
 use crate::thread_lines::ThreadLine;
@@ -34,9 +35,11 @@ impl Model for Job {
 
     ghost Value = { JobParts };
 
-    ghost view = { λ job. job_parts job.images.items job.fuel job.order.items (map (λ lines. lines.items) job.lines.items) };
+    ghost view = { λ job. job_parts job.images.items job.fuel job.order.items
+        (map (λ lines. lines.items) job.lines.items) };
 
-    ghost invariant = { λ job. IsJob (job_parts job.images.items job.fuel job.order.items (map (λ lines. lines.items) job.lines.items)) };
+    ghost invariant = { λ job. IsJob
+        (job_parts job.images.items job.fuel job.order.items (map (λ lines. lines.items) job.lines.items)) };
 }
 
 impl Job {
@@ -134,12 +137,10 @@ fn image_number(images: &[Image], name: &str) -> Option<u32>
     ensures value { result ≡ image_number images.now name.now }
     ensures within { IfSome result (IsImageNumber images.now) }
 {
-    for (index, image) in images.iter().enumerate() {
-        if name == image.name.as_str() {
-            return Some(index as u32 + 1);
-        }
-    }
-    None
+    let index = images
+        .iter()
+        .position(|image| name == image.name.as_str())?;
+    Some(index as u32 + 1)
 }
 
 /// Reads the next line.
@@ -225,7 +226,9 @@ fn numbered_lines(
     plans: Vec<Vec<Plan>>,
     starts: u8,
 ) -> Result<Vec<Vec<ThreadLine>>, AllocError>
-    ensures { IfOk result (λ all. map (λ lines. lines.items) all.items ≡ map (λ lines. map (numbered_line starts) lines.items) plans.items) }
+    ensures { IfOk result
+        (λ all. map (λ lines. lines.items) all.items
+        ≡ map (λ lines. map (numbered_line starts) lines.items) plans.items) }
 {
     let mut all = Vec::new(alloc);
     for lines in plans {
@@ -246,21 +249,21 @@ fn numbered(alloc: Global, plans: Vec<Plan>, starts: u8) -> Result<Vec<ThreadLin
 fn numbered_line(plan: Plan, starts: u8) -> ThreadLine
     ensures { result ≡ numbered_line starts plan }
 {
-    let Plan { place, action } = plan;
+    let Plan { slot, action } = plan;
     ThreadLine {
-        image: number_of(place, starts),
+        image: number_of(slot, starts),
         action,
     }
 }
 
 /// The number of an image: the program is 1, then come the start images, then the late ones.
-fn number_of(place: Place, starts: u8) -> u32
-    ensures { result ≡ number_of starts place }
+fn number_of(slot: Slot, starts: u8) -> u32
+    ensures { result ≡ number_of starts slot }
 {
-    match place {
-        Place::Program => 1,
-        Place::Start(index) => 2 + u32::from(index),
-        Place::Late(index) => 2 + u32::from(starts) + u32::from(index),
+    match slot {
+        Slot::Program => 1,
+        Slot::Start(index) => 2 + u32::from(index),
+        Slot::Late(index) => 2 + u32::from(starts) + u32::from(index),
     }
 }
 

@@ -35,8 +35,6 @@ mod jobs;
 mod numbers;
 mod operands;
 mod spelling;
-#[cfg(test)]
-mod tests;
 mod thread_lines;
 mod words;
 

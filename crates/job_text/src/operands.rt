@@ -76,12 +76,7 @@ fn read_symbol(alloc: Global, words: &Words) -> Result<Name, Flaw>
 pub(crate) fn has_long_object(words: &Words) -> bool
     ensures { result ≡ has_long_object words.now }
 {
-    for place in 3..words.count() {
-        if !is_short_name(words.at(place)) {
-            return true;
-        }
-    }
-    false
+    words.objects().iter().any(|word| !is_short_name(word))
 }
 
 /// The names of an image's objects.
@@ -89,8 +84,8 @@ pub(crate) fn objects_of(alloc: Global, words: &Words) -> Result<Names, AllocErr
     ensures { IfOk result (λ names. names ≡ drop 3 words.now) }
 {
     let mut names = Names::new(alloc);
-    for place in 3..words.count() {
-        names.push(Name::new(alloc, words.at(place))?)?;
+    for index in 3..words.count() {
+        names.push(Name::new(alloc, words.at(index))?)?;
     }
     Ok(names)
 }

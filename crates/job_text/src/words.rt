@@ -1,6 +1,6 @@
 //! The lines of a job and their words.
 
-ghost use Rattle.std.specs.Prelude.{◌≡◌, ◌==◌, IfSome, IfOk, length, slice_index, is_some};
+ghost use Rattle.std.specs.Prelude.{◌≡◌, ◌==◌, IfSome, IfOk, drop, length, map, slice_index, is_some};
 ghost use Rattle.job_text.specs.Words.{is_blank, is_skipped, is_text, words_of, word_at};
 
 use std::alloc::{AllocError, Global};
@@ -79,11 +79,21 @@ impl<'a> Words<'a> {
         self.items.len()
     }
 
-    /// A word, counted from 0, and the empty one past the last.
-    pub(crate) fn at(&self, place: usize) -> &'a str
-        ensures { result.now ≡ word_at place self.now }
+    /// The words from the fourth on: the objects of an image's line.
+    pub(crate) fn objects(&self) -> &[&'a str]
+        ensures { map (λ word. word.now) result.now ≡ drop 3 self.now }
     {
-        match self.items.get(place) {
+        match self.items.as_slice() {
+            [_, _, _, objects @ ..] => objects,
+            _ => &[],
+        }
+    }
+
+    /// A word, counted from 0, and the empty one past the last.
+    pub(crate) fn at(&self, index: usize) -> &'a str
+        ensures { result.now ≡ word_at index self.now }
+    {
+        match self.items.get(index) {
             Some(word) => word,
             None => "",
         }

@@ -24,7 +24,7 @@ not_full : (word : ℕ) → HasRoom word → word < 2 ^ 64 → word + 1 < 2 ^ 64
 not_full word room fits = elim (cases_lt (word + 1) (2 ^ 64)) [
   | inl l ↦ l
   | inr h ↦ let full : word ≡ 2 ^ 64 - 1 = omega arith in
-      let one : bit_at word room.place ≡ 1 = rw full (bit_at_ones 64 room.place room.within) in
+      let one : bit_at word room.bit ≡ 1 = rw full (bit_at_ones 64 room.bit room.within) in
       absurd (omega (arith, room.clear))
 ]
 

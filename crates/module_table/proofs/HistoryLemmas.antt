@@ -19,7 +19,8 @@ use Rattle.module_table.specs.Walks.{past-append, legal_push}
 pub past_more : (infos : List ImageInfo) (last_offset : ℕ) (events : List Event) (e : Event) → past infos last_offset (events ++ e ∷ []) ≡ after_one (past infos last_offset events) e
 past_more infos last_offset events e = past-append infos last_offset events (e ∷ [])
 
-pub legal_more : (infos : List ImageInfo) (last_offset : ℕ) (events : List Event) (e : Event) → IsLegal infos last_offset events → accepts (past infos last_offset events) e ≡ true → IsLegal infos last_offset (events ++ e ∷ [])
+pub legal_more : (infos : List ImageInfo) (last_offset : ℕ) (events : List Event) (e : Event) → IsLegal infos last_offset events → accepts (past infos last_offset events) e ≡ true
+    → IsLegal infos last_offset (events ++ e ∷ [])
 unfolding past
 legal_more infos last_offset events e is accepted = record { images = is.images; low = is.low; each = legal_push (start infos last_offset) events e is.each accepted }
 
@@ -29,7 +30,9 @@ left_more h h' e adds = rw (adds.infos, adds.last_offset, adds.events) (past_mor
 
 -- ---- opens
 
-never_memory : (late loaded full statics lacks : Bool) → ◌≡◌ {A = Option OpenRefusal} (if not late then Some Unknown else (if loaded then None else (if full then Some Full else (if statics && lacks then Some StaticFull else None)))) (Some NoRoomToOpen) → ⊥
+never_memory : (late loaded full statics lacks : Bool)
+    → ◌≡◌ {A = Option OpenRefusal} (if not late then Some Unknown else (if loaded then None else (if full then Some Full else (if statics && lacks then Some StaticFull else None))))
+    (Some NoRoomToOpen) → ⊥
 never_memory false loaded full statics lacks e = cc
 never_memory true true full statics lacks e = cc
 never_memory true false true statics lacks e = cc
@@ -39,7 +42,8 @@ never_memory true false false false lacks e = cc
 
 not_memory : (p : Past) (image : ℕ) → open_refusal p image ≡ Some NoRoomToOpen → ⊥
 unfolding open_refusal
-not_memory p image e = never_memory (module_of p image).info.late (is_loaded (module_of p image)) (nat_le MOST_INSTANCES p.made) (module_of p image).info.statics (nat_lt p.limit (next_offset p (module_of p image))) e
+not_memory p image e = never_memory (module_of p image).info.late (is_loaded (module_of p image)) (nat_le MOST_INSTANCES p.made) (module_of p image).info.statics
+    (nat_lt p.limit (next_offset p (module_of p image))) e
 
 pub refused_open : (h : History) (image : ℕ) (refusal : OpenRefusal) → Some refusal ≡ open_refusal (left h) image → OpenRefused h image refusal
 unfolding open_answer
@@ -56,7 +60,8 @@ pub open_unheld : (h : History) (image : ℕ) → None ≡ open_refusal (left h)
 unfolding open_answer
 open_unheld h image e none = (rw (← e) refl, none)
 
-pub opened_is : (h h' : History) (thread line image : ℕ) → Adds h (record { thread = thread; line = line; opens = true; image = image }) h' → None ≡ open_refusal (left h) image → open_answer h image ≡ Ok (record { instance = (module_of (left h') image).instance; id = (module_of (left h') image).id; at = length h.events })
+pub opened_is : (h h' : History) (thread line image : ℕ) → Adds h (record { thread = thread; line = line; opens = true; image = image }) h' → None ≡ open_refusal (left h) image
+    → open_answer h image ≡ Ok (record { instance = (module_of (left h') image).instance; id = (module_of (left h') image).id; at = length h.events })
 unfolding open_answer opened_of after_one
 opened_is h h' thread line image adds e = rw (← e, left_more h h' _ adds) refl
 
@@ -85,7 +90,8 @@ pub close_unheld : (h : History) (image : ℕ) → None ≡ close_refusal (left 
 unfolding close_answer
 close_unheld h image e none = (rw (← e) refl, none)
 
-pub closed_is : (h h' : History) (thread line image : ℕ) → Adds h (record { thread = thread; line = line; opens = false; image = image }) h' → None ≡ close_refusal (left h) image → close_answer h image ≡ Ok (record { at = length h.events; gone = not (is_loaded (module_of (left h') image)) })
+pub closed_is : (h h' : History) (thread line image : ℕ) → Adds h (record { thread = thread; line = line; opens = false; image = image }) h' → None ≡ close_refusal (left h) image
+    → close_answer h image ≡ Ok (record { at = length h.events; gone = not (is_loaded (module_of (left h') image)) })
 unfolding close_answer closed_of after_one
 closed_is h h' thread line image adds e = rw (← e, left_more h h' _ adds) refl
 

@@ -1,5 +1,6 @@
 -- Static blocks lie one past the other.
-use Rattle.std.proofs.Common.{◌≡◌, ◌≢◌, ℕ, zero, suc, ◌+◌, ◌-◌, ◌%◌, ◌^◌, ◌<◌, ◌≤◌, Bool, true, false, cond, List, [], ◌∷◌, ◌++◌, length, get_or, Some, None, sym, refl, ap, ◌∙◌, subst, arith, inl, inr, ◌⊎◌}
+use Rattle.std.proofs.Common.{◌≡◌, ◌≢◌, ℕ, zero, suc, ◌+◌, ◌-◌, ◌%◌, ◌^◌, ◌<◌, ◌≤◌, Bool, true, false, cond, List, [], ◌∷◌, ◌++◌, length, get_or, Some, None, sym, refl, ap, ◌∙◌, subst, arith, inl}
+use Rattle.std.proofs.Common.{inr, ◌⊎◌}
 use Rattle.std.proofs.Math.ListN.{set}
 use Rattle.std.specs.Prelude.{if◌then◌else◌, ◌&&◌, ◌==◌, not, All, AllPairs, unwrap_or}
 use Rattle.std.specs.Int.{next_multiple_of}
@@ -12,7 +13,8 @@ use Rattle.module_table.specs.declared.modules.ImageInfo.{ImageInfo}
 use Rattle.module_table.specs.declared.modules.Module.{Module}
 use Rattle.module_table.specs.declared.events.Event.{Event}
 use Rattle.module_table.specs.Modules.{AreInfos, is_loaded, no_module}
-use Rattle.module_table.specs.Past.{Past, module_of, start, past, after_one, after, opened, loaded, retained, released, with_uses, new_instance, next_offset, accepts, is_legal, first_module, first_modules}
+use Rattle.module_table.specs.Past.{Past, module_of, start, past, after_one, after, opened, loaded, retained, released, with_uses, new_instance, next_offset, accepts, is_legal, first_module}
+use Rattle.module_table.specs.Past.{first_modules}
 use Rattle.module_table.specs.History.{IsLegal}
 use Rattle.module_table.specs.Laws.{loads, Block, Covers, AreApart, startup_blocks, startup_end, surplus_blocks, BlocksAreApart, BlocksFit, block_of, InstancesAreApart}
 use Rattle.module_table.specs.Tables.{IsPast, CanLoad}
@@ -66,20 +68,27 @@ stacked_startup (info ∷ infos) taken bs is = elim (cases_Bool info.late) [
 
 taken-after_one : (p : Past) (e : Event) → (after_one p e).taken ≡ (if loads p e && (module_of p e.image).info.statics then next_offset p (module_of p e.image) else p.taken)
 unfolding after_one opened loaded retained released
-taken-after_one p e = elim e.opens as (λ b. (if b then (if is_loaded (module_of p e.image) then retained p e.image else loaded p e.image) else released p e.image).taken ≡ (if (b && not (is_loaded (module_of p e.image))) && (module_of p e.image).info.statics then next_offset p (module_of p e.image) else p.taken)) [
-  | true ↦ elim (is_loaded (module_of p e.image)) as (λ b. (if b then retained p e.image else loaded p e.image).taken ≡ (if not b && (module_of p e.image).info.statics then next_offset p (module_of p e.image) else p.taken)) [
-    | true ↦ refl
-    | false ↦ elim (module_of p e.image).info.statics as (λ b. unwrap_or (if b then Some (next_offset p (module_of p e.image)) else None) p.taken ≡ (if b then next_offset p (module_of p e.image) else p.taken)) [ true ↦ refl | false ↦ refl ]
-  ]
-  | false ↦ refl
-]
+taken-after_one p e = elim e.opens as
+    (λ b. (if b then (if is_loaded (module_of p e.image) then retained p e.image else loaded p e.image) else released p e.image).taken
+    ≡ (if (b && not (is_loaded (module_of p e.image))) && (module_of p e.image).info.statics then next_offset p (module_of p e.image) else p.taken)) [
+      | true ↦ elim (is_loaded (module_of p e.image)) as
+          (λ b. (if b then retained p e.image else loaded p e.image).taken ≡ (if not b && (module_of p e.image).info.statics then next_offset p (module_of p e.image) else p.taken)) [
+            | true ↦ refl
+            | false ↦ elim (module_of p e.image).info.statics as
+                (λ b. unwrap_or (if b then Some (next_offset p (module_of p e.image)) else None) p.taken ≡ (if b then next_offset p (module_of p e.image) else p.taken)) [ true ↦ refl | false ↦ refl ]
+          ]
+      | false ↦ refl
+    ]
 
 stacked_surplus : (p : Past) (events : List Event) → Stacked p.taken (surplus_blocks p events)
 stacked_surplus p [] = tt
 stacked_surplus p (e ∷ es) = elim (cases_Bool (loads p e && (module_of p e.image).info.statics)) [
   | inl gives ↦
       let taken : (after_one p e).taken ≡ next_offset p (module_of p e.image) = taken-after_one p e ∙ (rw gives refl) in
-      rw gives (rounds_up (p.taken + (module_of p e.image).info.size) (module_of p e.image).info.align, subst (λ (n : ℕ). Stacked n (surplus_blocks (after_one p e) es)) taken (stacked_surplus (after_one p e) es))
+      rw gives (
+        rounds_up (p.taken + (module_of p e.image).info.size) (module_of p e.image).info.align,
+        subst (λ (n : ℕ). Stacked n (surplus_blocks (after_one p e) es)) taken (stacked_surplus (after_one p e) es),
+      )
   | inr none ↦
       let taken : (after_one p e).taken ≡ p.taken = taken-after_one p e ∙ (rw none refl) in
       rw none (subst (λ (n : ℕ). Stacked n (surplus_blocks (after_one p e) es)) taken (stacked_surplus (after_one p e) es))
@@ -113,7 +122,8 @@ unfolding is_legal
 fits_after p [] legal = All-nil (λ (b : Block). b.offset ≤ p.limit)
 fits_after p (e ∷ es) legal =
     let parts = and_parts (accepts p e) (is_legal (after_one p e) es) legal in
-    let rest : All (λ (b : Block). b.offset ≤ p.limit) (surplus_blocks (after_one p e) es) = subst (λ (n : ℕ). All (λ (b : Block). b.offset ≤ n) (surplus_blocks (after_one p e) es)) (limit-after_one p e) (fits_after (after_one p e) es parts.1) in
+    let rest : All (λ (b : Block). b.offset ≤ p.limit) (surplus_blocks (after_one p e) es) =
+    subst (λ (n : ℕ). All (λ (b : Block). b.offset ≤ n) (surplus_blocks (after_one p e) es)) (limit-after_one p e) (fits_after (after_one p e) es parts.1) in
     elim (cases_Bool (loads p e && (module_of p e.image).info.statics)) [
       | inl gives ↦ rw gives (All-cons (λ (b : Block). b.offset ≤ p.limit) _ _ (gift_fits p e parts.0 gives) rest)
       | inr none ↦ rw none rest
@@ -138,7 +148,8 @@ record SameBlock (new old : Module) : Type 0 where
 
 block_same : (p : Past) (image uses a : ℕ) → image < length p.modules → SameBlock (module_of (with_uses p image uses) a) (module_of p a)
 block_same p image uses a l = elim (cases_eq a image) [
-  | inl e ↦ let here : module_of (with_uses p image uses) a ≡ record (module_of p image) { uses = uses } = rw e (get_or-set_same p.modules image (record (module_of p image) { uses = uses }) no_module l) in
+  | inl e ↦ let here : module_of (with_uses p image uses) a ≡ record (module_of p image) { uses = uses } =
+      rw e (get_or-set_same p.modules image (record (module_of p image) { uses = uses }) no_module l) in
       rw (here, e) (record { offset = refl; info = refl })
   | inr ne ↦ let here : module_of (with_uses p image uses) a ≡ module_of p a = get_or-set_other p.modules image a (record (module_of p image) { uses = uses }) no_module ne in
       rw here (record { offset = refl; info = refl })
@@ -154,7 +165,7 @@ spread_with_uses base p image uses is s l = record {
       rw (left.info, right.info) (s.apart a b x y ne (sym left.offset ∙ e) (sym right.offset ∙ f));
 }
 
--- the place of a new instance
+-- the offset of a new instance
 given : (p : Past) (m : Module) (x : ℕ) → (new_instance p m).offset ≡ Some x → x ≡ next_offset p m
 given p m x e = elim (cases_Bool m.info.statics) [
   | inl t ↦ same_Some x (next_offset p m) (sym e ∙ (rw t refl))
@@ -168,7 +179,7 @@ taken_grows p m = elim (cases_Bool m.info.statics) [
   | inr f ↦ rw f (omega arith)
 ]
 
--- and as far as a new place
+-- and as far as a new offset
 taken_reaches : (p : Past) (m : Module) (x : ℕ) → (new_instance p m).offset ≡ Some x → x ≤ unwrap_or (new_instance p m).offset p.taken
 taken_reaches p m x e = rw e (omega arith)
 
@@ -179,15 +190,19 @@ spread_loaded base p image s can =
     let grown : p.taken ≤ unwrap_or (new_instance p (module_of p image)).offset p.taken = taken_grows p (module_of p image) in
     let up : p.taken + (module_of p image).info.size ≤ next_offset p (module_of p image) = rounds_up (p.taken + (module_of p image).info.size) (module_of p image).info.align in
     let low : base ≤ p.taken = s.low in
-    let here : get_or (set p.modules image (new_instance p (module_of p image))) image no_module ≡ new_instance p (module_of p image) = get_or-set_same p.modules image (new_instance p (module_of p image)) no_module l in
-    let there : (a : ℕ) → (a ≡ image → ⊥) → get_or (set p.modules image (new_instance p (module_of p image))) a no_module ≡ module_of p a = λ a ne. get_or-set_other p.modules image a (new_instance p (module_of p image)) no_module ne in
+    let here : get_or (set p.modules image (new_instance p (module_of p image))) image no_module ≡ new_instance p (module_of p image) =
+    get_or-set_same p.modules image (new_instance p (module_of p image)) no_module l in
+    let there : (a : ℕ) → (a ≡ image → ⊥) → get_or (set p.modules image (new_instance p (module_of p image))) a no_module ≡ module_of p a =
+    λ a ne. get_or-set_other p.modules image a (new_instance p (module_of p image)) no_module ne in
     record {
       is = past_loaded p image s.is can;
       low = omega arith;
       limit = s.limit;
       within = λ a x e. elim (cases_eq a image) [
         | inl same ↦
-            let mine : (new_instance p (module_of p image)).offset ≡ Some x = sym (ap (λ (m : Module). m.offset) (let at : get_or (set p.modules image (new_instance p (module_of p image))) a no_module ≡ new_instance p (module_of p image) = rw same here in at)) ∙ e in
+            let mine : (new_instance p (module_of p image)).offset ≡ Some x =
+            sym (ap (λ (m : Module). m.offset)
+            (let at : get_or (set p.modules image (new_instance p (module_of p image))) a no_module ≡ new_instance p (module_of p image) = rw same here in at)) ∙ e in
             let is : x ≡ next_offset p (module_of p image) = given p (module_of p image) x mine in
             rw (same, here) (omega arith, taken_reaches p (module_of p image) x mine)
         | inr ne ↦
@@ -197,7 +212,9 @@ spread_loaded base p image s can =
       ];
       apart = λ a b x y ne e f. elim (cases_eq a image) [
         | inl a_is ↦
-            let mine : (new_instance p (module_of p image)).offset ≡ Some x = sym (ap (λ (m : Module). m.offset) (let at : get_or (set p.modules image (new_instance p (module_of p image))) a no_module ≡ new_instance p (module_of p image) = rw a_is here in at)) ∙ e in
+            let mine : (new_instance p (module_of p image)).offset ≡ Some x =
+            sym (ap (λ (m : Module). m.offset)
+            (let at : get_or (set p.modules image (new_instance p (module_of p image))) a no_module ≡ new_instance p (module_of p image) = rw a_is here in at)) ∙ e in
             let is : x ≡ next_offset p (module_of p image) = given p (module_of p image) x mine in
             let b_ne : b ≡ image → ⊥ = λ h. ne (a_is ∙ sym h) in
             let old : y ≤ p.taken = (s.within b y (sym (ap (λ (m : Module). m.offset) (there b b_ne)) ∙ f)).1 in
@@ -206,7 +223,9 @@ spread_loaded base p image s can =
             let first : (module_of p a).offset ≡ Some x = sym (ap (λ (m : Module). m.offset) (there a a_ne)) ∙ e in
             elim (cases_eq b image) [
               | inl b_is ↦
-                  let mine : (new_instance p (module_of p image)).offset ≡ Some y = sym (ap (λ (m : Module). m.offset) (let at : get_or (set p.modules image (new_instance p (module_of p image))) b no_module ≡ new_instance p (module_of p image) = rw b_is here in at)) ∙ f in
+                  let mine : (new_instance p (module_of p image)).offset ≡ Some y =
+                  sym (ap (λ (m : Module). m.offset)
+                  (let at : get_or (set p.modules image (new_instance p (module_of p image))) b no_module ≡ new_instance p (module_of p image) = rw b_is here in at)) ∙ f in
                   let is : y ≡ next_offset p (module_of p image) = given p (module_of p image) y mine in
                   let old : x ≤ p.taken = (s.within a x first).1 in
                   inl (rw (b_is, here) (omega arith))
@@ -223,7 +242,7 @@ spread_kept base = record {
   released = λ p image s h. spread_with_uses base p image ((module_of p image).uses - 1) (past_released p image s.is h) s (loaded_within p image s.is (lt-ltb 0 (module_of p image).uses h)).0;
 }
 
--- no image has a place in the surplus before any event
+-- no image has an offset in the surplus before any event
 first_nowhere : (info : ImageInfo) (image : ℕ) → (first_module info image).offset ≡ None
 first_nowhere info image = elim (cases_Bool info.late) [ inl t ↦ rw t refl | inr f ↦ rw f refl ]
 
@@ -258,4 +277,6 @@ spread_is_apart base p s = record {
 
 pub instances_apart : (infos : List ImageInfo) (last_offset : ℕ) (events : List Event) → IsLegal infos last_offset events → InstancesAreApart last_offset (past infos last_offset events)
 unfolding past
-instances_apart infos last_offset events is = spread_is_apart last_offset (after (start infos last_offset) events) (kept_along (Spread last_offset) (spread_kept last_offset) (start infos last_offset) events (spread_start infos last_offset is.images is.low) is.each)
+instances_apart infos last_offset events is =
+    spread_is_apart last_offset (after (start infos last_offset) events)
+    (kept_along (Spread last_offset) (spread_kept last_offset) (start infos last_offset) events (spread_start infos last_offset is.images is.low) is.each)

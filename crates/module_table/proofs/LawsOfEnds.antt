@@ -15,7 +15,7 @@ use Rattle.module_table.specs.History.{IsLegal}
 use Rattle.module_table.specs.Laws.{EndsForGood}
 use Rattle.module_table.specs.Walks.{past-append, is_legal-append}
 use Rattle.module_table.specs.Tables.{IsPast, CanLoad}
-use Rattle.module_table.proofs.Lookups.{place_none}
+use Rattle.module_table.proofs.Lookups.{index_none}
 use Rattle.module_table.proofs.Starting.{past_start}
 use Rattle.module_table.proofs.Steps.{late_within, loaded_within, past_retained, past_loaded, past_released}
 use Rattle.module_table.proofs.Along.{IsKept, kept_along, past_along}
@@ -25,7 +25,7 @@ use Rattle.module_table.proofs.LawsOfNumbers.{numbers_same}
 
 not_live : (p : Past) (instance : ℕ) → ((a : ℕ) → has_instance instance (module_of p a) ≡ false) → live p instance ≡ false
 unfolding live image_of
-not_live p instance none = ap is_some (place_none (has_instance instance) p.modules 0 no_module (λ k t. absurd (both_ways _ (none k) t)) (none 0))
+not_live p instance none = ap is_some (index_none (has_instance instance) p.modules 0 no_module (λ k t. absurd (both_ways _ (none k) t)) (none 0))
 
 each_is_other : (p : Past) (instance : ℕ) → IsPast p → live p instance ≡ false → (a : ℕ) → has_instance instance (module_of p a) ≡ false
 unfolding live image_of
@@ -53,7 +53,9 @@ ended_with_uses instance p image uses is e loaded = record {
   gone = λ a. false_from_ne_true _ (λ t.
       let same = numbers_same p image uses a (loaded_within p image e.is loaded).0 loaded in
       let parts = and_parts (is_loaded (module_of (with_uses p image uses) a)) ((module_of (with_uses p image uses) a).instance == instance) t in
-      both_ways _ (e.gone a) (and_from (is_loaded (module_of p a)) ((module_of p a).instance == instance) (same.held parts.0) (eq-eqb (module_of p a).instance instance (sym same.instance ∙ eqb-true (module_of (with_uses p image uses) a).instance instance parts.1))));
+      both_ways _ (e.gone a)
+      (and_from (is_loaded (module_of p a)) ((module_of p a).instance == instance) (same.held parts.0)
+      (eq-eqb (module_of p a).instance instance (sym same.instance ∙ eqb-true (module_of (with_uses p image uses) a).instance instance parts.1))));
 }
 
 ended_loaded : (instance : ℕ) (p : Past) (image : ℕ) → Ended instance p → CanLoad p image → Ended instance (loaded p image)
@@ -78,10 +80,13 @@ ended_kept instance = record {
   released = λ p image e h. ended_with_uses instance p image ((module_of p image).uses - 1) (past_released p image e.is h) e (lt-ltb 0 (module_of p image).uses h);
 }
 
-pub ends_for_good : (infos : List ImageInfo) (last_offset : ℕ) (front rest : List Event) (instance : ℕ) → IsLegal infos last_offset (front ++ rest) → EndsForGood infos last_offset front rest instance
+pub ends_for_good : (infos : List ImageInfo) (last_offset : ℕ) (front rest : List Event) (instance : ℕ) → IsLegal infos last_offset (front ++ rest)
+    → EndsForGood infos last_offset front rest instance
 unfolding past
 ends_for_good infos last_offset front rest instance legal made dead =
-    let parts = and_parts (is_legal (start infos last_offset) front) (is_legal (after (start infos last_offset) front) rest) (sym (is_legal-append (start infos last_offset) front rest) ∙ legal.each) in
+    let parts = and_parts (is_legal (start infos last_offset) front) (is_legal (after (start infos last_offset) front) rest)
+    (sym (is_legal-append (start infos last_offset) front rest) ∙ legal.each) in
     let here = past_along (start infos last_offset) front (past_start infos last_offset legal.images legal.low) parts.0 in
-    let ended = kept_along (Ended instance) (ended_kept instance) (after (start infos last_offset) front) rest (record { is = here; made = made; gone = each_is_other (after (start infos last_offset) front) instance here dead }) parts.1 in
+    let ended = kept_along (Ended instance) (ended_kept instance) (after (start infos last_offset) front) rest
+    (record { is = here; made = made; gone = each_is_other (after (start infos last_offset) front) instance here dead }) parts.1 in
     rw (past-append infos last_offset front rest) (not_live (after (after (start infos last_offset) front) rest) instance ended.gone)

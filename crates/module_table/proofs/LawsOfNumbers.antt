@@ -11,7 +11,8 @@ use Rattle.module_table.specs.declared.modules.ImageInfo.{ImageInfo}
 use Rattle.module_table.specs.declared.modules.Module.{Module}
 use Rattle.module_table.specs.declared.events.Event.{Event}
 use Rattle.module_table.specs.Modules.{AreInfos, is_loaded, no_module}
-use Rattle.module_table.specs.Past.{Past, module_of, has_id, start, startup_count, past, after_one, after, opened, loaded, retained, released, with_uses, new_instance, least_free, IsLeastFree, open_refusal, close_refusal, accepts, is_legal}
+use Rattle.module_table.specs.Past.{Past, module_of, has_id, start, startup_count, past, after_one, after, opened, loaded, retained, released, with_uses, new_instance, least_free, IsLeastFree}
+use Rattle.module_table.specs.Past.{open_refusal, close_refusal, accepts, is_legal}
 use Rattle.module_table.specs.History.{IsLegal}
 use Rattle.module_table.specs.Laws.{opens_of, closes_of, Balances, loads, load_count, CountsInstances, HaveOwnNumbers, LoadsTakeLeastId}
 use Rattle.module_table.specs.Tables.{IsPast, CanLoad}
@@ -25,13 +26,14 @@ use Rattle.module_table.proofs.Along.{IsKept, kept_along, past_step, past_legal}
 -- each event writes one image
 pub written : (p : Past) (e : Event) → (m : Module) × ((after_one p e).modules ≡ set p.modules e.image m)
 unfolding after_one opened loaded retained released
-written p e = elim e.opens as (λ b. (m : Module) × ((if b then (if is_loaded (module_of p e.image) then retained p e.image else loaded p e.image) else released p e.image).modules ≡ set p.modules e.image m)) [
-  | true ↦ elim (is_loaded (module_of p e.image)) as (λ b. (m : Module) × ((if b then retained p e.image else loaded p e.image).modules ≡ set p.modules e.image m)) [
-    | true ↦ (record (module_of p e.image) { uses = (module_of p e.image).uses + 1 }, refl)
-    | false ↦ (new_instance p (module_of p e.image), refl)
-  ]
-  | false ↦ (record (module_of p e.image) { uses = (module_of p e.image).uses - 1 }, refl)
-]
+written p e = elim e.opens as
+    (λ b. (m : Module) × ((if b then (if is_loaded (module_of p e.image) then retained p e.image else loaded p e.image) else released p e.image).modules ≡ set p.modules e.image m)) [
+      | true ↦ elim (is_loaded (module_of p e.image)) as (λ b. (m : Module) × ((if b then retained p e.image else loaded p e.image).modules ≡ set p.modules e.image m)) [
+        | true ↦ (record (module_of p e.image) { uses = (module_of p e.image).uses + 1 }, refl)
+        | false ↦ (new_instance p (module_of p e.image), refl)
+      ]
+      | false ↦ (record (module_of p e.image) { uses = (module_of p e.image).uses - 1 }, refl)
+    ]
 
 -- and leaves the others
 pub others_stay : (p : Past) (e : Event) (image : ℕ) → (e.image ≡ image → ⊥) → module_of (after_one p e) image ≡ module_of p image
@@ -50,7 +52,8 @@ unfolding released
 uses-released p image l = ap (λ (m : Module). m.uses) (get_or-set_same p.modules image (record (module_of p image) { uses = (module_of p image).uses - 1 }) no_module l)
 
 -- the image of an accepted event: an open adds one, a close takes one
-uses_here : (p : Past) (e : Event) → IsPast p → accepts p e ≡ true → (module_of (after_one p e) e.image).uses + cond (not e.opens && true) 1 0 ≡ (module_of p e.image).uses + cond (e.opens && true) 1 0
+uses_here : (p : Past) (e : Event) → IsPast p → accepts p e ≡ true
+    → (module_of (after_one p e) e.image).uses + cond (not e.opens && true) 1 0 ≡ (module_of p e.image).uses + cond (e.opens && true) 1 0
 unfolding after_one opened
 uses_here p e is accepted = elim (cases_Bool e.opens) [
   | inl opens ↦ elim (cases_Bool (is_loaded (module_of p e.image))) [
@@ -65,13 +68,17 @@ uses_here p e is accepted = elim (cases_Bool e.opens) [
       rw closes (omega (arith, uses-released p e.image (loaded_within p e.image is (lt-ltb 0 (module_of p e.image).uses some)).0))
 ]
 
-uses-after_one : (p : Past) (e : Event) (image : ℕ) → IsPast p → accepts p e ≡ true → (module_of (after_one p e) image).uses + cond (not e.opens && (e.image == image)) 1 0 ≡ (module_of p image).uses + cond (e.opens && (e.image == image)) 1 0
+uses-after_one : (p : Past) (e : Event) (image : ℕ) → IsPast p → accepts p e ≡ true
+    → (module_of (after_one p e) image).uses + cond (not e.opens && (e.image == image)) 1 0 ≡ (module_of p image).uses + cond (e.opens && (e.image == image)) 1 0
 uses-after_one p e image is accepted = elim (cases_eq e.image image) [
-  | inl same ↦ subst (λ (j : ℕ). (module_of (after_one p e) j).uses + cond (not e.opens && (e.image == j)) 1 0 ≡ (module_of p j).uses + cond (e.opens && (e.image == j)) 1 0) same (rw (eq-eqb e.image e.image refl) (uses_here p e is accepted))
-  | inr ne ↦ rw (ne_eqb e.image image ne, others_stay p e image ne) (elim e.opens as (λ b. (module_of p image).uses + cond (not b && false) 1 0 ≡ (module_of p image).uses + cond (b && false) 1 0) [ true ↦ refl | false ↦ refl ])
+  | inl same ↦ subst (λ (j : ℕ). (module_of (after_one p e) j).uses + cond (not e.opens && (e.image == j)) 1 0 ≡ (module_of p j).uses + cond (e.opens && (e.image == j)) 1 0) same
+      (rw (eq-eqb e.image e.image refl) (uses_here p e is accepted))
+  | inr ne ↦ rw (ne_eqb e.image image ne, others_stay p e image ne)
+      (elim e.opens as (λ b. (module_of p image).uses + cond (not b && false) 1 0 ≡ (module_of p image).uses + cond (b && false) 1 0) [ true ↦ refl | false ↦ refl ])
 ]
 
-balance_after : (p : Past) (events : List Event) (image : ℕ) → IsPast p → is_legal p events ≡ true → (module_of (after p events) image).uses + closes_of image events ≡ (module_of p image).uses + opens_of image events
+balance_after : (p : Past) (events : List Event) (image : ℕ) → IsPast p → is_legal p events ≡ true
+    → (module_of (after p events) image).uses + closes_of image events ≡ (module_of p image).uses + opens_of image events
 unfolding is_legal
 balance_after p [] image is legal = refl
 balance_after p (e ∷ es) image is legal =
@@ -90,10 +97,12 @@ balances infos last_offset events image is = balance_after (start infos last_off
 
 made-after_one : (p : Past) (e : Event) → (after_one p e).made ≡ p.made + (if loads p e then 1 else 0)
 unfolding after_one opened loaded retained released
-made-after_one p e = elim e.opens as (λ b. (if b then (if is_loaded (module_of p e.image) then retained p e.image else loaded p e.image) else released p e.image).made ≡ p.made + (if b && not (is_loaded (module_of p e.image)) then 1 else 0)) [
-  | true ↦ elim (is_loaded (module_of p e.image)) as (λ b. (if b then retained p e.image else loaded p e.image).made ≡ p.made + (if not b then 1 else 0)) [ true ↦ omega arith | false ↦ refl ]
-  | false ↦ omega arith
-]
+made-after_one p e = elim e.opens as
+    (λ b. (if b then (if is_loaded (module_of p e.image) then retained p e.image else loaded p e.image) else released p e.image).made
+    ≡ p.made + (if b && not (is_loaded (module_of p e.image)) then 1 else 0)) [
+      | true ↦ elim (is_loaded (module_of p e.image)) as (λ b. (if b then retained p e.image else loaded p e.image).made ≡ p.made + (if not b then 1 else 0)) [ true ↦ omega arith | false ↦ refl ]
+      | false ↦ omega arith
+    ]
 
 made-after : (p : Past) (events : List Event) → (after p events).made ≡ p.made + load_count p events
 made-after p [] = omega arith
@@ -116,7 +125,8 @@ pub record SameNumbers (new old : Module) : Type 0 where
 
 pub numbers_same : (p : Past) (image uses a : ℕ) → image < length p.modules → is_loaded (module_of p image) ≡ true → SameNumbers (module_of (with_uses p image uses) a) (module_of p a)
 numbers_same p image uses a l loaded = elim (cases_eq a image) [
-  | inl e ↦ let here : module_of (with_uses p image uses) a ≡ record (module_of p image) { uses = uses } = rw e (get_or-set_same p.modules image (record (module_of p image) { uses = uses }) no_module l) in
+  | inl e ↦ let here : module_of (with_uses p image uses) a ≡ record (module_of p image) { uses = uses } =
+      rw e (get_or-set_same p.modules image (record (module_of p image) { uses = uses }) no_module l) in
       rw (here, e) (record { instance = refl; id = refl; held = λ _. loaded })
   | inr ne ↦ let here : module_of (with_uses p image uses) a ≡ module_of p a = get_or-set_other p.modules image a (record (module_of p image) { uses = uses }) no_module ne in
       rw here (record { instance = refl; id = refl; held = λ t. t })
@@ -131,7 +141,8 @@ own_with_uses p image uses is own loaded a b ne la lb =
     (λ e. old.0 (sym x.instance ∙ e ∙ y.instance), λ e. old.1 (sym x.id ∙ e ∙ y.id))
 
 -- the new instance and another loaded image
-new_is_apart : (p : Past) (image b : ℕ) → IsPast p → CanLoad p image → is_loaded (module_of p b) ≡ true → ((new_instance p (module_of p image)).instance ≢ (module_of p b).instance) × ((new_instance p (module_of p image)).id ≢ (module_of p b).id)
+new_is_apart : (p : Past) (image b : ℕ) → IsPast p → CanLoad p image → is_loaded (module_of p b) ≡ true
+    → ((new_instance p (module_of p image)).instance ≢ (module_of p b).instance) × ((new_instance p (module_of p image)).id ≢ (module_of p b).id)
 new_is_apart p image b is can loaded =
     let least = least_of p (few_loaded p image is can) in
     let made : (module_of p b).instance ≤ p.made = (numbered_at p b is).instance loaded in (
@@ -148,16 +159,19 @@ own_loaded p image is own can a b ne la lb =
       | inl x ↦ elim (cases_eq b image) [
         | inl y ↦ absurd (ne (x ∙ sym y))
         | inr y ↦
-            let at_b : get_or (set p.modules image (new_instance p (module_of p image))) b no_module ≡ module_of p b = get_or-set_other p.modules image b (new_instance p (module_of p image)) no_module y in
+            let at_b : get_or (set p.modules image (new_instance p (module_of p image))) b no_module ≡ module_of p b =
+            get_or-set_other p.modules image b (new_instance p (module_of p image)) no_module y in
             rw (x, get_or-set_same p.modules image (new_instance p (module_of p image)) no_module l, at_b) (new_is_apart p image b is can (rw at_b at lb))
       ]
       | inr x ↦
-          let at_a : get_or (set p.modules image (new_instance p (module_of p image))) a no_module ≡ module_of p a = get_or-set_other p.modules image a (new_instance p (module_of p image)) no_module x in
+          let at_a : get_or (set p.modules image (new_instance p (module_of p image))) a no_module ≡ module_of p a =
+          get_or-set_other p.modules image a (new_instance p (module_of p image)) no_module x in
           elim (cases_eq b image) [
             | inl y ↦ let other = new_is_apart p image a is can (rw at_a at la) in
                 rw (y, get_or-set_same p.modules image (new_instance p (module_of p image)) no_module l, at_a) ((λ e. other.0 (sym e)), (λ e. other.1 (sym e)))
             | inr y ↦
-                let at_b : get_or (set p.modules image (new_instance p (module_of p image))) b no_module ≡ module_of p b = get_or-set_other p.modules image b (new_instance p (module_of p image)) no_module y in
+                let at_b : get_or (set p.modules image (new_instance p (module_of p image))) b no_module ≡ module_of p b =
+                get_or-set_other p.modules image b (new_instance p (module_of p image)) no_module y in
                 rw (at_a, at_b) (own a b ne (rw at_a at la) (rw at_b at lb))
           ]
     ]
@@ -179,7 +193,8 @@ own_start infos last_offset are a b ne la lb =
 
 pub own_numbers : (infos : List ImageInfo) (last_offset : ℕ) (events : List Event) → IsLegal infos last_offset events → HaveOwnNumbers (past infos last_offset events)
 unfolding past
-own_numbers infos last_offset events is = (kept_along Numbered numbered_kept (start infos last_offset) events (record { is = past_start infos last_offset is.images is.low; own = own_start infos last_offset is.images }) is.each).own
+own_numbers infos last_offset events is =
+    (kept_along Numbered numbered_kept (start infos last_offset) events (record { is = past_start infos last_offset is.images is.low; own = own_start infos last_offset is.images }) is.each).own
 
 -- ---- the least id
 
@@ -190,4 +205,5 @@ least_ids infos last_offset events legal image none unloaded =
     let is = past_legal infos last_offset events legal in
     let can = can_load (past infos last_offset events) image none unloaded in
     let l = (late_within (past infos last_offset events) image is can.late).0 in
-    rw (unloaded, get_or-set_same (past infos last_offset events).modules image (new_instance (past infos last_offset events) (module_of (past infos last_offset events) image)) no_module l) (least_of (past infos last_offset events) (few_loaded (past infos last_offset events) image is can))
+    rw (unloaded, get_or-set_same (past infos last_offset events).modules image (new_instance (past infos last_offset events) (module_of (past infos last_offset events) image)) no_module l)
+    (least_of (past infos last_offset events) (few_loaded (past infos last_offset events) image is can))

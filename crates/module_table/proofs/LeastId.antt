@@ -1,6 +1,7 @@
 -- The least free id: that it is free, that it is the least, that it is at most 64 where an image is not loaded, and that it is
 -- one more than the lowest mark that is not set.
-use Rattle.std.proofs.Common.{◌≡◌, ◌≢◌, ℕ, zero, suc, ◌+◌, ◌-◌, ◌^◌, ◌<◌, ◌≤◌, Bool, true, false, cond, eqb, ltb, List, [], ◌∷◌, length, get_or, sym, refl, ap, ◌∙◌, subst, arith, rules, inl, inr, ◌⊎◌}
+use Rattle.std.proofs.Common.{◌≡◌, ◌≢◌, ℕ, zero, suc, ◌+◌, ◌-◌, ◌^◌, ◌<◌, ◌≤◌, Bool, true, false, cond, eqb, ltb, List, [], ◌∷◌, length, get_or, sym, refl, ap, ◌∙◌, subst, arith, rules, inl, inr}
+use Rattle.std.proofs.Common.{◌⊎◌}
 use Rattle.std.specs.Prelude.{◌&&◌, ◌||◌, ◌==◌, if◌then◌else◌, count_by}
 use Rattle.std.specs.List.{list_any}
 use Rattle.std.proofs.lemmas.Bool.{cases_Bool, cases_lt, cases_order, both_ways, and_parts, or_cases, or_left, or_right, eqb-true, ne_eqb, and_right}
@@ -84,14 +85,16 @@ taken-full ms zero all = refl
 taken-full ms (suc n) all = rw (all (n + 1) (omega arith) (omega arith), taken-full ms n (λ k l h. all k l (omega arith))) (omega arith)
 
 -- the search stops at the least free id, or past the ids that it may try
-least_from_is : (ms : List Module) (more id : ℕ) → 1 ≤ id → ((k : ℕ) → 1 ≤ k → k < id → list_any (has_id k) ms ≡ true) → IsLeastFree ms (least_from ms more id) ⊎ ((k : ℕ) → 1 ≤ k → k < id + more → list_any (has_id k) ms ≡ true)
+least_from_is : (ms : List Module) (more id : ℕ) → 1 ≤ id → ((k : ℕ) → 1 ≤ k → k < id → list_any (has_id k) ms ≡ true)
+    → IsLeastFree ms (least_from ms more id) ⊎ ((k : ℕ) → 1 ≤ k → k < id + more → list_any (has_id k) ms ≡ true)
 least_from_is ms zero id low below = inr (λ k l h. below k l (omega arith))
 least_from_is ms (suc more) id low below = elim (cases_Bool (list_any (has_id id) ms)) [
   | inr f ↦ inl (rw f (record { low = low; free = f; least = below }))
-  | inl t ↦ rw t (elim (least_from_is ms more (id + 1) (omega arith) (λ k l h. elim (cases_lt k id) [ inl b ↦ below k l b | inr a ↦ let e : id ≡ k = omega arith in subst (λ (j : ℕ). list_any (has_id j) ms ≡ true) e t ])) [
-    | inl is ↦ inl is
-    | inr all ↦ inr (λ k l h. all k l (omega arith))
-  ])
+  | inl t ↦ rw t (elim (least_from_is ms more (id + 1) (omega arith)
+      (λ k l h. elim (cases_lt k id) [ inl b ↦ below k l b | inr a ↦ let e : id ≡ k = omega arith in subst (λ (j : ℕ). list_any (has_id j) ms ≡ true) e t ])) [
+        | inl is ↦ inl is
+        | inr all ↦ inr (λ k l h. all k l (omega arith))
+      ])
 ]
 
 -- where an image is not loaded, the id that a load takes is free, and the least

@@ -10,31 +10,39 @@ use Rattle.module_table.specs.Modules.{no_module, is_loaded}
 use Rattle.module_table.specs.Past.{Past, has_instance, has_id, module_of, image_of, instance_of}
 use Rattle.module_table.specs.Tables.{Finds, IsTheImage, IsTheImageUnder}
 
-place_at : {X : Type 0} (p : X → Bool) (xs : List X) (i : ℕ) (d : X) → p d ≡ false → ((k : ℕ) → p (get_or xs k d) ≡ true → k ≡ i) → p (get_or xs i d) ≡ true → position p xs ≡ Some i
-place_at p xs i d none only here =
+index_at : {X : Type 0} (p : X → Bool) (xs : List X) (i : ℕ) (d : X) → p d ≡ false → ((k : ℕ) → p (get_or xs k d) ≡ true → k ≡ i) → p (get_or xs i d) ≡ true → position p xs ≡ Some i
+index_at p xs i d none only here =
     let within : i < length xs = elim (cases_lt i (length xs)) [ inl l ↦ l | inr past ↦ absurd (both_ways _ (subst (λ x. p x ≡ false) (sym (get_or_past xs i d past)) none) here) ] in
     let at : position_or_len p xs ≡ i = position_or_len_is p xs i d (omega arith) (λ k l. false_from_ne_true _ (λ t. let e : k ≡ i = only k t in omega arith)) (λ _. here) in
     rw at (rw (lt-ltb i (length xs) within) refl)
 
-pub place_none : {X : Type 0} (p : X → Bool) (xs : List X) (i : ℕ) (d : X) → ((k : ℕ) → p (get_or xs k d) ≡ true → k ≡ i) → p (get_or xs i d) ≡ false → position p xs ≡ None
-place_none p xs i d only here =
-    let at : position_or_len p xs ≡ length xs = position_or_len_is p xs (length xs) d (omega arith) (λ k l. false_from_ne_true _ (λ t. let e : k ≡ i = only k t in both_ways _ (subst (λ (j : ℕ). p (get_or xs j d) ≡ false) (sym e) here) t)) (λ l. absurd (omega arith)) in
+pub index_none : {X : Type 0} (p : X → Bool) (xs : List X) (i : ℕ) (d : X) → ((k : ℕ) → p (get_or xs k d) ≡ true → k ≡ i) → p (get_or xs i d) ≡ false → position p xs ≡ None
+index_none p xs i d only here =
+    let at : position_or_len p xs ≡ length xs =
+    position_or_len_is p xs (length xs) d (omega arith)
+    (λ k l. false_from_ne_true _ (λ t. let e : k ≡ i = only k t in both_ways _ (subst (λ (j : ℕ). p (get_or xs j d) ≡ false) (sym e) here) t)) (λ l. absurd (omega arith)) in
     rw at (rw (le-ltb (length xs) (length xs) (omega arith)) refl)
 
--- the place of an element that passes, where only one place can
+-- the index of an element that passes, where only one can
 pub position_one : {X : Type 0} (p : X → Bool) (xs : List X) (i : ℕ) (d : X) → p d ≡ false → ((k : ℕ) → p (get_or xs k d) ≡ true → k ≡ i) → position p xs ≡ cond (p (get_or xs i d)) (Some i) None
 position_one p xs i d none only =
-    elim (cases_Bool (p (get_or xs i d))) [ inl t ↦ rw t (place_at p xs i d none only t) | inr f ↦ rw f (place_none p xs i d only f) ]
+    elim (cases_Bool (p (get_or xs i d))) [ inl t ↦ rw t (index_at p xs i d none only t) | inr f ↦ rw f (index_none p xs i d only f) ]
 
-pub found_by_key : (key : Module → ℕ) (places : List ℕ) (modules : List Module) (x : ℕ) → Finds key places modules → position (λ m. is_loaded m && (key m == x)) modules ≡ (if is_loaded (slice_index_or modules (slice_index places x) no_module) && (key (slice_index_or modules (slice_index places x) no_module) == x) then Some (slice_index places x) else None)
-found_by_key key places modules x finds =
-    position_one (λ m. is_loaded m && (key m == x)) modules (slice_index places x) no_module refl (λ k t. let parts = and_parts _ _ t in sym (finds.at k parts.0) ∙ ap (λ (j : ℕ). slice_index places j) (eqb-true _ _ parts.1))
+pub found_by_key : (key : Module → ℕ) (slots : List ℕ) (modules : List Module) (x : ℕ) → Finds key slots modules
+    → position (λ m. is_loaded m && (key m == x)) modules
+    ≡ (if is_loaded (slice_index_or modules (slice_index slots x) no_module) && (key (slice_index_or modules (slice_index slots x) no_module) == x) then Some (slice_index slots x) else None)
+found_by_key key slots modules x finds =
+    position_one (λ m. is_loaded m && (key m == x)) modules (slice_index slots x) no_module refl
+    (λ k t. let parts = and_parts _ _ t in sym (finds.at k parts.0) ∙ ap (λ (j : ℕ). slice_index slots j) (eqb-true _ _ parts.1))
 
-pub image_found : (p : Past) (places : List ℕ) (instance : ℕ) → Finds (λ m. m.instance) places p.modules → IsTheImage p instance (slice_index places instance)
+pub image_found : (p : Past) (slots : List ℕ) (instance : ℕ) → Finds (λ m. m.instance) slots p.modules → IsTheImage p instance (slice_index slots instance)
 unfolding image_of
-image_found p places instance finds = found_by_key (λ m. m.instance) places p.modules instance finds
+image_found p slots instance finds = found_by_key (λ m. m.instance) slots p.modules instance finds
 
-pub instance_found : (p : Past) (places : List ℕ) (id : ℕ) → Finds (λ m. m.id) places p.modules → IsTheImageUnder p id (slice_index places id)
+pub instance_found : (p : Past) (slots : List ℕ) (id : ℕ) → Finds (λ m. m.id) slots p.modules → IsTheImageUnder p id (slice_index slots id)
 unfolding instance_of
-instance_found p places id finds =
-    rw (found_by_key (λ m. m.id) places p.modules id finds) (elim (has_id id (module_of p (slice_index places id))) as (λ b. option_map (λ (image : ℕ). (module_of p image).instance) (cond b (Some (slice_index places id)) None) ≡ cond b (Some (module_of p (slice_index places id)).instance) None) [ true ↦ refl | false ↦ refl ])
+instance_found p slots id finds =
+    rw (found_by_key (λ m. m.id) slots p.modules id finds)
+    (elim (has_id id (module_of p (slice_index slots id))) as
+    (λ b. option_map (λ (image : ℕ). (module_of p image).instance) (cond b (Some (slice_index slots id)) None) ≡ cond b (Some (module_of p (slice_index slots id)).instance) None)
+    [ true ↦ refl | false ↦ refl ])

@@ -18,7 +18,9 @@ pub record Picked (late full statics lacks : Bool) : Type 0 where
   pub not_full : full ≡ false
   pub has_room : statics ≡ true → lacks ≡ false
 
-picked : (late loaded full statics lacks : Bool) → ◌≡◌ {A = Option OpenRefusal} (if not late then Some Unknown else (if loaded then None else (if full then Some Full else (if statics && lacks then Some StaticFull else None)))) None → loaded ≡ false → Picked late full statics lacks
+picked : (late loaded full statics lacks : Bool)
+    → ◌≡◌ {A = Option OpenRefusal} (if not late then Some Unknown else (if loaded then None else (if full then Some Full else (if statics && lacks then Some StaticFull else None)))) None
+    → loaded ≡ false → Picked late full statics lacks
 picked false loaded full statics lacks e f = cc
 picked true true full statics lacks e f = cc
 picked true false true statics lacks e f = cc
@@ -29,7 +31,8 @@ picked true false false false lacks e f = record { is_late = refl; not_full = re
 pub can_load : (p : Past) (image : ℕ) → open_refusal p image ≡ None → is_loaded (module_of p image) ≡ false → CanLoad p image
 unfolding open_refusal
 can_load p image none unloaded =
-    let is = picked (module_of p image).info.late (is_loaded (module_of p image)) (nat_le MOST_INSTANCES p.made) (module_of p image).info.statics (nat_lt p.limit (next_offset p (module_of p image))) none unloaded in
+    let is = picked (module_of p image).info.late (is_loaded (module_of p image)) (nat_le MOST_INSTANCES p.made) (module_of p image).info.statics
+    (nat_lt p.limit (next_offset p (module_of p image))) none unloaded in
     record {
       late = is.is_late;
       unloaded = unloaded;

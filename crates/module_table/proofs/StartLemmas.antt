@@ -24,7 +24,10 @@ length-first_modules [] image = refl
 length-first_modules (x ∷ infos) image = ap (λ (n : ℕ). suc n) (length-first_modules infos (image + 1))
 
 -- the next image
-pub first_modules_more : (infos : List ImageInfo) (i : ℕ) (d : ImageInfo) (modules : List Module) → i < length infos → modules ≡ no_module ∷ first_modules (take i infos) 1 → modules ++ first_module (get_or infos i d) (i + 1) ∷ [] ≡ no_module ∷ first_modules (take (i + 1) infos) 1
+pub first_modules_more : (infos : List ImageInfo) (i : ℕ) (d : ImageInfo) (modules : List Module) → i < length infos → modules ≡ no_module ∷ first_modules (take i infos) 1
+    → modules ++ first_module (get_or infos i d) (i + 1) ∷ [] ≡ no_module ∷ first_modules (take (i + 1) infos) 1
 first_modules_more infos i d modules l so_far =
     let at : i + 1 ≡ 1 + length (take i infos) = omega (arith, length-take-le i infos (omega arith)) in
-    rw (so_far, take_more infos i d l) (ap (λ (ms : List Module). no_module ∷ ms) (ap (λ (n : ℕ). first_modules (take i infos) 1 ++ first_module (get_or infos i d) n ∷ []) at ∙ sym (first_modules-push (take i infos) (get_or infos i d) 1)))
+    rw (so_far, take_more infos i d l)
+    (ap (λ (ms : List Module). no_module ∷ ms)
+    (ap (λ (n : ℕ). first_modules (take i infos) 1 ++ first_module (get_or infos i d) n ∷ []) at ∙ sym (first_modules-push (take i infos) (get_or infos i d) 1)))

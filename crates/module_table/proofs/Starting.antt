@@ -15,7 +15,8 @@ use Rattle.module_table.specs.Tables.{IsPast, IsNumbered, Finds, AreTables}
 use Rattle.module_table.proofs.StartLemmas.{length-first_modules}
 
 -- a startup image's number is at most the number of startup images, where late ones are last
-startup_low : (infos : List ImageInfo) (k : ℕ) (d : ImageInfo) → AllPairs (λ (a b : ImageInfo). a.late ≡ true → b.late ≡ true) infos → k < length infos → (get_or infos k d).late ≡ false → k + 1 ≤ startup_count infos
+startup_low : (infos : List ImageInfo) (k : ℕ) (d : ImageInfo) → AllPairs (λ (a b : ImageInfo). a.late ≡ true → b.late ≡ true) infos → k < length infos → (get_or infos k d).late ≡ false
+    → k + 1 ≤ startup_count infos
 startup_low [] k d last l early = absurd (omega arith)
 startup_low (x ∷ xs) zero d last l early =
     let here : startup_count (x ∷ xs) ≡ 1 + startup_count xs = rw (sum_by-cons (λ (i : ImageInfo). cond (not i.late) 1 0) x xs, early) refl in
@@ -40,14 +41,17 @@ first_info info image = elim (cases_Bool info.late) [ inl t ↦ rw t refl | inr 
 first_uses : (info : ImageInfo) (image : ℕ) → (first_module info image).uses ≤ 1
 first_uses info image = elim (cases_Bool info.late) [ inl t ↦ rw t (omega arith) | inr f ↦ rw f (omega arith) ]
 
-first_loaded : (info : ImageInfo) (image : ℕ) → is_loaded (first_module info image) ≡ true → (info.late ≡ false) × ((first_module info image).instance ≡ image) × ((first_module info image).id ≡ image)
+first_loaded : (info : ImageInfo) (image : ℕ) → is_loaded (first_module info image) ≡ true
+    → (info.late ≡ false) × ((first_module info image).instance ≡ image) × ((first_module info image).id ≡ image)
 first_loaded info image t = elim (cases_Bool info.late) [
   | inl late ↦ absurd (both_ways (is_loaded (first_module info image)) (rw late refl) t)
   | inr early ↦ (early, rw early refl, rw early refl)
 ]
 
 -- a loaded image before any event: its numbers are its own, and it is a startup image
-pub own_number : (infos : List ImageInfo) (image : ℕ) → AreInfos infos → is_loaded (get_or (no_module ∷ first_modules infos 1) image no_module) ≡ true → ((get_or (no_module ∷ first_modules infos 1) image no_module).instance ≡ image) × ((get_or (no_module ∷ first_modules infos 1) image no_module).id ≡ image) × (1 ≤ image) × (image ≤ startup_count infos)
+pub own_number : (infos : List ImageInfo) (image : ℕ) → AreInfos infos → is_loaded (get_or (no_module ∷ first_modules infos 1) image no_module) ≡ true
+    → ((get_or (no_module ∷ first_modules infos 1) image no_module).instance ≡ image) × ((get_or (no_module ∷ first_modules infos 1) image no_module).id ≡ image) × (1 ≤ image)
+    × (image ≤ startup_count infos)
 own_number infos zero are t = absurd (true≢false (sym t))
 own_number infos (suc k) are t =
     let within : k < length infos = elim (cases_lt k (length infos)) [
@@ -63,7 +67,9 @@ own_number infos (suc k) are t =
 
 infos_all : (infos : List ImageInfo) (image : ℕ) → All IsInfo infos → All (λ (m : Module). IsInfo m.info) (first_modules infos image)
 infos_all [] image all = All-nil (λ (m : Module). IsInfo m.info)
-infos_all (x ∷ xs) image all = All-cons (λ (m : Module). IsInfo m.info) (first_module x image) (first_modules xs (image + 1)) (subst IsInfo (sym (first_info x image)) (all 0 x (omega arith))) (infos_all xs (image + 1) (λ k d l. all (suc k) d (omega arith)))
+infos_all (x ∷ xs) image all =
+    All-cons (λ (m : Module). IsInfo m.info) (first_module x image) (first_modules xs (image + 1)) (subst IsInfo (sym (first_info x image)) (all 0 x (omega arith)))
+    (infos_all xs (image + 1) (λ k d l. all (suc k) d (omega arith)))
 
 uses_all : (infos : List ImageInfo) (image : ℕ) → All (λ (m : Module). m.uses ≤ 1) (first_modules infos image)
 uses_all [] image = All-nil (λ (m : Module). m.uses ≤ 1)
@@ -96,7 +102,9 @@ past_start infos last_offset are low = record {
   numbered = numbered_all infos are;
 }
 
-pub tables_start : (infos : List ImageInfo) (last_offset : ℕ) (a b : List ℕ) (word : ℕ) → AreInfos infos → last_offset < 2 ^ 27 → length a ≡ MOST_INSTANCES + 1 → ((k : ℕ) → k < MOST_INSTANCES + 1 → slice_index a k ≡ k) → length b ≡ MOST_IDS + 1 → ((k : ℕ) → k < MOST_IDS + 1 → slice_index b k ≡ k) → MarksIds word (no_module ∷ first_modules infos 1) → AreTables (start infos last_offset) a b word
+pub tables_start : (infos : List ImageInfo) (last_offset : ℕ) (a b : List ℕ) (word : ℕ) → AreInfos infos → last_offset < 2 ^ 27 → length a ≡ MOST_INSTANCES + 1
+    → ((k : ℕ) → k < MOST_INSTANCES + 1 → slice_index a k ≡ k) → length b ≡ MOST_IDS + 1 → ((k : ℕ) → k < MOST_IDS + 1 → slice_index b k ≡ k) → MarksIds word (no_module ∷ first_modules infos 1)
+    → AreTables (start infos last_offset) a b word
 unfolding start
 tables_start infos last_offset a b word are low long own_a wide own_b marks =
     let few : startup_count infos ≤ 64 = omega (arith, count_by-le-length (λ (i : ImageInfo). not i.late) infos, are.few) in
@@ -104,7 +112,7 @@ tables_start infos last_offset a b word are low long own_a wide own_b marks =
       past = past_start infos last_offset are low;
       instances = long;
       ids = wide;
-      instance_places = record { at = λ image t. let own = own_number infos image are t in let high : image ≤ startup_count infos = own.3 in rw own.0 (own_a image (omega arith)) };
-      id_places = record { at = λ image t. let own = own_number infos image are t in let high : image ≤ startup_count infos = own.3 in rw own.1 (own_b image (omega arith)) };
+      instance_slots = record { at = λ image t. let own = own_number infos image are t in let high : image ≤ startup_count infos = own.3 in rw own.0 (own_a image (omega arith)) };
+      id_slots = record { at = λ image t. let own = own_number infos image are t in let high : image ≤ startup_count infos = own.3 in rw own.1 (own_b image (omega arith)) };
       marks = marks;
     }

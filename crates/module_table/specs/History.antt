@@ -1,5 +1,6 @@
 -- What contracts see of a registry, and its answers as functions of the history.
-use Rattle.std.specs.Prelude.{◌≡◌, ◌+◌, ◌<◌, ◌^◌, ℕ, Bool, true, not, List, [], ◌∷◌, ◌++◌, length, Option, Some, None, Result, Ok, Err, IsOk}
+use Rattle.std.specs.Prelude.{◌≡◌, ◌+◌, ◌<◌, ◌^◌, ℕ, Bool, true, not, List, [], ◌∷◌, ◌++◌, length, Option, Some, None}
+use Rattle.std.specs.Prelude.{Result, Ok, Err, IsOk}
 use Rattle.module_table.specs.declared.modules.ImageInfo.{ImageInfo}
 use Rattle.module_table.specs.declared.events.Event.{Event}
 use Rattle.module_table.specs.declared.events.Opened.{Opened}
@@ -9,10 +10,11 @@ use Rattle.module_table.specs.declared.events.OpenRefusal.TheVariants.{OutOfMemo
 use Rattle.module_table.specs.declared.events.CloseRefusal.{CloseRefusal}
 use Rattle.module_table.specs.declared.events.CloseRefusal.TheVariants.{OutOfMemory as NoRoomToClose}
 use Rattle.module_table.specs.Modules.{AreInfos, is_loaded}
-use Rattle.module_table.specs.Past.{Past, module_of, start, past, opened, released, open_refusal, close_refusal, is_legal}
+use Rattle.module_table.specs.Past.{Past, module_of, start, past, opened, released, open_refusal, close_refusal}
+use Rattle.module_table.specs.Past.{is_legal}
 
--- the images, how far below the thread pointer the last startup image's block begins, the events so far, and for how many
--- more events memory is there
+-- the images, how far below the thread pointer the last startup image's block begins, the events so far, and for how
+-- many more events memory is there
 pub record History : Type 0 where
   pub infos : List ImageInfo
   pub last_offset : ℕ
@@ -50,11 +52,13 @@ unless (Some refusal) answer = Err refusal
 
 -- what an open gives: the image's instance and id after it
 unfoldable pub opened_of : History → ℕ → Opened
-opened_of h image = let m = module_of (opened (left h) image) image in record { instance = m.instance; id = m.id; at = length h.events }
+opened_of h image = let m =
+    module_of (opened (left h) image) image in record { instance = m.instance; id = m.id; at = length h.events }
 
 -- what a close gives: whether the image is loaded no more after it
 unfoldable pub closed_of : History → ℕ → Closed
-closed_of h image = record { at = length h.events; gone = not (is_loaded (module_of (released (left h) image) image)) }
+closed_of h image = record
+    { at = length h.events; gone = not (is_loaded (module_of (released (left h) image) image)) }
 
 unfoldable pub open_answer : History → ℕ → Result Opened OpenRefusal
 open_answer h image = unless (open_refusal (left h) image) (opened_of h image)

@@ -4,9 +4,9 @@ use Rattle.std.specs.Int.{bit_at}
 
 -- an id is not in the set
 pub record HasRoom (word : ℕ) : Type 0 where
-  pub place : ℕ
-  pub within : place < 64
-  pub clear : bit_at word place ≡ 0
+  pub bit : ℕ
+  pub within : bit < 64
+  pub clear : bit_at word bit ≡ 0
 
 abbrev pub AddsId : ℕ → ℕ → ℕ → Type 0
 AddsId old id new = (k : ℕ) → k < 64 → bit_at new k ≡ (if (k + 1) == id then 1 else bit_at old k)

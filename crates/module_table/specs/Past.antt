@@ -1,9 +1,12 @@
--- What a history of opens and closes leaves: a walk along the list of events, one step an event.
--- Nothing here is a table of the code: no slot by id or by instance, no set of free ids.
--- Module ids and blocks are those of Drepper, "ELF Handling For Thread-Local Storage", section 3: blocks that start with the
--- program lie below the thread pointer (variant II), and a late module may ask for one there by `DF_STATIC_TLS` (gABI,
--- "Dynamic Section"). How many bytes are kept for those, and that none is given twice, is this linker's own rule.
-use Rattle.std.specs.Prelude.{◌≡◌, ◌≢◌, ◌==◌, ◌+◌, ◌-◌, ◌<◌, ◌≤◌, ℕ, Bool, true, false, not, ◌&&◌, nat_lt, nat_le, zero, suc, if◌then◌else◌, List, [], ◌∷◌, length, slice_index_or, slice_set, fold, count_by, position, Option, Some, None, is_some, is_none, option_map, option_and_then, unwrap_or}
+-- What a history of opens and closes leaves: a walk along the list of events, one step an event. Nothing here is a
+-- table of the code: no slot by id or by instance, no set of free ids. Module ids and blocks are those of Drepper,
+-- "ELF Handling For Thread-Local Storage", section 3: blocks that start with the program lie below the thread pointer
+-- (variant II), and a late module may ask for one there by `DF_STATIC_TLS` (gABI, "Dynamic Section"). How many bytes
+-- are kept for those, and that none is given twice, is this linker's own rule.
+use Rattle.std.specs.Prelude.{◌≡◌, ◌≢◌, ◌==◌, ◌+◌, ◌-◌, ◌<◌, ◌≤◌, ℕ, Bool, true, false, not, ◌&&◌, nat_lt, nat_le}
+use Rattle.std.specs.Prelude.{zero, suc, if◌then◌else◌, List, [], ◌∷◌, length, slice_index_or, slice_set, fold}
+use Rattle.std.specs.Prelude.{count_by, position, Option, Some, None, is_some, is_none, option_map, option_and_then}
+use Rattle.std.specs.Prelude.{unwrap_or}
 use Rattle.std.specs.Int.{next_multiple_of}
 use Rattle.std.specs.List.{list_any}
 use Rattle.module_table.specs.declared.TheConstants.{MOST_INSTANCES, SURPLUS}
@@ -16,8 +19,8 @@ use Rattle.module_table.specs.declared.events.CloseRefusal.{CloseRefusal}
 use Rattle.module_table.specs.declared.events.CloseRefusal.TheVariants.{Permanent, NotOpen}
 use Rattle.module_table.specs.Modules.{no_module, is_loaded, is_permanent}
 
--- how many events there were, how many instances were made, how far below the thread pointer the static blocks reach and may
--- reach, and each image, numbered from 1 (at 0 there is none)
+-- how many events there were, how many instances were made, how far below the thread pointer the static blocks reach
+-- and may reach, and each image, numbered from 1 (at 0 there is none)
 pub record Past : Type 0 where
   pub seen : ℕ
   pub made : ℕ
@@ -88,8 +91,8 @@ instance_of p id = option_map (λ image. (module_of p image).instance) (position
 
 -- ---- refusals
 
--- where a block of the image would begin in the static surplus: past what was given, at a multiple of its alignment, as
--- variant II places a next block: `tlsoffset = round(before + memsz, align)`
+-- where a block of the image would begin in the static surplus: past what was given, at a multiple of its alignment,
+-- as variant II slots a next block: `tlsoffset = round(before + memsz, align)`
 abbrev pub next_offset : Past → Module → ℕ
 next_offset p m = next_multiple_of (p.taken + m.info.size) m.info.align
 
@@ -125,7 +128,8 @@ pub record IsLeastFree (modules : List Module) (id : ℕ) : Type 0 where
   pub free : list_any (has_id id) modules ≡ false
   pub least : (k : ℕ) → 1 ≤ k → k < id → list_any (has_id k) modules ≡ true
 
--- a new instance of an image: the next number, the least free id, and a place in the surplus if its blocks are static
+-- a new instance of an image: the next number, the least free id, and an offset in the surplus if its blocks are
+-- static
 abbrev pub new_instance : Past → Module → Module
 new_instance p m = record {
   info = m.info;
@@ -147,7 +151,8 @@ loaded p image = let m = module_of p image in record {
 
 -- the image, held open so often
 abbrev pub with_uses : Past → ℕ → ℕ → Past
-with_uses p image uses = record p { seen = p.seen + 1; modules = slice_set p.modules image (record (module_of p image) { uses = uses }) }
+with_uses p image uses =
+    record p { seen = p.seen + 1; modules = slice_set p.modules image (record (module_of p image) { uses = uses }) }
 
 -- an open of a loaded image, which makes no instance
 unfoldable pub retained : Past → ℕ → Past

@@ -1,5 +1,6 @@
 -- What the tables of the code hold, and how they stand to what a history leaves.
-use Rattle.std.specs.Prelude.{◌≡◌, ◌≤◌, ◌<◌, ◌+◌, ◌^◌, ℕ, count_by, Bool, true, false, if◌then◌else◌, List, length, All, slice_index, slice_index_or, Some, None}
+use Rattle.std.specs.Prelude.{◌≡◌, ◌≤◌, ◌<◌, ◌+◌, ◌^◌, ℕ, count_by, Bool, true, false, if◌then◌else◌, List, length}
+use Rattle.std.specs.Prelude.{All, slice_index, slice_index_or, Some, None}
 use Rattle.std.specs.Int.{bit_at}
 use Rattle.std.specs.List.{list_any}
 use Rattle.module_table.specs.declared.TheConstants.{MOST_INSTANCES, MOST_IDS}
@@ -29,22 +30,23 @@ pub record IsPast (p : Past) : Type 0 where
   pub numbered : All (IsNumbered p.made) p.modules
 
 -- each loaded image stands in the table under its key
-pub record Finds (key : Module → ℕ) (places : List ℕ) (modules : List Module) : Type 0 where
-  pub at : (image : ℕ) → is_loaded (slice_index_or modules image no_module) ≡ true → slice_index places (key (slice_index_or modules image no_module)) ≡ image
+pub record Finds (key : Module → ℕ) (slots : List ℕ) (modules : List Module) : Type 0 where
+  pub at : (image : ℕ) → is_loaded (slice_index_or modules image no_module) ≡ true
+      → slice_index slots (key (slice_index_or modules image no_module)) ≡ image
 
 -- the tables of what a history leaves: images by instance and by id, and the ids in use
 pub record AreTables (p : Past) (by_instance by_id : List ℕ) (word : ℕ) : Type 0 where
   pub past : IsPast p
   pub instances : length by_instance ≡ MOST_INSTANCES + 1
   pub ids : length by_id ≡ MOST_IDS + 1
-  pub instance_places : Finds (λ m. m.instance) by_instance p.modules
-  pub id_places : Finds (λ m. m.id) by_id p.modules
+  pub instance_slots : Finds (λ m. m.instance) by_instance p.modules
+  pub id_slots : Finds (λ m. m.id) by_id p.modules
   pub marks : MarksIds word p.modules
 
 abbrev pub HoldsTables : Inside → Type 0
 HoldsTables t = AreTables (past_of t) t.image_by_instance.items t.image_by_id.items t.ids.word
 
--- two places for images are not loaded: the one of no image, and another
+-- two slots for images are not loaded: the one of no image, and another
 abbrev pub HasFreeId : Past → Type 0
 HasFreeId p = count_by is_loaded p.modules + 2 ≤ length p.modules
 
@@ -57,8 +59,10 @@ pub record CanLoad (p : Past) (image : ℕ) : Type 0 where
 
 -- no other image is loaded as the instance
 abbrev pub IsTheImage : Past → ℕ → ℕ → Type 0
-IsTheImage p instance image = image_of p instance ≡ (if has_instance instance (module_of p image) then Some image else None)
+IsTheImage p instance image =
+    image_of p instance ≡ (if has_instance instance (module_of p image) then Some image else None)
 
 -- no other image is loaded under the id
 abbrev pub IsTheImageUnder : Past → ℕ → ℕ → Type 0
-IsTheImageUnder p id image = instance_of p id ≡ (if has_id id (module_of p image) then Some (module_of p image).instance else None)
+IsTheImageUnder p id image =
+    instance_of p id ≡ (if has_id id (module_of p image) then Some (module_of p image).instance else None)

@@ -1,19 +1,21 @@
 //! Which modules are loaded, as a function of what was opened and closed.
 //!
-//! A program with thread-local variables is made of *modules*: the program itself, the shared objects that start with it, and
-//! those that it opens while it runs, as a program opens a plug-in. Every thread has a block of each module's variables, and
-//! code reaches a block in one of two ways (Drepper, "ELF Handling For Thread-Local Storage", sections 3 and 4):
+//! A program with thread-local variables is made of *modules*: the program itself, the shared objects that start with
+//! it, and those that it opens while it runs, as a program opens a plug-in. Every thread has a block of each module's
+//! variables, and code reaches a block in one of two ways (Drepper, "ELF Handling For Thread-Local Storage", sections
+//! 3 and 4):
 //!
-//! - by a *module id* and an offset, which it hands to `__tls_get_addr`. Ids are small and are given again once a module is
-//!   gone, since they are places in an array that each thread has;
-//! - at a fixed distance below the thread pointer. That works for modules that start with the program, whose blocks are laid
-//!   out once, and for late ones that say so (`DF_STATIC_TLS` in the gABI's dynamic array), as long as a reserve of bytes lasts:
-//!   the *static surplus*, here 4,096 bytes past the last startup block.
+//! - by a *module id* and an offset, which it hands to `__tls_get_addr`. Ids are small and are given again once a
+//!   module is gone, since they are slots in an array that each thread has;
+//! - at a fixed distance below the thread pointer. That works for modules that start with the program, whose blocks
+//!   are laid out once, and for late ones that say so (`DF_STATIC_TLS` in the gABI's dynamic array), as long as a
+//!   reserve of bytes lasts: the *static surplus*, here 4,096 bytes past the last startup block.
 //!
-//! This crate decides which module is loaded, and under which numbers. It keeps one list, the *history*: each accepted open
-//! and close with its thread and line. **All answers are functions of that list.** A late image is loaded while its opens
-//! outnumber its closes. Each load makes an *instance* with the next number, and no number comes twice. It takes the least
-//! module id that no live instance has, and, if its blocks are static, a place in the surplus that is never given again:
+//! This crate decides which module is loaded, and under which numbers. It keeps one list, the *history*: each
+//! accepted open and close with its thread and line. **All answers are functions of that list.** A late image is
+//! loaded while its opens outnumber its closes. Each load makes an *instance* with the next number, and no number
+//! comes twice. It takes the least module id that no live instance has, and, if its blocks are static, an offset in
+//! the surplus that is never given again:
 //!
 //! ```text
 //! images: 1 app (starts, 4 bytes), 2 plug, 3 other (late, 8 bytes at an alignment of 4, static)
@@ -27,10 +29,11 @@
 //! open 1              refused: Unknown            as before
 //! ```
 //!
-//! [`Registry`] is the history with its questions. [`ModuleTable`] is what a history leaves, kept up to date an event at a
-//! time, for whoever follows a history that another keeps. Both answer from tables: no question walks the history or takes
-//! memory, and the cost of an open or a close does not grow with it. [`laws`] states what every history keeps. `specs/Past`
-//! has the definitions, a walk along the list of events; `specs/History` the answers, and `specs/Laws` the laws.
+//! [`Registry`] is the history with its questions. [`ModuleTable`] is what a history leaves, kept up to date an event
+//! at a time, for whoever follows a history that another keeps. Both answer from tables: no question walks the
+//! history or takes memory, and the cost of an open or a close does not grow with it. [`laws`] states what every
+//! history keeps. `specs/Past` has the definitions, a walk along the list of events; `specs/History` the answers, and
+//! `specs/Laws` the laws.
 #![tactic(auto)]
 
 mod events;
@@ -40,8 +43,6 @@ mod modules;
 mod registry;
 mod start;
 mod table;
-#[cfg(test)]
-mod tests;
 
 pub use crate::events::{CloseRefusal, Closed, Event, OpenRefusal, Opened};
 pub use crate::modules::{ImageInfo, Module};

@@ -20,13 +20,14 @@ pub struct ImageInfo {
 pub struct Module {
     /// What is known of the image from the start.
     pub info: ImageInfo,
-    /// How often it is held open: its opens less its closes, and 1 for a startup image. It is loaded where this is not 0.
+    /// How often it is held open: its opens less its closes, and 1 for a startup image. It is loaded where this is
+    /// not 0.
     pub uses: u64,
     /// The number of its newest instance, from 1.
     pub instance: u32,
     /// The module id of that instance, from 1.
     pub id: u64,
-    /// How far below the thread pointer that instance's block begins, if it has a place in the static surplus.
+    /// How far below the thread pointer that instance's block begins, if it is one of the static surplus.
     pub offset: Option<u64>,
 }
 
@@ -48,7 +49,8 @@ impl Module {
         offset: None,
     };
 
-    /// An image before any event. A startup image is loaded once and for all, and its number is its instance's and its module id.
+    /// An image before any event. A startup image is loaded once and for all, and its number is its instance's and
+    /// its module id.
     pub(crate) fn at_start(info: ImageInfo, image: u32) -> Module
         ensures { result ≡ first_module info image }
     {

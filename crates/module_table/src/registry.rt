@@ -2,8 +2,10 @@
 
 ghost use Rattle.std.specs.Prelude.{◌≡◌, ◌<◌, ◌≤◌, ◌^◌, [], drop, length, true, IfOk, IfErr, OnErr, OnOk, Ok, false};
 ghost use Rattle.module_table.specs.Modules.{AreInfos};
-ghost use Rattle.module_table.specs.Past.{start, module_of, live, offset, current, instance_of, accepts, open_refusal, close_refusal};
-ghost use Rattle.module_table.specs.History.{left, IsLegal, IsSame, Adds, open_answer, close_answer, OpenRefused, CloseRefused};
+ghost use Rattle.module_table.specs.Past.{start, module_of, live, offset, current, instance_of, accepts};
+ghost use Rattle.module_table.specs.Past.{open_refusal, close_refusal};
+ghost use Rattle.module_table.specs.History.{left, IsLegal, IsSame, Adds, open_answer, close_answer, OpenRefused};
+ghost use Rattle.module_table.specs.History.{CloseRefused};
 
 use crate::events::{CloseRefusal, Closed, Event, OpenRefusal, Opened};
 use crate::modules::{ImageInfo, Module};
@@ -11,8 +13,8 @@ use crate::table::ModuleTable;
 use std::alloc::{AllocError, Global};
 use std::marker::Model;
 
-/// The history of modules. Contracts see a `History`: its images, the last startup image's offset, its events, and for how many
-/// more events memory is there.
+/// The history of modules. Contracts see a `History`: its images, the last startup image's offset, its events, and
+/// for how many more events memory is there.
 #[derive(Drop)]
 pub struct Registry {
     infos: Vec<ImageInfo>,
@@ -34,8 +36,8 @@ impl Model for Registry {
 }
 
 impl Registry {
-    /// The registry before any event. Image 1 is the program, then come the images that start with it, then the late ones;
-    /// the block of the last startup image begins `last_offset` bytes below the thread pointer.
+    /// The registry before any event. Image 1 is the program, then come the images that start with it, then the late
+    /// ones; the block of the last startup image begins `last_offset` bytes below the thread pointer.
     pub fn new(alloc: Global, infos: &[ImageInfo], last_offset: u64) -> Result<Registry, AllocError>
         requires infos { AreInfos infos.now }
         requires low { last_offset < 2 ^ 27 }
@@ -88,15 +90,15 @@ impl Registry {
         self.table().instance_of(id)
     }
 
-    /// How far below the thread pointer the block of a live instance begins; `None` exactly where the instance is not live, or
-    /// has no place in the static surplus.
+    /// How far below the thread pointer the block of a live instance begins; `None` exactly where the instance is not
+    /// live, or has no offset in the static surplus.
     pub fn offset(&self, instance: u32) -> Option<u64>
         ensures { result ≡ offset (left self.now) instance }
     {
         self.table().offset(instance)
     }
 
-    /// The events from a place on.
+    /// The events from an index on.
     pub fn since(&self, at: u64) -> &[Event]
         requires { at ≤ length self.now.events }
         ensures value { result.now ≡ drop at self.now.events }
@@ -134,7 +136,7 @@ impl Registry {
         })
     }
 
-    /// Puts an event at the end of the history: the one place that does.
+    /// Puts an event at the end of the history: the one call that does.
     fn add(&mut self, event: Event) -> Result<(), AllocError>
         requires { accepts (left self.old) event ≡ true }
         ensures ok { OnOk result (Adds self.old event self.new) }
@@ -159,7 +161,8 @@ impl Registry {
     #[tactic(auto, using(crate::proofs::HistoryLemmas::opening))]
     pub fn open(&mut self, thread: u32, line: u32, image: u32) -> Result<Opened, OpenRefusal>
         ensures opened { IfOk result (λ opened. open_answer self.old image ≡ Ok opened) }
-        ensures adds { OnOk result (Adds self.old (record { thread = thread; line = line; opens = true; image = image }) self.new) }
+        ensures adds { OnOk result
+            (Adds self.old (record { thread = thread; line = line; opens = true; image = image }) self.new) }
         ensures refused { IfErr result (OpenRefused self.old image) }
         ensures same { OnErr result (IsSame self.old self.new) }
         ensures legal { IsLegal self.new.infos self.new.last_offset self.new.events }
@@ -197,7 +200,8 @@ impl Registry {
     #[tactic(auto, using(crate::proofs::HistoryLemmas::closing))]
     pub fn close(&mut self, thread: u32, line: u32, image: u32) -> Result<Closed, CloseRefusal>
         ensures closed { IfOk result (λ closed. close_answer self.old image ≡ Ok closed) }
-        ensures adds { OnOk result (Adds self.old (record { thread = thread; line = line; opens = false; image = image }) self.new) }
+        ensures adds { OnOk result
+            (Adds self.old (record { thread = thread; line = line; opens = false; image = image }) self.new) }
         ensures refused { IfErr result (CloseRefused self.old image) }
         ensures same { OnErr result (IsSame self.old self.new) }
         ensures legal { IsLegal self.new.infos self.new.last_offset self.new.events }

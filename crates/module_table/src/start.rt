@@ -44,15 +44,15 @@ pub(crate) fn ids_of(modules: &[Module]) -> IdSet
     ids
 }
 
-/// A table whose every key names the image of its own number: right for startup images, and read for no other key, since
-/// a key counts only where the image that it names is loaded under it.
+/// A table whose every key names the image of its own number: right for startup images, and read for no other key,
+/// since a key counts only where the image that it names is loaded under it.
 pub(crate) fn own_numbers(alloc: Global, count: u32) -> Result<Vec<u32>, AllocError>
-    ensures len { IfOk result (λ places. length places.items ≡ count) }
-    ensures each { IfOk result (λ places. (k : ℕ) → k < count → slice_index places.items k ≡ k) }
+    ensures len { IfOk result (λ slots. length slots.items ≡ count) }
+    ensures each { IfOk result (λ slots. (k : ℕ) → k < count → slice_index slots.items k ≡ k) }
 {
-    let mut places = Vec::with_capacity(alloc, count as usize)?;
+    let mut slots = Vec::with_capacity(alloc, count as usize)?;
     for image in 0..count {
-        places.push(image)?;
+        slots.push(image)?;
     }
-    Ok(places)
+    Ok(slots)
 }

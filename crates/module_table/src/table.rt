@@ -2,7 +2,9 @@
 
 ghost use Rattle.std.specs.Prelude.{◌≡◌, ◌<◌, ◌^◌, true, ◌+◌, ◌≤◌, IfOk, None, length, nat_lt, slice_index};
 ghost use Rattle.module_table.specs.Modules.{AreInfos};
-ghost use Rattle.module_table.specs.Past.{start, live, offset, current, instance_of, image_of, module_of, open_refusal, close_refusal, accepts, after_one, loaded, retained, released, next_offset, opened, after, is_legal};
+ghost use Rattle.module_table.specs.Past.{start, live, offset, current, instance_of, image_of, module_of};
+ghost use Rattle.module_table.specs.Past.{open_refusal, close_refusal, accepts, after_one, loaded, retained};
+ghost use Rattle.module_table.specs.Past.{released, next_offset, opened, after, is_legal};
 
 use crate::events::{CloseRefusal, Event, OpenRefusal};
 use crate::ids::IdSet;
@@ -14,8 +16,9 @@ use std::marker::Model;
 
 /// What a history leaves. Contracts see a `Past`.
 ///
-/// Two tables lead from a number to an image. They are written at a load and never cleared: an entry counts only where the
-/// image that it names is loaded under the number that was looked up, so a close writes no more than the image itself.
+/// Two tables lead from a number to an image. They are written at a load and never cleared: an entry counts only
+/// where the image that it names is loaded under the number that was looked up, so a close writes no more than the
+/// image itself.
 #[derive(Drop)]
 pub struct ModuleTable {
     /// How many events there were.
@@ -47,7 +50,7 @@ impl Model for ModuleTable {
 }
 
 /// The image that a table names under a key; 0, which is no image, past the table's end.
-fn place(images: &[u32], key: usize) -> u32
+fn image_in(images: &[u32], key: usize) -> u32
     ensures { result ≡ slice_index images.now key }
 {
     images.get(key).copied().unwrap_or(0)
@@ -58,7 +61,8 @@ impl ModuleTable {
     ghost use Rattle.module_table.specs.Past.{new_instance, least_free, IsLeastFree};
     ghost use Rattle.module_table.specs.Tables.{IsTheImage, IsTheImageUnder, CanLoad, HasFreeId};
 
-    /// The tables before any event, of these images, where the last startup image's block begins so far below the thread pointer.
+    /// The tables before any event, of these images, where the last startup image's block begins so far below the
+    /// thread pointer.
     pub fn new(
         alloc: Global,
         infos: &[ImageInfo],
@@ -117,7 +121,8 @@ impl ModuleTable {
             .unwrap_or(Module::NONE)
     }
 
-    /// Where a block of the image would begin in the static surplus: past what was given, at a multiple of its alignment.
+    /// Where a block of the image would begin in the static surplus: past what was given, at a multiple of its
+    /// alignment.
     fn next_offset(&self, image: u32) -> u64
         ensures value { result ≡ next_offset self.now (module_of self.now image) }
     {
@@ -195,14 +200,14 @@ impl ModuleTable {
     fn image_at(&self, instance: u32) -> u32
         ensures { IsTheImage self.now instance result }
     {
-        place(&self.image_by_instance, instance as usize)
+        image_in(&self.image_by_instance, instance as usize)
     }
 
     /// The one image that could be loaded under a module id.
     fn image_under(&self, id: u64) -> u32
         ensures { IsTheImageUnder self.now id result }
     {
-        place(&self.image_by_id, id as usize)
+        image_in(&self.image_by_id, id as usize)
     }
 
     /// The image of a live instance.
@@ -237,7 +242,8 @@ impl ModuleTable {
         self.image_of(instance).is_some()
     }
 
-    /// How far below the thread pointer the block of a live instance begins; `None` where it has no place in the static surplus.
+    /// How far below the thread pointer the block of a live instance begins; `None` where it has no offset in the
+    /// static surplus.
     #[tactic(auto, unfolding(crate::specs::Past::offset))]
     pub fn offset(&self, instance: u32) -> Option<u64>
         ensures { result ≡ offset self.now instance }
@@ -246,8 +252,8 @@ impl ModuleTable {
         self.module(image).offset
     }
 
-    /// A new instance of an image that is not loaded: the next number, the least free id, and a place in the static surplus if
-    /// its blocks are static.
+    /// A new instance of an image that is not loaded: the next number, the least free id, and an offset in the static
+    /// surplus if its blocks are static.
     fn new_instance(&self, image: u32) -> Module
         requires { CanLoad self.now image }
         ensures value { result ≡ new_instance self.now (module_of self.now image) }

@@ -1,5 +1,6 @@
 -- Where thread-local sections lie in the TLS segment, and its front in the image.
-use Rattle.std.proofs.Common.{◌≡◌, ℕ, ◌+◌, ◌-◌, ◌*◌, ◌<◌, ◌≤◌, ◌^◌, ◌==◌, Bool, true, false, max, List, [], ◌∷◌, take, drop, All, Option, Some, None, IsSome, refl, sym, ap, subst, ◌∙◌, arith, inl, inr, ◌⊎◌}
+use Rattle.std.proofs.Common.{◌≡◌, ℕ, ◌+◌, ◌-◌, ◌*◌, ◌<◌, ◌≤◌, ◌^◌, ◌==◌, Bool, true, false, max, List, [], ◌∷◌, take, drop, All, Option, Some, None, IsSome, refl, sym, ap, subst, ◌∙◌, arith, inl}
+use Rattle.std.proofs.Common.{inr, ◌⊎◌}
 use Rattle.std.specs.Prelude.{fold, option_and_then, if◌then◌else◌}
 use Rattle.std.proofs.Math.Nat.{mul_assoc}
 use Rattle.std.proofs.lemmas.Bool.{cases_lt}
@@ -17,7 +18,8 @@ use Rattle.tls_layout.specs.declared.extent.Extent.{Extent}
 use Rattle.tls_layout.specs.Rounding.{round_up, IsMultiple}
 use Rattle.elf_object.specs.Lawful.{IsPower}
 use Rattle.tls_layout.specs.Sections.{Layout, dropped, position, section_at, is_in, is_tls_class, IsOrdinary}
-use Rattle.tls_layout.specs.Places.{next_end, end_of, place_in, read_only, tls_image, initial_tls, zero_tls, tls_size, tls_alignment, greatest_alignment, next_alignment, address_at, offset_by, offset_at, section_found, section_named, address_of, tls_offset_of, IsLawful}
+use Rattle.tls_layout.specs.Places.{next_end, end_of, place_in, read_only, tls_image, initial_tls, zero_tls, tls_size, tls_alignment, greatest_alignment, next_alignment, address_at, offset_by}
+use Rattle.tls_layout.specs.Places.{offset_at, section_found, section_named, address_of, tls_offset_of, IsLawful}
 use Rattle.tls_layout.specs.Laws.{LiesInTls, LieInTheSegment, HaveOffsets, OffsetsAreApart, AlignmentSuits, IsFrontOfSegment}
 use Rattle.tls_layout.proofs.Rounds.{round_up-add, power_divides}
 use Rattle.tls_layout.proofs.Ends.{end_of-rises}
@@ -104,9 +106,11 @@ offset_before sections j k a b less first second = by_parts first.initial second
     by_parts true true is is' at at' = inl (rw (at, at') (one_before (Tls true) (part true sections).start sections j k less is))
     by_parts false false is is' at at' = inl (rw (at, at') (one_before (Tls false) (part false sections).start sections j k less is))
     by_parts true false is is' at at' =
-        inl (omega (arith, to_end (Tls true) (part true sections).start sections j is, part_end sections true, parts_follow sections, from_start (Tls false) (part false sections).start sections k, at, at'))
+        inl (omega (arith, to_end (Tls true) (part true sections).start sections j is, part_end sections true, parts_follow sections,
+            from_start (Tls false) (part false sections).start sections k, at, at'))
     by_parts false true is is' at at' =
-        inr (omega (arith, to_end (Tls true) (part true sections).start sections k is', part_end sections true, parts_follow sections, from_start (Tls false) (part false sections).start sections j, at, at'))
+        inr (omega (arith, to_end (Tls true) (part true sections).start sections k is', part_end sections true, parts_follow sections,
+            from_start (Tls false) (part false sections).start sections j, at, at'))
 
 pub offsets_apart : (p : Layout) → OffsetsAreApart p
 unfolding tls_offset_of

@@ -35,7 +35,8 @@ ordinary_sections b object = All-map IsOrdinary (section_of b) (range_with_len 0
 
 pub sections_more : (b : List ℕ) (start now : List Section) (n : ℕ) (x : Section) → now ≡ start ++ map (section_of b) (range_with_len 0 n) → x ≡ section_of b n
     → now ++ x ∷ [] ≡ start ++ map (section_of b) (range_with_len 0 (n + 1))
-sections_more b start now n x is here = rw (is, here, map-range_with_len_more (section_of b) 0 n n (omega arith)) (append_assoc start (map (section_of b) (range_with_len 0 n)) (section_of b n ∷ []))
+sections_more b start now n x is here =
+    rw (is, here, map-range_with_len_more (section_of b) 0 n n (omega arith)) (append_assoc start (map (section_of b) (range_with_len 0 n)) (section_of b n ∷ []))
 
 pub sections_all : (b : List ℕ) (start now : List Section) (n : ℕ) → n ≡ section_count b → now ≡ start ++ map (section_of b) (range_with_len 0 n) → now ≡ start ++ sections_of b
 unfolding sections_of

@@ -1,5 +1,6 @@
 -- What every layout keeps, in words that know nothing of how it is found.
-use Rattle.std.specs.Prelude.{◌≡◌, ◌≢◌, ◌+◌, ◌<◌, ◌≤◌, ◌⊎◌, ℕ, Bool, false, List, [], length, slice_index_or, Some, IsSome}
+use Rattle.std.specs.Prelude.{◌≡◌, ◌≢◌, ◌+◌, ◌<◌, ◌≤◌, ◌⊎◌, ℕ, Bool, false, List, [], length, slice_index_or, Some}
+use Rattle.std.specs.Prelude.{IsSome}
 use Rattle.elf_object.specs.declared.class.SectionClass.{SectionClass}
 use Rattle.elf_object.specs.declared.class.SectionClass.TheVariants.{Executable, ReadOnly, Tls, Writable}
 use Rattle.elf_object.specs.Lent.{section_class, section_size, section_alignment}
@@ -10,7 +11,8 @@ use Rattle.tls_layout.specs.declared.sections.Section.{Section}
 use Rattle.tls_layout.specs.declared.statics.TlsSize.{TlsSize}
 use Rattle.tls_layout.specs.Rounding.{IsMultiple}
 use Rattle.tls_layout.specs.Sections.{Layout, layout_of}
-use Rattle.tls_layout.specs.Places.{section_named, class_of, address_of, tls_offset_of, executable, read_only, tls_image, writable, room, initial_tls, tls_size, tls_alignment}
+use Rattle.tls_layout.specs.Places.{section_named, class_of, address_of, tls_offset_of, executable, read_only}
+use Rattle.tls_layout.specs.Places.{tls_image, writable, room, initial_tls, tls_size, tls_alignment}
 use Rattle.tls_layout.specs.Statics.{tls_of, tls_offset}
 
 -- ---- what a layout knows of objects
@@ -23,7 +25,9 @@ pub record IsSectionOf (b : List ℕ) (s : ℕ) (section : Section) : Type 0 whe
 
 -- section s of object o is found by these two numbers
 abbrev pub FindsSections : ImageKind → List (List ℕ) → Type 0
-FindsSections kind objects = (o s : ℕ) → o < length objects → IsSectionOf (slice_index_or objects o []) s (section_named (layout_of kind objects) o s)
+FindsSections kind objects =
+    (o s : ℕ) → o < length objects
+    → IsSectionOf (slice_index_or objects o []) s (section_named (layout_of kind objects) o s)
 
 -- ---- addresses
 
@@ -43,17 +47,20 @@ pub record LiesAt (p : Layout) (class : SectionClass) (section : Section) (addre
 
 abbrev pub LieInTheirClasses : Layout → Type 0
 LieInTheirClasses p =
-    (o s address : ℕ) (class : SectionClass) → class_of p o s ≡ Some class → address_of p o s ≡ Some address → LiesAt p class (section_named p o s) address
+    (o s address : ℕ) (class : SectionClass) → class_of p o s ≡ Some class → address_of p o s ≡ Some address
+        → LiesAt p class (section_named p o s) address
 
 -- every section that linking keeps has an address, but for thread-local storage that is zero
 abbrev pub HaveAddresses : Layout → Type 0
-HaveAddresses p = (o s : ℕ) (class : SectionClass) → class_of p o s ≡ Some class → class ≢ Tls false → IsSome (address_of p o s)
+HaveAddresses p = (o s : ℕ) (class : SectionClass) → class_of p o s ≡ Some class → class ≢ Tls false
+    → IsSome (address_of p o s)
 
 -- of two sections one ends where the other begins, or before; else they are the same
 abbrev pub AddressesAreApart : Layout → Type 0
 AddressesAreApart p =
     (o s address o' s' address' : ℕ) → address_of p o s ≡ Some address → address_of p o' s' ≡ Some address'
-    → ((o ≡ o') × (s ≡ s')) ⊎ ((address + (section_named p o s).size ≤ address') ⊎ (address' + (section_named p o' s').size ≤ address))
+    → ((o ≡ o') × (s ≡ s'))
+        ⊎ ((address + (section_named p o s).size ≤ address') ⊎ (address' + (section_named p o' s').size ≤ address))
 
 -- each class begins on a page, at or after the end of the one before it
 pub record ClassesFollow (p : Layout) : Type 0 where
@@ -83,9 +90,11 @@ HaveOffsets p = (o s : ℕ) (initial : Bool) → class_of p o s ≡ Some (Tls in
 abbrev pub OffsetsAreApart : Layout → Type 0
 OffsetsAreApart p =
     (o s offset o' s' offset' : ℕ) → tls_offset_of p o s ≡ Some offset → tls_offset_of p o' s' ≡ Some offset'
-    → ((o ≡ o') × (s ≡ s')) ⊎ ((offset + (section_named p o s).size ≤ offset') ⊎ (offset' + (section_named p o' s').size ≤ offset))
+    → ((o ≡ o') × (s ≡ s'))
+        ⊎ ((offset + (section_named p o s).size ≤ offset') ⊎ (offset' + (section_named p o' s').size ≤ offset))
 
--- the segment's alignment suits each of its sections: where it lies at such a multiple, so does each section at one of its own
+-- the segment's alignment suits each of its sections: where it lies at such a multiple, so does each section at one
+-- of its own
 abbrev pub AlignmentSuits : Layout → Type 0
 AlignmentSuits p =
     (o s : ℕ) (initial : Bool) → 0 < tls_size p.sections → class_of p o s ≡ Some (Tls initial)
@@ -93,7 +102,8 @@ AlignmentSuits p =
 
 -- the initial image is the segment's front: its bytes lie in the image as they lie in a block
 pub record IsFrontOfSegment (p : Layout) : Type 0 where
-  pub places : (o s address offset : ℕ) → address_of p o s ≡ Some address → tls_offset_of p o s ≡ Some offset → address ≡ (tls_image p.kind p.sections).start + offset
+  pub places : (o s address offset : ℕ) → address_of p o s ≡ Some address → tls_offset_of p o s ≡ Some offset
+      → address ≡ (tls_image p.kind p.sections).start + offset
   pub len : (tls_image p.kind p.sections).end ≡ (tls_image p.kind p.sections).start + (initial_tls p.sections).end
   pub inside : (initial_tls p.sections).end ≤ tls_size p.sections
 
@@ -101,7 +111,8 @@ pub record IsFrontOfSegment (p : Layout) : Type 0 where
 
 -- module m's block holds the byte that lies d bytes below the thread pointer: it begins `tlsoffset` bytes below
 abbrev pub Holds : List TlsSize → ℕ → ℕ → Type 0
-Holds sizes m d = (m < length sizes) × (d ≤ tls_offset sizes (m + 1)) × (tls_offset sizes (m + 1) < d + (tls_of sizes m).size)
+Holds sizes m d = (m < length sizes) × (d ≤ tls_offset sizes (m + 1))
+    × (tls_offset sizes (m + 1) < d + (tls_of sizes m).size)
 
 -- no byte is in two blocks
 abbrev pub BlocksAreApart : List TlsSize → Type 0

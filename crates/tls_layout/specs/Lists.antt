@@ -36,7 +36,8 @@ pub record AreExtents (kind : ImageKind) (sections : List Section) (extents : Im
   pub small : extents.writable.end ≤ base_of kind + 2 ^ 24
 
 -- what a placement keeps is what it stands for
-pub record IsPlacement (kind : ImageKind) (list : SectionList) (addresses : List (Option ℕ)) (extents : ImageExtents) (tls : TlsPlaces) : Type 0 where
+pub record IsPlacement (kind : ImageKind) (list : SectionList) (addresses : List (Option ℕ)) (extents : ImageExtents)
+    (tls : TlsPlaces) : Type 0 where
   pub lawful : IsLawful (record { kind = kind; counts = list.counts.items; sections = list.sections.items })
   pub firsts_are : AreFirsts list.counts.items list.firsts.items
   pub total : sum list.counts.items ≡ length list.sections.items

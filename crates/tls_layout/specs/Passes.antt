@@ -1,5 +1,6 @@
 -- What one pass over the sections does, and what the passes leave together.
-use Rattle.std.specs.Prelude.{◌≡◌, ◌<◌, ◌≤◌, ℕ, List, length, take, sum, Option, None, Some, slice_index, slice_index_or, if◌then◌else◌}
+use Rattle.std.specs.Prelude.{◌≡◌, ◌<◌, ◌≤◌, ℕ, List, length, take, sum, Option, None, Some, slice_index}
+use Rattle.std.specs.Prelude.{slice_index_or, if◌then◌else◌}
 use Rattle.elf_object.specs.declared.class.SectionClass.{SectionClass}
 use Rattle.link_faults.specs.declared.image_kind.ImageKind.{ImageKind}
 use Rattle.tls_layout.specs.declared.sections.Section.{Section}
@@ -10,13 +11,17 @@ use Rattle.tls_layout.specs.Places.{place_in, address_at, offset_at}
 abbrev pub GivesPlaces : SectionClass → ℕ → List Section → List (Option ℕ) → List (Option ℕ) → Type 0
 GivesPlaces class from sections old new =
     (k : ℕ) → k < length sections
-    → slice_index_or new k None ≡ (if is_in class (section_at sections k) then Some (place_in class from sections k) else slice_index_or old k None)
+    → slice_index_or new k None
+        ≡ (if is_in class (section_at sections k) then Some (place_in class from sections k)
+        else slice_index_or old k None)
 
 -- the same, of a pass that came to section i
 abbrev pub GivesPlacesBelow : ℕ → SectionClass → ℕ → List Section → List (Option ℕ) → List (Option ℕ) → Type 0
 GivesPlacesBelow i class from sections old new =
     (k : ℕ) → k < i
-    → slice_index_or new k None ≡ (if is_in class (section_at sections k) then Some (place_in class from sections k) else slice_index_or old k None)
+    → slice_index_or new k None
+        ≡ (if is_in class (section_at sections k) then Some (place_in class from sections k)
+        else slice_index_or old k None)
 
 abbrev pub KeepsFrom : ℕ → List (Option ℕ) → List (Option ℕ) → Type 0
 KeepsFrom i old new = (k : ℕ) → i ≤ k → slice_index_or new k None ≡ slice_index_or old k None

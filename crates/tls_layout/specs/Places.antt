@@ -1,6 +1,7 @@
--- Where sections go in an image and in its block of thread-local storage (gABI, "Program Loading" and "Section Attributes";
--- Drepper, "ELF Handling For Thread-Local Storage", section 3).
-use Rattle.std.specs.Prelude.{◌+◌, ◌-◌, ◌≤◌, ◌^◌, ◌==◌, ℕ, true, false, List, take, fold, max, All, Option, None, Some, option_and_then, if◌then◌else◌}
+-- Where sections go in an image and in its block of thread-local storage (gABI, "Program Loading" and "Section
+-- Attributes"; Drepper, "ELF Handling For Thread-Local Storage", section 3).
+use Rattle.std.specs.Prelude.{◌+◌, ◌-◌, ◌≤◌, ◌^◌, ◌==◌, ℕ, true, false, List, take, fold, max, All, Option, None}
+use Rattle.std.specs.Prelude.{Some, option_and_then, if◌then◌else◌}
 use Rattle.elf_object.specs.declared.class.SectionClass.{SectionClass}
 use Rattle.elf_object.specs.declared.class.SectionClass.TheVariants.{Executable, ReadOnly, Tls, Writable}
 use Rattle.link_faults.specs.declared.image_kind.ImageKind.{ImageKind}
@@ -24,7 +25,8 @@ next_end class end section = if is_in class section then end_after end section e
 unfoldable pub end_of : SectionClass → ℕ → List Section → ℕ
 end_of class from sections = fold (next_end class) from sections
 
--- where the k-th section goes, one of the class: at the least multiple of its alignment at or after the end of those before it
+-- where the k-th section goes, one of the class: at the least multiple of its alignment at or after the end of those
+-- before it
 unfoldable pub place_in : SectionClass → ℕ → List Section → ℕ → ℕ
 place_in class from sections k = round_up (end_of class from (take k sections)) (section_at sections k).alignment
 
@@ -69,8 +71,10 @@ address_by (Some Executable) kind sections k = Some (place_in Executable (execut
 address_by (Some ReadOnly) kind sections k = Some (place_in ReadOnly (read_only kind sections).start sections k)
 address_by (Some (Tls true)) kind sections k = Some (place_in (Tls true) (tls_image kind sections).start sections k)
 address_by (Some (Tls false)) kind sections k = None
-address_by (Some (Writable true)) kind sections k = Some (place_in (Writable true) (initial_data kind sections).start sections k)
-address_by (Some (Writable false)) kind sections k = Some (place_in (Writable false) (zero_data kind sections).start sections k)
+address_by (Some (Writable true)) kind sections k =
+    Some (place_in (Writable true) (initial_data kind sections).start sections k)
+address_by (Some (Writable false)) kind sections k =
+    Some (place_in (Writable false) (zero_data kind sections).start sections k)
 address_by None kind sections k = None
 
 unfoldable pub address_at : ImageKind → List Section → ℕ → Option ℕ

@@ -1,5 +1,6 @@
 -- The sections of objects in their order, as a layout sees them (gABI, "Sections").
-use Rattle.std.specs.Prelude.{◌+◌, ◌≤◌, ◌^◌, ℕ, Bool, true, false, List, map, take, sum, Option, None, Some, slice_index, slice_index_or, nat_lt, if◌then◌else◌}
+use Rattle.std.specs.Prelude.{◌+◌, ◌≤◌, ◌^◌, ℕ, Bool, true, false, List, map, take, sum, Option, None, Some}
+use Rattle.std.specs.Prelude.{slice_index, slice_index_or, nat_lt, if◌then◌else◌}
 use Rattle.std.specs.List.{range_with_len, flat_map}
 use Rattle.elf_object.specs.declared.class.SectionClass.{SectionClass}
 use Rattle.elf_object.specs.declared.class.SectionClass.TheVariants.{Executable, ReadOnly, Tls, Writable}
@@ -33,7 +34,8 @@ all_sections objects = flat_map sections_of objects
 unfoldable pub section_counts : List (List ℕ) → List ℕ
 section_counts objects = map section_count objects
 
--- all that decides where sections go: what the image is, how many sections each object has, and all sections in their order
+-- all that decides where sections go: what the image is, how many sections each object has, and all sections in their
+-- order
 pub record Layout : Type 0 where
   pub kind : ImageKind
   pub counts : List ℕ

@@ -6,7 +6,9 @@ ghost use Rattle.tls_layout.specs.declared.statics.TlsSize.{TlsSize};
 ghost use Rattle.tls_layout.specs.Rounding.{round_up, IsLeastMultiple};
 ghost use Rattle.tls_layout.specs.Sections.{Layout};
 ghost use Rattle.tls_layout.specs.Places.{IsLawful};
-ghost use Rattle.tls_layout.specs.Laws.{FindsSections, LieInTheirClasses, HaveAddresses, AddressesAreApart, ClassesFollow, LieInTheSegment, HaveOffsets, OffsetsAreApart, AlignmentSuits, IsFrontOfSegment, BlocksAreApart, IsBelowThreadPointer};
+ghost use Rattle.tls_layout.specs.Laws.{FindsSections, LieInTheirClasses, HaveAddresses, AddressesAreApart};
+ghost use Rattle.tls_layout.specs.Laws.{ClassesFollow, LieInTheSegment, HaveOffsets, OffsetsAreApart, AlignmentSuits};
+ghost use Rattle.tls_layout.specs.Laws.{IsFrontOfSegment, BlocksAreApart, IsBelowThreadPointer};
 ghost use Rattle.tls_layout.specs.Statics.{IsTlsSize};
 
 /// What a layout holds of a section is what its object says of it.

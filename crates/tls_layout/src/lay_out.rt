@@ -1,6 +1,7 @@
 //! One pass over the sections: the places of one class.
 
-ghost use Rattle.std.specs.Prelude.{◌≡◌, ◌+◌, ◌<◌, ◌≤◌, ◌^◌, All, IfOk, IfErr, OnOk, Some, None, length, if◌then◌else◌};
+ghost use Rattle.std.specs.Prelude.{◌≡◌, ◌+◌, ◌<◌, ◌≤◌, ◌^◌, All, IfOk, IfErr, OnOk, Some, None, length};
+ghost use Rattle.std.specs.Prelude.{if◌then◌else◌};
 ghost use Rattle.tls_layout.specs.Rounding.{round_up as rounded_up};
 ghost use Rattle.tls_layout.specs.Sections.{is_in, IsOrdinary};
 ghost use Rattle.tls_layout.specs.Places.{next_end, end_of, extent_of};

@@ -4,7 +4,10 @@ ghost use Rattle.std.specs.Prelude.{◌≡◌, ◌+◌, ◌<◌, ◌≤◌, ◌^
 ghost use Rattle.elf_object.specs.Lawful.{IsPower};
 ghost use Rattle.link_faults.specs.ImageKinds.{base_of};
 ghost use Rattle.tls_layout.specs.Sections.{layout_of};
-ghost use Rattle.tls_layout.specs.Places.{class_of, address_of, tls_offset_of, executable as executable_of, read_only as read_only_of, tls_image as tls_image_of, writable as writable_of, room as room_of, initial_tls, tls_size as size_of_tls, tls_alignment as alignment_of_tls, IsLawful};
+ghost use Rattle.tls_layout.specs.Places.{class_of, address_of, tls_offset_of, executable as executable_of};
+ghost use Rattle.tls_layout.specs.Places.{read_only as read_only_of, tls_image as tls_image_of};
+ghost use Rattle.tls_layout.specs.Places.{writable as writable_of, room as room_of, initial_tls};
+ghost use Rattle.tls_layout.specs.Places.{tls_size as size_of_tls, tls_alignment as alignment_of_tls, IsLawful};
 ghost use Rattle.tls_layout.specs.Faults.{IsLayoutFault};
 
 use crate::extent::{Extent, page_up};
@@ -16,8 +19,8 @@ use link_faults::{ImageKind, LinkFault};
 use std::alloc::Global;
 use std::marker::Model;
 
-/// Where the sections of an image go. Contracts see what decides it: the kind of the image, how many sections each object has, and
-/// all sections in their order, each with its class, size and alignment.
+/// Where the sections of an image go. Contracts see what decides it: the kind of the image, how many sections each
+/// object has, and all sections in their order, each with its class, size and alignment.
 #[derive(Drop)]
 pub struct Placement {
     kind: ImageKind,
@@ -38,8 +41,8 @@ impl Model for Placement {
     ghost invariant = { λ p. IsPlacement p.kind p.list p.addresses.items p.extents p.tls };
 }
 
-/// Places the sections of an image. Answers `TlsTooLarge` where the TLS segment has more than 2^20 bytes, and else `ImageTooLarge`
-/// where the sections span more than 2^24. Both stand at no object, with section and entry 0.
+/// Places the sections of an image. Answers `TlsTooLarge` where the TLS segment has more than 2^20 bytes, and else
+/// `ImageTooLarge` where the sections span more than 2^24. Both stand at no object, with section and entry 0.
 pub fn place(alloc: Global, objects: &[Object], kind: ImageKind) -> Result<Placement, LinkFault>
     ensures places { IfOk result (λ p. p ≡ layout_of kind objects.now) }
     ensures lawful { IfOk result IsLawful }

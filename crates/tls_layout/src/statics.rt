@@ -15,8 +15,8 @@ pub struct TlsSize {
     pub alignment: u64,
 }
 
-/// How far below the thread pointer each startup module's block begins, in the order in which they are loaded. The first is the
-/// program's.
+/// How far below the thread pointer each startup module's block begins, in the order in which they are loaded. The
+/// first is the program's.
 pub fn static_offsets(alloc: Global, sizes: &[TlsSize]) -> Result<Vec<u64>, AllocError>
     requires few { length sizes.now ≤ 64 }
     requires ordinary { All IsTlsSize sizes.now }

@@ -1,5 +1,7 @@
--- Parts laid out at rising places, with zeros in the gaps: as one list of bytes, and as a reader finds the byte of each place.
-use Rattle.std.specs.Prelude.{◌+◌, ◌-◌, ◌≤◌, ℕ, Option, Some, None, List, [], ◌∷◌, ◌++◌, length, replicate, slice_get, nat_lt, if◌then◌else◌}
+-- Parts laid out at rising places, with zeros in the gaps: as one list of bytes, and as a reader finds the byte of
+-- each place.
+use Rattle.std.specs.Prelude.{◌+◌, ◌-◌, ◌≤◌, ℕ, Option, Some, None, List, [], ◌∷◌, ◌++◌, length, replicate, slice_get}
+use Rattle.std.specs.Prelude.{nat_lt, if◌then◌else◌}
 
 -- bytes, and the place of their first
 pub record Placed : Type 0 where

@@ -1,5 +1,6 @@
 -- The laws of `Laid`: the list and the reader agree at every place.
-use Rattle.std.proofs.Common.{◌≡◌, ◌+◌, ◌-◌, ◌<◌, ◌≤◌, ◌⊎◌, inl, inr, ℕ, List, [], ◌∷◌, ◌++◌, length, refl, ap, ◌∙◌, arith, append_assoc, length-append}
+use Rattle.std.proofs.Common.{◌≡◌, ◌+◌, ◌-◌, ◌<◌, ◌≤◌, ◌⊎◌, inl, inr, ℕ, List, [], ◌∷◌, ◌++◌, length, refl, ap, ◌∙◌}
+use Rattle.std.proofs.Common.{arith, append_assoc, length-append}
 use Rattle.std.specs.Prelude.{slice_get}
 use Rattle.std.proofs.lemmas.Bool.{cases_lt, lt-ltb, le-ltb}
 use Rattle.std.proofs.lemmas.List.{append-nil, length-replicate}
@@ -8,7 +9,8 @@ use Rattle.tls_relocs.specs.Laid.{Placed, zeros, laid, unit_at, Rising, end_of}
 
 -- one part, over what is known of those behind it
 laid_by_place : (at : ℕ) (s : Placed) (more : List Placed) (p : ℕ) → at ≤ s.place → at ≤ p
-    → (s.place + length s.bytes ≤ p → slice_get (laid (s.place + length s.bytes) more) (p - (s.place + length s.bytes)) ≡ unit_at more p)
+    → (s.place + length s.bytes ≤ p
+        → slice_get (laid (s.place + length s.bytes) more) (p - (s.place + length s.bytes)) ≡ unit_at more p)
     → (p < s.place) ⊎ (s.place ≤ p) → (p < s.place + length s.bytes) ⊎ (s.place + length s.bytes ≤ p)
     → slice_get (laid at (s ∷ more)) (p - at) ≡ unit_at (s ∷ more) p
 laid_by_place at s more p rises from later (inl before) _ =
@@ -58,7 +60,8 @@ length-laid at (s ∷ more) rising =
     let inner = length-append s.bytes (laid (s.place + length s.bytes) more) in
     let rest = length-laid (s.place + length s.bytes) more rising.1 in
     let rises : at ≤ s.place = rising.0 in
-    let whole : at + length (laid at (s ∷ more)) ≡ s.place + length s.bytes + length (laid (s.place + length s.bytes) more) = omega arith in
+    let whole : at + length (laid at (s ∷ more))
+        ≡ s.place + length s.bytes + length (laid (s.place + length s.bytes) more) = omega arith in
     whole ∙ rest
 
 -- one more part behind the others, as a writer lays it down

@@ -1,5 +1,6 @@
 -- Bytes written in place, one patch after another: as a writer leaves them, and as a reader finds each byte.
-use Rattle.std.specs.Prelude.{◌+◌, ◌-◌, ◌≤◌, ◌&&◌, ◌||◌, ℕ, Bool, false, Option, List, [], ◌∷◌, length, slice_get, nat_le, nat_lt, if◌then◌else◌}
+use Rattle.std.specs.Prelude.{◌+◌, ◌-◌, ◌≤◌, ◌&&◌, ◌||◌, ℕ, Bool, false, Option, List, [], ◌∷◌, length, slice_get}
+use Rattle.std.specs.Prelude.{nat_le, nat_lt, if◌then◌else◌}
 use Rattle.elf_records.specs.Fields.{splice}
 
 -- bytes, and the place where they are written

@@ -1,5 +1,6 @@
 -- The laws of `Values`: a field of the table's width, which reads as the value.
-use Rattle.std.proofs.Common.{◌≡◌, ◌^◌, ◌<◌, ◌≤◌, ◌%◌, ◌-◌, ◌⊎◌, inl, inr, ℕ, ℤ, pos, negsuc, Some, arith, FitsSigned, IsSome, ◌↔◌, refl}
+use Rattle.std.proofs.Common.{◌≡◌, ◌^◌, ◌<◌, ◌≤◌, ◌%◌, ◌-◌, ◌⊎◌, inl, inr, ℕ, ℤ, pos, negsuc, Some, arith, FitsSigned}
+use Rattle.std.proofs.Common.{IsSome, ◌↔◌, refl}
 use Rattle.std.specs.Int.{w32, cast_signed, cast_unsigned, FitsUnsignedBits}
 use Rattle.std.proofs.Math.Facts.{to_z-of_z}
 use Rattle.std.proofs.Math.Nat.{mod-eq_of_lt}

@@ -1,8 +1,13 @@
--- What each relocation stores (psABI, "Relocation Types"; those of thread-local storage: Drepper, "ELF Handling For Thread-Local
--- Storage", section 4.4). All sums are over whole numbers, before the field's range is asked.
-use Rattle.std.specs.Prelude.{◌-◌, ◌%◌, ◌^◌, ℕ, ℤ, pos, negsuc, ◌+ℤ◌, ◌-ℤ◌, Bool, false, nat_lt, Option, Some, None, if◌then◌else◌}
+-- What each relocation stores (psABI, "Relocation Types"; those of thread-local storage: Drepper, "ELF Handling For
+-- Thread-Local Storage", section 4.4). All sums are over whole numbers, before the field's range is asked.
+use Rattle.std.specs.Prelude.{◌-◌, ◌%◌, ◌^◌, ℕ, ℤ, pos, negsuc, ◌+ℤ◌, ◌-ℤ◌, Bool, false, nat_lt, Option, Some, None}
+use Rattle.std.specs.Prelude.{if◌then◌else◌}
 use Rattle.elf_object.specs.declared.relocation.RelocationKind.{RelocationKind}
-use Rattle.elf_object.specs.declared.relocation.RelocationKind.TheVariants.{Nothing, Absolute64, Pc32, Plt32, GotPcRel, Absolute32, Absolute32Signed, TlsGd, TlsLd, DtpOff32, GotTpOff, TpOff32, GotPc32TlsDesc, TlsDescCall, GotPcRelX, RexGotPcRelX}
+use Rattle.elf_object.specs.declared.relocation.RelocationKind.TheVariants.{Nothing, Absolute64, Pc32, Plt32}
+use Rattle.elf_object.specs.declared.relocation.RelocationKind.TheVariants.{GotPcRel, Absolute32, Absolute32Signed}
+use Rattle.elf_object.specs.declared.relocation.RelocationKind.TheVariants.{TlsGd, TlsLd, DtpOff32, GotTpOff, TpOff32}
+use Rattle.elf_object.specs.declared.relocation.RelocationKind.TheVariants.{GotPc32TlsDesc, TlsDescCall, GotPcRelX}
+use Rattle.elf_object.specs.declared.relocation.RelocationKind.TheVariants.{RexGotPcRelX}
 use Rattle.tls_relocs.specs.declared.fields.Field.{Field}
 use Rattle.tls_relocs.specs.declared.fields.Field.TheVariants.{Empty, Word32, Word64}
 
@@ -35,9 +40,9 @@ unsigned_field z = word32 (fits_unsigned z) z
 abbrev pub wrapped_field : ℤ → Option Field
 wrapped_field z = Some (Word64 (modulo (2 ^ 64) z))
 
--- the field that a relocation stores, None where the value does not fit it. By the psABI's letters: s is S, the symbol's place;
--- a is A, the addend; p is P, the place of the field; g is G, the place of the entry in the GOT. In the two rows of offsets in
--- a TLS segment s is the symbol's offset there, o, and g the number b that is subtracted.
+-- the field that a relocation stores, None where the value does not fit it. By the psABI's letters: s is S, the
+-- symbol's place; a is A, the addend; p is P, the place of the field; g is G, the place of the entry in the GOT. In
+-- the two rows of offsets in a TLS segment s is the symbol's offset there, o, and g the number b that is subtracted.
 abbrev pub stored_field : RelocationKind → ℕ → ℤ → ℕ → ℕ → Option Field
 stored_field Nothing s a p g = Some Empty  -- R_X86_64_NONE
 stored_field Absolute64 s a p g = wrapped_field (pos s +ℤ a)  -- R_X86_64_64

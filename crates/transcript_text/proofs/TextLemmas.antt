@@ -51,7 +51,8 @@ threads_text-all : {X : Type 0} (view : X → List Line) (t : ℕ) (threads : Li
 unfolding threads_text
 threads_text-all view t threads i h = at_drop_all (λ xs. threads_text t (map view xs)) threads i h
 
-pub threads_end : {X : Type 0} (view : X → List Line) (t i : ℕ) (threads : List X) (now whole : List ℕ) → length threads ≤ i → now ++ threads_text t (map view (drop i threads)) ≡ whole → now ≡ whole
+pub threads_end : {X : Type 0} (view : X → List Line) (t i : ℕ) (threads : List X) (now whole : List ℕ) → length threads ≤ i → now ++ threads_text t (map view (drop i threads)) ≡ whole
+    → now ≡ whole
 threads_end view t i threads now whole h inv = ended now _ whole (threads_text-all view t threads i h) inv
 
 events_text-drop : (images : List Image) (n : ℕ) (events : List Event) (i : ℕ) (d : Event) → i < length events

@@ -1,7 +1,8 @@
 -- The words of a transcript for refusals and faults.
 use Rattle.std.specs.Prelude.{ℕ, List, codes}
 use Rattle.transcript_text.specs.declared.outcomes.LineRefusal.{LineRefusal}
-use Rattle.transcript_text.specs.declared.outcomes.LineRefusal.TheVariants.{Unknown, Full, StaticFull, Permanent, NotOpen, Symbol, Length}
+use Rattle.transcript_text.specs.declared.outcomes.LineRefusal.TheVariants.{Unknown, Full, StaticFull, Permanent}
+use Rattle.transcript_text.specs.declared.outcomes.LineRefusal.TheVariants.{NotOpen, Symbol, Length}
 use Rattle.transcript_text.specs.declared.outcomes.LineFault.{LineFault}
 use Rattle.transcript_text.specs.declared.outcomes.LineFault.TheVariants.{Address, Code, Unloaded, Steps}
 

@@ -9,7 +9,8 @@ use Rattle.module_table.specs.declared.events.Event.{Event}
 use Rattle.job_text.specs.declared.images.Image.{Image}
 use Rattle.transcript_text.specs.declared.outcomes.Line.{Line}
 use Rattle.transcript_text.specs.declared.outcomes.Outcome.{Outcome}
-use Rattle.transcript_text.specs.declared.outcomes.Outcome.TheVariants.{Returned, Opened, Closed, Bytes, Refused, Fault}
+use Rattle.transcript_text.specs.declared.outcomes.Outcome.TheVariants.{Returned, Opened, Closed, Bytes, Refused}
+use Rattle.transcript_text.specs.declared.outcomes.Outcome.TheVariants.{Fault}
 
 -- the lines of each thread, thread 1 first, and the history of the modules
 pub record Shown : Type 0 where
@@ -42,7 +43,8 @@ points_text (p ∷ ps) = decimal p ++ flat_map (λ q. codes "," ++ decimal q) ps
 -- the line of a thread's line k
 unfoldable pub line_text : ℕ → ℕ → Line → List ℕ
 line_text thread k line =
-    codes "t" ++ decimal thread ++ codes " l" ++ decimal k ++ codes " g" ++ points_text line.points ++ codes " " ++ outcome_text line.outcome ++ codes "\n"
+    codes "t" ++ decimal thread ++ codes " l" ++ decimal k ++ codes " g" ++ points_text line.points ++ codes " "
+        ++ outcome_text line.outcome ++ codes "\n"
 
 -- the lines of a thread, from its line k on
 unfoldable pub lines_text : ℕ → ℕ → List Line → List ℕ
@@ -62,7 +64,8 @@ event_word false = codes "close"
 -- the line of event n
 unfoldable pub event_text : List Image → ℕ → Event → List ℕ
 event_text images n event =
-    codes "e" ++ decimal n ++ codes " t" ++ decimal event.thread ++ codes " l" ++ decimal event.line ++ codes " " ++ event_word event.opens ++ codes " " ++ image_name images event.image ++ codes "\n"
+    codes "e" ++ decimal n ++ codes " t" ++ decimal event.thread ++ codes " l" ++ decimal event.line ++ codes " "
+        ++ event_word event.opens ++ codes " " ++ image_name images event.image ++ codes "\n"
 
 -- the lines of the events from event n on
 unfoldable pub events_text : List Image → ℕ → List Event → List ℕ

@@ -2,7 +2,9 @@
 
 ghost use Rattle.std.specs.Prelude.{◌≡◌, ◌≤◌, ◌++◌, OnOk, All, length, map};
 ghost use Rattle.std.specs.String.{string_bytes};
-ghost use Rattle.transcript_text.specs.Texts.{IsImageNumber, bytes_text, outcome_text, points_text, line_text, lines_text, threads_text, event_word, image_name, event_text, events_text};
+ghost use Rattle.transcript_text.specs.Texts.{IsImageNumber, bytes_text, outcome_text, points_text, line_text};
+ghost use Rattle.transcript_text.specs.Texts.{lines_text, threads_text, event_word, image_name, event_text};
+ghost use Rattle.transcript_text.specs.Texts.{events_text};
 
 use crate::outcomes::{Bytes, Line, Outcome};
 use job_text::Image;
@@ -84,7 +86,8 @@ fn push_lines(text: &mut String, thread: u32, lines: &[Line]) -> Result<(), Allo
 /// Appends the lines of all threads.
 pub(crate) fn push_threads(text: &mut String, threads: &[Vec<Line>]) -> Result<(), AllocError>
     requires { length threads.now ≤ 64 }
-    ensures { OnOk result (string_bytes text.new ≡ string_bytes text.old ++ threads_text 1 (map (λ lines. lines.items) threads.now)) }
+    ensures { OnOk result
+        (string_bytes text.new ≡ string_bytes text.old ++ threads_text 1 (map (λ lines. lines.items) threads.now)) }
 {
     for (index, lines) in threads.iter().enumerate() {
         push_lines(text, index as u32 + 1, lines.as_slice())?;

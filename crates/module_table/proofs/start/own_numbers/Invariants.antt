@@ -4,4 +4,4 @@ use Rattle.std.specs.Prelude.{slice_index}
 use Rattle.module_table.proofs.start.own_numbers.Given as goal
 
 abbrev pub invariant-loop-image : goal.invariant-loop-image
-invariant-loop-image l = (vec_len l.places ≡ l.image) × ((k : ℕ) → k < l.image → slice_index l.places.items k ≡ k)
+invariant-loop-image l = (vec_len l.slots ≡ l.image) × ((k : ℕ) → k < l.image → slice_index l.slots.items k ≡ k)

@@ -1,22 +1,23 @@
 use Rattle.std.proofs.Common.{◌≡◌, ◌++◌, ◌∷◌, [], ◌∙◌, ap, cond, Some, rules, length, arith}
 use Rattle.std.proofs.lemmas.Map.Text.{hash_map_updates_str}
 use Rattle.std.specs.Str.{bytes_eq}
-use Rattle.job_text.specs.Drafts.{place_of}
-use Rattle.job_text.specs.declared.draft.Place.TheVariants.{Late}
-use Rattle.job_text.proofs.DraftLemmas.{late_place, plans_with_late}
+use Rattle.job_text.specs.Drafts.{slot_of}
+use Rattle.job_text.specs.declared.draft.Slot.TheVariants.{Late}
+use Rattle.job_text.proofs.DraftLemmas.{late_slot, plans_with_late}
 use Rattle.job_text.proofs.draft.Draft.declare_late.Goals as goal
 
 pub invariant_of-self-2 : goal.invariant_of-self-2
 invariant_of-self-2 c =
     let pushed : c.push.new.self.items ≡ c.self.inside.lates.items ++ c.args.image ∷ [] = search rules in
     let count : c.len.result ≡ length c.self.inside.lates.items = omega arith in
-    let undeclared = ap (λ d. place_of d c.args.name.now) c.self.view_is ∙ c.requires.undeclared in
+    let undeclared = ap (λ d. slot_of d c.args.name.now) c.self.view_is ∙ c.requires.undeclared in
     record {
       within = search rules;
-      places = λ q.
+      slots = λ q.
           hash_map_updates_str c.args.name.now c.self.inside.names c.insert.new.self _ c.in_ok-insert.ensures.updates q
-          ∙ ap (λ rest. cond (bytes_eq c.args.name.now q) (Some (Late c.len.result)) rest) (c.self.invariant.places q)
-          ∙ late_place c.self.inside.program c.self.inside.starts.items c.self.inside.lates.items c.push.new.self.items c.args.name.now q c.args.image c.len.result c.requires.named undeclared pushed count;
+          ∙ ap (λ rest. cond (bytes_eq c.args.name.now q) (Some (Late c.len.result)) rest) (c.self.invariant.slots q)
+          ∙ late_slot c.self.inside.program c.self.inside.starts.items c.self.inside.lates.items c.push.new.self.items c.args.name.now q c.args.image c.len.result c.requires.named undeclared
+              pushed count;
       plans = plans_with_late c.self.inside.program c.self.inside.starts.items c.self.inside.lates.items c.push.new.self.items c.args.image _ pushed c.self.invariant.plans;
       order_named = c.self.invariant.order_named;
     }

@@ -15,20 +15,27 @@ accept-requires-clause-accepted c =
 
 pub accept-requires-clause-room : goal.accept-requires-clause-room
 accept-requires-clause-room c =
-    let seen : c.self.inside.table.seen ≡ length c.self.inside.events.items = ap (λ (p : Past). p.seen) c.self.invariant.table ∙ seen-past c.self.inside.infos.items c.self.inside.last_offset c.self.inside.events.items in
+    let seen : c.self.inside.table.seen ≡ length c.self.inside.events.items =
+    ap (λ (p : Past). p.seen) c.self.invariant.table ∙ seen-past c.self.inside.infos.items c.self.inside.last_offset c.self.inside.events.items in
     omega (arith, c.self.inside.events.ok, c.self.inside.events.small)
 
 pub invariant_of-self-2 : goal.invariant_of-self-2
 unfolding left
 invariant_of-self-2 c =
-    let accepted : accepts (past c.self.inside.infos.items c.self.inside.last_offset c.self.inside.events.items) c.args.event ≡ true = subst (λ (h : History). accepts (left h) c.args.event ≡ true) (sym c.self.view_is) c.requires in
+    let accepted : accepts (past c.self.inside.infos.items c.self.inside.last_offset c.self.inside.events.items) c.args.event ≡ true =
+    subst (λ (h : History). accepts (left h) c.args.event ≡ true) (sym c.self.view_is) c.requires in
     record {
-      legal = subst (λ (events : List Event). IsLegal c.self.inside.infos.items c.self.inside.last_offset events) (sym c.in_ok-push.ensures.items) (legal_more c.self.inside.infos.items c.self.inside.last_offset c.self.inside.events.items c.args.event c.self.invariant.legal accepted);
-      table = c.accept.ensures ∙ ap (λ (p : Past). after_one p c.args.event) c.self.invariant.table ∙ sym (past_more c.self.inside.infos.items c.self.inside.last_offset c.self.inside.events.items c.args.event) ∙ ap (λ (events : List Event). past c.self.inside.infos.items c.self.inside.last_offset events) (sym c.in_ok-push.ensures.items);
+      legal = subst (λ (events : List Event). IsLegal c.self.inside.infos.items c.self.inside.last_offset events) (sym c.in_ok-push.ensures.items)
+          (legal_more c.self.inside.infos.items c.self.inside.last_offset c.self.inside.events.items c.args.event c.self.invariant.legal accepted);
+      table = c.accept.ensures ∙ ap (λ (p : Past). after_one p c.args.event) c.self.invariant.table
+          ∙ sym (past_more c.self.inside.infos.items c.self.inside.last_offset c.self.inside.events.items c.args.event)
+          ∙ ap (λ (events : List Event). past c.self.inside.infos.items c.self.inside.last_offset events) (sym c.in_ok-push.ensures.items);
     }
 
 pub returns-clause-legal : goal.returns-clause-legal
 unfolding left
 returns-clause-legal c =
-    let accepted : accepts (past c.self.inside.infos.items c.self.inside.last_offset c.self.inside.events.items) c.args.event ≡ true = subst (λ (h : History). accepts (left h) c.args.event ≡ true) (sym c.self.view_is) c.requires in
-    subst (λ (events : List Event). IsLegal c.self.inside.infos.items c.self.inside.last_offset events) (sym c.in_ok-push.ensures.items) (legal_more c.self.inside.infos.items c.self.inside.last_offset c.self.inside.events.items c.args.event c.self.invariant.legal accepted)
+    let accepted : accepts (past c.self.inside.infos.items c.self.inside.last_offset c.self.inside.events.items) c.args.event ≡ true =
+    subst (λ (h : History). accepts (left h) c.args.event ≡ true) (sym c.self.view_is) c.requires in
+    subst (λ (events : List Event). IsLegal c.self.inside.infos.items c.self.inside.last_offset events) (sym c.in_ok-push.ensures.items)
+    (legal_more c.self.inside.infos.items c.self.inside.last_offset c.self.inside.events.items c.args.event c.self.invariant.legal accepted)
