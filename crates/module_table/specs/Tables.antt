@@ -1,6 +1,6 @@
 -- What the tables of the code hold, and how they stand to what a history leaves.
 use Rattle.std.specs.Prelude.{◌≡◌, ◌≤◌, ◌<◌, ◌+◌, ◌^◌, ℕ, count_by, Bool, true, false, if◌then◌else◌, List, length}
-use Rattle.std.specs.Prelude.{All, slice_index, slice_index_or, Some, None}
+use Rattle.std.specs.Prelude.{All, slice_index, slice_index_or, Option, Some, None}
 use Rattle.std.specs.Int.{bit_at}
 use Rattle.std.specs.List.{list_any}
 use Rattle.module_table.specs.declared.TheConstants.{MOST_INSTANCES, MOST_IDS}
@@ -58,11 +58,13 @@ pub record CanLoad (p : Past) (image : ℕ) : Type 0 where
   pub room : (module_of p image).info.statics ≡ true → next_offset p (module_of p image) ≤ p.limit
 
 -- no other image is loaded as the instance
-abbrev pub IsTheImage : Past → ℕ → ℕ → Type 0
-IsTheImage p instance image =
+abbrev pub IsTheImage : Past → ℕ → Option ℕ → Type 0
+IsTheImage p instance None = image_of p instance ≡ None
+IsTheImage p instance (Some image) =
     image_of p instance ≡ (if has_instance instance (module_of p image) then Some image else None)
 
 -- no other image is loaded under the id
-abbrev pub IsTheImageUnder : Past → ℕ → ℕ → Type 0
-IsTheImageUnder p id image =
+abbrev pub IsTheImageUnder : Past → ℕ → Option ℕ → Type 0
+IsTheImageUnder p id None = instance_of p id ≡ None
+IsTheImageUnder p id (Some image) =
     instance_of p id ≡ (if has_id id (module_of p image) then Some (module_of p image).instance else None)

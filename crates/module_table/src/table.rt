@@ -1,6 +1,6 @@
 //! The tables that answer every question about a history without a walk along it.
 
-ghost use Rattle.std.specs.Prelude.{◌≡◌, ◌<◌, ◌^◌, true, ◌+◌, ◌≤◌, IfOk, None, length, nat_lt, slice_index};
+ghost use Rattle.std.specs.Prelude.{◌≡◌, ◌<◌, ◌^◌, true, ◌+◌, ◌≤◌, IfOk, None, length, nat_lt, slice_get};
 ghost use Rattle.module_table.specs.Modules.{AreInfos};
 ghost use Rattle.module_table.specs.Past.{start, live, offset, current, instance_of, image_of, module_of};
 ghost use Rattle.module_table.specs.Past.{open_refusal, close_refusal, accepts, after_one, loaded, retained};
@@ -49,11 +49,11 @@ impl Model for ModuleTable {
     ghost invariant = { HoldsTables };
 }
 
-/// The image that a table names under a key; 0, which is no image, past the table's end.
-fn image_in(images: &[u32], key: usize) -> u32
-    ensures { result ≡ slice_index images.now key }
+/// The image that a table names under a key; none past the table's end.
+fn image_in(images: &[u32], key: usize) -> Option<u32>
+    ensures { result ≡ slice_get images.now key }
 {
-    images.get(key).copied().unwrap_or(0)
+    images.get(key).copied()
 }
 
 impl ModuleTable {
@@ -197,14 +197,14 @@ impl ModuleTable {
     }
 
     /// The one image that could be loaded as an instance.
-    fn image_at(&self, instance: u32) -> u32
+    fn image_at(&self, instance: u32) -> Option<u32>
         ensures { IsTheImage self.now instance result }
     {
         image_in(&self.image_by_instance, instance as usize)
     }
 
     /// The one image that could be loaded under a module id.
-    fn image_under(&self, id: u64) -> u32
+    fn image_under(&self, id: u64) -> Option<u32>
         ensures { IsTheImageUnder self.now id result }
     {
         image_in(&self.image_by_id, id as usize)
@@ -214,7 +214,7 @@ impl ModuleTable {
     pub fn image_of(&self, instance: u32) -> Option<u32>
         ensures { result ≡ image_of self.now instance }
     {
-        let image = self.image_at(instance);
+        let image = self.image_at(instance)?;
         if self.module(image).has_instance(instance) {
             Some(image)
         } else {
@@ -226,7 +226,7 @@ impl ModuleTable {
     pub fn instance_of(&self, id: u64) -> Option<u32>
         ensures { result ≡ instance_of self.now id }
     {
-        let module = self.module(self.image_under(id));
+        let module = self.module(self.image_under(id)?);
         if module.has_id(id) {
             Some(module.instance)
         } else {

@@ -1,9 +1,9 @@
-//! Ranges of places, and rounding up.
+//! Ranges of addresses, and rounding up.
 
 ghost use Rattle.std.specs.Prelude.{◌≡◌, ◌+◌, ◌<◌, ◌≤◌, ◌^◌};
 ghost use Rattle.tls_layout.specs.Rounding.{round_up as rounded_up, page_up as page_after};
 
-/// Places from `start` up to `end`, which is not one of them.
+/// Addresses from `start` up to `end`, which is not one of them.
 #[derive(Clone, Copy, PartialEq, Eq, Debug)]
 pub struct Extent {
     pub start: u64,
@@ -13,24 +13,24 @@ pub struct Extent {
 /// How many bytes a page has.
 pub const PAGE: u64 = 4096;
 
-/// The least multiple of an alignment at or above `place`.
+/// The least multiple of an alignment at or above an address or offset.
 #[tactic(auto, unfolding(crate::specs::Rounding::round_up))]
-pub fn round_up(place: u64, alignment: u64) -> u64
+pub fn round_up(from: u64, alignment: u64) -> u64
     requires positive { 0 < alignment }
-    requires fits { place + alignment ≤ 2 ^ 64 }
-    ensures place { result ≡ rounded_up place alignment }
-    ensures above { place ≤ result }
-    ensures near { result < place + alignment }
+    requires fits { from + alignment ≤ 2 ^ 64 }
+    ensures place { result ≡ rounded_up from alignment }
+    ensures above { from ≤ result }
+    ensures near { result < from + alignment }
 {
-    place.next_multiple_of(alignment)
+    from.next_multiple_of(alignment)
 }
 
-/// The first page that begins at or after `place`.
+/// The first page that begins at or after an address.
 #[tactic(auto, unfolding(crate::specs::Rounding::page_up))]
-pub fn page_up(place: u64) -> u64
-    requires { place < 2 ^ 32 }
-    ensures page { result ≡ page_after place }
-    ensures near { result < place + 4096 }
+pub fn page_up(address: u64) -> u64
+    requires { address < 2 ^ 32 }
+    ensures page { result ≡ page_after address }
+    ensures near { result < address + 4096 }
 {
-    round_up(place, PAGE)
+    round_up(address, PAGE)
 }

@@ -61,25 +61,25 @@ pub fn place(alloc: Global, objects: &[Object], kind: ImageKind) -> Result<Place
     })
 }
 
-/// What a table has at a place; nothing past its end.
-fn entry(table: &[Option<u64>], place: usize) -> Option<u64>
-    ensures { result ≡ slice_index_or table.now place None }
+/// What a table has at an index; nothing past its end.
+fn entry(table: &[Option<u64>], index: usize) -> Option<u64>
+    ensures { result ≡ slice_index_or table.now index None }
 {
-    match table.get(place) {
+    match table.get(index) {
         Some(entry) => *entry,
         None => None,
     }
 }
 
 impl Placement {
-    /// The class of a section of an object, by their places; `None` where linking drops it, or where there is none.
+    /// The class of a section of an object, by their numbers; `None` where linking drops it, or where there is none.
     #[tactic(auto, unfolding(crate::specs::Places::section_named))]
     pub fn class(&self, object: usize, section: u32) -> Option<SectionClass>
         ensures class { result ≡ class_of self.now object section }
         ensures lawful { IsLawful self.now }
     {
-        let place = self.list.position(object, section)?;
-        self.list.class_at(place)
+        let index = self.list.position(object, section)?;
+        self.list.class_at(index)
     }
 
     /// The address of a section before the loader moves the image; `None` where it has none.
@@ -88,8 +88,8 @@ impl Placement {
         ensures address { result ≡ address_of self.now object section }
         ensures lawful { IsLawful self.now }
     {
-        let place = self.list.position(object, section)?;
-        entry(&self.addresses, place)
+        let index = self.list.position(object, section)?;
+        entry(&self.addresses, index)
     }
 
     /// The offset of a section in the TLS segment; `None` where it is not thread-local.
@@ -98,8 +98,8 @@ impl Placement {
         ensures offset { result ≡ tls_offset_of self.now object section }
         ensures lawful { IsLawful self.now }
     {
-        let place = self.list.position(object, section)?;
-        entry(&self.tls.offsets, place)
+        let index = self.list.position(object, section)?;
+        entry(&self.tls.offsets, index)
     }
 
     /// Where code lies.

@@ -21,7 +21,7 @@ pub struct SectionList {
 }
 
 impl SectionList {
-    /// The place of a section among all.
+    /// The index of a section among all.
     #[tactic(auto, unfolding(crate::specs::Sections::position), using(crate::proofs::Found::fits_before))]
     pub fn position(&self, object: usize, section: u32) -> Option<usize>
         requires firsts { AreFirsts self.now.counts.items self.now.firsts.items }
@@ -35,11 +35,11 @@ impl SectionList {
         Some(self.firsts[object] + section as usize)
     }
 
-    /// The class of the section at a place; none past the last one.
-    pub fn class_at(&self, place: usize) -> Option<SectionClass>
-        ensures { result ≡ (section_at self.now.sections.items place).class }
+    /// The class of the section at an index; none past the last one.
+    pub fn class_at(&self, index: usize) -> Option<SectionClass>
+        ensures { result ≡ (section_at self.now.sections.items index).class }
     {
-        self.sections.get(place)?.class
+        self.sections.get(index)?.class
     }
 }
 
