@@ -1,11 +1,11 @@
 -- A line of printable characters is text.
-use Rattle.std.proofs.Common.{◌≡◌, ℕ, ◌<◌, Bool, true, false, ◌&&◌, List, [], ◌∷◌, Result, Ok, Err, arith, refl}
+use Rattle.std.proofs.Common.{◌≡◌, ℕ, ◌<◌, Bool, true, false, ◌&&◌, ◌||◌, List, [], ◌∷◌, map, Result, Ok, Err, arith, refl, ap}
 use Rattle.std.proofs.lemmas.Bool.{false≢true}
 use Rattle.std.proofs.lemmas.Bool.Decides.{nat_tests}
 use Rattle.std.proofs.lemmas.List.Elements.{All-nil, All-cons}
 use Rattle.std.proofs.lemmas.Str.{IsUtf8-from_ascii}
 use Rattle.std.proofs.lemmas.Str.Ascii.{IsAscii-from_all}
-use Rattle.std.specs.List.{All}
+use Rattle.std.specs.List.{All, list_any}
 use Rattle.std.specs.Result.{MatchResult, is_ok}
 use Rattle.std.specs.Str.{IsUtf8}
 use Rattle.job_text.specs.Words.{is_printable, is_text}
@@ -30,3 +30,8 @@ text_is_utf8 line e = IsUtf8-from_ascii line (IsAscii-from_all line (text_small 
 pub ok_where : {T E : Type 0} (U : Type 0) (P : T → Type 0) (Q : E → Type 0) (r : Result T E) → MatchResult r P (λ e. (U → ⊥) × Q e) → U → is_ok r ≡ true
 ok_where U P Q (Ok x) h u = refl
 ok_where U P Q (Err e) h u = absurd (h.0 u)
+
+-- a test of what is seen of the elements
+pub list_any-map : {X Y : Type 0} (v : X → Y) (t : Y → Bool) (xs : List X) → list_any t (map v xs) ≡ list_any (λ x. t (v x)) xs
+list_any-map v t [] = refl
+list_any-map v t (x ∷ xs) = ap (λ (b : Bool). t (v x) || b) (list_any-map v t xs)

@@ -29,8 +29,15 @@ pub record Declared : Type 0 where
 abbrev pub declared : Option Image → List Image → List Image → Bool → Option ℕ → Option (List ℕ) → List (List Plan)
     → Declared
 declared program starts lates has_threads fuel order lines =
-    record { program = program; starts = starts; lates = lates; has_threads = has_threads; fuel = fuel;
-        order = order; lines = lines }
+    record {
+      program = program;
+      starts = starts;
+      lates = lates;
+      has_threads = has_threads;
+      fuel = fuel;
+      order = order;
+      lines = lines;
+    }
 
 -- before the first line there is one thread
 abbrev pub nothing_declared : Declared
@@ -62,8 +69,8 @@ program_slot name (Some image) = if is_named name image then Some slot.Program e
 unfoldable pub slot_among : Option Image → List Image → List Image → List ℕ → Option Slot
 slot_among program starts lates name =
     or_else (program_slot name program)
-        (or_else (option_map slot.Start (position_from (is_named name) 0 starts))
-        (option_map slot.Late (position_from (is_named name) 0 lates)))
+    (or_else (option_map slot.Start (position_from (is_named name) 0 starts))
+    (option_map slot.Late (position_from (is_named name) 0 lates)))
 
 -- the slot of the image of a name that an earlier line declares
 abbrev pub slot_of : Declared → List ℕ → Option Slot

@@ -40,12 +40,12 @@ verb_heading word =
 unfoldable pub heading_of : List (List ℕ) → Option Heading
 heading_of words =
     if bytes_eq (word_at 0 words) (codes "image")
-        then (if nat_lt (length words) 3 then Some heading.Short else kind_heading (word_at 2 words))
+    then (if nat_lt (length words) 3 then Some heading.Short else kind_heading (word_at 2 words))
     else if bytes_eq (word_at 0 words) (codes "threads") then Some heading.Threads
     else if bytes_eq (word_at 0 words) (codes "fuel") then Some heading.Fuel
     else if bytes_eq (word_at 0 words) (codes "order") then Some heading.Order
     else if begins_with_digit (word_at 0 words)
-        then (if nat_lt (length words) 2 then Some heading.Short else verb_heading (word_at 1 words))
+    then (if nat_lt (length words) 2 then Some heading.Short else verb_heading (word_at 1 words))
     else None
 
 -- whether a line has as many words as it takes: `image NAME KIND OBJ..`, `threads N`, `fuel N`,
@@ -65,7 +65,7 @@ has_its_words heading.Short count = false
 abbrev pub is_name_byte : ℕ → Bool
 is_name_byte b =
     (nat_le 65 b && nat_le b 90) || (nat_le 97 b && nat_le b 122) || is_digit_byte b || (b == 95) || (b == 46)
-        || (b == 45)
+    || (b == 45)
 
 -- such bytes alone
 abbrev pub has_name_bytes : List ℕ → Bool

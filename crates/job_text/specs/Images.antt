@@ -1,6 +1,5 @@
 -- Images by their numbers, which count from 1 in image order.
-use Rattle.std.specs.Prelude.{ℕ, ◌+◌, ◌-◌, Bool, Option, ◌≤◌, List, [], length, slice_get}
-use Rattle.std.specs.List.{position_from}
+use Rattle.std.specs.Prelude.{ℕ, ◌+◌, ◌-◌, Bool, Option, ◌≤◌, List, [], length, position, slice_get}
 use Rattle.std.specs.Option.{option_map, option_map_or}
 use Rattle.std.specs.Str.{bytes_eq}
 use Rattle.job_text.specs.declared.images.Image.{Image}
@@ -19,4 +18,4 @@ is_named name image = bytes_eq name image.name
 
 -- the number of the image of a name
 abbrev pub image_number : List Image → List ℕ → Option ℕ
-image_number images name = option_map (λ k. k + 1) (position_from (is_named name) 0 images)
+image_number images name = option_map (λ index. index + 1) (position (is_named name) images)

@@ -51,7 +51,7 @@ with_words heading.Fuel words d = record d { fuel = number (word_at 1 words) }
 with_words heading.Order words d = record d { order = Some (filter_map number (drop 1 words)) }
 with_words (heading.Thread verb) words d =
     with_line (number_at 0 words)
-        (record { slot = unwrap_or (slot_of d (word_at 2 words)) slot.Program; action = action_of verb words }) d
+    (record { slot = unwrap_or (slot_of d (word_at 2 words)) slot.Program; action = action_of verb words }) d
 with_words heading.Short words d = d
 
 -- the same by the line's own words

@@ -238,8 +238,7 @@ impl<'a> Draft<'a> {
         ensures { OnOk result (self.new ≡ record self.old { lates = self.old.lates ++ image ∷ [] }) }
     {
         self.lates.reserve(1)?;
-        self.names
-            .insert(name, Slot::Late(self.lates.len() as u8))?;
+        self.names.insert(name, Slot::Late(self.lates.len() as u8))?;
         self.lates.push(image).unwrap();
         Ok(())
     }

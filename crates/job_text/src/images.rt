@@ -12,3 +12,14 @@ pub struct Image {
     pub kind: ImageKind,
     pub objects: Names,
 }
+
+impl Image {
+    ghost use Rattle.job_text.specs.Images.{is_named};
+
+    /// Whether this is the image's name.
+    pub(crate) fn is_named(&self, name: &str) -> bool
+        ensures { result ≡ is_named name.now self.now }
+    {
+        name == self.name.as_str()
+    }
+}

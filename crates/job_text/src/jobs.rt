@@ -1,15 +1,15 @@
 //! The job.
 
 ghost use Rattle.std.specs.Prelude.{All, ◌≡◌, ◌-◌, ◌≤◌, IfSome, Some, slice_get, ◌<◌, ◌^◌, [], IfOk, length, map};
-ghost use Rattle.std.specs.Prelude.{unwrap_or};
+ghost use Rattle.std.specs.Prelude.{position, unwrap_or};
 ghost use Rattle.std.specs.Option.{option_map};
 ghost use Rattle.job_text.specs.LineAnswers.{IsLineAnswer};
 ghost use Rattle.job_text.specs.LineEffects.{with_text};
 ghost use Rattle.job_text.specs.LineFaults.{fault_of};
-ghost use Rattle.job_text.specs.Images.{IsImageNumber, image_number};
+ghost use Rattle.job_text.specs.Images.{IsImageNumber, image_number, is_named};
 ghost use Rattle.job_text.specs.Jobs.{IsAnswer, in_image_order, job_declared, job_of, number_of, numbered_line};
 
-use crate::draft::{Draft, Slot, Plan};
+use crate::draft::{Draft, Plan, Slot};
 use crate::fault::{Flaw, JobFault, JobFaultKind};
 use crate::images::Image;
 use crate::thread_lines::ThreadLine;
@@ -137,10 +137,18 @@ fn image_number(images: &[Image], name: &str) -> Option<u32>
     ensures value { result ≡ image_number images.now name.now }
     ensures within { IfSome result (IsImageNumber images.now) }
 {
-    let index = images
-        .iter()
-        .position(|image| name == image.name.as_str())?;
-    Some(index as u32 + 1)
+    match image_index(images, name) {
+        Some(index) => Some(index as u32 + 1),
+        None => None,
+    }
+}
+
+/// The index of the image of a name.
+fn image_index(images: &[Image], name: &str) -> Option<usize>
+    ensures value { result ≡ position (is_named name.now) images.now }
+    ensures within { IfSome result (λ index. index < length images.now) }
+{
+    images.iter().position(|image| image.is_named(name))
 }
 
 /// Reads the next line.

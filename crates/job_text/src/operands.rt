@@ -1,6 +1,8 @@
 //! What stands behind the first words of a line: numbers, symbols and the names of objects.
 
-ghost use Rattle.std.specs.Prelude.{◌≡◌, IfOk, drop};
+ghost use Rattle.std.specs.Prelude.{◌≡◌, IfOk, drop, not};
+ghost use Rattle.std.specs.List.{list_any};
+ghost use Rattle.job_text.specs.Grammar.{is_short_name};
 ghost use Rattle.job_text.specs.Actions.{IsAction};
 ghost use Rattle.job_text.specs.LineAnswers.{IsRead};
 ghost use Rattle.job_text.specs.LineEffects.{action_of};
@@ -76,7 +78,13 @@ fn read_symbol(alloc: Global, words: &Words) -> Result<Name, Flaw>
 pub(crate) fn has_long_object(words: &Words) -> bool
     ensures { result ≡ has_long_object words.now }
 {
-    words.objects().iter().any(|word| !is_short_name(word))
+    has_long(words.objects())
+}
+
+fn has_long(words: &[&str]) -> bool
+    ensures { result ≡ list_any (λ word. not (is_short_name word.now)) words.now }
+{
+    words.iter().any(|word| !is_short_name(word))
 }
 
 /// The names of an image's objects.

@@ -56,8 +56,8 @@ instance_at : (p : Past) (slots : List ℕ) (id : ℕ) → Finds (λ m. m.id) sl
 unfolding instance_of
 instance_at p slots id finds =
     rw (found_by_key (λ m. m.id) slots p.modules id finds) (elim (has_id id (module_of p (slice_index slots id))) as
-        (λ b. option_map (λ (image : ℕ). (module_of p image).instance) (cond b (Some (slice_index slots id)) None) ≡ cond b (Some (module_of p (slice_index slots id)).instance) None)
-        [ true ↦ refl | false ↦ refl ])
+    (λ b. option_map (λ (image : ℕ). (module_of p image).instance) (cond b (Some (slice_index slots id)) None) ≡ cond b (Some (module_of p (slice_index slots id)).instance) None)
+    [ true ↦ refl | false ↦ refl ])
 
 pub instance_found : (p : Past) (slots : List ℕ) (id : ℕ) → module_of p 0 ≡ no_module → Finds (λ m. m.id) slots p.modules → IsTheImageUnder p id (slice_get slots id)
 instance_found p slots id none finds = by_slot (slice_get slots id) refl

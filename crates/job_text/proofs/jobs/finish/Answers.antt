@@ -9,7 +9,7 @@ invariant_of-result c =
     let count : c.len.result ≡ length c.draft.inside.starts.items = omega arith in
     let lines = rw count at (c.in_ok-lines.ensures ∙ sym (map-map (map (numbered_line c.len.result)) (λ lines. lines.items) c.draft.inside.lines.items)) in
     is_job c.draft.inside.names _ c.in-Some.program c.in_ok-images.images.items c.unwrap_or.result c.order_or_none.result.items (map (λ lines. lines.items) c.in_ok-lines.lines.items)
-        c.draft.invariant c.in-Some.is c.in_ok-images.ensures c.unwrap_or.ensures c.order_or_none.ensures lines
+    c.draft.invariant c.in-Some.is c.in_ok-images.ensures c.unwrap_or.ensures c.order_or_none.ensures lines
 
 pub returns : goal.returns
 returns c =
@@ -17,4 +17,4 @@ returns c =
     let lines = rw count at (c.in_ok-lines.ensures ∙ sym (map-map (map (numbered_line c.len.result)) (λ lines. lines.items) c.draft.inside.lines.items)) in
     ap job_declared (sym c.draft.view_is)
     ∙ made_job _ c.in-Some.program c.in_ok-images.images.items c.unwrap_or.result c.order_or_none.result.items (map (λ lines. lines.items) c.in_ok-lines.lines.items) c.in-Some.is
-        c.in_ok-images.ensures c.unwrap_or.ensures c.order_or_none.ensures lines
+    c.in_ok-images.ensures c.unwrap_or.ensures c.order_or_none.ensures lines

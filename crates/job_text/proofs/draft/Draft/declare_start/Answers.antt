@@ -17,7 +17,7 @@ invariant_of-self-2 c =
           hash_map_updates_str c.args.name.now c.self.inside.names c.insert.new.self _ c.in_ok-insert.ensures.updates q
           ∙ ap (λ rest. cond (bytes_eq c.args.name.now q) (Some (Start c.len.result)) rest) (c.self.invariant.slots q)
           ∙ start_slot c.self.inside.program c.self.inside.starts.items c.self.inside.lates.items c.push.new.self.items c.args.name.now q c.args.image c.len.result c.requires.named undeclared
-              pushed count;
+          pushed count;
       plans = plans_with_start c.self.inside.program c.self.inside.starts.items c.push.new.self.items c.self.inside.lates.items c.args.image _ pushed c.self.invariant.plans;
       order_named = c.self.invariant.order_named;
     }
