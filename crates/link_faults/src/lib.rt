@@ -22,6 +22,8 @@
 
 mod fault;
 mod image_kind;
+#[cfg(test)]
+mod tests;
 
 pub use fault::{LinkFault, LinkFaultKind};
 pub use image_kind::{EXE_BASE, ImageKind};

@@ -9,11 +9,11 @@ use std::process::Abort;
 use std::test::Fail;
 use tls_layout::{Extent, Placement, TlsSize, place, static_offsets};
 
-/// Each line: the kind of the image; its sections, `/` between objects; after `=` the place of each, an address, `+` and an offset
-/// in the TLS segment, or `-`. Then the TLS segment: its size and alignment, and where its initial image begins and how many bytes
-/// that has; then where the room begins. A section is a letter, its size and its alignment, in decimal: `x` code, `r` constants,
-/// `t` and `b` thread-local with bytes and without, `w` and `z` data with bytes and without, `n` one that is not loaded. All other
-/// numbers are hexadecimal.
+/// Each line: the kind of the image; its sections, `/` between objects; after `=` the place of each, an address, `+`
+/// and an offset in the TLS segment, or `-`. Then the TLS segment: its size and alignment, and where its initial
+/// image begins and how many bytes that has; then where the room begins. A section is a letter, its size and its
+/// alignment, in decimal: `x` code, `r` constants, `t` and `b` thread-local with bytes and without, `w` and `z` data
+/// with bytes and without, `n` one that is not loaded. All other numbers are hexadecimal.
 const CASES: &str = "\
 // one object, as an assembler writes it: code on the first page, the initial image on the next one
 exe x:9:16 t:4:4 b:0:1 = 400000 401000+0 +4 tls 4 4 401000 4 room 402000

@@ -1,12 +1,10 @@
-//! Tests of linking: where sections go, what relocations store, and how faults are printed.
+//! Tests of linking: where sections go, and what relocations store.
 //!
-//! What a clause says is proved in the crate that says it. Here stands what no clause says: places and fields that a reader works
-//! out by hand, printed text, and each limit beside its number, since definitions cite a limit by its name. Tests call what is
-//! public alone, so they stand in a crate of their own, and the crates that they test are proved once.
+//! What a clause says is proved in the crate that says it. Here stands what no clause says: places and fields that a
+//! reader works out by hand, and each limit beside its number, since definitions cite a limit by its name. Tests call
+//! what is public alone, so they stand in a crate of their own, and the crates that they test are proved once.
 #![tactic(auto)]
 
-#[cfg(test)]
-mod faults;
 #[cfg(test)]
 mod layouts;
 #[cfg(test)]

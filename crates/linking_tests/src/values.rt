@@ -1,5 +1,5 @@
-//! Every type at both ends of its range and one beyond, and the fields of worked programs. Values are computed by hand from the
-//! psABI's table; the letters that a type does not use are odd numbers, which must not count.
+//! Every type at both ends of its range and one beyond, and the fields of worked programs. Values are computed by
+//! hand from the psABI's table; the letters that a type does not use are odd numbers, which must not count.
 
 ghost use Rattle.std.specs.Prelude.{◌+◌, ◌≤◌, length};
 ghost use Rattle.elf_object.specs.Relocations.{field_width};
@@ -112,7 +112,8 @@ fn local_variables_of_the_executable(rt: HostRuntime) {
     fill(&mut load, 4, RelocationKind::TpOff32, 0, 0, 0x40_0004, 4);
     assert_eq!(rt; load, *b"\x64\x8b\x04\x25\xfc\xff\xff\xff\xc3");
 
-    // lea x@tpoff(%rax), %rax, where x is at 8 of a block of 0x14 bytes, which begins 0x18 below the pointer: 8 - 0x18
+    // lea x@tpoff(%rax), %rax, where x is at 8 of a block of 0x14 bytes, which begins 0x18 below the pointer: 8 -
+    // 0x18
     let mut lea = *b"\x48\x8d\x80\0\0\0\0";
     fill(&mut lea, 3, RelocationKind::TpOff32, 8, 0, 0x40_000c, 0x18);
     assert_eq!(rt; lea, *b"\x48\x8d\x80\xf0\xff\xff\xff");

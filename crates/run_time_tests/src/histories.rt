@@ -154,7 +154,8 @@ fn refuses_in_order(rt: HostRuntime) -> Result<(), Fail> {
     Ok(())
 }
 
-// The program's block begins 4 bytes below the thread pointer: round(4 + 8, 4) = 12, and after it round(12 + 8, 4) = 20.
+// The program's block begins 4 bytes below the thread pointer: round(4 + 8, 4) = 12, and after it round(12 + 8, 4) =
+// 20.
 #[test]
 fn a_load_gets_bytes_of_its_own(rt: HostRuntime) -> Result<(), Fail> {
     let calls = [

@@ -11,11 +11,15 @@ use Rattle.module_table.specs.Modules.{IsInfo, AreInfos}
 use Rattle.run_time_tests.proofs.histories.are_images.Goals as goal
 use Rattle.run_time_tests.proofs.histories.are_images.Goals.{else-late-via-then-late+else-not-info, else-late-via-else-late}
 
-pairs_more : (infos : List ImageInfo) (i : ℕ) (d : ImageInfo) (late : Bool) → i < length infos → AllPairs (λ (a b : ImageInfo). a.late ≡ true → b.late ≡ true) (take i infos) → All (λ (a : ImageInfo). a.late ≡ true → late ≡ true) (take i infos) → (late ≡ true → (get_or infos i d).late ≡ true) → AllPairs (λ (a b : ImageInfo). a.late ≡ true → b.late ≡ true) (take (i + 1) infos)
+pairs_more : (infos : List ImageInfo) (i : ℕ) (d : ImageInfo) (late : Bool) → i < length infos → AllPairs (λ (a b : ImageInfo). a.late ≡ true → b.late ≡ true) (take i infos)
+    → All (λ (a : ImageInfo). a.late ≡ true → late ≡ true) (take i infos) → (late ≡ true → (get_or infos i d).late ≡ true)
+    → AllPairs (λ (a b : ImageInfo). a.late ≡ true → b.late ≡ true) (take (i + 1) infos)
 pairs_more infos i d late l pairs seen stays =
-    subst (λ (xs : List ImageInfo). AllPairs (λ (a b : ImageInfo). a.late ≡ true → b.late ≡ true) xs) (sym (take_more infos i d l)) (all_pairs_push (λ (a b : ImageInfo). a.late ≡ true → b.late ≡ true) (take i infos) (get_or infos i d) pairs (λ k e h t. stays (seen k e h t)))
+    subst (λ (xs : List ImageInfo). AllPairs (λ (a b : ImageInfo). a.late ≡ true → b.late ≡ true) xs) (sym (take_more infos i d l))
+    (all_pairs_push (λ (a b : ImageInfo). a.late ≡ true → b.late ≡ true) (take i infos) (get_or infos i d) pairs (λ k e h t. stays (seen k e h t)))
 
-seen_more : (infos : List ImageInfo) (i : ℕ) (d : ImageInfo) (late : Bool) → i < length infos → All (λ (a : ImageInfo). a.late ≡ true → late ≡ true) (take i infos) → (late ≡ true → (get_or infos i d).late ≡ true) → All (λ (a : ImageInfo). a.late ≡ true → (get_or infos i d).late ≡ true) (take (i + 1) infos)
+seen_more : (infos : List ImageInfo) (i : ℕ) (d : ImageInfo) (late : Bool) → i < length infos → All (λ (a : ImageInfo). a.late ≡ true → late ≡ true) (take i infos)
+    → (late ≡ true → (get_or infos i d).late ≡ true) → All (λ (a : ImageInfo). a.late ≡ true → (get_or infos i d).late ≡ true) (take (i + 1) infos)
 seen_more infos i d late l seen stays =
     All-more (λ (a : ImageInfo). a.late ≡ true → (get_or infos i d).late ≡ true) infos i d l (λ k e h t. stays (seen k e h t)) (λ t. t)
 
@@ -27,8 +31,10 @@ loop-info-preserved c =
       | else-late-via-else-late w ↦ λ t. absurd (both_ways _ w.if-late.false t)
     ] in
     record {
-      each = All-more (λ (i : ImageInfo). IsInfo i) c.args.infos.now c.loop-info.info-index (record { late = false; statics = false; size = 0; align = 0 }) l c.loop-info.invariant.each (record { small = omega arith; aligned = omega arith; page = omega arith });
-      late_last = pairs_more c.args.infos.now c.loop-info.info-index (record { late = false; statics = false; size = 0; align = 0 }) c.loop-info.late l c.loop-info.invariant.late_last c.loop-info.invariant.seen stays;
+      each = All-more (λ (i : ImageInfo). IsInfo i) c.args.infos.now c.loop-info.info-index (record { late = false; statics = false; size = 0; align = 0 }) l c.loop-info.invariant.each
+          (record { small = omega arith; aligned = omega arith; page = omega arith });
+      late_last = pairs_more c.args.infos.now c.loop-info.info-index (record { late = false; statics = false; size = 0; align = 0 }) c.loop-info.late l c.loop-info.invariant.late_last
+          c.loop-info.invariant.seen stays;
       seen = seen_more c.args.infos.now c.loop-info.info-index (record { late = false; statics = false; size = 0; align = 0 }) c.loop-info.late l c.loop-info.invariant.seen stays;
     }
 

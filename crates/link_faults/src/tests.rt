@@ -1,6 +1,6 @@
 //! Tests of what no clause says: the printed words, and each call once.
 
-use link_faults::{ImageKind, LinkFault, LinkFaultKind};
+use crate::{ImageKind, LinkFault, LinkFaultKind};
 use std::alloc::AllocError;
 use std::test::Fail;
 
