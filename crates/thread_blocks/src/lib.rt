@@ -54,8 +54,6 @@ pub mod laws;
 mod memory;
 mod parts;
 mod reach;
-#[cfg(test)]
-mod tests;
 
 pub use call::{Call, ThreadMemory, run_call};
 pub use parts::{BlockImage, Executable, Part};
