@@ -114,7 +114,7 @@ pub one_before : (class : SectionClass) (from : ℕ) (sections : List Section) (
 unfolding place_in
 one_before class from sections j k less e =
     let ends : end_of class from (take (j + 1) sections) ≡ round_up (end_of class from (take j sections)) (section_at sections j).alignment + (section_at sections j).size =
-        ends_at class from sections j e in
+    ends_at class from sections j e in
     omega (arith, ends, end_of-between class from sections (j + 1) k (omega arith), round_up-above (end_of class from (take k sections)) (section_at sections k).alignment)
 
 pub from_start : (class : SectionClass) (from : ℕ) (sections : List Section) (k : ℕ) → from ≤ place_in class from sections k

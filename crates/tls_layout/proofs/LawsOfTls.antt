@@ -106,11 +106,25 @@ offset_before sections j k a b less first second = by_parts first.initial second
     by_parts true true is is' at at' = inl (rw (at, at') (one_before (Tls true) (part true sections).start sections j k less is))
     by_parts false false is is' at at' = inl (rw (at, at') (one_before (Tls false) (part false sections).start sections j k less is))
     by_parts true false is is' at at' =
-        inl (omega (arith, to_end (Tls true) (part true sections).start sections j is, part_end sections true, parts_follow sections,
-            from_start (Tls false) (part false sections).start sections k, at, at'))
+        inl (omega (
+          arith,
+          to_end (Tls true) (part true sections).start sections j is,
+          part_end sections true,
+          parts_follow sections,
+          from_start (Tls false) (part false sections).start sections k,
+          at,
+          at',
+        ))
     by_parts false true is is' at at' =
-        inr (omega (arith, to_end (Tls true) (part true sections).start sections k is', part_end sections true, parts_follow sections,
-            from_start (Tls false) (part false sections).start sections j, at, at'))
+        inr (omega (
+          arith,
+          to_end (Tls true) (part true sections).start sections k is',
+          part_end sections true,
+          parts_follow sections,
+          from_start (Tls false) (part false sections).start sections j,
+          at,
+          at',
+        ))
 
 pub offsets_apart : (p : Layout) → OffsetsAreApart p
 unfolding tls_offset_of

@@ -48,7 +48,7 @@ pub record LiesAt (p : Layout) (class : SectionClass) (section : Section) (addre
 abbrev pub LieInTheirClasses : Layout → Type 0
 LieInTheirClasses p =
     (o s address : ℕ) (class : SectionClass) → class_of p o s ≡ Some class → address_of p o s ≡ Some address
-        → LiesAt p class (section_named p o s) address
+    → LiesAt p class (section_named p o s) address
 
 -- every section that linking keeps has an address, but for thread-local storage that is zero
 abbrev pub HaveAddresses : Layout → Type 0
@@ -60,7 +60,7 @@ abbrev pub AddressesAreApart : Layout → Type 0
 AddressesAreApart p =
     (o s address o' s' address' : ℕ) → address_of p o s ≡ Some address → address_of p o' s' ≡ Some address'
     → ((o ≡ o') × (s ≡ s'))
-        ⊎ ((address + (section_named p o s).size ≤ address') ⊎ (address' + (section_named p o' s').size ≤ address))
+    ⊎ ((address + (section_named p o s).size ≤ address') ⊎ (address' + (section_named p o' s').size ≤ address))
 
 -- each class begins on a page, at or after the end of the one before it
 pub record ClassesFollow (p : Layout) : Type 0 where
@@ -91,7 +91,7 @@ abbrev pub OffsetsAreApart : Layout → Type 0
 OffsetsAreApart p =
     (o s offset o' s' offset' : ℕ) → tls_offset_of p o s ≡ Some offset → tls_offset_of p o' s' ≡ Some offset'
     → ((o ≡ o') × (s ≡ s'))
-        ⊎ ((offset + (section_named p o s).size ≤ offset') ⊎ (offset' + (section_named p o' s').size ≤ offset))
+    ⊎ ((offset + (section_named p o s).size ≤ offset') ⊎ (offset' + (section_named p o' s').size ≤ offset))
 
 -- the segment's alignment suits each of its sections: where it lies at such a multiple, so does each section at one
 -- of its own

@@ -12,16 +12,16 @@ abbrev pub GivesPlaces : SectionClass → ℕ → List Section → List (Option 
 GivesPlaces class from sections old new =
     (k : ℕ) → k < length sections
     → slice_index_or new k None
-        ≡ (if is_in class (section_at sections k) then Some (place_in class from sections k)
-        else slice_index_or old k None)
+    ≡ (if is_in class (section_at sections k) then Some (place_in class from sections k)
+    else slice_index_or old k None)
 
 -- the same, of a pass that came to section i
 abbrev pub GivesPlacesBelow : ℕ → SectionClass → ℕ → List Section → List (Option ℕ) → List (Option ℕ) → Type 0
 GivesPlacesBelow i class from sections old new =
     (k : ℕ) → k < i
     → slice_index_or new k None
-        ≡ (if is_in class (section_at sections k) then Some (place_in class from sections k)
-        else slice_index_or old k None)
+    ≡ (if is_in class (section_at sections k) then Some (place_in class from sections k)
+    else slice_index_or old k None)
 
 abbrev pub KeepsFrom : ℕ → List (Option ℕ) → List (Option ℕ) → Type 0
 KeepsFrom i old new = (k : ℕ) → i ≤ k → slice_index_or new k None ≡ slice_index_or old k None

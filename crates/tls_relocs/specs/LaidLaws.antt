@@ -10,7 +10,7 @@ use Rattle.tls_relocs.specs.Laid.{Placed, zeros, laid, unit_at, Rising, end_of}
 -- one part, over what is known of those behind it
 laid_by_place : (at : ℕ) (s : Placed) (more : List Placed) (p : ℕ) → at ≤ s.place → at ≤ p
     → (s.place + length s.bytes ≤ p
-        → slice_get (laid (s.place + length s.bytes) more) (p - (s.place + length s.bytes)) ≡ unit_at more p)
+    → slice_get (laid (s.place + length s.bytes) more) (p - (s.place + length s.bytes)) ≡ unit_at more p)
     → (p < s.place) ⊎ (s.place ≤ p) → (p < s.place + length s.bytes) ⊎ (s.place + length s.bytes ≤ p)
     → slice_get (laid at (s ∷ more)) (p - at) ≡ unit_at (s ∷ more) p
 laid_by_place at s more p rises from later (inl before) _ =
@@ -61,7 +61,7 @@ length-laid at (s ∷ more) rising =
     let rest = length-laid (s.place + length s.bytes) more rising.1 in
     let rises : at ≤ s.place = rising.0 in
     let whole : at + length (laid at (s ∷ more))
-        ≡ s.place + length s.bytes + length (laid (s.place + length s.bytes) more) = omega arith in
+    ≡ s.place + length s.bytes + length (laid (s.place + length s.bytes) more) = omega arith in
     whole ∙ rest
 
 -- one more part behind the others, as a writer lays it down

@@ -44,7 +44,7 @@ points_text (p ∷ ps) = decimal p ++ flat_map (λ q. codes "," ++ decimal q) ps
 unfoldable pub line_text : ℕ → ℕ → Line → List ℕ
 line_text thread k line =
     codes "t" ++ decimal thread ++ codes " l" ++ decimal k ++ codes " g" ++ points_text line.points ++ codes " "
-        ++ outcome_text line.outcome ++ codes "\n"
+    ++ outcome_text line.outcome ++ codes "\n"
 
 -- the lines of a thread, from its line k on
 unfoldable pub lines_text : ℕ → ℕ → List Line → List ℕ
@@ -65,7 +65,7 @@ event_word false = codes "close"
 unfoldable pub event_text : List Image → ℕ → Event → List ℕ
 event_text images n event =
     codes "e" ++ decimal n ++ codes " t" ++ decimal event.thread ++ codes " l" ++ decimal event.line ++ codes " "
-        ++ event_word event.opens ++ codes " " ++ image_name images event.image ++ codes "\n"
+    ++ event_word event.opens ++ codes " " ++ image_name images event.image ++ codes "\n"
 
 -- the lines of the events from event n on
 unfoldable pub events_text : List Image → ℕ → List Event → List ℕ
