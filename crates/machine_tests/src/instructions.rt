@@ -35,7 +35,8 @@ fn reads(rt: &impl Abort, alloc: Global, line: &str) -> Result<(), Fail> {
     let bytes = bytes(alloc, digits)?;
     let read = decode(&bytes).ok_or("it is read")?;
     assert_eq!(rt; read.len as usize, bytes.len(), "{line}");
-    let printed = text::text(alloc, read.instr, address.wrapping_add(read.len as u64))?;
+    let printed = text::text_of(read.instr, address.wrapping_add(read.len as u64));
+    let printed = format!(in alloc; "{printed}")?;
     assert_eq!(rt; printed.as_str(), text, "{line}");
     assert!(rt; !begins(&bytes), "{line}");
     for (end, _) in bytes.iter().enumerate() {

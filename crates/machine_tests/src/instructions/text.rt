@@ -4,7 +4,7 @@ use amd64_subset::{
     Arithmetic, Base, Condition, Instr, Memory, Operand, Operands, Operation, Register, Scale,
     Shift, Target, Width,
 };
-use std::alloc::{AllocError, Global};
+use std::fmt;
 
 fn name(register: Register, width: Width) -> &'static str {
     match width {
@@ -68,18 +68,6 @@ fn byte_name(register: Register) -> &'static str {
     }
 }
 
-/// A displacement before a base: signed, and nothing where it is 0.
-fn signed(alloc: Global, number: u64) -> Result<String, AllocError> {
-    if number == 0 {
-        format!(in alloc; "")
-    } else if number < 0x8000_0000_0000_0000 {
-        format!(in alloc; "{number:#x}")
-    } else {
-        let below = (u64::MAX - number).wrapping_add(1);
-        format!(in alloc; "-{below:#x}")
-    }
-}
-
 fn base_name(base: Base) -> &'static str {
     match base {
         Base::Register(register) => name(register, Width::Quad),
@@ -97,109 +85,10 @@ fn factor(scale: Scale) -> u8 {
     }
 }
 
-fn segment(memory: Memory) -> &'static str {
-    if memory.from_thread_pointer {
-        "%fs:"
-    } else {
-        ""
-    }
-}
-
-fn memory(alloc: Global, operand: Memory, displacement: u64) -> Result<String, AllocError> {
-    let segment = segment(operand);
-    if operand.base == Base::Absolute && operand.index == None {
-        return format!(in alloc; "{segment}{displacement:#x}");
-    }
-    let number = signed(alloc, displacement)?;
-    let base = base_name(operand.base);
-    match operand.index {
-        None => format!(in alloc; "{segment}{number}({base})"),
-        Some(index) => {
-            let scale = factor(index.scale);
-            let index = name(index.register, Width::Quad);
-            format!(in alloc; "{segment}{number}({base},{index},{scale})")
-        }
-    }
-}
-
-fn operand(
-    alloc: Global,
-    operand: Operand,
-    width: Width,
-    displacement: u64,
-) -> Result<String, AllocError> {
-    match operand {
-        Operand::Register(register) => {
-            let name = name(register, width);
-            format!(in alloc; "{name}")
-        }
-        Operand::InMemory(of) => memory(alloc, of, displacement),
-    }
-}
-
-fn byte_operand(alloc: Global, operand: Operand, displacement: u64) -> Result<String, AllocError> {
-    match operand {
-        Operand::Register(register) => {
-            let name = byte_name(register);
-            format!(in alloc; "{name}")
-        }
-        Operand::InMemory(of) => memory(alloc, of, displacement),
-    }
-}
-
 fn suffix(width: Width) -> &'static str {
     match width {
         Width::Long => "l",
         Width::Quad => "q",
-    }
-}
-
-fn operands(
-    alloc: Global,
-    mnemonic: &str,
-    width: Width,
-    operands: Operands,
-    instr: Instr,
-) -> Result<String, AllocError> {
-    let suffix = suffix(width);
-    match operands {
-        Operands::IntoRegister { to, from } => {
-            let from = operand(alloc, from, width, instr.displacement)?;
-            let to = name(to, width);
-            format!(in alloc; "{mnemonic}{suffix} {from},{to}")
-        }
-        Operands::IntoMemory { to, from } => {
-            let from = name(from, width);
-            let to = memory(alloc, to, instr.displacement)?;
-            format!(in alloc; "{mnemonic}{suffix} {from},{to}")
-        }
-        Operands::Immediate { to } => {
-            let to = operand(alloc, to, width, instr.displacement)?;
-            let number = match width {
-                Width::Long => instr.immediate % 0x1_0000_0000,
-                Width::Quad => instr.immediate,
-            };
-            format!(in alloc; "{mnemonic}{suffix} ${number:#x},{to}")
-        }
-    }
-}
-
-fn target(
-    alloc: Global,
-    mnemonic: &str,
-    target: Target,
-    instr: Instr,
-    next: u64,
-) -> Result<String, AllocError> {
-    match target {
-        Target::Relative(distance) => {
-            let address = next.wrapping_add(distance);
-            format!(in alloc; "{mnemonic} {address:#x}")
-        }
-        Target::Indirect(from) => {
-            let from = operand(alloc, from, Width::Quad, instr.displacement)?;
-            format!(in alloc; "{mnemonic} *{from}")
-        }
     }
 }
 
@@ -241,114 +130,193 @@ fn shift_name(shift: Shift) -> &'static str {
     }
 }
 
-/// Two operands after a mnemonic, the second a register.
-fn into_register(
-    alloc: Global,
-    mnemonic: &str,
-    from: &str,
-    to: Register,
-    width: Width,
-) -> Result<String, AllocError> {
-    let to = name(to, width);
-    format!(in alloc; "{mnemonic} {from},{to}")
-}
+/// A displacement before a base: signed, and nothing where it is 0.
+#[derive(Clone, Copy)]
+struct Signed(u64);
 
-/// The text of an instruction whose successor has this address.
-pub(super) fn text(alloc: Global, instr: Instr, next: u64) -> Result<String, AllocError> {
-    let displacement = instr.displacement;
-    match instr.operation {
-        Operation::Move {
-            width,
-            operands: of,
-        } => operands(alloc, "mov", width, of, instr),
-        Operation::StoreByte { to, from } => {
-            let from = byte_name(from);
-            let to = memory(alloc, to, displacement)?;
-            format!(in alloc; "movb {from},{to}")
+impl fmt::Display for Signed {
+    fn fmt<W: fmt::Write>(&self, f: &mut fmt::Formatter<W>) -> fmt::Result {
+        let number = self.0;
+        if number == 0 {
+            return Ok(());
         }
-        Operation::ExtendByte { width, to, from } => {
-            let from = byte_operand(alloc, from, displacement)?;
-            let suffix = suffix(width);
-            let to = name(to, width);
-            format!(in alloc; "movzb{suffix} {from},{to}")
+        if number < 0x8000_0000_0000_0000 {
+            return write!(f, "{number:#x}");
         }
-        Operation::ExtendLong { to, from } => {
-            let from = operand(alloc, from, Width::Long, displacement)?;
-            into_register(alloc, "movslq", &from, to, Width::Quad)
-        }
-        Operation::LoadAddress { width, to, from } => {
-            let from = memory(alloc, from, displacement)?;
-            let suffix = suffix(width);
-            let to = name(to, width);
-            format!(in alloc; "lea{suffix} {from},{to}")
-        }
-        Operation::Compute {
-            arithmetic,
-            width,
-            operands: of,
-        } => operands(alloc, arithmetic_name(arithmetic), width, of, instr),
-        other => rest(alloc, other, instr, next),
+        let below = (u64::MAX - number).wrapping_add(1);
+        write!(f, "-{below:#x}")
     }
 }
 
-fn rest(
-    alloc: Global,
-    operation: Operation,
-    instr: Instr,
-    next: u64,
-) -> Result<String, AllocError> {
+/// A memory operand with its displacement.
+#[derive(Clone, Copy)]
+struct Place(Memory, u64);
+
+impl fmt::Display for Place {
+    fn fmt<W: fmt::Write>(&self, f: &mut fmt::Formatter<W>) -> fmt::Result {
+        let Place(memory, displacement) = *self;
+        let segment = if memory.from_thread_pointer {
+            "%fs:"
+        } else {
+            ""
+        };
+        let number = Signed(displacement);
+        let base = base_name(memory.base);
+        match memory.index {
+            None if memory.base == Base::Absolute => write!(f, "{segment}{displacement:#x}"),
+            None => write!(f, "{segment}{number}({base})"),
+            Some(index) => {
+                let scale = factor(index.scale);
+                let index = name(index.register, Width::Quad);
+                write!(f, "{segment}{number}({base},{index},{scale})")
+            }
+        }
+    }
+}
+
+/// What stands behind a mnemonic.
+#[derive(Clone, Copy)]
+enum Part {
+    Nothing,
+    Name(&'static str),
+    Memory(Place),
+    Number(u64),
+    Address(u64),
+}
+
+impl fmt::Display for Part {
+    fn fmt<W: fmt::Write>(&self, f: &mut fmt::Formatter<W>) -> fmt::Result {
+        match *self {
+            Part::Nothing => Ok(()),
+            Part::Name(name) => write!(f, "{name}"),
+            Part::Memory(place) => write!(f, "{place}"),
+            Part::Number(number) => write!(f, "${number:#x}"),
+            Part::Address(address) => write!(f, "{address:#x}"),
+        }
+    }
+}
+
+/// An instruction's text: a mnemonic, its suffix, and up to two parts.
+#[derive(Clone, Copy)]
+pub(super) struct Text {
+    mnemonic: &'static str,
+    suffix: &'static str,
+    /// Stands before the first part.
+    mark: &'static str,
+    first: Part,
+    second: Part,
+}
+
+impl fmt::Display for Text {
+    fn fmt<W: fmt::Write>(&self, f: &mut fmt::Formatter<W>) -> fmt::Result {
+        let Text {
+            mnemonic,
+            suffix,
+            mark,
+            first,
+            second,
+        } = *self;
+        match (first, second) {
+            (Part::Nothing, _) => write!(f, "{mnemonic}{suffix}"),
+            (_, Part::Nothing) => write!(f, "{mnemonic}{suffix} {mark}{first}"),
+            _ => write!(f, "{mnemonic}{suffix} {first},{second}"),
+        }
+    }
+}
+
+fn line(mnemonic: &'static str, suffix: &'static str, first: Part, second: Part) -> Text {
+    Text {
+        mnemonic,
+        suffix,
+        mark: "",
+        first,
+        second,
+    }
+}
+
+fn named(register: Register, width: Width) -> Part {
+    Part::Name(name(register, width))
+}
+
+fn memory(memory: Memory, displacement: u64) -> Part {
+    Part::Memory(Place(memory, displacement))
+}
+
+fn operand(operand: Operand, width: Width, displacement: u64) -> Part {
+    match operand {
+        Operand::Register(register) => named(register, width),
+        Operand::InMemory(of) => memory(of, displacement),
+    }
+}
+
+fn byte_operand(operand: Operand, displacement: u64) -> Part {
+    match operand {
+        Operand::Register(register) => Part::Name(byte_name(register)),
+        Operand::InMemory(of) => memory(of, displacement),
+    }
+}
+
+fn two(mnemonic: &'static str, width: Width, operands: Operands, instr: Instr) -> Text {
     let displacement = instr.displacement;
-    match operation {
-        Operation::Test { width, left, right } => {
-            let left = operand(alloc, left, width, displacement)?;
-            let right = name(right, width);
-            let suffix = suffix(width);
-            format!(in alloc; "test{suffix} {right},{left}")
+    let (first, second) = match operands {
+        Operands::IntoRegister { to, from } => {
+            (operand(from, width, displacement), named(to, width))
         }
-        Operation::Multiply { width, to, from } => {
-            let from = operand(alloc, from, width, displacement)?;
-            let to = name(to, width);
-            let suffix = suffix(width);
-            format!(in alloc; "imul{suffix} {from},{to}")
+        Operands::IntoMemory { to, from } => (named(from, width), memory(to, displacement)),
+        Operands::Immediate { to } => {
+            let number = match width {
+                Width::Long => instr.immediate % 0x1_0000_0000,
+                Width::Quad => instr.immediate,
+            };
+            (Part::Number(number), operand(to, width, displacement))
         }
-        Operation::Shift {
-            shift,
-            width,
-            to,
-            count,
-        } => {
-            let to = operand(alloc, to, width, displacement)?;
-            let shift = shift_name(shift);
-            let suffix = suffix(width);
-            format!(in alloc; "{shift}{suffix} ${count:#x},{to}")
+    };
+    line(mnemonic, suffix(width), first, second)
+}
+
+/// A jump or a call, from where the next instruction has this address.
+fn jump(mnemonic: &'static str, target: Target, displacement: u64, next: u64) -> Text {
+    match target {
+        Target::Relative(distance) => {
+            let address = Part::Address(next.wrapping_add(distance));
+            line(mnemonic, "", address, Part::Nothing)
         }
-        Operation::Push { from } => {
-            let from = name(from, Width::Quad);
-            format!(in alloc; "pushq {from}")
+        Target::Indirect(from) => {
+            let from = operand(from, Width::Quad, displacement);
+            Text {
+                mark: "*",
+                ..line(mnemonic, "", from, Part::Nothing)
+            }
         }
-        Operation::Pop { to } => {
-            let to = name(to, Width::Quad);
-            format!(in alloc; "popq {to}")
+    }
+}
+
+/// The text of an instruction whose successor has this address.
+#[rattlefmt::skip]
+pub(super) fn text_of(instr: Instr, next: u64) -> Text {
+    use Width::{Long, Quad};
+    let d = instr.displacement;
+    match instr.operation {
+        Operation::Move { width, operands } => two("mov", width, operands, instr),
+        Operation::StoreByte { to, from } => line("movb", "", Part::Name(byte_name(from)), memory(to, d)),
+        Operation::ExtendByte { width, to, from } => line("movzb", suffix(width), byte_operand(from, d), named(to, width)),
+        Operation::ExtendLong { to, from } => line("movslq", "", operand(from, Long, d), named(to, Quad)),
+        Operation::LoadAddress { width, to, from } => line("lea", suffix(width), memory(from, d), named(to, width)),
+        Operation::Compute { arithmetic, width, operands } => two(arithmetic_name(arithmetic), width, operands, instr),
+        Operation::Test { width, left, right } => line("test", suffix(width), named(right, width), operand(left, width, d)),
+        Operation::Multiply { width, to, from } => line("imul", suffix(width), operand(from, width, d), named(to, width)),
+        Operation::Shift { shift, width, to, count } => {
+            line(shift_name(shift), suffix(width), Part::Number(count as u64), operand(to, width, d))
         }
-        Operation::Call { target: to } => target(alloc, "callq", to, instr, next),
-        Operation::Jump { target: to } => target(alloc, "jmpq", to, instr, next),
-        Operation::JumpIf {
-            condition,
-            distance,
-        } => target(
-            alloc,
-            condition_name(condition),
-            Target::Relative(distance),
-            instr,
-            next,
-        ),
-        Operation::Nop { operand: Some(of) } => {
-            let of = operand(alloc, of, Width::Long, displacement)?;
-            format!(in alloc; "nop {of}")
-        }
-        Operation::Leave => format!(in alloc; "leaveq"),
-        Operation::Return => format!(in alloc; "retq"),
-        Operation::Undefined => format!(in alloc; "ud2"),
-        _ => format!(in alloc; "nop"),
+        Operation::Push { from } => line("pushq", "", named(from, Quad), Part::Nothing),
+        Operation::Pop { to } => line("popq", "", named(to, Quad), Part::Nothing),
+        Operation::Leave => line("leaveq", "", Part::Nothing, Part::Nothing),
+        Operation::Call { target } => jump("callq", target, d, next),
+        Operation::Jump { target } => jump("jmpq", target, d, next),
+        Operation::JumpIf { condition, distance } => jump(condition_name(condition), Target::Relative(distance), d, next),
+        Operation::Return => line("retq", "", Part::Nothing, Part::Nothing),
+        Operation::Nop { operand: None } => line("nop", "", Part::Nothing, Part::Nothing),
+        Operation::Nop { operand: Some(of) } => line("nop", "", operand(of, Long, d), Part::Nothing),
+        Operation::Undefined => line("ud2", "", Part::Nothing, Part::Nothing),
     }
 }
