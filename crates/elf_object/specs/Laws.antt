@@ -1,16 +1,36 @@
 -- What callers may rely on of an object that was read.
-use Rattle.std.specs.Prelude.{◌≡◌, ◌+◌, ◌*◌, ◌<◌, ◌≤◌, ◌^◌, ◌⊎◌, ℕ, zero, suc, List, [], length, Option, Some, None, is_some, is_none, Bool, true, false, nat_lt, if◌then◌else◌}
+use Rattle.std.specs.Prelude.{◌≡◌, ◌+◌, ◌*◌, ◌<◌, ◌≤◌, ◌^◌, ◌⊎◌, ◌&&◌, ℕ, zero, suc, List, [], length, Option, Some, None, IsSome, is_some, is_none, Bool, true, false, nat_lt, if◌then◌else◌}
 use Rattle.std.proofs.Common.{inl, inr, refl, sym, ap, subst, arith}
 use Rattle.std.proofs.lemmas.Bool.{cases_lt}
-use Rattle.elf_object.specs.declared.fault.FaultKind.TheVariants.{TooLarge}
-use Rattle.elf_object.specs.declared.class.SectionClass.{SectionClass}
+use Rattle.std.proofs.lemmas.Bool.Decides.{nat_tests}
+use Rattle.object_faults.specs.declared.fault.FaultKind.TheVariants.{TooLarge}
+use Rattle.object_faults.specs.declared.class.SectionClass.{SectionClass}
 use Rattle.elf_object.specs.declared.relocation.Relocation.{Relocation}
-use Rattle.elf_object.specs.Parts.{section, symbol_table, symbol_count, relocation_table, entry_count, IsTable, IsRela, IsSection}
-use Rattle.elf_object.specs.Classes.{IsKeptSection}
+use Rattle.elf_object.specs.Parts.{header, section, is_section, symbol_table, symbol_count, relocation_table, entry_count, IsTable, IsRela, IsSection}
+use Rattle.elf_object.specs.Classes.{kept_class, IsKeptSection}
 use Rattle.elf_object.specs.Lent.{section_class, relocations_from, relocations_in, relocations, kept_relocation_table}
 use Rattle.elf_object.specs.Object.{IsOfData, IsWritable}
 use Rattle.elf_object.specs.Faults.{Stands, IsObject}
-use Rattle.elf_object.specs.Searches.{table_is, kept_is, relocates_is}
+use Rattle.elf_object.specs.Searches.{table_is, relocates_is}
+
+-- a section that linking keeps is one, of its class
+pub kept_is : (b : List ℕ) (s : ℕ) → is_none (section_class b s) ≡ false → IsKeptSection b s × (section_class b s ≡ kept_class (section b s))
+unfolding section_class
+kept_is b s h = kept_of (is_section b s) (kept_class (section b s)) (IsSection b s) (λ t. of_section s (header b).e_shnum t) h
+  where
+    of_section : (s n : ℕ) → (nat_lt 0 s && nat_lt s n) ≡ true → (0 < s) × (s < n)
+    of_section s n h = grind (arith, nat_tests)
+
+    kept_of : (t : Bool) (class : Option SectionClass) (P : Type 0) → (t ≡ true → P) → is_none (if t then class else None) ≡ false
+        → (P × IsSome class) × ((if t then class else None) ≡ class)
+    kept_of true (Some c) P p h = ((p refl, refl), refl)
+    kept_of true None P p h = absurd (cc)
+    kept_of false class P p h = absurd (cc)
+
+-- the section that holds the relocations of another one
+pub holds_relocations : (b : List ℕ) (t : ℕ) → 0 < relocation_table b t
+    → IsRela b (relocation_table b t) × ((section b (relocation_table b t)).info ≡ t)
+holds_relocations b t some = relocates_is b t some
 
 -- a kept section has at most 2^20 bytes
 pub kept_small : (b : List ℕ) → IsObject b → (s : ℕ) → IsKeptSection b s → (section b s).size ≤ 2 ^ 20

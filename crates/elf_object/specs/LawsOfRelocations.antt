@@ -3,12 +3,12 @@ use Rattle.std.proofs.Common.{◌≡◌, ◌≢◌, ◌+◌, ◌*◌, ◌<◌, �
 use Rattle.std.specs.List.{All}
 use Rattle.std.proofs.lemmas.Bool.{cases_lt}
 use Rattle.elf_records.specs.Records.{rela_symbol, rela_kind}
-use Rattle.elf_object.specs.declared.fault.FaultKind.TheVariants.{RelocSymbol, RelocKind, RelocRange}
-use Rattle.elf_object.specs.declared.class.SectionClass.{SectionClass}
-use Rattle.elf_object.specs.declared.class.SectionClass.TheVariants.{Executable, ReadOnly, Tls, Writable}
+use Rattle.object_faults.specs.declared.fault.FaultKind.TheVariants.{RelocSymbol, RelocKind, RelocRange}
+use Rattle.object_faults.specs.declared.class.SectionClass.{SectionClass}
+use Rattle.object_faults.specs.declared.class.SectionClass.TheVariants.{Executable, ReadOnly, Tls, Writable}
 use Rattle.elf_object.specs.declared.symbol.SymbolPlace.TheVariants.{Absolute, InSection}
-use Rattle.elf_object.specs.declared.relocation.RelocationKind.{RelocationKind}
-use Rattle.elf_object.specs.declared.relocation.RelocationKind.TheVariants.{Nothing}
+use Rattle.object_faults.specs.declared.relocation.RelocationKind.{RelocationKind}
+use Rattle.object_faults.specs.declared.relocation.RelocationKind.TheVariants.{Nothing}
 use Rattle.elf_object.specs.declared.relocation.Relocation.{Relocation}
 use Rattle.elf_object.specs.Parts.{section, symbol, rela, symbol_count, entry_count}
 use Rattle.elf_object.specs.Classes.{kept_class, IsKeptSection}

@@ -3,10 +3,10 @@ use Rattle.std.proofs.Common.{◌≡◌, ◌≢◌, ◌+◌, ◌<◌, ◌≤◌,
 use Rattle.std.proofs.lemmas.Bool.{cases_lt}
 use Rattle.std.proofs.lemmas.Bool.Decides.{nat_tests}
 use Rattle.elf_records.specs.declared.section_header.SectionHeader.{SectionHeader}
-use Rattle.elf_object.specs.declared.fault.FaultKind.TheVariants.{Truncated, NotElf, NotRelocatable, SectionAlign}
-use Rattle.elf_object.specs.declared.class.SectionClass.{SectionClass}
-use Rattle.elf_object.specs.declared.class.SectionClass.TheVariants.{Executable, ReadOnly, Tls, Writable}
-use Rattle.elf_object.specs.declared.class.TheConstants.{CLASS_FLAGS}
+use Rattle.object_faults.specs.declared.fault.FaultKind.TheVariants.{Truncated, NotElf, NotRelocatable, SectionAlign}
+use Rattle.object_faults.specs.declared.class.SectionClass.{SectionClass}
+use Rattle.object_faults.specs.declared.class.SectionClass.TheVariants.{Executable, ReadOnly, Tls, Writable}
+use Rattle.object_faults.specs.declared.class.TheConstants.{CLASS_FLAGS}
 use Rattle.elf_records.specs.declared.section_header.TheConstants.{SHF_ALLOC}
 use Rattle.elf_object.specs.Parts.{header, section, is_section, HasBytes, IsSection}
 use Rattle.elf_object.specs.Classes.{class_of, class_row, kept_of, kept_class, IsKeptSection, IsAlignment}

@@ -5,7 +5,7 @@ use Rattle.std.specs.List.{range_with_len, before_first}
 use Rattle.elf_records.specs.Records.{rela_at, rela_symbol, rela_kind, symbol_binding as binding_number, symbol_kind as type_number, symbol_visibility as visibility_number}
 use Rattle.elf_records.specs.declared.section_header.TheConstants.{SHT_NULL, SHT_RELA, SHT_NOBITS}
 use Rattle.elf_records.specs.declared.symbol.TheConstants.{SHN_UNDEF, SHN_ABS, STB_LOCAL, STB_GLOBAL, STT_NOTYPE, STT_OBJECT, STT_FUNC, STT_SECTION, STT_FILE, STV_DEFAULT, STV_INTERNAL, STV_HIDDEN}
-use Rattle.elf_object.specs.declared.class.SectionClass.{SectionClass}
+use Rattle.object_faults.specs.declared.class.SectionClass.{SectionClass}
 use Rattle.elf_object.specs.declared.symbol.SymbolBinding.{SymbolBinding}
 use Rattle.elf_object.specs.declared.symbol.SymbolBinding.TheVariants.{Local, Global, Weak}
 use Rattle.elf_object.specs.declared.symbol.SymbolType.{SymbolType}
@@ -14,7 +14,7 @@ use Rattle.elf_object.specs.declared.symbol.Visibility.{Visibility}
 use Rattle.elf_object.specs.declared.symbol.Visibility.TheVariants.{Default, Internal, Hidden, Protected}
 use Rattle.elf_object.specs.declared.symbol.SymbolPlace.{SymbolPlace}
 use Rattle.elf_object.specs.declared.symbol.SymbolPlace.TheVariants.{Undefined, Absolute, InSection}
-use Rattle.elf_object.specs.declared.relocation.RelocationKind.TheVariants.{Nothing}
+use Rattle.object_faults.specs.declared.relocation.RelocationKind.TheVariants.{Nothing}
 use Rattle.elf_object.specs.declared.relocation.Relocation.{Relocation}
 use Rattle.elf_object.specs.declared.part.SectionPart.{SectionPart}
 use Rattle.elf_object.specs.declared.part.SymbolPart.{SymbolPart}
@@ -106,13 +106,13 @@ pub record IsSymbolPart (b : List ℕ) (e : ℕ) (part : SymbolPart) : Type 0 wh
   pub value_is : part.value ≡ symbol_value b e
   pub size_is : part.size ≡ symbol_size b e
 
--- the relocation at a place of the file
+-- the relocation at an offset of the file
 unfoldable pub relocation_at : ℕ → List ℕ → Relocation
 relocation_at at b =
     let entry = rela_at at b in
     record { offset = entry.offset; kind = unwrap_or (relocation_kind (rela_kind entry)) Nothing; symbol = rela_symbol entry; addend = entry.addend }
 
--- n relocations from a place of the file on, beginning with number e
+-- n relocations from an offset of the file on, beginning with number e
 unfoldable pub relocations_from : List ℕ → ℕ → ℕ → ℕ → List Relocation
 relocations_from b at e n = map (λ (k : ℕ). relocation_at (at + 24 * k) b) (range_with_len e n)
 

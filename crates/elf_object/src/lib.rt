@@ -5,56 +5,34 @@
 //! objects into one image. What an object holds is found by numbers in its headers: where a table lies, how long it is, which
 //! section a symbol is defined in. Any of these numbers may lie, by a truncated download, a broken tool or an attacker.
 //!
-//! [`Object::read`] asks every one of them once. It answers an [`Object`] exactly where the bytes stand for one, and else the
-//! first [`FaultKind`] that stands, with the section and the entry that it stands at. After that the parts are lent with no test
-//! and no refusal: names and bytes of sections, symbols, relocations.
+//! [`Object::read`] asks every one of them once, by `object_faults`. It answers an [`Object`] exactly where the bytes stand for one,
+//! and else the first [`FaultKind`] that stands, with the section and the entry that it stands at.
 //!
-//! The rule that the crate keeps: **an object is exactly what no fault stands in**, and the fault that is answered is the first:
-//! no earlier kind stands anywhere, and this one at no lower section and, there, at no lower entry. `specs/Faults` says what
-//! each kind means, one line each; it knows nothing of how the code looks for it. Reading takes one pass for each kind, and
-//! time and memory that grow with what the tables hold: a mark on each byte finds fields that overlap, the last zero byte of a
-//! string table tells which names end.
+//! The rule that the crate keeps: **what is lent is the file's own, and needs no further test.** [`Object::section`],
+//! [`Object::symbol`] and [`Object::relocs`] lend parts in constant time, with no refusal: the bytes of a section are there, its
+//! alignment is a power of two, a relocation's field lies in its section and names a symbol that has a place (`specs/Lawful`).
+//! None of them knows a name, since a name ends at its first zero byte and may be as long as the file: names are found when they
+//! are asked for, by [`Object::section_name`] and [`Object::symbol_name`], and [`Object::short_symbol_name`] looks no further
+//! than its caller's limit.
 //!
-//! An example. In an object of one variable the section headers may say
+//! An example. In the object of one variable `symbol(2)` may be a GLOBAL symbol of thread-local storage, 4 bytes at offset 0 of
+//! section 3, `symbol_name(2)` is `x`, and `relocs(1)` has one entry: at offset 4 of the code, `TpOff32` of symbol 2.
 //!
-//! ```text
-//! .text   offset 0x240 size 9   flags AX      64 8b 04 25 00 00 00 00 c3      mov %fs:0, %eax; ret
-//! .rela.text                    info 1        04 00 00 00 00 00 00 00  17 00 00 00 02 00 00 00  00 ..
-//! ```
-//!
-//! The relocation fills the four bytes at offset 4 with the offset of symbol 2 from the thread pointer (type 0x17,
-//! R_X86_64_TPOFF32). With offset 6 in its place the field would pass the nine bytes of `.text`: `RelocRange` at section 2,
-//! entry 0.
-//!
-//! The format is that of the System V ABI (gABI, "Object Files") and of its supplement for x86-64 (psABI, "Relocation"). Which
-//! sections linking keeps, and the limits on sizes, are this project's own: `specs/Classes` has the table.
+//! The format is that of the System V ABI (gABI, "Object Files") and of its supplement for x86-64 (psABI, "Relocation").
+//! `specs/Lent` states what is lent, as functions of the file's bytes.
 #![tactic(auto)]
 
-mod class;
-mod fault;
-mod headers;
 mod names;
 mod object;
-mod overlap;
 mod part;
 mod part_names;
-mod reloc_tests;
 mod relocation;
 mod relocs;
-mod scan;
-mod section_tests;
 mod symbol;
-mod symbol_tests;
-mod symbols;
-mod tables;
-mod targets;
-#[cfg(test)]
-mod tests;
 
-pub use class::SectionClass;
-pub use fault::{FaultKind, ObjectFault};
 pub use object::Object;
+pub use object_faults::{FaultKind, ObjectFault, RelocationKind, SectionClass};
 pub use part::{SectionPart, SymbolPart};
-pub use relocation::{Relocation, RelocationKind};
+pub use relocation::Relocation;
 pub use relocs::Relocs;
 pub use symbol::{SymbolBinding, SymbolPlace, SymbolType, Visibility};

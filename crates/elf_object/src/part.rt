@@ -2,14 +2,13 @@
 
 ghost use Rattle.std.specs.Prelude.{◌≡◌, ◌<◌, OnSome};
 ghost use Rattle.elf_object.specs.Parts.{symbol_count, IsSection};
-ghost use Rattle.elf_object.specs.Lent.{IsSectionPart, IsSymbolPart, section_class, section_alignment};
+ghost use Rattle.elf_object.specs.Lent.{IsSectionPart, IsSymbolPart, section_bytes, section_class, section_alignment};
 
-use crate::class::{SectionClass, kept_class};
 use crate::symbol::{
     SymbolBinding, SymbolPlace, SymbolType, Visibility, binding_numbered, place_numbered,
     type_numbered, visibility_numbered,
 };
-use crate::tables::{Tables, bytes_of};
+use object_faults::{SectionClass, Tables, has_bytes, kept_class};
 
 /// A section of an object. Its bytes are the file's.
 #[derive(Clone, Copy, Debug)]
@@ -48,6 +47,21 @@ pub fn class_in(tables: &Tables, number: u64) -> Option<SectionClass>
         return None;
     }
     kept_class(&tables.section(number))
+}
+
+/// The bytes of a section in the file.
+#[tactic(auto, unfolding(crate::specs::Lent::section_bytes))]
+pub fn bytes_of<'a>(tables: &Tables<'a>, number: u64) -> &'a [u8]
+    ensures { result.now ≡ section_bytes tables.now.bytes.now number }
+{
+    if !tables.has_section(number) {
+        return &[];
+    }
+    let header = tables.section(number);
+    if !has_bytes(&header) {
+        return &[];
+    }
+    &tables.bytes[header.offset as usize..(header.offset + header.size) as usize]
 }
 
 /// What the address of a section is to be a multiple of.

@@ -5,7 +5,8 @@ ghost use Rattle.elf_object.specs.Parts.{section as section_header, symbol_count
 ghost use Rattle.elf_object.specs.Lent.{section_bytes, section_name, symbol_name};
 
 use crate::names::{short_text_at, text_at};
-use crate::tables::{Tables, bytes_of};
+use crate::part::bytes_of;
+use object_faults::Tables;
 
 /// The name of a section.
 #[tactic(auto, unfolding(crate::specs::Lent::section_name))]

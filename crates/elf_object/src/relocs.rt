@@ -7,10 +7,10 @@ ghost use Rattle.elf_object.specs.Tables.{AreTargets};
 ghost use Rattle.elf_object.specs.Lent.{relocation_at, relocations_in, relocations_from, relocation_target, kept_relocation_table};
 
 use crate::part::class_in;
-use crate::relocation::{Relocation, RelocationKind};
-use crate::tables::Tables;
-use elf_records::read_rela;
+use crate::relocation::Relocation;
 use elf_records::section_header::SHT_RELA;
+use elf_records::{Rela, read_rela};
+use object_faults::{RelocationKind, Tables};
 use std::marker::Model;
 
 /// The relocations of a section, in the order of the file. Contracts see the list of those that are left.
@@ -34,7 +34,7 @@ impl<'a> Model for Relocs<'a> {
     ghost invariant = { λ r. r.at + 24 * r.end ≤ length r.bytes.now };
 }
 
-/// The relocation at a place of the file.
+/// The relocation at an offset of the file.
 #[tactic(auto, unfolding(crate::specs::Lent::relocation_at))]
 fn relocation_at(bytes: &[u8], at: u64) -> Relocation
     requires { at + 24 ≤ length bytes.now }
@@ -77,14 +77,14 @@ impl Iterator for Relocs<'_> {
         if self.end <= self.next {
             return None;
         }
-        let relocation = relocation_at(self.bytes, self.at + 24 * self.next);
+        let relocation = relocation_at(self.bytes, self.at + Rela::SIZE * self.next);
         self.next += 1;
         Some(relocation)
     }
 }
 
 /// The section that holds the relocations of a section that linking keeps, or 0. `targets` says of each section which one does.
-#[tactic(auto, using(crate::specs::Searches::relocates_is), unfolding(crate::specs::Lent::kept_relocation_table))]
+#[tactic(auto, using(crate::specs::Laws::holds_relocations), unfolding(crate::specs::Lent::kept_relocation_table))]
 pub fn table_of(tables: &Tables, targets: &[u32], section: u64) -> u64
     requires len { length targets.now ≡ tables.now.count }
     requires found { AreTargets tables.now.bytes.now targets.now }
@@ -107,7 +107,7 @@ pub fn relocs_in<'a>(tables: &Tables<'a>, table: u64) -> Relocs<'a>
         return Relocs::of(tables.bytes, 0, 0);
     }
     let header = tables.section(table);
-    Relocs::of(tables.bytes, header.offset, header.size / 24)
+    Relocs::of(tables.bytes, header.offset, header.size / Rela::SIZE)
 }
 
 /// The section, one that linking keeps, whose relocations a section holds, or 0.

@@ -1,17 +1,17 @@
--- Numbers at a place of a list of bytes, as ELF64 files with little-endian data hold them (gABI, "Data Representation").
+-- Numbers at an offset of a list of bytes, as ELF64 files with little-endian data hold them (gABI, "Data Representation").
 use Rattle.std.specs.Prelude.{◌≡◌, ◌<◌, ◌+◌, ◌^◌, ℕ, ℤ, Option, Some, None, List, [], ◌∷◌, ◌++◌, length, take, drop, nat_le, if◌then◌else◌}
 use Rattle.std.specs.Int.{w64, cast_signed}
 use Rattle.byteorder.specs.Endian.{little_from, little_bytes}
 
--- the unsigned number in the n bytes from place at, the lowest byte first; a byte past the end counts as 0
+-- the unsigned number in the n bytes from offset at, the lowest byte first; a byte past the end counts as 0
 unfoldable pub number_at : ℕ → ℕ → List ℕ → ℕ
 number_at n at bytes = little_from at n bytes
 
--- the signed number in the eight bytes from place at, in two's complement
+-- the signed number in the eight bytes from offset at, in two's complement
 abbrev pub signed_at : ℕ → List ℕ → ℤ
 signed_at at bytes = cast_signed w64 (number_at 8 at bytes)
 
--- the n bytes from place at, as they stand
+-- the n bytes from offset at, as they stand
 unfoldable pub part_at : ℕ → ℕ → List ℕ → List ℕ
 part_at n at bytes = take n (drop at bytes)
 
@@ -24,7 +24,7 @@ IsReadAt size record_at bytes at result =
 unfoldable pub bytes_of : ℕ → ℕ → List ℕ
 bytes_of n x = little_bytes n x
 
--- the bytes with others in place of those that stand at that place
+-- the bytes with others in place of those that stand at that offset
 unfoldable pub splice : ℕ → List ℕ → List ℕ → List ℕ
 splice at new bytes = take at bytes ++ (new ++ drop (at + length new) bytes)
 

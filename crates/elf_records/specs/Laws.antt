@@ -1,4 +1,4 @@
--- The laws of `Fields`, which crates above cite: numbers and bytes at a place, seen in a part of a list, in lists joined and
+-- The laws of `Fields`, which crates above cite: numbers and bytes at an offset, seen in a part of a list, in lists joined and
 -- beside what was written; and fields that were written, read again.
 use Rattle.std.proofs.Common.{ℕ, zero, suc, ◌+◌, ◌-◌, ◌^◌, ◌<◌, ◌≤◌, ◌≡◌, List, [], ◌∷◌, ◌++◌, length, take, drop, slice_index, slice_range, refl, sym, ap, ◌∙◌, arith, append_assoc, length-append, length-drop, zero-add}
 use Rattle.std.proofs.lemmas.List.{drop-append-le, drop-drop, drop-take, get_or-drop, length-take-le, take-take, take-append-le, take_rest, drop_at, take_at}
@@ -26,7 +26,7 @@ pub number_at-part : (n at i j : ℕ) (xs : List ℕ) → at + n ≤ j - i
     → number_at n at (slice_range xs i j) ≡ number_at n (i + at) xs
 number_at-part n at i j xs within = number_at-take n at (j - i) (drop i xs) within ∙ number_at-drop n at i xs
 
--- the same of a field that stands k bytes behind a place
+-- the same of a field that stands k bytes behind an offset
 pub number_at-field : (n k at i j : ℕ) (xs : List ℕ) → at + k + n ≤ j - i
     → number_at n (at + k) (slice_range xs i j) ≡ number_at n (i + at + k) xs
 number_at-field n k at i j xs within =
@@ -192,7 +192,7 @@ splice_more at next xs ys bytes place inside =
     rw (head, tail) (append_assoc (take at bytes) xs (ys ++ drop (at + length (xs ++ ys)) bytes)
     ∙ ap (λ r. take at bytes ++ r) (sym (append_assoc xs ys (drop (at + length (xs ++ ys)) bytes))))
 
--- what was written stands at its place
+-- what was written stands at its offset
 pub part_at-splice : (at : ℕ) (new bytes : List ℕ) → at ≤ length bytes
     → part_at (length new) at (splice at new bytes) ≡ new
 unfolding splice

@@ -1,4 +1,4 @@
--- The six records of ELF64, each field at its place in the record (gABI, "ELF Header", "Sections", "Symbol Table",
+-- The six records of ELF64, each field at its offset in the record (gABI, "ELF Header", "Sections", "Symbol Table",
 -- "Relocation", "Program Header" and "Dynamic Section").
 use Rattle.std.specs.Prelude.{◌≡◌, ◌+◌, ◌/◌, ◌%◌, ◌^◌, ℕ, List, [], ◌∷◌, ◌++◌, length, FitsSigned}
 use Rattle.std.specs.Int.{w64, cast_unsigned}

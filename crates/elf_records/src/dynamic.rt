@@ -50,7 +50,7 @@ impl DynamicEntry {
     pub const SIZE: u64 = 16;
 }
 
-/// Reads the entry of a dynamic array at place `at`. `None` exactly where it would pass the end of `bytes`.
+/// Reads the entry of a dynamic array at offset `at`. `None` exactly where it would pass the end of `bytes`.
 #[tactic(auto, unfolding(crate::specs::Records::dynamic_at))]
 pub fn read_dynamic(bytes: &[u8], at: u64) -> Option<DynamicEntry>
     ensures { IsReadAt DynamicEntry.SIZE dynamic_at bytes.now at result }
@@ -65,7 +65,7 @@ pub fn read_dynamic(bytes: &[u8], at: u64) -> Option<DynamicEntry>
     })
 }
 
-/// Writes the entry of a dynamic array at place `at`, over the bytes that stand there.
+/// Writes the entry of a dynamic array at offset `at`, over the bytes that stand there.
 pub fn write_dynamic(fields: &DynamicEntry, bytes: &mut [u8], at: u64)
     requires { at + DynamicEntry.SIZE ≤ length bytes.old }
     ensures bytes { bytes.new ≡ splice at (dynamic_bytes fields.now) bytes.old }

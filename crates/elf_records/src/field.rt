@@ -1,4 +1,4 @@
-//! One field of a record: a little-endian number at a place of a slice of bytes.
+//! One field of a record: a little-endian number at an offset of a slice of bytes.
 
 ghost use Rattle.std.specs.Prelude.{◌≡◌, ◌+◌, ◌^◌, ◌<◌, ◌≤◌, length, nat_le};
 ghost use Rattle.std.specs.Int.{w64, cast_unsigned};
@@ -6,7 +6,7 @@ ghost use Rattle.elf_records.specs.Fields.{bytes_of, number_at, signed_at, splic
 
 use byteorder::{ByteOrder, LittleEndian};
 
-/// Whether `size` bytes from place `at` on end no later than `bytes` does. No sum wraps: `at` may be any number.
+/// Whether `size` bytes from offset `at` on end no later than `bytes` does. No sum wraps: `at` may be any number.
 pub fn fits(bytes: &[u8], at: u64, size: u64) -> bool
     ensures { result ≡ nat_le (at + size) (length bytes.now) }
 {

@@ -60,7 +60,7 @@ impl Header {
     pub const SIZE: u64 = 64;
 }
 
-/// Reads the ELF header at place `at`. `None` exactly where it would pass the end of `bytes`.
+/// Reads the ELF header at offset `at`. `None` exactly where it would pass the end of `bytes`.
 #[tactic(auto, unfolding(crate::specs::Records::header_at, crate::specs::Fields::part_at))]
 pub fn read_header(bytes: &[u8], at: u64) -> Option<Header>
     ensures { IsReadAt Header.SIZE header_at bytes.now at result }
@@ -89,7 +89,7 @@ pub fn read_header(bytes: &[u8], at: u64) -> Option<Header>
     })
 }
 
-/// Writes the ELF header at place `at`, over the bytes that stand there.
+/// Writes the ELF header at offset `at`, over the bytes that stand there.
 pub fn write_header(fields: &Header, bytes: &mut [u8], at: u64)
     requires { at + Header.SIZE ≤ length bytes.old }
     ensures bytes { bytes.new ≡ splice at (header_bytes fields.now) bytes.old }

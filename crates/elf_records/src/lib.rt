@@ -18,8 +18,8 @@
 //! are the relocation entry `Rela { offset: 4, info: 0x2_0000_0013, addend: -4 }`: fill the field 4 bytes into the section,
 //! for symbol 2, by the rule of type 19 (`R_X86_64_TLSGD`), with -4 added.
 //!
-//! The rule that the crate keeps: **a record is exactly the bytes at its place.**
-//! - `read_rela(bytes, at)` is `None` exactly where the record would pass the end of `bytes`. Any place may be asked for, up
+//! The rule that the crate keeps: **a record is exactly the bytes at its offset.**
+//! - `read_rela(bytes, at)` is `None` exactly where the record would pass the end of `bytes`. Any offset may be asked for, up
 //!   to 2^64 - 1. Else it is the record whose fields stand there; no field is judged, and every 24 bytes are some entry.
 //! - `write_rela(&entry, bytes, at)` asks that the record fits, as [`fits`] tests. It is then read again as `entry`, and no
 //!   other byte changes.
@@ -29,7 +29,7 @@
 //!
 //! The records are those of the System V ABI (gABI), chapters "Object Files" and "Program Loading and Dynamic Linking", for
 //! files of class ELFCLASS64 with data encoding ELFDATA2LSB; what x86-64 adds is in its supplement (psABI). `specs/Records`
-//! states each record's fields and their places, and `specs/Laws` and `specs/RecordLaws` what callers may use of them.
+//! states each record's fields and their offsets, and `specs/Laws` and `specs/RecordLaws` what callers may use of them.
 #![tactic(auto)]
 
 pub mod dynamic;
@@ -39,8 +39,6 @@ pub mod program_header;
 pub mod relocation;
 pub mod section_header;
 pub mod symbol;
-#[cfg(test)]
-mod tests;
 
 pub use dynamic::{DynamicEntry, read_dynamic, write_dynamic};
 pub use field::fits;

@@ -41,7 +41,7 @@ pub struct Segment {
     pub filesz: u64,
     /// How many bytes of memory it has; those past `filesz` are zeros.
     pub memsz: u64,
-    /// A power of two of which the address, like the place in the file, keeps the remainder.
+    /// A power of two of which the address, like the offset in the file, keeps the remainder.
     pub align: u64,
 }
 
@@ -50,7 +50,7 @@ impl Segment {
     pub const SIZE: u64 = 56;
 }
 
-/// Reads the program header at place `at`. `None` exactly where it would pass the end of `bytes`.
+/// Reads the program header at offset `at`. `None` exactly where it would pass the end of `bytes`.
 #[tactic(auto, unfolding(crate::specs::Records::segment_at))]
 pub fn read_segment(bytes: &[u8], at: u64) -> Option<Segment>
     ensures { IsReadAt Segment.SIZE segment_at bytes.now at result }
@@ -71,7 +71,7 @@ pub fn read_segment(bytes: &[u8], at: u64) -> Option<Segment>
     })
 }
 
-/// Writes the program header at place `at`, over the bytes that stand there.
+/// Writes the program header at offset `at`, over the bytes that stand there.
 pub fn write_segment(fields: &Segment, bytes: &mut [u8], at: u64)
     requires { at + Segment.SIZE ≤ length bytes.old }
     ensures bytes { bytes.new ≡ splice at (segment_bytes fields.now) bytes.old }

@@ -56,7 +56,7 @@ pub const R_X86_64_REX_GOTPCRELX: u32 = 42;
 /// An entry of a section of type [`SHT_RELA`](crate::section_header::SHT_RELA): how to fill one field of the section that it applies to.
 #[derive(Clone, Copy, PartialEq, Eq, Debug)]
 pub struct Rela {
-    /// Where the field begins: in an object a place in its section, in an image an address.
+    /// Where the field begins: in an object an offset in its section, in an image an address.
     pub offset: u64,
     /// The symbol's number times 2^32, plus the relocation's type.
     pub info: u64,
@@ -90,7 +90,7 @@ impl Rela {
     }
 }
 
-/// Reads the relocation entry at place `at`. `None` exactly where it would pass the end of `bytes`.
+/// Reads the relocation entry at offset `at`. `None` exactly where it would pass the end of `bytes`.
 #[tactic(auto, unfolding(crate::specs::Records::rela_at))]
 pub fn read_rela(bytes: &[u8], at: u64) -> Option<Rela>
     ensures { IsReadAt Rela.SIZE rela_at bytes.now at result }
@@ -106,7 +106,7 @@ pub fn read_rela(bytes: &[u8], at: u64) -> Option<Rela>
     })
 }
 
-/// Writes the relocation entry at place `at`, over the bytes that stand there.
+/// Writes the relocation entry at offset `at`, over the bytes that stand there.
 pub fn write_rela(fields: &Rela, bytes: &mut [u8], at: u64)
     requires { at + Rela.SIZE ≤ length bytes.old }
     ensures bytes { bytes.new ≡ splice at (rela_bytes fields.now) bytes.old }

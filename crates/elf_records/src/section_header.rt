@@ -74,7 +74,7 @@ impl SectionHeader {
     pub const SIZE: u64 = 64;
 }
 
-/// Reads the section header at place `at`. `None` exactly where it would pass the end of `bytes`.
+/// Reads the section header at offset `at`. `None` exactly where it would pass the end of `bytes`.
 #[tactic(auto, unfolding(crate::specs::Records::section_at))]
 pub fn read_section(bytes: &[u8], at: u64) -> Option<SectionHeader>
     ensures { IsReadAt SectionHeader.SIZE section_at bytes.now at result }
@@ -97,7 +97,7 @@ pub fn read_section(bytes: &[u8], at: u64) -> Option<SectionHeader>
     })
 }
 
-/// Writes the section header at place `at`, over the bytes that stand there.
+/// Writes the section header at offset `at`, over the bytes that stand there.
 pub fn write_section(fields: &SectionHeader, bytes: &mut [u8], at: u64)
     requires { at + SectionHeader.SIZE ≤ length bytes.old }
     ensures bytes { bytes.new ≡ splice at (section_bytes fields.now) bytes.old }

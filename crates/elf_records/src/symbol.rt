@@ -106,7 +106,7 @@ impl SymbolEntry {
     }
 }
 
-/// Reads the symbol table entry at place `at`. `None` exactly where it would pass the end of `bytes`.
+/// Reads the symbol table entry at offset `at`. `None` exactly where it would pass the end of `bytes`.
 #[tactic(auto, unfolding(crate::specs::Records::symbol_at))]
 pub fn read_symbol(bytes: &[u8], at: u64) -> Option<SymbolEntry>
     ensures { IsReadAt SymbolEntry.SIZE symbol_at bytes.now at result }
@@ -125,7 +125,7 @@ pub fn read_symbol(bytes: &[u8], at: u64) -> Option<SymbolEntry>
     })
 }
 
-/// Writes the symbol table entry at place `at`, over the bytes that stand there.
+/// Writes the symbol table entry at offset `at`, over the bytes that stand there.
 pub fn write_symbol(fields: &SymbolEntry, bytes: &mut [u8], at: u64)
     requires { at + SymbolEntry.SIZE ≤ length bytes.old }
     ensures bytes { bytes.new ≡ splice at (symbol_bytes fields.now) bytes.old }

@@ -4,10 +4,10 @@ use Rattle.std.specs.Prelude.{nat_le, nat_lt, if◌then◌else◌, unwrap_or}
 use Rattle.std.proofs.lemmas.Bool.{cases_lt}
 use Rattle.std.proofs.lemmas.Bool.Decides.{nat_tests}
 use Rattle.elf_records.specs.Records.{rela_kind}
-use Rattle.elf_object.specs.declared.fault.FaultKind.TheVariants.{RelocOverlap}
+use Rattle.object_faults.specs.declared.fault.FaultKind.TheVariants.{RelocOverlap}
 use Rattle.elf_object.specs.declared.relocation.Relocation.{Relocation}
-use Rattle.elf_object.specs.declared.relocation.RelocationKind.{RelocationKind}
-use Rattle.elf_object.specs.declared.relocation.RelocationKind.TheVariants.{Nothing}
+use Rattle.object_faults.specs.declared.relocation.RelocationKind.{RelocationKind}
+use Rattle.object_faults.specs.declared.relocation.RelocationKind.TheVariants.{Nothing}
 use Rattle.elf_object.specs.Classes.{IsKeptSection}
 use Rattle.elf_object.specs.Faults.{Stands, IsObject}
 use Rattle.elf_object.specs.Laws.{table_of_kept}

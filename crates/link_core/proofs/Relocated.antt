@@ -1,8 +1,8 @@
 -- What a relocation that is taken is.
 use Rattle.std.proofs.Common.{◌≡◌, ◌<◌, ◌≤◌, ◌+◌, ◌-◌, ◌≢◌, ◌&&◌, ℕ, zero, suc, Bool, true, false, List, length, Some, None, inl, inr, refl, sym, ap, ◌∙◌, subst, arith}
 use Rattle.std.specs.Prelude.{if◌then◌else◌}
-use Rattle.elf_object.specs.declared.class.SectionClass.{SectionClass}
-use Rattle.elf_object.specs.declared.class.SectionClass.TheVariants.{Executable, ReadOnly, Tls, Writable}
+use Rattle.object_faults.specs.declared.class.SectionClass.{SectionClass}
+use Rattle.object_faults.specs.declared.class.SectionClass.TheVariants.{Executable, ReadOnly, Tls, Writable}
 use Rattle.link_core.specs.declared.part.PartKind.{PartKind}
 use Rattle.link_core.specs.declared.part.PartKind.TheVariants.{Code, Constants, InitialTls}
 use Rattle.link_core.specs.Parts.{is_of}
@@ -12,8 +12,8 @@ use Rattle.elf_object.specs.Object.{section_count}
 use Rattle.link_core.proofs.Search.{both_pass}
 use Rattle.link_core.proofs.Sections.{first_class, past_class}
 use Rattle.elf_object.specs.declared.relocation.Relocation.{Relocation}
-use Rattle.elf_object.specs.declared.relocation.RelocationKind.{RelocationKind}
-use Rattle.elf_object.specs.declared.relocation.RelocationKind.TheVariants.{Nothing}
+use Rattle.object_faults.specs.declared.relocation.RelocationKind.{RelocationKind}
+use Rattle.object_faults.specs.declared.relocation.RelocationKind.TheVariants.{Nothing}
 use Rattle.elf_object.specs.Lawful.{IsLawful, IsKeptAs, has_initial}
 use Rattle.elf_object.specs.Lent.{symbol_place, symbol_binding, section_class, section_bytes, section_size, kept_relocation_table, relocations_in}
 use Rattle.elf_object.specs.Parts.{symbol_count}

@@ -7,7 +7,7 @@ use Rattle.std.proofs.lemmas.Bool.Decides.{nat_tests}
 use Rattle.std.proofs.lemmas.Grind.{same_number_lists}
 use Rattle.std.proofs.lemmas.List.FromFn.{get_or-map-range_with_len, length-map-range_with_len}
 use Rattle.std.proofs.lemmas.Option.{slice_get-get_or, unwrap_or-slice_get, get_or_from_slice_get}
-use Rattle.elf_object.specs.declared.class.SectionClass.{SectionClass}
+use Rattle.object_faults.specs.declared.class.SectionClass.{SectionClass}
 use Rattle.elf_object.specs.Lent.{section_class, section_size}
 use Rattle.elf_object.specs.Object.{section_count}
 use Rattle.link_faults.specs.declared.image_kind.ImageKind.{ImageKind}

@@ -3,8 +3,8 @@
 use Rattle.std.specs.Prelude.{◌+◌, ◌-◌, ◌&&◌, ℕ, ℤ, pos, ◌+ℤ◌, ◌-ℤ◌, Bool, true, List, [], ◌∷◌, map, Option, Some, None, unwrap_or, option_map, slice_index_or, nat_le, nat_lt, if◌then◌else◌}
 use Rattle.std.specs.Int.{w32, byte_at, cast_unsigned}
 use Rattle.std.specs.List.{find, range_with_len}
-use Rattle.elf_object.specs.declared.class.SectionClass.{SectionClass}
-use Rattle.elf_object.specs.declared.class.SectionClass.TheVariants.{Executable, ReadOnly, Tls}
+use Rattle.object_faults.specs.declared.class.SectionClass.{SectionClass}
+use Rattle.object_faults.specs.declared.class.SectionClass.TheVariants.{Executable, ReadOnly, Tls}
 use Rattle.elf_object.specs.declared.relocation.Relocation.{Relocation}
 use Rattle.elf_object.specs.declared.symbol.SymbolPlace.{SymbolPlace}
 use Rattle.elf_object.specs.declared.symbol.SymbolPlace.TheVariants.{InSection}

@@ -1,8 +1,8 @@
 -- The parts of an image: its sections at their places, class by class, and zeros between them.
 use Rattle.std.specs.Prelude.{◌+◌, ℕ, Bool, true, false, List, [], ◌∷◌, ◌++◌, Option, Some, unwrap_or, slice_index_or, if◌then◌else◌}
 use Rattle.std.specs.List.{flat_map, range_with_len}
-use Rattle.elf_object.specs.declared.class.SectionClass.{SectionClass}
-use Rattle.elf_object.specs.declared.class.SectionClass.TheVariants.{Executable, ReadOnly, Tls}
+use Rattle.object_faults.specs.declared.class.SectionClass.{SectionClass}
+use Rattle.object_faults.specs.declared.class.SectionClass.TheVariants.{Executable, ReadOnly, Tls}
 use Rattle.elf_object.specs.Object.{section_count}
 use Rattle.elf_object.specs.Lent.{section_class}
 use Rattle.tls_layout.specs.Sections.{Layout}

@@ -22,8 +22,6 @@
 
 mod fault;
 mod image_kind;
-#[cfg(test)]
-mod tests;
 
 pub use fault::{LinkFault, LinkFaultKind};
 pub use image_kind::{EXE_BASE, ImageKind};

@@ -22,8 +22,6 @@
 mod draft;
 mod given;
 mod put;
-#[cfg(test)]
-mod tests;
 
 pub use draft::{Draft, draft_of, object_of};
 pub use given::{Section, Symbol, rela};

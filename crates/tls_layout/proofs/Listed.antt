@@ -7,7 +7,7 @@ use Rattle.std.proofs.lemmas.List.Sums.{sum_by-cons}
 use Rattle.std.proofs.lemmas.List.Concat.{flat_map-append}
 use Rattle.std.proofs.lemmas.List.Elements.{All-map}
 use Rattle.std.proofs.lemmas.List.FromFn.{length-map-range_with_len, map-range_with_len_more}
-use Rattle.elf_object.specs.declared.class.SectionClass.{SectionClass}
+use Rattle.object_faults.specs.declared.class.SectionClass.{SectionClass}
 use Rattle.elf_object.specs.Lent.{section_class, section_size, section_alignment}
 use Rattle.elf_object.specs.Lawful.{IsKeptAs}
 use Rattle.elf_object.specs.LawsOfSections.{kept_as}

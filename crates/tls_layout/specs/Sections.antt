@@ -2,8 +2,8 @@
 use Rattle.std.specs.Prelude.{◌+◌, ◌≤◌, ◌^◌, ℕ, Bool, true, false, List, map, take, sum, Option, None, Some}
 use Rattle.std.specs.Prelude.{slice_index, slice_index_or, nat_lt, if◌then◌else◌}
 use Rattle.std.specs.List.{range_with_len, flat_map}
-use Rattle.elf_object.specs.declared.class.SectionClass.{SectionClass}
-use Rattle.elf_object.specs.declared.class.SectionClass.TheVariants.{Executable, ReadOnly, Tls, Writable}
+use Rattle.object_faults.specs.declared.class.SectionClass.{SectionClass}
+use Rattle.object_faults.specs.declared.class.SectionClass.TheVariants.{Executable, ReadOnly, Tls, Writable}
 use Rattle.elf_object.specs.Lent.{section_class, section_size, section_alignment}
 use Rattle.elf_object.specs.Lawful.{IsPower}
 use Rattle.elf_object.specs.Object.{section_count}

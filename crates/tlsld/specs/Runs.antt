@@ -1,9 +1,9 @@
 -- What a small job comes to over the bytes of its object.
 use Rattle.std.specs.Prelude.{◌≡◌, ◌⊎◌, ℕ, true, false, List, [], ◌∷◌, map, Option, Some, None, Result, Ok, Err}
-use Rattle.elf_object.specs.declared.fault.FaultKind.{FaultKind}
-use Rattle.elf_object.specs.declared.fault.FaultKind.TheVariants.{WritableData}
-use Rattle.elf_object.specs.declared.fault.ObjectFault.TheVariants.{At, OutOfMemory as NoMemory}
-use Rattle.elf_object.specs.declared.fault.ObjectFault.{ObjectFault}
+use Rattle.object_faults.specs.declared.fault.FaultKind.{FaultKind}
+use Rattle.object_faults.specs.declared.fault.FaultKind.TheVariants.{WritableData}
+use Rattle.object_faults.specs.declared.fault.ObjectFault.TheVariants.{At, OutOfMemory as NoMemory}
+use Rattle.object_faults.specs.declared.fault.ObjectFault.{ObjectFault}
 use Rattle.elf_object.specs.Faults.{IsObject, IsFault, IsFirstAt}
 use Rattle.elf_object.specs.Object.{IsWritable}
 use Rattle.job_run.specs.Loading.{machine_loaded, HasBytes}

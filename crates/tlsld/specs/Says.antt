@@ -1,7 +1,7 @@
 -- What `run JOB` says over the files of a store: a status, and a text.
 use Rattle.std.specs.Prelude.{◌≡◌, ◌⊎◌, ℕ, List, [], ◌∷◌, ◌++◌, codes, Option, Some, None, Result, Ok, Err}
 use Rattle.std.specs.Fmt.{decimal}
-use Rattle.elf_object.specs.declared.fault.FaultKind.{FaultKind}
+use Rattle.object_faults.specs.declared.fault.FaultKind.{FaultKind}
 use Rattle.elf_object.specs.FaultNames.{kind_name}
 use Rattle.job_text.specs.declared.fault.JobFault.{JobFault}
 use Rattle.job_text.specs.declared.images.Image.{Image}

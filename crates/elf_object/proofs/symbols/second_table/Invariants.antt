@@ -1,6 +1,0 @@
-use Rattle.std.proofs.Common.{◌<◌, ℕ}
-use Rattle.elf_object.specs.Parts.{IsTable}
-use Rattle.elf_object.proofs.symbols.second_table.Given as goal
-
-abbrev pub invariant-loop-section : goal.invariant-loop-section
-invariant-loop-section l = (s : ℕ) → s < l.section → l.tables.symbols.table < s → IsTable l.tables.bytes.now s → ⊥

@@ -1,7 +1,0 @@
-use Rattle.std.proofs.Common.{◌≡◌}
-use Rattle.elf_object.specs.Parts.{is_table}
-use Rattle.elf_object.specs.Firsts.{first_below}
-use Rattle.elf_object.proofs.tables.symbol_table.Given as goal
-
-abbrev pub invariant-loop-section : goal.invariant-loop-section
-invariant-loop-section l = first_below (is_table l.headers.bytes.now) l.section ≡ 0

@@ -1,0 +1,8 @@
+pub mod Alignments
+pub mod EndsOfNames
+pub mod File
+pub mod Order
+pub mod Overlaps
+pub mod Parts
+pub mod SymbolTables
+pub mod TargetsFound

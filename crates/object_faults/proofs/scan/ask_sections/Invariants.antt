@@ -1,0 +1,7 @@
+use Rattle.std.proofs.Common.{◌<◌, ℕ}
+use Rattle.object_faults.specs.Faults.{Stands}
+use Rattle.object_faults.specs.Kinds.{of_section}
+use Rattle.object_faults.proofs.scan.ask_sections.Given as goal
+
+abbrev pub invariant-loop-section : goal.invariant-loop-section
+invariant-loop-section l = (s : ℕ) → s < l.section → (e : ℕ) → Stands (of_section l.fault) l.tables.bytes.now s e → ⊥

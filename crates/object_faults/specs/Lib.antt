@@ -1,0 +1,12 @@
+pub mod Checked
+pub mod Classes
+pub mod FaultNames
+pub mod Faults
+pub mod FirstLaws
+pub mod Firsts
+pub mod Kinds
+pub mod Names
+pub mod Parts
+pub mod Relocations
+pub mod Searches
+pub mod Tables

@@ -1,0 +1,74 @@
+//! All kinds of fault, asked in their order.
+
+ghost use Rattle.std.specs.Prelude.{◌≡◌, IfOk, IfErr};
+ghost use Rattle.object_faults.specs.Faults.{IsFault, NoneBelow, Answers};
+ghost use Rattle.object_faults.specs.Checked.{IsRead};
+
+use crate::fault::ObjectFault;
+use crate::kinds::{RelocFault, SectionFault, SymbolFault};
+use crate::overlap::ask_overlaps;
+use crate::scan::{ask_relocs, ask_sections, ask_symbols};
+use crate::symbols::ask_symbol_table;
+use crate::tables::{Tables, tables_of};
+use crate::targets::ask_targets;
+use std::alloc::Global;
+
+/// Asks what is wrong with sections.
+fn ask_all_sections(tables: &Tables) -> Result<(), ObjectFault>
+    requires { NoneBelow 3 tables.now.bytes.now }
+    ensures { Answers 6 tables.now.bytes.now result }
+{
+    ask_sections(SectionFault::Name, tables)?;
+    ask_sections(SectionFault::Kind, tables)?;
+    ask_sections(SectionFault::Align, tables)?;
+    ask_sections(SectionFault::Large, tables)?;
+    Ok(())
+}
+
+/// Asks what is wrong with symbols.
+fn ask_all_symbols(tables: &Tables) -> Result<(), ObjectFault>
+    requires { NoneBelow 7 tables.now.bytes.now }
+    ensures { Answers 11 tables.now.bytes.now result }
+{
+    ask_symbol_table(tables)?;
+    ask_symbols(SymbolFault::Name, tables)?;
+    ask_symbols(SymbolFault::Section, tables)?;
+    ask_symbols(SymbolFault::Range, tables)?;
+    ask_symbols(SymbolFault::Kind, tables)?;
+    Ok(())
+}
+
+/// Asks what is wrong with relocations.
+fn ask_all_relocs(alloc: Global, tables: &Tables) -> Result<(), ObjectFault>
+    requires { NoneBelow 13 tables.now.bytes.now }
+    ensures { Answers 16 tables.now.bytes.now result }
+{
+    ask_relocs(RelocFault::Symbol, tables)?;
+    ask_relocs(RelocFault::Kind, tables)?;
+    ask_relocs(RelocFault::Range, tables)?;
+    ask_overlaps(alloc, tables)?;
+    Ok(())
+}
+
+/// What a check keeps of an object in which no fault stands.
+#[derive(Drop)]
+pub struct FaultFree<'a> {
+    pub tables: Tables<'a>,
+    /// Of each section, which one holds its relocations; 0 where none does.
+    pub targets: Vec<u32>,
+}
+
+/// Asks all kinds of fault. Answers the first one that stands, or what is kept of an object in which none does.
+#[tactic(auto, using(crate::proofs::Order::object_of))]
+pub fn fault_free(alloc: Global, bytes: &[u8]) -> Result<FaultFree<'_>, ObjectFault>
+    ensures bytes { IfOk result (λ object. object.tables.bytes.now ≡ bytes.now) }
+    ensures read { IfOk result (λ object. IsRead bytes.now object.targets.items) }
+    ensures fault { IfErr result (IsFault bytes.now) }
+{
+    let tables = tables_of(bytes)?;
+    ask_all_sections(&tables)?;
+    ask_all_symbols(&tables)?;
+    let targets = ask_targets(alloc, &tables)?;
+    ask_all_relocs(alloc, &tables)?;
+    Ok(FaultFree { tables, targets })
+}

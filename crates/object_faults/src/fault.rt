@@ -1,0 +1,114 @@
+//! What may be wrong with an object, and where.
+
+ghost use Rattle.std.specs.Prelude.{◌≡◌, Some, codes};
+ghost use Rattle.object_faults.specs.declared.fault.ObjectFault.TheVariants.{OutOfMemory};
+ghost use Rattle.object_faults.specs.FaultNames.{kind_name};
+
+use std::alloc::AllocError;
+use std::fmt;
+use thiserror::Error;
+
+/// What is wrong with an object, in the order in which it is asked. "Section" names the section of the fault, "entry" 0, or the
+/// symbol or relocation of the fault.
+#[derive(Clone, Copy, PartialEq, Eq, Debug)]
+pub enum FaultKind {
+    /// The file is shorter than its header, or the table of section headers or a section's bytes pass its end.
+    Truncated,
+    /// The file is not one of ELF with 64 bits and little-endian data.
+    NotElf,
+    /// The file is no object for x86-64, or it has no sections, more than fit a number, or none for their names.
+    NotRelocatable,
+    /// The section names are no string table, or a section's name does not end in it.
+    SectionName,
+    /// A section's type is one that linking refuses, or its flags and type fit no class.
+    SectionKind,
+    /// A section that linking keeps asks for an alignment that is no power of two up to 4,096.
+    SectionAlign,
+    /// A section that linking keeps has more than 2^20 bytes, or a table more than 2^20 entries.
+    TooLarge,
+    /// There is a second symbol table, or its entries, names or order are not as they should be.
+    SymbolTable,
+    /// A symbol's name does not end, or it is empty and the symbol is not LOCAL.
+    SymbolName,
+    /// A symbol is defined in no section, or in one that does not fit its binding.
+    SymbolSection,
+    /// A symbol passes the end of its section.
+    SymbolRange,
+    /// A symbol's binding or type is unknown, or its type does not fit its section.
+    SymbolKind,
+    /// A section of relocations has no target, or the two do not fit.
+    RelocTarget,
+    /// A relocation names no symbol, or one that has no place in the image.
+    RelocSymbol,
+    /// A relocation's type is unknown, or its section may not have it.
+    RelocKind,
+    /// A relocation's field passes the end of its section.
+    RelocRange,
+    /// A relocation's field shares a byte with that of an earlier one.
+    RelocOverlap,
+    /// A relocation of thread-local storage stands in no instruction sequence of the psABI. Reading does not ask it.
+    Sequence,
+    /// A call of `__tls_get_addr` stands in no such sequence. Reading does not ask it.
+    StrayCall,
+    /// The object has data that programs write. Reading does not ask it: see [`Object::writable`](crate::Object::writable).
+    WritableData,
+}
+
+impl FaultKind {
+    /// The kind's name, as it is printed.
+    pub fn name(self) -> &'static str
+        ensures { result.now ≡ kind_name self }
+    {
+        match self {
+            FaultKind::Truncated => "Truncated",
+            FaultKind::NotElf => "NotElf",
+            FaultKind::NotRelocatable => "NotRelocatable",
+            FaultKind::SectionName => "SectionName",
+            FaultKind::SectionKind => "SectionKind",
+            FaultKind::SectionAlign => "SectionAlign",
+            FaultKind::TooLarge => "TooLarge",
+            FaultKind::SymbolTable => "SymbolTable",
+            FaultKind::SymbolName => "SymbolName",
+            FaultKind::SymbolSection => "SymbolSection",
+            FaultKind::SymbolRange => "SymbolRange",
+            FaultKind::SymbolKind => "SymbolKind",
+            FaultKind::RelocTarget => "RelocTarget",
+            FaultKind::RelocSymbol => "RelocSymbol",
+            FaultKind::RelocKind => "RelocKind",
+            FaultKind::RelocRange => "RelocRange",
+            FaultKind::RelocOverlap => "RelocOverlap",
+            FaultKind::Sequence => "Sequence",
+            FaultKind::StrayCall => "StrayCall",
+            FaultKind::WritableData => "WritableData",
+        }
+    }
+}
+
+impl fmt::Display for FaultKind {
+    ghost output = { λ kind. Some (kind_name kind) };
+
+    fn fmt<W: fmt::Write>(&self, f: &mut fmt::Formatter<W>) -> fmt::Result {
+        f.write_str(self.name())
+    }
+}
+
+/// Why an object is refused: want of memory, or the first fault that stands.
+#[derive(Debug, Drop, Error)]
+pub enum ObjectFault {
+    #[error("out of memory")]
+    OutOfMemory,
+    #[error("section {section} entry {entry} {kind}")]
+    At {
+        section: u64,
+        entry: u64,
+        kind: FaultKind,
+    },
+}
+
+impl From<AllocError> for ObjectFault {
+    ghost from_gives = { λ _ fault. fault ≡ OutOfMemory };
+
+    fn from(_error: AllocError) -> ObjectFault {
+        ObjectFault::OutOfMemory
+    }
+}

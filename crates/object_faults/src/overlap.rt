@@ -1,0 +1,120 @@
+//! Fields of relocations that share a byte, found in one pass: each byte of a target keeps the mark of the section whose
+//! relocation covered it last.
+
+ghost use Rattle.std.specs.Prelude.{◌≡◌, ◌≢◌, ◌+◌, ◌<◌, ◌≤◌, ◌↔◌, ◌⊎◌, ℕ, length, slice_index, IsTrue, IfNone, MatchOption};
+ghost use Rattle.object_faults.specs.declared.fault.FaultKind.TheVariants.{RelocOverlap};
+ghost use Rattle.object_faults.specs.Parts.{IsSection, rela as entry_of, section as section_header};
+ghost use Rattle.object_faults.specs.Relocations.{Covers, IsReloc, width_at};
+ghost use Rattle.object_faults.specs.Tables.{AreRelocs, HasRoom};
+ghost use Rattle.object_faults.specs.Faults.{Stands, IsFirstAt, NoneBelow, Answers};
+
+use crate::fault::{FaultKind, ObjectFault};
+use crate::reloc_tests::{RelocTable, rela_in, relocs_in, width_of};
+use crate::tables::Tables;
+use std::alloc::Global;
+
+/// Marks the bytes from `from` to `to`, and says whether one of them had the mark already.
+fn mark(marks: &mut [u32], from: usize, to: usize, mark: u32) -> bool
+    requires ordered { from ≤ to }
+    requires inside { to ≤ length marks.old }
+    ensures had { IsTrue result ↔ ((k : ℕ) × (from ≤ k) × (k < to) × (slice_index marks.old k ≡ mark)) }
+    ensures within { (k : ℕ) → from ≤ k → k < to → slice_index marks.new k ≡ mark }
+    ensures outside { (k : ℕ) → (k < from) ⊎ (to ≤ k) → slice_index marks.new k ≡ slice_index marks.old k }
+{
+    let mut had = false;
+    for index in from..to {
+        if marks[index] == mark {
+            had = true;
+        }
+        marks[index] = mark;
+    }
+    had
+}
+
+/// Marks the bytes of an entry's field, and says whether one of them had the section's mark already.
+fn mark_field(
+    tables: &Tables,
+    section: u64,
+    relocs: &RelocTable,
+    entry: u64,
+    marks: &mut [u32],
+) -> bool
+    requires section { IsSection tables.now.bytes.now section }
+    requires relocs { AreRelocs tables.now.bytes.now section relocs.now }
+    requires entry { entry < relocs.now.count }
+    requires room { (entry_of tables.now.bytes.now section entry).offset + width_at tables.now.bytes.now section entry ≤ length marks.old }
+    ensures had { IsTrue result ↔ ((k : ℕ) × Covers tables.now.bytes.now section entry k × (slice_index marks.old k ≡ section)) }
+    ensures within { (k : ℕ) → Covers tables.now.bytes.now section entry k → slice_index marks.new k ≡ section }
+    ensures outside { (k : ℕ) → (Covers tables.now.bytes.now section entry k → ⊥) → slice_index marks.new k ≡ slice_index marks.old k }
+{
+    let rela = rela_in(tables, section, relocs, entry);
+    let end = rela.offset + width_of(rela.kind());
+    mark(marks, rela.offset as usize, end as usize, section as u32)
+}
+
+/// The first entry of a section whose field shares a byte with that of an earlier one. No byte has the section's mark before.
+fn overlap_in(tables: &Tables, section: u64, marks: &mut [u32]) -> Option<u64>
+    requires section { IsSection tables.now.bytes.now section }
+    requires room { HasRoom tables.now.bytes.now section (length marks.old) }
+    requires unmarked { (k : ℕ) → slice_index marks.old k < section }
+    ensures first { IsFirstAt (Stands RelocOverlap tables.now.bytes.now section) result }
+    ensures marked { (k : ℕ) → slice_index marks.new k < section + 1 }
+{
+    let relocs = relocs_in(tables, section)?;
+    for entry in 0..relocs.count {
+        if mark_field(tables, section, &relocs, entry, marks) {
+            return Some(entry);
+        }
+    }
+    None
+}
+
+/// Asks whether fields share a byte, with marks on as many bytes as the largest target has.
+fn ask_marked(tables: &Tables, marks: &mut [u32]) -> Result<(), ObjectFault>
+    requires earlier { NoneBelow 16 tables.now.bytes.now }
+    requires room { (r : ℕ) → HasRoom tables.now.bytes.now r (length marks.old) }
+    requires unmarked { (k : ℕ) → slice_index marks.old k ≡ 0 }
+    ensures { Answers 16 tables.now.bytes.now result }
+{
+    for section in 1..tables.count {
+        if let Some(entry) = overlap_in(tables, section, marks) {
+            return Err(ObjectFault::At {
+                section,
+                entry,
+                kind: FaultKind::RelocOverlap,
+            });
+        }
+    }
+    Ok(())
+}
+
+/// How many bytes the target of a section of relocations has; 0 where linking keeps none.
+fn target_size(tables: &Tables, section: u64) -> u64
+    requires { IsSection tables.now.bytes.now section }
+    ensures { (e : ℕ) → IsReloc tables.now.bytes.now section e → (section_header tables.now.bytes.now (section_header tables.now.bytes.now section).info).size ≤ result }
+{
+    match relocs_in(tables, section) {
+        Some(relocs) => relocs.target_size,
+        None => 0,
+    }
+}
+
+/// How many bytes the largest target of relocations has.
+fn largest_target(tables: &Tables) -> u64
+    ensures { (r e : ℕ) → IsReloc tables.now.bytes.now r e → (section_header tables.now.bytes.now (section_header tables.now.bytes.now r).info).size ≤ result }
+{
+    let mut largest = 0;
+    for section in 1..tables.count {
+        largest = target_size(tables, section).max(largest);
+    }
+    largest
+}
+
+/// Asks whether fields of relocations share a byte.
+pub fn ask_overlaps(alloc: Global, tables: &Tables) -> Result<(), ObjectFault>
+    requires { NoneBelow 16 tables.now.bytes.now }
+    ensures { Answers 16 tables.now.bytes.now result }
+{
+    let mut marks = vec![in alloc; 0; largest_target(tables) as usize]?;
+    ask_marked(tables, &mut marks)
+}
