@@ -4,6 +4,7 @@ pub mod Follow
 pub mod Machine
 pub mod Operand
 pub mod Ranges
+pub mod Reaching
 pub mod Run
 pub mod Simulate
 pub mod State

@@ -23,13 +23,7 @@
 
 mod bytes;
 mod memory;
-#[cfg(test)]
-mod processor;
 mod range;
-#[cfg(test)]
-mod rows;
-#[cfg(test)]
-mod tests;
 
 pub use bytes::{Bytes, fetch, load, store};
 pub use memory::GuestMemory;

@@ -43,8 +43,6 @@
 pub mod laws;
 mod marked;
 mod marks;
-#[cfg(test)]
-mod tests;
 mod values;
 
 pub use marked::{MarkedValues, owner};

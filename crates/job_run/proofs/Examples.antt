@@ -1,5 +1,6 @@
 -- Closed jobs whose meaning is computed.
 use Rattle.std.proofs.Common.{◌≡◌, ℕ, zero, suc, ◌<◌, List, [], ◌∷◌, ◌++◌, Option, Some, refl, sym, subst, ◌∙◌, inl, inr, arith}
+use Rattle.std.specs.Prelude.{replicate}
 use Rattle.std.specs.List.{All}
 use Rattle.amd64_subset.specs.Beginning.{begins_of}
 use Rattle.amd64_subset.specs.Decoding.{end_branch_at, escaped_at, row_at, operated_at, body_at, instruction_at, decoded}
@@ -16,9 +17,9 @@ use Rattle.guest_machine.specs.declared.stop.Stop.TheVariants.{Returned, Address
 use Rattle.guest_machine.specs.Access.{fetch_of, load_of, store_of}
 use Rattle.guest_arithmetic.specs.Arithmetic.{product_fits, product_effect}
 use Rattle.guest_arithmetic.specs.Flags.{with_changes, condition_of}
-use Rattle.guest_machine.specs.Operand.{base_of, index_of, address_of, kept, carried, number_at, taken, put}
+use Rattle.guest_machine.specs.Operand.{base_of, index_of, address_of, kept, carried, number_at, taken_at, taken, put}
 use Rattle.guest_machine.specs.State.{register_of, with_register, start_of}
-use Rattle.guest_machine.specs.Step.{act, frame_of, move_of, move_in, stored, multiply_of, finished, return_of, jump_of, jump_if}
+use Rattle.guest_machine.specs.Step.{act, frame_of, move_of, move_in, stored, multiply_of, finished, pushed, push_of, call_of, return_of, jump_of, jump_if}
 use Rattle.job_meaning.specs.declared.values.Byte.TheVariants.{Value}
 use Rattle.guest_machine.specs.Touch.{touches_of, next_touches, touched}
 use Rattle.job_meaning.specs.Marked.{marked_operations}
@@ -57,7 +58,7 @@ line = record { symbol = []; a = 0; b = 0; c = 0 }
 
 -- thread 1 calls it, for at most so many steps, where the room begins at a place
 said : ℕ → ℕ → List ℕ → List Said
-unfolding meant_said meant_turns meant_accesses meaning meaning_step read_step reaches_linker next_touches touches_of touched hindrance completed begins_of end_branch_at escaped_at row_at operated_at body_at instruction_at decoded numbered_body operation_of operand_body signed_of rex_at prefixes_at numbers_at named_register number_of encoded_condition fixed_row_of row_of escaped_row_of arithmetic_of shift_of group_action takes allowed displacement_size memory_in sib_at selectors_at fetch_of load_of store_of space_accesses marked_operations register_of with_register start_of base_of index_of address_of kept carried number_at taken put product_fits product_effect with_changes condition_of move_of move_in stored multiply_of finished return_of jump_of jump_if act frame_of zeros owner_at threads_from
+unfolding meant_said meant_turns meant_accesses meaning meaning_step read_step reaches_linker next_touches touches_of touched hindrance completed begins_of end_branch_at escaped_at row_at operated_at body_at instruction_at decoded numbered_body operation_of operand_body signed_of rex_at prefixes_at numbers_at named_register number_of encoded_condition fixed_row_of row_of escaped_row_of arithmetic_of shift_of group_action takes allowed displacement_size memory_in sib_at selectors_at fetch_of load_of store_of space_accesses marked_operations register_of with_register start_of base_of index_of address_of kept carried number_at taken_at taken put product_fits product_effect with_changes condition_of move_of move_in stored multiply_of finished pushed push_of call_of return_of jump_of jump_if act frame_of zeros owner_at threads_from
 said room fuel code = meant_said Event room (loaded_by Value (image code) entry) 1 fuel line
 
 abbrev ends : Stop → List Said
@@ -94,6 +95,22 @@ goes_on = refl
 goes_nowhere : said 0x402000 1 (0x48 ∷ []) ≡ ends (Code 0x400000)
 unfolding said
 goes_nowhere = refl
+
+-- a page of code: 4,095 nops and a REX prefix, at which the call begins, right before the room
+page : meant_said Event 0x401000 (loaded_by Value (record (image (replicate 4095 0x90 ++ 0x48 ∷ [])) { constants = record { place = 0x400000; bytes = [] }; initial = record { place = 0x400000; bytes = [] } })
+    (λ symbol. Some 0x400fff)) 1 1 line ≡ ends (Code 0x400fff)
+unfolding said
+page = refl
+
+-- push %rax, whose eight bytes are no room's: the stack is the thread's
+pushes : said 0x402000 3 (0x50 ∷ 0xc3 ∷ []) ≡ ends (Code 0)
+unfolding said
+pushes = refl
+
+-- call *0x402000: a target in the room is its cause, not the push behind it
+calls_room : said 0x402000 1 (0xff ∷ 0x14 ∷ 0x25 ∷ 0x00 ∷ 0x20 ∷ 0x40 ∷ 0x00 ∷ []) ≡ ends (Unclean 0x400000 Linker)
+unfolding said
+calls_room = refl
 
 -- mov 0x402000, %eax: the first byte of the room
 reads_room : said 0x402000 1 (0x8b ∷ 0x04 ∷ 0x25 ∷ 0x00 ∷ 0x20 ∷ 0x40 ∷ 0x00 ∷ []) ≡ ends (Unclean 0x400000 Linker)

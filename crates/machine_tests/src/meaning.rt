@@ -1,5 +1,7 @@
-use crate::{Block, MarkedValues, Token, Word};
+//! Marked values: what is carried whole, and what a field moves.
+
 use guest_arithmetic::{Cause, Four, Values};
+use job_meaning::{Block, MarkedValues, Token, Word};
 
 /// A word as it is stored and loaded again.
 fn stored_and_loaded<V: Values>(word: V::Word) -> V::Word {

@@ -1,7 +1,13 @@
-use crate::memory::GuestMemory;
-use crate::range::{GuestRange, Rights};
+//! Calls that the machine runs over a memory of ranges, and how they stop.
+
+mod processor;
+mod rows;
+
 use guest_arithmetic::Plain;
-use guest_machine::{GET_ADDRESS, Machine, RETURN, Space, Stop};
+use guest_machine::{
+    Direction, GET_ADDRESS, Machine, RETURN, Size, Space, Stop, Touch, Touches,
+};
+use guest_memory::{GuestMemory, GuestRange, Rights};
 use std::alloc::Global;
 use std::test::Fail;
 
@@ -9,19 +15,19 @@ const CODE: u64 = 0x40_0000;
 
 const STACK: u64 = 0x7f_0000;
 
-pub(crate) const RUNNABLE: Rights = Rights {
+const RUNNABLE: Rights = Rights {
     readable: true,
     writable: false,
     runnable: true,
 };
 
-pub(crate) const WRITABLE: Rights = Rights {
+const WRITABLE: Rights = Rights {
     readable: true,
     writable: true,
     runnable: false,
 };
 
-pub(crate) fn add(memory: &mut GuestMemory<u8>, range: GuestRange<u8>) -> Result<(), &'static str> {
+fn add(memory: &mut GuestMemory<u8>, range: GuestRange<u8>) -> Result<(), &'static str> {
     memory.add_range(range).ok().ok_or("memory")
 }
 
@@ -120,5 +126,46 @@ fn fields_are_told(rt: HostRuntime) -> Result<(), Fail> {
     memory.add_field(CODE + 3).ok().ok_or("memory")?;
     assert!(rt; <GuestMemory<u8> as Space<Plain>>::is_field(&memory, CODE + 3));
     assert!(rt; !<GuestMemory<u8> as Space<Plain>>::is_field(&memory, CODE + 4));
+    Ok(())
+}
+
+/// What the instruction of these bytes touches, in a call with 3, 5 and 7.
+fn touches(alloc: Global, code: &[u8]) -> Result<Touches, Fail> {
+    let memory = with_code(alloc, code)?;
+    let machine: Machine<Plain> = Machine::start(CODE, STACK, 3, 5, 7);
+    Ok(machine.touches(&memory))
+}
+
+#[test]
+fn what_is_touched(rt: HostRuntime) -> Result<(), Fail> {
+    // call *8(%rdi): its target is loaded, then the return address is pushed
+    let call = touches(rt.alloc(), &[0xff, 0x57, 8])?;
+    let load = Touch {
+        direction: Direction::Load,
+        size: Size::Quad,
+        address: 11,
+    };
+    let push = Touch {
+        direction: Direction::Store,
+        size: Size::Quad,
+        address: STACK - 8,
+    };
+    assert_eq!(rt; call.first, Some(load));
+    assert_eq!(rt; call.second, Some(push));
+    // mov %ecx, (%rsi)
+    let store = touches(rt.alloc(), &[0x89, 0x0e])?;
+    let long = Touch {
+        direction: Direction::Store,
+        size: Size::Long,
+        address: 5,
+    };
+    assert_eq!(rt; store.first, Some(long));
+    assert_eq!(rt; store.second, None);
+    // lea (%rsi), %rax, and no instruction
+    for code in [&[0x48, 0x8d, 0x06], &[0x0f, 0xff, 0xff]] {
+        let none = touches(rt.alloc(), code)?;
+        assert_eq!(rt; none.first, None);
+        assert_eq!(rt; none.second, None);
+    }
     Ok(())
 }

@@ -1,11 +1,10 @@
 //! The machine against the processor.
 
-use crate::memory::GuestMemory;
-use crate::range::GuestRange;
-use crate::rows::{ROWS_1, ROWS_2, ROWS_3, ROWS_4};
-use crate::tests::{RUNNABLE, WRITABLE, add};
+use super::rows::{ROWS_1, ROWS_2, ROWS_3, ROWS_4};
+use super::{RUNNABLE, WRITABLE, add};
 use guest_arithmetic::Plain;
 use guest_machine::{Machine, RETURN, Size, Space, Stop};
+use guest_memory::{GuestMemory, GuestRange};
 use std::alloc::{AllocError, Global};
 use std::process::Abort;
 use std::test::Fail;
