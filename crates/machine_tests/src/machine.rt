@@ -4,9 +4,7 @@ mod processor;
 mod rows;
 
 use guest_arithmetic::Plain;
-use guest_machine::{
-    Direction, GET_ADDRESS, Machine, RETURN, Size, Space, Stop, Touch, Touches,
-};
+use guest_machine::{Direction, GET_ADDRESS, Machine, RETURN, Size, Space, Stop, Touch, Touches};
 use guest_memory::{GuestMemory, GuestRange, Rights};
 use std::alloc::Global;
 use std::test::Fail;
