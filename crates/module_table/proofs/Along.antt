@@ -1,11 +1,10 @@
 -- What each kind of event keeps, every legal history keeps.
-use Rattle.std.proofs.Common.{◌≡◌, ℕ, ◌+◌, ◌-◌, ◌<◌, ◌≤◌, Bool, true, false, List, [], ◌∷◌, Some, None, sym, refl, ap, ◌∙◌, subst, arith, inl, inr}
-use Rattle.std.specs.Prelude.{if◌then◌else◌, ◌&&◌}
+use Rattle.std.proofs.Common.{◌≡◌, ℕ, ◌<◌, true, List, [], ◌∷◌, inl, inr}
 use Rattle.std.proofs.lemmas.Bool.{cases_Bool, and_parts}
 use Rattle.module_table.specs.declared.modules.ImageInfo.{ImageInfo}
 use Rattle.module_table.specs.declared.events.Event.{Event}
 use Rattle.module_table.specs.Modules.{is_loaded}
-use Rattle.module_table.specs.Past.{Past, module_of, start, past, after_one, after, opened, loaded, retained, released, open_refusal, close_refusal, accepts, is_legal}
+use Rattle.module_table.specs.Past.{Past, module_of, start, past, after_one, after, opened, loaded, retained, released, accepts, is_legal}
 use Rattle.module_table.specs.History.{IsLegal}
 use Rattle.module_table.specs.Tables.{IsPast, CanLoad}
 use Rattle.module_table.proofs.Refusals.{can_load, held, accepts_open, accepts_close}

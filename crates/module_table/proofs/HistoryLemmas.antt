@@ -1,19 +1,16 @@
 -- One event more, and what a registry answers.
-use Rattle.std.proofs.Common.{◌≡◌, ℕ, ◌+◌, ◌<◌, ◌≤◌, Bool, true, false, List, [], ◌∷◌, ◌++◌, length, Option, Some, None, Result, Ok, Err, sym, refl, ap, ◌∙◌, subst, arith}
-use Rattle.std.specs.Prelude.{◌&&◌, not, nat_lt, nat_le, is_none, if◌then◌else◌, IsOk}
+use Rattle.std.proofs.Common.{◌≡◌, ℕ, Bool, true, false, List, [], ◌∷◌, ◌++◌, length, Option, Some, None, Ok, sym, refl}
+use Rattle.std.specs.Prelude.{◌&&◌, not, nat_lt, nat_le, if◌then◌else◌}
 use Rattle.module_table.specs.declared.TheConstants.{MOST_INSTANCES}
 use Rattle.module_table.specs.declared.modules.ImageInfo.{ImageInfo}
-use Rattle.module_table.specs.declared.modules.Module.{Module}
 use Rattle.module_table.specs.declared.events.Event.{Event}
-use Rattle.module_table.specs.declared.events.Opened.{Opened}
-use Rattle.module_table.specs.declared.events.Closed.{Closed}
 use Rattle.module_table.specs.declared.events.OpenRefusal.{OpenRefusal}
 use Rattle.module_table.specs.declared.events.OpenRefusal.TheVariants.{Unknown, Full, StaticFull, OutOfMemory as NoRoomToOpen}
 use Rattle.module_table.specs.declared.events.CloseRefusal.{CloseRefusal}
 use Rattle.module_table.specs.declared.events.CloseRefusal.TheVariants.{Permanent, NotOpen, OutOfMemory as NoRoomToClose}
 use Rattle.module_table.specs.Modules.{is_loaded, is_permanent}
-use Rattle.module_table.specs.Past.{Past, module_of, start, past, after_one, opened, released, open_refusal, close_refusal, next_offset, accepts, is_legal}
-use Rattle.module_table.specs.History.{History, left, IsLegal, IsSame, Adds, opened_of, closed_of, open_answer, close_answer, unless, OpenRefused, CloseRefused}
+use Rattle.module_table.specs.Past.{Past, module_of, start, past, after_one, open_refusal, close_refusal, next_offset, accepts}
+use Rattle.module_table.specs.History.{History, left, IsLegal, Adds, opened_of, closed_of, open_answer, close_answer, OpenRefused, CloseRefused}
 use Rattle.module_table.specs.Walks.{past-append, legal_push}
 
 pub past_more : (infos : List ImageInfo) (last_offset : ℕ) (events : List Event) (e : Event) → past infos last_offset (events ++ e ∷ []) ≡ after_one (past infos last_offset events) e

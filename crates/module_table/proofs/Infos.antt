@@ -1,11 +1,10 @@
 -- What the infos bound.
-use Rattle.std.proofs.Common.{◌≡◌, ℕ, ◌<◌, ◌≤◌, ◌+◌, ◌-◌, ◌%◌, ◌^◌, length, get_or, sym, refl, subst, arith, inl, inr, lit≤, lit<}
-use Rattle.std.specs.Int.{next_multiple_of}
+use Rattle.std.proofs.Common.{ℕ, length, sym, subst, arith, inl, inr}
 use Rattle.std.proofs.lemmas.Bool.{cases_lt}
 use Rattle.std.proofs.lemmas.List.{get_or_past}
 use Rattle.module_table.specs.declared.modules.Module.{Module}
 use Rattle.module_table.specs.Modules.{no_module, IsInfo}
-use Rattle.module_table.specs.Past.{Past, module_of, next_offset}
+use Rattle.module_table.specs.Past.{Past, module_of}
 use Rattle.module_table.specs.Tables.{IsPast}
 
 pub info_of : (p : Past) (image : ℕ) → IsPast p → IsInfo (module_of p image).info

@@ -1,11 +1,11 @@
 -- Static blocks lie one past the other.
-use Rattle.std.proofs.Common.{◌≡◌, ◌≢◌, ℕ, zero, suc, ◌+◌, ◌-◌, ◌%◌, ◌^◌, ◌<◌, ◌≤◌, Bool, true, false, cond, List, [], ◌∷◌, ◌++◌, length, get_or, Some, None, sym, refl, ap, ◌∙◌, subst, arith, inl}
+use Rattle.std.proofs.Common.{◌≡◌, ◌≢◌, ℕ, zero, suc, ◌+◌, ◌-◌, ◌^◌, ◌<◌, ◌≤◌, Bool, true, false, List, [], ◌∷◌, ◌++◌, length, get_or, Some, None, sym, refl, ap, ◌∙◌, subst, arith, inl}
 use Rattle.std.proofs.Common.{inr, ◌⊎◌}
 use Rattle.std.proofs.Math.ListN.{set}
-use Rattle.std.specs.Prelude.{if◌then◌else◌, ◌&&◌, ◌==◌, not, All, AllPairs, unwrap_or}
+use Rattle.std.specs.Prelude.{if◌then◌else◌, ◌&&◌, not, All, AllPairs, unwrap_or}
 use Rattle.std.specs.Int.{next_multiple_of}
-use Rattle.std.proofs.lemmas.Bool.{cases_Bool, cases_eq, both_ways, and_parts, and_from, ltb-false, lt-ltb}
-use Rattle.std.proofs.lemmas.List.{get_or-set_same, get_or-set_other, get_or_past}
+use Rattle.std.proofs.lemmas.Bool.{cases_Bool, cases_eq, and_parts, lt-ltb}
+use Rattle.std.proofs.lemmas.List.{get_or-set_same, get_or-set_other}
 use Rattle.std.proofs.lemmas.List.Elements.{All-cons, All-nil}
 use Rattle.std.proofs.lemmas.Option.{same_Some, none-some}
 use Rattle.module_table.specs.declared.TheConstants.{SURPLUS}
@@ -16,7 +16,7 @@ use Rattle.module_table.specs.Modules.{AreInfos, is_loaded, no_module}
 use Rattle.module_table.specs.Past.{Past, module_of, start, past, after_one, after, opened, loaded, retained, released, with_uses, new_instance, next_offset, accepts, is_legal, first_module}
 use Rattle.module_table.specs.Past.{first_modules}
 use Rattle.module_table.specs.History.{IsLegal}
-use Rattle.module_table.specs.Laws.{loads, Block, Covers, AreApart, startup_blocks, startup_end, surplus_blocks, BlocksAreApart, BlocksFit, block_of, InstancesAreApart}
+use Rattle.module_table.specs.Laws.{loads, Block, AreApart, startup_blocks, startup_end, surplus_blocks, BlocksAreApart, BlocksFit, block_of, InstancesAreApart}
 use Rattle.module_table.specs.Tables.{IsPast, CanLoad}
 use Rattle.module_table.proofs.Refusals.{can_load, accepts_open}
 use Rattle.module_table.proofs.Starting.{past_start}

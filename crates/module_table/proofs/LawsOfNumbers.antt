@@ -1,9 +1,8 @@
 -- Opens and closes balance; instances and ids.
-use Rattle.std.proofs.Common.{◌≡◌, ◌≢◌, ℕ, ◌+◌, ◌-◌, ◌<◌, ◌≤◌, Bool, true, false, cond, eqb, List, [], ◌∷◌, length, get_or, Some, None, sym, refl, ap, ◌∙◌, subst, arith, inl, inr}
+use Rattle.std.proofs.Common.{◌≡◌, ◌≢◌, ℕ, ◌+◌, ◌-◌, ◌<◌, ◌≤◌, true, false, cond, List, [], ◌∷◌, length, get_or, sym, refl, ap, ◌∙◌, subst, arith, inl, inr}
 use Rattle.std.proofs.Math.ListN.{set}
-use Rattle.std.specs.Prelude.{if◌then◌else◌, ◌&&◌, ◌==◌, not, count_by, nat_lt}
-use Rattle.std.specs.List.{list_any}
-use Rattle.std.proofs.lemmas.Bool.{cases_Bool, cases_eq, both_ways, and_parts, and_from, eq-eqb, ne_eqb, ltb-true, ltb-false, lt-ltb}
+use Rattle.std.specs.Prelude.{if◌then◌else◌, ◌&&◌, ◌==◌, not}
+use Rattle.std.proofs.lemmas.Bool.{cases_Bool, cases_eq, both_ways, and_parts, and_from, eq-eqb, ne_eqb, ltb-false, lt-ltb}
 use Rattle.std.proofs.lemmas.List.{get_or-set_same, get_or-set_other}
 use Rattle.std.proofs.lemmas.List.Folds.{list_any_at}
 use Rattle.std.proofs.lemmas.List.Sums.{sum_by-cons}
@@ -11,8 +10,8 @@ use Rattle.module_table.specs.declared.modules.ImageInfo.{ImageInfo}
 use Rattle.module_table.specs.declared.modules.Module.{Module}
 use Rattle.module_table.specs.declared.events.Event.{Event}
 use Rattle.module_table.specs.Modules.{AreInfos, is_loaded, no_module}
-use Rattle.module_table.specs.Past.{Past, module_of, has_id, start, startup_count, past, after_one, after, opened, loaded, retained, released, with_uses, new_instance, least_free, IsLeastFree}
-use Rattle.module_table.specs.Past.{open_refusal, close_refusal, accepts, is_legal}
+use Rattle.module_table.specs.Past.{Past, module_of, has_id, start, past, after_one, after, opened, loaded, retained, released, with_uses, new_instance, least_free}
+use Rattle.module_table.specs.Past.{accepts, is_legal}
 use Rattle.module_table.specs.History.{IsLegal}
 use Rattle.module_table.specs.Laws.{opens_of, closes_of, Balances, loads, load_count, CountsInstances, HaveOwnNumbers, LoadsTakeLeastId}
 use Rattle.module_table.specs.Tables.{IsPast, CanLoad}

@@ -1,13 +1,13 @@
 -- The least free id: that it is free, that it is the least, that it is at most 64 where an image is not loaded, and that it is
 -- one more than the lowest mark that is not set.
-use Rattle.std.proofs.Common.{◌≡◌, ◌≢◌, ℕ, zero, suc, ◌+◌, ◌-◌, ◌^◌, ◌<◌, ◌≤◌, Bool, true, false, cond, eqb, ltb, List, [], ◌∷◌, length, get_or, sym, refl, ap, ◌∙◌, subst, arith, rules, inl, inr}
+use Rattle.std.proofs.Common.{◌≡◌, ℕ, zero, suc, ◌+◌, ◌-◌, ◌<◌, ◌≤◌, Bool, true, false, cond, List, [], ◌∷◌, length, refl, subst, arith, inl, inr}
 use Rattle.std.proofs.Common.{◌⊎◌}
-use Rattle.std.specs.Prelude.{◌&&◌, ◌||◌, ◌==◌, if◌then◌else◌, count_by}
+use Rattle.std.specs.Prelude.{◌||◌, ◌==◌, count_by}
 use Rattle.std.specs.List.{list_any}
-use Rattle.std.proofs.lemmas.Bool.{cases_Bool, cases_lt, cases_order, both_ways, and_parts, or_cases, or_left, or_right, eqb-true, ne_eqb, and_right}
-use Rattle.std.proofs.lemmas.List.Sums.{count_by-le-length, sum_by-cons}
+use Rattle.std.proofs.lemmas.Bool.{cases_Bool, cases_lt, cases_order, both_ways, and_parts, eqb-true, ne_eqb, and_right}
+use Rattle.std.proofs.lemmas.List.Sums.{sum_by-cons}
 use Rattle.module_table.specs.declared.modules.Module.{Module}
-use Rattle.module_table.specs.Modules.{no_module, is_loaded}
+use Rattle.module_table.specs.Modules.{is_loaded}
 use Rattle.module_table.specs.Past.{has_id, least_from, least_free, IsLeastFree}
 
 one : Bool → ℕ

@@ -1,5 +1,5 @@
 -- A table that finds each loaded image under its key answers which image has a key.
-use Rattle.std.proofs.Common.{◌≡◌, ◌≢◌, ℕ, ◌<◌, ◌≤◌, Bool, true, false, cond, eqb, ltb, List, length, get_or, Option, Some, None, sym, refl, ap, ◌∙◌, subst, arith, rules, inl, inr, ◌⊎◌}
+use Rattle.std.proofs.Common.{◌≡◌, ℕ, ◌<◌, Bool, true, false, cond, List, length, get_or, Option, Some, None, sym, refl, ap, ◌∙◌, subst, arith, inl, inr}
 use Rattle.std.specs.Prelude.{◌&&◌, ◌==◌, if◌then◌else◌, position, slice_get, slice_index, slice_index_or, option_map, unwrap_or}
 use Rattle.std.specs.List.{position_or_len}
 use Rattle.std.proofs.lemmas.Bool.{false_from_ne_true, cases_Bool, cases_lt, both_ways, and_parts, eqb-true, lt-ltb, le-ltb}
@@ -8,7 +8,7 @@ use Rattle.std.proofs.lemmas.Option.{get_or_from_slice_get, unwrap_or-slice_get}
 use Rattle.std.proofs.lemmas.List.Sums.{position_or_len_is}
 use Rattle.module_table.specs.declared.modules.Module.{Module}
 use Rattle.module_table.specs.Modules.{no_module, is_loaded}
-use Rattle.module_table.specs.Past.{Past, has_instance, has_id, module_of, image_of, instance_of}
+use Rattle.module_table.specs.Past.{Past, has_id, module_of, image_of, instance_of}
 use Rattle.module_table.specs.Tables.{Finds, IsTheImage, IsTheImageUnder}
 
 index_at : {X : Type 0} (p : X → Bool) (xs : List X) (i : ℕ) (d : X) → p d ≡ false → ((k : ℕ) → p (get_or xs k d) ≡ true → k ≡ i) → p (get_or xs i d) ≡ true → position p xs ≡ Some i

@@ -1,9 +1,8 @@
 -- What an accepted event may rely on.
-use Rattle.std.proofs.Common.{◌≡◌, ℕ, ◌+◌, ◌<◌, ◌≤◌, Bool, true, false, Option, Some, None, sym, refl, subst, arith}
+use Rattle.std.proofs.Common.{◌≡◌, ℕ, ◌<◌, Bool, true, false, Option, Some, None, refl}
 use Rattle.std.specs.Prelude.{◌&&◌, not, nat_lt, nat_le, is_none, if◌then◌else◌}
 use Rattle.std.proofs.lemmas.Bool.{leb-false, ltb-false, ltb-true, false≢true}
 use Rattle.module_table.specs.declared.TheConstants.{MOST_INSTANCES}
-use Rattle.module_table.specs.declared.modules.Module.{Module}
 use Rattle.module_table.specs.declared.events.Event.{Event}
 use Rattle.module_table.specs.declared.events.OpenRefusal.{OpenRefusal}
 use Rattle.module_table.specs.declared.events.OpenRefusal.TheVariants.{Unknown, Full, StaticFull}

@@ -1,18 +1,10 @@
 -- The steps of the loops that make the tables.
-use Rattle.std.proofs.Common.{◌≡◌, ℕ, suc, ◌+◌, ◌<◌, ◌≤◌, Bool, true, false, List, [], ◌∷◌, ◌++◌, length, get_or, take, sym, refl, ap, ◌∙◌, subst, arith, inl, inr}
-use Rattle.std.specs.Prelude.{◌||◌, ◌&&◌, ◌==◌, if◌then◌else◌, slice_index, All}
-use Rattle.std.specs.Int.{bit_at}
-use Rattle.std.specs.List.{list_any}
-use Rattle.std.proofs.lemmas.Bool.{cases_Bool, cases_eq, eq-eqb, ne_eqb, and_left, and_right, and_from, or_right}
-use Rattle.std.proofs.lemmas.List.{take_more, get_or_push, get_or_append_left, length-take-le}
-use Rattle.std.proofs.lemmas.List.Folds.{list_any_more}
-use Rattle.std.proofs.lemmas.Nat.Bits.{bit_at-zero}
+use Rattle.std.proofs.Common.{◌≡◌, ℕ, suc, ◌+◌, ◌<◌, List, [], ◌∷◌, ◌++◌, length, get_or, take, sym, refl, ap, ◌∙◌, arith}
+use Rattle.std.proofs.lemmas.List.{take_more, length-take-le}
 use Rattle.module_table.specs.declared.modules.ImageInfo.{ImageInfo}
 use Rattle.module_table.specs.declared.modules.Module.{Module}
-use Rattle.module_table.specs.Modules.{is_loaded, no_module}
-use Rattle.module_table.specs.Marks.{AddsId}
-use Rattle.module_table.specs.Past.{has_id, first_module, first_modules}
-use Rattle.module_table.specs.Start.{HasSmallId, MarksIds}
+use Rattle.module_table.specs.Modules.{no_module}
+use Rattle.module_table.specs.Past.{first_module, first_modules}
 
 first_modules-push : (infos : List ImageInfo) (info : ImageInfo) (image : ℕ) → first_modules (infos ++ info ∷ []) image ≡ first_modules infos image ++ first_module info (image + length infos) ∷ []
 first_modules-push [] info image = ap (λ (n : ℕ). first_module info n ∷ []) (omega arith)

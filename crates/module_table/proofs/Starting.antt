@@ -1,17 +1,17 @@
 -- The tables before any event are those of the start.
-use Rattle.std.proofs.Common.{◌≡◌, ◌≢◌, ℕ, zero, suc, ◌+◌, ◌-◌, ◌^◌, ◌<◌, ◌≤◌, Bool, true, false, cond, List, [], ◌∷◌, length, get_or, None, sym, refl, ap, ◌∙◌, subst, arith, inl, inr}
-use Rattle.std.specs.Prelude.{not, slice_index, slice_index_or, count_by, All, AllPairs, nat_lt}
+use Rattle.std.proofs.Common.{◌≡◌, ℕ, zero, suc, ◌+◌, ◌^◌, ◌<◌, ◌≤◌, true, false, cond, List, [], ◌∷◌, length, get_or, sym, refl, ap, ◌∙◌, subst, arith, inl, inr}
+use Rattle.std.specs.Prelude.{not, slice_index, All, AllPairs}
 use Rattle.std.proofs.lemmas.Bool.{cases_Bool, cases_lt, both_ways, true≢false}
 use Rattle.std.proofs.lemmas.List.{get_or_past}
 use Rattle.std.proofs.lemmas.List.Elements.{All-cons, All-nil, All-from_get_or}
 use Rattle.std.proofs.lemmas.List.Sums.{sum_by-cons, count_by-le-length}
-use Rattle.module_table.specs.declared.TheConstants.{MOST_INSTANCES, MOST_IDS, SURPLUS}
+use Rattle.module_table.specs.declared.TheConstants.{MOST_INSTANCES, MOST_IDS}
 use Rattle.module_table.specs.declared.modules.ImageInfo.{ImageInfo}
 use Rattle.module_table.specs.declared.modules.Module.{Module}
 use Rattle.module_table.specs.Modules.{IsInfo, AreInfos, no_module, is_loaded}
-use Rattle.module_table.specs.Past.{Past, module_of, first_module, first_modules, startup_count, start}
+use Rattle.module_table.specs.Past.{first_module, first_modules, startup_count, start}
 use Rattle.module_table.specs.Start.{HasSmallId, MarksIds}
-use Rattle.module_table.specs.Tables.{IsPast, IsNumbered, Finds, AreTables}
+use Rattle.module_table.specs.Tables.{IsPast, IsNumbered, AreTables}
 use Rattle.module_table.proofs.StartLemmas.{length-first_modules}
 
 -- a startup image's number is at most the number of startup images, where late ones are last

@@ -1,20 +1,20 @@
 -- One event keeps the tables.
-use Rattle.std.proofs.Common.{◌≡◌, ◌≢◌, ℕ, ◌+◌, ◌-◌, ◌^◌, ◌<◌, ◌≤◌, Bool, true, false, cond, eqb, List, length, get_or, Some, None, sym, refl, ap, ◌∙◌, subst, arith, inl, inr, ◌⊎◌}
+use Rattle.std.proofs.Common.{◌≡◌, ◌≢◌, ℕ, ◌+◌, ◌-◌, ◌<◌, ◌≤◌, Bool, true, false, List, length, get_or, sym, refl, ap, ◌∙◌, subst, arith, inl, inr}
 use Rattle.std.proofs.Math.ListN.{set}
-use Rattle.std.specs.Prelude.{◌&&◌, ◌==◌, nat_lt, if◌then◌else◌, count_by, slice_index, slice_index_or, slice_set, unwrap_or}
+use Rattle.std.specs.Prelude.{◌==◌, if◌then◌else◌, slice_index, unwrap_or}
 use Rattle.std.specs.Int.{bit_at}
-use Rattle.std.specs.List.{list_any, All}
-use Rattle.std.proofs.lemmas.Bool.{cases_Bool, cases_eq, cases_lt, both_ways, and_parts, and_from, and_right, and_left, false_from_ne_true, eqb-true, eq-eqb, ne_eqb, ltb-true, ltb-false, lt-ltb}
+use Rattle.std.specs.List.{list_any}
+use Rattle.std.proofs.lemmas.Bool.{cases_Bool, cases_eq, cases_lt, both_ways, and_parts, and_from, and_right, and_left, false_from_ne_true, eqb-true, eq-eqb, ne_eqb, lt-ltb}
 use Rattle.std.proofs.lemmas.Bool.{false≢true}
 use Rattle.std.proofs.lemmas.List.{get_or_past, get_or-set_same, get_or-set_other, length-set}
-use Rattle.std.proofs.lemmas.List.Elements.{All-set, All-from_get_or, All-weaker}
+use Rattle.std.proofs.lemmas.List.Elements.{All-set, All-from_get_or}
 use Rattle.std.proofs.lemmas.List.Folds.{list_any_none, list_any_at}
 use Rattle.module_table.specs.declared.TheConstants.{MOST_INSTANCES}
 use Rattle.module_table.specs.declared.modules.Module.{Module}
 use Rattle.module_table.specs.Modules.{IsInfo, no_module, is_loaded}
-use Rattle.module_table.specs.Past.{Past, module_of, has_id, has_instance, least_free, IsLeastFree, new_instance, next_offset, loaded, retained, released, with_uses}
+use Rattle.module_table.specs.Past.{Past, module_of, has_id, least_free, IsLeastFree, new_instance, loaded, retained, released, with_uses}
 use Rattle.module_table.specs.Marks.{AddsId, RemovesId, HasRoom, IsLeastAbsent}
-use Rattle.module_table.specs.Start.{HasSmallId, MarksIds}
+use Rattle.module_table.specs.Start.{MarksIds}
 use Rattle.module_table.specs.Tables.{IsPast, IsNumbered, Finds, AreTables, CanLoad, HasFreeId}
 use Rattle.module_table.proofs.LeastId.{least_free_is, least_free_le, same_least}
 use Rattle.module_table.proofs.Infos.{info_of}

@@ -1,6 +1,6 @@
 -- What every history keeps, in words that know nothing of its walk's steps.
 use Rattle.std.specs.Prelude.{◌≡◌, ◌≢◌, ◌+◌, ◌<◌, ◌≤◌, ◌==◌, ℕ, Bool, true, false, not, ◌&&◌, if◌then◌else◌, List, []}
-use Rattle.std.specs.Prelude.{◌∷◌, ◌++◌, count_by, All, AllPairs, Contains, Some, None}
+use Rattle.std.specs.Prelude.{◌∷◌, ◌++◌, count_by, All, AllPairs, Some, None}
 use Rattle.std.specs.Int.{next_multiple_of}
 use Rattle.module_table.specs.declared.TheConstants.{SURPLUS}
 use Rattle.module_table.specs.declared.modules.ImageInfo.{ImageInfo}
@@ -9,7 +9,6 @@ use Rattle.module_table.specs.declared.events.Event.{Event}
 use Rattle.module_table.specs.Modules.{is_loaded}
 use Rattle.module_table.specs.Past.{Past, module_of, startup_count, start, past, after_one, opened, open_refusal}
 use Rattle.module_table.specs.Past.{live, next_offset, IsLeastFree}
-use Rattle.module_table.specs.History.{IsLegal}
 
 -- ---- opens and closes
 

@@ -1,5 +1,5 @@
 -- A set of module ids from 1 to 64, as the bits of a word: bit k stands for the id k + 1.
-use Rattle.std.specs.Prelude.{◌≡◌, ◌≤◌, ◌<◌, ◌+◌, ◌-◌, ◌^◌, ◌==◌, ℕ, if◌then◌else◌}
+use Rattle.std.specs.Prelude.{◌≡◌, ◌≤◌, ◌<◌, ◌+◌, ◌-◌, ◌==◌, ℕ, if◌then◌else◌}
 use Rattle.std.specs.Int.{bit_at}
 
 -- an id is not in the set

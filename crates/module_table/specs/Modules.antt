@@ -1,6 +1,6 @@
 -- One image: what must hold of it at the start, and how its state is read.
-use Rattle.std.specs.Prelude.{◌≡◌, ◌≤◌, ◌<◌, ◌^◌, ℕ, Bool, true, false, not, nat_lt, ◌&&◌, None, List, length, All}
-use Rattle.std.specs.Prelude.{AllPairs, IsTrue}
+use Rattle.std.specs.Prelude.{◌≡◌, ◌≤◌, ◌<◌, ◌^◌, Bool, true, false, not, nat_lt, ◌&&◌, None, List, length, All}
+use Rattle.std.specs.Prelude.{AllPairs}
 use Rattle.module_table.specs.declared.modules.ImageInfo.{ImageInfo}
 use Rattle.module_table.specs.declared.modules.Module.{Module}
 

@@ -3,7 +3,7 @@
 -- "ELF Handling For Thread-Local Storage", section 3: blocks that start with the program lie below the thread pointer
 -- (variant II), and a late module may ask for one there by `DF_STATIC_TLS` (gABI, "Dynamic Section"). How many bytes
 -- are kept for those, and that none is given twice, is this linker's own rule.
-use Rattle.std.specs.Prelude.{◌≡◌, ◌≢◌, ◌==◌, ◌+◌, ◌-◌, ◌<◌, ◌≤◌, ℕ, Bool, true, false, not, ◌&&◌, nat_lt, nat_le}
+use Rattle.std.specs.Prelude.{◌≡◌, ◌==◌, ◌+◌, ◌-◌, ◌<◌, ◌≤◌, ℕ, Bool, true, false, not, ◌&&◌, nat_lt, nat_le}
 use Rattle.std.specs.Prelude.{zero, suc, if◌then◌else◌, List, [], ◌∷◌, length, slice_index_or, slice_set, fold}
 use Rattle.std.specs.Prelude.{count_by, position, Option, Some, None, is_some, is_none, option_map, option_and_then}
 use Rattle.std.specs.Prelude.{unwrap_or}

@@ -1,8 +1,6 @@
 -- What the tables of the code hold, and how they stand to what a history leaves.
-use Rattle.std.specs.Prelude.{◌≡◌, ◌≤◌, ◌<◌, ◌+◌, ◌^◌, ℕ, count_by, Bool, true, false, if◌then◌else◌, List, length}
+use Rattle.std.specs.Prelude.{◌≡◌, ◌≤◌, ◌<◌, ◌+◌, ◌^◌, ℕ, count_by, true, false, if◌then◌else◌, List, length}
 use Rattle.std.specs.Prelude.{All, slice_index, slice_index_or, Option, Some, None}
-use Rattle.std.specs.Int.{bit_at}
-use Rattle.std.specs.List.{list_any}
 use Rattle.module_table.specs.declared.TheConstants.{MOST_INSTANCES, MOST_IDS}
 use Rattle.module_table.specs.declared.modules.Module.{Module}
 use Rattle.module_table.specs.declared.table.ModuleTable.TheInside.{Inside}

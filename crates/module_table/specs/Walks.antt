@@ -1,9 +1,9 @@
 -- Laws of walks along a list of events, for this crate and those above it.
-use Rattle.std.specs.Prelude.{◌≡◌, ◌+◌, ◌<◌, ◌≤◌, ℕ, Bool, true, false, ◌&&◌, if◌then◌else◌, List, [], ◌∷◌, ◌++◌}
-use Rattle.std.specs.Prelude.{length, take, drop, slice_index_or, refl}
-use Rattle.std.proofs.Common.{sym, ◌∙◌, ap, subst, arith, suc, get_or}
+use Rattle.std.specs.Prelude.{◌≡◌, ◌+◌, ◌<◌, ℕ, Bool, true, false, ◌&&◌, if◌then◌else◌, List, [], ◌∷◌, ◌++◌}
+use Rattle.std.specs.Prelude.{length, take, drop, refl}
+use Rattle.std.proofs.Common.{sym, ◌∙◌, ap, arith, get_or}
 use Rattle.std.proofs.lemmas.Bool.{and_parts, and_from}
-use Rattle.std.proofs.lemmas.List.{take-append-drop, drop_more, append_assoc}
+use Rattle.std.proofs.lemmas.List.{take-append-drop, drop_more}
 use Rattle.module_table.specs.declared.modules.ImageInfo.{ImageInfo}
 use Rattle.module_table.specs.declared.events.Event.{Event}
 use Rattle.module_table.specs.Modules.{is_loaded}

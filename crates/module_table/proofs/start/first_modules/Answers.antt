@@ -1,5 +1,5 @@
 -- The next image stands at the next number.
-use Rattle.std.proofs.Common.{◌≡◌, ◌+◌, ◌<◌, ◌∙◌, arith}
+use Rattle.std.proofs.Common.{◌≡◌, ◌+◌, ◌∙◌, arith}
 use Rattle.module_table.proofs.StartLemmas.{first_modules_more}
 use Rattle.module_table.proofs.start.first_modules.Goals as goal
 

@@ -1,5 +1,5 @@
 -- The history and one event that is accepted after it, and the tables of both.
-use Rattle.std.proofs.Common.{◌≡◌, ℕ, List, ◌∷◌, [], ◌++◌, length, true, ◌∙◌, subst, refl, sym, ap, arith}
+use Rattle.std.proofs.Common.{◌≡◌, List, length, true, ◌∙◌, subst, sym, ap, arith}
 use Rattle.module_table.specs.declared.events.Event.{Event}
 use Rattle.module_table.specs.Past.{Past, past, accepts, after_one}
 use Rattle.module_table.specs.History.{History, left, IsLegal}

@@ -1,9 +1,9 @@
 -- No event is legal, and leaves the start.
-use Rattle.std.proofs.Common.{◌≡◌, ℕ, List, ◌∙◌, subst, refl, sym, ap}
+use Rattle.std.proofs.Common.{List, ◌∙◌, subst, refl, sym, ap}
 use Rattle.module_table.specs.declared.modules.ImageInfo.{ImageInfo}
 use Rattle.module_table.specs.declared.events.Event.{Event}
 use Rattle.module_table.specs.Modules.{AreInfos}
-use Rattle.module_table.specs.Past.{past, start, is_legal, after}
+use Rattle.module_table.specs.Past.{past, start, is_legal}
 use Rattle.module_table.specs.History.{IsLegal}
 use Rattle.module_table.proofs.registry.Registry.new.Goals as goal
 

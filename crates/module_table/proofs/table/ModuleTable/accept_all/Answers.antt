@@ -1,7 +1,5 @@
 -- The next event is accepted, and the rest is legal after it.
-use Rattle.std.proofs.Common.{◌<◌, length, ◌∙◌, ap, arith}
-use Rattle.module_table.specs.declared.events.Event.{Event}
-use Rattle.module_table.specs.Past.{Past, after, is_legal}
+use Rattle.std.proofs.Common.{◌∙◌, arith}
 use Rattle.module_table.specs.Walks.{legal_next, after_next, seen-after_one}
 use Rattle.module_table.proofs.table.ModuleTable.accept_all.Goals as goal
 

@@ -1,5 +1,5 @@
 -- What is left of the events is legal after those taken, and leaves what all of them leave.
-use Rattle.std.proofs.Common.{◌≡◌, ◌+◌, ◌-◌, true, length, drop}
+use Rattle.std.proofs.Common.{◌≡◌, ◌+◌, true, drop}
 use Rattle.module_table.specs.Past.{after, is_legal}
 use Rattle.module_table.proofs.table.ModuleTable.accept_all.Given as goal
 

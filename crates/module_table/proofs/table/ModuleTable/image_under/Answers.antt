@@ -1,5 +1,5 @@
 -- The table's own law, at what contracts see.
-use Rattle.std.proofs.Common.{subst, ℕ, slice_get}
+use Rattle.std.proofs.Common.{subst, slice_get}
 use Rattle.module_table.specs.Past.{Past}
 use Rattle.module_table.specs.Tables.{IsTheImageUnder}
 use Rattle.module_table.proofs.Lookups.{instance_found}

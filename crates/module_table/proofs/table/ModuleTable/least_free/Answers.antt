@@ -1,9 +1,7 @@
 -- The lowest id that no mark stands for is the least that no live instance has.
-use Rattle.std.proofs.Common.{◌≡◌, ℕ, ◌+◌, ◌-◌, ◌<◌, ◌≤◌, true, sym, ap, ◌∙◌, subst, refl, arith}
-use Rattle.module_table.specs.declared.modules.Module.{Module}
-use Rattle.module_table.specs.Modules.{is_loaded}
-use Rattle.module_table.specs.Past.{Past, module_of, retained, released, loaded, new_instance, least_free}
-use Rattle.module_table.specs.Tables.{past_of, AreTables, CanLoad, HasFreeId}
+use Rattle.std.proofs.Common.{sym, ap, ◌∙◌, subst}
+use Rattle.module_table.specs.Past.{Past, least_free}
+use Rattle.module_table.specs.Tables.{past_of, HasFreeId}
 use Rattle.module_table.proofs.Steps.{room_for, least_is}
 use Rattle.module_table.proofs.table.ModuleTable.least_free.Goals as goal
 

@@ -1,9 +1,8 @@
 -- A load writes the new instance into each table.
-use Rattle.std.proofs.Common.{◌≡◌, ℕ, ◌+◌, ◌-◌, ◌<◌, ◌≤◌, true, sym, ap, ◌∙◌, subst, refl, arith}
+use Rattle.std.proofs.Common.{◌≡◌, sym, ap, ◌∙◌, subst, refl}
 use Rattle.module_table.specs.declared.modules.Module.{Module}
-use Rattle.module_table.specs.Modules.{is_loaded}
-use Rattle.module_table.specs.Past.{Past, module_of, retained, released, loaded, new_instance, least_free}
-use Rattle.module_table.specs.Tables.{past_of, AreTables, CanLoad, HasFreeId}
+use Rattle.module_table.specs.Past.{Past, module_of, loaded, new_instance, least_free}
+use Rattle.module_table.specs.Tables.{past_of, CanLoad}
 use Rattle.module_table.specs.Marks.{AddsId}
 use Rattle.module_table.proofs.Steps.{loaded_kept}
 use Rattle.module_table.proofs.table.ModuleTable.load.Goals as goal

@@ -1,5 +1,5 @@
 -- The tables of the start.
-use Rattle.std.proofs.Common.{◌≡◌, ℕ, ◌∷◌, ◌∙◌, List, refl, sym, subst}
+use Rattle.std.proofs.Common.{◌∷◌, ◌∙◌, List, refl, sym, subst}
 use Rattle.std.specs.Prelude.{All}
 use Rattle.module_table.specs.declared.modules.Module.{Module}
 use Rattle.module_table.specs.Modules.{no_module}

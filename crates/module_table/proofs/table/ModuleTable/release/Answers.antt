@@ -1,9 +1,7 @@
 -- A close that is not the last one changes how often the image is held open, and nothing else.
-use Rattle.std.proofs.Common.{◌≡◌, ℕ, ◌+◌, ◌-◌, ◌<◌, ◌≤◌, true, sym, ap, ◌∙◌, subst, refl, arith}
-use Rattle.module_table.specs.declared.modules.Module.{Module}
-use Rattle.module_table.specs.Modules.{is_loaded}
-use Rattle.module_table.specs.Past.{Past, module_of, retained, released, loaded, new_instance, least_free}
-use Rattle.module_table.specs.Tables.{past_of, AreTables, CanLoad, HasFreeId}
+use Rattle.std.proofs.Common.{◌≡◌, ◌<◌, sym, ap, ◌∙◌, subst, refl}
+use Rattle.module_table.specs.Past.{Past, module_of, released}
+use Rattle.module_table.specs.Tables.{past_of}
 use Rattle.module_table.proofs.Steps.{released_kept}
 use Rattle.module_table.proofs.table.ModuleTable.release.Goals as goal
 

@@ -1,9 +1,8 @@
 -- An open of a loaded image changes how often it is held open, and nothing else.
-use Rattle.std.proofs.Common.{◌≡◌, ℕ, ◌+◌, ◌-◌, ◌<◌, ◌≤◌, true, sym, ap, ◌∙◌, subst, refl, arith}
-use Rattle.module_table.specs.declared.modules.Module.{Module}
+use Rattle.std.proofs.Common.{◌≡◌, true, sym, ap, ◌∙◌, subst, refl}
 use Rattle.module_table.specs.Modules.{is_loaded}
-use Rattle.module_table.specs.Past.{Past, module_of, retained, released, loaded, new_instance, least_free}
-use Rattle.module_table.specs.Tables.{past_of, AreTables, CanLoad, HasFreeId}
+use Rattle.module_table.specs.Past.{Past, module_of, retained}
+use Rattle.module_table.specs.Tables.{past_of}
 use Rattle.module_table.proofs.Steps.{retained_kept}
 use Rattle.module_table.proofs.table.ModuleTable.retain.Goals as goal
 
