@@ -9,6 +9,8 @@ mod built_objects;
 #[cfg(test)]
 mod constants;
 #[cfg(test)]
+mod jobs;
+#[cfg(test)]
 mod link_faults_tests;
 #[cfg(test)]
 mod objects;
