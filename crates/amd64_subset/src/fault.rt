@@ -1,7 +1,7 @@
 //! Why bytes are no instruction.
 
 /// Why no instruction was read.
-#[derive(Clone, Copy, PartialEq, Eq, Debug)]
+#[derive(Clone, Copy)]
 pub(crate) enum Fault {
     /// The bytes are too few: so many more at least complete an instruction.
     Short(u8),

@@ -9,7 +9,7 @@ use crate::fault::Fault;
 
 /// The four bits of a REX prefix: the width, and the fourth bits of the register numbers in ModRM's
 /// reg field, in SIB's index field, and in ModRM's rm field, SIB's base field or the opcode.
-#[derive(Clone, Copy, PartialEq, Eq, Debug)]
+#[derive(Clone, Copy)]
 pub struct Rex {
     pub wide: bool,
     pub register: bool,
@@ -32,7 +32,7 @@ impl Rex {
 }
 
 /// What stands before an opcode.
-#[derive(Clone, Copy, PartialEq, Eq, Debug)]
+#[derive(Clone, Copy)]
 pub struct Prefixes {
     /// 64, FS: the thread pointer is added to the address.
     pub thread_pointer: bool,

@@ -7,7 +7,7 @@ ghost use Rattle.amd64_subset.specs.Reading.{Gives, numbers_at};
 use crate::fault::Fault;
 
 /// How many bytes a displacement, a distance or an immediate has.
-#[derive(Clone, Copy, PartialEq, Eq, Debug)]
+#[derive(Clone, Copy)]
 pub enum Size {
     Zero,
     One,
