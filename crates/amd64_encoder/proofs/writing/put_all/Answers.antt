@@ -1,3 +1,4 @@
+-- The part stands where it was copied to.
 use Rattle.amd64_encoder.proofs.Splices.{put_mid-part}
 use Rattle.amd64_encoder.proofs.writing.put_all.Goals as goal
 

@@ -1,3 +1,4 @@
+-- The displacement's four bytes, and any other four there.
 use Rattle.amd64_subset.proofs.FieldLaws.{displacement_around}
 use Rattle.amd64_subset.proofs.laws.displacement_field.Goals as goal
 

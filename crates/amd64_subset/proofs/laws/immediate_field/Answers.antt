@@ -1,3 +1,4 @@
+-- The immediate's four bytes, and any other four there.
 use Rattle.amd64_subset.proofs.FieldLaws.{immediate_around}
 use Rattle.amd64_subset.proofs.laws.immediate_field.Goals as goal
 

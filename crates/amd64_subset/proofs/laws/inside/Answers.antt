@@ -1,3 +1,4 @@
+-- The length and the fields of what was read lie in its bytes.
 use Rattle.std.proofs.Common.{sym, Some}
 use Rattle.amd64_subset.proofs.Places.{decoded_length, decoded_placed}
 use Rattle.amd64_subset.proofs.laws.inside.Goals as goal

@@ -1,3 +1,4 @@
+-- Two spellings that begin one list are the same.
 use Rattle.amd64_subset.proofs.FieldLaws.{one_spelling_lem}
 use Rattle.amd64_subset.proofs.laws.one_spelling.Goals as goal
 

@@ -1,3 +1,4 @@
+-- What spells an instruction is read.
 use Rattle.amd64_subset.proofs.Whole.{decoded_again}
 use Rattle.amd64_subset.proofs.laws.spelled.Goals as goal
 

@@ -1,3 +1,4 @@
+-- Each prefix that is read leaves fewer bytes.
 use Rattle.std.proofs.Common.{length}
 use Rattle.amd64_subset.proofs.prefix.+read_marks.Given as goal
 
