@@ -48,7 +48,7 @@ ends 5 'job 0 NotYet'
 printf 'image app exe large\n1 call app f 0 0 0\n' > job
 truncate -s 268435456 large
 runs run job
-ends 6 'object large section 0 entry 0 Ident'
+ends 6 'object large section 0 entry 0 NotElf'
 truncate -s 268435457 large
 runs run job
 ends 3 'store fault'

@@ -1,26 +1,18 @@
 //! Whole commands over a store and a sink in memory: the words, the files, the output and the status.
 
-mod object;
-mod plain;
+mod objects;
 
 use crate::tlsld;
-use object::OBJECT;
-use plain::{CODE_AT, PLAIN_OBJECT};
+use objects::{function, reader};
 use ports::{MemorySink, MemoryStore};
 use std::alloc::Global;
+use std::sync::Wait;
 use std::test::Fail;
+use std::thread::Threads;
 
 const JOB: &[u8] = b"image app exe a.o\n1 call app f 0 0 0\n";
 
-fn words_of(alloc: Global, line: &[&str]) -> Result<Vec<String>, Fail> {
-    let mut words = Vec::new(alloc);
-    for word in line {
-        words.push(String::from_str(alloc, word)?)?;
-    }
-    Ok(words)
-}
-
-/// A store with the job, in the file `job`, and the object of the first example, in `a.o`.
+/// A store with the job, in the file `job`, and its object, in `a.o`.
 fn store_of(alloc: Global, job: &[u8], object: &[u8]) -> Result<MemoryStore, Fail> {
     let mut store = MemoryStore::new(alloc);
     store.add("job", job)?;
@@ -28,192 +20,126 @@ fn store_of(alloc: Global, job: &[u8], object: &[u8]) -> Result<MemoryStore, Fai
     Ok(store)
 }
 
-#[test]
-fn runs_the_first_example_in_both_settings(rt: HostRuntime) -> Result<(), Fail> {
-    let lines: [&[&str]; 2] = [&["run", "job"], &["run", "job", "--no-relax"]];
-    for line in lines {
-        let words = words_of(rt.alloc(), line)?;
-        let mut store = store_of(rt.alloc(), JOB, OBJECT)?;
-        let mut out = MemorySink::new(rt.alloc());
-        let status = tlsld(&rt, rt.alloc(), words.as_slice(), &mut store, &mut out);
-        // A call that always wants memory is proved as well: with ample memory the answer is 0.
-        assert_eq!(rt; status, 0, "{line:?}");
-        assert!(rt; out.bytes() == b"t1 l1 g0 = 000000000000002a\n".as_slice());
+/// What a command ends with over the store, and what it puts into the sink.
+fn ends<R: Threads + Wait + Sync>(
+    rt: &R,
+    alloc: Global,
+    line: &[&str],
+    mut store: MemoryStore,
+    mut out: MemorySink,
+) -> Result<(u8, Vec<u8>), Fail> {
+    let mut words = Vec::new(alloc);
+    for word in line {
+        words.push(String::from_str(alloc, word)?)?;
     }
-    Ok(())
+    let status = tlsld(rt, alloc, words.as_slice(), &mut store, &mut out);
+    Ok((status, Vec::from_slice(alloc, out.bytes())?))
 }
 
 #[test]
-fn says_what_it_cannot_do(rt: HostRuntime) -> Result<(), Fail> {
-    let lines: [(&[&str], u8, &[u8]); 3] = [
-        (&[], 2, b"usage\n"),
-        (&["run"], 2, b"usage\n"),
-        (&["run", "nojob"], 3, b"store fault\n"),
+fn each_status_has_its_line(rt: HostRuntime) -> Result<(), Fail> {
+    let alloc = rt.alloc();
+    // A call that always wants memory is proved as well: with ample memory the answer is none.
+    let rows: [(&[&str], u64, u8, &[u8]); 6] = [
+        (&["run", "job"], 0, 0, b"t1 l1 g0 = 000000000000002a\n"),
+        (
+            &["run", "job", "--no-relax"],
+            0,
+            0,
+            b"t1 l1 g0 = 000000000000002a\n",
+        ),
+        (&["run"], 0, 2, b"usage\n"),
+        (&["run", "nojob"], 0, 3, b"store fault\n"),
+        (&["run", "job"], 1, 4, b"t1 l1 "),
+        (&["run"], 1, 4, b"usage\n"),
     ];
-    for (line, status, text) in lines {
-        let words = words_of(rt.alloc(), line)?;
-        let mut store = store_of(rt.alloc(), JOB, OBJECT)?;
-        let mut out = MemorySink::new(rt.alloc());
-        let ended = tlsld(&rt, rt.alloc(), words.as_slice(), &mut store, &mut out);
+    let object = reader(alloc, 0)?;
+    for (line, fails_at, status, text) in rows {
+        let mut out = MemorySink::new(alloc);
+        out.fail_part(fails_at, 6);
+        let store = store_of(alloc, JOB, object.as_slice())?;
+        let (ended, put) = ends(&rt, alloc, line, store, out)?;
         assert_eq!(rt; ended, status, "{line:?}");
-        assert!(rt; out.bytes() == text, "{line:?}");
+        assert_eq!(rt; put.as_slice(), text, "{line:?}");
     }
     Ok(())
 }
 
 #[test]
-fn ends_with_4_where_the_sink_fails(rt: HostRuntime) -> Result<(), Fail> {
-    let words = words_of(rt.alloc(), &["run", "job"])?;
-    let mut store = store_of(rt.alloc(), JOB, OBJECT)?;
-    let mut out = MemorySink::new(rt.alloc());
-    out.fail_at(1);
-    let status = tlsld(&rt, rt.alloc(), words.as_slice(), &mut store, &mut out);
-    assert_eq!(rt; status, 4);
-    assert!(rt; out.bytes().is_empty());
-    Ok(())
-}
-
-#[test]
-fn refuses_jobs_and_objects(rt: HostRuntime) -> Result<(), Fail> {
-    let cut = &OBJECT[..746];
-    // The relocation names symbol 3, of a table of 3.
-    let far = patched(rt.alloc(), OBJECT, &[(0x2df, 3)])?;
-    // Section 3 is four bytes of constants, and f lies there.
-    let constant = patched(
-        rt.alloc(),
-        PLAIN_OBJECT,
-        &[(264, 2), (265, 0), (288, 4), (621, 3), (631, 0)],
-    )?;
-    let rows: [(&[u8], &[u8], u8, &[u8]); 10] = [
-        (b"", OBJECT, 5, b"job 0 NotYet\n"),
-        (
-            b"image app exe a.o\n1 call app f 0 0 zz\n",
-            OBJECT,
-            5,
-            b"job 0 NotYet\n",
-        ),
-        (
-            b"image app pie a.o\n1 call app f 0 0 0\n",
-            OBJECT,
-            5,
-            b"job 0 NotYet\n",
-        ),
-        (
-            b"image app exe a.o\n1 call app f 0 0 0\n1 call app f 0 0 0\n",
-            OBJECT,
-            5,
-            b"job 0 NotYet\n",
-        ),
-        (
-            b"image app exe a.o\n1 call app g 0 0 0\n",
-            OBJECT,
-            0,
-            b"t1 l1 g0 refused symbol\n",
-        ),
-        // x is a variable, and no code.
-        (
-            b"image app exe a.o\n1 call app x 0 0 0\n",
-            OBJECT,
-            0,
-            b"t1 l1 g0 refused symbol\n",
-        ),
-        (JOB, constant.as_slice(), 0, b"t1 l1 g0 refused symbol\n"),
-        (
-            JOB,
-            far.as_slice(),
-            6,
-            b"object a.o section 2 entry 0 RelocSymbol\n",
-        ),
-        (JOB, cut, 6, b"object a.o section 2 entry 0 Truncated\n"),
-        (JOB, b"", 6, b"object a.o section 0 entry 0 Truncated\n"),
+fn refuses_jobs(rt: HostRuntime) -> Result<(), Fail> {
+    let alloc = rt.alloc();
+    let object = reader(alloc, 0)?;
+    let jobs = [
+        b"".as_slice(),
+        b"image app exe a.o\n1 call app f 0 0 zz\n",
+        b"image app exe a.o a.o\n1 call app f 0 0 0\n",
+        b"image app pie a.o\n1 call app f 0 0 0\n",
+        b"threads 2\nimage app exe a.o\n1 call app f 0 0 0\n",
+        b"image app exe a.o\n1 call app f 0 0 0\n1 call app f 0 0 0\n",
     ];
-    for (job, object, status, text) in rows {
-        let words = words_of(rt.alloc(), &["run", "job"])?;
-        let mut store = store_of(rt.alloc(), job, object)?;
-        let mut out = MemorySink::new(rt.alloc());
-        let ended = tlsld(&rt, rt.alloc(), words.as_slice(), &mut store, &mut out);
-        assert_eq!(rt; ended, status);
-        assert!(rt; out.bytes() == text);
+    for job in jobs {
+        let store = store_of(alloc, job, object.as_slice())?;
+        let (ended, put) = ends(&rt, alloc, &["run", "job"], store, MemorySink::new(alloc))?;
+        assert_eq!(rt; ended, 5);
+        assert_eq!(rt; put.as_slice(), b"job 0 NotYet\n".as_slice());
     }
     Ok(())
 }
 
-/// An object with some of its bytes changed.
-fn patched(alloc: Global, object: &[u8], bytes: &[(usize, u8)]) -> Result<Vec<u8>, Fail> {
-    let mut object = object.to_vec(alloc)?;
-    for (at, byte) in bytes {
-        if let Some(place) = object.get_mut(*at) {
-            *place = *byte;
-        }
+#[test]
+fn runs_or_refuses_objects(rt: HostRuntime) -> Result<(), Fail> {
+    let alloc = rt.alloc();
+    for (object, status, text) in objects::rows(alloc)? {
+        let store = store_of(alloc, JOB, object.as_slice())?;
+        let (ended, put) = ends(&rt, alloc, &["run", "job"], store, MemorySink::new(alloc))?;
+        assert_eq!(rt; ended, status);
+        assert_eq!(rt; put.as_slice(), text);
     }
-    Ok(object)
-}
-
-/// The plain object, with this code over its own.
-fn object_of(alloc: Global, code: &[u8]) -> Result<Vec<u8>, Fail> {
-    let mut object = PLAIN_OBJECT.to_vec(alloc)?;
-    for (index, byte) in code.iter().enumerate() {
-        if let Some(place) = object.get_mut(CODE_AT + index) {
-            *place = *byte;
-        }
-    }
-    Ok(object)
+    Ok(())
 }
 
 #[test]
-fn runs_plain_code(rt: HostRuntime) -> Result<(), Fail> {
-    let rows: [(&[u8], &[u8], &[u8]); 8] = [
-        // 3 * 5 * 16 - 7
-        (b"1 call app f 3 5 7", b"", b"= 00000000000000e9"),
-        // xor %eax, %eax; add %rdi, %rax; sub $1, %rdi; jne -9; ret: 4 + 3 + 2 + 1
-        (
-            b"1 call app f 4 0 0",
-            b"\x31\xc0\x48\x01\xf8\x48\x83\xef\x01\x75\xf7\xc3",
-            b"= 000000000000000a",
-        ),
-        // the same takes 14 steps, and a call may take four times its fuel
-        (
-            b"fuel 3\n1 call app f 4 0 0",
-            b"\x31\xc0\x48\x01\xf8\x48\x83\xef\x01\x75\xf7\xc3",
-            b"fault steps",
-        ),
-        // jmp -2: for ever
-        (b"1 call app f 0 0 0", b"\xeb\xfe", b"fault steps"),
+fn runs_code(rt: HostRuntime) -> Result<(), Fail> {
+    let alloc = rt.alloc();
+    // xor %eax, %eax; add %rdi, %rax; sub $1, %rdi; jne -9; ret: the sum down to 1, in 4 steps for each and 2 more
+    let sum = b"\x31\xc0\x48\x01\xf8\x48\x83\xef\x01\x75\xf7\xc3".as_slice();
+    let rows: [(&[u8], &[u8], &[u8]); 7] = [
+        (b"1 call app f 4 0 0\n", sum, b"= 000000000000000a\n"),
+        // a call may take four times its fuel
+        (b"fuel 3\n1 call app f 4 0 0\n", sum, b"fault steps\n"),
         // mov (%rdi), %eax; ret: code cannot be read
         (
-            b"1 call app f 0x400000 0 0",
+            b"1 call app f 0x400000 0 0\n",
             b"\x8b\x07\xc3",
-            b"fault address",
+            b"fault address\n",
         ),
         // the low half of the thread pointer
         (
-            b"1 call app f 0x14000000000 0 0",
+            b"1 call app f 0x14000000000 0 0\n",
             b"\x8b\x07\xc3",
-            b"= 0000000000000000",
+            b"= 0000000000000000\n",
         ),
         // ud2
-        (b"1 call app f 0 0 0", b"\x0f\x0b", b"fault code"),
+        (b"1 call app f 0 0 0\n", b"\x0f\x0b", b"fault code\n"),
         // mov $0x1000, %eax; jmp *%rax: the run time is called, and nothing holds what it is asked for
         (
-            b"1 call app f 0 0 0",
+            b"1 call app f 0 0 0\n",
             b"\xb8\0\x10\0\0\xff\xe0",
-            b"fault address",
+            b"fault address\n",
         ),
+        // no function has this name
+        (b"1 call app g 0 0 0\n", b"\xc3", b"refused symbol\n"),
     ];
     for (line, code, result) in rows {
-        let alloc = rt.alloc();
         let mut job = b"image app exe a.o\n".to_vec(alloc)?;
         job.extend_from_slice(line)?;
-        let object = object_of(alloc, code)?;
-        let words = words_of(alloc, &["run", "job"])?;
-        let mut store = store_of(alloc, job.as_slice(), object.as_slice())?;
-        let mut out = MemorySink::new(alloc);
-        let status = tlsld(&rt, alloc, words.as_slice(), &mut store, &mut out);
-        assert_eq!(rt; status, 0);
+        let object = function(alloc, code)?;
+        let store = store_of(alloc, job.as_slice(), object.as_slice())?;
+        let (ended, put) = ends(&rt, alloc, &["run", "job"], store, MemorySink::new(alloc))?;
         let mut text = b"t1 l1 g0 ".to_vec(alloc)?;
         text.extend_from_slice(result)?;
-        text.push(b'\n')?;
-        assert!(rt; out.bytes() == text.as_slice());
+        assert_eq!(rt; ended, 0);
+        assert_eq!(rt; put.as_slice(), text.as_slice());
     }
     Ok(())
 }

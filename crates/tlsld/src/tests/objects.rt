@@ -1,0 +1,90 @@
+//! Objects of one function, `f`.
+
+use elf_records::Rela;
+use elf_records::relocation::{R_X86_64_PC32, R_X86_64_TPOFF32};
+use elf_records::symbol::{STT_FUNC, STT_TLS};
+use object_builder::{Section, Symbol, object_of, rela};
+use std::alloc::{AllocError, Global};
+
+/// mov %fs:x@tpoff, %eax; ret. Its field stands at 4.
+const READER: &[u8] = b"\x64\x8b\x04\x25\0\0\0\0\xc3";
+
+/// An object of the function `f`, which is this code.
+pub fn function(alloc: Global, code: &[u8]) -> Result<Vec<u8>, AllocError> {
+    let symbols = [Symbol::global(b"f", STT_FUNC, 1, 0, code.len() as u64)];
+    object_of(alloc, &[Section::code(code)], &symbols)
+}
+
+/// An object whose function reads the thread-local variable `x`, which holds 42 and has so many zeros behind it.
+pub fn reader(alloc: Global, zeros: u64) -> Result<Vec<u8>, AllocError> {
+    reader_with(alloc, &[rela(4, R_X86_64_TPOFF32, 2, 0)], zeros)
+}
+
+/// The same with other relocations.
+fn reader_with(alloc: Global, relocations: &[Rela], zeros: u64) -> Result<Vec<u8>, AllocError> {
+    let sections = [
+        Section::code(READER).with(relocations),
+        Section::variables(b"\x2a\0\0\0"),
+        Section::zero_variables(zeros),
+    ];
+    let symbols = [
+        Symbol::global(b"f", STT_FUNC, 1, 0, 9),
+        Symbol::global(b"x", STT_TLS, 3, 0, 4),
+    ];
+    object_of(alloc, &sections, &symbols)
+}
+
+/// An object whose `f` is a section of constants, and one with data.
+fn without_code(alloc: Global) -> Result<Vec<u8>, AllocError> {
+    let symbols = [Symbol::global(b"f", STT_FUNC, 1, 0, 1)];
+    object_of(alloc, &[Section::constants(b"\xc3")], &symbols)
+}
+
+fn with_data(alloc: Global) -> Result<Vec<u8>, AllocError> {
+    let symbols = [Symbol::global(b"f", STT_FUNC, 1, 0, 1)];
+    object_of(
+        alloc,
+        &[Section::code(b"\xc3"), Section::data(b"\0")],
+        &symbols,
+    )
+}
+
+/// An object, the status of `1 call app f 0 0 0` over it, and the text.
+type Row = (Vec<u8>, u8, &'static [u8]);
+
+/// Objects that run, and objects that are refused.
+pub fn rows(alloc: Global) -> Result<Vec<Row>, AllocError> {
+    let no_function = b"t1 l1 g0 refused symbol\n".as_slice();
+    let not_yet = b"object a.o section 0 entry 0 NotYet\n".as_slice();
+    let mut rows = Vec::new(alloc);
+    // The TLS segment has at most 2^20 bytes.
+    rows.push((
+        reader(alloc, 0xffffc)?,
+        0,
+        b"t1 l1 g0 = 000000000000002a\n".as_slice(),
+    ))?;
+    rows.push((reader(alloc, 0xffffd)?, 6, not_yet))?;
+    rows.push((
+        reader_with(alloc, &[rela(4, R_X86_64_PC32, 1, 0)], 0)?,
+        6,
+        not_yet,
+    ))?;
+    rows.push((without_code(alloc)?, 0, no_function))?;
+    rows.push((
+        with_data(alloc)?,
+        6,
+        b"object a.o section 2 entry 0 WritableData\n".as_slice(),
+    ))?;
+    // The table has two symbols behind the reserved one.
+    rows.push((
+        reader_with(alloc, &[rela(4, R_X86_64_TPOFF32, 3, 0)], 0)?,
+        6,
+        b"object a.o section 2 entry 0 RelocSymbol\n".as_slice(),
+    ))?;
+    rows.push((
+        Vec::new(alloc),
+        6,
+        b"object a.o section 0 entry 0 Truncated\n".as_slice(),
+    ))?;
+    Ok(rows)
+}
