@@ -1,7 +1,8 @@
 //! Tests of the program's outside by public calls alone: `ports` and `command_line`.
 //!
-//! No clause says what a disk, a writer or `clap` holds. So a store is tried over the host's files, and over a disk that fails or
-//! stops where a test says; a sink over a writer of that kind; and the words over those that users write.
+//! No clause says what a disk, a writer or `clap` holds. So a store is tried over the host's files, and over a disk
+//! that fails or stops where a test says; a sink over a writer of that kind; and the words over those that users
+//! write.
 #![tactic(auto)]
 
 #[cfg(test)]

@@ -93,7 +93,8 @@ narrow_of b p is small fit = rw small (subst (λ (q : Layout). fits q ≡ true) 
 
 -- ** what a small job comes to
 
-module _ (b : List ℕ) (job : Small) (plain : IsPlainObject b) (narrow : is_narrow b ≡ true) (lawful : IsLawful (layout_one b)) (taken : All (λ b. object_is_taken b ≡ true) (b ∷ [])) (images : ImagesAreLinked) where
+module _ (b : List ℕ) (job : Small) (plain : IsPlainObject b) (narrow : is_narrow b ≡ true)
+    (lawful : IsLawful (layout_one b)) (taken : All (λ b. object_is_taken b ≡ true) (b ∷ [])) (images : ImagesAreLinked) where
   only : IsObject b → (k : ℕ) (d : List ℕ) → k < 1 → IsObject (slice_index_or (b ∷ []) k d)
   only object zero d h = object
   only object (suc k) d h = absurd (omega arith)
@@ -113,7 +114,8 @@ module _ (b : List ℕ) (job : Small) (plain : IsPlainObject b) (narrow : is_nar
         (is_linked called.bytes) clean) (called.says (entry_one b) found);
   }
 
-  pub comes_called : (place : ℕ) (r : Result Outcome ObjectRefusal) → CallMeans → entry_one b job.symbol ≡ Some place → IfOk r (IsCalled (image_one b) job place) → IfErr r (λ refusal. refusal ≡ OutOfMemory) → Comes b job r
+  pub comes_called : (place : ℕ) (r : Result Outcome ObjectRefusal) → CallMeans → entry_one b job.symbol ≡ Some place → IfOk r (IsCalled (image_one b) job place)
+      → IfErr r (λ refusal. refusal ≡ OutOfMemory) → Comes b job r
   comes_called place (Ok outcome) means found ok err = ran place outcome means found ok
   comes_called place (Err refusal) means found ok err = subst (λ f. IsRefused b f) (sym err) tt
 

@@ -41,4 +41,6 @@ printed b job = call_said Event (machine_loaded (image_one b) (entry_one b)) 1 j
 
 -- and by the object's meaning, over its own sections at their places
 unfoldable pub meant : List ℕ → Small → List Said
-meant b job = meant_said Event (room (layout_one b).kind (layout_one b).sections) (meaning_loaded (layout_one b) (b ∷ []) (entry_one b)) 1 job.fuel (call_line job)
+meant b job =
+    meant_said Event (room (layout_one b).kind (layout_one b).sections)
+    (meaning_loaded (layout_one b) (b ∷ []) (entry_one b)) 1 job.fuel (call_line job)

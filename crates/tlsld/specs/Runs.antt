@@ -27,7 +27,8 @@ IsLine said outcome = map shown said ≡ Some (record { points = 0 ∷ []; outco
 abbrev pub IsPlainObject : List ℕ → Type 0
 IsPlainObject b = IsObject b × IsFirstAt (IsWritable b) None
 
--- the job ran: the line is the machine's over the linked image, and where the object's meaning is clean it is the meaning's
+-- the job ran: the line is the machine's over the linked image, and where the object's meaning is clean it is the
+-- meaning's
 pub record HasRun (b : List ℕ) (job : Small) (outcome : Outcome) : Type 0 where
   pub object : IsPlainObject b
   pub narrow : is_narrow b ≡ true
@@ -62,4 +63,5 @@ NotPlaced p NotYet = fits p ≡ false
 -- what comes of a call at a place of an image
 pub record IsCalled (image : Image) (job : Small) (place : ℕ) (outcome : Outcome) : Type 0 where
   pub bytes : HasBytes image
-  pub says : (entry : List ℕ → Option ℕ) → entry job.symbol ≡ Some place → IsLine (call_said Event (machine_loaded image entry) 1 job.fuel (call_line job)) outcome
+  pub says : (entry : List ℕ → Option ℕ) → entry job.symbol ≡ Some place
+      → IsLine (call_said Event (machine_loaded image entry) 1 job.fuel (call_line job)) outcome

@@ -17,7 +17,8 @@ use Rattle.tlsld.specs.Runs.{HasRun, IsRefused}
 
 -- the transcript of one thread with one line, which looked once and saw no event
 unfoldable pub one_line_text : List Image → Outcome → List ℕ
-one_line_text images outcome = transcript_text images (record { threads = (record { points = 0 ∷ []; outcome = outcome } ∷ []) ∷ []; events = [] })
+one_line_text images outcome =
+    transcript_text images (record { threads = (record { points = 0 ∷ []; outcome = outcome } ∷ []) ∷ []; events = [] })
 
 -- a job that is not taken yet
 abbrev pub job_not_yet : List ℕ
@@ -26,7 +27,8 @@ job_not_yet = codes "job 0 NotYet\n"
 -- an object that is refused, by its name in the job
 abbrev pub fault_text : List ℕ → ℕ → ℕ → FaultKind → List ℕ
 fault_text name section entry kind =
-    codes "object " ++ name ++ codes " section " ++ decimal section ++ codes " entry " ++ decimal entry ++ codes " " ++ kind_name kind ++ codes "\n"
+    codes "object " ++ name ++ codes " section " ++ decimal section
+    ++ codes " entry " ++ decimal entry ++ codes " " ++ kind_name kind ++ codes "\n"
 
 abbrev pub not_yet_text : List ℕ → List ℕ
 not_yet_text name = codes "object " ++ name ++ codes " section 0 entry 0 NotYet\n"
@@ -62,7 +64,8 @@ pub record NotTaken (small : Small) (b : List ℕ) (status : ℕ) (text : List �
   pub says : Is 6 (not_yet_text small.object) status text
 
 abbrev pub ObjectSays : JobParts → Small → List ℕ → ℕ → List ℕ → Type 0
-ObjectSays job small b status text = Ran job small b status text ⊎ (Faulty small b status text ⊎ NotTaken small b status text)
+ObjectSays job small b status text =
+    Ran job small b status text ⊎ (Faulty small b status text ⊎ NotTaken small b status text)
 
 -- fs: the files
 module _ (fs : Files) where

@@ -28,7 +28,8 @@ only_object images = None
 
 -- the job of a call
 abbrev pub called : ℕ → List ℕ → Action → Option Small
-called fuel object (Call symbol a b c) = Some (record { object = object; symbol = symbol; a = a; b = b; c = c; fuel = fuel })
+called fuel object (Call symbol a b c) =
+    Some (record { object = object; symbol = symbol; a = a; b = b; c = c; fuel = fuel })
 called fuel object action = None
 
 -- the job of one line of one thread

@@ -52,4 +52,6 @@ relocation_count b = sum (map (relocations_of b) (range_with_len 1 (section_coun
 
 -- at most 1,024 symbols with small names, no GLOBAL name twice, at most 2^19 relocations, and each is taken
 unfoldable pub is_small_object : List ℕ → Bool
-is_small_object b = nat_le (symbol_count b) 1025 && (names_are_small b && (all_new [] (global_names b (symbols b)) && (nat_le (relocation_count b) (2 ^ 19) && object_is_taken b)))
+is_small_object b =
+    nat_le (symbol_count b) 1025 && (names_are_small b && (all_new [] (global_names b (symbols b))
+    && (nat_le (relocation_count b) (2 ^ 19) && object_is_taken b)))

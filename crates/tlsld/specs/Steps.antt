@@ -45,7 +45,8 @@ abbrev pub AsksFront : List (List ℕ) → Option (List (List ℕ)) → Option (
 AsksFront names old new = (k : ℕ) × (new ≡ with_names (take k names) old)
 
 -- all of them where the step answered by itself
-abbrev pub Asks : {T : Type 0} → List (List ℕ) → Option (List (List ℕ)) → Option (List (List ℕ)) → Result T CommandFault → Type 0
+abbrev pub Asks : {T : Type 0} → List (List ℕ) → Option (List (List ℕ)) → Option (List (List ℕ))
+    → Result T CommandFault → Type 0
 Asks names old new (Ok x) = new ≡ with_names names old
 Asks names old new (Err fault.Store) = AsksFront names old new
 Asks names old new (Err fault.OutOfMemory) = AsksFront names old new
@@ -80,5 +81,7 @@ abbrev pub IsRefusalOf : List ℕ → Why → CommandFault → Type 0
 IsRefusalOf name why fault.Store = ⊥
 IsRefusalOf name why fault.OutOfMemory = Unit {0}
 IsRefusalOf name why.OutOfMemory (fault.Refused refusal) = ⊥
-IsRefusalOf name (why.Fault section entry kind) (fault.Refused refusal) = (refusal_code refusal ≡ 6) × (refusal_text refusal ≡ fault_text name section entry kind)
-IsRefusalOf name why.NotYet (fault.Refused refusal) = (refusal_code refusal ≡ 6) × (refusal_text refusal ≡ not_yet_text name)
+IsRefusalOf name (why.Fault section entry kind) (fault.Refused refusal) =
+    (refusal_code refusal ≡ 6) × (refusal_text refusal ≡ fault_text name section entry kind)
+IsRefusalOf name why.NotYet (fault.Refused refusal) =
+    (refusal_code refusal ≡ 6) × (refusal_text refusal ≡ not_yet_text name)

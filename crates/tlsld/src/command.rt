@@ -26,7 +26,8 @@ pub fn answer<S: Store>(alloc: Global, task: &Task, store: &mut S) -> Answer
     ensures files { S.files store.new ≡ S.files store.old }
     ensures cause { AnswerCounts (S.faults store.old) (S.faults store.new) result }
     ensures says { IfSome (S.files store.old) (λ fs. AnswerSays fs task.now result) }
-    ensures asks { IfSome (S.files store.old) (λ fs. AsksOfAnswer fs task.now (S.asked store.old) (S.asked store.new) result) }
+    ensures asks { IfSome (S.files store.old) (λ fs. AsksOfAnswer fs task.now
+        (S.asked store.old) (S.asked store.new) result) }
 {
     let Task::Run { job, no_relax: _ } = task;
     match run(alloc, store, job.as_str()) {
@@ -48,7 +49,8 @@ fn run<S: Store>(alloc: Global, store: &mut S, name: &str) -> Result<Vec<u8>, Co
     ensures files { S.files store.new ≡ S.files store.old }
     ensures cause { StoreCounts (S.faults store.old) (S.faults store.new) result }
     ensures says { IfSome (S.files store.old) (λ fs. Comes (λ text. text.items) (RunSays fs name.now) result) }
-    ensures asks { IfSome (S.files store.old) (λ fs. Asks (run_names fs name.now) (S.asked store.old) (S.asked store.new) result) }
+    ensures asks { IfSome (S.files store.old) (λ fs. Asks (run_names fs name.now)
+        (S.asked store.old) (S.asked store.new) result) }
 {
     match whole_file(alloc, store, name) {
         Ok(text) => run_job(alloc, store, text.as_slice()),
@@ -60,7 +62,8 @@ fn run<S: Store>(alloc: Global, store: &mut S, name: &str) -> Result<Vec<u8>, Co
 fn run_job<S: Store>(alloc: Global, store: &mut S, text: &[u8]) -> Result<Vec<u8>, CommandFault>
     ensures files { S.files store.new ≡ S.files store.old }
     ensures cause { StoreCounts (S.faults store.old) (S.faults store.new) result }
-    ensures says { IfSome (S.files store.old) (λ fs. Comes (λ text. text.items) (JobSays fs (job_of_text text.now)) result) }
+    ensures says { IfSome (S.files store.old) (λ fs. Comes (λ text. text.items)
+        (JobSays fs (job_of_text text.now)) result) }
     ensures asks { Asks (job_names (job_of_text text.now)) (S.asked store.old) (S.asked store.new) result }
 {
     let job = job_of(alloc, text)?;
@@ -93,7 +96,8 @@ fn run_small_job<S: Store>(
     requires { small.now.fuel < 2 ^ 32 }
     ensures files { S.files store.new ≡ S.files store.old }
     ensures cause { StoreCounts (S.faults store.old) (S.faults store.new) result }
-    ensures says { IfSome (S.files store.old) (λ fs. Comes (λ text. text.items) (SmallSays fs job.now (Some small.now)) result) }
+    ensures says { IfSome (S.files store.old) (λ fs. Comes (λ text. text.items)
+        (SmallSays fs job.now (Some small.now)) result) }
     ensures asks { S.asked store.new ≡ with_name small.now.object (S.asked store.old) }
 {
     match whole_file(alloc, store, small.object) {

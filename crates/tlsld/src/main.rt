@@ -1,20 +1,20 @@
 //! A static linker for thread-local storage on x86-64, with a run time that shows what the linked images do.
 //!
-//! A thread-local variable has one name and a copy for each thread. The compiler can't know where a thread's copy stands, so it
-//! leaves a field in the instruction, and says in a relocation what belongs there. For a variable of the executable itself that is
-//! a constant, the distance from the thread pointer, because each thread's block of the executable ends right at the thread
-//! pointer (variant II of Drepper's "ELF Handling For Thread-Local Storage"):
+//! A thread-local variable has one name and a copy for each thread. The compiler can't know where a thread's copy
+//! stands, so it leaves a field in the instruction, and says in a relocation what belongs there. For a variable of the
+//! executable itself that is a constant, the distance from the thread pointer, because each thread's block of the
+//! executable ends right at the thread pointer (variant II of Drepper's "ELF Handling For Thread-Local Storage"):
 //!
 //!     64 8b 04 25 00 00 00 00    mov %fs:x@tpoff, %eax      as the compiler left it
 //!     64 8b 04 25 fc ff ff ff    mov %fs:-4, %eax           linked: x begins 4 bytes below the thread pointer
 //!
-//! A wrong byte there gives one thread another thread's data, and no test of the program shows it at once. So what this
-//! program says of its input is a contract: the clauses of `tlsld` and `tlsld_plain`, in `top`.
+//! A wrong byte there gives one thread another thread's data, and no test of the program shows it at once. So what
+//! this program says of its input is a contract: the clauses of `tlsld` and `tlsld_plain`, in `top`.
 //!
-//! A command is read from top to bottom in `command`: the job is fetched and read, then its object, then the object is linked,
-//! then a thread runs the call, then the transcript is written. Each step may end the command; what it ends with is a
-//! `CommandFault`, and what is said of it a `Reply`, which reaches the sink in one piece (`reply`). Which jobs and objects are
-//! taken is said by `not_yet`; `small_run` links the object and runs the call.
+//! A command is read from top to bottom in `command`: the job is fetched and read, then its object, then the object is
+//! linked, then a thread runs the call, then the transcript is written. Each step may end the command; what it ends
+//! with is a `CommandFault`, and what is said of it a `Reply`, which reaches the sink in one piece (`reply`). Which
+//! jobs and objects are taken is said by `not_yet`; `small_run` links the object and runs the call.
 #![tactic(auto)]
 
 mod command;

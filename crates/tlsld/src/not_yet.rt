@@ -1,8 +1,8 @@
 //! Which jobs and which objects the program takes so far.
 //!
-//! A linker in growth has to say where it ends. Whoever gives it more than it can do is told so, and is never handed a result
-//! that may be wrong: that is this module's use, and the reason for its name. What it takes is small enough that the later steps
-//! need no refusals of their own, and each limit is stated once, here.
+//! A linker in growth has to say where it ends. Whoever gives it more than it can do is told so, and is never handed a
+//! result that may be wrong: that is this module's use, and the reason for its name. What it takes is small enough
+//! that the later steps need no refusals of their own, and each limit is stated once, here.
 //!
 //! **A job is taken** if its lines are one image and one call, with any `fuel` and `order` beside them:
 //!
@@ -11,24 +11,28 @@
 //! 1 call app f 0 0 0         the only line of its only thread: a function and three arguments
 //! ```
 //!
-//! [`small_job`] answers the object's name `a.o`, the symbol `f`, the arguments 0, 0 and 0 and the fuel. A second image, a
-//! second object, another kind of image, a second thread or a second line makes it another job, which is not taken.
+//! [`small_job`] answers the object's name `a.o`, the symbol `f`, the arguments 0, 0 and 0 and the fuel. A second
+//! image, a second object, another kind of image, a second thread or a second line makes it another job, which is not
+//! taken.
 //!
 //! **An object is taken** if all of this holds:
 //!
-//! - It has at most 1,024 symbols beside the reserved one (gABI, "Symbol Table"), each with a name of at most 255 bytes.
+//! - It has at most 1,024 symbols beside the reserved one (gABI, "Symbol Table"), each with a name of at most 255
+//!   bytes.
 //! - No two of its GLOBAL symbols have the same name. WEAK names may come again, since the first of them is meant.
-//! - None is `__tls_get_addr`, the run time's function (Drepper, "ELF Handling For Thread-Local Storage", section 4.1).
-//! - The sections that linking keeps have at most 2^19 relocations, and `link_core` takes each: an `R_X86_64_TPOFF32` of the
-//!   object's own GLOBAL variable, with an addend of at most 2^20 either way (psABI AMD64, "Relocation Types").
+//! - None is `__tls_get_addr`, the run time's function (Drepper, "ELF Handling For Thread-Local Storage", section
+//!   4.1).
+//! - The sections that linking keeps have at most 2^19 relocations, and `link_core` takes each: an `R_X86_64_TPOFF32`
+//!   of the object's own GLOBAL variable, with an addend of at most 2^20 either way (psABI AMD64, "Relocation
+//!   Types").
 //!
-//! An example: an object whose one field stands in the instruction `64 8b 04 25 00 00 00 00`, `mov %fs:x@tpoff, %eax`, is taken,
-//! if it defines `x`. The same with `x` undefined is not, nor `e8 00 00 00 00`, `call g`, whose relocation is an
-//! `R_X86_64_PLT32`.
+//! An example: an object whose one field stands in the instruction `64 8b 04 25 00 00 00 00`, `mov %fs:x@tpoff, %eax`,
+//! is taken, if it defines `x`. The same with `x` undefined is not, nor `e8 00 00 00 00`, `call g`, whose relocation
+//! is an `R_X86_64_PLT32`.
 //!
-//! An object that is not taken has no fault: faults are `elf_object`'s, and are found first. `specs/SmallJobs` says which jobs
-//! are taken, and `specs/SmallObjects` which objects. Names are compared by a hash index, so that no walk over symbols is
-//! quadratic.
+//! An object that is not taken has no fault: faults are `elf_object`'s, and are found first. `specs/SmallJobs` says
+//! which jobs are taken, and `specs/SmallObjects` which objects. Names are compared by a hash index, so that no walk
+//! over symbols is quadratic.
 mod job;
 mod object;
 

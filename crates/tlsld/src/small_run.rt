@@ -1,6 +1,7 @@
 //! What a small job comes to: its object is read, placed, linked and called.
 //!
-//! A job names an object and one of its functions, and asks what a call of it returns. This module joins the steps that answer:
+//! A job names an object and one of its functions, and asks what a call of it returns. This module joins the steps
+//! that answer:
 //!
 //! ```text
 //! bytes   the object is read; the first fault, if it has one, is the answer      elf_object
@@ -10,15 +11,16 @@
 //! call    thread 1 gets a block of its own and calls the function                thread_blocks
 //! ```
 //!
-//! **The rule: what is printed is what the job means.** There are two accounts of the call. The machine's runs the image's bytes,
-//! as AMD64 says. The meaning's runs the object's own sections with marked values, and knows no linker. The printed line is
-//! always the machine's, and wherever the meaning is clean, that is, where the call touches nothing that a linker may choose, it
-//! is the meaning's too (`job_run` has the law). So no choice of this linker shows in a clean line.
+//! **The rule: what is printed is what the job means.** There are two accounts of the call. The machine's runs the
+//! image's bytes, as AMD64 says. The meaning's runs the object's own sections with marked values, and knows no linker.
+//! The printed line is always the machine's, and wherever the meaning is clean, that is, where the call touches
+//! nothing that a linker may choose, it is the meaning's too (`job_run` has the law). So no choice of this linker
+//! shows in a clean line.
 //!
-//! Every refusal has its cause: `Fault` is the object's first fault by the gABI and the psABI, with the number of its section and
-//! entry, or `WritableData` if it has no fault but data that programs write; `NotYet` says that it has neither and is not taken
-//! yet. A name that no function of the image has is no fault of the object: the job runs, and its line says `Refused(Symbol)`.
-//! Only want of memory may come at any time.
+//! Every refusal has its cause: `Fault` is the object's first fault by the gABI and the psABI, with the number of its
+//! section and entry, or `WritableData` if it has no fault but data that programs write; `NotYet` says that it has
+//! neither and is not taken yet. A name that no function of the image has is no fault of the object: the job runs, and
+//! its line says `Refused(Symbol)`. Only want of memory may come at any time.
 //!
 //! An example: a.o has `f`, which reads the thread-local variable `x`, whose initial image is `2a 00 00 00`.
 //!
@@ -33,8 +35,9 @@
 //!
 //! With `g` in place of `f` the line is `Refused(Symbol)`.
 //!
-//! `specs/Runs` says what a job comes to (`Comes`), `specs/Narrow` what is made of its one object, and `specs/Executables` that
-//! the linked image is what the thread sees, with no byte changed. It copies no bytes: each step hands on what it has made.
+//! `specs/Runs` says what a job comes to (`Comes`), `specs/Narrow` what is made of its one object, and
+//! `specs/Executables` that the linked image is what the thread sees, with no byte changed. It copies no bytes: each
+//! step hands on what it has made.
 mod executable;
 mod object;
 mod refusal;

@@ -32,7 +32,8 @@ impl<'a> Model for SmallJob<'a> {
     ghost view = { λ job. record { object = job.object.now; symbol = job.symbol.now; a = job.a; b = job.b; c = job.c; fuel = job.fuel } };
 }
 
-/// The small job that this is, if it is one: its lines are `image NAME exe OBJ` and `1 call NAME SYM A B C`, with any `fuel` and `order`.
+/// The small job that this is, if it is one: its lines are `image NAME exe OBJ` and `1 call NAME SYM A B C`, with any
+/// `fuel` and `order`.
 #[tactic(auto, unfolding(crate::specs::SmallJobs::small_job))]
 pub fn small_job(job: &Job) -> Option<SmallJob<'_>>
     ensures small { result ≡ small_job job.now }

@@ -1,7 +1,8 @@
 //! Objects that are taken.
 ghost use Rattle.std.specs.Prelude.{◌≡◌, ◌++◌, ◌<◌, ◌≤◌, ◌^◌, [], IfOk, IsTrue, map, nat_le};
 ghost use Rattle.elf_object.specs.Parts.{symbol_count};
-ghost use Rattle.tlsld.specs.SmallObjects.{all_new, global_names, names_at, relocations_of, has_small_name, is_small_object, names_are_small, relocation_count, symbols};
+ghost use Rattle.tlsld.specs.SmallObjects.{all_new, global_names, names_at, relocations_of};
+ghost use Rattle.tlsld.specs.SmallObjects.{has_small_name, is_small_object, names_are_small, relocation_count, symbols};
 
 use elf_object::{Object, SymbolBinding};
 use indexmap::IndexSet;
@@ -20,8 +21,8 @@ const RELOCATION_LIMIT: u64 = 1 << 19;
 /// The function of the run time, which no object defines.
 const GET_ADDRESS: &[u8] = b"__tls_get_addr";
 
-/// Whether the path takes an object: it has at most 1,024 symbols with names of at most 255 bytes, no GLOBAL name twice, none
-/// `__tls_get_addr`, at most 2^19 relocations, and linking takes each of them. The only error is want of memory.
+/// Whether the path takes an object: it has at most 1,024 symbols with names of at most 255 bytes, no GLOBAL name
+/// twice, none `__tls_get_addr`, at most 2^19 relocations, and linking takes each of them. The only error is want of memory.
 #[tactic(auto, unfolding(crate::specs::SmallObjects::is_small_object))]
 pub fn is_small_object(alloc: Global, object: &Object) -> Result<bool, AllocError>
     ensures { IfOk result (λ small. small ≡ is_small_object object.now) }
@@ -78,8 +79,10 @@ fn add_name<'a>(
     names: &mut IndexSet<&'a [u8]>,
 ) -> Result<bool, AllocError>
     requires { number < symbol_count object.now }
-    ensures fresh { IfOk result (λ fresh. fresh ≡ all_new (map (λ k. k.now) names.old.keys) (names_at object.now number)) }
-    ensures names { IfOk result (λ fresh. IsTrue fresh → map (λ k. k.now) names.new.keys ≡ map (λ k. k.now) names.old.keys ++ names_at object.now number) }
+    ensures fresh { IfOk result (λ fresh. fresh
+        ≡ all_new (map (λ k. k.now) names.old.keys) (names_at object.now number)) }
+    ensures names { IfOk result (λ fresh. IsTrue fresh
+        → map (λ k. k.now) names.new.keys ≡ map (λ k. k.now) names.old.keys ++ names_at object.now number) }
 {
     let Some(symbol) = object.symbol(number) else {
         return Ok(true);

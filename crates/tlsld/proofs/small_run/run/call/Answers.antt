@@ -9,6 +9,8 @@ returns-clause-called c =
     let e = c.executable_of-executable.result in
     record {
       bytes = has_bytes c.args.linked e is;
-      says = called_says c.args.linked e c.args.job.now (record { place = c.args.place; a = c.job.inside.a; b = c.job.inside.b; c = c.job.inside.c }) c.in_ok-run_call.field-0 is (ap (λ s. s.a) c.job.view_is) (ap (λ s. s.b) c.job.view_is) (ap (λ s. s.c) c.job.view_is)
-          (subst (λ (f : ℕ). IsCallOutcome e 1 f (record { place = c.args.place; a = c.job.inside.a; b = c.job.inside.b; c = c.job.inside.c }) c.in_ok-run_call.field-0) (ap (λ s. s.fuel) c.job.view_is) c.in_ok-run_call.ensures);
+      says = called_says c.args.linked e c.args.job.now (record { place = c.args.place; a = c.job.inside.a; b = c.job.inside.b; c = c.job.inside.c })
+          c.in_ok-run_call.field-0 is (ap (λ s. s.a) c.job.view_is) (ap (λ s. s.b) c.job.view_is) (ap (λ s. s.c) c.job.view_is)
+          (subst (λ (f : ℕ). IsCallOutcome e 1 f (record { place = c.args.place; a = c.job.inside.a; b = c.job.inside.b; c = c.job.inside.c }) c.in_ok-run_call.field-0)
+          (ap (λ s. s.fuel) c.job.view_is) c.in_ok-run_call.ensures);
     }
