@@ -266,22 +266,14 @@ fn reserves_and_copies(rt: HostRuntime) -> Result<(), Fail> {
 }
 
 #[test]
-fn a_table_follows_events(rt: HostRuntime) -> Result<(), Fail> {
+fn a_table_before_any_event(rt: HostRuntime) -> Result<(), Fail> {
     let images = [program(), late(false, 8)];
     assert!(rt; are_images(&images));
-    let mut table = ModuleTable::new(rt.alloc(), &images, 4)?;
-    let opening = Event {
-        thread: 1,
-        line: 1,
-        opens: true,
-        image: 2,
-    };
-    if table.open_refusal(2).is_none() && table.seen() == 0 {
-        table.accept(opening);
-    }
-    assert_eq!(rt; table.seen(), 1);
-    assert_eq!(rt; (table.image_of(2), table.current(2)), (Some(2), Some(2)));
+    let table = ModuleTable::new(rt.alloc(), &images, 4)?;
+    assert_eq!(rt; table.seen(), 0);
+    assert_eq!(rt; (table.current(1), table.current(2)), (Some(1), None));
+    assert_eq!(rt; table.open_refusal(1), Some(OpenRefusal::Unknown));
     assert_eq!(rt; table.close_refusal(1), Some(CloseRefusal::Permanent));
-    assert!(rt; table.copy()?.live(2));
+    assert!(rt; table.copy()?.live(1));
     Ok(())
 }
