@@ -1,4 +1,5 @@
--- What arithmetic makes of plain numbers at a width, and of the flags (Intel's manual, volume 1, section 3.4.3.1, and volume 2).
+-- What arithmetic makes of plain numbers at a width, and of the flags (Intel's manual, volume 1, section 3.4.3.1, and
+-- volume 2).
 use Rattle.std.specs.Prelude.{ℕ, ◌+◌, ◌-◌, ◌*◌, ◌/◌, ◌%◌, ◌^◌, Bool, true, false, not, ◌||◌, ◌==◌, nat_lt, nat_le, bit_and, bit_or, bit_xor, if◌then◌else◌}
 use Rattle.amd64_subset.specs.declared.instr.Width.{Width}
 use Rattle.amd64_subset.specs.declared.instr.Width.TheVariants.{Long, Quad}
@@ -38,7 +39,12 @@ differ false other = other
 
 -- ZF and SF by the result
 abbrev pub by_result : Width → ℕ → Change → Change → Changes
-by_result width number carry overflow = record { zero = Set (number == 0); sign = Set (is_negative width number); carry = carry; overflow = overflow }
+by_result width number carry overflow = record {
+  zero = Set (number == 0);
+  sign = Set (is_negative width number);
+  carry = carry;
+  overflow = overflow;
+}
 
 -- the signed number that a number stands for, plus half the span, so that it is not negative
 abbrev pub biased : Width → ℕ → ℕ
@@ -47,7 +53,8 @@ biased width number = (number + half_of width) % span_of width
 -- OF of a sum: the signed sum is below the least signed number or above the greatest
 unfoldable pub sum_overflows : Width → ℕ → ℕ → Bool
 sum_overflows width a b =
-    nat_lt (biased width a + biased width b) (half_of width) || nat_le (3 * half_of width) (biased width a + biased width b)
+    nat_lt (biased width a + biased width b) (half_of width)
+    || nat_le (3 * half_of width) (biased width a + biased width b)
 
 -- OF of a difference: likewise
 unfoldable pub difference_overflows : Width → ℕ → ℕ → Bool
@@ -57,12 +64,20 @@ difference_overflows width a b =
 unfoldable pub sum_effect : Width → ℕ → ℕ → Effect
 sum_effect width a b =
     let number = (a + b) % span_of width in
-    record { number = number; changes = by_result width number (Set (nat_le (span_of width) (a + b))) (Set (sum_overflows width a b)) }
+    record {
+      number = number;
+      changes = by_result width number (Set (nat_le (span_of width) (a + b)))
+          (Set (sum_overflows width a b));
+    }
 
 unfoldable pub difference_effect : Width → ℕ → ℕ → Effect
 difference_effect width a b =
     let number = (a + (span_of width - b)) % span_of width in
-    record { number = number; changes = by_result width number (Set (nat_lt a b)) (Set (difference_overflows width a b)) }
+    record {
+      number = number;
+      changes = by_result width number (Set (nat_lt a b))
+          (Set (difference_overflows width a b));
+    }
 
 unfoldable pub logic_effect : Width → ℕ → Effect
 logic_effect width number = record { number = number; changes = by_result width number (Set false) (Set false) }
@@ -83,12 +98,22 @@ magnitude width number = if is_negative width number then span_of width - number
 unfoldable pub product_fits : Width → ℕ → ℕ → Bool
 product_fits width a b =
     let product = magnitude width a * magnitude width b in
-    if differ (is_negative width a) (is_negative width b) then nat_le product (half_of width) else nat_lt product (half_of width)
+    if differ (is_negative width a) (is_negative width b)
+    then nat_le product (half_of width)
+    else nat_lt product (half_of width)
 
 unfoldable pub product_effect : Width → ℕ → ℕ → Effect
 product_effect width a b =
     let lost = Set (not (product_fits width a b)) in
-    record { number = a * b % span_of width; changes = record { zero = Unsettled; sign = Unsettled; carry = lost; overflow = lost } }
+    record {
+      number = a * b % span_of width;
+      changes = record {
+        zero = Unsettled;
+        sign = Unsettled;
+        carry = lost;
+        overflow = lost;
+      };
+    }
 
 -- the greatest number of a width: all its bits are set
 abbrev pub greatest : Width → ℕ
@@ -111,7 +136,8 @@ bit_out RightSigned width number count = number / 2 ^ (count - 1) % 2 == 1
 
 -- OF of a shift by 1: whether the sign changed to the left, the old sign to the right
 unfoldable pub shift_overflows : Shift → Width → ℕ → Bool
-shift_overflows Left width number = differ (is_negative width (shifted Left width number 1)) (bit_out Left width number 1)
+shift_overflows Left width number =
+    differ (is_negative width (shifted Left width number 1)) (bit_out Left width number 1)
 shift_overflows Right width number = is_negative width number
 shift_overflows RightSigned width number = false
 
@@ -119,8 +145,18 @@ shift_overflows RightSigned width number = false
 unfoldable pub shift_effect : Shift → Width → ℕ → ℕ → Effect
 shift_effect shift width number count =
     let result = shifted shift width number count in
-    if count == 0 then record { number = number; changes = record { zero = Kept; sign = Kept; carry = Kept; overflow = Kept } }
+    if count == 0 then record {
+      number = number;
+      changes = record {
+        zero = Kept;
+        sign = Kept;
+        carry = Kept;
+        overflow = Kept;
+      };
+    }
     else record {
       number = result;
-      changes = by_result width result (Set (bit_out shift width number count)) (if count == 1 then Set (shift_overflows shift width number) else Unsettled);
+      changes =
+          by_result width result (Set (bit_out shift width number count))
+          (if count == 1 then Set (shift_overflows shift width number) else Unsettled);
     }

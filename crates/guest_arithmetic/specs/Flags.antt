@@ -33,7 +33,8 @@ module _ {W F B : Type 0} (ops : Operations W F B) where
   is_less_or_equal flags = used (λ parts. parts.0 || parts.1) (both (ops.truth_of flags.zero) (is_less flags))
 
   unfoldable pub is_below_or_equal : Flags F → Result Bool Cause
-  is_below_or_equal flags = used (λ parts. parts.0 || parts.1) (both (ops.truth_of flags.carry) (ops.truth_of flags.zero))
+  is_below_or_equal flags =
+      used (λ parts. parts.0 || parts.1) (both (ops.truth_of flags.carry) (ops.truth_of flags.zero))
 
   -- each flag of a condition is used (Intel's manual, volume 2, appendix B, table B-10)
   unfoldable pub condition_of : Condition → Flags F → Result Bool Cause

@@ -275,7 +275,10 @@ fn shift_overflow(shift: Shift, width: Width, number: u64, count: u8) -> Change
 
 /// A shift by 0.
 fn unchanged(number: u64) -> Effect
-    ensures { result ≡ record { number = number; changes = record { zero = Kept; sign = Kept; carry = Kept; overflow = Kept } } }
+    ensures { result ≡ record {
+      number = number;
+      changes = record { zero = Kept; sign = Kept; carry = Kept; overflow = Kept };
+    } }
 {
     Effect {
         number,

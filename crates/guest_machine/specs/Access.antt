@@ -84,7 +84,8 @@ module _ {M B : Type 0} (acc : Accesses M B) where
   -- whether each of so many bytes may be written
   abbrev pub all_write : M → ℕ → ℕ → Result (Unit {0}) Refusal
   all_write memory place zero = Ok tt
-  all_write memory place (suc size) = both_reached (λ a b. tt) (acc.writes memory place) (all_write memory (next_place place) size)
+  all_write memory place (suc size) =
+      both_reached (λ a b. tt) (acc.writes memory place) (all_write memory (next_place place) size)
 
   -- the memory with bytes written from a place on
   abbrev pub put_all : M → ℕ → List B → M
@@ -107,4 +108,5 @@ module _ {W F M B : Type 0} (ops : Operations W F B) (acc : Accesses M B) where
 
   -- the memory with the lowest bytes of a word written at a place
   unfoldable pub store_of : M → ℕ → ℕ → W → Result M Refusal
-  store_of memory place size word = reached (λ done. put_all acc memory place (bytes_from ops word 0 size)) (all_write acc memory place size)
+  store_of memory place size word =
+      reached (λ done. put_all acc memory place (bytes_from ops word 0 size)) (all_write acc memory place size)

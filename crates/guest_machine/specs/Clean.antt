@@ -18,4 +18,6 @@ IsClean (Steps place) = Unit {0}
 
 -- no run over plain numbers stops unclean, whatever memory it runs over and however many steps it may make
 abbrev pub PlainIsClean : Type 0
-PlainIsClean = (n : ℕ) (state : State ℕ Bool) (memory : AddressSpace ℕ) → IsClean (stop_of (run (machine_of plain_operations) n (left state memory)))
+PlainIsClean =
+    (n : ℕ) (state : State ℕ Bool) (memory : AddressSpace ℕ)
+    → IsClean (stop_of (run (machine_of plain_operations) n (left state memory)))

@@ -1,5 +1,6 @@
--- That one machine follows another: what the first does from related states the second does too, but that an unclean stop of the
--- first allows anything. What words, flags, bytes and offset fields have to do with each other is a parameter.
+-- That one machine follows another: what the first does from related states the second does too, but that an unclean
+-- stop of the first allows anything. What words, flags, bytes and offset fields have to do with each other is a
+-- parameter.
 use Rattle.std.specs.Prelude.{◌≡◌, ℕ, ◌<◌, Bool, List, [], ◌∷◌, length, Option, Some, None, Result, Ok, Err}
 use Rattle.guest_arithmetic.specs.declared.cause.Cause.{Cause}
 use Rattle.guest_machine.specs.declared.frame.Frame.{Frame}
@@ -69,19 +70,24 @@ module _ {W F B W' F' B' : Type 0} (same : Alike W F B W' F' B') where
     pub unsettled : (f : F) (f' : F') → same.flag f f' → same.flag (ops.unsettled f) (ops'.unsettled f')
     -- a number that is no field for the first is that number for the second
     pub plain : (field' : Option ℕ) (n n' : ℕ) → same.field None field' n n' → (field' ≡ None) × (n' ≡ n)
-    pub moved : (at : ℕ) (field' : Option ℕ) (n n' : ℕ) → same.field (Some at) field' n n' → (w : W) (w' : W') → same.word w w'
+    pub moved : (at : ℕ) (field' : Option ℕ) (n n' : ℕ) → same.field (Some at) field' n n' → (w : W) (w' : W')
+        → same.word w w'
         → Uses (λ p q. p ≡ q) (ops.moved w n at) (moved_by ops' field' n' w')
-    pub misused : (at : ℕ) (field' : Option ℕ) (n n' : ℕ) → same.field (Some at) field' n n' → Uses (λ p q. p ≡ q) (ops.misused n) (unmoved ops' field' n')
+    pub misused : (at : ℕ) (field' : Option ℕ) (n n' : ℕ) → same.field (Some at) field' n n'
+        → Uses (λ p q. p ≡ q) (ops.misused n) (unmoved ops' field' n')
     -- where a field is added that is none for the second, the flags of the first say nothing
     pub free : (at n n' : ℕ) → same.field (Some at) None n n' → (f : F) (f' : F') → same.flag (ops.unsettled f) f'
-    pub joined : (bs : List B) (bs' : List B') → All2 same.byte bs bs' → IsSize (length bs) → same.word (ops.joined bs) (ops'.joined bs')
+    pub joined : (bs : List B) (bs' : List B') → All2 same.byte bs bs' → IsSize (length bs)
+        → same.word (ops.joined bs) (ops'.joined bs')
     pub byte_of : (w : W) (w' : W') → same.word w w' → (k : ℕ) → k < 8 → same.byte (ops.byte_of w k) (ops'.byte_of w' k)
 
   -- two memories, byte by byte, under writes
   pub record IsKept {M M' : Type 0} (acc : Accesses M B) (acc' : Accesses M' B') (Same : M → M' → Type 0) : Type 0 where
     pub byte : (m : M) (m' : M') → Same m m' → (place : ℕ) → Reaches same.byte (acc.byte m place) (acc'.byte m' place)
-    pub writes : (m : M) (m' : M') → Same m m' → (place : ℕ) → Reaches (λ a b. Unit {0}) (acc.writes m place) (acc'.writes m' place)
-    pub put : (m : M) (m' : M') → Same m m' → (place : ℕ) (b : B) (b' : B') → same.byte b b' → acc.writes m place ≡ Ok tt
+    pub writes : (m : M) (m' : M') → Same m m' → (place : ℕ)
+        → Reaches (λ a b. Unit {0}) (acc.writes m place) (acc'.writes m' place)
+    pub put : (m : M) (m' : M') → Same m m' → (place : ℕ) (b : B) (b' : B') → same.byte b b'
+        → acc.writes m place ≡ Ok tt
         → Same (acc.put m place b) (acc'.put m' place b')
     -- a write changes no right to write
     pub still : (m : M) (place at : ℕ) (b : B) → acc.writes (acc.put m place b) at ≡ acc.writes m at

@@ -16,7 +16,8 @@ abbrev pub with_answer : {W F : Type 0} → State W F → W → State W F
 with_answer state word = record state { registers = record state.registers { rax = word } }
 
 -- the answer of another: a word in %rax, and the return address popped
-abbrev pub answer_of : {W F B M : Type 0} → Operations W F B → Accesses M B → W → State W F → M → Result (After W F M) Stop
+abbrev pub answer_of : {W F B M : Type 0} → Operations W F B → Accesses M B → W → State W F → M
+    → Result (After W F M) Stop
 answer_of ops acc word state memory = return_of ops acc (with_answer state word) memory
 
 -- an answer is one step, and a refused one leaves all as it was

@@ -68,19 +68,24 @@ module _ {W F B : Type 0} (ops : Operations W F B) where
   -- a base and the displacement; where the next instruction begins is a base too, but not one of offset fields
   unfoldable pub base_of : Option ℕ → ℕ → ℕ → Registers W → Base → Result ℕ Cause
   base_of field displacement next registers Absolute = unmoved field displacement
-  base_of field displacement next registers (OfRegister register) = moved_by field displacement (register_of registers register)
-  base_of field displacement next registers NextInstruction = used (λ number. plus number next) (unmoved field displacement)
+  base_of field displacement next registers (OfRegister register) =
+      moved_by field displacement (register_of registers register)
+  base_of field displacement next registers NextInstruction =
+      used (λ number. plus number next) (unmoved field displacement)
 
   -- an index register times its factor
   unfoldable pub index_of : Registers W → Option Index → Result ℕ Cause
   index_of registers None = Ok 0
-  index_of registers (Some index) = used (λ number. number * factor_of index.scale % 2 ^ 64) (ops.number_of (register_of registers index.register))
+  index_of registers (Some index) =
+      used (λ number. number * factor_of index.scale % 2 ^ 64) (ops.number_of (register_of registers index.register))
 
   -- where a memory operand lies (Intel's manual, volume 1, section 3.7.5): the uses of its registers come with it
   unfoldable pub address_of : Frame → State W F → Memory → Result ℕ Cause
   address_of frame state memory =
-      used (λ parts. plus (plus parts.0 parts.1) (if memory.from_thread_pointer then state.thread_pointer else 0)) (charged frame.displacement_field
-      (both (base_of frame.displacement_field frame.displacement frame.next state.registers memory.base) (index_of state.registers memory.index)))
+      used (λ parts. plus (plus parts.0 parts.1) (if memory.from_thread_pointer then state.thread_pointer else 0))
+      (charged frame.displacement_field
+      (both (base_of frame.displacement_field frame.displacement frame.next state.registers memory.base)
+      (index_of state.registers memory.index)))
 
   -- a register's word as it is carried at a width
   unfoldable pub kept : Width → W → W
@@ -120,7 +125,8 @@ module _ {W F B M : Type 0} (ops : Operations W F B) (acc : Accesses M B) where
   taken width frame state memory (InRegister register) other = do
     parts ← clean state.place (both (number_at ops width (register_of state.registers register)) other)
     Ok (record { slot = OfSlot register; number = parts.0; other = parts.1 })
-  taken width frame state memory (InMemory operand) other = taken_at width state.place memory (address_of ops frame state operand) other
+  taken width frame state memory (InMemory operand) other =
+      taken_at width state.place memory (address_of ops frame state operand) other
 
   -- a result in its place
   unfoldable pub put : Width → Slot → W → State W F → M → Result (After W F M) Stop

@@ -63,7 +63,8 @@ is_field_of memory place = list_any (λ field. field == place) memory.fields
 
 -- a load that was made or refused
 abbrev pub Loads : {W F B : Type 0} → Operations W F B → Option W → AddressSpace B → ℕ → Size → Type 0
-Loads ops result memory address size = ok_or result Refused ≡ load_of ops (range_accesses ops) memory address (bytes_in size)
+Loads ops result memory address size =
+    ok_or result Refused ≡ load_of ops (range_accesses ops) memory address (bytes_in size)
 
 -- what a store answered and left is what is said, and a refused one leaves all as it was
 abbrev pub StoresAs : {M : Type 0} → Bool → M → M → Result M Refusal → Type 0
@@ -71,4 +72,5 @@ StoresAs true old new next = next ≡ Ok new
 StoresAs false old new next = (next ≡ Err Refused) × (new ≡ old)
 
 abbrev pub Stores : {W F B : Type 0} → Operations W F B → Bool → AddressSpace B → AddressSpace B → ℕ → Size → W → Type 0
-Stores ops result old new address size word = StoresAs result old new (store_of ops (range_accesses ops) old address (bytes_in size) word)
+Stores ops result old new address size word =
+    StoresAs result old new (store_of ops (range_accesses ops) old address (bytes_in size) word)

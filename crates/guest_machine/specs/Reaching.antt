@@ -10,7 +10,9 @@ use Rattle.guest_machine.specs.Touch.{next_touches, touched}
 
 -- only for the bytes that its instruction touches: where none of them is closed the step is the same
 abbrev pub ReachesWhatItTouches : Type 0
-ReachesWhatItTouches = (shut : AddressSpace ℕ → ℕ → Bool) (is_field : ℕ → Bool) (state : State ℕ Bool) (memory : AddressSpace ℕ)
+ReachesWhatItTouches =
+    (shut : AddressSpace ℕ → ℕ → Bool) (is_field : ℕ → Bool) (state : State ℕ Bool) (memory : AddressSpace ℕ)
     → (let acc = range_accesses plain_operations in
     list_any (shut memory) (touched acc memory (next_touches plain_operations acc is_field state memory)) ≡ false
-    → step_of plain_operations (closed shut acc) is_field state memory ≡ step_of plain_operations acc is_field state memory)
+    → step_of plain_operations (closed shut acc) is_field state memory
+    ≡ step_of plain_operations acc is_field state memory)

@@ -60,8 +60,12 @@ module _ {W F B M : Type 0} (ops : Operations W F B) (acc : Accesses M B) (is_fi
   -- the machine: 0x2000 ends a call
   unfoldable pub machine : Stepping (After W F M)
   machine = record {
-    over = λ at. if at.state.place == 0x2000 then Some (returned (ops.number_of at.state.registers.rax) at.state.place) else None;
-    step = λ at. if is_look at.state.place then Looks at else next_of (step_of ops acc (is_field at.memory) at.state at.memory);
+    over = λ at. if at.state.place == 0x2000
+        then Some (returned (ops.number_of at.state.registers.rax) at.state.place)
+        else None;
+    step = λ at. if is_look at.state.place
+        then Looks at
+        else next_of (step_of ops acc (is_field at.memory) at.state at.memory);
     spent = λ at. Steps at.state.place;
   }
 
@@ -82,7 +86,9 @@ abbrev pub machine_of : {W F B : Type 0} → Operations W F B → Stepping (Afte
 machine_of ops = machine ops (range_accesses ops) is_field_of
 
 -- a run up to its limit: how it stopped, what it left, and how many steps it took
-pub record Runs {W F B : Type 0} (ops : Operations W F B) (limit : ℕ) (result : Stop) (old : Standing W F) (memory : AddressSpace B) (new : Standing W F) (memory' : AddressSpace B) : Type 0 where
+pub record Runs {W F B : Type 0} (ops : Operations W F B) (limit : ℕ) (result : Stop) (old : Standing W F)
+    (memory : AddressSpace B) (new : Standing W F) (memory' : AddressSpace B) : Type 0 where
   pub stop : result ≡ stop_of (run (machine_of ops) (limit - old.taken) (left old.state memory))
   pub after : left new.state memory' ≡ state_after (run (machine_of ops) (limit - old.taken) (left old.state memory))
-  pub steps : new.taken + steps_left (run (machine_of ops) (limit - old.taken) (left old.state memory)) ≡ old.taken + (limit - old.taken)
+  pub steps : new.taken + steps_left (run (machine_of ops) (limit - old.taken) (left old.state memory))
+      ≡ old.taken + (limit - old.taken)

@@ -18,13 +18,17 @@ Moves y zero s t = s ≡ t
 Moves {S} y (suc k) s t = (y.over s ≡ None) × ((u : S) × ((y.step s ≡ Goes u) × Moves y k u t))
 
 module _ {S S' : Type 0} where
-  -- what the second does where the first has made a step: Rel relates states in a run, Wait states at a look, Last states at an end
-  abbrev pub Advances : Stepping S' → (S → S' → Type 0) → (S → S' → Type 0) → (S → S' → Type 0) → S → Next S → S' → Type 0
+  -- what the second does where the first has made a step: Rel relates states in a run, Wait states at a look, Last
+  -- states at an end
+  abbrev pub Advances : Stepping S' → (S → S' → Type 0) → (S → S' → Type 0) → (S → S' → Type 0) → S → Next S → S'
+      → Type 0
   Advances y Rel Wait Last s (Goes t) s' = (k : ℕ) × ((b : S') × ((k ≤ 3) × Moves y (suc k) s' b × Rel t b))
   Advances y Rel Wait Last s (Ends stop) s' =
-      IsUnclean stop ⊎ ((k : ℕ) × ((b : S') × ((k ≤ 3) × Moves y k s' b × (y.over b ≡ None) × (y.step b ≡ Ends stop) × Last s b)))
+      IsUnclean stop ⊎ ((k : ℕ) × ((b : S') ×
+      ((k ≤ 3) × Moves y k s' b × (y.over b ≡ None) × (y.step b ≡ Ends stop) × Last s b)))
   Advances y Rel Wait Last s (Looks t) s' =
-      (k : ℕ) × ((b : S') × ((b' : S') × ((k ≤ 3) × Moves y k s' b × (y.over b ≡ None) × (y.step b ≡ Looks b') × Wait t b')))
+      (k : ℕ) × ((b : S') × ((b' : S') ×
+      ((k ≤ 3) × Moves y k s' b × (y.over b ≡ None) × (y.step b ≡ Looks b') × Wait t b')))
 
   -- where the first is over, the second is over likewise
   abbrev pub OverAlike : (S → S' → Type 0) → S → S' → Option Stop → Option Stop → Type 0

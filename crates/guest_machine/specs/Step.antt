@@ -40,7 +40,8 @@ use Rattle.guest_arithmetic.specs.Values.{Operations}
 
 -- the lower half as a signed number of 64 bits
 abbrev pub sign_extended : ℕ → ℕ
-sign_extended number = if nat_lt (low Long number) (2 ^ 31) then low Long number else low Long number + (2 ^ 64 - 2 ^ 32)
+sign_extended number =
+    if nat_lt (low Long number) (2 ^ 31) then low Long number else low Long number + (2 ^ 64 - 2 ^ 32)
 
 -- each flag is left undefined
 abbrev pub all_unsettled : Changes
@@ -93,7 +94,8 @@ module _ {W F B M : Type 0} (ops : Operations W F B) (acc : Accesses M B) where
 
   -- mov r8 to memory
   unfoldable pub store_byte : Frame → State W F → M → Memory → Register → Result (After W F M) Stop
-  store_byte frame state memory to from = stored 1 frame state memory to (kept_byte ops (register_of state.registers from))
+  store_byte frame state memory to from =
+      stored 1 frame state memory to (kept_byte ops (register_of state.registers from))
 
   -- mov r/m, imm
   unfoldable pub move_number : Width → Frame → State W F → M → Operand → Result (After W F M) Stop
@@ -106,7 +108,8 @@ module _ {W F B M : Type 0} (ops : Operations W F B) (acc : Accesses M B) where
 
   unfoldable pub move_of : Width → Frame → State W F → M → Operands → Result (After W F M) Stop
   move_of width frame state memory (IntoRegister to from) = move_in width frame state memory to from
-  move_of width frame state memory (IntoMemory to from) = stored (size_of width) frame state memory to (kept ops width (register_of state.registers from))
+  move_of width frame state memory (IntoMemory to from) =
+      stored (size_of width) frame state memory to (kept ops width (register_of state.registers from))
   move_of width frame state memory (Immediate to) = move_number width frame state memory to
 
   -- movzx r, r/m8
@@ -131,15 +134,18 @@ module _ {W F B M : Type 0} (ops : Operations W F B) (acc : Accesses M B) where
     Ok (left (at_place (with_word state to (ops.word (low width place))) frame.next) memory)
 
   -- add, or, and, sub, xor, cmp into a register
-  unfoldable pub compute_in : Arithmetic → Width → Frame → State W F → M → Register → Operand → Result (After W F M) Stop
+  unfoldable pub compute_in : Arithmetic → Width → Frame → State W F → M → Register → Operand
+      → Result (After W F M) Stop
   compute_in arithmetic width frame state memory to from =
-      if is_cleared arithmetic to from then finished width (OfSlot to) (compute_effect arithmetic width 0 0) frame state memory
+      if is_cleared arithmetic to from
+      then finished width (OfSlot to) (compute_effect arithmetic width 0 0) frame state memory
       else (do
         it ← taken ops acc width frame state memory from (number_at ops width (register_of state.registers to))
         concluded arithmetic width (OfSlot to) (compute_effect arithmetic width it.other it.number) frame state memory)
 
   -- the same into a memory operand
-  unfoldable pub compute_out : Arithmetic → Width → Frame → State W F → M → Memory → Register → Result (After W F M) Stop
+  unfoldable pub compute_out : Arithmetic → Width → Frame → State W F → M → Memory → Register
+      → Result (After W F M) Stop
   compute_out arithmetic width frame state memory to from = do
     it ← taken ops acc width frame state memory (InMemory to) (number_at ops width (register_of state.registers from))
     concluded arithmetic width it.slot (compute_effect arithmetic width it.number it.other) frame state memory
@@ -151,20 +157,26 @@ module _ {W F B M : Type 0} (ops : Operations W F B) (acc : Accesses M B) where
     finished Quad (OfSlot to) (record { number = number; changes = all_unsettled }) frame state memory
 
   -- the same with an immediate
-  unfoldable pub compute_plain : Arithmetic → Width → Option ℕ → Frame → State W F → M → Operand → Result (After W F M) Stop
+  unfoldable pub compute_plain : Arithmetic → Width → Option ℕ → Frame → State W F → M → Operand
+      → Result (After W F M) Stop
   compute_plain arithmetic width field frame state memory to = do
     it ← taken ops acc width frame state memory to (immediate_of ops width field frame.immediate)
     concluded arithmetic width it.slot (compute_effect arithmetic width it.number it.other) frame state memory
 
   -- an immediate that is an offset field may be added to a base in a register
-  unfoldable pub compute_number : Arithmetic → Width → Option ℕ → Frame → State W F → M → Operand → Result (After W F M) Stop
+  unfoldable pub compute_number : Arithmetic → Width → Option ℕ → Frame → State W F → M → Operand
+      → Result (After W F M) Stop
   compute_number Add Quad (Some at) frame state memory (InRegister to) = add_field frame state memory to at
-  compute_number arithmetic width field frame state memory to = compute_plain arithmetic width field frame state memory to
+  compute_number arithmetic width field frame state memory to =
+      compute_plain arithmetic width field frame state memory to
 
   unfoldable pub compute_of : Arithmetic → Width → Frame → State W F → M → Operands → Result (After W F M) Stop
-  compute_of arithmetic width frame state memory (IntoRegister to from) = compute_in arithmetic width frame state memory to from
-  compute_of arithmetic width frame state memory (IntoMemory to from) = compute_out arithmetic width frame state memory to from
-  compute_of arithmetic width frame state memory (Immediate to) = compute_number arithmetic width frame.immediate_field frame state memory to
+  compute_of arithmetic width frame state memory (IntoRegister to from) =
+      compute_in arithmetic width frame state memory to from
+  compute_of arithmetic width frame state memory (IntoMemory to from) =
+      compute_out arithmetic width frame state memory to from
+  compute_of arithmetic width frame state memory (Immediate to) =
+      compute_number arithmetic width frame.immediate_field frame state memory to
 
   -- test r/m, r
   unfoldable pub test_of : Width → Frame → State W F → M → Operand → Register → Result (After W F M) Stop
@@ -209,7 +221,10 @@ module _ {W F B M : Type 0} (ops : Operations W F B) (acc : Accesses M B) where
   leave_of frame state memory = do
     base ← clean state.place (ops.number_of state.registers.rbp)
     word ← there state.place (load_of ops acc memory base 8)
-    Ok (left (record state { registers = record state.registers { rsp = ops.word (plus base 8); rbp = word }; place = frame.next }) memory)
+    Ok (left (record state {
+      registers = record state.registers { rsp = ops.word (plus base 8); rbp = word };
+      place = frame.next;
+    }) memory)
 
   -- ret
   unfoldable pub return_of : State W F → M → Result (After W F M) Stop

@@ -104,7 +104,8 @@ abbrev pub touches_if : {W F B : Type 0} → Operations W F B → (ℕ → Bool)
 touches_if ops is_field None state = paired None None
 touches_if ops is_field (Some it) state = touches_of ops (frame_of is_field state.place it) state it.instr.operation
 
-unfoldable pub next_touches : {W F B M : Type 0} → Operations W F B → Accesses M B → (ℕ → Bool) → State W F → M → Touches
+unfoldable pub next_touches : {W F B M : Type 0} → Operations W F B → Accesses M B → (ℕ → Bool) → State W F → M
+    → Touches
 next_touches ops acc is_field state memory = touches_if ops is_field (decoded (fetch_of acc memory state.place)) state
 
 -- so many places from an address on
@@ -126,7 +127,8 @@ module _ {M B : Type 0} (acc : Accesses M B) (memory : M) where
   abbrev pub touched_then : Option Touch → List ℕ → List ℕ
   touched_then None more = more
   touched_then (Some touch) more =
-      places_from touch.address (bytes_in touch.size) ++ (if refuses touch.direction touch.address (bytes_in touch.size) then [] else more)
+      places_from touch.address (bytes_in touch.size)
+      ++ (if refuses touch.direction touch.address (bytes_in touch.size) then [] else more)
 
   -- all bytes of each access in their order, through the whole first refused access
   unfoldable pub touched : Touches → List ℕ

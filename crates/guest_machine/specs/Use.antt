@@ -46,14 +46,18 @@ abbrev pub left : {W F M : Type 0} → State W F → M → After W F M
 left state memory = record { state = state; memory = memory }
 
 -- what a call returned and left is what is said, and a stop leaves all as it was
-abbrev pub Leaves : {W F M : Type 0} → Result (Unit {0}) Stop → After W F M → After W F M → Result (After W F M) Stop → Type 0
+abbrev pub Leaves : {W F M : Type 0} → Result (Unit {0}) Stop → After W F M → After W F M → Result (After W F M) Stop
+    → Type 0
 Leaves (Ok done) old new next = next ≡ Ok new
 Leaves (Err stop) old new next = (next ≡ Err stop) × (new ≡ old)
 
 -- the same of a step that is made over a memory of ranges
-abbrev pub Does : {W F B : Type 0} → Operations W F B → Result (Unit {0}) Stop → State W F → AddressSpace B → State W F → AddressSpace B
-    → (Operations W F B → Accesses (AddressSpace B) B → State W F → AddressSpace B → Result (After W F (AddressSpace B)) Stop) → Type 0
-Does ops result old memory new memory' step = Leaves result (left old memory) (left new memory') (step ops (range_accesses ops) old memory)
+abbrev pub Does : {W F B : Type 0} → Operations W F B → Result (Unit {0}) Stop → State W F → AddressSpace B → State W F
+    → AddressSpace B
+    → (Operations W F B → Accesses (AddressSpace B) B → State W F → AddressSpace B
+    → Result (After W F (AddressSpace B)) Stop) → Type 0
+Does ops result old memory new memory' step =
+    Leaves result (left old memory) (left new memory') (step ops (range_accesses ops) old memory)
 
 -- the same for a memory alone
 abbrev pub LeavesMemory : {M : Type 0} → Result (Unit {0}) Stop → M → M → Result M Stop → Type 0

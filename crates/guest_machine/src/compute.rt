@@ -1,3 +1,5 @@
+//! add, or, and, sub, xor, cmp, test, imul and shifts.
+
 ghost use Rattle.std.specs.Prelude.{◌≡◌};
 ghost use Rattle.guest_arithmetic.specs.Flags.{with_changes};
 ghost use Rattle.guest_machine.specs.Step.{is_cleared, finished, concluded, settled, compute_in, compute_out, add_field, compute_plain, compute_number, compute_of, test_of, multiply_of, shift_of, all_unsettled};
@@ -28,7 +30,10 @@ fn is_cleared(arithmetic: Arithmetic, to: Register, from: &Operand) -> bool
 
 /// The flags after an instruction, and the place.
 fn settle<V: Values>(changes: &Changes, frame: &Frame, state: &mut State<V::Word, V::Flag>)
-    ensures { state.new ≡ record state.old { flags = with_changes V.operations changes.now state.old.flags; place = frame.now.next } }
+    ensures { state.new ≡ record state.old {
+      flags = with_changes V.operations changes.now state.old.flags;
+      place = frame.now.next;
+    } }
 {
     state.flags = with_changes::<V>(changes, &state.flags);
     state.place = frame.next;

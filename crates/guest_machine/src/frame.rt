@@ -1,3 +1,5 @@
+//! What stands around an instruction's operation.
+
 ghost use Rattle.std.specs.Prelude.{◌≡◌};
 ghost use Rattle.guest_machine.specs.Ranges.{is_field_of};
 ghost use Rattle.guest_machine.specs.Step.{frame_of, field_at};

@@ -1,3 +1,5 @@
+//! jmp, jcc and nop.
+
 ghost use Rattle.std.specs.Prelude.{◌≡◌};
 ghost use Rattle.guest_machine.specs.Step.{jump_of, jump_if, nop_use, nop_of};
 ghost use Rattle.guest_machine.specs.Use.{Does};

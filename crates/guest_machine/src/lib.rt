@@ -16,7 +16,8 @@
 //! `__tls_get_addr` and at 0x1800 the function of a TLS descriptor: the machine stops with `Look`, another
 //! finds the address, and `answer` puts it into %rax and returns. A limit bounds the steps.
 //!
-//! **What words are is a parameter** (`Values`). `Plain` words are numbers, and the machine is the
+//! **What words are is a parameter** (`Values` of `guest_arithmetic`, where arithmetic and conditions
+//! stand too). `Plain` words are numbers, and the machine is the
 //! processor. Other words may be marked: of one nothing is known, another is the base of a thread's
 //! block, at an address that the linker is free to choose. A marked word may be carried from place to
 //! place, and must not be used as a number. All uses of registers and flags are asked before any
@@ -26,6 +27,12 @@
 //!
 //! **What memory is is a parameter** (`Space`): what may be fetched, loaded and stored where. Contracts
 //! see it as ranges of bytes with rights. `guest_memory` has one in owned bytes.
+//!
+//! **What an instruction touches** is told without a memory (`Machine::touches`): its accesses in their
+//! order, at most two. `ff 53 08`, call *8(%rbx), loads eight bytes at %rbx + 8 and then stores eight below
+//! %rsp. An access whose address is no number is left out. The bytes that are touched are those of each
+//! access, through the whole first refused one (`touched` in `specs/Touch.antt`). A step asks a memory for
+//! no other byte (`laws::reaches_what_it_touches`).
 //!
 //! Two machines whose words and memories are related follow each other through every instruction and
 //! every run: these laws stand in `proofs/FollowRows.antt` (`act_follows`) and `proofs/Simulate.antt`

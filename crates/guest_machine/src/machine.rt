@@ -1,3 +1,5 @@
+//! The machine that callers see.
+
 ghost use Rattle.std.specs.Prelude.{◌≡◌, ◌-◌, ◌^◌, ◌<◌, ◌≤◌, max};
 ghost use Rattle.amd64_subset.specs.Register.{register_of};
 ghost use Rattle.guest_machine.specs.Machine.{Answers, answer_of};
@@ -74,7 +76,11 @@ impl<V: Values> Machine<V> {
     /// Puts a word into the register of this number.
     pub fn set_register(&mut self, number: u8, word: V::Word)
         requires { number < 16 }
-        ensures { self.new ≡ record self.old { state = record self.old.state { registers = with_register self.old.state.registers (register_of number) word } } }
+        ensures { self.new ≡ record self.old {
+          state = record self.old.state {
+            registers = with_register self.old.state.registers (register_of number) word;
+          };
+        } }
     {
         set_register(&mut self.state.registers, Register::numbered(number), word);
     }
@@ -86,7 +92,11 @@ impl<V: Values> Machine<V> {
     }
 
     pub fn set_flags(&mut self, zf: V::Flag, sf: V::Flag, cf: V::Flag, of: V::Flag)
-        ensures { self.new ≡ record self.old { state = record self.old.state { flags = record { zero = zf; sign = sf; carry = cf; overflow = of } } } }
+        ensures { self.new ≡ record self.old {
+          state = record self.old.state {
+            flags = record { zero = zf; sign = sf; carry = cf; overflow = of };
+          };
+        } }
     {
         self.state.flags = Flags {
             zero: zf,
@@ -140,7 +150,8 @@ impl<V: Values> Machine<V> {
     /// Answers false where it cannot be, and then nothing has changed.
     pub fn answer<S: Space<V>>(&mut self, space: &mut S, word: V::Word) -> bool
         requires { self.old.taken < 2 ^ 64 - 1 }
-        ensures { Answers result self.old (S.memory space.old) self.new (S.memory space.new) (answer_of V.operations (range_accesses V.operations) word self.old.state (S.memory space.old)) }
+        ensures { Answers result self.old (S.memory space.old) self.new (S.memory space.new)
+            (answer_of V.operations (range_accesses V.operations) word self.old.state (S.memory space.old)) }
     {
         let mut state = self.state;
         state.registers.rax = word;

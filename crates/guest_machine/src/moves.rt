@@ -1,3 +1,5 @@
+//! mov, movzx, movslq and lea.
+
 ghost use Rattle.std.specs.Prelude.{◌≡◌, ◌<◌, IfOk};
 ghost use Rattle.guest_machine.specs.Access.{bytes_in};
 ghost use Rattle.guest_arithmetic.specs.Arithmetic.{span_of};

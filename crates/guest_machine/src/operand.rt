@@ -1,3 +1,5 @@
+//! What operands are: addresses, and words that are carried.
+
 ghost use Rattle.std.specs.Prelude.{◌≡◌, ◌<◌, ◌%◌, if◌then◌else◌};
 ghost use Rattle.guest_machine.specs.Operand.{factor_of, size_for, charged, unmoved, moved_by, base_of, index_of, address_of, kept, kept_byte, carried_as, carried};
 ghost use Rattle.guest_machine.specs.Ranges.{range_accesses};
@@ -64,7 +66,8 @@ fn moved_by<V: Values>(field: Option<u64>, number: u64, word: V::Word) -> Result
 /// The base of an address with the displacement.
 #[tactic(auto, unfolding(crate::specs::Operand::base_of))]
 fn base<V: Values>(frame: &Frame, registers: &Registers<V::Word>, base: Base) -> Result<u64, Cause>
-    ensures { result ≡ base_of V.operations frame.now.displacement_field frame.now.displacement frame.now.next registers.now base }
+    ensures { result ≡ base_of V.operations frame.now.displacement_field frame.now.displacement frame.now.next
+        registers.now base }
 {
     match base {
         Base::Absolute => unmoved::<V>(frame.displacement_field, frame.displacement),
@@ -156,7 +159,8 @@ pub(crate) fn carried<V: Values, S: Space<V>>(
     space: &S,
     operand: &Operand,
 ) -> Result<V::Word, Stop>
-    ensures { result ≡ carried V.operations (range_accesses V.operations) width frame.now state.now (S.memory space.now) operand.now }
+    ensures { result ≡ carried V.operations (range_accesses V.operations) width frame.now state.now
+        (S.memory space.now) operand.now }
 {
     match operand {
         Operand::Register(name) => Ok(kept::<V>(width, register(&state.registers, *name))),

@@ -1,3 +1,5 @@
+//! Steps up to a stop.
+
 ghost use Rattle.std.specs.Prelude.{◌≡◌};
 ghost use Rattle.guest_machine.specs.Run.{Runs, returned, is_look};
 
@@ -40,7 +42,8 @@ pub(crate) fn run<V: Values, S: Space<V>>(
     space: &mut S,
     limit: u64,
 ) -> Stop
-    ensures { Runs V.operations limit result (record { state = state.old; taken = taken.old }) (S.memory space.old) (record { state = state.new; taken = taken.new }) (S.memory space.new) }
+    ensures { Runs V.operations limit result (record { state = state.old; taken = taken.old }) (S.memory space.old)
+        (record { state = state.new; taken = taken.new }) (S.memory space.new) }
 {
     loop {
         if state.place == RETURN {

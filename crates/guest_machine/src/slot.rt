@@ -1,3 +1,5 @@
+//! Operands that are used, and where results go.
+
 ghost use Rattle.std.specs.Prelude.{◌≡◌, ◌<◌, IfOk};
 ghost use Rattle.guest_arithmetic.specs.Arithmetic.{span_of};
 ghost use Rattle.guest_machine.specs.Operand.{size_of, number_at, weighed, taken_at, taken, put};
@@ -58,7 +60,8 @@ fn weighed<V: Values, S: Space<V>>(
     place: u64,
     other: Result<u64, Cause>,
 ) -> Result<(u64, u64), Stop>
-    ensures value { result ≡ weighed V.operations (range_accesses V.operations) width here (load_of V.operations (range_accesses V.operations) (S.memory space.now) place (size_of width)) other }
+    ensures value { result ≡ weighed V.operations (range_accesses V.operations) width here
+        (load_of V.operations (range_accesses V.operations) (S.memory space.now) place (size_of width)) other }
     ensures small { IfOk result (λ parts. parts.0 < span_of width) }
     ensures other { IfOk result (λ parts. other ≡ Ok parts.1) }
 {
@@ -78,7 +81,8 @@ fn take_at<V: Values, S: Space<V>>(
     address: Result<u64, Cause>,
     other: Result<u64, Cause>,
 ) -> Result<Taken, Stop>
-    ensures value { result ≡ taken_at V.operations (range_accesses V.operations) width here (S.memory space.now) address other }
+    ensures value { result ≡ taken_at V.operations (range_accesses V.operations) width here (S.memory space.now)
+        address other }
     ensures small { IfOk result (λ it. it.number < span_of width) }
     ensures other { IfOk result (λ it. other ≡ Ok it.other) }
 {
@@ -105,7 +109,8 @@ pub(crate) fn take_operand<V: Values, S: Space<V>>(
     operand: &Operand,
     other: Result<u64, Cause>,
 ) -> Result<Taken, Stop>
-    ensures value { result ≡ taken V.operations (range_accesses V.operations) width frame.now state.now (S.memory space.now) operand.now other }
+    ensures value { result ≡ taken V.operations (range_accesses V.operations) width frame.now state.now
+        (S.memory space.now) operand.now other }
     ensures small { IfOk result (λ it. it.number < span_of width) }
     ensures other { IfOk result (λ it. other ≡ Ok it.other) }
 {

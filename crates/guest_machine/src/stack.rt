@@ -1,3 +1,5 @@
+//! push, pop, leave, ret and call.
+
 ghost use Rattle.std.specs.Prelude.{◌≡◌};
 ghost use Rattle.amd64_subset.specs.declared.instr.Target.TheVariants.{Indirect};
 ghost use Rattle.guest_machine.specs.Step.{pushed, push_of, pop_of, leave_of, return_of, call_of};

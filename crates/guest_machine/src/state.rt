@@ -1,3 +1,5 @@
+//! What a machine holds besides its memory.
+
 ghost use Rattle.std.specs.Prelude.{◌≡◌};
 ghost use Rattle.guest_machine.specs.State.{register_of, with_register, start_of};
 

@@ -1,3 +1,5 @@
+//! One instruction, and one step.
+
 ghost use Rattle.std.specs.Prelude.{◌≡◌};
 ghost use Rattle.guest_machine.specs.Ranges.{range_accesses, is_field_of};
 ghost use Rattle.amd64_subset.specs.Decoding.{decoded};

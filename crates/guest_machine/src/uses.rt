@@ -1,3 +1,5 @@
+//! Uses and accesses by the instruction at an address.
+
 ghost use Rattle.std.specs.Prelude.{◌≡◌};
 ghost use Rattle.guest_machine.specs.Access.{bytes_in, load_of, store_of};
 ghost use Rattle.guest_machine.specs.Ranges.{range_accesses};

@@ -29,7 +29,8 @@ pub trait Bytes<V: Values> {
 
     /// Writes the byte at a place, or nothing where it may not be written.
     fn write(&mut self, place: u64, byte: V::Byte)
-        ensures { memory self.new ≡ record (memory self.old) { ranges = with_byte (memory self.old).ranges place byte } };
+        ensures { memory self.new ≡
+            record (memory self.old) { ranges = with_byte (memory self.old).ranges place byte } };
 
     /// Whether an offset field begins at a place.
     fn is_field(&self, place: u64) -> bool

@@ -1,3 +1,5 @@
+//! A memory in owned bytes.
+
 ghost use Rattle.std.specs.Prelude.{◌≡◌, [], ◌∷◌, ◌++◌, OnOk, OnErr, ◌==◌};
 ghost use Rattle.std.specs.List.{list_any};
 ghost use Rattle.guest_memory.specs.Writable.{first_writable};

@@ -1,3 +1,5 @@
+//! A range of bytes with its rights.
+
 ghost use Rattle.std.specs.Prelude.{◌≡◌, ◌<◌, ◌-◌, IsTrue, slice_get, slice_set};
 ghost use Rattle.guest_machine.specs.Ranges.{grants, holds};
 
@@ -25,12 +27,24 @@ impl<B> Model for GuestRange<B> {
 
     ghost Value = { Range B };
 
-    ghost view = { λ range. record { start = range.start; bytes = range.bytes.items; readable = range.rights.readable; writable = range.rights.writable; runnable = range.rights.runnable } };
+    ghost view = { λ range. record {
+      start = range.start;
+      bytes = range.bytes.items;
+      readable = range.rights.readable;
+      writable = range.rights.writable;
+      runnable = range.rights.runnable;
+    } };
 }
 
 impl<B: Copy + Drop> GuestRange<B> {
     pub fn new(start: u64, bytes: Vec<B>, rights: Rights) -> Self
-        ensures { result ≡ record { start = start; bytes = bytes.items; readable = rights.readable; writable = rights.writable; runnable = rights.runnable } }
+        ensures { result ≡ record {
+          start = start;
+          bytes = bytes.items;
+          readable = rights.readable;
+          writable = rights.writable;
+          runnable = rights.runnable;
+        } }
     {
         GuestRange {
             start,

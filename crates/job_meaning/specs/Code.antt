@@ -19,11 +19,15 @@ SameCodeByte (Odd why) (Some a) (Some a') = Unit {0}
 -- what an instruction that begins at a place may be read from
 module _ {M M' B B' : Type 0} (mark : ℕ → Mark) (acc : Accesses M B) (acc' : Accesses M' B') (m : M) (m' : M') where
   abbrev pub SameCodeAt : ℕ → ℕ → Type 0
-  SameCodeAt place size = (k : ℕ) → k < size → SameCodeByte (mark (place_at place k)) (acc.code m (place_at place k)) (acc'.code m' (place_at place k))
+  SameCodeAt place size =
+      (k : ℕ) → k < size → SameCodeByte (mark (place_at place k)) (acc.code m (place_at place k))
+      (acc'.code m' (place_at place k))
 
--- shut: the linker's own, where no instruction of the program begins, so only what one can reach that begins elsewhere counts
+-- shut: the linker's own, where no instruction of the program begins: only what one can reach that begins elsewhere is
+-- the same
 -- SameField: what a field at a place has to do with what stands there in the image
-pub record SameCode {M M' B B' : Type 0} (mark : ℕ → Mark) (shut : ℕ → Bool) (SameField : ℕ → ℕ → ℕ → Type 0) (acc : Accesses M B) (acc' : Accesses M' B') (m : M) (m' : M') : Type 0 where
+pub record SameCode {M M' B B' : Type 0} (mark : ℕ → Mark) (shut : ℕ → Bool) (SameField : ℕ → ℕ → ℕ → Type 0)
+    (acc : Accesses M B) (acc' : Accesses M' B') (m : M) (m' : M') : Type 0 where
   pub byte : (here : ℕ) → shut here ≡ false → SameCodeAt mark acc acc' m m' here 15
   -- a field that stands there whole
   pub field : (place : ℕ) → starts_field (mark place) ≡ true → length (code_at acc m place 4) ≡ 4

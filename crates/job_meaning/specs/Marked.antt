@@ -41,7 +41,8 @@ part_of Undefined k = Hidden
 part_of (Marked token) k = Part token k
 
 abbrev pub is_same_block : Block → Block → Bool
-is_same_block block block' = ((block.thread == block'.thread) && (block.instance == block'.instance)) && (block.start == block'.start)
+is_same_block block block' =
+    ((block.thread == block'.thread) && (block.instance == block'.instance)) && (block.start == block'.start)
 
 abbrev pub is_same : Token → Token → Bool
 is_same (Base block) (Base block') = is_same_block block block'
@@ -84,7 +85,8 @@ module _ (owner : ℕ → ℕ) where
   abbrev pub moved_in : Word → ℕ → ℕ → Result ℕ Cause
   moved_in (Number number) field place = Err cause.Field
   moved_in Undefined field place = Err cause.Field
-  moved_in (Marked (Base block)) field place = if block.instance == owner place then Ok ((block.start + field) % 2 ^ 64) else Err cause.Field
+  moved_in (Marked (Base block)) field place =
+      if block.instance == owner place then Ok ((block.start + field) % 2 ^ 64) else Err cause.Field
   moved_in (Marked (Descriptor instance symbol)) field place = Err cause.Field
 
   unfoldable pub marked_operations : Operations Word Flag Byte

@@ -1,4 +1,5 @@
--- How the meaning reads an instruction, where code has fields that only the linker knows and places that are not the program's.
+-- How the meaning reads an instruction, where code has fields that only the linker knows and places that are not the
+-- program's.
 use Rattle.std.specs.Prelude.{ℕ, zero, suc, ◌+◌, ◌-◌, ◌==◌, ◌&&◌, ◌||◌, Bool, false, List, ◌++◌, length, take, replicate, nat_lt, nat_le, Option, Some, None, Result, Err, if◌then◌else◌}
 use Rattle.std.specs.List.{list_any}
 use Rattle.std.specs.Option.{option_or}
@@ -51,12 +52,15 @@ module _ (mark : ℕ → Mark) where
   -- why byte k may not be read: it is odd, or a field's that the instruction does not cover so
   abbrev pub hindrance_of : ℕ → Option Decoded → ℕ → Mark → Option Cause
   hindrance_of here it k Usual = None
-  hindrance_of here it k (Field byte) = if (nat_lt byte 4 && nat_le byte k) && covers here it (k - byte) then None else Some cause.Field
+  hindrance_of here it k (Field byte) =
+      if (nat_lt byte 4 && nat_le byte k) && covers here it (k - byte) then None else Some cause.Field
   hindrance_of here it k (Odd why) = Some why
 
-  -- the same where the bytes before it spell no instruction and may yet begin one; where they do or cannot, it is not read
+  -- the same where the bytes before it spell no instruction and may yet begin one; where they do or cannot, it is not
+  -- read
   abbrev pub hindered : ℕ → List ℕ → ℕ → Option Cause
-  hindered here bytes k = if begins_of (take k bytes) then hindrance_of here (completed bytes) k (mark (place_at here k)) else None
+  hindered here bytes k =
+      if begins_of (take k bytes) then hindrance_of here (completed bytes) k (mark (place_at here k)) else None
 
   -- the first hindrance from byte k on, of so many more
   abbrev pub first_hindrance : ℕ → List ℕ → ℕ → ℕ → Option Cause
@@ -83,7 +87,8 @@ module _ {W F B M : Type 0} (ops : Operations W F B) (acc : Accesses M B) (mark 
   -- one step where no sequence begins: the instruction is read from bytes that are not odd
   unfoldable pub read_step : State W F → M → Result (After W F M) Stop
   read_step state memory =
-      read_as (hindrance mark state.place (fetch_of acc memory state.place)) (decoded (fetch_of acc memory state.place)) state memory
+      read_as (hindrance mark state.place (fetch_of acc memory state.place))
+      (decoded (fetch_of acc memory state.place)) state memory
 
   -- shut: the places that are the linker's own
   module _ (shut : ℕ → Bool) where

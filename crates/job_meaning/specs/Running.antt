@@ -22,10 +22,13 @@ asked place (Err (Unclean at why)) = Unclean at why
 asked place (Err (Steps at)) = Unclean place cause.Steps
 
 -- mark: what each place of code is, in a memory; shut: which places are the linker's own
-module _ {W F B M : Type 0} (ops : Operations W F B) (acc : Accesses M B) (mark : M → ℕ → Mark) (shut : M → ℕ → Bool) where
+module _ {W F B M : Type 0} (ops : Operations W F B) (acc : Accesses M B) (mark : M → ℕ → Mark)
+    (shut : M → ℕ → Bool) where
   unfoldable pub meaning : Stepping (After W F M)
   meaning = record {
-    over = λ at. if at.state.place == 0x2000 then Some (returned (ops.number_of at.state.registers.rax) at.state.place) else None;
+    over = λ at. if at.state.place == 0x2000
+        then Some (returned (ops.number_of at.state.registers.rax) at.state.place)
+        else None;
     step = λ at. next_of (meaning_step ops acc (mark at.memory) (shut at.memory) at.state at.memory);
     spent = λ at. asked at.state.place (meaning_step ops acc (mark at.memory) (shut at.memory) at.state at.memory);
   }

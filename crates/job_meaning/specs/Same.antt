@@ -1,5 +1,5 @@
--- What marked values are in an image: numbers are themselves, a token is the number that the linker chose for it, and of
--- what is unknown nothing is said.
+-- What marked values are in an image: numbers are themselves, a token is the number that the linker chose for it,
+-- and of what is unknown nothing is said.
 use Rattle.std.specs.Prelude.{◌≡◌, ℕ, ◌+◌, ◌%◌, ◌^◌, ◌<◌, Bool, Option, Some, None}
 use Rattle.guest_machine.specs.Follow.{Alike}
 use Rattle.guest_arithmetic.specs.Values.{digit}
@@ -12,7 +12,8 @@ use Rattle.job_meaning.specs.declared.values.Flag.TheVariants.{Truth, Unsettled}
 use Rattle.job_meaning.specs.declared.values.Byte.{Byte}
 use Rattle.job_meaning.specs.declared.values.Byte.TheVariants.{Value, Hidden, Part}
 
--- base: what the base of a thread's block of an instance is in the image, which may be other than where the block begins
+-- base: what the base of a thread's block of an instance is in the image, which may be other than where the block
+-- begins
 -- given: what the descriptor of an instance for a symbol is
 module _ (base given : ℕ → ℕ → ℕ) where
   abbrev pub number_for : Token → ℕ
@@ -41,11 +42,13 @@ SameFlag Unsettled flag = Unit {0}
 
 -- owner: the instance whose code stands at a place
 module _ (start : ℕ → ℕ → ℕ) (owner : ℕ → ℕ) (base : ℕ → ℕ → ℕ) where
-  -- what stands in an instruction is that number in the image; a field moves each thread's base to one address in both, and is no field there
+  -- what stands in an instruction is that number in the image; a field moves each thread's base to one address in
+  -- both, and is no field there
   abbrev pub SameField : Option ℕ → Option ℕ → ℕ → ℕ → Type 0
   SameField None field number number' = (field ≡ None) × (number' ≡ number)
   SameField (Some place) field number number' =
-      (field ≡ None) × ((thread : ℕ) → (start thread (owner place) + number) % 2 ^ 64 ≡ (base thread (owner place) + number') % 2 ^ 64)
+      (field ≡ None) × ((thread : ℕ) → (start thread (owner place) + number) % 2 ^ 64 ≡
+      (base thread (owner place) + number') % 2 ^ 64)
 
 unfoldable pub same : (start : ℕ → ℕ → ℕ) (owner : ℕ → ℕ) (base given : ℕ → ℕ → ℕ) → Alike Word Flag Byte ℕ Bool ℕ
 same start owner base given = record {

@@ -1,4 +1,5 @@
--- Memories of ranges that stand for each other: the same places, the same rights, and bytes that are related where they are data.
+-- Memories of ranges that stand for each other: the same places, the same rights, and bytes that are related where
+-- they are data.
 use Rattle.std.specs.Prelude.{◌≡◌, ◌||◌, true, length}
 use Rattle.guest_machine.specs.Follow.{All2, Alike}
 use Rattle.guest_machine.specs.Ranges.{Range, AddressSpace}

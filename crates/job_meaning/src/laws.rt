@@ -18,7 +18,8 @@ pub fn is_lawful()
 
 /// Plain numbers follow marked values, whatever the bases and the descriptors of an image are.
 pub fn values_follow()
-    ensures { (start : ℕ → ℕ → ℕ) (owner : ℕ → ℕ) (base given : ℕ → ℕ → ℕ) → IsFollowed (same start owner base given) (marked_operations owner) plain_operations }
+    ensures { (start : ℕ → ℕ → ℕ) (owner : ℕ → ℕ) (base given : ℕ → ℕ → ℕ)
+        → IsFollowed (same start owner base given) (marked_operations owner) plain_operations }
 {}
 
 /// Where code is usual, the meaning's step is the machine's over marked values, unless it reaches for

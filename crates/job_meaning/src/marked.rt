@@ -1,3 +1,5 @@
+//! Marked values, as a machine computes with them.
+
 ghost use Rattle.std.specs.Prelude.{◌≡◌, ◌+◌, ◌%◌, ◌^◌, ◌≤◌, ◌++◌, length};
 ghost use Rattle.std.specs.Option.{option_map};
 ghost use Rattle.guest_arithmetic.specs.Four.{bytes_of};

@@ -1,3 +1,5 @@
+//! What registers, flags and bytes hold in the meaning.
+
 /// One thread's block of an instance.
 #[derive(Clone, Copy, PartialEq, Eq, Debug)]
 pub struct Block {
