@@ -8,7 +8,8 @@ use Rattle.object_faults.specs.declared.relocation.RelocationKind.TheVariants.{N
 use Rattle.elf_object.specs.declared.relocation.Relocation.{Relocation}
 use Rattle.elf_object.specs.Parts.{symbol_count, IsSection}
 use Rattle.elf_object.specs.Classes.{IsTls}
-use Rattle.elf_object.specs.Lent.{section_class, section_size, section_alignment, section_bytes, symbol_type, symbol_place, symbol_value, symbol_size}
+use Rattle.elf_object.specs.Lent.{section_class, section_size, section_alignment, section_bytes, symbol_type}
+use Rattle.elf_object.specs.Lent.{symbol_place, symbol_value, symbol_size}
 use Rattle.elf_object.specs.Relocations.{field_width, IsOfCode}
 
 -- whether a section of this class has bytes in the file
@@ -27,12 +28,16 @@ pub record IsKeptAs (b : List ℕ) (s : ℕ) (class : SectionClass) : Type 0 whe
   pub aligned : IsPower (section_alignment b s)
   pub filled : length (section_bytes b s) ≡ (if has_initial class then section_size b s else 0)
 
--- symbol e is defined in a section that there is, and where linking keeps it the symbol lies in it; thread-local storage has no functions
+-- symbol e is defined in a section that there is, and where linking keeps it the symbol lies in it; thread-local
+-- storage has no functions
 pub record IsPlaced (b : List ℕ) (e : ℕ) : Type 0 where
   pub section : (s : ℕ) → symbol_place b e ≡ InSection s → IsSection b s
-  pub inside : (s : ℕ) → symbol_place b e ≡ InSection s → IsSome (section_class b s) → symbol_value b e + symbol_size b e ≤ section_size b s
-  pub no_code : (s : ℕ) → symbol_place b e ≡ InSection s → IsTls (section_class b s) → (symbol_type b e ≢ Func) × (symbol_type b e ≢ File)
-  pub thread_local : (s : ℕ) → symbol_type b e ≡ ThreadLocal → symbol_place b e ≡ InSection s → IsTls (section_class b s)
+  pub inside : (s : ℕ) → symbol_place b e ≡ InSection s → IsSome (section_class b s)
+      → symbol_value b e + symbol_size b e ≤ section_size b s
+  pub no_code : (s : ℕ) → symbol_place b e ≡ InSection s → IsTls (section_class b s)
+      → (symbol_type b e ≢ Func) × (symbol_type b e ≢ File)
+  pub thread_local : (s : ℕ) → symbol_type b e ≡ ThreadLocal → symbol_place b e ≡ InSection s
+      → IsTls (section_class b s)
 
 -- symbol e, which is not LOCAL, is undefined or lies in a section that linking keeps
 pub record IsShared (b : List ℕ) (e : ℕ) : Type 0 where
@@ -45,4 +50,5 @@ pub record IsLawful (b : List ℕ) (t : ℕ) (relocation : Relocation) : Type 0 
   pub code : IsOfCode relocation.kind → section_class b t ≡ Some Executable
   pub symbol : relocation.kind ≢ Nothing → (0 < relocation.symbol) × (relocation.symbol < symbol_count b)
   pub relative : relocation.kind ≢ Nothing → symbol_place b relocation.symbol ≢ Absolute
-  pub kept : relocation.kind ≢ Nothing → (s : ℕ) → symbol_place b relocation.symbol ≡ InSection s → IsSome (section_class b s)
+  pub kept : relocation.kind ≢ Nothing → (s : ℕ) → symbol_place b relocation.symbol ≡ InSection s
+      → IsSome (section_class b s)

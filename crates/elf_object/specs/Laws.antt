@@ -1,12 +1,14 @@
 -- What callers may rely on of an object that was read.
-use Rattle.std.specs.Prelude.{◌≡◌, ◌+◌, ◌*◌, ◌<◌, ◌≤◌, ◌^◌, ◌⊎◌, ◌&&◌, ℕ, zero, suc, List, [], length, Option, Some, None, IsSome, is_some, is_none, Bool, true, false, nat_lt, if◌then◌else◌}
+use Rattle.std.specs.Prelude.{◌≡◌, ◌+◌, ◌*◌, ◌<◌, ◌≤◌, ◌^◌, ◌⊎◌, ◌&&◌, ℕ, zero, suc, List, [], length, Option, Some}
+use Rattle.std.specs.Prelude.{None, IsSome, is_some, is_none, Bool, true, false, nat_lt, if◌then◌else◌}
 use Rattle.std.proofs.Common.{inl, inr, refl, sym, ap, subst, arith}
 use Rattle.std.proofs.lemmas.Bool.{cases_lt}
 use Rattle.std.proofs.lemmas.Bool.Decides.{nat_tests}
 use Rattle.object_faults.specs.declared.fault.FaultKind.TheVariants.{TooLarge}
 use Rattle.object_faults.specs.declared.class.SectionClass.{SectionClass}
 use Rattle.elf_object.specs.declared.relocation.Relocation.{Relocation}
-use Rattle.elf_object.specs.Parts.{header, section, is_section, symbol_table, symbol_count, relocation_table, entry_count, IsTable, IsRela, IsSection}
+use Rattle.elf_object.specs.Parts.{header, section, is_section, symbol_table, symbol_count, relocation_table}
+use Rattle.elf_object.specs.Parts.{entry_count, IsTable, IsRela, IsSection}
 use Rattle.elf_object.specs.Classes.{kept_class, IsKeptSection}
 use Rattle.elf_object.specs.Lent.{section_class, relocations_from, relocations_in, relocations, kept_relocation_table}
 use Rattle.elf_object.specs.Object.{IsOfData, IsWritable}
@@ -14,14 +16,17 @@ use Rattle.elf_object.specs.Faults.{Stands, IsObject}
 use Rattle.elf_object.specs.Searches.{table_is, relocates_is}
 
 -- a section that linking keeps is one, of its class
-pub kept_is : (b : List ℕ) (s : ℕ) → is_none (section_class b s) ≡ false → IsKeptSection b s × (section_class b s ≡ kept_class (section b s))
+pub kept_is : (b : List ℕ) (s : ℕ) → is_none (section_class b s) ≡ false
+    → IsKeptSection b s × (section_class b s ≡ kept_class (section b s))
 unfolding section_class
-kept_is b s h = kept_of (is_section b s) (kept_class (section b s)) (IsSection b s) (λ t. of_section s (header b).e_shnum t) h
+kept_is b s h = kept_of (is_section b s) (kept_class (section b s)) (IsSection b s)
+    (λ t. of_section s (header b).e_shnum t) h
   where
     of_section : (s n : ℕ) → (nat_lt 0 s && nat_lt s n) ≡ true → (0 < s) × (s < n)
     of_section s n h = grind (arith, nat_tests)
 
-    kept_of : (t : Bool) (class : Option SectionClass) (P : Type 0) → (t ≡ true → P) → is_none (if t then class else None) ≡ false
+    kept_of : (t : Bool) (class : Option SectionClass) (P : Type 0) → (t ≡ true → P)
+        → is_none (if t then class else None) ≡ false
         → (P × IsSome class) × ((if t then class else None) ≡ class)
     kept_of true (Some c) P p h = ((p refl, refl), refl)
     kept_of true None P p h = absurd (cc)
@@ -42,7 +47,8 @@ kept_small b object s kept =
     ]
 
 -- a table has at most 2^20 entries
-pub table_small : (b : List ℕ) → IsObject b → (s : ℕ) → IsTable b s ⊎ (IsRela b s × IsKeptSection b (section b s).info) → entry_count (section b s) ≤ 2 ^ 20
+pub table_small : (b : List ℕ) → IsObject b → (s : ℕ)
+    → IsTable b s ⊎ (IsRela b s × IsKeptSection b (section b s).info) → entry_count (section b s) ≤ 2 ^ 20
 unfolding Stands
 table_small b object s table =
     elim (cases_lt (24 * 2 ^ 20) (section b s).size) [
@@ -55,7 +61,8 @@ pub symbols_few : (b : List ℕ) → IsObject b → symbol_count b ≤ 2 ^ 20
 symbols_few b object = elim (cases_lt 0 (symbol_table b)) [
   | inl some ↦
       let table = table_is b some in
-      few_if (nat_lt 0 (symbol_table b)) (entry_count (section b (symbol_table b))) (table_small b object (symbol_table b) (inl ((some, table.0), table.1)))
+      few_if (nat_lt 0 (symbol_table b)) (entry_count (section b (symbol_table b)))
+      (table_small b object (symbol_table b) (inl ((some, table.0), table.1)))
   | inr none ↦ few_none (symbol_table b) (entry_count (section b (symbol_table b))) none
 ]
   where
@@ -96,7 +103,8 @@ relocations_few b object t =
           let table = table_of_kept b t some in
           let P : ℕ → Type 0 = λ x. IsKeptSection b x in
           let few = table_small b object r (inr (table.1, subst P (sym table.2) table.0)) in
-          few_if (nat_lt 0 r) (relocations_from b (section b r).offset 0 (entry_count (section b r))) (omega (arith, few, length-relocations_from b (section b r).offset 0 (entry_count (section b r))))
+          few_if (nat_lt 0 r) (relocations_from b (section b r).offset 0 (entry_count (section b r)))
+          (omega (arith, few, length-relocations_from b (section b r).offset 0 (entry_count (section b r))))
       | inr none ↦ few_none r (relocations_from b (section b r).offset 0 (entry_count (section b r))) none
     ]
   where

@@ -1,5 +1,7 @@
--- What callers may rely on of the sections and symbols that an object lends: that no fault stands in it, said of its parts.
-use Rattle.std.proofs.Common.{◌≡◌, ◌≢◌, ◌+◌, ◌/◌, ◌<◌, ◌≤◌, ◌⊎◌, ◌∙◌, ◌==◌, ◌&&◌, ℕ, Bool, true, false, List, Option, Some, None, IsSome, nat_lt, if◌then◌else◌, inl, inr, refl, sym, subst, arith}
+-- What callers may rely on of the sections and symbols that an object lends: that no fault stands in it, said of its
+-- parts.
+use Rattle.std.proofs.Common.{◌≡◌, ◌≢◌, ◌+◌, ◌/◌, ◌<◌, ◌≤◌, ◌⊎◌, ◌∙◌, ◌==◌, ◌&&◌, ℕ, Bool, true, false, List, Option}
+use Rattle.std.proofs.Common.{Some, None, IsSome, nat_lt, if◌then◌else◌, inl, inr, refl, sym, subst, arith}
 use Rattle.std.proofs.lemmas.Bool.{cases_lt}
 use Rattle.std.proofs.lemmas.Bool.Decides.{nat_tests}
 use Rattle.elf_records.specs.Records.{symbol_binding as binding_number, symbol_kind as type_number}
@@ -7,11 +9,13 @@ use Rattle.object_faults.specs.declared.fault.FaultKind.TheVariants.{SymbolSecti
 use Rattle.object_faults.specs.declared.class.SectionClass.{SectionClass}
 use Rattle.object_faults.specs.declared.class.SectionClass.TheVariants.{Executable, ReadOnly, Tls, Writable}
 use Rattle.elf_object.specs.declared.symbol.SymbolBinding.TheVariants.{Local, Global, Weak}
-use Rattle.elf_object.specs.declared.symbol.SymbolType.TheVariants.{NoType, Object, Func, Section, File, Tls as ThreadLocal}
+use Rattle.elf_object.specs.declared.symbol.SymbolType.TheVariants.{NoType, Object, Func, Section, File}
+use Rattle.elf_object.specs.declared.symbol.SymbolType.TheVariants.{Tls as ThreadLocal}
 use Rattle.elf_object.specs.declared.symbol.SymbolPlace.TheVariants.{Undefined, Absolute, InSection}
 use Rattle.elf_object.specs.Parts.{header, section, symbol, symbol_table, symbol_count, IsSection}
 use Rattle.elf_object.specs.Classes.{kept_class, IsKeptSection, IsTls}
-use Rattle.elf_object.specs.Lent.{section_class, section_size, symbol_binding, symbol_type, symbol_place, symbol_value, symbol_size, place_numbered, type_numbered}
+use Rattle.elf_object.specs.Lent.{section_class, section_size, symbol_binding, symbol_type, symbol_place}
+use Rattle.elf_object.specs.Lent.{symbol_value, symbol_size, place_numbered, type_numbered}
 use Rattle.elf_object.specs.Lawful.{IsPlaced, IsShared}
 use Rattle.elf_object.specs.Faults.{Stands, IsObject, IsSymbol}
 
@@ -54,7 +58,12 @@ has_table : (t n e : ℕ) → e < (if nat_lt 0 t then n else 0) → 0 < t
 has_table t n e h = grind (arith, nat_tests)
 
 pub is_symbol : (b : List ℕ) (e : ℕ) → 0 < e → e < symbol_count b → IsSymbol b (symbol_table b) e
-is_symbol b e above below = (has_table (symbol_table b) ((section b (symbol_table b)).size / 24) e below, refl, above, below)
+is_symbol b e above below = (
+  has_table (symbol_table b) ((section b (symbol_table b)).size / 24) e below,
+  refl,
+  above,
+  below,
+)
 
 -- a symbol's place in a section is that of its number
 place_in : (n s : ℕ) → place_numbered n ≡ InSection s → (n ≡ s) × (n ≢ 0) × (n ≢ 0xfff1)
@@ -66,31 +75,36 @@ place_in n s h = place_cases (n == 0) (n == 0xfff1) n s h (zero_or n) (abs_or n)
     abs_or : (n : ℕ) → (n == 0xfff1) ≡ false → n ≢ 0xfff1
     abs_or n h = grind (arith, nat_tests)
 
-    place_cases : (zero abs : Bool) (n s : ℕ) → (if zero then Undefined else if abs then Absolute else InSection n) ≡ InSection s
+    place_cases : (zero abs : Bool) (n s : ℕ)
+        → (if zero then Undefined else if abs then Absolute else InSection n) ≡ InSection s
         → (zero ≡ false → n ≢ 0) → (abs ≡ false → n ≢ 0xfff1) → (n ≡ s) × (n ≢ 0) × (n ≢ 0xfff1)
     place_cases true abs n s h a b = absurd (cc)
     place_cases false true n s h a b = absurd (cc)
     place_cases false false n s h a b = (cc, a refl, b refl)
 
-pub place_is : (b : List ℕ) (e s : ℕ) → symbol_place b e ≡ InSection s → (0 < e) × ((symbol b e).shndx ≡ s) × ((symbol b e).shndx ≢ 0) × ((symbol b e).shndx ≢ 0xfff1)
+pub place_is : (b : List ℕ) (e s : ℕ) → symbol_place b e ≡ InSection s
+    → (0 < e) × ((symbol b e).shndx ≡ s) × ((symbol b e).shndx ≢ 0) × ((symbol b e).shndx ≢ 0xfff1)
 unfolding symbol_place
 place_is b e s h = of_place (nat_lt 0 e) e (symbol b e).shndx s h (above e)
   where
     above : (e : ℕ) → nat_lt 0 e ≡ true → 0 < e
     above e h = grind (arith, nat_tests)
 
-    of_place : (t : Bool) (e n s : ℕ) → (if t then place_numbered n else Undefined) ≡ InSection s → (t ≡ true → 0 < e) → (0 < e) × (n ≡ s) × (n ≢ 0) × (n ≢ 0xfff1)
+    of_place : (t : Bool) (e n s : ℕ) → (if t then place_numbered n else Undefined) ≡ InSection s
+        → (t ≡ true → 0 < e) → (0 < e) × (n ≡ s) × (n ≢ 0) × (n ≢ 0xfff1)
     of_place true e n s h a = let found = place_in n s h in (a refl, found.0, found.1, found.2)
     of_place false e n s h a = absurd (cc)
 
 pub place_absolute : (b : List ℕ) (e : ℕ) → symbol_place b e ≡ Absolute → (symbol b e).shndx ≡ 0xfff1
 unfolding symbol_place
-place_absolute b e h = of_place (nat_lt 0 e) ((symbol b e).shndx == 0) ((symbol b e).shndx == 0xfff1) (symbol b e).shndx h (same (symbol b e).shndx)
+place_absolute b e h = of_place (nat_lt 0 e) ((symbol b e).shndx == 0) ((symbol b e).shndx == 0xfff1)
+    (symbol b e).shndx h (same (symbol b e).shndx)
   where
     same : (n : ℕ) → (n == 0xfff1) ≡ true → n ≡ 0xfff1
     same n h = grind (arith, nat_tests)
 
-    of_place : (t zero abs : Bool) (n : ℕ) → (if t then (if zero then Undefined else if abs then Absolute else InSection n) else Undefined) ≡ Absolute
+    of_place : (t zero abs : Bool) (n : ℕ)
+        → (if t then (if zero then Undefined else if abs then Absolute else InSection n) else Undefined) ≡ Absolute
         → (abs ≡ true → n ≡ 0xfff1) → n ≡ 0xfff1
     of_place true true abs n h a = absurd (cc)
     of_place true false true n h a = a refl
@@ -105,7 +119,8 @@ func_is n h = of_type (n == 0) (n == 1) (n == 2) (n == 3) (n == 4) n h (same n)
     same n h = grind (arith, nat_tests)
 
     of_type : (a b c d e : Bool) (n : ℕ)
-        → (if a then NoType else if b then Object else if c then Func else if d then Section else if e then File else ThreadLocal) ≡ Func
+        → (if a then NoType else if b then Object else if c then Func else if d then Section else if e then File
+        else ThreadLocal) ≡ Func
         → (c ≡ true → n ≡ 2) → n ≡ 2
     of_type true b c d e n h k = absurd (cc)
     of_type false true c d e n h k = absurd (cc)
@@ -121,7 +136,8 @@ file_is n h = of_type (n == 0) (n == 1) (n == 2) (n == 3) (n == 4) n h (same n)
     same n h = grind (arith, nat_tests)
 
     of_type : (a b c d e : Bool) (n : ℕ)
-        → (if a then NoType else if b then Object else if c then Func else if d then Section else if e then File else ThreadLocal) ≡ File
+        → (if a then NoType else if b then Object else if c then Func else if d then Section else if e then File
+        else ThreadLocal) ≡ File
         → (e ≡ true → n ≡ 4) → n ≡ 4
     of_type true b c d e n h k = absurd (cc)
     of_type false true c d e n h k = absurd (cc)
@@ -134,11 +150,13 @@ file_is n h = of_type (n == 0) (n == 1) (n == 2) (n == 3) (n == 4) n h (same n)
 thread_local_is : (n : ℕ) → type_numbered n ≡ ThreadLocal → 5 ≤ n
 thread_local_is n h = of_type (n == 0) (n == 1) (n == 2) (n == 3) (n == 4) n h (large n)
   where
-    large : (n : ℕ) → (n == 0) ≡ false → (n == 1) ≡ false → (n == 2) ≡ false → (n == 3) ≡ false → (n == 4) ≡ false → 5 ≤ n
+    large : (n : ℕ) → (n == 0) ≡ false → (n == 1) ≡ false → (n == 2) ≡ false → (n == 3) ≡ false
+        → (n == 4) ≡ false → 5 ≤ n
     large n a b c d e = grind (arith, nat_tests)
 
     of_type : (a b c d e : Bool) (n : ℕ)
-        → (if a then NoType else if b then Object else if c then Func else if d then Section else if e then File else ThreadLocal) ≡ ThreadLocal
+        → (if a then NoType else if b then Object else if c then Func else if d then Section else if e then File
+        else ThreadLocal) ≡ ThreadLocal
         → (a ≡ false → b ≡ false → c ≡ false → d ≡ false → e ≡ false → 5 ≤ n) → 5 ≤ n
     of_type true b c d e n h k = absurd (cc)
     of_type false true c d e n h k = absurd (cc)
@@ -152,12 +170,14 @@ unfolding symbol_type
 type_of b e above = rw (above_of e above) refl
 
 -- the section that a symbol is defined in is one
-section_at : (b : List ℕ) → IsObject b → (e : ℕ) → 0 < e → e < symbol_count b → (symbol b e).shndx ≢ 0 → (symbol b e).shndx ≢ 0xfff1 → IsSection b (symbol b e).shndx
+section_at : (b : List ℕ) → IsObject b → (e : ℕ) → 0 < e → e < symbol_count b → (symbol b e).shndx ≢ 0
+    → (symbol b e).shndx ≢ 0xfff1 → IsSection b (symbol b e).shndx
 unfolding Stands
 section_at b object e above below defined relative =
     elim (section_or_not b (symbol b e).shndx) [
       | inl within ↦ within
-      | inr none ↦ absurd (object SymbolSection (symbol_table b) e (is_symbol b e above below, inl (defined, relative, none)))
+      | inr none ↦ absurd (object SymbolSection (symbol_table b) e
+          (is_symbol b e above below, inl (defined, relative, none)))
     ]
 
 -- where linking keeps that section, the symbol lies in it
@@ -180,12 +200,21 @@ unfolding Stands
 no_code_at b object e above below within tls =
     let s = (symbol b e).shndx in
     let kept : IsTls (kept_class (section b s)) = rw (← class_of_section b s within) tls in (
-      λ func. object SymbolKind (symbol_table b) e (is_symbol b e above below, inr (inr (inl ((within, kept), inl (func_is _ (sym (type_of b e above) ∙ func)))))),
-      λ file. object SymbolKind (symbol_table b) e (is_symbol b e above below, inr (inr (inl ((within, kept), inr (file_is _ (sym (type_of b e above) ∙ file)))))),
+      λ func. object SymbolKind (symbol_table b) e (
+        is_symbol b e above below,
+        inr
+            (inr (inl ((within, kept), inl (func_is _ (sym (type_of b e above) ∙ func))))),
+      ),
+      λ file. object SymbolKind (symbol_table b) e (
+        is_symbol b e above below,
+        inr
+            (inr (inl ((within, kept), inr (file_is _ (sym (type_of b e above) ∙ file))))),
+      ),
     )
 
 -- a symbol of thread-local storage is defined there
-tls_at : (b : List ℕ) → IsObject b → (e : ℕ) → 0 < e → e < symbol_count b → IsSection b (symbol b e).shndx → (symbol b e).shndx ≢ 0
+tls_at : (b : List ℕ) → IsObject b → (e : ℕ) → 0 < e → e < symbol_count b → IsSection b (symbol b e).shndx
+    → (symbol b e).shndx ≢ 0
     → symbol_type b e ≡ ThreadLocal → IsTls (section_class b (symbol b e).shndx)
 unfolding Stands
 tls_at b object e above below within defined tls =
@@ -228,7 +257,9 @@ placed b object e below = record {
 -- a symbol that is not LOCAL
 binding_of : (b : List ℕ) (e : ℕ) → symbol_binding b e ≢ Local → (0 < e) × (binding_number (symbol b e) ≢ 0)
 unfolding symbol_binding
-binding_of b e shared = of_binding (nat_lt 0 e) (binding_number (symbol b e) == 0) (binding_number (symbol b e) == 1) e (binding_number (symbol b e)) shared (above e) (other (binding_number (symbol b e)))
+binding_of b e shared = of_binding (nat_lt 0 e) (binding_number (symbol b e) == 0)
+    (binding_number (symbol b e) == 1) e (binding_number (symbol b e)) shared (above e)
+    (other (binding_number (symbol b e)))
   where
     above : (e : ℕ) → nat_lt 0 e ≡ true → 0 < e
     above e h = grind (arith, nat_tests)
@@ -236,7 +267,8 @@ binding_of b e shared = of_binding (nat_lt 0 e) (binding_number (symbol b e) == 
     other : (n : ℕ) → (n == 0) ≡ false → n ≢ 0
     other n h = grind (arith, nat_tests)
 
-    of_binding : (t a b : Bool) (e n : ℕ) → (if t then (if a then Local else if b then Global else Weak) else Local) ≢ Local
+    of_binding : (t a b : Bool) (e n : ℕ)
+        → (if t then (if a then Local else if b then Global else Weak) else Local) ≢ Local
         → (t ≡ true → 0 < e) → (a ≡ false → n ≢ 0) → (0 < e) × (n ≢ 0)
     of_binding true false b e n h k l = (k refl, l refl)
     of_binding true true b e n h k l = absurd (h refl)
@@ -256,15 +288,21 @@ global_or_weak b object e above below other =
     bindings n h = grind arith
 
 -- it is not defined at a number
-not_absolute : (b : List ℕ) → IsObject b → (e : ℕ) → e < symbol_count b → symbol_binding b e ≢ Local → symbol_place b e ≢ Absolute
+not_absolute : (b : List ℕ) → IsObject b → (e : ℕ) → e < symbol_count b → symbol_binding b e ≢ Local
+    → symbol_place b e ≢ Absolute
 unfolding Stands
 not_absolute b object e below shared absolute =
     let known = binding_of b e shared in
     let binding = global_or_weak b object e known.0 below known.1 in
-    object SymbolSection (symbol_table b) e (is_symbol b e known.0 below, inr (inr (binding, inl (place_absolute b e absolute))))
+    object SymbolSection (symbol_table b) e (
+      is_symbol b e known.0 below,
+      inr
+          (inr (binding, inl (place_absolute b e absolute))),
+    )
 
 -- nor in a section that linking drops
-kept_at : (b : List ℕ) → IsObject b → (e : ℕ) → 0 < e → e < symbol_count b → binding_number (symbol b e) ≢ 0 → IsSection b (symbol b e).shndx
+kept_at : (b : List ℕ) → IsObject b → (e : ℕ) → 0 < e → e < symbol_count b → binding_number (symbol b e) ≢ 0
+    → IsSection b (symbol b e).shndx
     → IsSome (section_class b (symbol b e).shndx)
 unfolding Stands
 kept_at b object e above below other within =

@@ -1,5 +1,7 @@
 -- What callers may rely on of the sections that an object lends.
-use Rattle.std.proofs.Common.{◌≡◌, ◌≢◌, ◌+◌, ◌<◌, ◌≤◌, ◌^◌, ◌⊎◌, ◌∙◌, ◌==◌, ◌&&◌, ◌||◌, ℕ, zero, suc, Bool, true, false, not, List, length, slice_range, Option, Some, None, nat_lt, bit_and, if◌then◌else◌, inl, inr, refl, sym, ap, arith, length-take, length-drop}
+use Rattle.std.proofs.Common.{◌≡◌, ◌≢◌, ◌+◌, ◌<◌, ◌≤◌, ◌^◌, ◌⊎◌, ◌∙◌, ◌==◌, ◌&&◌, ◌||◌, ℕ, zero, suc, Bool, true}
+use Rattle.std.proofs.Common.{false, not, List, length, slice_range, Option, Some, None, nat_lt, bit_and}
+use Rattle.std.proofs.Common.{if◌then◌else◌, inl, inr, refl, sym, ap, arith, length-take, length-drop}
 use Rattle.std.proofs.lemmas.Bool.{cases_lt}
 use Rattle.std.proofs.lemmas.Bool.Decides.{nat_tests}
 use Rattle.elf_records.specs.declared.section_header.SectionHeader.{SectionHeader}
@@ -17,7 +19,8 @@ use Rattle.elf_object.specs.Laws.{kept_small, class_in_table}
 use Rattle.elf_object.specs.LawsOfParts.{class_of_section, size_of_section}
 
 -- the bytes of a section lie in the file
-pub part_in_file : (b : List ℕ) → IsObject b → (s : ℕ) → IsSection b s → HasBytes (section b s) → (section b s).offset + (section b s).size ≤ length b
+pub part_in_file : (b : List ℕ) → IsObject b → (s : ℕ) → IsSection b s → HasBytes (section b s)
+    → (section b s).offset + (section b s).size ≤ length b
 unfolding Stands
 part_in_file b object s within some =
     elim (cases_lt (length b) ((section b s).offset + (section b s).size)) [
@@ -58,14 +61,30 @@ row_initial : (f4 f0 ft f1 p n u z : Bool) (class : SectionClass) → row_of f4 
 row_initial true f0 ft f1 true n u z class h = (λ w. inl refl, λ w. absurd (cc (initial_of Executable class h)))
 row_initial true f0 ft f1 false n u z class h = absurd (cc)
 row_initial false true ft f1 true n u z class h = (λ w. inl refl, λ w. absurd (cc (initial_of ReadOnly class h)))
-row_initial false true ft f1 false true u z class h = (λ w. inr (inl refl), λ w. absurd (cc (initial_of ReadOnly class h)))
-row_initial false true ft f1 false false true z class h = (λ w. inr (inr refl), λ w. absurd (cc (initial_of ReadOnly class h)))
+row_initial false true ft f1 false true u z class h = (
+  λ w. inr (inl refl),
+  λ w. absurd
+      (cc (initial_of ReadOnly class h)),
+)
+row_initial false true ft f1 false false true z class h = (
+  λ w. inr (inr refl),
+  λ w. absurd
+      (cc (initial_of ReadOnly class h)),
+)
 row_initial false true ft f1 false false false z class h = absurd (cc)
 row_initial false false true f1 true n u z class h = (λ w. inl refl, λ w. absurd (cc (initial_of (Tls true) class h)))
 row_initial false false true f1 false n u true class h = (λ w. absurd (cc (initial_of (Tls false) class h)), λ w. refl)
 row_initial false false true f1 false n u false class h = absurd (cc)
-row_initial false false false true true n u z class h = (λ w. inl refl, λ w. absurd (cc (initial_of (Writable true) class h)))
-row_initial false false false true false n u true class h = (λ w. absurd (cc (initial_of (Writable false) class h)), λ w. refl)
+row_initial false false false true true n u z class h = (
+  λ w. inl refl,
+  λ w. absurd
+      (cc (initial_of (Writable true) class h)),
+)
+row_initial false false false true false n u true class h = (
+  λ w. absurd
+      (cc (initial_of (Writable false) class h)),
+  λ w. refl,
+)
 row_initial false false false true false n u false class h = absurd (cc)
 row_initial false false false false p n u z class h = absurd (cc)
 
@@ -74,24 +93,29 @@ pub class_holds : (h : SectionHeader) (class : SectionClass) → kept_class h �
     → (has_initial class ≡ true → HasBytes h) × (has_initial class ≡ false → h.kind ≡ 8)
 unfolding kept_class class_of
 class_holds h class e =
-    let given = of_kept (if bit_and h.flags SHF_ALLOC == 0 then None else class_row (bit_and h.flags CLASS_FLAGS) h.kind) h.size class e in
+    let given = of_kept (if bit_and h.flags SHF_ALLOC == 0 then None else class_row (bit_and h.flags CLASS_FLAGS)
+    h.kind) h.size class e in
     let row = of_alloc (bit_and h.flags SHF_ALLOC == 0) (class_row (bit_and h.flags CLASS_FLAGS) h.kind) class given in
     let flags = bit_and h.flags CLASS_FLAGS in
-    let known = row_initial (flags == 4) (flags == 0) ((flags == 0x400) || (flags == 0x401)) (flags == 1) (h.kind == 1) (h.kind == 7) (h.kind == 0x7000_0001) (h.kind == 8) class row in
+    let known = row_initial (flags == 4) (flags == 0) ((flags == 0x400) || (flags == 0x401)) (flags == 1)
+    (h.kind == 1) (h.kind == 7) (h.kind == 0x7000_0001) (h.kind == 8) class row in
     (λ initial. held h.kind (known.0 initial), λ empty. eight h.kind (known.1 empty))
   where
-    of_kept : (given : Option SectionClass) (size : ℕ) (class : SectionClass) → kept_of given size ≡ Some class → given ≡ Some class
+    of_kept : (given : Option SectionClass) (size : ℕ) (class : SectionClass) → kept_of given size ≡ Some class
+        → given ≡ Some class
     of_kept None size class e = e
     of_kept (Some Executable) size class e = e
     of_kept (Some ReadOnly) size class e = e
     of_kept (Some (Tls initial)) size class e = e
     of_kept (Some (Writable initial)) size class e = of_size (size == 0) initial class e
       where
-        of_size : (t : Bool) (initial : Bool) (class : SectionClass) → (if t then None else Some (Writable initial)) ≡ Some class → Some (Writable initial) ≡ Some class
+        of_size : (t : Bool) (initial : Bool) (class : SectionClass)
+            → (if t then None else Some (Writable initial)) ≡ Some class → Some (Writable initial) ≡ Some class
         of_size true initial class e = absurd (cc)
         of_size false initial class e = e
 
-    of_alloc : (t : Bool) (row : Option SectionClass) (class : SectionClass) → (if t then None else row) ≡ Some class → row ≡ Some class
+    of_alloc : (t : Bool) (row : Option SectionClass) (class : SectionClass)
+        → (if t then None else row) ≡ Some class → row ≡ Some class
     of_alloc true row class e = absurd (cc)
     of_alloc false row class e = e
 
@@ -107,7 +131,11 @@ alignment_or_not n = elim (zero_or_not n) [
   | inl null ↦ inl (inl null)
   | inr some ↦ elim (power_below n 13) [
     | inl power ↦ inl (inr (power.0, omega (arith, power.1), power.2))
-    | inr other ↦ inr (λ h. elim h [ inl null ↦ some null | inr power ↦ other (power.0, omega (arith, power.1), power.2) ])
+    | inr other ↦ inr (λ h. elim h [
+      | inl null ↦ some null
+      | inr power ↦ other
+          (power.0, omega (arith, power.1), power.2)
+    ])
   ]
 ]
   where
@@ -155,13 +183,15 @@ aligned_at b object s kept =
         of_test false n power = (0, omega arith, refl)
 
 -- how many bytes of the file a section has
-length_held : (b : List ℕ) → IsObject b → (s : ℕ) → IsSection b s → HasBytes (section b s) → length (section_bytes b s) ≡ (section b s).size
+length_held : (b : List ℕ) → IsObject b → (s : ℕ) → IsSection b s → HasBytes (section b s)
+    → length (section_bytes b s) ≡ (section b s).size
 unfolding section_bytes
 length_held b object s within some =
     rw (tests s (header b).e_shnum (section b s).kind within some)
     (length_part b (section b s).offset (section b s).size (part_in_file b object s within some))
   where
-    tests : (s c k : ℕ) → (0 < s) × (s < c) → (k ≢ 0) × (k ≢ 8) → ((nat_lt 0 s && nat_lt s c) && (not (k == 0) && not (k == 8))) ≡ true
+    tests : (s c k : ℕ) → (0 < s) × (s < c) → (k ≢ 0) × (k ≢ 8)
+        → ((nat_lt 0 s && nat_lt s c) && (not (k == 0) && not (k == 8))) ≡ true
     tests s c k h some = grind (arith, nat_tests)
 
     length_part : (b : List ℕ) (o n : ℕ) → o + n ≤ length b → length (slice_range b o (o + n)) ≡ n
@@ -175,16 +205,19 @@ length_empty b s empty = rw (tests (is_section b s) (section b s).kind empty) re
     tests t k h = grind (arith, nat_tests)
 
 -- its bytes are all there
-filled_at : (b : List ℕ) → IsObject b → (s : ℕ) (class : SectionClass) → IsSection b s → kept_class (section b s) ≡ Some class
+filled_at : (b : List ℕ) → IsObject b → (s : ℕ) (class : SectionClass) → IsSection b s
+    → kept_class (section b s) ≡ Some class
     → length (section_bytes b s) ≡ (if has_initial class then section_size b s else 0)
 filled_at b object s class within e = of_initial (has_initial class) refl
   where
     of_initial : (t : Bool) → has_initial class ≡ t → length (section_bytes b s) ≡ (if t then section_size b s else 0)
-    of_initial true initial = rw (size_of_section b s within) (length_held b object s within ((class_holds (section b s) class e).0 initial))
+    of_initial true initial = rw (size_of_section b s within)
+        (length_held b object s within ((class_holds (section b s) class e).0 initial))
     of_initial false initial = length_empty b s ((class_holds (section b s) class e).1 initial)
 
 -- what may be relied on of a section that linking keeps
-pub kept_as : (b : List ℕ) → IsObject b → (s : ℕ) (class : SectionClass) → section_class b s ≡ Some class → IsKeptAs b s class
+pub kept_as : (b : List ℕ) → IsObject b → (s : ℕ) (class : SectionClass) → section_class b s ≡ Some class
+    → IsKeptAs b s class
 kept_as b object s class e =
     let within = class_in_table b s (rw e refl) in
     let known = sym (class_of_section b s within) ∙ e in

@@ -1,10 +1,15 @@
--- What an object lends: names, bytes, symbols and relocations, as functions of the file's bytes (gABI, "Sections", "Symbol Table",
+-- What an object lends: names, bytes, symbols and relocations, as functions of the file's bytes (gABI, "Sections",
+-- "Symbol Table",
 -- "Relocation"). Number 0 of the sections and of the symbols is reserved, and nothing of it is looked at.
-use Rattle.std.specs.Prelude.{◌≡◌, ◌+◌, ◌*◌, ◌==◌, ◌&&◌, ℕ, not, List, [], map, drop, slice_range, Option, None, is_some, nat_lt, unwrap_or, if◌then◌else◌}
+use Rattle.std.specs.Prelude.{◌≡◌, ◌+◌, ◌*◌, ◌==◌, ◌&&◌, ℕ, not, List, [], map, drop, slice_range, Option, None}
+use Rattle.std.specs.Prelude.{is_some, nat_lt, unwrap_or, if◌then◌else◌}
 use Rattle.std.specs.List.{range_with_len, before_first}
-use Rattle.elf_records.specs.Records.{rela_at, rela_symbol, rela_kind, symbol_binding as binding_number, symbol_kind as type_number, symbol_visibility as visibility_number}
+use Rattle.elf_records.specs.Records.{rela_at, rela_symbol, rela_kind, symbol_binding as binding_number}
+use Rattle.elf_records.specs.Records.{symbol_kind as type_number, symbol_visibility as visibility_number}
 use Rattle.elf_records.specs.declared.section_header.TheConstants.{SHT_NULL, SHT_RELA, SHT_NOBITS}
-use Rattle.elf_records.specs.declared.symbol.TheConstants.{SHN_UNDEF, SHN_ABS, STB_LOCAL, STB_GLOBAL, STT_NOTYPE, STT_OBJECT, STT_FUNC, STT_SECTION, STT_FILE, STV_DEFAULT, STV_INTERNAL, STV_HIDDEN}
+use Rattle.elf_records.specs.declared.symbol.TheConstants.{SHN_UNDEF, SHN_ABS, STB_LOCAL, STB_GLOBAL, STT_NOTYPE}
+use Rattle.elf_records.specs.declared.symbol.TheConstants.{STT_OBJECT, STT_FUNC, STT_SECTION, STT_FILE, STV_DEFAULT}
+use Rattle.elf_records.specs.declared.symbol.TheConstants.{STV_INTERNAL, STV_HIDDEN}
 use Rattle.object_faults.specs.declared.class.SectionClass.{SectionClass}
 use Rattle.elf_object.specs.declared.symbol.SymbolBinding.{SymbolBinding}
 use Rattle.elf_object.specs.declared.symbol.SymbolBinding.TheVariants.{Local, Global, Weak}
@@ -36,7 +41,8 @@ type_numbered n =
     Tls
 
 abbrev pub visibility_numbered : ℕ → Visibility
-visibility_numbered n = if n == STV_DEFAULT then Default else if n == STV_INTERNAL then Internal else if n == STV_HIDDEN then Hidden else Protected
+visibility_numbered n = if n == STV_DEFAULT then Default else if n == STV_INTERNAL then Internal else if n ==
+    STV_HIDDEN then Hidden else Protected
 
 abbrev pub place_numbered : ℕ → SymbolPlace
 place_numbered n = if n == SHN_UNDEF then Undefined else if n == SHN_ABS then Absolute else InSection n
@@ -110,7 +116,13 @@ pub record IsSymbolPart (b : List ℕ) (e : ℕ) (part : SymbolPart) : Type 0 wh
 unfoldable pub relocation_at : ℕ → List ℕ → Relocation
 relocation_at at b =
     let entry = rela_at at b in
-    record { offset = entry.offset; kind = unwrap_or (relocation_kind (rela_kind entry)) Nothing; symbol = rela_symbol entry; addend = entry.addend }
+    record {
+      offset = entry.offset;
+      kind = unwrap_or (relocation_kind (rela_kind entry)) Nothing;
+      symbol =
+          rela_symbol entry;
+      addend = entry.addend;
+    }
 
 -- n relocations from an offset of the file on, beginning with number e
 unfoldable pub relocations_from : List ℕ → ℕ → ℕ → ℕ → List Relocation
@@ -131,4 +143,5 @@ relocations b t = relocations_in b (kept_relocation_table b t)
 -- the section, one that linking keeps, whose relocations section r holds; 0 where it holds none of such a section
 unfoldable pub relocation_target : List ℕ → ℕ → ℕ
 relocation_target b r =
-    if (is_section b r && ((section b r).kind == SHT_RELA)) && is_some (section_class b (section b r).info) then (section b r).info else 0
+    if (is_section b r && ((section b r).kind == SHT_RELA)) && is_some (section_class b (section b r).info) then
+    (section b r).info else 0

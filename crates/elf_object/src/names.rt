@@ -37,7 +37,8 @@ pub fn text_at(table: &[u8], at: usize) -> &[u8]
 /// The same of a text of at most `limit` bytes; `None` of a longer one. No byte behind the limit is looked at.
 #[tactic(auto, unfolding(crate::specs::Lent::text_at), using(crate::proofs::TextLengths::longer_than, crate::proofs::TextLengths::is_short))]
 pub fn short_text_at(table: &[u8], at: usize, limit: usize) -> Option<&[u8]>
-    ensures { MatchOption result (limit < length (text_at table.now at)) (λ text. (text.now ≡ text_at table.now at) × (length text.now ≤ limit)) }
+    ensures { MatchOption result (limit < length (text_at table.now at))
+        (λ text. (text.now ≡ text_at table.now at) × (length text.now ≤ limit)) }
 {
     let rest = rest_at(table, at);
     if rest.len() <= limit {

@@ -1,8 +1,11 @@
 //! An object: a file that was read and found without fault.
 
-ghost use Rattle.std.specs.Prelude.{◌≡◌, ◌≢◌, ◌<◌, ◌≤◌, ◌↔◌, ◌^◌, ℕ, length, All, IsNone, IfOk, IfErr, IfSome, OnSome, MatchOption};
+ghost use Rattle.std.specs.Prelude.{◌≡◌, ◌≢◌, ◌<◌, ◌≤◌, ◌↔◌, ◌^◌, ℕ, length, All, IsNone, IfOk, IfErr, IfSome};
+ghost use Rattle.std.specs.Prelude.{OnSome, MatchOption};
 ghost use Rattle.elf_object.specs.Parts.{symbol_count as count_of_symbols, symbol_table as table_of_symbols};
-ghost use Rattle.elf_object.specs.Lent.{IsSectionPart, IsSymbolPart, relocations as relocations_of, kept_relocation_table, relocation_target as target_of_relocations, section_name as name_of_section, symbol_name as name_of_symbol};
+ghost use Rattle.elf_object.specs.Lent.{IsSectionPart, IsSymbolPart, relocations as relocations_of};
+ghost use Rattle.elf_object.specs.Lent.{kept_relocation_table, relocation_target as target_of_relocations};
+ghost use Rattle.elf_object.specs.Lent.{section_name as name_of_section, symbol_name as name_of_symbol};
 ghost use Rattle.elf_object.specs.Firsts.{nonzero};
 ghost use Rattle.elf_object.specs.Lawful.{IsKeptAs, IsLawful, IsPlaced, IsShared};
 ghost use Rattle.elf_object.specs.Object.{section_count as count_of_sections, IsWritable};
@@ -112,7 +115,8 @@ impl<'a> Object<'a> {
         Some(symbol_part(&self.tables, number))
     }
 
-    /// The name of a section. It is looked for here, up to its last byte: what [`section`](Object::section) lends knows no name.
+    /// The name of a section. It is looked for here, up to its last byte: what [`section`](Object::section) lends
+    /// knows no name.
     pub fn section_name(&self, number: u32) -> &'a [u8]
         requires { number < count_of_sections self.now }
         ensures name { result.now ≡ name_of_section self.now number }
@@ -130,16 +134,19 @@ impl<'a> Object<'a> {
         symbol_name(&self.tables, u64::from(number))
     }
 
-    /// The name of a symbol, if it has at most `limit` bytes. No more than `limit + 1` bytes are looked at, however long it is.
+    /// The name of a symbol, if it has at most `limit` bytes. No more than `limit + 1` bytes are looked at, however
+    /// long it is.
     pub fn short_symbol_name(&self, number: u32, limit: usize) -> Option<&'a [u8]>
         requires { number < count_of_symbols self.now }
-        ensures name { MatchOption result (limit < length (name_of_symbol self.now number)) (λ name. (name.now ≡ name_of_symbol self.now number) × (length name.now ≤ limit)) }
+        ensures name { MatchOption result (limit < length (name_of_symbol self.now number))
+            (λ name. (name.now ≡ name_of_symbol self.now number) × (length name.now ≤ limit)) }
         ensures object { IsObject self.now }
     {
         short_symbol_name(&self.tables, u64::from(number), limit)
     }
 
-    /// The relocations of a section that linking keeps, in the order of the file. There are none where no section holds any.
+    /// The relocations of a section that linking keeps, in the order of the file. There are none where no section
+    /// holds any.
     #[tactic(auto, using(crate::specs::Laws::relocations_few, crate::specs::LawsOfRelocations::lawful))]
     pub fn relocs(&self, section: u32) -> Relocs<'a>
         ensures relocations { result ≡ relocations_of self.now section }

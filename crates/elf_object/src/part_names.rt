@@ -24,7 +24,8 @@ pub fn section_name<'a>(tables: &Tables<'a>, number: u64) -> &'a [u8]
 /// The bytes of the string table that holds the names of symbols.
 fn symbol_strings<'a>(tables: &Tables<'a>) -> &'a [u8]
     requires { 0 < tables.now.symbols.table }
-    ensures { result.now ≡ section_bytes tables.now.bytes.now (section_header tables.now.bytes.now (symbol_table tables.now.bytes.now)).link }
+    ensures { result.now ≡ section_bytes tables.now.bytes.now
+        (section_header tables.now.bytes.now (symbol_table tables.now.bytes.now)).link }
 {
     bytes_of(tables, u64::from(tables.section(tables.symbols.table).link))
 }
@@ -45,7 +46,8 @@ pub fn symbol_name<'a>(tables: &Tables<'a>, number: u64) -> &'a [u8]
 #[tactic(auto, unfolding(crate::specs::Lent::symbol_name))]
 pub fn short_symbol_name<'a>(tables: &Tables<'a>, number: u64, limit: usize) -> Option<&'a [u8]>
     requires { number < symbol_count tables.now.bytes.now }
-    ensures { MatchOption result (limit < length (symbol_name tables.now.bytes.now number)) (λ name. (name.now ≡ symbol_name tables.now.bytes.now number) × (length name.now ≤ limit)) }
+    ensures { MatchOption result (limit < length (symbol_name tables.now.bytes.now number))
+        (λ name. (name.now ≡ symbol_name tables.now.bytes.now number) × (length name.now ≤ limit)) }
 {
     if number == 0 {
         return Some(&[]);

@@ -4,7 +4,8 @@ ghost use Rattle.std.specs.Prelude.{◌≡◌, ◌+◌, ◌*◌, ◌-◌, ◌^�
 ghost use Rattle.std.specs.Iterator.{YieldsFirst, item_count};
 ghost use Rattle.elf_object.specs.Parts.{IsRela};
 ghost use Rattle.elf_object.specs.Tables.{AreTargets};
-ghost use Rattle.elf_object.specs.Lent.{relocation_at, relocations_in, relocations_from, relocation_target, kept_relocation_table};
+ghost use Rattle.elf_object.specs.Lent.{relocation_at, relocations_in, relocations_from, relocation_target};
+ghost use Rattle.elf_object.specs.Lent.{kept_relocation_table};
 
 use crate::part::class_in;
 use crate::relocation::Relocation;
@@ -83,7 +84,8 @@ impl Iterator for Relocs<'_> {
     }
 }
 
-/// The section that holds the relocations of a section that linking keeps, or 0. `targets` says of each section which one does.
+/// The section that holds the relocations of a section that linking keeps, or 0. `targets` says of each section which
+/// one does.
 #[tactic(auto, using(crate::specs::Laws::holds_relocations), unfolding(crate::specs::Lent::kept_relocation_table))]
 pub fn table_of(tables: &Tables, targets: &[u32], section: u64) -> u64
     requires len { length targets.now ≡ tables.now.count }

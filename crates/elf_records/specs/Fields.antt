@@ -1,5 +1,7 @@
--- Numbers at an offset of a list of bytes, as ELF64 files with little-endian data hold them (gABI, "Data Representation").
-use Rattle.std.specs.Prelude.{◌≡◌, ◌<◌, ◌+◌, ◌^◌, ℕ, ℤ, Option, Some, None, List, [], ◌∷◌, ◌++◌, length, take, drop, nat_le, if◌then◌else◌}
+-- Numbers at an offset of a list of bytes, as ELF64 files with little-endian data hold them (gABI, "Data
+-- Representation").
+use Rattle.std.specs.Prelude.{◌≡◌, ◌<◌, ◌+◌, ◌^◌, ℕ, ℤ, Option, Some, None, List, [], ◌∷◌, ◌++◌, length, take, drop}
+use Rattle.std.specs.Prelude.{nat_le, if◌then◌else◌}
 use Rattle.std.specs.Int.{w64, cast_signed}
 use Rattle.byteorder.specs.Endian.{little_from, little_bytes}
 

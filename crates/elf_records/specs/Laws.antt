@@ -1,7 +1,11 @@
--- The laws of `Fields`, which crates above cite: numbers and bytes at an offset, seen in a part of a list, in lists joined and
+-- The laws of `Fields`, which crates above cite: numbers and bytes at an offset, seen in a part of a list, in lists
+-- joined and
 -- beside what was written; and fields that were written, read again.
-use Rattle.std.proofs.Common.{ℕ, zero, suc, ◌+◌, ◌-◌, ◌^◌, ◌<◌, ◌≤◌, ◌≡◌, List, [], ◌∷◌, ◌++◌, length, take, drop, slice_index, slice_range, refl, sym, ap, ◌∙◌, arith, append_assoc, length-append, length-drop, zero-add}
-use Rattle.std.proofs.lemmas.List.{drop-append-le, drop-drop, drop-take, get_or-drop, length-take-le, take-take, take-append-le, take_rest, drop_at, take_at}
+use Rattle.std.proofs.Common.{ℕ, zero, suc, ◌+◌, ◌-◌, ◌^◌, ◌<◌, ◌≤◌, ◌≡◌, List, [], ◌∷◌, ◌++◌, length, take, drop}
+use Rattle.std.proofs.Common.{slice_index, slice_range, refl, sym, ap, ◌∙◌, arith, append_assoc, length-append}
+use Rattle.std.proofs.Common.{length-drop, zero-add}
+use Rattle.std.proofs.lemmas.List.{drop-append-le, drop-drop, drop-take, get_or-drop, length-take-le, take-take}
+use Rattle.std.proofs.lemmas.List.{take-append-le, take_rest, drop_at, take_at}
 use Rattle.byteorder.specs.Endian.{little_from}
 use Rattle.byteorder.specs.Numbers.{length-bytes_low_first, little_from-lt, little_from-take, little_number-reads_back}
 use Rattle.elf_records.specs.Fields.{FitAll, Reads, ReadsAll, bytes_of, number_at, part_at, spelled, splice, width}

@@ -1,6 +1,8 @@
--- What holds of each of the six records, which crates above cite: its size in bytes, that it is read again as it was written,
+-- What holds of each of the six records, which crates above cite: its size in bytes, that it is read again as it was
+-- written,
 -- and that it depends on its own bytes alone.
-use Rattle.std.proofs.Common.{ℕ, ◌+◌, ◌-◌, ◌^◌, ◌<◌, ◌≤◌, ◌≡◌, List, ◌++◌, length, take, drop, slice_range, refl, sym, ap, ◌∙◌, arith, add-zero, append_assoc, length-append}
+use Rattle.std.proofs.Common.{ℕ, ◌+◌, ◌-◌, ◌^◌, ◌<◌, ◌≤◌, ◌≡◌, List, ◌++◌, length, take, drop, slice_range, refl, sym}
+use Rattle.std.proofs.Common.{ap, ◌∙◌, arith, add-zero, append_assoc, length-append}
 use Rattle.std.proofs.lemmas.List.{length-take-le}
 use Rattle.std.proofs.Math.Facts.{Fits-of_z, to_z-of_z}
 use Rattle.std.specs.Int.{w64, cast_unsigned}
@@ -11,8 +13,13 @@ use Rattle.elf_records.specs.declared.relocation.Rela.{Rela}
 use Rattle.elf_records.specs.declared.program_header.Segment.{Segment}
 use Rattle.elf_records.specs.declared.dynamic.DynamicEntry.{DynamicEntry}
 use Rattle.elf_records.specs.Fields.{Reads, part_at, spelled, splice}
-use Rattle.elf_records.specs.Laws.{length-spelled, number_at-field, number_at-own, number_at-part, part_again, part_at-own, part_at-part, reads_all, reads_again}
-use Rattle.elf_records.specs.Records.{FitsHeader, FitsSectionHeader, FitsSymbolEntry, FitsRela, FitsSegment, FitsDynamicEntry, header_at, header_bytes, header_fields, section_at, section_bytes, section_fields, symbol_at, symbol_bytes, symbol_fields, rela_at, rela_bytes, rela_fields, segment_at, segment_bytes, segment_fields, dynamic_at, dynamic_bytes, dynamic_fields}
+use Rattle.elf_records.specs.Laws.{length-spelled, number_at-field, number_at-own, number_at-part, part_again}
+use Rattle.elf_records.specs.Laws.{part_at-own, part_at-part, reads_all, reads_again}
+use Rattle.elf_records.specs.Records.{FitsHeader, FitsSectionHeader, FitsSymbolEntry, FitsRela, FitsSegment}
+use Rattle.elf_records.specs.Records.{FitsDynamicEntry, header_at, header_bytes, header_fields, section_at}
+use Rattle.elf_records.specs.Records.{section_bytes, section_fields, symbol_at, symbol_bytes, symbol_fields, rela_at}
+use Rattle.elf_records.specs.Records.{rela_bytes, rela_fields, segment_at, segment_bytes, segment_fields, dynamic_at}
+use Rattle.elf_records.specs.Records.{dynamic_bytes, dynamic_fields}
 
 -- the sizes, in bytes
 pub length-header_bytes : (r : Header) → length r.ident ≡ 16 → length (header_bytes r) ≡ 64

@@ -6,8 +6,9 @@ ghost use Rattle.elf_records.specs.Records.{rela_at, rela_bytes, rela_kind, rela
 
 use crate::field::{fits, i64_at, put_i64, put_u64, u64_at};
 
-// Relocation types, by what they write: S is the symbol's place, A the addend, P the place of the field, G the place of the
-// symbol's entry in the GOT (psABI, "Relocation Types"). TLS types: psABI, "Thread-Local Storage", and Drepper's TLS paper.
+// Relocation types, by what they write: S is the symbol's place, A the addend, P the place of the field, G the place
+// of the symbol's entry in the GOT (psABI, "Relocation Types"). TLS types: psABI, "Thread-Local Storage", and
+// Drepper's TLS paper.
 /// Nothing.
 pub const R_X86_64_NONE: u32 = 0;
 /// S + A, in 64 bits.
@@ -53,7 +54,8 @@ pub const R_X86_64_GOTPCRELX: u32 = 41;
 /// The same, in an instruction with a REX prefix.
 pub const R_X86_64_REX_GOTPCRELX: u32 = 42;
 
-/// An entry of a section of type [`SHT_RELA`](crate::section_header::SHT_RELA): how to fill one field of the section that it applies to.
+/// An entry of a section of type [`SHT_RELA`](crate::section_header::SHT_RELA): how to fill one field of the section
+/// that it applies to.
 #[derive(Clone, Copy, PartialEq, Eq, Debug)]
 pub struct Rela {
     /// Where the field begins: in an object an offset in its section, in an image an address.

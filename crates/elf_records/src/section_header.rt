@@ -61,7 +61,8 @@ pub struct SectionHeader {
     pub size: u64,
     /// Another section: of a symbol table its string table, of relocations their symbol table.
     pub link: u32,
-    /// Of a symbol table the number of its first symbol that is not local, of relocations the section that they apply to.
+    /// Of a symbol table the number of its first symbol that is not local, of relocations the section that they apply
+    /// to.
     pub info: u32,
     /// A power of two of which the address is to be a multiple; 0 and 1 ask for nothing.
     pub addralign: u64,

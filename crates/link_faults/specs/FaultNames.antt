@@ -1,7 +1,9 @@
 -- The kinds of fault as they are printed.
 use Rattle.std.specs.Prelude.{ℕ, List, codes}
 use Rattle.link_faults.specs.declared.fault.LinkFaultKind.{LinkFaultKind}
-use Rattle.link_faults.specs.declared.fault.LinkFaultKind.TheVariants.{Undefined, Duplicate, NotTls, Overflow, LocalExecInModule, NarrowInModule, TlsTooLarge, ImageTooLarge, NoTls}
+use Rattle.link_faults.specs.declared.fault.LinkFaultKind.TheVariants.{Undefined, Duplicate, NotTls, Overflow}
+use Rattle.link_faults.specs.declared.fault.LinkFaultKind.TheVariants.{LocalExecInModule, NarrowInModule, TlsTooLarge}
+use Rattle.link_faults.specs.declared.fault.LinkFaultKind.TheVariants.{ImageTooLarge, NoTls}
 
 abbrev pub kind_name : LinkFaultKind → List ℕ
 kind_name Undefined = codes "Undefined"

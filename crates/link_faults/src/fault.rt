@@ -8,16 +8,16 @@ use std::alloc::AllocError;
 use std::fmt;
 use thiserror::Error;
 
-/// What is wrong with a link. `Overflow` is asked last, the others in their order here. Section and entry are those of the
-/// relocation, for `Duplicate` those of the symbol.
+/// What is wrong with a link. `Overflow` is asked last, the others in their order here. Section and entry are those of
+/// the relocation, for `Duplicate` those of the symbol.
 #[derive(Clone, Copy, PartialEq, Eq, Debug)]
 pub enum LinkFaultKind {
     /// A name that a relocation uses has no binding.
     Undefined,
     /// A name has a second strong definition, used or not, or an object defines `__tls_get_addr`, GLOBAL or WEAK.
     Duplicate,
-    /// A relocation of thread-local storage names a symbol that is of none, or another relocation names one that is. The
-    /// definition that the name binds to decides.
+    /// A relocation of thread-local storage names a symbol that is of none, or another relocation names one that is.
+    /// The definition that the name binds to decides.
     NotTls,
     /// A field does not hold its value.
     Overflow,
@@ -28,11 +28,11 @@ pub enum LinkFaultKind {
     /// The TLS segment is above 2^20 bytes. It stands at no object, with section and entry 0.
     TlsTooLarge,
     /// The input sections, data that programs write included, span more than 2^24 bytes; or there are more than 2^19
-    /// relocations of sections that linking keeps; or the sum over the names defined or imported of 25 and a name's length
-    /// exceeds 2^22. It stands at no object, with section and entry 0.
+    /// relocations of sections that linking keeps; or the sum over the names defined or imported of 25 and a name's
+    /// length exceeds 2^22. It stands at no object, with section and entry 0.
     ImageTooLarge,
-    /// An image with no thread-local storage of its own has a TLSLD, or a descriptor bound to itself; or such a module has a
-    /// TLSGD or a GOTTPOFF bound to itself.
+    /// An image with no thread-local storage of its own has a TLSLD, or a descriptor bound to itself; or such a module
+    /// has a TLSGD or a GOTTPOFF bound to itself.
     NoTls,
 }
 

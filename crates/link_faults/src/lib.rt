@@ -1,23 +1,23 @@
 //! What may be wrong with a link, and what an image is linked as.
 //!
-//! Each object may be in order and still the objects do not link: a name has no definition, thread-local storage is larger than
-//! a thread's block may be, an instruction of a module reaches for an offset that only a program has. Such a fault has a
-//! **kind** and a place: the object, its section, and the relocation or symbol there. Faults of the image as a whole stand at no
-//! object, and both numbers are 0.
+//! Each object may be in order and still the objects do not link: a name has no definition, thread-local storage is
+//! larger than a thread's block may be, an instruction of a module reaches for an offset that only a program has. Such
+//! a fault has a **kind** and a place: the object, its section, and the relocation or symbol there. Faults of the
+//! image as a whole stand at no object, and both numbers are 0.
 //!
-//! The rule that all crates of linking keep: **the kinds are asked in one order, and within a kind the first object, section
-//! and entry is told.** The order is that of [`LinkFaultKind`], but that `Overflow`, which needs every place, comes last. So a
-//! user is told one thing that is wrong, and always the same one.
+//! The rule that all crates of linking keep: **the kinds are asked in one order, and within a kind the first object,
+//! section and entry is told.** The order is that of [`LinkFaultKind`], but that `Overflow`, which needs every place,
+//! comes last. So a user is told one thing that is wrong, and always the same one.
 //!
 //! ```text
 //! kind Undefined, object 0, section 1, entry 3    relocation 3 of section 1 of the first object names what nothing defines
 //! kind TlsTooLarge, no object, 0, 0               the thread-local storage of all objects together
 //! ```
 //!
-//! An image is linked as an [`ImageKind`]: the program, at a fixed address or at any, or a module, which a program loads. The
-//! kind decides where the image begins and which ways to reach thread-local storage it may take (Drepper, "ELF Handling For
-//! Thread-Local Storage", section 4). The crate has no rules of its own beyond these words, so that each crate of linking can
-//! answer by them without standing on another.
+//! An image is linked as an [`ImageKind`]: the program, at a fixed address or at any, or a module, which a program
+//! loads. The kind decides where the image begins and which ways to reach thread-local storage it may take (Drepper,
+//! "ELF Handling For Thread-Local Storage", section 4). The crate has no rules of its own beyond these words, so that
+//! each crate of linking can answer by them without standing on another.
 #![tactic(auto)]
 
 mod fault;

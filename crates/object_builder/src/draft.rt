@@ -12,7 +12,8 @@ use std::alloc::{AllocError, Global};
 #[derive(Drop)]
 pub struct Draft {
     pub header: Header,
-    /// The headers of sections, number 0 included. The last three are of the symbols, of their names and of the sections' names.
+    /// The headers of sections, number 0 included. The last three are of the symbols, of their names and of the
+    /// sections' names.
     pub sections: Vec<SectionHeader>,
     /// What sections hold, one behind the other.
     pub contents: Vec<u8>,
@@ -53,7 +54,8 @@ pub fn draft_of(
     Ok(draft)
 }
 
-/// The number of the symbol table, and where the contents of sections, their relocations and the symbols begin in the file.
+/// The number of the symbol table, and where the contents of sections, their relocations and the symbols begin in the
+/// file.
 #[derive(Clone, Copy)]
 struct Layout {
     table: u32,

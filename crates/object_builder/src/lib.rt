@@ -11,12 +11,13 @@
 //! let bytes = object_of(alloc, &sections, &symbols)?;
 //! ```
 //!
-//! Sections are numbered from 1 in their order, and the relocations of one are a section of their own, right behind it, as an
-//! assembler has it (gABI, "Sections"). Behind these come the symbol table, its names, and the names of sections. Symbols are
-//! numbered from 1 in their order; LOCAL ones come first, as the gABI wants it ("Symbol Table").
+//! Sections are numbered from 1 in their order, and the relocations of one are a section of their own, right behind
+//! it, as an assembler has it (gABI, "Sections"). Behind these come the symbol table, its names, and the names of
+//! sections. Symbols are numbered from 1 in their order; LOCAL ones come first, as the gABI wants it ("Symbol Table").
 //!
-//! For an object that is not as it should be, [`draft_of`] gives the same as records: change a field of one, then write the [`Draft`].
-//! The bytes are written by `elf_records`, so a field stands where the gABI has it. No call judges what it is given.
+//! For an object that is not as it should be, [`draft_of`] gives the same as records: change a field of one, then
+//! write the [`Draft`]. The bytes are written by `elf_records`, so a field stands where the gABI has it. No call
+//! judges what it is given.
 #![tactic(auto)]
 
 mod draft;

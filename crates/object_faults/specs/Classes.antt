@@ -1,9 +1,12 @@
 -- The classes of sections that linking keeps, by flags and type (gABI, "Sections"; psABI, "Special Sections").
-use Rattle.std.specs.Prelude.{◌≡◌, ◌≤◌, ◌^◌, ◌==◌, ◌||◌, ◌⊎◌, ℕ, true, false, List, Option, Some, None, IsSome, bit_and, if◌then◌else◌}
+use Rattle.std.specs.Prelude.{◌≡◌, ◌≤◌, ◌^◌, ◌==◌, ◌||◌, ◌⊎◌, ℕ, true, false, List, Option, Some, None, IsSome}
+use Rattle.std.specs.Prelude.{bit_and, if◌then◌else◌}
 use Rattle.elf_records.specs.declared.section_header.SectionHeader.{SectionHeader}
 use Rattle.object_faults.specs.declared.class.SectionClass.{SectionClass}
 use Rattle.object_faults.specs.declared.class.SectionClass.TheVariants.{Executable, ReadOnly, Tls, Writable}
-use Rattle.elf_records.specs.declared.section_header.TheConstants.{SHT_PROGBITS, SHT_NOTE, SHT_NOBITS, SHT_X86_64_UNWIND, SHF_WRITE, SHF_ALLOC, SHF_EXECINSTR, SHF_TLS}
+use Rattle.elf_records.specs.declared.section_header.TheConstants.{SHT_PROGBITS, SHT_NOTE, SHT_NOBITS}
+use Rattle.elf_records.specs.declared.section_header.TheConstants.{SHT_X86_64_UNWIND, SHF_WRITE, SHF_ALLOC}
+use Rattle.elf_records.specs.declared.section_header.TheConstants.{SHF_EXECINSTR, SHF_TLS}
 use Rattle.object_faults.specs.declared.class.TheConstants.{CLASS_FLAGS, SHF_TLS_WRITE}
 use Rattle.object_faults.specs.Parts.{section, IsSection}
 
@@ -11,11 +14,13 @@ use Rattle.object_faults.specs.Parts.{section, IsSection}
 abbrev pub class_row : ℕ → ℕ → Option SectionClass
 class_row flags kind =
     if flags == SHF_EXECINSTR then (if kind == SHT_PROGBITS then Some Executable else None) else
-    if flags == 0 then (if (kind == SHT_PROGBITS) || (kind == SHT_NOTE) || (kind == SHT_X86_64_UNWIND) then Some ReadOnly else None) else
+    if flags == 0 then (if (kind == SHT_PROGBITS) || (kind == SHT_NOTE) || (kind == SHT_X86_64_UNWIND) then Some
+    ReadOnly else None) else
     if (flags == SHF_TLS) || (flags == SHF_TLS_WRITE) then
     (if kind == SHT_PROGBITS then Some (Tls true) else if kind == SHT_NOBITS then Some (Tls false) else None) else
     if flags == SHF_WRITE then
-    (if kind == SHT_PROGBITS then Some (Writable true) else if kind == SHT_NOBITS then Some (Writable false) else None) else
+    (if kind == SHT_PROGBITS then Some (Writable true) else if kind == SHT_NOBITS then Some (Writable false) else
+    None) else
     None
 
 -- the class that a section's flags and type give it

@@ -1,19 +1,28 @@
 -- When an object is at fault: what each kind means, and which fault is the first (gABI; psABI).
-use Rattle.std.specs.Prelude.{◌≡◌, ◌≢◌, ◌+◌, ◌*◌, ◌%◌, ◌^◌, ◌<◌, ◌≤◌, ◌⊎◌, ℕ, List, Option, Result, Ok, Err, Some, None, IsNone, length, take, bit_and}
+use Rattle.std.specs.Prelude.{◌≡◌, ◌≢◌, ◌+◌, ◌*◌, ◌%◌, ◌^◌, ◌<◌, ◌≤◌, ◌⊎◌, ℕ, List, Option, Result, Ok, Err, Some}
+use Rattle.std.specs.Prelude.{None, IsNone, length, take, bit_and}
 use Rattle.elf_records.specs.declared.file_header.Header.{Header}
 use Rattle.elf_records.specs.declared.section_header.SectionHeader.{SectionHeader}
 use Rattle.elf_records.specs.declared.symbol.SymbolEntry.{SymbolEntry}
 use Rattle.object_faults.specs.declared.fault.FaultKind.{FaultKind}
-use Rattle.object_faults.specs.declared.fault.FaultKind.TheVariants.{Truncated, NotElf, NotRelocatable, SectionName, SectionKind, SectionAlign, TooLarge, SymbolTable, SymbolName, SymbolSection, SymbolRange, SymbolKind, RelocTarget, RelocSymbol, RelocKind, RelocRange, RelocOverlap, Sequence, StrayCall, WritableData}
+use Rattle.object_faults.specs.declared.fault.FaultKind.TheVariants.{Truncated, NotElf, NotRelocatable, SectionName}
+use Rattle.object_faults.specs.declared.fault.FaultKind.TheVariants.{SectionKind, SectionAlign, TooLarge, SymbolTable}
+use Rattle.object_faults.specs.declared.fault.FaultKind.TheVariants.{SymbolName, SymbolSection, SymbolRange}
+use Rattle.object_faults.specs.declared.fault.FaultKind.TheVariants.{SymbolKind, RelocTarget, RelocSymbol, RelocKind}
+use Rattle.object_faults.specs.declared.fault.FaultKind.TheVariants.{RelocRange, RelocOverlap, Sequence, StrayCall}
+use Rattle.object_faults.specs.declared.fault.FaultKind.TheVariants.{WritableData}
 use Rattle.object_faults.specs.declared.fault.ObjectFault.{ObjectFault}
 use Rattle.object_faults.specs.declared.fault.ObjectFault.TheVariants.{OutOfMemory, At}
 use Rattle.elf_records.specs.declared.file_header.TheConstants.{ELF_IDENT, ET_REL, EM_X86_64, EV_CURRENT}
-use Rattle.elf_records.specs.declared.section_header.TheConstants.{SHT_STRTAB, SHT_REL, SHT_GROUP, SHT_SYMTAB_SHNDX, SHT_NOBITS, SHF_ALLOC, SHF_TLS}
-use Rattle.elf_records.specs.declared.symbol.TheConstants.{SHN_UNDEF, SHN_ABS, STB_LOCAL, STB_GLOBAL, STB_WEAK, STT_FUNC, STT_FILE, STT_TLS, SHN_LORESERVE}
+use Rattle.elf_records.specs.declared.section_header.TheConstants.{SHT_STRTAB, SHT_REL, SHT_GROUP, SHT_SYMTAB_SHNDX}
+use Rattle.elf_records.specs.declared.section_header.TheConstants.{SHT_NOBITS, SHF_ALLOC, SHF_TLS}
+use Rattle.elf_records.specs.declared.symbol.TheConstants.{SHN_UNDEF, SHN_ABS, STB_LOCAL, STB_GLOBAL, STB_WEAK}
+use Rattle.elf_records.specs.declared.symbol.TheConstants.{STT_FUNC, STT_FILE, STT_TLS, SHN_LORESERVE}
 use Rattle.object_faults.specs.declared.class.SectionClass.{SectionClass}
 use Rattle.object_faults.specs.declared.class.SectionClass.TheVariants.{Executable}
 use Rattle.object_faults.specs.declared.relocation.RelocationKind.{RelocationKind}
-use Rattle.object_faults.specs.Parts.{header, section, symbol, rela, symbol_table, symbol_count, entry_count, HasBytes, IsSection, IsStrings, IsTable, IsRela}
+use Rattle.object_faults.specs.Parts.{header, section, symbol, rela, symbol_table, symbol_count, entry_count}
+use Rattle.object_faults.specs.Parts.{HasBytes, IsSection, IsStrings, IsTable, IsRela}
 use Rattle.object_faults.specs.Classes.{class_of, kept_class, IsKept, IsKeptSection, IsTls, IsAlignment}
 use Rattle.object_faults.specs.Names.{byte_of, Ends}
 use Rattle.elf_records.specs.Records.{symbol_binding, symbol_kind, rela_symbol, rela_kind}
@@ -102,7 +111,8 @@ abbrev pub IsMisdefined : List ℕ → SymbolEntry → Type 0
 IsMisdefined b symbol =
     ((symbol.shndx ≢ SHN_UNDEF) × (symbol.shndx ≢ SHN_ABS) × (IsSection b symbol.shndx → ⊥))
     ⊎ ((symbol_binding symbol ≡ STB_LOCAL) × (symbol.shndx ≡ SHN_UNDEF))
-    ⊎ (((symbol_binding symbol ≡ STB_GLOBAL) ⊎ (symbol_binding symbol ≡ STB_WEAK)) × ((symbol.shndx ≡ SHN_ABS) ⊎ IsDropped b symbol.shndx))
+    ⊎ (((symbol_binding symbol ≡ STB_GLOBAL) ⊎ (symbol_binding symbol ≡ STB_WEAK)) ×
+    ((symbol.shndx ≡ SHN_ABS) ⊎ IsDropped b symbol.shndx))
 
 -- section s is one of thread-local storage
 abbrev pub IsTlsSection : List ℕ → ℕ → Type 0
@@ -151,7 +161,8 @@ Overlaps b r e = (f : ℕ) × (f < e) × ((k : ℕ) × Covers b r f k × Covers 
 -- the kind of fault stands at section s, entry e: what each kind means
 unfoldable pub Stands : FaultKind → List ℕ → ℕ → ℕ → Type 0
 Stands Truncated b s e =
-    (e ≡ 0) × (((s ≡ 0) × (length b < 64)) ⊎ ((64 ≤ length b) × IsElf (header b) × IsRelocatable (header b) × PassesEnd b s))
+    (e ≡ 0) × (((s ≡ 0) × (length b < 64)) ⊎ ((64 ≤ length b) × IsElf (header b) × IsRelocatable (header b) ×
+    PassesEnd b s))
 Stands NotElf b s e = (s ≡ 0) × (e ≡ 0) × (64 ≤ length b) × (IsElf (header b) → ⊥)
 Stands NotRelocatable b s e = (s ≡ 0) × (e ≡ 0) × (64 ≤ length b) × (IsRelocatable (header b) → ⊥)
 Stands SectionName b s e =

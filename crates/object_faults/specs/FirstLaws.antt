@@ -1,5 +1,6 @@
 -- The first number that passes a test.
-use Rattle.std.proofs.Common.{◌≡◌, ◌+◌, ◌<◌, ◌≤◌, ◌⊎◌, ℕ, zero, suc, Bool, true, false, refl, inl, inr, arith, add-one, nat_lt, if◌then◌else◌}
+use Rattle.std.proofs.Common.{◌≡◌, ◌+◌, ◌<◌, ◌≤◌, ◌⊎◌, ℕ, zero, suc, Bool, true, false, refl, inl, inr, arith}
+use Rattle.std.proofs.Common.{add-one, nat_lt, if◌then◌else◌}
 use Rattle.std.proofs.lemmas.Bool.Decides.{nat_tests}
 use Rattle.object_faults.specs.Firsts.{first_below}
 
@@ -29,8 +30,10 @@ first_found p n (suc m) above none passes h =
     ]
 
 -- what is found passes, and lies below the end
-passes_of : (p : ℕ → Bool) (r n : ℕ) → (0 < r → (p r ≡ true) × (r < n)) → 0 < (if nat_lt 0 r then r else (if p n then n else 0))
-    → (p (if nat_lt 0 r then r else (if p n then n else 0)) ≡ true) × ((if nat_lt 0 r then r else (if p n then n else 0)) < suc n)
+passes_of : (p : ℕ → Bool) (r n : ℕ) → (0 < r → (p r ≡ true) × (r < n))
+    → 0 < (if nat_lt 0 r then r else (if p n then n else 0))
+    → (p (if nat_lt 0 r then r else (if p n then n else 0)) ≡ true) ×
+    ((if nat_lt 0 r then r else (if p n then n else 0)) < suc n)
 passes_of p r n known h = grind (arith, nat_tests)
 
 pub first_passes : (p : ℕ → Bool) (n : ℕ) → 0 < first_below p n → (p (first_below p n) ≡ true) × (first_below p n < n)
@@ -39,7 +42,8 @@ first_passes p zero h = absurd (omega arith)
 first_passes p (suc n) h = passes_of p (first_below p n) n (first_passes p n) h
 
 -- nothing passes before what is found
-least_of : (r n k : ℕ) (q : Bool) → (k < n → (0 < r) × (r ≤ k)) → (r < n) ⊎ (r ≡ 0) → k < suc n → 0 < k → (k ≡ n → q ≡ true)
+least_of : (r n k : ℕ) (q : Bool) → (k < n → (0 < r) × (r ≤ k)) → (r < n) ⊎ (r ≡ 0) → k < suc n → 0 < k
+    → (k ≡ n → q ≡ true)
     → (0 < (if nat_lt 0 r then r else (if q then n else 0))) × ((if nat_lt 0 r then r else (if q then n else 0)) ≤ k)
 least_of r n k q known low h above passes = grind (arith, nat_tests)
 
@@ -53,7 +57,8 @@ pub first_least : (p : ℕ → Bool) (n k : ℕ) → 0 < k → k < n → p k ≡
 unfolding first_below
 first_least p zero k above h passes = absurd (omega arith)
 first_least p (suc n) k above h passes =
-    least_of (first_below p n) n k (p n) (λ lt. first_least p n k above lt passes) (low_of p n) h above (λ same. rw (← same) passes)
+    least_of (first_below p n) n k (p n) (λ lt. first_least p n k above lt passes) (low_of p n) h above
+    (λ same. rw (← same) passes)
 
 -- one number more: it does not pass, or something was found before, or it is what is found
 pub first_same : (p : ℕ → Bool) (n : ℕ) → p n ≡ false → first_below p (n + 1) ≡ first_below p n

@@ -1,6 +1,8 @@
 -- The kinds of fault that are asked alike, by what they stand at.
 use Rattle.object_faults.specs.declared.fault.FaultKind.{FaultKind}
-use Rattle.object_faults.specs.declared.fault.FaultKind.TheVariants.{SectionName, SectionKind, SectionAlign, TooLarge, SymbolName, SymbolSection, SymbolRange, SymbolKind, RelocSymbol, RelocKind, RelocRange}
+use Rattle.object_faults.specs.declared.fault.FaultKind.TheVariants.{SectionName, SectionKind, SectionAlign, TooLarge}
+use Rattle.object_faults.specs.declared.fault.FaultKind.TheVariants.{SymbolName, SymbolSection, SymbolRange}
+use Rattle.object_faults.specs.declared.fault.FaultKind.TheVariants.{SymbolKind, RelocSymbol, RelocKind, RelocRange}
 use Rattle.object_faults.specs.declared.kinds.SectionFault.{SectionFault}
 use Rattle.object_faults.specs.declared.kinds.SectionFault.TheVariants as section
 use Rattle.object_faults.specs.declared.kinds.SymbolFault.{SymbolFault}

@@ -10,7 +10,8 @@ byte_of b s k = slice_index b ((section b s).offset + k)
 abbrev pub Ends : List ℕ → ℕ → ℕ → Type 0
 Ends b s at = (k : ℕ) × (at ≤ k) × (k < (section b s).size) × (byte_of b s k ≡ 0)
 
--- n is the offset behind the last zero byte of the string table of this size that begins at `from`, or 0 where it has none
+-- n is the offset behind the last zero byte of the string table of this size that begins at `from`, or 0 where it
+-- has none
 pub record IsNamesEnd (b : List ℕ) (from size n : ℕ) : Type 0 where
   pub inside : n ≤ size
   pub zero_before : 0 < n → slice_index b (from + (n - 1)) ≡ 0

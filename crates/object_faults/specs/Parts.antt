@@ -5,7 +5,8 @@ use Rattle.elf_records.specs.declared.section_header.SectionHeader.{SectionHeade
 use Rattle.elf_records.specs.declared.symbol.SymbolEntry.{SymbolEntry}
 use Rattle.elf_records.specs.declared.relocation.Rela.{Rela}
 use Rattle.elf_records.specs.Records.{header_at, section_at, symbol_at, rela_at}
-use Rattle.elf_records.specs.declared.section_header.TheConstants.{SHT_NULL, SHT_SYMTAB, SHT_STRTAB, SHT_RELA, SHT_NOBITS}
+use Rattle.elf_records.specs.declared.section_header.TheConstants.{SHT_NULL, SHT_SYMTAB, SHT_STRTAB, SHT_RELA}
+use Rattle.elf_records.specs.declared.section_header.TheConstants.{SHT_NOBITS}
 use Rattle.object_faults.specs.Firsts.{first_below}
 
 -- the file's header

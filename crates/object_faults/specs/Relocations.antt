@@ -1,9 +1,18 @@
 -- The types of relocation that linking takes (psABI, "Relocation Types").
 use Rattle.std.specs.Prelude.{◌+◌, ◌<◌, ◌≤◌, ◌==◌, ℕ, List, Option, Some, None, if◌then◌else◌}
 use Rattle.elf_records.specs.Records.{rela_kind}
-use Rattle.elf_records.specs.declared.relocation.TheConstants.{R_X86_64_NONE, R_X86_64_64, R_X86_64_PC32, R_X86_64_PLT32, R_X86_64_GOTPCREL, R_X86_64_32, R_X86_64_32S, R_X86_64_TLSGD, R_X86_64_TLSLD, R_X86_64_DTPOFF32, R_X86_64_GOTTPOFF, R_X86_64_TPOFF32, R_X86_64_GOTPC32_TLSDESC, R_X86_64_TLSDESC_CALL, R_X86_64_GOTPCRELX, R_X86_64_REX_GOTPCRELX}
+use Rattle.elf_records.specs.declared.relocation.TheConstants.{R_X86_64_NONE, R_X86_64_64, R_X86_64_PC32}
+use Rattle.elf_records.specs.declared.relocation.TheConstants.{R_X86_64_PLT32, R_X86_64_GOTPCREL, R_X86_64_32}
+use Rattle.elf_records.specs.declared.relocation.TheConstants.{R_X86_64_32S, R_X86_64_TLSGD, R_X86_64_TLSLD}
+use Rattle.elf_records.specs.declared.relocation.TheConstants.{R_X86_64_DTPOFF32, R_X86_64_GOTTPOFF, R_X86_64_TPOFF32}
+use Rattle.elf_records.specs.declared.relocation.TheConstants.{R_X86_64_GOTPC32_TLSDESC, R_X86_64_TLSDESC_CALL}
+use Rattle.elf_records.specs.declared.relocation.TheConstants.{R_X86_64_GOTPCRELX, R_X86_64_REX_GOTPCRELX}
 use Rattle.object_faults.specs.declared.relocation.RelocationKind.{RelocationKind}
-use Rattle.object_faults.specs.declared.relocation.RelocationKind.TheVariants.{Nothing, Absolute64, Pc32, Plt32, GotPcRel, Absolute32, Absolute32Signed, TlsGd, TlsLd, DtpOff32, GotTpOff, TpOff32, GotPc32TlsDesc, TlsDescCall, GotPcRelX, RexGotPcRelX}
+use Rattle.object_faults.specs.declared.relocation.RelocationKind.TheVariants.{Nothing, Absolute64, Pc32, Plt32}
+use Rattle.object_faults.specs.declared.relocation.RelocationKind.TheVariants.{GotPcRel, Absolute32, Absolute32Signed}
+use Rattle.object_faults.specs.declared.relocation.RelocationKind.TheVariants.{TlsGd, TlsLd, DtpOff32, GotTpOff}
+use Rattle.object_faults.specs.declared.relocation.RelocationKind.TheVariants.{TpOff32, GotPc32TlsDesc, TlsDescCall}
+use Rattle.object_faults.specs.declared.relocation.RelocationKind.TheVariants.{GotPcRelX, RexGotPcRelX}
 use Rattle.object_faults.specs.Parts.{section, rela, entry_count, IsRela}
 use Rattle.object_faults.specs.Classes.{IsKeptSection}
 

@@ -3,7 +3,8 @@ use Rattle.std.specs.Prelude.{◌≡◌, ◌↔◌, ◌+◌, ◌*◌, ◌<◌, �
 use Rattle.object_faults.specs.declared.class.SectionClass.TheVariants.{Executable}
 use Rattle.object_faults.specs.declared.symbols.Symbols.{Symbols}
 use Rattle.object_faults.specs.declared.reloc_tests.RelocTable.{RelocTable}
-use Rattle.object_faults.specs.Parts.{header, section, symbol_table, symbol_count, entry_count, rela, relocates, relocation_table, IsStrings, IsRela}
+use Rattle.object_faults.specs.Parts.{header, section, symbol_table, symbol_count, entry_count, rela, relocates}
+use Rattle.object_faults.specs.Parts.{relocation_table, IsStrings, IsRela}
 use Rattle.object_faults.specs.Classes.{kept_class, IsKeptSection}
 use Rattle.object_faults.specs.Names.{IsEndOfNames}
 use Rattle.object_faults.specs.Relocations.{IsReloc, width_at}
@@ -16,7 +17,8 @@ pub record AreSymbols (b : List ℕ) (symbols : Symbols) : Type 0 where
   pub at_is : 0 < symbols.table → symbols.at ≡ (section b symbols.table).offset
   pub count_is : symbols.count ≡ symbol_count b
   pub inside : symbols.at + 24 * symbols.count ≤ length b
-  pub names_end_is : 0 < symbols.table → IsStrings b (section b symbols.table).link → IsEndOfNames b (section b symbols.table).link symbols.names_end
+  pub names_end_is : 0 < symbols.table → IsStrings b (section b symbols.table).link
+      → IsEndOfNames b (section b symbols.table).link symbols.names_end
 
 -- where the relocations of section r lie, and what of their target the tests ask
 pub record AreRelocs (b : List ℕ) (r : ℕ) (relocs : RelocTable) : Type 0 where

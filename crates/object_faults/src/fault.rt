@@ -8,8 +8,8 @@ use std::alloc::AllocError;
 use std::fmt;
 use thiserror::Error;
 
-/// What is wrong with an object, in the order in which it is asked. "Section" names the section of the fault, "entry" 0, or the
-/// symbol or relocation of the fault.
+/// What is wrong with an object, in the order in which it is asked. "Section" names the section of the fault, "entry"
+/// 0, or the symbol or relocation of the fault.
 #[derive(Clone, Copy, PartialEq, Eq, Debug)]
 pub enum FaultKind {
     /// The file is shorter than its header, or the table of section headers or a section's bytes pass its end.
@@ -50,7 +50,7 @@ pub enum FaultKind {
     Sequence,
     /// A call of `__tls_get_addr` stands in no such sequence. Reading does not ask it.
     StrayCall,
-    /// The object has data that programs write. Reading does not ask it: see [`Object::writable`](crate::Object::writable).
+    /// The object has data that programs write. Reading does not ask it: `elf_object` lends an object with such data.
     WritableData,
 }
 

@@ -92,7 +92,8 @@ fn whole_file(kind: FaultKind) -> ObjectFault
 /// The file's header. `None` exactly where the file is too short for one.
 #[tactic(auto, unfolding(crate::specs::Parts::header))]
 fn file_header(bytes: &[u8]) -> Option<Header>
-    ensures { MatchOption result (length bytes.now < Header.SIZE) (λ found. (Header.SIZE ≤ length bytes.now) × (found ≡ header bytes.now)) }
+    ensures { MatchOption result (length bytes.now < Header.SIZE)
+        (λ found. (Header.SIZE ≤ length bytes.now) × (found ≡ header bytes.now)) }
 {
     read_header(bytes, 0)
 }

@@ -3,7 +3,8 @@
 ghost use Rattle.std.specs.Prelude.{◌+◌, ◌≤◌, length};
 ghost use Rattle.object_faults.specs.Names.{IsNamesEnd};
 
-/// The offset behind the last zero byte of the string table of `size` bytes at `from`, or 0. A name that begins before it ends.
+/// The offset behind the last zero byte of the string table of `size` bytes at `from`, or 0. A name that begins before
+/// it ends.
 pub fn names_end(bytes: &[u8], from: u64, size: u64) -> u64
     requires { from + size ≤ length bytes.now }
     ensures { IsNamesEnd bytes.now from size result }

@@ -1,7 +1,8 @@
-//! Fields of relocations that share a byte, found in one pass: each byte of a target keeps the mark of the section whose
-//! relocation covered it last.
+//! Fields of relocations that share a byte, found in one pass: each byte of a target keeps the mark of the section
+//! whose relocation covered it last.
 
-ghost use Rattle.std.specs.Prelude.{◌≡◌, ◌≢◌, ◌+◌, ◌<◌, ◌≤◌, ◌↔◌, ◌⊎◌, ℕ, length, slice_index, IsTrue, IfNone, MatchOption};
+ghost use Rattle.std.specs.Prelude.{◌≡◌, ◌≢◌, ◌+◌, ◌<◌, ◌≤◌, ◌↔◌, ◌⊎◌, ℕ, length, slice_index, IsTrue, IfNone};
+ghost use Rattle.std.specs.Prelude.{MatchOption};
 ghost use Rattle.object_faults.specs.declared.fault.FaultKind.TheVariants.{RelocOverlap};
 ghost use Rattle.object_faults.specs.Parts.{IsSection, rela as entry_of, section as section_header};
 ghost use Rattle.object_faults.specs.Relocations.{Covers, IsReloc, width_at};
@@ -9,7 +10,7 @@ ghost use Rattle.object_faults.specs.Tables.{AreRelocs, HasRoom};
 ghost use Rattle.object_faults.specs.Faults.{Stands, IsFirstAt, NoneBelow, Answers};
 
 use crate::fault::{FaultKind, ObjectFault};
-use crate::reloc_tests::{RelocTable, rela_in, relocs_in, width_of};
+use crate::reloc_tests::{RelocTable, rela_in, reloc_table, width_of};
 use crate::tables::Tables;
 use std::alloc::Global;
 
@@ -42,17 +43,21 @@ fn mark_field(
     requires section { IsSection tables.now.bytes.now section }
     requires relocs { AreRelocs tables.now.bytes.now section relocs.now }
     requires entry { entry < relocs.now.count }
-    requires room { (entry_of tables.now.bytes.now section entry).offset + width_at tables.now.bytes.now section entry ≤ length marks.old }
-    ensures had { IsTrue result ↔ ((k : ℕ) × Covers tables.now.bytes.now section entry k × (slice_index marks.old k ≡ section)) }
+    requires room { (entry_of tables.now.bytes.now section entry).offset
+        + width_at tables.now.bytes.now section entry ≤ length marks.old }
+    ensures had { IsTrue result
+        ↔ ((k : ℕ) × Covers tables.now.bytes.now section entry k × (slice_index marks.old k ≡ section)) }
     ensures within { (k : ℕ) → Covers tables.now.bytes.now section entry k → slice_index marks.new k ≡ section }
-    ensures outside { (k : ℕ) → (Covers tables.now.bytes.now section entry k → ⊥) → slice_index marks.new k ≡ slice_index marks.old k }
+    ensures outside { (k : ℕ) → (Covers tables.now.bytes.now section entry k → ⊥)
+        → slice_index marks.new k ≡ slice_index marks.old k }
 {
     let rela = rela_in(tables, section, relocs, entry);
     let end = rela.offset + width_of(rela.kind());
     mark(marks, rela.offset as usize, end as usize, section as u32)
 }
 
-/// The first entry of a section whose field shares a byte with that of an earlier one. No byte has the section's mark before.
+/// The first entry of a section whose field shares a byte with that of an earlier one. No byte has the section's mark
+/// before.
 fn overlap_in(tables: &Tables, section: u64, marks: &mut [u32]) -> Option<u64>
     requires section { IsSection tables.now.bytes.now section }
     requires room { HasRoom tables.now.bytes.now section (length marks.old) }
@@ -60,7 +65,7 @@ fn overlap_in(tables: &Tables, section: u64, marks: &mut [u32]) -> Option<u64>
     ensures first { IsFirstAt (Stands RelocOverlap tables.now.bytes.now section) result }
     ensures marked { (k : ℕ) → slice_index marks.new k < section + 1 }
 {
-    let relocs = relocs_in(tables, section)?;
+    let relocs = reloc_table(tables, section)?;
     for entry in 0..relocs.count {
         if mark_field(tables, section, &relocs, entry, marks) {
             return Some(entry);
@@ -91,9 +96,10 @@ fn ask_marked(tables: &Tables, marks: &mut [u32]) -> Result<(), ObjectFault>
 /// How many bytes the target of a section of relocations has; 0 where linking keeps none.
 fn target_size(tables: &Tables, section: u64) -> u64
     requires { IsSection tables.now.bytes.now section }
-    ensures { (e : ℕ) → IsReloc tables.now.bytes.now section e → (section_header tables.now.bytes.now (section_header tables.now.bytes.now section).info).size ≤ result }
+    ensures { (e : ℕ) → IsReloc tables.now.bytes.now section e
+        → (section_header tables.now.bytes.now (section_header tables.now.bytes.now section).info).size ≤ result }
 {
-    match relocs_in(tables, section) {
+    match reloc_table(tables, section) {
         Some(relocs) => relocs.target_size,
         None => 0,
     }
@@ -101,7 +107,8 @@ fn target_size(tables: &Tables, section: u64) -> u64
 
 /// How many bytes the largest target of relocations has.
 fn largest_target(tables: &Tables) -> u64
-    ensures { (r e : ℕ) → IsReloc tables.now.bytes.now r e → (section_header tables.now.bytes.now (section_header tables.now.bytes.now r).info).size ≤ result }
+    ensures { (r e : ℕ) → IsReloc tables.now.bytes.now r e
+        → (section_header tables.now.bytes.now (section_header tables.now.bytes.now r).info).size ≤ result }
 {
     let mut largest = 0;
     for section in 1..tables.count {

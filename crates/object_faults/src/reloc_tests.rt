@@ -30,9 +30,10 @@ pub struct RelocTable {
 }
 
 /// The relocations that a section holds, if it holds any of a section that linking keeps.
-pub fn relocs_in(tables: &Tables, section: u64) -> Option<RelocTable>
+pub fn reloc_table(tables: &Tables, section: u64) -> Option<RelocTable>
     requires { IsSection tables.now.bytes.now section }
-    ensures { MatchOption result ((e : ℕ) → IsReloc tables.now.bytes.now section e → ⊥) (AreRelocs tables.now.bytes.now section) }
+    ensures { MatchOption result ((e : ℕ) → IsReloc tables.now.bytes.now section e → ⊥)
+        (AreRelocs tables.now.bytes.now section) }
 {
     let header = tables.section(section);
     if header.kind != SHT_RELA {

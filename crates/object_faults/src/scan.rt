@@ -8,7 +8,7 @@ ghost use Rattle.object_faults.specs.Faults.{Stands, number, NoneBelow, Answers,
 
 use crate::fault::ObjectFault;
 use crate::kinds::{RelocFault, SectionFault, SymbolFault};
-use crate::reloc_tests::{RelocTable, reloc_kind, reloc_range, reloc_symbol, relocs_in};
+use crate::reloc_tests::{RelocTable, reloc_kind, reloc_range, reloc_symbol, reloc_table};
 use crate::section_tests::{section_align, section_kind, section_name, too_large};
 use crate::symbol_tests::{symbol_kind, symbol_name, symbol_range, symbol_section};
 use crate::tables::Tables;
@@ -112,7 +112,7 @@ fn first_reloc(fault: RelocFault, tables: &Tables, section: u64) -> Option<u64>
     requires { IsSection tables.now.bytes.now section }
     ensures { IsFirstAt (Stands (of_reloc fault) tables.now.bytes.now section) result }
 {
-    let relocs = relocs_in(tables, section)?;
+    let relocs = reloc_table(tables, section)?;
     for entry in 0..relocs.count {
         if reloc_stands(fault, tables, section, &relocs, entry) {
             return Some(entry);

@@ -1,11 +1,13 @@
 //! What may be wrong with one symbol: one test for each kind of fault.
 
 ghost use Rattle.std.specs.Prelude.{◌≡◌, ◌<◌, ◌↔◌, IsTrue};
-ghost use Rattle.object_faults.specs.declared.fault.FaultKind.TheVariants.{SymbolTable, SymbolName, SymbolSection, SymbolRange, SymbolKind};
+ghost use Rattle.object_faults.specs.declared.fault.FaultKind.TheVariants.{SymbolTable, SymbolName, SymbolSection};
+ghost use Rattle.object_faults.specs.declared.fault.FaultKind.TheVariants.{SymbolRange, SymbolKind};
 ghost use Rattle.object_faults.specs.Parts.{IsSection, IsStrings};
 ghost use Rattle.object_faults.specs.Classes.{IsTls};
 ghost use Rattle.object_faults.specs.Names.{Ends};
-ghost use Rattle.object_faults.specs.Faults.{Stands, IsSymbol, IsMisplaced, IsMisnamed, IsMisdefined, IsMistyped, IsDropped, IsTlsSection, symbol_strings};
+ghost use Rattle.object_faults.specs.Faults.{Stands, IsSymbol, IsMisplaced, IsMisnamed, IsMisdefined, IsMistyped};
+ghost use Rattle.object_faults.specs.Faults.{IsDropped, IsTlsSection, symbol_strings};
 
 use crate::class::{SectionClass, kept_class};
 use crate::tables::Tables;

@@ -34,7 +34,8 @@ fn is_strings(tables: &Tables, section: u64) -> bool
     }
 }
 
-/// Whether a section of symbols is a second one, or its entries, names or first global symbol are not as they should be.
+/// Whether a section of symbols is a second one, or its entries, names or first global symbol are not as they should
+/// be.
 fn is_bad_table(tables: &Tables, section: u64) -> bool
     requires { IsTable tables.now.bytes.now section }
     ensures { IsTrue result ↔ IsBadTable tables.now.bytes.now section }

@@ -1,7 +1,9 @@
 //! The sections of an object, all of whose bytes lie in the file.
 
 ghost use Rattle.std.specs.Prelude.{◌≡◌, ◌+◌, ◌*◌, ◌^◌, ◌<◌, ◌≤◌, ◌↔◌, ℕ, length, IsTrue, MatchOption, IfOk};
-ghost use Rattle.object_faults.specs.Parts.{header, section as section_header, symbol_table as table_of_symbols, symbol as symbol_entry, symbol_count, IsSection, IsStrings, IsTable, HasBytes};
+ghost use Rattle.object_faults.specs.Parts.{header, section as section_header, symbol_table as table_of_symbols};
+ghost use Rattle.object_faults.specs.Parts.{symbol as symbol_entry, symbol_count, IsSection, IsStrings, IsTable};
+ghost use Rattle.object_faults.specs.Parts.{HasBytes};
 ghost use Rattle.object_faults.specs.Classes.{IsKeptSection};
 ghost use Rattle.object_faults.specs.Names.{IsEndOfNames, Ends};
 ghost use Rattle.object_faults.specs.Tables.{AreSymbols};
@@ -35,7 +37,8 @@ pub struct Tables<'a> {
     pub ghost names_in: { (0 < names) × (names < count) },
     pub ghost few: { count < 2 ^ 16 },
     pub ghost inside: { table + 64 * count ≤ length bytes.now },
-    pub ghost parts_inside: { (s : ℕ) → IsSection bytes.now s → HasBytes (section_header bytes.now s) → (section_header bytes.now s).offset + (section_header bytes.now s).size ≤ length bytes.now },
+    pub ghost parts_inside: { (s : ℕ) → IsSection bytes.now s → HasBytes (section_header bytes.now s) →
+        (section_header bytes.now s).offset + (section_header bytes.now s).size ≤ length bytes.now },
     pub ghost names_end_is: { IsStrings bytes.now names → IsEndOfNames bytes.now names names_end },
     pub ghost symbols_are: { AreSymbols bytes.now symbols },
 }
@@ -161,7 +164,8 @@ impl Tables<'_> {
 
     /// The header of a section, if there is one of this number.
     pub fn section_at(&self, number: u64) -> Option<SectionHeader>
-        ensures { MatchOption result (IsSection self.now.bytes.now number → ⊥) (λ header. IsSection self.now.bytes.now number × (header ≡ section_header self.now.bytes.now number)) }
+        ensures { MatchOption result (IsSection self.now.bytes.now number → ⊥)
+            (λ header. IsSection self.now.bytes.now number × (header ≡ section_header self.now.bytes.now number)) }
     {
         if self.has_section(number) {
             Some(self.section(number))
