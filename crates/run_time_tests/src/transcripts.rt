@@ -98,6 +98,7 @@ fn writes_threads_and_events(rt: HostRuntime) -> Result<(), Fail> {
         alloc,
         b"image app exe a.o\nimage plug late p.o\nthreads 2\n",
     )?;
+    assert!(rt; job.images().len() == 2);
     let mut transcript = Transcript::new(alloc);
     let opened = Event {
         thread: 1,
