@@ -178,4 +178,5 @@ is_clean (inr unclean) = absurd unclean
 
 prints : call_said Event (machine_loaded (image (0xc3 ∷ [])) entry) 1 1 line ≡ ends (Returned 0)
 unfolding said
-prints = call_says (loaded_by Value (image (0xc3 ∷ [])) entry) (machine_loaded (image (0xc3 ∷ [])) entry) (seen_both (image (0xc3 ∷ [])) entry has_bytes) 0x400001 1 1 line (subst AreClean (sym returns) is_clean) ∙ returns
+prints = call_says (loaded_by Value (image (0xc3 ∷ [])) entry) (machine_loaded (image (0xc3 ∷ [])) entry) (seen_both (image (0xc3 ∷ [])) entry has_bytes) 0x400001 1 1 line
+    (subst AreClean (sym returns) is_clean) ∙ returns

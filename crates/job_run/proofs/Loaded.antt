@@ -66,7 +66,8 @@ module _ (start base given : ℕ → ℕ → ℕ) where
 -- two ranges that hold the same code
 pub record SameCodeIn (range : Range Byte) (range' : Range ℕ) : Type 0 where
   pub reach : (place : ℕ) → grants Run range' place ≡ grants Run range place
-  pub byte : (place : ℕ) → grants Run range place ≡ true → option_and_then (λ (byte : ℕ). Some byte) (slice_get range'.bytes (place - range'.start)) ≡ option_and_then code_byte (slice_get range.bytes (place - range.start))
+  pub byte : (place : ℕ) → grants Run range place ≡ true → option_and_then (λ (byte : ℕ). Some byte) (slice_get range'.bytes (place - range'.start))
+      ≡ option_and_then code_byte (slice_get range.bytes (place - range.start))
 
 -- ranges that cannot be run hold none
 pub none_in : (range : Range Byte) (range' : Range ℕ) → range.runnable ≡ false → range'.runnable ≡ false → SameCodeIn range range'
@@ -82,7 +83,8 @@ value-code (Some number) = refl
 code-in : (part : Placed) → SameCodeIn (code_range Value part) (code_range (λ number. number) part)
 code-in part = record {
   reach = λ place. rw (length-map part.bytes Value, length-map part.bytes (λ number. number)) refl;
-  byte = λ place granted. rw (slice_get-map (λ number. number) part.bytes (place - part.place), slice_get-map Value part.bytes (place - part.place)) (value-code (slice_get part.bytes (place - part.place)));
+  byte = λ place granted. rw (slice_get-map (λ number. number) part.bytes (place - part.place), slice_get-map Value part.bytes (place - part.place))
+      (value-code (slice_get part.bytes (place - part.place)));
 }
 
 pub code_of_image : (image : Image) (entry : List ℕ → Option ℕ) → All2 SameCodeIn (loaded_by Value image entry).fixed (machine_loaded image entry).fixed
@@ -101,7 +103,8 @@ code_same [] [] place h = refl
 code_same [] (range' ∷ ranges') place h = absurd h
 code_same (range ∷ ranges) [] place h = absurd h
 code_same (range ∷ ranges) (range' ∷ ranges') place h =
-    rw (h.0.reach place) (either-code (grants Run range place) (slice_get range.bytes (place - range.start)) (byte_in Run ranges place) (slice_get range'.bytes (place - range'.start)) (byte_in Run ranges' place)
+    rw (h.0.reach place)
+    (either-code (grants Run range place) (slice_get range.bytes (place - range.start)) (byte_in Run ranges place) (slice_get range'.bytes (place - range'.start)) (byte_in Run ranges' place)
     (h.0.byte place) (code_same ranges ranges' place h.1))
 
 -- ** the two loads

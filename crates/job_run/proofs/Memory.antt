@@ -82,7 +82,8 @@ module _ {E : Type 0} (room thread : ℕ) (loaded : Loaded Byte) (loaded' : Load
       → FoundAlike SameBytes (byte_in access (fixed_of (marked_operations owner_at) loaded thread seen) place) (byte_in access (fixed_of plain_operations loaded' thread seen) place)
   unfolding same
   fixed-same access parts seen place =
-      fixed_alike (same nothing owner_at nothing nothing) (marked_operations owner_at) plain_operations (marked_follows nothing owner_at nothing nothing) zero-byte loaded loaded' thread access parts seen place
+      fixed_alike (same nothing owner_at nothing nothing) (marked_operations owner_at) plain_operations
+      (marked_follows nothing owner_at nothing nothing) zero-byte loaded loaded' thread access parts seen place
 
   whole_kept : IsKept (same nothing owner_at nothing nothing) acc acc' (SameSpace {E = E} SameBytes)
   unfolding same meant_accesses

@@ -124,10 +124,12 @@ module _ (loaded : Loaded Byte) (loaded' : Loaded ℕ) (linked : IsLinked loaded
 
   -- ** all threads
 
-  worlds_alike : IsAlike (Each InCall) (Each AtLook) (Each Between) Any (each fuel (λ thread. meant_turns {E = E} room loaded thread fuel)) (each (4 * fuel) (λ thread. machine_turns {E = E} loaded' thread fuel))
+  worlds_alike : IsAlike (Each InCall) (Each AtLook) (Each Between) Any (each fuel (λ thread. meant_turns {E = E} room loaded thread fuel))
+      (each (4 * fuel) (λ thread. machine_turns {E = E} loaded' thread fuel))
   worlds_alike = each_alike InCall AtLook Between Any fuel (4 * fuel) (λ thread. meant_turns room loaded thread fuel) (λ thread. machine_turns loaded' thread fuel) thread_alike (omega arith)
 
-  levels : (number : ℕ) (lines : List (List CallLine)) → All2 (Level (Each AtLook) (Each Between)) (threads_from {E = E} (meant_start loaded) number lines) (threads_from (printed_start loaded') number lines)
+  levels : (number : ℕ) (lines : List (List CallLine)) → All2 (Level (Each AtLook) (Each Between)) (threads_from {E = E} (meant_start loaded) number lines)
+      (threads_from (printed_start loaded') number lines)
   unfolding threads_from
   levels number [] = tt
   levels number (first ∷ lines) = (record { todo = refl; said = refl; seen = refl; phase = record { number = refl; state = start-same number } }, levels (suc number) lines)

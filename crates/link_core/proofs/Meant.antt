@@ -103,7 +103,13 @@ module _ (kind : ImageKind) (objects : List (List ℕ)) (linked : AreLinked kind
   pub image_is : image_of p objects ≡ meant_image p objects
   unfolding image_of meant_image class_of
   image_is =
-      rw (part_is p Code objects (holds Code) (lies Code), part_is p Constants objects (holds Constants) (lies Constants), part_is p InitialTls objects (holds InitialTls) (lies InitialTls), distance_is p) refl
+      rw (
+        part_is p Code objects (holds Code) (lies Code),
+        part_is p Constants objects (holds Constants) (lies Constants),
+        part_is p InitialTls objects (holds InitialTls)
+            (lies InitialTls),
+        distance_is p,
+      ) refl
 
 pub images_meant : ImagesAreMeant
 images_meant kind objects linked = image_is kind objects linked

@@ -252,7 +252,8 @@ module _ (kind : ImageKind) (objects : List (List ℕ)) (part : PartKind)
       record { rising = tt; ends = ap (λ n. end_after q part (sum n)) counts ∙ end_all q part (sum q.counts) (omega (arith, total)) }
   some_objects (b ∷ more) o e =
       let at = dropped_is objects o [] b more e in
-      let one = object_lies kind objects part o b at.within at.here (λ s so. subst (λ c. length (linked_bytes q o c s) ≡ section_size c s) at.here (full o s at.within (subst (λ c. is_of part (section_class c s) ≡ true) (sym at.here) so))) in
+      let one = object_lies kind objects part o b at.within at.here
+      (λ s so. subst (λ c. length (linked_bytes q o c s) ≡ section_size c s) at.here (full o s at.within (subst (λ c. is_of part (section_class c s) ≡ true) (sym at.here) so))) in
       let count : slice_index q.counts o ≡ section_count b = get_or-map section_count objects o [] 0 at.within ∙ ap section_count at.here in
       let more_counts = sum_by_more (λ x. x) q.counts o 0 (omega (arith, at.within, (length-map objects section_count))) in
       let next : sum (take o q.counts) + section_count b ≡ sum (take (o + 1) q.counts) = omega (arith, count, more_counts) in

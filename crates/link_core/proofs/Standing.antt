@@ -110,7 +110,8 @@ module _ (p : Layout) (part : PartKind) (o : ℕ) (b : List ℕ) (a : ℕ)
   sections_mean : (m s : ℕ) → byte_of_any (flat_map (placed_section p part o b) (range_with_len s m)) a ≡ option_map meant (find (stands_at p (class_of part) o b a) (range_with_len s m))
   sections_mean zero s = refl
   sections_mean (suc m) s =
-      section_step s (flat_map (placed_section p part o b) (range_with_len (s + 1) m)) (option_map meant (find (stands_at p (class_of part) o b a) (range_with_len (s + 1) m))) (sections_mean m (s + 1))
+      section_step s (flat_map (placed_section p part o b) (range_with_len (s + 1) m)) (option_map meant (find (stands_at p (class_of part) o b a) (range_with_len (s + 1) m)))
+      (sections_mean m (s + 1))
       ∙ sym (found-more (stands_at p (class_of part) o b a s) s (find (stands_at p (class_of part) o b a) (range_with_len (s + 1) m)))
 
   pub object_means : byte_of_any (placed_object p part o b) a ≡ object_byte p (class_of part) o b a
@@ -134,7 +135,8 @@ module _ (p : Layout) (part : PartKind) (objects : List (List ℕ)) (holds : Hol
   objects_mean (b ∷ more) o e =
       let at = dropped_is objects o [] b more e in
       let here = object_means p part o b a (λ s so. subst (λ c. (length (linked_bytes p o c s) ≡ section_size c s)
-      × ((k : ℕ) → k < section_size c s → slice_get (linked_bytes p o c s) k ≡ Some (section_byte p o c s k))) at.here (holds o s at.within (subst (λ c. is_of part (section_class c s) ≡ true) (sym at.here) so))) in
+      × ((k : ℕ) → k < section_size c s → slice_get (linked_bytes p o c s) k ≡ Some (section_byte p o c s k))) at.here
+      (holds o s at.within (subst (λ c. is_of part (section_class c s) ≡ true) (sym at.here) so))) in
       ap (λ found. unwrap_or found 0) (any-append (placed_object p part o b) (placed_from p part (o + 1) more) a)
       ∙ first-or (byte_of_any (placed_object p part o b) a) (byte_of_any (placed_from p part (o + 1) more) a)
       ∙ ap (λ found. first_or found (unwrap_or (byte_of_any (placed_from p part (o + 1) more) a) 0)) here
@@ -183,4 +185,8 @@ module _ (p : Layout) (part : PartKind) (objects : List (List ℕ)) (holds : Hol
   part_is =
       let begin = start_is p part in
       ap (λ bytes. record { place = start_of p part; bytes = bytes }) bytes_are
-      ∙ ap (λ at. record { place = at; bytes = map (λ address. byte_from p (class_of part) 0 objects address) (range_with_len at ((extent_for (class_of part) p).end - (extent_for (class_of part) p).start)) }) begin
+      ∙ ap (λ at. record {
+        place = at;
+        bytes = map (λ address. byte_from p (class_of part) 0 objects address)
+            (range_with_len at ((extent_for (class_of part) p).end - (extent_for (class_of part) p).start));
+      }) begin

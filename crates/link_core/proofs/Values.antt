@@ -101,7 +101,8 @@ has_value p o b s r within object taken law =
     let h = parts_of b r taken in
     let there = (law.symbol (no_nothing r.kind h.kind)).1 in
     let fits = small_fits (symbol_offset p o b r.symbol) (block_offset p) r.addend (offset_bound p o b within object r.symbol there h.own) (block_small p within) h.small in
-    subst (λ f. IsSome f) (sym (row_is (symbol_offset p o b r.symbol) r.addend (block_offset p) r.kind h.kind)) ((signed_fits ((pos (symbol_offset p o b r.symbol) +ℤ r.addend) -ℤ pos (block_offset p))).1 fits)
+    subst (λ f. IsSome f) (sym (row_is (symbol_offset p o b r.symbol) r.addend (block_offset p) r.kind h.kind))
+    ((signed_fits ((pos (symbol_offset p o b r.symbol) +ℤ r.addend) -ℤ pos (block_offset p))).1 fits)
 
 -- ** all of a section
 

@@ -23,7 +23,8 @@ is_defined (InSection s) = true
 
 -- whether symbol e of an object defines the name, with this binding
 abbrev pub defines : List ℕ → SymbolBinding → List ℕ → ℕ → Bool
-defines b binding name e = same_binding binding (symbol_binding b e) && (is_defined (symbol_place b e) && bytes_eq name (symbol_name b e))
+defines b binding name e =
+    same_binding binding (symbol_binding b e) && (is_defined (symbol_place b e) && bytes_eq name (symbol_name b e))
 
 -- the first symbol of an object that does; symbol 0 is reserved
 unfoldable pub first_in : SymbolBinding → List ℕ → List ℕ → Option ℕ

@@ -13,7 +13,8 @@ use Rattle.tls_layout.specs.Places.{IsLawful}
 use Rattle.tls_layout.specs.Sections.{Layout, layout_of}
 use Rattle.tls_relocs.specs.Laid.{Rising}
 
--- every relocation that is taken has a value, which its field holds: in whichever layout within the limits, and as whichever of its objects
+-- every relocation that is taken has a value, which its field holds: in whichever layout within the limits, and as whichever of
+-- its objects
 abbrev pub FieldsHaveValues : Type 0
 FieldsHaveValues = (p : Layout) (o : ℕ) (b : List ℕ) (s : ℕ) → IsLawful p → IsObject b → section_is_taken b s ≡ true
     → All (λ r. IsSome (field_of p o b r)) (relocations b s)
@@ -28,7 +29,8 @@ FieldsAreApart = (b : List ℕ) (s : ℕ) → IsObject b → AreApart (relocatio
 
 -- each field of section s holds its relocation's value, and every other byte is the section's own
 pub record HoldsItsFields (p : Layout) (o : ℕ) (b : List ℕ) (s : ℕ) (bytes : List ℕ) : Type 0 where
-  pub fields : All (λ r. (k : ℕ) → is_in_field r k ≡ true → slice_get bytes k ≡ Some (field_byte p o b r k)) (relocations b s)
+  pub fields : All (λ r. (k : ℕ) → is_in_field r k ≡ true → slice_get bytes k ≡ Some (field_byte p o b r k))
+      (relocations b s)
   pub others : (k : ℕ) → k < section_size b s → All (λ r. is_in_field r k ≡ false) (relocations b s)
       → slice_get bytes k ≡ Some (slice_index_or (section_bytes b s) k 0)
 

@@ -9,7 +9,10 @@ pub record Progress : Type 0 where
 
 -- with one more section
 abbrev pub with_section : Progress → Placed → Progress
-with_section so_far s = record { end = s.place + length s.bytes; bytes = so_far.bytes ++ (zeros (s.place - so_far.end) ++ s.bytes) }
+with_section so_far s = record {
+  end = s.place + length s.bytes;
+  bytes = so_far.bytes ++ (zeros (s.place - so_far.end) ++ s.bytes);
+}
 
 -- with more of them
 abbrev pub with_sections : Progress → List Placed → Progress

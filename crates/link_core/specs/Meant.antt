@@ -1,5 +1,5 @@
--- What objects say of an address: there stands the byte of a section, or where a relocation's field covers it, the byte of the field's
--- value. This asks the objects and their layout alone, and nothing that a linker writes or how it does so.
+-- What objects mean at an address: there stands the byte of a section, or where a relocation's field covers it, the byte of
+-- the field's value. This asks the objects and their layout alone, and nothing that a linker writes.
 use Rattle.std.specs.Prelude.{◌+◌, ◌-◌, ◌&&◌, ℕ, ℤ, pos, ◌+ℤ◌, ◌-ℤ◌, Bool, true, List, [], ◌∷◌, map, Option, Some, None, unwrap_or, option_map, slice_index_or, nat_le, nat_lt, if◌then◌else◌}
 use Rattle.std.specs.Int.{w32, byte_at, cast_unsigned}
 use Rattle.std.specs.List.{find, range_with_len}
@@ -27,7 +27,8 @@ abbrev pub place_in_block : Layout → ℕ → SymbolPlace → ℕ → ℕ
 place_in_block p o (InSection s) value = unwrap_or (tls_offset_of p o s) 0 + value
 place_in_block p o place value = value
 
--- S + A, as a distance from the thread pointer: what R_X86_64_TPOFF32 stores (psABI, "Relocation Types"; Drepper, section 4.4.6)
+-- S + A, as a distance from the thread pointer: what R_X86_64_TPOFF32 stores (psABI, "Relocation Types"; Drepper, section
+-- 4.4.6), the one type that is taken so far
 unfoldable pub distance_of : Layout → ℕ → List ℕ → Relocation → ℤ
 distance_of p o b r =
     (pos (place_in_block p o (symbol_place b r.symbol) (symbol_value b r.symbol)) +ℤ r.addend) -ℤ pos (block_distance p)
@@ -62,7 +63,8 @@ stands_at p class o b address s =
 -- the byte of the section of object o that does, if there is one
 abbrev pub object_byte : Layout → SectionClass → ℕ → List ℕ → ℕ → Option ℕ
 object_byte p class o b address =
-    option_map (λ s. section_byte p o b s (address - begin_of p o s)) (find (stands_at p class o b address) (range_with_len 0 (section_count b)))
+    option_map (λ s. section_byte p o b s (address - begin_of p o s))
+    (find (stands_at p class o b address) (range_with_len 0 (section_count b)))
 
 abbrev pub first_or : Option ℕ → ℕ → ℕ
 first_or (Some byte) rest = byte
@@ -71,13 +73,18 @@ first_or None rest = rest
 -- the byte at an address of a class; 0 where no section stands. The objects are those from number o on
 abbrev pub byte_from : Layout → SectionClass → ℕ → List (List ℕ) → ℕ → ℕ
 byte_from p class o [] address = 0
-byte_from p class o (b ∷ more) address = first_or (object_byte p class o b address) (byte_from p class (o + 1) more address)
+byte_from p class o (b ∷ more) address =
+    first_or (object_byte p class o b address) (byte_from p class (o + 1) more address)
 
 -- a class as objects mean it, from the address where it begins to where it ends
 unfoldable pub class_part : Layout → SectionClass → List (List ℕ) → Placed
 class_part p class objects =
     let extent = extent_for class p in
-    record { place = extent.start; bytes = map (λ address. byte_from p class 0 objects address) (range_with_len extent.start (extent.end - extent.start)) }
+    record {
+      place = extent.start;
+      bytes = map (λ address. byte_from p class 0 objects address)
+          (range_with_len extent.start (extent.end - extent.start));
+    }
 
 -- the image that objects mean
 unfoldable pub meant_image : Layout → List (List ℕ) → Image

@@ -26,7 +26,8 @@ fn symbol_offset(placement: &Placement, number: usize, object: &Object, symbol: 
     }
 }
 
-/// The offset in the TLS segment of what lies so far behind the start of a section; the value alone of what lies in none.
+/// The offset in the TLS segment of what lies so far behind the start of a section; the value alone of what
+/// lies in none.
 #[tactic(auto, using(crate::proofs::Offsets::offset_small))]
 fn offset_in(placement: &Placement, number: usize, place: SymbolPlace, value: u64) -> u64
     requires { value ≤ 2 ^ 20 }

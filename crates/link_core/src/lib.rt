@@ -1,19 +1,23 @@
-//! The image of objects: code, constants and the initial image of thread-local storage, with the fields of relocations written.
+//! The image of objects: code, constants and the initial image of thread-local storage, with the fields of
+//! relocations written.
 //!
-//! A linker has two steps. It first decides where each section goes (`tls_layout`), and then makes the bytes that stand there.
-//! This crate is the second step, for an executable whose objects access their own variables by the *local exec* model: an
-//! instruction holds the variable's distance from the thread pointer, which is known once the blocks' places are (Drepper, "ELF
-//! Handling For Thread-Local Storage", sections 4.1.4 and 3, variant II).
+//! A linker has two steps. It first decides where each section goes (`tls_layout`), and then makes the bytes that
+//! stand there. This crate is the second step, for an executable whose objects access their own variables by the
+//! *local exec* model: an instruction holds the variable's distance from the thread pointer, which is known once
+//! the blocks' places are (Drepper, "ELF Handling For Thread-Local Storage", sections 4.1.4 and 3, variant II).
 //!
-//! The rule of bytes: **a section's bytes stand at its place, changed only in the fields of its relocations, and between two
-//! sections are zeros.** A field of `R_X86_64_TPOFF32` is S + A less the block's distance, where S is the variable's offset in
-//! the TLS segment, A the addend, and the executable's block begins that far below the thread pointer (psABI AMD64,
-//! "Relocation Types"). Fields are written one after another, in the order of the section's entries.
+//! The rule of bytes: **a section's bytes stand at its place, changed only in the fields of its relocations, and
+//! between two sections are zeros.** A field of `R_X86_64_TPOFF32` is S + A less the block's distance, where S is
+//! the variable's offset in the TLS segment, A the addend, and the executable's block begins that far below the
+//! thread pointer (psABI AMD64, "Relocation Types"). Fields are written one after another, in the order of the
+//! section's entries.
 //!
-//! The rule of names: a name is the first GLOBAL symbol that defines it, in the order of objects and then of symbols, and if
-//! there is none, the first WEAK one (gABI, "Symbol Table"). It can be called if it stands in code, before the end of the code.
+//! The rule of names: a name is the first GLOBAL symbol that defines it, in the order of objects and then of
+//! symbols, and if there is none, the first WEAK one (gABI, "Symbol Table"). It can be called if it stands in code,
+//! before the end of the code.
 //!
-//! An example: a.o defines `f` at the start of `.text`, and `x`, 4 bytes with the value 42, in `.tdata`. b.o has code too.
+//! An example: a.o defines `f` at the start of `.text`, and `x`, 4 bytes with the value 42, in `.tdata`. b.o has
+//! code too.
 //!
 //! ```text
 //! a.o .text   64 8b 04 25 00 00 00 00   mov %fs:x@tpoff, %eax    R_X86_64_TPOFF32 of x at 4, addend 0
@@ -29,18 +33,21 @@
 //! entry of f  0x400000
 //! ```
 //!
-//! [`link`] makes the image of objects that [`takes`] accepts: each relocation is a TPOFF32 of a GLOBAL variable in the object's
-//! own thread-local storage, with an addend of -2^20 to 2^20, so that its value fits. [`definition`] and [`entry_place`] find names.
+//! [`link`] makes the image of objects that [`takes`] accepts: each relocation is a TPOFF32 of a GLOBAL variable in
+//! the object's own thread-local storage, with an addend of -2^20 to 2^20, so that its value fits. [`definition`]
+//! and [`entry_place`] find names.
 //!
-//! The rule of meaning: **an image holds at each address what its objects mean there** (`specs/Meant`): the byte of the section that
-//! stands there, in a relocation's field the byte of its value, and between sections zero. That definition asks the objects and
-//! their layout alone, and nothing that this crate or `tls_relocs` writes, so the law (`laws::images_are_meant`) fails for a wrong
-//! field, also where definition and code are wrong alike. It stands on four others: relocations that are taken have values, fields
-//! share no byte, a linked section holds its fields and else its own bytes, and the sections of a part rise.
+//! The rule of meaning: **an image holds at each address what its objects mean there** (`specs/Meant`): the byte of
+//! the section that stands there, in a relocation's field the byte of its value, and between sections zero. That
+//! definition asks the objects and their layout alone, and nothing that this crate or `tls_relocs` writes, so the
+//! law (`laws::images_are_meant`) fails for a wrong field, also where definition and code are wrong alike. It
+//! stands on four others: relocations that are taken have values, fields share no byte, a linked section holds its
+//! fields and else its own bytes, and the sections of a part rise.
 //!
-//! `specs/Taken` says which relocations are taken, `specs/Fields` what is written in a section, `specs/Parts` how sections make an
-//! image, `specs/Laying` what stands after each section that is laid down, and `specs/Definitions` and `specs/Entries` what a
-//! name is and where it stands. Linking copies each section once, and writes each field once.
+//! `specs/Taken` says which relocations are taken, `specs/Fields` what is written in a section, `specs/Parts` how
+//! sections make an image, `specs/Laying` what stands after each section that is laid down, and `specs/Definitions`
+//! and `specs/Entries` what a name is and where it stands. Linking copies each section once, and writes each field
+//! once.
 #![tactic(auto)]
 
 mod entry;

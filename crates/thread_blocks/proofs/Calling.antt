@@ -74,40 +74,55 @@ module _ (executable : Executable) (entry : List ℕ → Option ℕ) (thread : �
 
   -- what the code's machine ran over is the image of what the thread runs over
   ran-image : (fuel : ℕ) (call : Call) (symbol : List ℕ) (seen : List Event) (own : List (Range ℕ)) → call.a < 2 ^ 64 → call.b < 2 ^ 64 → call.c < 2 ^ 64
-      → run (machine_of plain_operations) (4 * fuel) (left (record (start_of plain_operations call.place (stack_end thread - 8) call.a call.b call.c) { thread_pointer = pointer_of thread }) (memory_at (fresh_space plain_operations seen own)))
+      → run (machine_of plain_operations) (4 * fuel)
+      (left (record (start_of plain_operations call.place (stack_end thread - 8) call.a call.b call.c) { thread_pointer = pointer_of thread }) (memory_at (fresh_space plain_operations seen own)))
       ≡ outcome_image (after_of memory_at) (run steps_at (4 * fuel) (start_at call symbol seen own))
   unfolding start_at
   ran-image fuel call symbol seen own f g h =
-      ap (λ (state : State ℕ Bool). run (machine_of plain_operations) (4 * fuel) (left state (memory_at (fresh_space plain_operations seen own)))) (sym (plain_start thread call.place call.a call.b call.c symbol f g h))
-      ∙ space_run plain_operations (stack_start thread) (fixed_of plain_operations (loaded_of executable entry) thread) (fixed_none (loaded_of executable entry) thread (refl, (refl, (refl, tt)))) (4 * fuel)
+      ap (λ (state : State ℕ Bool). run (machine_of plain_operations) (4 * fuel) (left state (memory_at (fresh_space plain_operations seen own))))
+      (sym (plain_start thread call.place call.a call.b call.c symbol f g h))
+      ∙ space_run plain_operations (stack_start thread) (fixed_of plain_operations (loaded_of executable entry) thread)
+      (fixed_none (loaded_of executable entry) thread (refl, (refl, (refl, tt)))) (4 * fuel)
       (left (call_start plain_operations thread call.place (line_of symbol call)) (fresh_space plain_operations seen own))
 
   turned : (fuel : ℕ) (call : Call) (outcome : Answer) (symbol : List ℕ) (todo : List CallLine) (said : List Said) (before seen : List Event) (at : Held) (stop : Stop) (new ran : AddressSpace ℕ)
       → call.a < 2 ^ 64 → call.b < 2 ^ 64 → call.c < 2 ^ 64 → entry symbol ≡ Some call.place → ran ≡ memory_at (fresh_space plain_operations seen at.memory.own)
-      → stop ≡ stop_of (run (machine_of plain_operations) (4 * fuel) (left (record (start_of plain_operations call.place (stack_end thread - 8) call.a call.b call.c) { thread_pointer = pointer_of thread }) ran))
-      → new ≡ (state_after (run (machine_of plain_operations) (4 * fuel) (left (record (start_of plain_operations call.place (stack_end thread - 8) call.a call.b call.c) { thread_pointer = pointer_of thread }) ran))).memory
+      → stop ≡ stop_of (run (machine_of plain_operations) (4 * fuel)
+      (left (record (start_of plain_operations call.place (stack_end thread - 8) call.a call.b call.c) { thread_pointer = pointer_of thread }) ran))
+      → new ≡ (state_after
+      (run (machine_of plain_operations) (4 * fuel)
+      (left (record (start_of plain_operations call.place (stack_end thread - 8) call.a call.b call.c) { thread_pointer = pointer_of thread }) ran))).memory
       → answer_of_stop stop ≡ Some outcome
       → LeavesSo executable thread outcome todo said seen new (turn (machine_turns (loaded_of executable entry) thread fuel) (before_line symbol call todo said before at) seen)
   turned fuel call outcome symbol todo said before seen at stop new ran f g h found e p q k =
-      let ran-out = ap (λ (memory : AddressSpace ℕ). run (machine_of plain_operations) (4 * fuel) (left (record (start_of plain_operations call.place (stack_end thread - 8) call.a call.b call.c) { thread_pointer = pointer_of thread }) memory)) e
+      let ran-out = ap (λ (memory : AddressSpace ℕ). run (machine_of plain_operations) (4 * fuel)
+      (left (record (start_of plain_operations call.place (stack_end thread - 8) call.a call.b call.c) { thread_pointer = pointer_of thread }) memory)) e
       ∙ ran-image fuel call symbol seen at.memory.own f g h in
       subst (λ (t : Thread Held CallLine Event). LeavesSo executable thread outcome todo said seen new t)
       (sym (turn-run fuel call symbol todo said before seen at found
       ∙ ap (λ (out : Outcome Held). after_run todo said seen (length seen ∷ []) out)
       (alone_run place_at steps_at (machine_stays plain_operations _ no_field) (4 * fuel) (start_at call symbol seen at.memory.own))))
-      (gives outcome todo said seen (run steps_at (4 * fuel) (start_at call symbol seen at.memory.own)) stop new (p ∙ ap stop_of ran-out) (q ∙ ap (λ (out : Outcome (After ℕ Bool (AddressSpace ℕ))). (state_after out).memory) ran-out) k)
+      (gives outcome todo said seen (run steps_at (4 * fuel) (start_at call symbol seen at.memory.own)) stop new (p ∙ ap stop_of ran-out)
+      (q ∙ ap (λ (out : Outcome (After ℕ Bool (AddressSpace ℕ))). (state_after out).memory) ran-out) k)
 
 fresh-image : (executable : Executable) (entry : List ℕ → Option ℕ) (thread : ℕ) (at : Held) (old : AddressSpace ℕ) (seen : List Event) → HoldsBlocks executable thread at old
-    → (record old { ranges = stack_range (stack_start thread) (fresh_stack plain_operations) ∷ behind_stack old.ranges }) ≡ memory_at executable entry thread (fresh_space plain_operations seen at.memory.own)
+    → (record old { ranges = stack_range (stack_start thread) (fresh_stack plain_operations) ∷ behind_stack old.ranges })
+    ≡ memory_at executable entry thread (fresh_space plain_operations seen at.memory.own)
 fresh-image executable entry thread at old seen h =
     ap (λ (ranges : List (Range ℕ)). record { ranges = stack_range (stack_start thread) (fresh_stack plain_operations) ∷ ranges; fields = old.fields }) h.ranges
-    ∙ ap (λ (fields : List ℕ). record { ranges = stack_range (stack_start thread) (fresh_stack plain_operations) ∷ (at.memory.own ++ fixed_of plain_operations (loaded_of executable entry) thread seen); fields = fields }) h.fields
+    ∙ ap (λ (fields : List ℕ). record {
+      ranges = stack_range (stack_start thread) (fresh_stack plain_operations) ∷
+          (at.memory.own ++ fixed_of plain_operations (loaded_of executable entry) thread seen);
+      fields = fields;
+    }) h.fields
 
 -- the law: how the machine stops over a fresh stack and the rest of the memory, and what it leaves, is the call
 pub is_call : (thread fuel : ℕ) (call : Call) (outcome : Answer) (stop : Stop) (old ran new : AddressSpace ℕ) → call.a < 2 ^ 64 → call.b < 2 ^ 64 → call.c < 2 ^ 64
     → ran ≡ (record old { ranges = stack_range (stack_start thread) (fresh_stack plain_operations) ∷ behind_stack old.ranges })
-    → stop ≡ stop_of (run (machine_of plain_operations) (4 * fuel) (left (record (start_of plain_operations call.place (stack_end thread - 8) call.a call.b call.c) { thread_pointer = pointer_of thread }) ran))
-    → new ≡ (state_after (run (machine_of plain_operations) (4 * fuel) (left (record (start_of plain_operations call.place (stack_end thread - 8) call.a call.b call.c) { thread_pointer = pointer_of thread }) ran))).memory
+    → stop ≡ stop_of (run (machine_of plain_operations) (4 * fuel)
+    (left (record (start_of plain_operations call.place (stack_end thread - 8) call.a call.b call.c) { thread_pointer = pointer_of thread }) ran))
+    → new ≡ (state_after
+    (run (machine_of plain_operations) (4 * fuel) (left (record (start_of plain_operations call.place (stack_end thread - 8) call.a call.b call.c) { thread_pointer = pointer_of thread }) ran))).memory
     → answer_of_stop stop ≡ Some outcome → IsCall thread fuel call outcome old new
 is_call thread fuel call outcome stop old ran new f g h e p q k = record {
   says = λ executable entry symbol todo said before seen at found holds.
@@ -120,12 +135,14 @@ pub run_leaves : (place a b c thread fuel stack pointer limit : ℕ) (stop : Sto
     → machine ≡ record { state = start_of plain_operations place stack a b c; taken = 0 }
     → ready ≡ (record machine { state = record machine.state { thread_pointer = pointer } })
     → limit ≡ 4 * fuel → stack ≡ stack_end thread - 8 → pointer ≡ pointer_of thread
-    → memory' ≡ (state_after (run (machine_of plain_operations) (4 * fuel) (left (record (start_of plain_operations place (stack_end thread - 8) a b c) { thread_pointer = pointer_of thread }) memory))).memory
+    → memory' ≡ (state_after
+    (run (machine_of plain_operations) (4 * fuel) (left (record (start_of plain_operations place (stack_end thread - 8) a b c) { thread_pointer = pointer_of thread }) memory))).memory
 run_leaves place a b c thread fuel stack pointer limit stop machine ready after memory memory' runs r m l s p =
     ap (λ (left_so : After ℕ Bool (AddressSpace ℕ)). left_so.memory) runs.after ∙ rw (m, r, l, s, p, sub_zero) refl
 
 first-said : (executable : Executable) (thread fuel : ℕ) (call : Call) (outcome : Answer) (entry : List ℕ → Option ℕ) (symbol : List ℕ) (new : AddressSpace ℕ)
-    → LeavesSo executable thread outcome [] [] [] new (turn (machine_turns (loaded_of executable entry) thread fuel) (before_line symbol call [] [] [] (thread_start plain_operations (loaded_of executable entry) thread)) [])
+    → LeavesSo executable thread outcome [] [] [] new
+    (turn (machine_turns (loaded_of executable entry) thread fuel) (before_line symbol call [] [] [] (thread_start plain_operations (loaded_of executable entry) thread)) [])
     → map shown (call_said Event (loaded_of executable entry) thread fuel (line_of symbol call)) ≡ Some (record { points = 0 ∷ []; outcome = outcome }) ∷ []
 unfolding call_said
 first-said executable thread fuel call outcome entry symbol new leaves =

@@ -54,7 +54,13 @@ ends_all = refl
 -- ** the same lines, of which the first counts its steps from 2 and is unclean where they are spent, and the second from 8
 
 abbrev first_lines : Turns ℕ Bool ℕ
-first_lines = record { steps = record { over = counted; step = next; spent = λ n. Unclean n NoStep }; fuel = 2; begin = λ line seen s. begun line (length seen); resume = λ seen s. Calls (suc (length seen)) }
+first_lines = record {
+  steps = record { over = counted; step = next; spent = λ n. Unclean n NoStep };
+  fuel = 2;
+  begin = λ line seen s. begun line (length seen);
+  resume = λ seen s. Calls
+      (suc (length seen));
+}
 
 abbrev second_lines : Turns ℕ Bool ℕ
 second_lines = record { steps = counter; fuel = 8; begin = λ line seen s. begun line (length seen); resume = λ seen s. Calls (suc (length seen)) }

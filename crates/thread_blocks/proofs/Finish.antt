@@ -88,14 +88,15 @@ module _ {S L E : Type 0} (x : Turns S L E) (fuel : ℕ) (within : x.fuel ≤ fu
 
     set-left : (w : World S L E) (i j k : ℕ) (u : Thread S L E) → slice_get w.threads j ≡ Some u → HasLeft w i k → (t : Thread S L E)
         → slice_get (slice_set w.threads j (turn x u w.events)) i ≡ Some t → left_of t ≤ k
-    set-left w i j k u e h t f = (elim (get-set w.threads i j (turn x u w.events)) as (λ (o : (j ≡ i) ⊎ (slice_get (slice_set w.threads j (turn x u w.events)) i ≡ slice_get w.threads i)). left_of t ≤ k) [
-      | inl here ↦
-          let own : slice_get (slice_set w.threads j (turn x u w.events)) j ≡ Some (turn x u w.events) = get-set_same w.threads j u (turn x u w.events) e in
-          let same : turn x u w.events ≡ t = cc in
-          let mine : slice_get w.threads i ≡ Some u = cc in
-          subst (λ (v : Thread S L E). left_of v ≤ k) same (turn-no-more u w.events k (h u mine))
-      | inr other ↦ let mine : slice_get w.threads i ≡ Some t = cc in h t mine
-    ])
+    set-left w i j k u e h t f =
+        (elim (get-set w.threads i j (turn x u w.events)) as (λ (o : (j ≡ i) ⊎ (slice_get (slice_set w.threads j (turn x u w.events)) i ≡ slice_get w.threads i)). left_of t ≤ k) [
+          | inl here ↦
+              let own : slice_get (slice_set w.threads j (turn x u w.events)) j ≡ Some (turn x u w.events) = get-set_same w.threads j u (turn x u w.events) e in
+              let same : turn x u w.events ≡ t = cc in
+              let mine : slice_get w.threads i ≡ Some u = cc in
+              subst (λ (v : Thread S L E). left_of v ≤ k) same (turn-no-more u w.events k (h u mine))
+          | inr other ↦ let mine : slice_get w.threads i ≡ Some t = cc in h t mine
+        ])
 
     taken-left : (w : World S L E) (i j k : ℕ) → HasLeft w i k → HasLeft (taken x event w j) i k
     taken-left w i zero k h = h
@@ -139,7 +140,8 @@ module _ {S L E : Type 0} (x : Turns S L E) (fuel : ℕ) (within : x.fuel ≤ fu
         let same : own ≡ mine = cc in
         let here : first + 0 ≡ first = omega arith in
         let turns = replicate (enough fuel (length own)) (suc first) in
-        let start : HasLeft w first (enough fuel (length own)) = subst (λ (k : ℕ). HasLeft w k (enough fuel (length own))) here (subst (λ (l : List L). HasLeft w (first + 0) (enough fuel (length l))) (sym same) h) in
+        let start : HasLeft w first (enough fuel (length own)) = subst (λ (k : ℕ). HasLeft w k (enough fuel (length own))) here
+        (subst (λ (l : List L). HasLeft w (first + 0) (enough fuel (length l))) (sym same) h) in
         rw (here, order-append turns (finishing fuel (suc (suc first)) lines) w)
         (order-left (finishing fuel (suc (suc first)) lines) (by_order x event turns w) first 0 (turns-left (enough fuel (length own)) w first start))
     finishing-ends (own ∷ lines) first w (suc i) mine e h =

@@ -91,7 +91,8 @@ module _ {W F B M M' : Type 0} (ops : Operations W F B) (acc : Accesses M B) (ac
   unfolding load_of
   load-image m place size = ap (reached ops.joined) (bytes-image size m place)
 
-  stored-image : (bytes : List B) (m : M) (place : ℕ) (r : Result (Unit {0}) Refusal) → reached (λ (done : Unit {0}). put_all acc' (image m) place bytes) r ≡ reached image (reached (λ (done : Unit {0}). put_all acc m place bytes) r)
+  stored-image : (bytes : List B) (m : M) (place : ℕ) (r : Result (Unit {0}) Refusal)
+      → reached (λ (done : Unit {0}). put_all acc' (image m) place bytes) r ≡ reached image (reached (λ (done : Unit {0}). put_all acc m place bytes) r)
   stored-image bytes m place (Ok done) = ap Ok (puts-image bytes m place)
   stored-image bytes m place (Err why) = refl
 
@@ -114,7 +115,8 @@ module _ {W F B M M' : Type 0} (ops : Operations W F B) (acc : Accesses M B) (ac
   taken_at-image width here m (Ok place) other = rw (load-image m place (size_of width)) refl
   taken_at-image width here m (Err cause) other = refl
 
-  taken-image : (width : Width) (f : Frame) (s : State W F) (m : M) (operand : Operand) (other : Result ℕ Cause) → taken ops acc' width f s (image m) operand other ≡ taken ops acc width f s m operand other
+  taken-image : (width : Width) (f : Frame) (s : State W F) (m : M) (operand : Operand) (other : Result ℕ Cause)
+      → taken ops acc' width f s (image m) operand other ≡ taken ops acc width f s m operand other
   unfolding taken
   taken-image width f s m (InRegister name) other = refl
   taken-image width f s m (InMemory operand) other = taken_at-image width s.place m (address_of ops f s operand) other
@@ -126,7 +128,8 @@ module _ {W F B M M' : Type 0} (ops : Operations W F B) (acc : Accesses M B) (ac
 
   -- ** instructions
 
-  finished-image : (width : Width) (slot : Slot) (effect : Effect) (f : Frame) (s : State W F) (m : M) → finished ops acc' width slot effect f s (image m) ≡ mapped image (finished ops acc width slot effect f s m)
+  finished-image : (width : Width) (slot : Slot) (effect : Effect) (f : Frame) (s : State W F) (m : M)
+      → finished ops acc' width slot effect f s (image m) ≡ mapped image (finished ops acc width slot effect f s m)
   unfolding finished
   finished-image width slot effect f s m = then-after image _ _ _ _ (put-image width slot (ops.word effect.number) s m) (λ after. refl)
 
@@ -140,7 +143,8 @@ module _ {W F B M M' : Type 0} (ops : Operations W F B) (acc : Accesses M B) (ac
   concluded-image Sub width slot effect f s m = finished-image width slot effect f s m
   concluded-image Xor width slot effect f s m = finished-image width slot effect f s m
 
-  move_in-image : (width : Width) (f : Frame) (s : State W F) (m : M) (to : Register) (from : Operand) → move_in ops acc' width f s (image m) to from ≡ mapped image (move_in ops acc width f s m to from)
+  move_in-image : (width : Width) (f : Frame) (s : State W F) (m : M) (to : Register) (from : Operand)
+      → move_in ops acc' width f s (image m) to from ≡ mapped image (move_in ops acc width f s m to from)
   unfolding move_in
   move_in-image width f s m to from = then-plain image _ _ _ _ (carried-image width f s m from) (λ word. refl)
 
@@ -172,7 +176,8 @@ module _ {W F B M M' : Type 0} (ops : Operations W F B) (acc : Accesses M B) (ac
   unfolding extend_long
   extend_long-image f s m to from = then-plain image _ _ _ _ (carried-image Long f s m from) (λ word. refl)
 
-  load_address-image : (width : Width) (f : Frame) (s : State W F) (m : M) (to : Register) (from : Memory) → load_address ops acc' width f s (image m) to from ≡ mapped image (load_address ops acc width f s m to from)
+  load_address-image : (width : Width) (f : Frame) (s : State W F) (m : M) (to : Register) (from : Memory)
+      → load_address ops acc' width f s (image m) to from ≡ mapped image (load_address ops acc width f s m to from)
   unfolding load_address
   load_address-image width f s m to from = then-plain image (clean s.place (address_of ops f s from)) _ _ _ refl (λ place. refl)
 
@@ -223,17 +228,20 @@ module _ {W F B M M' : Type 0} (ops : Operations W F B) (acc : Accesses M B) (ac
   compute_of-image arithmetic width f s m (IntoMemory to from) = compute_out-image arithmetic width f s m to from
   compute_of-image arithmetic width f s m (Immediate to) = compute_number-image arithmetic width f.immediate_field f s m to
 
-  test_of-image : (width : Width) (f : Frame) (s : State W F) (m : M) (from : Operand) (right : Register) → test_of ops acc' width f s (image m) from right ≡ mapped image (test_of ops acc width f s m from right)
+  test_of-image : (width : Width) (f : Frame) (s : State W F) (m : M) (from : Operand) (right : Register)
+      → test_of ops acc' width f s (image m) from right ≡ mapped image (test_of ops acc width f s m from right)
   unfolding test_of
   test_of-image width f s m from right = then-plain image _ _ _ _ (taken-image width f s m from (number_at ops width (register_of s.registers right))) (λ it. refl)
 
-  multiply_of-image : (width : Width) (f : Frame) (s : State W F) (m : M) (to : Register) (from : Operand) → multiply_of ops acc' width f s (image m) to from ≡ mapped image (multiply_of ops acc width f s m to from)
+  multiply_of-image : (width : Width) (f : Frame) (s : State W F) (m : M) (to : Register) (from : Operand)
+      → multiply_of ops acc' width f s (image m) to from ≡ mapped image (multiply_of ops acc width f s m to from)
   unfolding multiply_of
   multiply_of-image width f s m to from =
       then-plain image _ _ _ _ (taken-image width f s m from (number_at ops width (register_of s.registers to)))
       (λ it. finished-image width (OfSlot to) (product_effect width it.other it.number) f s m)
 
-  shift_of-image : (shift : Shift) (width : Width) (f : Frame) (s : State W F) (m : M) (to : Operand) (count : ℕ) → shift_of ops acc' shift width f s (image m) to count ≡ mapped image (shift_of ops acc shift width f s m to count)
+  shift_of-image : (shift : Shift) (width : Width) (f : Frame) (s : State W F) (m : M) (to : Operand) (count : ℕ)
+      → shift_of ops acc' shift width f s (image m) to count ≡ mapped image (shift_of ops acc shift width f s m to count)
   unfolding shift_of
   shift_of-image shift width f s m to count =
       then-plain image _ _ _ _ (taken-image width f s m to (Ok 0)) (λ it. finished-image width it.slot (shift_effect shift width it.number (count % bits_of width)) f s m)
@@ -273,7 +281,8 @@ module _ {W F B M M' : Type 0} (ops : Operations W F B) (acc : Accesses M B) (ac
   jump_of-image f s m (Relative distance) = refl
   jump_of-image f s m (Indirect operand) = then-plain image _ _ _ _ (taken-image Quad f s m operand (Ok 0)) (λ it. refl)
 
-  jump_if-image : (f : Frame) (s : State W F) (m : M) (condition : Condition) (distance : ℕ) → jump_if ops acc' f s (image m) condition distance ≡ mapped image (jump_if ops acc f s m condition distance)
+  jump_if-image : (f : Frame) (s : State W F) (m : M) (condition : Condition) (distance : ℕ)
+      → jump_if ops acc' f s (image m) condition distance ≡ mapped image (jump_if ops acc f s m condition distance)
   unfolding jump_if
   jump_if-image f s m condition distance = then-plain image (clean s.place (condition_of ops condition s.flags)) _ _ _ refl (λ holds. refl)
 

@@ -103,7 +103,8 @@ module _ {S S' L E : Type 0} (Rel Wait Rest : List E → S → S' → Type 0) (F
 
   middle_alike : (todo : List L) (left left' : ℕ) (points points' : List ℕ) (s : S) (s' : S') (said : List Said) (old seen : List E) → Fine old seen
       → 1 ≤ left → 4 * left ≤ left' + 3 → points' ≡ points → Wait old s s'
-      → SameThread Wait Rest (after_look x (left - 1) todo said seen (with_last points (length seen)) (x.resume seen s)) (after_look y (left' - 1) todo said seen (with_last points' (length seen)) (y.resume seen s'))
+      → SameThread Wait Rest (after_look x (left - 1) todo said seen (with_last points (length seen)) (x.resume seen s))
+      (after_look y (left' - 1) todo said seen (with_last points' (length seen)) (y.resume seen s'))
   middle_alike todo left left' points points' s s' said old seen fine some enough e wait =
       rw e (look_alike (left - 1) (left' - 1) (omega arith) todo said seen _ _ _ (alike.resume old seen fine s s' wait))
 
@@ -142,15 +143,17 @@ module _ {S S' L E : Type 0} (Rel Wait Rest : List E → S → S' → Type 0) (F
   -- the law of turns at any rising lists of events
   pub turns_alike : (all : List (List E)) (t : Thread S L E) (t' : Thread S' L E) → Rises Fine t.seen all → SameThread Wait Rest t t' → SameThread Wait Rest (turns x t all) (turns y t' all)
   turns_alike [] t t' rises same = same
-  turns_alike (seen ∷ all) t t' rises same = (elim (turn-seen x t seen) as (λ (k : IsFinished t.todo t.phase ⊎ ((turn x t seen).seen ≡ seen)). SameThread Wait Rest (turns x t (seen ∷ all)) (turns y t' (seen ∷ all))) [
-    | inl done ↦ turns_ended t t' (seen ∷ all) done same
-    | inr e ↦ turns_alike all (turn x t seen) (turn y t' seen) (subst (λ old. Rises Fine old all) (sym e) rises.1) (turn_alike t t' seen rises.0 same)
-  ])
+  turns_alike (seen ∷ all) t t' rises same =
+      (elim (turn-seen x t seen) as (λ (k : IsFinished t.todo t.phase ⊎ ((turn x t seen).seen ≡ seen)). SameThread Wait Rest (turns x t (seen ∷ all)) (turns y t' (seen ∷ all))) [
+        | inl done ↦ turns_ended t t' (seen ∷ all) done same
+        | inr e ↦ turns_alike all (turn x t seen) (turn y t' seen) (subst (λ old. Rises Fine old all) (sym e) rises.1) (turn_alike t t' seen rises.0 same)
+      ])
 
 -- ** lists of threads
 
 module _ {S L E : Type 0} where
-  any-kept : (threads : List (Thread S L E)) (i : ℕ) (t u : Thread S L E) → slice_get threads i ≡ Some t → (HasUnclean t.said → HasUnclean u.said) → AnyUnclean threads → AnyUnclean (slice_set threads i u)
+  any-kept : (threads : List (Thread S L E)) (i : ℕ) (t u : Thread S L E) → slice_get threads i ≡ Some t → (HasUnclean t.said → HasUnclean u.said) → AnyUnclean threads
+      → AnyUnclean (slice_set threads i u)
   any-kept [] i t u e k h = h
   any-kept (first ∷ threads) zero t u e k (inl h) = let same : first ≡ t = cc in inl (k (subst (λ (v : Thread S L E). HasUnclean v.said) same h))
   any-kept (first ∷ threads) zero t u e k (inr h) = inr h
@@ -172,10 +175,11 @@ module _ {S L E : Type 0} where
   get-set (first ∷ threads) zero zero u = inl refl
   get-set (first ∷ threads) (suc i) zero u = inr refl
   get-set (first ∷ threads) zero (suc j) u = inr refl
-  get-set (first ∷ threads) (suc i) (suc j) u = (elim (get-set threads i j u) as (λ (k : (j ≡ i) ⊎ (slice_get (slice_set threads j u) i ≡ slice_get threads i)). (suc j ≡ suc i) ⊎ (slice_get (slice_set threads j u) i ≡ slice_get threads i)) [
-    | inl e ↦ inl (ap suc e)
-    | inr e ↦ inr e
-  ])
+  get-set (first ∷ threads) (suc i) (suc j) u =
+      (elim (get-set threads i j u) as (λ (k : (j ≡ i) ⊎ (slice_get (slice_set threads j u) i ≡ slice_get threads i)). (suc j ≡ suc i) ⊎ (slice_get (slice_set threads j u) i ≡ slice_get threads i)) [
+        | inl e ↦ inl (ap suc e)
+        | inr e ↦ inr e
+      ])
 
   module _ (Fine : List E → List E → Type 0) where
     fine-get : (events : List E) (threads : List (Thread S L E)) (i : ℕ) (t : Thread S L E) → AllFine Fine events threads → slice_get threads i ≡ Some t → Fine t.seen events
@@ -212,7 +216,8 @@ module _ {S S' L E : Type 0} (Wait Rest : List E → S → S' → Type 0) where
   all2-set (first ∷ threads) (first' ∷ threads') (suc i) u u' same level = (same.0, all2-set threads threads' i u u' same.1 level)
 
   -- what a world's threads said is what the other's said
-  pub said-same : (threads : List (Thread S L E)) (threads' : List (Thread S' L E)) → All2 (Level Wait Rest) threads threads' → map (λ (t : Thread S' L E). t.said) threads' ≡ map (λ (t : Thread S L E). t.said) threads
+  pub said-same : (threads : List (Thread S L E)) (threads' : List (Thread S' L E)) → All2 (Level Wait Rest) threads threads'
+      → map (λ (t : Thread S' L E). t.said) threads' ≡ map (λ (t : Thread S L E). t.said) threads
   said-same [] [] same = refl
   said-same [] (first' ∷ threads') same = absurd same
   said-same (first ∷ threads) [] same = absurd same
@@ -242,17 +247,19 @@ module _ {S L E : Type 0} (x : Turns S L E) (event : L → List E → Option E) 
   line-grown old events None fine = fine
   line-grown old events (Some line) fine = one-grown old events line (event line events) fine refl
 
-  all-grown : (events : List E) (next : Option L) (threads : List (Thread S L E)) → AllFine Fine events threads → AllFine Fine (with_event events (option_and_then (λ line. event line events) next)) threads
+  all-grown : (events : List E) (next : Option L) (threads : List (Thread S L E)) → AllFine Fine events threads
+      → AllFine Fine (with_event events (option_and_then (λ line. event line events) next)) threads
   all-grown events next [] fine = tt
   all-grown events next (t ∷ threads) fine = (line-grown t.seen events next fine.0, all-grown events next threads fine.1)
 
   taken-fine : (w : World S L E) (i : ℕ) → AllFine Fine w.events w.threads → AllFine Fine (taken x event w i).events (taken x event w i).threads
   taken-fine w zero fine = fine
-  taken-fine w (suc i) fine = (elim (slice_get w.threads i) as (λ (o : Option (Thread S L E)). slice_get w.threads i ≡ o → AllFine Fine (taken_by x event w (suc i) o).events (taken_by x event w (suc i) o).threads) [
-    | None ↦ λ e. fine
-    | Some t ↦ λ e. all-grown w.events (next_line t.todo t.phase) (slice_set w.threads i (turn x t w.events))
-        (fine-set Fine w.events w.threads i (turn x t w.events) fine (turn-fine t w.events (fine-get Fine w.events w.threads i t fine e)))
-  ]) refl
+  taken-fine w (suc i) fine =
+      (elim (slice_get w.threads i) as (λ (o : Option (Thread S L E)). slice_get w.threads i ≡ o → AllFine Fine (taken_by x event w (suc i) o).events (taken_by x event w (suc i) o).threads) [
+        | None ↦ λ e. fine
+        | Some t ↦ λ e. all-grown w.events (next_line t.todo t.phase) (slice_set w.threads i (turn x t w.events))
+            (fine-set Fine w.events w.threads i (turn x t w.events) fine (turn-fine t w.events (fine-get Fine w.events w.threads i t fine e)))
+      ]) refl
 
   taken-unclean : (w : World S L E) (i : ℕ) → AnyUnclean w.threads → AnyUnclean (taken x event w i).threads
   taken-unclean w zero h = h
@@ -352,7 +359,8 @@ module _ {S S' L E : Type 0} (Rel Wait Rest : List E → S → S' → Type 0) (F
   pub order_says : (order : List ℕ) (w : World S L E) (w' : World S' L E) → AllFine Fine w.events w.threads → SameWorld Wait Rest w w' → (AnyUnclean (by_order x event order w).threads → ⊥)
       → ((by_order y event order w').events ≡ (by_order x event order w).events)
       × (map (λ (t : Thread S' L E). t.said) (by_order y event order w').threads ≡ map (λ (t : Thread S L E). t.said) (by_order x event order w).threads)
-  order_says order w w' fine same clean = (elim (order_alike order w w' fine (inr same)) as (λ (k : AnyUnclean (by_order x event order w).threads ⊎ SameWorld Wait Rest (by_order x event order w) (by_order y event order w')).
+  order_says order w w' fine same clean =
+      (elim (order_alike order w w' fine (inr same)) as (λ (k : AnyUnclean (by_order x event order w).threads ⊎ SameWorld Wait Rest (by_order x event order w) (by_order y event order w')).
       ((by_order y event order w').events ≡ (by_order x event order w).events)
       × (map (λ (t : Thread S' L E). t.said) (by_order y event order w').threads ≡ map (λ (t : Thread S L E). t.said) (by_order x event order w).threads)) [
         | inl h ↦ absurd (clean h)
@@ -376,10 +384,12 @@ module _ {S L E : Type 0} (x : Turns S L E) (event : L → List E → Option E) 
   ])
 
   -- what the turn of an entry leaves to the rest of the order
-  module _ (order : List ℕ) (i : ℕ) (rest : (v : World S L E) (u : Thread S L E) → slice_get v.threads i ≡ Some u → AllFine Fine v.events v.threads → AtPoints x Fine u (suc i) (by_order x event order v)) where
+  module _ (order : List ℕ) (i : ℕ)
+      (rest : (v : World S L E) (u : Thread S L E) → slice_get v.threads i ≡ Some u → AllFine Fine v.events v.threads → AtPoints x Fine u (suc i) (by_order x event order v)) where
     turned_points : (w v : World S L E) (j : ℕ) (t u : Thread S L E) → slice_get w.threads i ≡ Some t → AllFine Fine w.events w.threads → slice_get w.threads j ≡ Some u
         → v.threads ≡ slice_set w.threads j (turn x u w.events) → IsFront w.events v.events → AllFine Fine v.events v.threads → AtPoints x Fine t (suc i) (by_order x event order v)
-    turned_points w v j t u e fine f g front after = (elim (get-set w.threads i j (turn x u w.events)) as (λ (k : (j ≡ i) ⊎ (slice_get (slice_set w.threads j (turn x u w.events)) i ≡ slice_get w.threads i)).
+    turned_points w v j t u e fine f g front after =
+        (elim (get-set w.threads i j (turn x u w.events)) as (λ (k : (j ≡ i) ⊎ (slice_get (slice_set w.threads j (turn x u w.events)) i ≡ slice_get w.threads i)).
         AtPoints x Fine t (suc i) (by_order x event order v)) [
           | inl here ↦
               let same : u ≡ t = cc in
