@@ -5,12 +5,17 @@ use Rattle.object_faults.specs.declared.class.SectionClass.{SectionClass}
 use Rattle.object_faults.specs.declared.class.SectionClass.TheVariants.{Executable, ReadOnly, Tls}
 use Rattle.elf_object.specs.Object.{section_count}
 use Rattle.elf_object.specs.Lent.{section_class}
+use Rattle.link_faults.specs.declared.part.Part.{Part}
 use Rattle.tls_layout.specs.Sections.{Layout}
 use Rattle.tls_layout.specs.Places.{address_of, executable, read_only, tls_image, tls_size}
 use Rattle.tls_relocs.specs.Laid.{Placed, laid}
 use Rattle.link_core.specs.declared.part.PartKind.{PartKind}
 use Rattle.link_core.specs.declared.part.PartKind.TheVariants.{Code, Constants, InitialTls}
 use Rattle.link_core.specs.Fields.{linked_bytes, block_offset}
+
+-- a part as a list of bytes at a place
+abbrev pub placed_part : Part → Placed
+placed_part part = record { place = part.address; bytes = part.bytes.items }
 
 -- the bytes of object o
 abbrev pub object_at : List (List ℕ) → ℕ → List ℕ
@@ -47,7 +52,8 @@ start_of p InitialTls = (tls_image p.kind p.sections).start
 
 -- the part's sections at their places, with zeros between them
 unfoldable pub part_of : Layout → PartKind → List (List ℕ) → Placed
-part_of p kind objects = record { place = start_of p kind; bytes = laid (start_of p kind) (placed_from p kind 0 objects) }
+part_of p kind objects =
+    record { place = start_of p kind; bytes = laid (start_of p kind) (placed_from p kind 0 objects) }
 
 -- an image of objects: what its parts hold in memory, and what each thread's block is made of
 pub record Image : Type 0 where

@@ -1,11 +1,12 @@
 //! The image of objects.
 ghost use Rattle.std.specs.Prelude.{◌≡◌, All, IfOk, true};
 ghost use Rattle.link_core.specs.Fields.{block_offset as offset_of_block};
-ghost use Rattle.link_core.specs.Parts.{image_of};
+ghost use Rattle.link_core.specs.Parts.{image_of, placed_part};
 ghost use Rattle.link_core.specs.Taken.{object_is_taken};
 
-use crate::part::{Part, PartKind, part_of};
+use crate::part::{PartKind, part_of};
 use elf_object::Object;
+use link_faults::Part;
 use std::alloc::{AllocError, Global};
 use std::marker::Model;
 use tls_layout::{Placement, TlsSize, static_offsets};
@@ -21,38 +22,26 @@ pub struct Linked {
 }
 
 impl Model for Linked {
-    ghost use Rattle.link_core.specs.Parts.{Image};
+    ghost use Rattle.link_core.specs.Parts.{Image, placed_part};
 
     ghost Value = { Image };
 
-    ghost view = { λ linked. record { code = linked.code; constants = linked.constants; initial = linked.initial; block_size = linked.block_size; block_offset = linked.block_offset } };
+    ghost view = { λ linked. record {
+      code = placed_part linked.code;
+      constants = placed_part linked.constants;
+      initial = placed_part linked.initial;
+      block_size = linked.block_size;
+      block_offset = linked.block_offset;
+    } };
 }
 
 impl Linked {
-    /// Code, which can be run.
-    pub fn code(&self) -> &Part
-        ensures { result.now ≡ self.now.code }
-    {
-        &self.code
-    }
-
-    /// Constants, which can be read.
-    pub fn constants(&self) -> &Part
-        ensures { result.now ≡ self.now.constants }
-    {
-        &self.constants
-    }
-
-    /// What a block of thread-local storage begins with; the rest of it are zeros.
-    pub fn initial(&self) -> &Part
-        ensures { result.now ≡ self.now.initial }
-    {
-        &self.initial
-    }
-
-    /// Its parts: code, constants, and what a block begins with.
+    /// Its parts: code, which can be run, constants, which can be read, and what a block of thread-local storage
+    /// begins with; the rest of it are zeros.
     pub fn into_parts(self) -> (Part, Part, Part)
-        ensures { result ≡ (self.code, self.constants, self.initial) }
+        ensures code { placed_part result.0 ≡ self.code }
+        ensures constants { placed_part result.1 ≡ self.constants }
+        ensures initial { placed_part result.2 ≡ self.initial }
     {
         (self.code, self.constants, self.initial)
     }
@@ -85,7 +74,8 @@ fn block_offset(alloc: Global, placement: &Placement) -> Result<u64, AllocError>
     Ok(offsets[0])
 }
 
-/// The image of objects that are placed. Each must be one that [`takes`](crate::takes) accepts; the only error is want of memory.
+/// The image of objects that are placed. Each must be one that [`takes`](crate::takes) accepts; the only error
+/// is want of memory.
 #[tactic(auto, unfolding(crate::specs::Parts::image_of))]
 pub fn link(alloc: Global, placement: &Placement, objects: &[Object]) -> Result<Linked, AllocError>
     requires { All (λ b. object_is_taken b ≡ true) objects.now }

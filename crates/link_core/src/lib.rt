@@ -60,6 +60,6 @@ mod taken;
 
 pub use entry::entry as entry_place;
 pub use image::{Linked, link};
-pub use part::{Part, PartKind};
+pub use part::PartKind;
 pub use symbols::{SymbolRef, definition};
 pub use taken::object_is_taken as takes;

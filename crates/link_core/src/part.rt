@@ -4,11 +4,12 @@ ghost use Rattle.elf_object.specs.Object.{section_count};
 ghost use Rattle.tls_layout.specs.Places.{address_of};
 ghost use Rattle.link_core.specs.Fields.{block_offset as offset_of_block};
 ghost use Rattle.link_core.specs.Laying.{with_section, with_sections};
-ghost use Rattle.link_core.specs.Parts.{is_of, part_of, placed_from, placed_object, placed_section, start_of};
+ghost use Rattle.link_core.specs.Parts.{is_of, part_of, placed_from, placed_object, placed_part, placed_section, start_of};
 ghost use Rattle.link_core.specs.Taken.{object_is_taken};
 
 use crate::fields::linked_bytes;
 use elf_object::{Object, SectionClass};
+use link_faults::Part;
 use std::alloc::{AllocError, Global};
 use std::marker::Model;
 use tls_layout::Placement;
@@ -22,47 +23,6 @@ pub enum PartKind {
     Constants,
     /// What each thread's block of thread-local storage begins with.
     InitialTls,
-}
-
-/// Bytes, and the address of the first. Contracts see both.
-#[derive(Debug, Drop)]
-pub struct Part {
-    place: u64,
-    bytes: Vec<u8>,
-}
-
-impl Model for Part {
-    ghost use Rattle.tls_relocs.specs.Laid.{Placed};
-
-    ghost Value = { Placed };
-
-    ghost view = { λ part. record { place = part.place; bytes = part.bytes.items } };
-}
-
-impl Part {
-    /// The address of the first byte.
-    pub fn place(&self) -> u64
-        ensures { result ≡ self.now.place }
-    {
-        self.place
-    }
-
-    /// The bytes, the first one at [`place`](Part::place).
-    pub fn bytes(&self) -> &[u8]
-        ensures { result.now ≡ self.now.bytes }
-    {
-        self.bytes.as_slice()
-    }
-
-    /// The bytes alone.
-    pub fn into_bytes(self) -> Vec<u8>
-        ensures bytes { result.items ≡ self.bytes }
-        ensures small { All (λ (byte : ℕ). byte < 256) self.bytes }
-    {
-        // Read as a slice they show their range.
-        let _bytes = self.bytes.as_slice();
-        self.bytes
-    }
 }
 
 /// Sections that are laid down one behind another, and the place where they end.
@@ -93,10 +53,10 @@ impl Laying {
 
     /// What was laid down from a place on.
     fn part_from(self, place: u64) -> Part
-        ensures { result ≡ record { place = place; bytes = self.bytes } }
+        ensures { placed_part result ≡ record { place = place; bytes = self.bytes } }
     {
         Part {
-            place,
+            address: place,
             bytes: self.bytes,
         }
     }
@@ -249,7 +209,7 @@ pub fn part_of(
 ) -> Result<Part, AllocError>
     requires taken { All (λ b. object_is_taken b ≡ true) objects.now }
     requires block { block_offset ≡ offset_of_block placement.now }
-    ensures { IfOk result (λ part. part ≡ part_of placement.now kind objects.now) }
+    ensures { IfOk result (λ part. placed_part part ≡ part_of placement.now kind objects.now) }
 {
     let place = start_of(placement, kind);
     let mut laying = Laying::at(alloc, place);

@@ -1,8 +1,9 @@
 //! Calls of small functions, and what comes of them.
 
+use link_faults::Part;
 use std::alloc::Global;
 use std::test::Fail;
-use thread_blocks::{BlockImage, Call, Executable, Part, ThreadMemory, run_call};
+use thread_blocks::{BlockImage, Call, Executable, ThreadMemory, run_call};
 use transcript_text::{LineFault, Outcome};
 
 const CODE: u64 = 0x40_0000;
@@ -10,16 +11,16 @@ const CODE: u64 = 0x40_0000;
 fn executable(alloc: Global, code: &[u8]) -> Result<Executable, Fail> {
     Ok(Executable {
         code: Part {
-            place: CODE,
+            address: CODE,
             bytes: code.to_vec(alloc)?,
         },
         constants: Part {
-            place: 0x40_1000,
+            address: 0x40_1000,
             bytes: [7, 0, 0, 0].to_vec(alloc)?,
         },
         block: BlockImage {
             initial: Part {
-                place: 0x40_2000,
+                address: 0x40_2000,
                 bytes: [0x2a, 0, 0, 0].to_vec(alloc)?,
             },
             size: 8,

@@ -4,7 +4,7 @@ use Rattle.guest_machine.specs.Ranges.{Range}
 use Rattle.guest_arithmetic.specs.Plain.{plain_operations}
 use Rattle.module_table.specs.declared.events.Event.{Event}
 use Rattle.transcript_text.specs.declared.outcomes.Outcome.{Outcome}
-use Rattle.thread_blocks.specs.declared.parts.Part.{Part}
+use Rattle.link_faults.specs.declared.part.Part.{Part}
 use Rattle.thread_blocks.specs.declared.parts.BlockImage.{BlockImage}
 use Rattle.thread_blocks.specs.declared.parts.Executable.{Executable}
 use Rattle.thread_blocks.specs.declared.call.Call.{Call}
@@ -14,11 +14,11 @@ use Rattle.thread_blocks.specs.MachineTurns.{Loaded, pointer_of, stack_start, ze
 -- code can be fetched, and not be read
 abbrev pub code_range : Part → Range ℕ
 code_range part =
-    record { start = part.place; bytes = part.bytes.items; readable = false; writable = false; runnable = true }
+    record { start = part.address; bytes = part.bytes.items; readable = false; writable = false; runnable = true }
 
 abbrev pub constant_range : Part → Range ℕ
 constant_range part =
-    record { start = part.place; bytes = part.bytes.items; readable = true; writable = false; runnable = false }
+    record { start = part.address; bytes = part.bytes.items; readable = true; writable = false; runnable = false }
 
 -- a block as it is at first: the initial image and then zeros (gABI, "Program Loading": p_filesz and p_memsz)
 abbrev pub block_bytes : BlockImage → List ℕ

@@ -56,4 +56,4 @@ mod parts;
 mod reach;
 
 pub use call::{Call, ThreadMemory, run_call};
-pub use parts::{BlockImage, Executable, Part};
+pub use parts::{BlockImage, Executable};

@@ -7,9 +7,10 @@ ghost use Rattle.thread_blocks.specs.Parts.{block_bytes, block_range, call_range
 ghost use Rattle.thread_blocks.specs.Calling.{behind_stack};
 ghost use Rattle.thread_blocks.specs.Spaces.{stack_range};
 
-use crate::parts::{BlockImage, Executable, Part};
+use crate::parts::{BlockImage, Executable};
 use guest_machine::RETURN;
 use guest_memory::{GuestMemory, GuestRange, Rights};
+use link_faults::Part;
 use std::alloc::{AllocError, Global};
 
 const STACK_SIZE: u64 = 65_536;
@@ -104,14 +105,14 @@ fn code_of(alloc: Global, part: &Part) -> Result<GuestRange<u8>, AllocError>
     ensures { IfOk result (λ range. range ≡ code_range part.now) }
 {
     let bytes = Vec::from_slice(alloc, part.bytes.as_slice())?;
-    Ok(GuestRange::new(part.place, bytes, CODE))
+    Ok(GuestRange::new(part.address, bytes, CODE))
 }
 
 fn constants_of(alloc: Global, part: &Part) -> Result<GuestRange<u8>, AllocError>
     ensures { IfOk result (λ range. range ≡ constant_range part.now) }
 {
     let bytes = Vec::from_slice(alloc, part.bytes.as_slice())?;
-    Ok(GuestRange::new(part.place, bytes, CONSTANT))
+    Ok(GuestRange::new(part.address, bytes, CONSTANT))
 }
 
 /// All that a thread may reach before its first line, but for its stack.

@@ -1,11 +1,6 @@
 //! What a linked executable has in memory.
 
-/// Bytes that lie from a place on.
-#[derive(Drop)]
-pub struct Part {
-    pub place: u64,
-    pub bytes: Vec<u8>,
-}
+use link_faults::Part;
 
 /// What each thread's block of thread-local storage is made of.
 #[derive(Drop)]

@@ -2,11 +2,11 @@
 use Rattle.std.specs.Prelude.{◌≡◌, ◌<◌, ℕ, All}
 use Rattle.link_core.specs.Parts.{Image}
 use Rattle.tls_relocs.specs.Laid.{Placed}
-use Rattle.thread_blocks.specs.declared.parts.Part.{Part}
+use Rattle.link_faults.specs.declared.part.Part.{Part}
 use Rattle.thread_blocks.specs.declared.parts.Executable.{Executable}
 
 pub record IsPart (placed : Placed) (part : Part) : Type 0 where
-  pub place_is : part.place ≡ placed.place
+  pub place_is : part.address ≡ placed.place
   pub bytes_are : part.bytes.items ≡ placed.bytes
   pub small : All (λ (byte : ℕ). byte < 256) placed.bytes
 
