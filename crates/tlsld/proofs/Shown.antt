@@ -4,8 +4,7 @@ use Rattle.command_line.specs.declared.tasks.Task.{Task}
 use Rattle.ports.specs.Files.{Files}
 use Rattle.ports.specs.Sinks.{SinkView}
 use Rattle.tlsld.specs.Delivery.{Delivered}
-use Rattle.tlsld.specs.Replies.{AnswerCounts, AnswerSays, IsAnswer, IsOfFiles, MaySay, Shows, job_name}
-use Rattle.tlsld.specs.Says.{RunSays}
+use Rattle.tlsld.specs.Replies.{AnswerCounts, AnswerSays, IsAnswer, IsOfFiles, MaySay, Shows}
 use Rattle.tlsld.specs.Statuses.{code_of}
 use Rattle.tlsld.specs.declared.reply.Answer.{Answer}
 use Rattle.tlsld.specs.declared.reply.Answer.TheVariants.{Replies, StoreFails, NoMemory}

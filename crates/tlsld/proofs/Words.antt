@@ -1,5 +1,5 @@
 -- What is shown of words.
-use Rattle.std.proofs.Common.{◌≡◌, ◌⊎◌, inl, inr, ℕ, List, [], Option, Some, None, IfSome, false, refl, sym, ap, append-nil}
+use Rattle.std.proofs.Common.{◌≡◌, inr, ℕ, List, [], Option, Some, None, IfSome, false, refl, sym, ap, append-nil}
 use Rattle.command_line.specs.declared.tasks.Task.{Task}
 use Rattle.command_line.specs.Words.{asked, takes_words}
 use Rattle.ports.specs.Files.{Files, untold_files}
