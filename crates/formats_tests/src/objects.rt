@@ -1,5 +1,5 @@
-//! Whether the definitions of faults say what the standard means. Each case changes some fields of one small object and gives the
-//! answer that a reader of the gABI expects.
+//! Whether the definitions of faults say what the standard means. Each case changes some fields of one small object and
+//! gives the answer that a reader of the gABI expects.
 
 use elf_object::{
     FaultKind, Object, ObjectFault, RelocationKind, SectionClass, SymbolPlace, SymbolType,
@@ -12,8 +12,9 @@ use std::alloc::{AllocError, Global};
 use std::process::Abort;
 use std::test::Fail;
 
-/// An object with a function and a thread-local variable, as an assembler writes it: sections 1 `.text`, 2 its relocations,
-/// 3 `.tdata`, 4 `.tbss`, 5 `.symtab`, 6 `.strtab`, 7 `.shstrtab`; symbols 1 `f`, 2 `x`. Relocation 1 does nothing.
+/// An object with a function and a thread-local variable, as an assembler writes it: sections 1 `.text`, 2 its
+/// relocations, 3 `.tdata`, 4 `.tbss`, 5 `.symtab`, 6 `.strtab`, 7 `.shstrtab`; symbols 1 `f`, 2 `x`. Relocation 1 does
+/// nothing.
 fn example(alloc: Global) -> Result<Draft, AllocError> {
     let relocations = [
         rela(4, R_X86_64_TPOFF32, 2, 0),
@@ -32,8 +33,9 @@ fn example(alloc: Global) -> Result<Draft, AllocError> {
     draft_of(alloc, &sections, &symbols)
 }
 
-/// Each line: the answer, `ok` or a section, an entry and a kind; then changes RECORD.FIELD=NUMBER of the example. A record is the
-/// file's header `h`, a section by its number, a symbol `y1`, a relocation `r0`, or the names, whose last byte can be changed.
+/// Each line: the answer, `ok` or a section, an entry and a kind; then changes RECORD.FIELD=NUMBER of the example. A
+/// record is the file's header `h`, a section by its number, a symbol `y1`, a relocation `r0`, or the names, whose last
+/// byte can be changed.
 const CASES: &str = "\
 // the file as a whole
 0 0 Truncated h.shoff=18446744073709551615

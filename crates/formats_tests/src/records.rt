@@ -1,6 +1,6 @@
 //! Each public function once, on bytes from outside: those of an object that defines `_Thread_local int x` and calls
-//! `__tls_get_addr` for it, and for the last two records those of a C library (Debian's glibc 2.36). The fields expected are
-//! the ones that `readelf -h -S -s -r -l -d` of GNU Binutils 2.40 prints for these files.
+//! `__tls_get_addr` for it, and for the last two records those of a C library (Debian's glibc 2.36). The fields
+//! expected are the ones that `readelf -h -S -s -r -l -d` of GNU Binutils 2.40 prints for these files.
 
 use elf_records::dynamic::{DF_STATIC_TLS, DT_FLAGS};
 use elf_records::file_header::{ELF_IDENT, EM_X86_64, ET_REL, EV_CURRENT};

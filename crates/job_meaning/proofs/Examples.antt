@@ -46,7 +46,9 @@ unfolding owner marked_operations ops base block
 mixed = refl
 
 -- bytes of two bases, or in another order
-two : ops.joined (Part base 0 ∷ Part base 1 ∷ Part base 2 ∷ Part base 3 ∷ Part (Base (block 2 2 0x9000)) 4 ∷ Part (Base (block 2 2 0x9000)) 5 ∷ Part (Base (block 2 2 0x9000)) 6 ∷ Part (Base (block 2 2 0x9000)) 7 ∷ []) ≡ Undefined
+two : ops.joined (Part base 0 ∷ Part base 1 ∷ Part base 2 ∷ Part base 3
+    ∷ Part (Base (block 2 2 0x9000)) 4 ∷ Part (Base (block 2 2 0x9000)) 5
+    ∷ Part (Base (block 2 2 0x9000)) 6 ∷ Part (Base (block 2 2 0x9000)) 7 ∷ []) ≡ Undefined
 unfolding owner marked_operations ops base block
 two = refl
 

@@ -92,7 +92,9 @@ module _ {M M' B B' : Type 0} (mark : ℕ → Mark) (acc : Accesses M B) (acc' :
       (λ e. at_end (acc.code m place) e odd)
       (λ a e. code-as_long n (next_place place) (behind n place same) (λ short. later (acc.code m place) a e odd short))
     where
-      at_end : (o : Option ℕ) → o ≡ None → (length (code_then o (code_at acc m (next_place place) n)) < suc n → NotOdd (mark (place_at place (length (code_then o (code_at acc m (next_place place) n))))))
+      at_end : (o : Option ℕ) → o ≡ None
+          → (length (code_then o (code_at acc m (next_place place) n)) < suc n
+          → NotOdd (mark (place_at place (length (code_then o (code_at acc m (next_place place) n))))))
           → NotOdd (mark place)
       at_end None e odd = odd (omega arith)
       at_end (Some a) e odd = absurd cc
@@ -119,7 +121,9 @@ module _ {M M' B B' : Type 0} (mark : ℕ → Mark) (acc : Accesses M B) (acc' :
   usual_rest (Odd why) (Some a) (Some a') rest rest' k s low h = h (omega arith)
 
   -- a usual byte is the same
-  pub code-usual : (n place : ℕ) → Same place n → (k : ℕ) → k < length (code_at acc m place n) → mark (place_at place k) ≡ Usual → slice_get (code_at acc m place n) k ≡ slice_get (code_at acc' m' place n) k
+  pub code-usual : (n place : ℕ) → Same place n
+      → (k : ℕ) → k < length (code_at acc m place n) → mark (place_at place k) ≡ Usual
+      → slice_get (code_at acc m place n) k ≡ slice_get (code_at acc' m' place n) k
   code-usual zero place same k low usual = refl
   code-usual (suc n) place same zero low usual = usual_first (mark place) _ _ _ _ (same 0 (omega arith)) usual
   code-usual (suc n) place same (suc k) low usual =

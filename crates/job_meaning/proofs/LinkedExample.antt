@@ -99,9 +99,17 @@ state' = with_word (start_of plain_operations 0 0x8000 0 0 0) Rax 0x7040
 
 -- and both steps give one address
 meaning_gives : meaning_step (marked_operations owner) objects mark nowhere state tt ≡ Ok (left (at_place (with_word state Rdi (Number 0x7010)) 7) tt)
-unfolding hindrance completed begins_of end_branch_at escaped_at row_at operated_at body_at instruction_at decoded numbered_body operation_of operand_body signed_of rex_at prefixes_at numbers_at named_register number_of condition_of fixed_row_of row_of escaped_row_of arithmetic_of shift_of group_action takes allowed displacement_size memory_in sib_at selectors_at fetch_of base_of index_of address_of plain_operations marked_operations register_of with_register start_of load_address act frame_of step_of meaning_step read_step reaches_linker next_touches touches_of touched
+unfolding
+    hindrance completed begins_of end_branch_at escaped_at row_at operated_at body_at instruction_at decoded numbered_body operation_of operand_body
+    signed_of rex_at prefixes_at numbers_at named_register number_of condition_of fixed_row_of row_of escaped_row_of arithmetic_of shift_of
+    group_action takes allowed displacement_size memory_in sib_at selectors_at fetch_of base_of index_of address_of plain_operations marked_operations
+    register_of with_register start_of load_address act frame_of step_of meaning_step read_step reaches_linker next_touches touches_of touched
 meaning_gives = refl
 
 image_gives : step_of plain_operations image (λ place. false) state' tt ≡ Ok (left (at_place (with_word state' Rdi 0x7010) 7) tt)
-unfolding end_branch_at escaped_at row_at operated_at body_at instruction_at decoded numbered_body operation_of operand_body signed_of rex_at prefixes_at numbers_at named_register number_of condition_of fixed_row_of row_of escaped_row_of arithmetic_of shift_of group_action takes allowed displacement_size memory_in sib_at selectors_at fetch_of base_of index_of address_of plain_operations marked_operations register_of with_register start_of load_address act frame_of step_of
+unfolding
+    end_branch_at escaped_at row_at operated_at body_at instruction_at decoded numbered_body operation_of operand_body signed_of rex_at prefixes_at
+    numbers_at named_register number_of condition_of fixed_row_of row_of escaped_row_of arithmetic_of shift_of group_action takes allowed
+    displacement_size memory_in sib_at selectors_at fetch_of base_of index_of address_of plain_operations marked_operations register_of with_register
+    start_of load_address act frame_of step_of
 image_gives = refl

@@ -60,56 +60,125 @@ abbrev state : State Word Flag
 state = start_of (marked_operations (λ place. 1)) 0 0x8000 (Number 0) (Number 0) (Number 0)
 
 -- call *(%rbx): the loaded word is a base, which cannot be used, and the return address would go into the room
-pushes_base : meaning_step (marked_operations (λ place. 1)) (memory (0xff ∷ 0x13 ∷ [])) usual room (with_word (with_word state Rbx (Number 0x7000)) Rsp (Number 0x9008)) tt ≡ Err (Unclean 0 cause.Linker)
-unfolding meaning_step read_step reaches_linker next_touches touches_of touched hindrance completed begins_of end_branch_at escaped_at row_at operated_at body_at instruction_at decoded numbered_body operation_of operand_body signed_of rex_at prefixes_at numbers_at named_register number_of condition_of fixed_row_of row_of escaped_row_of arithmetic_of shift_of group_action takes allowed displacement_size memory_in sib_at selectors_at fetch_of load_of store_of base_of index_of address_of number_at taken_at taken put marked_operations register_of with_register start_of act frame_of pushed call_of compute_of compute_out is_cleared concluded finished with_changes compute_effect sum_effect sum_overflows move_of move_in carried return_of
+pushes_base : meaning_step (marked_operations (λ place. 1)) (memory (0xff ∷ 0x13 ∷ [])) usual room (with_word (with_word state Rbx (Number 0x7000)) Rsp (Number 0x9008)) tt
+    ≡ Err (Unclean 0 cause.Linker)
+unfolding
+    meaning_step read_step reaches_linker next_touches touches_of touched hindrance completed begins_of end_branch_at escaped_at row_at operated_at
+    body_at instruction_at decoded numbered_body operation_of operand_body signed_of rex_at prefixes_at numbers_at named_register number_of
+    condition_of fixed_row_of row_of escaped_row_of arithmetic_of shift_of group_action takes allowed displacement_size memory_in sib_at selectors_at
+    fetch_of load_of store_of base_of index_of address_of number_at taken_at taken put marked_operations register_of with_register start_of act
+    frame_of pushed call_of compute_of compute_out is_cleared concluded finished with_changes compute_effect sum_effect sum_overflows move_of move_in
+    carried return_of
 pushes_base = refl
 
 -- the same where it would go elsewhere
-pushes_elsewhere : meaning_step (marked_operations (λ place. 1)) (memory (0xff ∷ 0x13 ∷ [])) usual room (with_word (with_word state Rbx (Number 0x7000)) Rsp (Number 0x8010)) tt ≡ Err (Unclean 0 cause.Base)
-unfolding meaning_step read_step reaches_linker next_touches touches_of touched hindrance completed begins_of end_branch_at escaped_at row_at operated_at body_at instruction_at decoded numbered_body operation_of operand_body signed_of rex_at prefixes_at numbers_at named_register number_of condition_of fixed_row_of row_of escaped_row_of arithmetic_of shift_of group_action takes allowed displacement_size memory_in sib_at selectors_at fetch_of load_of store_of base_of index_of address_of number_at taken_at taken put marked_operations register_of with_register start_of act frame_of pushed call_of compute_of compute_out is_cleared concluded finished with_changes compute_effect sum_effect sum_overflows move_of move_in carried return_of
+pushes_elsewhere : meaning_step (marked_operations (λ place. 1)) (memory (0xff ∷ 0x13 ∷ [])) usual room (with_word (with_word state Rbx (Number 0x7000)) Rsp (Number 0x8010)) tt
+    ≡ Err (Unclean 0 cause.Base)
+unfolding
+    meaning_step read_step reaches_linker next_touches touches_of touched hindrance completed begins_of end_branch_at escaped_at row_at operated_at
+    body_at instruction_at decoded numbered_body operation_of operand_body signed_of rex_at prefixes_at numbers_at named_register number_of
+    condition_of fixed_row_of row_of escaped_row_of arithmetic_of shift_of group_action takes allowed displacement_size memory_in sib_at selectors_at
+    fetch_of load_of store_of base_of index_of address_of number_at taken_at taken put marked_operations register_of with_register start_of act
+    frame_of pushed call_of compute_of compute_out is_cleared concluded finished with_changes compute_effect sum_effect sum_overflows move_of move_in
+    carried return_of
 pushes_elsewhere = refl
 
 -- call *(%rbx) of an unknown %rbx: that access is left out, and the push is not
 pushes_unknown : meaning_step (marked_operations (λ place. 1)) (memory (0xff ∷ 0x13 ∷ [])) usual room (with_word (with_word state Rbx Undefined) Rsp (Number 0x9008)) tt ≡ Err (Unclean 0 cause.Linker)
-unfolding meaning_step read_step reaches_linker next_touches touches_of touched hindrance completed begins_of end_branch_at escaped_at row_at operated_at body_at instruction_at decoded numbered_body operation_of operand_body signed_of rex_at prefixes_at numbers_at named_register number_of condition_of fixed_row_of row_of escaped_row_of arithmetic_of shift_of group_action takes allowed displacement_size memory_in sib_at selectors_at fetch_of load_of store_of base_of index_of address_of number_at taken_at taken put marked_operations register_of with_register start_of act frame_of pushed call_of compute_of compute_out is_cleared concluded finished with_changes compute_effect sum_effect sum_overflows move_of move_in carried return_of
+unfolding
+    meaning_step read_step reaches_linker next_touches touches_of touched hindrance completed begins_of end_branch_at escaped_at row_at operated_at
+    body_at instruction_at decoded numbered_body operation_of operand_body signed_of rex_at prefixes_at numbers_at named_register number_of
+    condition_of fixed_row_of row_of escaped_row_of arithmetic_of shift_of group_action takes allowed displacement_size memory_in sib_at selectors_at
+    fetch_of load_of store_of base_of index_of address_of number_at taken_at taken put marked_operations register_of with_register start_of act
+    frame_of pushed call_of compute_of compute_out is_cleared concluded finished with_changes compute_effect sum_effect sum_overflows move_of move_in
+    carried return_of
 pushes_unknown = refl
 
 -- call *(%rbx) whose target cannot be loaded: nothing is pushed
 pushes_nothing : meaning_step (marked_operations (λ place. 1)) (memory (0xff ∷ 0x13 ∷ [])) usual room (with_word (with_word state Rbx (Number 0x5000)) Rsp (Number 0x9008)) tt ≡ Err (Address 0)
-unfolding meaning_step read_step reaches_linker next_touches touches_of touched hindrance completed begins_of end_branch_at escaped_at row_at operated_at body_at instruction_at decoded numbered_body operation_of operand_body signed_of rex_at prefixes_at numbers_at named_register number_of condition_of fixed_row_of row_of escaped_row_of arithmetic_of shift_of group_action takes allowed displacement_size memory_in sib_at selectors_at fetch_of load_of store_of base_of index_of address_of number_at taken_at taken put marked_operations register_of with_register start_of act frame_of pushed call_of compute_of compute_out is_cleared concluded finished with_changes compute_effect sum_effect sum_overflows move_of move_in carried return_of
+unfolding
+    meaning_step read_step reaches_linker next_touches touches_of touched hindrance completed begins_of end_branch_at escaped_at row_at operated_at
+    body_at instruction_at decoded numbered_body operation_of operand_body signed_of rex_at prefixes_at numbers_at named_register number_of
+    condition_of fixed_row_of row_of escaped_row_of arithmetic_of shift_of group_action takes allowed displacement_size memory_in sib_at selectors_at
+    fetch_of load_of store_of base_of index_of address_of number_at taken_at taken put marked_operations register_of with_register start_of act
+    frame_of pushed call_of compute_of compute_out is_cleared concluded finished with_changes compute_effect sum_effect sum_overflows move_of move_in
+    carried return_of
 pushes_nothing = refl
 
 -- add %rcx, (%rbx) of an unknown %rcx, into the room
 adds : meaning_step (marked_operations (λ place. 1)) (memory (0x48 ∷ 0x01 ∷ 0x0b ∷ [])) usual room (with_word (with_word state Rbx (Number 0x9000)) Rcx Undefined) tt ≡ Err (Unclean 0 cause.Linker)
-unfolding meaning_step read_step reaches_linker next_touches touches_of touched hindrance completed begins_of end_branch_at escaped_at row_at operated_at body_at instruction_at decoded numbered_body operation_of operand_body signed_of rex_at prefixes_at numbers_at named_register number_of condition_of fixed_row_of row_of escaped_row_of arithmetic_of shift_of group_action takes allowed displacement_size memory_in sib_at selectors_at fetch_of load_of store_of base_of index_of address_of number_at taken_at taken put marked_operations register_of with_register start_of act frame_of pushed call_of compute_of compute_out is_cleared concluded finished with_changes compute_effect sum_effect sum_overflows move_of move_in carried return_of
+unfolding
+    meaning_step read_step reaches_linker next_touches touches_of touched hindrance completed begins_of end_branch_at escaped_at row_at operated_at
+    body_at instruction_at decoded numbered_body operation_of operand_body signed_of rex_at prefixes_at numbers_at named_register number_of
+    condition_of fixed_row_of row_of escaped_row_of arithmetic_of shift_of group_action takes allowed displacement_size memory_in sib_at selectors_at
+    fetch_of load_of store_of base_of index_of address_of number_at taken_at taken put marked_operations register_of with_register start_of act
+    frame_of pushed call_of compute_of compute_out is_cleared concluded finished with_changes compute_effect sum_effect sum_overflows move_of move_in
+    carried return_of
 adds = refl
 
 -- the same elsewhere
-adds_elsewhere : meaning_step (marked_operations (λ place. 1)) (memory (0x48 ∷ 0x01 ∷ 0x0b ∷ [])) usual room (with_word (with_word state Rbx (Number 0x5000)) Rcx Undefined) tt ≡ Err (Unclean 0 cause.Undefined)
-unfolding meaning_step read_step reaches_linker next_touches touches_of touched hindrance completed begins_of end_branch_at escaped_at row_at operated_at body_at instruction_at decoded numbered_body operation_of operand_body signed_of rex_at prefixes_at numbers_at named_register number_of condition_of fixed_row_of row_of escaped_row_of arithmetic_of shift_of group_action takes allowed displacement_size memory_in sib_at selectors_at fetch_of load_of store_of base_of index_of address_of number_at taken_at taken put marked_operations register_of with_register start_of act frame_of pushed call_of compute_of compute_out is_cleared concluded finished with_changes compute_effect sum_effect sum_overflows move_of move_in carried return_of
+adds_elsewhere : meaning_step (marked_operations (λ place. 1)) (memory (0x48 ∷ 0x01 ∷ 0x0b ∷ [])) usual room (with_word (with_word state Rbx (Number 0x5000)) Rcx Undefined) tt
+    ≡ Err (Unclean 0 cause.Undefined)
+unfolding
+    meaning_step read_step reaches_linker next_touches touches_of touched hindrance completed begins_of end_branch_at escaped_at row_at operated_at
+    body_at instruction_at decoded numbered_body operation_of operand_body signed_of rex_at prefixes_at numbers_at named_register number_of
+    condition_of fixed_row_of row_of escaped_row_of arithmetic_of shift_of group_action takes allowed displacement_size memory_in sib_at selectors_at
+    fetch_of load_of store_of base_of index_of address_of number_at taken_at taken put marked_operations register_of with_register start_of act
+    frame_of pushed call_of compute_of compute_out is_cleared concluded finished with_changes compute_effect sum_effect sum_overflows move_of move_in
+    carried return_of
 adds_elsewhere = refl
 
 -- call *x@dtpoff(%rax) of a number in %rax: a field that is misused comes first
 misuses : meaning_step (marked_operations (λ place. 1)) (memory (0xff ∷ 0x90 ∷ 0x10 ∷ 0x00 ∷ 0x00 ∷ 0x00 ∷ [])) fields room (with_word state Rsp (Number 0x9008)) tt ≡ Err (Unclean 0 cause.Field)
-unfolding meaning_step read_step reaches_linker next_touches touches_of touched hindrance completed begins_of end_branch_at escaped_at row_at operated_at body_at instruction_at decoded numbered_body operation_of operand_body signed_of rex_at prefixes_at numbers_at named_register number_of condition_of fixed_row_of row_of escaped_row_of arithmetic_of shift_of group_action takes allowed displacement_size memory_in sib_at selectors_at fetch_of load_of store_of base_of index_of address_of number_at taken_at taken put marked_operations register_of with_register start_of act frame_of pushed call_of compute_of compute_out is_cleared concluded finished with_changes compute_effect sum_effect sum_overflows move_of move_in carried return_of
+unfolding
+    meaning_step read_step reaches_linker next_touches touches_of touched hindrance completed begins_of end_branch_at escaped_at row_at operated_at
+    body_at instruction_at decoded numbered_body operation_of operand_body signed_of rex_at prefixes_at numbers_at named_register number_of
+    condition_of fixed_row_of row_of escaped_row_of arithmetic_of shift_of group_action takes allowed displacement_size memory_in sib_at selectors_at
+    fetch_of load_of store_of base_of index_of address_of number_at taken_at taken put marked_operations register_of with_register start_of act
+    frame_of pushed call_of compute_of compute_out is_cleared concluded finished with_changes compute_effect sum_effect sum_overflows move_of move_in
+    carried return_of
 misuses = refl
 
 -- mov 0x8ffc, %rax: four bytes of eight lie in the room, those before cannot be read
 reads_into : meaning_step (marked_operations (λ place. 1)) (memory (0x48 ∷ 0x8b ∷ 0x04 ∷ 0x25 ∷ 0xfc ∷ 0x8f ∷ 0x00 ∷ 0x00 ∷ [])) usual room (state) tt ≡ Err (Unclean 0 cause.Linker)
-unfolding meaning_step read_step reaches_linker next_touches touches_of touched hindrance completed begins_of end_branch_at escaped_at row_at operated_at body_at instruction_at decoded numbered_body operation_of operand_body signed_of rex_at prefixes_at numbers_at named_register number_of condition_of fixed_row_of row_of escaped_row_of arithmetic_of shift_of group_action takes allowed displacement_size memory_in sib_at selectors_at fetch_of load_of store_of base_of index_of address_of number_at taken_at taken put marked_operations register_of with_register start_of act frame_of pushed call_of compute_of compute_out is_cleared concluded finished with_changes compute_effect sum_effect sum_overflows move_of move_in carried return_of
+unfolding
+    meaning_step read_step reaches_linker next_touches touches_of touched hindrance completed begins_of end_branch_at escaped_at row_at operated_at
+    body_at instruction_at decoded numbered_body operation_of operand_body signed_of rex_at prefixes_at numbers_at named_register number_of
+    condition_of fixed_row_of row_of escaped_row_of arithmetic_of shift_of group_action takes allowed displacement_size memory_in sib_at selectors_at
+    fetch_of load_of store_of base_of index_of address_of number_at taken_at taken put marked_operations register_of with_register start_of act
+    frame_of pushed call_of compute_of compute_out is_cleared concluded finished with_changes compute_effect sum_effect sum_overflows move_of move_in
+    carried return_of
 reads_into = refl
 
 -- mov 0x8ff8, %rax: none does
 reads_before : meaning_step (marked_operations (λ place. 1)) (memory (0x48 ∷ 0x8b ∷ 0x04 ∷ 0x25 ∷ 0xf8 ∷ 0x8f ∷ 0x00 ∷ 0x00 ∷ [])) usual room (state) tt ≡ Err (Address 0)
-unfolding meaning_step read_step reaches_linker next_touches touches_of touched hindrance completed begins_of end_branch_at escaped_at row_at operated_at body_at instruction_at decoded numbered_body operation_of operand_body signed_of rex_at prefixes_at numbers_at named_register number_of condition_of fixed_row_of row_of escaped_row_of arithmetic_of shift_of group_action takes allowed displacement_size memory_in sib_at selectors_at fetch_of load_of store_of base_of index_of address_of number_at taken_at taken put marked_operations register_of with_register start_of act frame_of pushed call_of compute_of compute_out is_cleared concluded finished with_changes compute_effect sum_effect sum_overflows move_of move_in carried return_of
+unfolding
+    meaning_step read_step reaches_linker next_touches touches_of touched hindrance completed begins_of end_branch_at escaped_at row_at operated_at
+    body_at instruction_at decoded numbered_body operation_of operand_body signed_of rex_at prefixes_at numbers_at named_register number_of
+    condition_of fixed_row_of row_of escaped_row_of arithmetic_of shift_of group_action takes allowed displacement_size memory_in sib_at selectors_at
+    fetch_of load_of store_of base_of index_of address_of number_at taken_at taken put marked_operations register_of with_register start_of act
+    frame_of pushed call_of compute_of compute_out is_cleared concluded finished with_changes compute_effect sum_effect sum_overflows move_of move_in
+    carried return_of
 reads_before = refl
 
 -- a REX prefix with nothing behind it
 ends : meaning_step (marked_operations (λ place. 1)) (memory (0x48 ∷ [])) usual room (state) tt ≡ Err (Code 0)
-unfolding meaning_step read_step reaches_linker next_touches touches_of touched hindrance completed begins_of end_branch_at escaped_at row_at operated_at body_at instruction_at decoded numbered_body operation_of operand_body signed_of rex_at prefixes_at numbers_at named_register number_of condition_of fixed_row_of row_of escaped_row_of arithmetic_of shift_of group_action takes allowed displacement_size memory_in sib_at selectors_at fetch_of load_of store_of base_of index_of address_of number_at taken_at taken put marked_operations register_of with_register start_of act frame_of pushed call_of compute_of compute_out is_cleared concluded finished with_changes compute_effect sum_effect sum_overflows move_of move_in carried return_of
+unfolding
+    meaning_step read_step reaches_linker next_touches touches_of touched hindrance completed begins_of end_branch_at escaped_at row_at operated_at
+    body_at instruction_at decoded numbered_body operation_of operand_body signed_of rex_at prefixes_at numbers_at named_register number_of
+    condition_of fixed_row_of row_of escaped_row_of arithmetic_of shift_of group_action takes allowed displacement_size memory_in sib_at selectors_at
+    fetch_of load_of store_of base_of index_of address_of number_at taken_at taken put marked_operations register_of with_register start_of act
+    frame_of pushed call_of compute_of compute_out is_cleared concluded finished with_changes compute_effect sum_effect sum_overflows move_of move_in
+    carried return_of
 ends = refl
 
 -- an instruction that begins in the room
 begins : meaning_step (marked_operations (λ place. 1)) (memory (0xc3 ∷ [])) usual room (record state { place = 0x9000 }) tt ≡ Err (Unclean 0x9000 cause.Linker)
-unfolding meaning_step read_step reaches_linker next_touches touches_of touched hindrance completed begins_of end_branch_at escaped_at row_at operated_at body_at instruction_at decoded numbered_body operation_of operand_body signed_of rex_at prefixes_at numbers_at named_register number_of condition_of fixed_row_of row_of escaped_row_of arithmetic_of shift_of group_action takes allowed displacement_size memory_in sib_at selectors_at fetch_of load_of store_of base_of index_of address_of number_at taken_at taken put marked_operations register_of with_register start_of act frame_of pushed call_of compute_of compute_out is_cleared concluded finished with_changes compute_effect sum_effect sum_overflows move_of move_in carried return_of
+unfolding
+    meaning_step read_step reaches_linker next_touches touches_of touched hindrance completed begins_of end_branch_at escaped_at row_at operated_at
+    body_at instruction_at decoded numbered_body operation_of operand_body signed_of rex_at prefixes_at numbers_at named_register number_of
+    condition_of fixed_row_of row_of escaped_row_of arithmetic_of shift_of group_action takes allowed displacement_size memory_in sib_at selectors_at
+    fetch_of load_of store_of base_of index_of address_of number_at taken_at taken put marked_operations register_of with_register start_of act
+    frame_of pushed call_of compute_of compute_out is_cleared concluded finished with_changes compute_effect sum_effect sum_overflows move_of move_in
+    carried return_of
 begins = refl

@@ -21,44 +21,71 @@ marks field other μ place = if nat_le field place && nat_lt (place - field) 4 t
 
 -- lea field(%rax), %rdi: the field is the displacement
 lea : hindrance (marks 0x2003 0 Usual) 0x2000 (0x48 ∷ 0x8d ∷ 0xb8 ∷ 0x10 ∷ 0 ∷ 0 ∷ 0 ∷ 0xc3 ∷ []) ≡ None
-unfolding hindrance completed begins_of end_branch_at escaped_at row_at operated_at body_at instruction_at decoded numbered_body operation_of operand_body signed_of rex_at prefixes_at numbers_at register_of number_of condition_of fixed_row_of row_of escaped_row_of arithmetic_of shift_of group_action takes allowed displacement_size memory_in sib_at selectors_at
+unfolding
+    hindrance completed begins_of end_branch_at escaped_at row_at operated_at body_at instruction_at decoded numbered_body operation_of operand_body
+    signed_of rex_at prefixes_at numbers_at register_of number_of condition_of fixed_row_of row_of escaped_row_of arithmetic_of shift_of group_action
+    takes allowed displacement_size memory_in sib_at selectors_at
 lea = refl
 
 -- add $field, %rax: the field is the immediate
 add : hindrance (marks 0x2002 0 Usual) 0x2000 (0x48 ∷ 0x05 ∷ 0x10 ∷ 0 ∷ 0 ∷ 0 ∷ 0xc3 ∷ []) ≡ None
-unfolding hindrance completed begins_of end_branch_at escaped_at row_at operated_at body_at instruction_at decoded numbered_body operation_of operand_body signed_of rex_at prefixes_at numbers_at register_of number_of condition_of fixed_row_of row_of escaped_row_of arithmetic_of shift_of group_action takes allowed displacement_size memory_in sib_at selectors_at
+unfolding
+    hindrance completed begins_of end_branch_at escaped_at row_at operated_at body_at instruction_at decoded numbered_body operation_of operand_body
+    signed_of rex_at prefixes_at numbers_at register_of number_of condition_of fixed_row_of row_of escaped_row_of arithmetic_of shift_of group_action
+    takes allowed displacement_size memory_in sib_at selectors_at
 add = refl
 
 -- the same bytes with a field one byte early, in ModRM and a part of the displacement
 early : hindrance (marks 0x2002 0 Usual) 0x2000 (0x48 ∷ 0x8d ∷ 0xb8 ∷ 0x10 ∷ 0 ∷ 0 ∷ 0 ∷ 0xc3 ∷ []) ≡ Some cause.Field
-unfolding hindrance completed begins_of end_branch_at escaped_at row_at operated_at body_at instruction_at decoded numbered_body operation_of operand_body signed_of rex_at prefixes_at numbers_at register_of number_of condition_of fixed_row_of row_of escaped_row_of arithmetic_of shift_of group_action takes allowed displacement_size memory_in sib_at selectors_at
+unfolding
+    hindrance completed begins_of end_branch_at escaped_at row_at operated_at body_at instruction_at decoded numbered_body operation_of operand_body
+    signed_of rex_at prefixes_at numbers_at register_of number_of condition_of fixed_row_of row_of escaped_row_of arithmetic_of shift_of group_action
+    takes allowed displacement_size memory_in sib_at selectors_at
 early = refl
 
 -- execution begins inside a field
 middle : hindrance (marks 0x1fff 0 Usual) 0x2000 (0xc3 ∷ []) ≡ Some cause.Field
-unfolding hindrance completed begins_of end_branch_at escaped_at row_at operated_at body_at instruction_at decoded numbered_body operation_of operand_body signed_of rex_at prefixes_at numbers_at register_of number_of condition_of fixed_row_of row_of escaped_row_of arithmetic_of shift_of group_action takes allowed displacement_size memory_in sib_at selectors_at
+unfolding
+    hindrance completed begins_of end_branch_at escaped_at row_at operated_at body_at instruction_at decoded numbered_body operation_of operand_body
+    signed_of rex_at prefixes_at numbers_at register_of number_of condition_of fixed_row_of row_of escaped_row_of arithmetic_of shift_of group_action
+    takes allowed displacement_size memory_in sib_at selectors_at
 middle = refl
 
 -- ret, and a sequence behind it
 ret : hindrance (marks 0x3000 0x2001 (Odd cause.Inside)) 0x2000 (0xc3 ∷ []) ≡ None
-unfolding hindrance completed begins_of end_branch_at escaped_at row_at operated_at body_at instruction_at decoded numbered_body operation_of operand_body signed_of rex_at prefixes_at numbers_at register_of number_of condition_of fixed_row_of row_of escaped_row_of arithmetic_of shift_of group_action takes allowed displacement_size memory_in sib_at selectors_at
+unfolding
+    hindrance completed begins_of end_branch_at escaped_at row_at operated_at body_at instruction_at decoded numbered_body operation_of operand_body
+    signed_of rex_at prefixes_at numbers_at register_of number_of condition_of fixed_row_of row_of escaped_row_of arithmetic_of shift_of group_action
+    takes allowed displacement_size memory_in sib_at selectors_at
 ret = refl
 
 -- an instruction that would go on in a sequence, and one that would go on where no code is
 inside : hindrance (marks 0x3000 0x2002 (Odd cause.Inside)) 0x2000 (0x48 ∷ 0x8d ∷ []) ≡ Some cause.Inside
-unfolding hindrance completed begins_of end_branch_at escaped_at row_at operated_at body_at instruction_at decoded numbered_body operation_of operand_body signed_of rex_at prefixes_at numbers_at register_of number_of condition_of fixed_row_of row_of escaped_row_of arithmetic_of shift_of group_action takes allowed displacement_size memory_in sib_at selectors_at
+unfolding
+    hindrance completed begins_of end_branch_at escaped_at row_at operated_at body_at instruction_at decoded numbered_body operation_of operand_body
+    signed_of rex_at prefixes_at numbers_at register_of number_of condition_of fixed_row_of row_of escaped_row_of arithmetic_of shift_of group_action
+    takes allowed displacement_size memory_in sib_at selectors_at
 inside = refl
 
 ends : hindrance (marks 0x3000 0x2002 Usual) 0x2000 (0x48 ∷ 0x8d ∷ []) ≡ None
-unfolding hindrance completed begins_of end_branch_at escaped_at row_at operated_at body_at instruction_at decoded numbered_body operation_of operand_body signed_of rex_at prefixes_at numbers_at register_of number_of condition_of fixed_row_of row_of escaped_row_of arithmetic_of shift_of group_action takes allowed displacement_size memory_in sib_at selectors_at
+unfolding
+    hindrance completed begins_of end_branch_at escaped_at row_at operated_at body_at instruction_at decoded numbered_body operation_of operand_body
+    signed_of rex_at prefixes_at numbers_at register_of number_of condition_of fixed_row_of row_of escaped_row_of arithmetic_of shift_of group_action
+    takes allowed displacement_size memory_in sib_at selectors_at
 ends = refl
 
 -- no instruction begins so, whatever stands behind
 no_instruction : hindrance (marks 0x3000 0x2002 (Odd cause.Inside)) 0x2000 (0x0f ∷ 0xff ∷ []) ≡ None
-unfolding hindrance completed begins_of end_branch_at escaped_at row_at operated_at body_at instruction_at decoded numbered_body operation_of operand_body signed_of rex_at prefixes_at numbers_at register_of number_of condition_of fixed_row_of row_of escaped_row_of arithmetic_of shift_of group_action takes allowed displacement_size memory_in sib_at selectors_at
+unfolding
+    hindrance completed begins_of end_branch_at escaped_at row_at operated_at body_at instruction_at decoded numbered_body operation_of operand_body
+    signed_of rex_at prefixes_at numbers_at register_of number_of condition_of fixed_row_of row_of escaped_row_of arithmetic_of shift_of group_action
+    takes allowed displacement_size memory_in sib_at selectors_at
 no_instruction = refl
 
 -- add $number, field(%rax): behind the field, which is the displacement, the number would lie in a sequence
 behind : hindrance (marks 0x2003 0x2008 (Odd cause.Inside)) 0x2000 (0x48 ∷ 0x81 ∷ 0x80 ∷ 0x10 ∷ 0 ∷ 0 ∷ 0 ∷ 0x01 ∷ []) ≡ Some cause.Inside
-unfolding hindrance completed begins_of end_branch_at escaped_at row_at operated_at body_at instruction_at decoded numbered_body operation_of operand_body signed_of rex_at prefixes_at numbers_at register_of number_of condition_of fixed_row_of row_of escaped_row_of arithmetic_of shift_of group_action takes allowed displacement_size memory_in sib_at selectors_at
+unfolding
+    hindrance completed begins_of end_branch_at escaped_at row_at operated_at body_at instruction_at decoded numbered_body operation_of operand_body
+    signed_of rex_at prefixes_at numbers_at register_of number_of condition_of fixed_row_of row_of escaped_row_of arithmetic_of shift_of group_action
+    takes allowed displacement_size memory_in sib_at selectors_at
 behind = refl

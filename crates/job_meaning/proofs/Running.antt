@@ -53,7 +53,8 @@ module _ {W F B W' F' B' : Type 0} (same : Alike W F B W' F' B') (ops : Operatio
   returned-alike (Err why) r' p p' e = inl tt
 
   over-alike : (c : Bool) (s : After W F M) (s' : After W' F' M') → Both s s'
-      → OverAlike Both s s' (if c then Some (returned (ops.number_of s.state.registers.rax) s.state.place) else None) (if c then Some (returned (ops'.number_of s'.state.registers.rax) s'.state.place) else None)
+      → OverAlike Both s s' (if c then Some (returned (ops.number_of s.state.registers.rax) s.state.place) else None)
+      (if c then Some (returned (ops'.number_of s'.state.registers.rax) s'.state.place) else None)
   over-alike false s s' h = tt
   over-alike true s s' h =
       (elim (returned-alike (ops.number_of s.state.registers.rax) (ops'.number_of s'.state.registers.rax) s.state.place s'.state.place (followed.number_of _ _ h.state.registers.rax))
@@ -106,7 +107,8 @@ module _ {W F B W' F' B' : Type 0} (same : Alike W F B W' F' B') (ops : Operatio
         (elim (is_look s.state.place) as (λ c. is_look s.state.place ≡ c → Advances y Both Wait Both s (next_of (meaning_step ops acc (mark s.memory) (shut s.memory) s.state s.memory)) s') [
           | true ↦ λ e. let p = shut-unclean s.state s.memory e in rw p.1 (inl tt)
           | false ↦ λ e. advances s s' _ (step_of ops' acc' (is_field' s'.memory) s'.state s'.memory) h (not-over s s' h on) (machine-steps s s' h e)
-              (meaning_follows same ops ops' followed acc acc' Same shut kept (mark s.memory) (is_field' s'.memory) (none s'.memory) plain s.state s'.state s.memory s'.memory h.state h.memory (code s.memory s'.memory h.memory))
+              (meaning_follows same ops ops' followed acc acc' Same shut kept (mark s.memory) (is_field' s'.memory) (none s'.memory) plain
+              s.state s'.state s.memory s'.memory h.state h.memory (code s.memory s'.memory h.memory))
         ]) refl
 
     -- the law of runs

@@ -51,7 +51,9 @@ still-open (r ∷ rs) place at b =
         (open-if (grants Write r at) (slice_get (slice_set r.bytes (place - r.start) b) (at - r.start)) (slice_get r.bytes (at - r.start)) (byte_in Write rs at)
         (open-same (slice_set r.bytes (place - r.start) b) r.bytes (at - r.start) (set-length r.bytes (place - r.start) b)))
 
-    elsewhere : (c : Bool) → open_at (byte_in Write (with_byte rs place b) at) ≡ open_at (byte_in Write rs at) → open_at (if c then slice_get r.bytes (at - r.start) else byte_in Write (with_byte rs place b) at) ≡ open_at (if c then slice_get r.bytes (at - r.start) else byte_in Write rs at)
+    elsewhere : (c : Bool) → open_at (byte_in Write (with_byte rs place b) at) ≡ open_at (byte_in Write rs at)
+        → open_at (if c then slice_get r.bytes (at - r.start) else byte_in Write (with_byte rs place b) at)
+        ≡ open_at (if c then slice_get r.bytes (at - r.start) else byte_in Write rs at)
     elsewhere true e = refl
     elsewhere false e = e
 
@@ -122,7 +124,8 @@ module _ {W F B W' F' B' : Type 0} (same : Alike W F B W' F' B') where
       either false b e = e
   data-same Run d r r' place h e = absurd d
 
-  byte_in-same : (access : Access) → IsData access → (rs : List (Range B)) (rs' : List (Range B')) (place : ℕ) → All2 (SameRange same) rs rs' → SameByteAt (byte_in access rs place) (byte_in access rs' place)
+  byte_in-same : (access : Access) → IsData access → (rs : List (Range B)) (rs' : List (Range B')) (place : ℕ)
+      → All2 (SameRange same) rs rs' → SameByteAt (byte_in access rs place) (byte_in access rs' place)
   byte_in-same access d [] [] place h = tt
   byte_in-same access d [] (r' ∷ rs') place h = absurd h
   byte_in-same access d (r ∷ rs) [] place h = absurd h
@@ -150,13 +153,15 @@ module _ {W F B W' F' B' : Type 0} (same : Alike W F B W' F' B') where
     bytes = λ e. set_bytes-same r r' place b b' h x e;
   }
 
-  with_byte-same : (rs : List (Range B)) (rs' : List (Range B')) (place : ℕ) (b : B) (b' : B') → same.byte b b' → All2 (SameRange same) rs rs' → All2 (SameRange same) (with_byte rs place b) (with_byte rs' place b')
+  with_byte-same : (rs : List (Range B)) (rs' : List (Range B')) (place : ℕ) (b : B) (b' : B') → same.byte b b'
+      → All2 (SameRange same) rs rs' → All2 (SameRange same) (with_byte rs place b) (with_byte rs' place b')
   with_byte-same [] [] place b b' x h = tt
   with_byte-same [] (r' ∷ rs') place b b' x h = absurd h
   with_byte-same (r ∷ rs) [] place b b' x h = absurd h
   with_byte-same (r ∷ rs) (r' ∷ rs') place b b' x h =
       rw (← grants-same Write r r' place h.0)
-      (elim (grants Write r place) as (λ c. All2 (SameRange same) (if c then written r place b ∷ rs else r ∷ with_byte rs place b) (if c then written r' place b' ∷ rs' else r' ∷ with_byte rs' place b')) [
+      (elim (grants Write r place) as (λ c. All2 (SameRange same) (if c then written r place b ∷ rs else r ∷ with_byte rs place b)
+      (if c then written r' place b' ∷ rs' else r' ∷ with_byte rs' place b')) [
         | true ↦ (written-same r r' place b b' h.0 x, h.1)
         | false ↦ (h.0, with_byte-same rs rs' place b b' x h.1)
       ])

@@ -58,7 +58,13 @@ line = record { symbol = []; a = 0; b = 0; c = 0 }
 
 -- thread 1 calls it, for at most so many steps, where the room begins at a place
 said : ℕ → ℕ → List ℕ → List Said
-unfolding meant_said meant_turns meant_accesses meaning meaning_step read_step reaches_linker next_touches touches_of touched hindrance completed begins_of end_branch_at escaped_at row_at operated_at body_at instruction_at decoded numbered_body operation_of operand_body signed_of rex_at prefixes_at numbers_at named_register number_of encoded_condition fixed_row_of row_of escaped_row_of arithmetic_of shift_of group_action takes allowed displacement_size memory_in sib_at selectors_at fetch_of load_of store_of space_accesses marked_operations register_of with_register start_of base_of index_of address_of kept carried number_at taken_at taken put product_fits product_effect with_changes condition_of move_of move_in stored multiply_of finished pushed push_of call_of return_of jump_of jump_if act frame_of zeros owner_at threads_from
+unfolding
+    meant_said meant_turns meant_accesses meaning meaning_step read_step reaches_linker next_touches touches_of touched hindrance completed begins_of
+    end_branch_at escaped_at row_at operated_at body_at instruction_at decoded numbered_body operation_of operand_body signed_of rex_at prefixes_at
+    numbers_at named_register number_of encoded_condition fixed_row_of row_of escaped_row_of arithmetic_of shift_of group_action takes allowed
+    displacement_size memory_in sib_at selectors_at fetch_of load_of store_of space_accesses marked_operations register_of with_register start_of
+    base_of index_of address_of kept carried number_at taken_at taken put product_fits product_effect with_changes condition_of move_of move_in stored
+    multiply_of finished pushed push_of call_of return_of jump_of jump_if act frame_of zeros owner_at threads_from
 said room fuel code = meant_said Event room (loaded_by Value (image code) entry) 1 fuel line
 
 abbrev ends : Stop → List Said
@@ -97,7 +103,8 @@ unfolding said
 goes_nowhere = refl
 
 -- a page of code: 4,095 nops and a REX prefix, at which the call begins, right before the room
-page : meant_said Event 0x401000 (loaded_by Value (record (image (replicate 4095 0x90 ++ 0x48 ∷ [])) { constants = record { place = 0x400000; bytes = [] }; initial = record { place = 0x400000; bytes = [] } })
+page : meant_said Event 0x401000 (loaded_by Value (record (image (replicate 4095 0x90 ++ 0x48 ∷ [])) {
+        constants = record { place = 0x400000; bytes = [] }; initial = record { place = 0x400000; bytes = [] } })
     (λ symbol. Some 0x400fff)) 1 1 line ≡ ends (Code 0x400fff)
 unfolding said
 page = refl

@@ -88,7 +88,8 @@ module _ (loaded : Loaded Byte) (loaded' : Loaded ℕ) (linked : IsLinked loaded
     steps-same seen =
         alone_simulated (meaning (marked_operations owner_at) (acc {E = E} room thread loaded loaded' linked) meant_mark (meant_shut room))
         (machine plain_operations (acc' {E = E} room thread loaded loaded' linked) no_field) (λ at. at.state.place) (InCall seen) (InCall seen) (AtLook seen) (Between seen) (call-rests seen)
-        (meaning_simulated Values (marked_operations owner_at) plain_operations followed (acc room thread loaded loaded' linked) (acc' room thread loaded loaded' linked) (SameAt seen) meant_mark (meant_shut room)
+        (meaning_simulated Values (marked_operations owner_at) plain_operations followed
+        (acc room thread loaded loaded' linked) (acc' room thread loaded loaded' linked) (SameAt seen) meant_mark (meant_shut room)
         (memory_kept room thread loaded loaded' linked seen) no_field (λ m' place. refl) plain-field (are_shut room thread loaded loaded' linked)
         (λ m m' h. code_kept room thread loaded loaded' linked (λ place n n'. Values.field (Some place) None n n') seen m m' h) (λ s s'. ⊥))
 

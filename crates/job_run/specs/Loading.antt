@@ -47,8 +47,8 @@ module _ {B : Type 0} (value : ℕ → B) where
 abbrev pub machine_loaded : Image → (List ℕ → Option ℕ) → Loaded ℕ
 machine_loaded = loaded_by (λ number. number)
 
--- the meaning's load, of the sections of objects at their places: each byte is a value, and none is a token's, for no part
--- of what these objects mean is for the linker to choose
+-- the meaning's load, of the sections of objects at their places: each byte is a value, and none is a token's, for no
+-- part of what these objects mean is for the linker to choose
 abbrev pub meaning_loaded : Layout → List (List ℕ) → (List ℕ → Option ℕ) → Loaded Byte
 meaning_loaded p objects = loaded_by Value (meant_image p objects)
 

@@ -23,8 +23,8 @@ image_end = 0x400000 + 2 ^ 26
 abbrev pub is_in_room : ℕ → ℕ → Bool
 is_in_room room place = nat_le room place && nat_lt place image_end
 
--- whether a place is the linker's own: where `__tls_get_addr` and the function of descriptors are called, and the room, which
--- begins where the objects' sections end
+-- whether a place is the linker's own: where `__tls_get_addr` and the function of descriptors are called, and the room,
+-- which begins where the objects' sections end
 abbrev pub is_linkers : ℕ → ℕ → Bool
 is_linkers room place = is_look place || is_in_room room place
 

@@ -1,7 +1,6 @@
 -- No byte lies in the fields of two relocations of a section.
-use Rattle.std.proofs.Common.{◌≡◌, ◌+◌, ◌*◌, ◌<◌, ◌≤◌, ◌&&◌, ℕ, zero, suc, Bool, true, false, List, [], ◌∷◌, All, Option, Some, None, inl, inr, refl, sym, subst, arith}
+use Rattle.std.proofs.Common.{◌≡◌, ◌+◌, ◌*◌, ◌<◌, ◌≤◌, ◌&&◌, ℕ, zero, suc, Bool, true, false, List, [], All, Option, Some, None, refl, sym, subst, arith}
 use Rattle.std.specs.Prelude.{nat_le, nat_lt, if◌then◌else◌, unwrap_or}
-use Rattle.std.proofs.lemmas.Bool.{cases_lt}
 use Rattle.std.proofs.lemmas.Bool.Decides.{nat_tests}
 use Rattle.elf_records.specs.Records.{rela_kind}
 use Rattle.object_faults.specs.declared.fault.FaultKind.TheVariants.{RelocOverlap}
@@ -11,9 +10,9 @@ use Rattle.object_faults.specs.declared.relocation.RelocationKind.TheVariants.{N
 use Rattle.elf_object.specs.Classes.{IsKeptSection}
 use Rattle.elf_object.specs.Faults.{Stands, IsObject}
 use Rattle.elf_object.specs.Laws.{table_of_kept}
-use Rattle.elf_object.specs.Lent.{relocation_at, relocations_from, relocations_in, relocations, kept_relocation_table}
+use Rattle.elf_object.specs.Lent.{relocation_at, relocations_from, relocations_in, kept_relocation_table}
 use Rattle.elf_object.specs.Parts.{section, rela, entry_count}
-use Rattle.elf_object.specs.Relocations.{relocation_kind, field_width, width_of, width_at, Covers, IsReloc}
+use Rattle.elf_object.specs.Relocations.{relocation_kind, field_width, width_of, Covers, IsReloc}
 use Rattle.link_core.specs.Laws.{AreApart, FieldsAreApart}
 use Rattle.link_core.specs.Meant.{is_in_field}
 

@@ -1,35 +1,30 @@
 -- A section's bytes, once its fields are written, are those that it means.
-use Rattle.std.proofs.Common.{◌≡◌, ◌+◌, ◌-◌, ◌<◌, ◌≤◌, ◌^◌, ◌%◌, ◌⊎◌, ◌∙◌, ◌&&◌, ℕ, zero, suc, ℤ, pos, negsuc, ◌+ℤ◌, ◌-ℤ◌, Bool, true, false, List, [], ◌∷◌, All, length, Option, Some, None, IsSome, inl, inr, refl, sym, ap, subst, arith}
-use Rattle.std.specs.Prelude.{slice_get, slice_index_or, unwrap_or, nat_le, nat_lt, if◌then◌else◌}
+use Rattle.std.proofs.Common.{◌≡◌, ◌+◌, ◌-◌, ◌<◌, ◌≤◌, ◌^◌, ◌%◌, ◌⊎◌, ◌∙◌, ◌&&◌, ℕ, zero, suc, ℤ, pos, negsuc, ◌+ℤ◌, ◌-ℤ◌, Bool, true, false, List, [], ◌∷◌, All, length, Some, IsSome, inl, inr, refl, ap, subst, arith}
+use Rattle.std.specs.Prelude.{slice_get, unwrap_or, nat_le, nat_lt}
 use Rattle.std.specs.Int.{w32, byte_at, cast_unsigned}
-use Rattle.std.specs.List.{list_all}
 use Rattle.std.proofs.lemmas.Bool.{cases_lt, lt-ltb, le-ltb}
 use Rattle.std.proofs.lemmas.Bool.Decides.{nat_tests}
-use Rattle.std.proofs.lemmas.Option.{slice_get-get_or}
 use Rattle.elf_records.specs.Fields.{bytes_of}
 use Rattle.elf_object.specs.declared.relocation.Relocation.{Relocation}
 use Rattle.object_faults.specs.declared.relocation.RelocationKind.{RelocationKind}
 use Rattle.object_faults.specs.declared.relocation.RelocationKind.TheVariants.{Nothing, Absolute64, Pc32, Plt32, GotPcRel, Absolute32, Absolute32Signed, TlsGd, TlsLd, DtpOff32, GotTpOff, TpOff32, GotPc32TlsDesc, TlsDescCall, GotPcRelX, RexGotPcRelX}
 use Rattle.elf_object.specs.declared.symbol.SymbolPlace.{SymbolPlace}
 use Rattle.elf_object.specs.declared.symbol.SymbolPlace.TheVariants.{Undefined, Absolute, InSection}
-use Rattle.elf_object.specs.Faults.{IsObject}
 use Rattle.elf_object.specs.Lawful.{IsLawful as IsLawfulRelocation}
-use Rattle.elf_object.specs.LawsOfRelocations.{lawful}
-use Rattle.elf_object.specs.Lent.{relocations, section_bytes, section_size, symbol_place, symbol_value}
+use Rattle.elf_object.specs.Lent.{section_size, symbol_place, symbol_value}
 use Rattle.elf_object.specs.Relocations.{field_width}
-use Rattle.tls_layout.specs.Places.{tls_size, tls_alignment, IsLawful}
+use Rattle.tls_layout.specs.Places.{tls_size, tls_alignment}
 use Rattle.tls_layout.specs.Rounding.{round_up}
 use Rattle.tls_layout.specs.Sections.{Layout}
 use Rattle.tls_layout.specs.Statics.{tls_offset}
-use Rattle.tls_relocs.specs.declared.fields.Field.{Field}
 use Rattle.tls_relocs.specs.declared.fields.Field.TheVariants.{Empty, Word32}
 use Rattle.tls_relocs.specs.Fields.{field_bytes}
-use Rattle.tls_relocs.specs.Patches.{Patch, patched, covers, byte_of, FitIn}
+use Rattle.tls_relocs.specs.Patches.{patched, covers, FitIn}
 use Rattle.tls_relocs.specs.PatchLaws.{patched_bytes, patched_keeps}
 use Rattle.tls_relocs.specs.Values.{signed_field, stored_field}
-use Rattle.link_core.specs.Fields.{block_offset, offset_in, symbol_offset, field_of, patch_of, with_fields, linked_bytes}
+use Rattle.link_core.specs.Fields.{block_offset, offset_in, symbol_offset, field_of, patch_of, with_fields}
 use Rattle.link_core.specs.Laws.{AreApart}
-use Rattle.link_core.specs.Meant.{block_distance, place_in_block, distance_of, is_in_field, field_byte, byte_with, section_byte}
+use Rattle.link_core.specs.Meant.{block_distance, place_in_block, distance_of, is_in_field, field_byte, byte_with}
 use Rattle.link_core.specs.Taken.{is_tpoff}
 
 -- ** the value of one field

@@ -1,11 +1,8 @@
 -- An image is what its objects mean.
-use Rattle.std.proofs.Common.{◌≡◌, ◌+◌, ◌<◌, ◌≤◌, ◌∙◌, ◌&&◌, ℕ, Bool, true, false, List, [], ◌∷◌, All, length, slice_index_or, Option, Some, None, IsSome, refl, sym, ap, subst, arith}
+use Rattle.std.proofs.Common.{◌≡◌, ◌+◌, ◌<◌, ◌∙◌, ◌&&◌, ℕ, Bool, true, false, List, [], All, length, slice_index_or, Some, refl, ap, subst, arith}
 use Rattle.std.specs.Prelude.{nat_le, nat_lt, slice_get}
-use Rattle.std.specs.List.{list_all}
 use Rattle.std.proofs.lemmas.Bool.Decides.{nat_tests}
 use Rattle.std.proofs.lemmas.Option.{slice_get-get_or}
-use Rattle.object_faults.specs.declared.class.SectionClass.{SectionClass}
-use Rattle.object_faults.specs.declared.class.SectionClass.TheVariants.{Executable, ReadOnly, Tls}
 use Rattle.elf_object.specs.declared.relocation.Relocation.{Relocation}
 use Rattle.elf_object.specs.Faults.{IsObject}
 use Rattle.elf_object.specs.LawsOfRelocations.{lawful}
@@ -17,11 +14,11 @@ use Rattle.tls_layout.specs.Places.{end_of as class_end, IsLawful}
 use Rattle.tls_layout.specs.Sections.{Layout, layout_of}
 use Rattle.link_core.specs.declared.part.PartKind.{PartKind}
 use Rattle.link_core.specs.declared.part.PartKind.TheVariants.{Code, Constants, InitialTls}
-use Rattle.link_core.specs.Fields.{field_of, linked_bytes}
+use Rattle.link_core.specs.Fields.{linked_bytes}
 use Rattle.link_core.specs.Laws.{AreLinked, HoldsItsFields, ImagesAreMeant, PartsRise, SectionsHoldTheirFields}
-use Rattle.link_core.specs.Meant.{field_byte, is_in_field, meant_image, section_byte}
-use Rattle.link_core.specs.Parts.{is_of, image_of, part_of, placed_from, start_of}
-use Rattle.link_core.specs.Taken.{is_taken, is_tpoff, section_is_taken, object_is_taken}
+use Rattle.link_core.specs.Meant.{is_in_field, meant_image, section_byte}
+use Rattle.link_core.specs.Parts.{is_of, image_of, placed_from, start_of}
+use Rattle.link_core.specs.Taken.{is_taken, is_tpoff, section_is_taken}
 use Rattle.link_core.proofs.Apart.{fields_apart}
 use Rattle.link_core.proofs.FieldBytes.{IsWritten, is_written, fields_keep, written, byte_inside, byte_outside, distance_is}
 use Rattle.link_core.proofs.Relocated.{filled, section_taken}

@@ -1,6 +1,6 @@
 -- The sections of a part rise, and end where their class does.
-use Rattle.std.proofs.Common.{◌≡◌, ◌≢◌, ◌+◌, ◌-◌, ◌<◌, ◌≤◌, ◌∙◌, ℕ, zero, suc, Bool, true, false, List, [], ◌∷◌, ◌++◌, All, length, take, drop, slice_index_or, Option, Some, None, IsSome, inl, inr, refl, sym, ap, subst, arith}
-use Rattle.std.specs.Prelude.{sum, unwrap_or, option_and_then, slice_index, nat_lt, if◌then◌else◌}
+use Rattle.std.proofs.Common.{◌≡◌, ◌+◌, ◌<◌, ◌≤◌, ◌∙◌, ℕ, zero, suc, Bool, true, false, List, [], ◌∷◌, ◌++◌, length, take, drop, slice_index_or, Option, Some, None, IsSome, inl, inr, refl, sym, ap, subst, arith}
+use Rattle.std.specs.Prelude.{sum, unwrap_or, slice_index}
 use Rattle.std.specs.List.{flat_map, range_with_len}
 use Rattle.std.proofs.Math.Seq.{drop-cons}
 use Rattle.std.proofs.lemmas.Bool.{cases_lt, lt-ltb}
@@ -14,8 +14,7 @@ use Rattle.elf_object.specs.Object.{section_count}
 use Rattle.link_faults.specs.declared.image_kind.ImageKind.{ImageKind}
 use Rattle.tls_layout.specs.declared.sections.Section.{Section}
 use Rattle.tls_layout.specs.Laws.{extent_for, IsSectionOf}
-use Rattle.tls_layout.specs.Places.{end_of as class_end, place_in, next_end, address_of, address_at, address_by, section_named, executable, read_only, tls_image}
-use Rattle.tls_layout.specs.Rounding.{round_up}
+use Rattle.tls_layout.specs.Places.{end_of as class_end, place_in, address_of, address_at, address_by, section_named, executable, read_only, tls_image}
 use Rattle.tls_layout.specs.Sections.{Layout, layout_of, section_at, section_counts, all_sections, position, is_class, is_in, dropped}
 use Rattle.tls_layout.proofs.Ends.{end_of-more, end_of-all, end_of-none}
 use Rattle.tls_layout.proofs.LawsOfPlaces.{ends_at}

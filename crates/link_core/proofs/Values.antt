@@ -1,5 +1,5 @@
 -- What a relocation that is taken stores.
-use Rattle.std.proofs.Common.{◌≡◌, ◌+◌, ◌<◌, ◌≤◌, ◌^◌, ◌&&◌, ◌==◌, ℕ, zero, suc, ℤ, pos, ◌+ℤ◌, ◌-ℤ◌, Bool, true, false, List, [], ◌∷◌, All, length, Option, Some, None, IsSome, refl, sym, subst, arith}
+use Rattle.std.proofs.Common.{◌≡◌, ◌+◌, ◌<◌, ◌≤◌, ◌^◌, ◌&&◌, ◌==◌, ℕ, zero, suc, pos, ◌+ℤ◌, ◌-ℤ◌, Bool, true, false, List, [], ◌∷◌, All, length, Option, Some, None, IsSome, refl, sym, subst, arith}
 use Rattle.std.specs.Prelude.{slice_index_or, unwrap_or, if◌then◌else◌}
 use Rattle.std.specs.List.{list_all, fold}
 use Rattle.elf_object.specs.declared.relocation.Relocation.{Relocation}
@@ -20,7 +20,6 @@ use Rattle.tls_layout.specs.Sections.{Layout, IsOrdinary}
 use Rattle.tls_layout.specs.Statics.{tls_offset}
 use Rattle.tls_layout.proofs.Rounds.{round_up-near, power_bounds}
 use Rattle.tls_layout.proofs.Together.{power_more}
-use Rattle.tls_relocs.specs.Values.{signed_field, stored_field}
 use Rattle.tls_relocs.specs.ValueLaws.{signed_fits}
 use Rattle.link_core.specs.Definitions.{same_binding}
 use Rattle.link_core.specs.Fields.{block_offset, offset_in, symbol_offset, field_of}

@@ -13,8 +13,8 @@ use Rattle.tls_layout.specs.Places.{IsLawful}
 use Rattle.tls_layout.specs.Sections.{Layout, layout_of}
 use Rattle.tls_relocs.specs.Laid.{Rising}
 
--- every relocation that is taken has a value, which its field holds: in whichever layout within the limits, and as whichever of
--- its objects
+-- every relocation that is taken has a value, which its field holds: in whichever layout within the limits, and as
+-- whichever of its objects
 abbrev pub FieldsHaveValues : Type 0
 FieldsHaveValues = (p : Layout) (o : ℕ) (b : List ℕ) (s : ℕ) → IsLawful p → IsObject b → section_is_taken b s ≡ true
     → All (λ r. IsSome (field_of p o b r)) (relocations b s)
@@ -36,7 +36,8 @@ pub record HoldsItsFields (p : Layout) (o : ℕ) (b : List ℕ) (s : ℕ) (bytes
 
 abbrev pub SectionsHoldTheirFields : Type 0
 SectionsHoldTheirFields = (p : Layout) (o : ℕ) (b : List ℕ) (s : ℕ) (part : PartKind) → IsLawful p → IsObject b
-    → section_is_taken b s ≡ true → is_of part (section_class b s) ≡ true → HoldsItsFields p o b s (linked_bytes p o b s)
+    → section_is_taken b s ≡ true → is_of part (section_class b s) ≡ true
+    → HoldsItsFields p o b s (linked_bytes p o b s)
 
 -- objects that a layout within the limits places, and whose relocations are taken
 pub record AreLinked (kind : ImageKind) (objects : List (List ℕ)) : Type 0 where

@@ -1,5 +1,5 @@
--- What objects mean at an address: there stands the byte of a section, or where a relocation's field covers it, the byte of
--- the field's value. This asks the objects and their layout alone, and nothing that a linker writes.
+-- What objects mean at an address: there stands the byte of a section, or where a relocation's field covers it, the
+-- byte of the field's value. This asks the objects and their layout alone, and nothing that a linker writes.
 use Rattle.std.specs.Prelude.{◌+◌, ◌-◌, ◌&&◌, ℕ, ℤ, pos, ◌+ℤ◌, ◌-ℤ◌, Bool, true, List, [], ◌∷◌, map, Option, Some, None, unwrap_or, option_map, slice_index_or, nat_le, nat_lt, if◌then◌else◌}
 use Rattle.std.specs.Int.{w32, byte_at, cast_unsigned}
 use Rattle.std.specs.List.{find, range_with_len}
@@ -27,8 +27,8 @@ abbrev pub place_in_block : Layout → ℕ → SymbolPlace → ℕ → ℕ
 place_in_block p o (InSection s) value = unwrap_or (tls_offset_of p o s) 0 + value
 place_in_block p o place value = value
 
--- S + A, as a distance from the thread pointer: what R_X86_64_TPOFF32 stores (psABI, "Relocation Types"; Drepper, section
--- 4.4.6), the one type that is taken so far
+-- S + A, as a distance from the thread pointer: what R_X86_64_TPOFF32 stores (psABI, "Relocation Types"; Drepper,
+-- section 4.4.6), the one type that is taken so far
 unfoldable pub distance_of : Layout → ℕ → List ℕ → Relocation → ℤ
 distance_of p o b r =
     (pos (place_in_block p o (symbol_place b r.symbol) (symbol_value b r.symbol)) +ℤ r.addend) -ℤ pos (block_distance p)

@@ -102,7 +102,8 @@ fn push_section(
     requires there { section < section_count object.now }
     requires taken { object_is_taken object.now ≡ true }
     requires block { block_offset ≡ offset_of_block placement.now }
-    ensures { OnOk result (laying.new ≡ with_sections laying.old (placed_section placement.now kind number object.now section)) }
+    ensures { OnOk result
+        (laying.new ≡ with_sections laying.old (placed_section placement.now kind number object.now section)) }
 {
     let Some(part) = object.section(section) else {
         return Ok(());

@@ -58,7 +58,8 @@ fn first_in(object: &Object, binding: SymbolBinding, name: &[u8]) -> Option<u32>
     None
 }
 
-/// Whether a symbol defines the name, with this binding. No more bytes of the symbol's name are looked at than the name has, and one.
+/// Whether a symbol defines the name, with this binding. No more bytes of the symbol's name are looked at than the name
+/// has, and one.
 #[tactic(auto, using(crate::proofs::Search::longer_differs))]
 fn defines(object: &Object, number: u32, binding: SymbolBinding, name: &[u8]) -> bool
     requires { number < symbol_count object.now }

@@ -1,7 +1,7 @@
-//! How long an object takes to read and to lend: `read_benchmark TEXTS [time]` makes an object of TEXTS sections of code, 1 to 8,
-//! each with 200,000 relocations, and of 50,000 symbols. All its sections and symbols have one name, of a million bytes: none of the
-//! loops below may look at it. With `time` it prints how long reading and lending took, and how long one pass takes that adds the
-//! file's bytes.
+//! How long an object takes to read and to lend: `read_benchmark TEXTS [time]` makes an object of TEXTS sections of
+//! code, 1 to 8, each with 200,000 relocations, and of 50,000 symbols. All its sections and symbols have one name, of a
+//! million bytes: none of the loops below may look at it. With `time` it prints how long reading and lending took, and
+//! how long one pass takes that adds the file's bytes.
 #![tactic(auto)]
 
 use anyhow::{Context, Result, ensure};

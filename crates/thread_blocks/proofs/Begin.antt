@@ -41,7 +41,24 @@ module _ {W F B W' F' B' : Type 0} (same : Alike W F B W' F' B') (ops : Operatio
       → SameState same (record (start_of ops place stack a b c) { thread_pointer = pointer }) (record (start_of ops' place stack a' b' c') { thread_pointer = pointer })
   unfolding start_of
   start-same place stack a b c a' b' c' f g h pointer = let none = followed.word 0 in let clear = followed.flag false in record {
-    registers = record { rax = none; rcx = none; rdx = h; rbx = none; rsp = followed.word stack; rbp = none; rsi = g; rdi = f; r8 = none; r9 = none; r10 = none; r11 = none; r12 = none; r13 = none; r14 = none; r15 = none };
+    registers = record {
+      rax = none;
+      rcx = none;
+      rdx = h;
+      rbx = none;
+      rsp = followed.word stack;
+      rbp = none;
+      rsi = g;
+      rdi = f;
+      r8 = none;
+      r9 = none;
+      r10 = none;
+      r11 = none;
+      r12 = none;
+      r13 = none;
+      r14 = none;
+      r15 = none;
+    };
     flags = record { zero = clear; sign = clear; carry = clear; overflow = clear };
     place = refl;
     thread_pointer = refl;

@@ -48,8 +48,8 @@ pub record LeavesSo (executable : Executable) (thread : ℕ) (outcome : Outcome)
   pub shows : shown line ≡ Some (record { points = length seen ∷ []; outcome = outcome })
   pub holds : HoldsBlocks executable thread at new
 
--- a call is the turn of a line that calls its function, of any thread that holds what the memory has, after any lines and
--- at any events
+-- a call is the turn of a line that calls its function, of any thread that holds what the memory has, after any lines
+-- and at any events
 pub record IsCall (thread fuel : ℕ) (call : Call) (outcome : Outcome) (old new : AddressSpace ℕ) : Type 0 where
   pub says : (executable : Executable) (entry : List ℕ → Option ℕ) (symbol : List ℕ)
       → (todo : List CallLine) (said : List Said) (before seen : List Event) (at : Held)

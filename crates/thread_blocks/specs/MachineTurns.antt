@@ -86,7 +86,8 @@ pub record CallLine : Type 0 where
   pub c : ℕ
 
 module _ {W F B : Type 0} (ops : Operations W F B) where
-  -- a machine before a call: its arguments in %rdi, %rsi and %rdx (psABI, section 3.2.3), and %rsp at the return address
+  -- a machine before a call: its arguments in %rdi, %rsi and %rdx (psABI, section 3.2.3), and %rsp at the return
+  -- address
   abbrev pub call_start : ℕ → ℕ → CallLine → State W F
   call_start thread place line =
       let start = start_of ops place (stack_end thread - 8) (ops.word line.a) (ops.word line.b) (ops.word line.c) in
@@ -118,8 +119,8 @@ module _ {W F B : Type 0} (ops : Operations W F B) where
 
 -- ---- runs with nobody to answer
 
--- where another would have to answer, none does, for no part of an image that is taken so far can be written, and what is
--- asked for would lie in one
+-- where another would have to answer, none does, for no part of an image that is taken so far can be written, and what
+-- is asked for would lie in one
 abbrev pub alone_next : {S : Type 0} → ℕ → Next S → Next S
 alone_next place (Goes t) = Goes t
 alone_next place (Ends stop) = Ends stop
@@ -166,7 +167,8 @@ shown said = option_map (λ outcome. record { points = said.points; outcome = ou
 -- what a thread says that has one line, which sees no event
 unfoldable pub call_said : (E : Type 0) → Loaded ℕ → ℕ → ℕ → CallLine → List Said
 call_said E loaded thread fuel line =
-    (turn (machine_turns {E = E} loaded thread fuel) (ready (thread_start plain_operations loaded thread) (line ∷ [])) []).said
+    (turn (machine_turns {E = E} loaded thread fuel)
+    (ready (thread_start plain_operations loaded thread) (line ∷ [])) []).said
 
 -- ---- two threads, one over values of each kind
 

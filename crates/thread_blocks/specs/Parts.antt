@@ -37,7 +37,8 @@ block_range block thread = record {
 abbrev pub loaded_of : Executable → (List ℕ → Option ℕ) → Loaded ℕ
 loaded_of executable entry = record {
   entry = entry;
-  fixed = code_range executable.code ∷ constant_range executable.constants ∷ constant_range executable.block.initial ∷ [];
+  fixed =
+      code_range executable.code ∷ constant_range executable.constants ∷ constant_range executable.block.initial ∷ [];
   blocks = λ thread. block_range executable.block thread ∷ [];
 }
 

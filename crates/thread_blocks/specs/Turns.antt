@@ -29,8 +29,8 @@ pub record Turns (S L E : Type 0) : Type 0 where
   -- a look in the middle of a line
   pub resume : List E → S → Begun S
 
--- where a thread stands: between two lines, or at a look in the middle of one, with the steps left (the look's own step is
--- still to be paid) and the looks so far
+-- where a thread stands: between two lines, or at a look in the middle of one, with the steps left (the look's own step
+-- is still to be paid) and the looks so far
 pub data Phase (S : Type 0) : Type 0 where
   Idle : S → Phase S
   Mid : ℕ → List ℕ → S → Phase S
@@ -73,7 +73,8 @@ module _ {S L E : Type 0} (x : Turns S L E) where
   -- a turn of a thread that saw the events `old` and now sees `seen`; where nothing is left to do it is left as it is
   abbrev pub turn_at : List L → Phase S → List Said → List E → List E → Thread S L E
   turn_at [] (Idle s) said old seen = record { todo = []; phase = Idle s; said = said; seen = old }
-  turn_at (line ∷ todo) (Idle s) said old seen = after_look x.fuel todo said seen (length seen ∷ []) (x.begin line seen s)
+  turn_at (line ∷ todo) (Idle s) said old seen =
+      after_look x.fuel todo said seen (length seen ∷ []) (x.begin line seen s)
   turn_at todo (Mid left points s) said old seen =
       after_look (left - 1) todo said seen (with_last points (length seen)) (x.resume seen s)
 

@@ -20,14 +20,15 @@ AnyUnclean (t ∷ threads) = HasUnclean t.said ⊎ AnyUnclean threads
 
 -- what two looks at the events come to
 abbrev pub SameBegun : {S S' E : Type 0} (Rel Rest : List E → S → S' → Type 0) → List E → Begun S → Begun S' → Type 0
-SameBegun Rel Rest seen (Says ending s) (Says ending' s') = IsUncleanEnding ending ⊎ ((ending' ≡ ending) × Rest seen s s')
+SameBegun Rel Rest seen (Says ending s) (Says ending' s') =
+    IsUncleanEnding ending ⊎ ((ending' ≡ ending) × Rest seen s s')
 SameBegun Rel Rest seen (Says ending s) (Calls s') = IsUncleanEnding ending
 SameBegun Rel Rest seen (Calls s) (Says ending' s') = ⊥
 SameBegun Rel Rest seen (Calls s) (Calls s') = Rel seen s s'
 
 module _ {S S' L E : Type 0} (Rel Wait Rest : List E → S → S' → Type 0) where
-  -- Fine old new: after the events `old` a thread may see the events `new`. The relations are those where the events are
-  -- seen: Rel of states in a run, Wait at a look in the middle of a line, Rest between two lines
+  -- Fine old new: after the events `old` a thread may see the events `new`. The relations are those where the events
+  -- are seen: Rel of states in a run, Wait at a look in the middle of a line, Rest between two lines
   pub record IsAlike (Fine : List E → List E → Type 0) (x : Turns S L E) (y : Turns S' L E) : Type 0 where
     pub steps : (seen : List E) → IsSimulated x.steps y.steps (Rel seen) (Wait seen) (Rest seen)
     pub fuel : 4 * x.fuel ≤ y.fuel
@@ -73,7 +74,8 @@ AllFronts (front ∷ fronts) whole = IsFront front whole × AllFronts fronts who
 -- what may be seen may be seen again, and with an event that a line adds after it
 pub record IsGrowing {L E : Type 0} (Fine : List E → List E → Type 0) (event : L → List E → Option E) : Type 0 where
   pub again : (old new : List E) → Fine old new → Fine new new
-  pub grown : (old new : List E) (line : L) (e : E) → Fine old new → event line new ≡ Some e → Fine old (with_last new e)
+  pub grown : (old new : List E) (line : L) (e : E)
+      → Fine old new → event line new ≡ Some e → Fine old (with_last new e)
 
 -- each thread may see the history
 abbrev pub AllFine : {S L E : Type 0} → (List E → List E → Type 0) → List E → List (Thread S L E) → Type 0

@@ -33,7 +33,8 @@ abbrev pub all_printed : {E : Type 0} → Loaded ℕ → ℕ → Turns (Numbered
 all_printed loaded fuel = each (4 * fuel) (λ thread. machine_turns loaded thread fuel)
 
 -- lines: those of thread 1, of thread 2, and so on; order: the number of the thread that takes each turn
-abbrev pub printed_world : Loaded ℕ → ℕ → List (List CallLine) → List ℕ → World (Numbered (Printed Event)) CallLine Event
+abbrev pub printed_world : Loaded ℕ → ℕ → List (List CallLine) → List ℕ
+    → World (Numbered (Printed Event)) CallLine Event
 printed_world loaded fuel lines order =
     by_order (all_printed loaded fuel) adds_none order (first_world (printed_start loaded) lines)
 

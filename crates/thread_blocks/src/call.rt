@@ -68,7 +68,10 @@ impl ThreadMemory {
         thread: u32,
     ) -> Result<ThreadMemory, AllocError>
         requires { thread ≤ 64 }
-        ensures { IfOk result (λ memory. memory ≡ record { thread = thread; memory = record { ranges = call_ranges executable.now thread; fields = [] } }) }
+        ensures { IfOk result (λ memory. memory ≡ record {
+          thread = thread;
+          memory = record { ranges = call_ranges executable.now thread; fields = [] };
+        }) }
     {
         let rest = rest_of(alloc, executable, thread)?;
         let stack = stack_of(alloc, thread)?;

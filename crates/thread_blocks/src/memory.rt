@@ -122,7 +122,8 @@ pub(crate) fn rest_of(
     thread: u32,
 ) -> Result<GuestMemory<u8>, AllocError>
     requires { thread ≤ 64 }
-    ensures { IfOk result (λ memory. memory ≡ record { ranges = behind_stack (call_ranges executable.now thread); fields = [] }) }
+    ensures { IfOk result
+        (λ memory. memory ≡ record { ranges = behind_stack (call_ranges executable.now thread); fields = [] }) }
 {
     let mut memory = GuestMemory::new(alloc);
     memory.add_range(block_of(alloc, &executable.block, thread)?)?;

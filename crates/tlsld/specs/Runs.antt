@@ -37,7 +37,8 @@ pub record HasRun (b : List ℕ) (job : Small) (outcome : Outcome) : Type 0 wher
 
 -- the object has data that programs write, first in this section
 abbrev pub HasData : List ℕ → ℕ → ℕ → FaultKind → Type 0
-HasData b section entry kind = IsObject b × (entry ≡ 0) × (kind ≡ WritableData) × IsFirstAt (IsWritable b) (Some section)
+HasData b section entry kind =
+    IsObject b × (entry ≡ 0) × (kind ≡ WritableData) × IsFirstAt (IsWritable b) (Some section)
 
 -- why it was refused
 abbrev pub IsRefused : List ℕ → ObjectRefusal → Type 0

@@ -29,8 +29,8 @@ pub enum Answer {
     NoMemory,
 }
 
-/// Puts the text, and gives the status to end with: its own; 4 where the sink failed; where the sink had no memory, what
-/// saying so gives.
+/// Puts the text, and gives the status to end with: its own; 4 where the sink failed; where the sink had no memory,
+/// what saying so gives.
 pub fn say<K: Sink>(out: &mut K, status: Status, text: &[u8]) -> u8
     ensures delivers { Delivers text.now (code_of status) (K.view out.old) (K.view out.new) result }
     ensures sink { SinkShown (K.view out.old).faults (K.view out.new).faults result }

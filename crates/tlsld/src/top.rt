@@ -14,8 +14,8 @@ use std::alloc::Global;
 use std::sync::Wait;
 use std::thread::Threads;
 
-/// Reads the words, which hold no program name, and answers the command that they are: puts its output, or the one line that
-/// says why there is none, and gives the status to end with.
+/// Reads the words, which hold no program name, and answers the command that they are: puts its output, or the one line
+/// that says why there is none, and gives the status to end with.
 #[tactic(auto, using(crate::proofs::Words::asked_late, crate::proofs::Words::asked_usage, crate::proofs::Words::shows_task, crate::proofs::Words::asked_task))]
 pub fn tlsld<R: Threads + Wait + Sync, S: Store, K: Sink>(
     _rt: &R,
@@ -47,7 +47,8 @@ pub fn tlsld_plain<S: Store, K: Sink>(alloc: Global, task: &Task, store: &mut S,
     ensures sink { SinkShown (K.view out.old).faults (K.view out.new).faults result }
     ensures files { S.files store.new ≡ S.files store.old }
     ensures shows { Shows (S.files store.old) task.now (K.view out.old) (K.view out.new) result }
-    ensures asked { IfSome (S.files store.old) (λ fs. Asked fs task.now (S.asked store.old) (S.asked store.new) result) }
+    ensures asked { IfSome (S.files store.old)
+        (λ fs. Asked fs task.now (S.asked store.old) (S.asked store.new) result) }
 {
     let answer = answer(alloc, task, store);
     deliver(out, &answer)

@@ -299,12 +299,18 @@ pub(super) fn text_of(instr: Instr, next: u64) -> Text {
     match instr.operation {
         Operation::Move { width, operands } => two("mov", width, operands, instr),
         Operation::StoreByte { to, from } => line("movb", "", Part::Name(byte_name(from)), memory(to, d)),
-        Operation::ExtendByte { width, to, from } => line("movzb", suffix(width), byte_operand(from, d), named(to, width)),
+        Operation::ExtendByte { width, to, from } => {
+            line("movzb", suffix(width), byte_operand(from, d), named(to, width))
+        }
         Operation::ExtendLong { to, from } => line("movslq", "", operand(from, Long, d), named(to, Quad)),
         Operation::LoadAddress { width, to, from } => line("lea", suffix(width), memory(from, d), named(to, width)),
         Operation::Compute { arithmetic, width, operands } => two(arithmetic_name(arithmetic), width, operands, instr),
-        Operation::Test { width, left, right } => line("test", suffix(width), named(right, width), operand(left, width, d)),
-        Operation::Multiply { width, to, from } => line("imul", suffix(width), operand(from, width, d), named(to, width)),
+        Operation::Test { width, left, right } => {
+            line("test", suffix(width), named(right, width), operand(left, width, d))
+        }
+        Operation::Multiply { width, to, from } => {
+            line("imul", suffix(width), operand(from, width, d), named(to, width))
+        }
         Operation::Shift { shift, width, to, count } => {
             line(shift_name(shift), suffix(width), Part::Number(count as u64), operand(to, width, d))
         }
@@ -313,7 +319,9 @@ pub(super) fn text_of(instr: Instr, next: u64) -> Text {
         Operation::Leave => line("leaveq", "", Part::Nothing, Part::Nothing),
         Operation::Call { target } => jump("callq", target, d, next),
         Operation::Jump { target } => jump("jmpq", target, d, next),
-        Operation::JumpIf { condition, distance } => jump(condition_name(condition), Target::Relative(distance), d, next),
+        Operation::JumpIf { condition, distance } => {
+            jump(condition_name(condition), Target::Relative(distance), d, next)
+        }
         Operation::Return => line("retq", "", Part::Nothing, Part::Nothing),
         Operation::Nop { operand: None } => line("nop", "", Part::Nothing, Part::Nothing),
         Operation::Nop { operand: Some(of) } => line("nop", "", operand(of, Long, d), Part::Nothing),

@@ -22,7 +22,8 @@ const RELOCATION_LIMIT: u64 = 1 << 19;
 const GET_ADDRESS: &[u8] = b"__tls_get_addr";
 
 /// Whether the path takes an object: it has at most 1,024 symbols with names of at most 255 bytes, no GLOBAL name
-/// twice, none `__tls_get_addr`, at most 2^19 relocations, and linking takes each of them. The only error is want of memory.
+/// twice, none `__tls_get_addr`, at most 2^19 relocations, and linking takes each of them. The only error is want of
+/// memory.
 #[tactic(auto, unfolding(crate::specs::SmallObjects::is_small_object))]
 pub fn is_small_object(alloc: Global, object: &Object) -> Result<bool, AllocError>
     ensures { IfOk result (λ small. small ≡ is_small_object object.now) }

@@ -19,7 +19,8 @@ use thread_blocks::{Call, run_call};
 use tls_layout::{Placement, place};
 use transcript_text::{LineRefusal, Outcome};
 
-/// What a small job comes to over the bytes of its object: the one line of its one thread, or why the object is refused.
+/// What a small job comes to over the bytes of its object: the one line of its one thread, or why the object is
+/// refused.
 ///
 /// `job.fuel` is the number of steps that the call may take, below 2^32.
 pub fn run_small(alloc: Global, job: &SmallJob, bytes: &[u8]) -> Result<Outcome, ObjectRefusal>
