@@ -93,8 +93,7 @@ module _ {M M' B B' : Type 0} (mark : ℕ → Mark) (acc : Accesses M B) (acc' :
       (λ a e. code-as_long n (next_place place) (behind n place same) (λ short. later (acc.code m place) a e odd short))
     where
       at_end : (o : Option ℕ) → o ≡ None
-          → (length (code_then o (code_at acc m (next_place place) n)) < suc n
-          → NotOdd (mark (place_at place (length (code_then o (code_at acc m (next_place place) n))))))
+          → (length (code_then o (code_at acc m (next_place place) n)) < suc n → NotOdd (mark (place_at place (length (code_then o (code_at acc m (next_place place) n))))))
           → NotOdd (mark place)
       at_end None e odd = odd (omega arith)
       at_end (Some a) e odd = absurd cc

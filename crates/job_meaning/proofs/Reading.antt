@@ -40,8 +40,8 @@ front-begins bytes d k e low =
 -- what is spelled is spelled with more bytes behind
 pub spelled-more : (bytes tail : List ℕ) (d : Decoded) → decoded bytes ≡ Some d → decoded (bytes ++ tail) ≡ Some d
 spelled-more bytes tail d e =
-    let split : take d.len bytes ++ (drop d.len bytes ++ tail) ≡ bytes ++ tail =
-    sym (append_assoc (take d.len bytes) (drop d.len bytes) tail) ∙ ap (λ (l : List ℕ). l ++ tail) (take-append-drop d.len bytes) in
+    let one_list = append_assoc (take d.len bytes) (drop d.len bytes) tail in
+    let split : take d.len bytes ++ (drop d.len bytes ++ tail) ≡ bytes ++ tail = sym one_list ∙ ap (λ (l : List ℕ). l ++ tail) (take-append-drop d.len bytes) in
     rw (← split) (front_lem bytes (drop d.len bytes ++ tail) d e)
 
 -- what is spelled without the bytes behind

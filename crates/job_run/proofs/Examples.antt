@@ -104,7 +104,9 @@ goes_nowhere = refl
 
 -- a page of code: 4,095 nops and a REX prefix, at which the call begins, right before the room
 page : meant_said Event 0x401000 (loaded_by Value (record (image (replicate 4095 0x90 ++ 0x48 ∷ [])) {
-        constants = record { place = 0x400000; bytes = [] }; initial = record { place = 0x400000; bytes = [] } })
+  constants = record { place = 0x400000; bytes = [] };
+  initial = record { place = 0x400000; bytes = [] };
+})
     (λ symbol. Some 0x400fff)) 1 1 line ≡ ends (Code 0x400fff)
 unfolding said
 page = refl

@@ -1,9 +1,9 @@
 -- What is loaded of an image is what its objects mean: byte by byte, and as code.
-use Rattle.std.proofs.Common.{◌≡◌, ℕ, zero, suc, ◌-◌, ◌<◌, Bool, true, false, List, [], ◌∷◌, ◌++◌, length, map, Option, Some, None, refl, sym, subst, ◌∙◌, arith}
+use Rattle.std.proofs.Common.{◌≡◌, ℕ, zero, suc, ◌-◌, ◌<◌, Bool, true, false, List, [], ◌∷◌, length, map, Option, Some, None, refl, sym, subst, ◌∙◌, arith}
 use Rattle.std.specs.Prelude.{if◌then◌else◌, slice_get, option_and_then}
 use Rattle.std.specs.List.{All}
 use Rattle.std.specs.Option.{option_map}
-use Rattle.std.proofs.lemmas.List.{length-map, map-id}
+use Rattle.std.proofs.lemmas.List.{length-map}
 use Rattle.std.proofs.lemmas.Option.{slice_get-map}
 use Rattle.guest_machine.specs.declared.space.Access.TheVariants.{Read, Write, Run}
 use Rattle.guest_machine.specs.Follow.{All2}
@@ -12,18 +12,15 @@ use Rattle.job_meaning.specs.declared.values.Byte.{Byte}
 use Rattle.job_meaning.specs.declared.values.Byte.TheVariants.{Value}
 use Rattle.job_meaning.specs.Marked.{code_byte}
 use Rattle.job_meaning.specs.Same.{SameByte}
-use Rattle.link_core.specs.Laws.{AreLinked}
-use Rattle.link_core.specs.Meant.{meant_image}
 use Rattle.link_core.specs.Parts.{Image, image_of}
 use Rattle.link_core.proofs.Meant.{images_meant}
-use Rattle.link_faults.specs.declared.image_kind.ImageKind.{ImageKind}
 use Rattle.tls_layout.specs.Sections.{layout_of}
 use Rattle.tls_relocs.specs.Laid.{Placed}
-use Rattle.thread_blocks.specs.MachineTurns.{pointer_of, zeros}
+use Rattle.thread_blocks.specs.MachineTurns.{zeros}
 use Rattle.thread_blocks.specs.Spaces.{SameRange}
 use Rattle.thread_blocks.proofs.Spaces.{all2-append, byte_in-same}
 use Rattle.job_run.specs.Linked.{nothing, SameBytes, IsLinked}
-use Rattle.job_run.specs.Loading.{code_range, block_bytes, loaded_by, machine_loaded, meaning_loaded, HasBytes}
+use Rattle.job_run.specs.Loading.{code_range, block_bytes, loaded_by, machine_loaded, HasBytes}
 use Rattle.job_run.specs.Statements.{ImagesAreLinked}
 
 -- ** bytes

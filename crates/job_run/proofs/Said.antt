@@ -14,7 +14,7 @@ use Rattle.job_meaning.specs.Same.{same}
 use Rattle.job_meaning.proofs.Running.{meaning_simulated}
 use Rattle.job_meaning.proofs.Same.{marked_follows}
 use Rattle.module_table.specs.declared.events.Event.{Event}
-use Rattle.thread_blocks.specs.MachineTurns.{Loaded, CallLine, fixed_of, begun_call, begin_call, machine_turns, call_said, SameRun, SameRest}
+use Rattle.thread_blocks.specs.MachineTurns.{Loaded, CallLine, begun_call, begin_call, machine_turns, call_said, SameRun, SameRest}
 use Rattle.thread_blocks.specs.Spaces.{NoneRunnable, SameRange, no_field}
 use Rattle.thread_blocks.specs.Turns.{Begun, Says, Calls, Thread, ready, turns}
 use Rattle.thread_blocks.specs.TurnsAlike.{SameBegun, IsAlike, Level, SameThread, Rises, IsGrowing, AllFine}
