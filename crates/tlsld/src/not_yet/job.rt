@@ -30,7 +30,13 @@ impl<'a> Model for SmallJob<'a> {
     ghost Value = { Small };
 
     ghost view = { λ job. record {
-        object = job.object.now; symbol = job.symbol.now; a = job.a; b = job.b; c = job.c; fuel = job.fuel } };
+      object = job.object.now;
+      symbol = job.symbol.now;
+      a = job.a;
+      b = job.b;
+      c = job.c;
+      fuel = job.fuel;
+    } };
 }
 
 /// The small job that this is, if it is one: its lines are `image NAME exe OBJ` and `1 call NAME SYM A B C`, with any
