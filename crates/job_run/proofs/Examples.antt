@@ -49,6 +49,13 @@ image code = record {
   block_offset = 4;
 }
 
+-- an image of code and no constants or first bytes
+abbrev code_alone : List ℕ → Image
+code_alone code = record (image code) {
+  constants = record { place = 0x400000; bytes = [] };
+  initial = record { place = 0x400000; bytes = [] };
+}
+
 -- each name is that of the one function
 abbrev entry : List ℕ → Option ℕ
 entry symbol = Some 0x400000
@@ -103,11 +110,8 @@ unfolding said
 goes_nowhere = refl
 
 -- a page of code: 4,095 nops and a REX prefix, at which the call begins, right before the room
-page : meant_said Event 0x401000 (loaded_by Value (record (image (replicate 4095 0x90 ++ 0x48 ∷ [])) {
-  constants = record { place = 0x400000; bytes = [] };
-  initial = record { place = 0x400000; bytes = [] };
-})
-    (λ symbol. Some 0x400fff)) 1 1 line ≡ ends (Code 0x400fff)
+page : meant_said Event 0x401000 (loaded_by Value (code_alone (replicate 4095 0x90 ++ 0x48 ∷ [])) (λ symbol. Some 0x400fff)) 1 1 line
+    ≡ ends (Code 0x400fff)
 unfolding said
 page = refl
 

@@ -33,8 +33,7 @@ is_small (negsuc n) = nat_lt n (2 ^ 20)
 
 -- a TPOFF32 field of a GLOBAL variable in the object's own thread-local storage, with a small addend
 abbrev pub is_taken : List ℕ → Relocation → Bool
-is_taken b r =
-    is_tpoff r.kind && (same_binding Global (symbol_binding b r.symbol)
+is_taken b r = is_tpoff r.kind && (same_binding Global (symbol_binding b r.symbol)
     && (is_own_variable b (symbol_place b r.symbol) && is_small r.addend))
 
 -- all relocations of section s

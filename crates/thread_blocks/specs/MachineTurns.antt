@@ -166,8 +166,7 @@ shown said = option_map (λ outcome. record { points = said.points; outcome = ou
 
 -- what a thread says that has one line, which sees no event
 unfoldable pub call_said : (E : Type 0) → Loaded ℕ → ℕ → ℕ → CallLine → List Said
-call_said E loaded thread fuel line =
-    (turn (machine_turns {E = E} loaded thread fuel)
+call_said E loaded thread fuel line = (turn (machine_turns {E = E} loaded thread fuel)
     (ready (thread_start plain_operations loaded thread) (line ∷ [])) []).said
 
 -- ---- two threads, one over values of each kind
