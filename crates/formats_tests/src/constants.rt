@@ -1,5 +1,5 @@
-//! Every number of the file format that has a name, beside the number itself (gABI; psABI). Definitions cite the names,
-//! so a wrong number would prove.
+//! Every number of the file format that has a name, beside the number itself (gABI; psABI). Definitions cite the names, so a wrong
+//! number would prove.
 
 use elf_records::dynamic::{
     DF_1_PIE, DF_STATIC_TLS, DT_FLAGS, DT_FLAGS_1, DT_HASH, DT_NULL, DT_RELA, DT_RELAENT,
@@ -26,135 +26,189 @@ use elf_records::symbol::{
 };
 use elf_records::{DynamicEntry, Header, Rela, SectionHeader, Segment, SymbolEntry};
 
-#[test]
-fn numbers_of_files(rt: HostRuntime) {
-    assert_eq!(rt; [ET_REL, ET_EXEC, ET_DYN], [1, 2, 3]);
-    assert_eq!(rt; EM_X86_64, 62);
-    assert_eq!(rt; EV_CURRENT, 1);
-}
+// Numbers of files.
+const _: () = prove!(ET_REL == 1);
 
-#[test]
-fn numbers_of_sections(rt: HostRuntime) {
-    assert_eq!(rt;
-        [
-            SHT_NULL,
-            SHT_PROGBITS,
-            SHT_SYMTAB,
-            SHT_STRTAB,
-            SHT_RELA,
-            SHT_NOTE,
-            SHT_NOBITS,
-            SHT_REL,
-            SHT_GROUP,
-            SHT_SYMTAB_SHNDX,
-            SHT_X86_64_UNWIND
-        ],
-        [0, 1, 2, 3, 4, 7, 8, 9, 17, 18, 0x7000_0001]
-    );
-    assert_eq!(rt;
-        [
-            SHF_WRITE,
-            SHF_ALLOC,
-            SHF_EXECINSTR,
-            SHF_MERGE,
-            SHF_STRINGS,
-            SHF_TLS
-        ],
-        [0x1, 0x2, 0x4, 0x10, 0x20, 0x400]
-    );
-}
+const _: () = prove!(ET_EXEC == 2);
 
-#[test]
-fn numbers_of_symbols(rt: HostRuntime) {
-    assert_eq!(rt; [STB_LOCAL, STB_GLOBAL, STB_WEAK], [0, 1, 2]);
-    assert_eq!(rt;
-        [
-            STT_NOTYPE,
-            STT_OBJECT,
-            STT_FUNC,
-            STT_SECTION,
-            STT_FILE,
-            STT_COMMON,
-            STT_TLS,
-            STT_GNU_IFUNC
-        ],
-        [0, 1, 2, 3, 4, 5, 6, 10]
-    );
-    assert_eq!(rt;
-        [STV_DEFAULT, STV_INTERNAL, STV_HIDDEN, STV_PROTECTED],
-        [0, 1, 2, 3]
-    );
-    assert_eq!(rt;
-        [SHN_UNDEF, SHN_LORESERVE, SHN_ABS, SHN_COMMON, SHN_XINDEX],
-        [0, 0xff00, 0xfff1, 0xfff2, 0xffff]
-    );
-}
+const _: () = prove!(ET_DYN == 3);
 
-#[test]
-fn numbers_of_relocations(rt: HostRuntime) {
-    assert_eq!(rt;
-        [
-            R_X86_64_NONE,
-            R_X86_64_64,
-            R_X86_64_PC32,
-            R_X86_64_PLT32,
-            R_X86_64_JUMP_SLOT,
-            R_X86_64_RELATIVE,
-            R_X86_64_GOTPCREL,
-            R_X86_64_32,
-            R_X86_64_32S,
-            R_X86_64_DTPMOD64,
-            R_X86_64_DTPOFF64,
-            R_X86_64_TPOFF64,
-            R_X86_64_TLSGD,
-            R_X86_64_TLSLD,
-            R_X86_64_DTPOFF32,
-            R_X86_64_GOTTPOFF,
-            R_X86_64_TPOFF32,
-            R_X86_64_GOTPC32_TLSDESC,
-            R_X86_64_TLSDESC_CALL,
-            R_X86_64_TLSDESC,
-            R_X86_64_GOTPCRELX,
-            R_X86_64_REX_GOTPCRELX
-        ],
-        [
-            0, 1, 2, 4, 7, 8, 9, 10, 11, 16, 17, 18, 19, 20, 21, 22, 23, 34, 35, 36, 41, 42
-        ]
-    );
-}
+const _: () = prove!(EM_X86_64 == 62);
 
-#[test]
-fn numbers_of_segments(rt: HostRuntime) {
-    assert_eq!(rt;
-        [PT_LOAD, PT_DYNAMIC, PT_TLS, PT_GNU_RELRO],
-        [1, 2, 7, 0x6474_e552]
-    );
-    assert_eq!(rt; [PF_X, PF_W, PF_R], [1, 2, 4]);
-}
+const _: () = prove!(EV_CURRENT == 1);
 
-#[test]
-fn numbers_of_dynamic_entries(rt: HostRuntime) {
-    assert_eq!(rt;
-        [
-            DT_NULL, DT_HASH, DT_STRTAB, DT_SYMTAB, DT_RELA, DT_RELASZ, DT_RELAENT, DT_STRSZ,
-            DT_SYMENT, DT_FLAGS, DT_FLAGS_1
-        ],
-        [0, 4, 5, 6, 7, 8, 9, 10, 11, 30, 0x6fff_fffb]
-    );
-    assert_eq!(rt; [DF_STATIC_TLS, DF_1_PIE], [0x10, 0x0800_0000]);
-}
+// Numbers of sections.
+const _: () = prove!(SHT_NULL == 0);
 
-#[test]
-fn sizes_of_records(rt: HostRuntime) {
-    assert_eq!(rt;
-        [
-            Header::SIZE,
-            SectionHeader::SIZE,
-            SymbolEntry::SIZE,
-            Rela::SIZE,
-            Segment::SIZE,
-            DynamicEntry::SIZE
-        ],
-        [64, 64, 24, 24, 56, 16]
-    );
-}
+const _: () = prove!(SHT_PROGBITS == 1);
+
+const _: () = prove!(SHT_SYMTAB == 2);
+
+const _: () = prove!(SHT_STRTAB == 3);
+
+const _: () = prove!(SHT_RELA == 4);
+
+const _: () = prove!(SHT_NOTE == 7);
+
+const _: () = prove!(SHT_NOBITS == 8);
+
+const _: () = prove!(SHT_REL == 9);
+
+const _: () = prove!(SHT_GROUP == 17);
+
+const _: () = prove!(SHT_SYMTAB_SHNDX == 18);
+
+const _: () = prove!(SHT_X86_64_UNWIND == 0x7000_0001);
+
+const _: () = prove!(SHF_WRITE == 0x1);
+
+const _: () = prove!(SHF_ALLOC == 0x2);
+
+const _: () = prove!(SHF_EXECINSTR == 0x4);
+
+const _: () = prove!(SHF_MERGE == 0x10);
+
+const _: () = prove!(SHF_STRINGS == 0x20);
+
+const _: () = prove!(SHF_TLS == 0x400);
+
+// Numbers of symbols.
+const _: () = prove!(STB_LOCAL == 0);
+
+const _: () = prove!(STB_GLOBAL == 1);
+
+const _: () = prove!(STB_WEAK == 2);
+
+const _: () = prove!(STT_NOTYPE == 0);
+
+const _: () = prove!(STT_OBJECT == 1);
+
+const _: () = prove!(STT_FUNC == 2);
+
+const _: () = prove!(STT_SECTION == 3);
+
+const _: () = prove!(STT_FILE == 4);
+
+const _: () = prove!(STT_COMMON == 5);
+
+const _: () = prove!(STT_TLS == 6);
+
+const _: () = prove!(STT_GNU_IFUNC == 10);
+
+const _: () = prove!(STV_DEFAULT == 0);
+
+const _: () = prove!(STV_INTERNAL == 1);
+
+const _: () = prove!(STV_HIDDEN == 2);
+
+const _: () = prove!(STV_PROTECTED == 3);
+
+const _: () = prove!(SHN_UNDEF == 0);
+
+const _: () = prove!(SHN_LORESERVE == 0xff00);
+
+const _: () = prove!(SHN_ABS == 0xfff1);
+
+const _: () = prove!(SHN_COMMON == 0xfff2);
+
+const _: () = prove!(SHN_XINDEX == 0xffff);
+
+// Numbers of relocations.
+const _: () = prove!(R_X86_64_NONE == 0);
+
+const _: () = prove!(R_X86_64_64 == 1);
+
+const _: () = prove!(R_X86_64_PC32 == 2);
+
+const _: () = prove!(R_X86_64_PLT32 == 4);
+
+const _: () = prove!(R_X86_64_JUMP_SLOT == 7);
+
+const _: () = prove!(R_X86_64_RELATIVE == 8);
+
+const _: () = prove!(R_X86_64_GOTPCREL == 9);
+
+const _: () = prove!(R_X86_64_32 == 10);
+
+const _: () = prove!(R_X86_64_32S == 11);
+
+const _: () = prove!(R_X86_64_DTPMOD64 == 16);
+
+const _: () = prove!(R_X86_64_DTPOFF64 == 17);
+
+const _: () = prove!(R_X86_64_TPOFF64 == 18);
+
+const _: () = prove!(R_X86_64_TLSGD == 19);
+
+const _: () = prove!(R_X86_64_TLSLD == 20);
+
+const _: () = prove!(R_X86_64_DTPOFF32 == 21);
+
+const _: () = prove!(R_X86_64_GOTTPOFF == 22);
+
+const _: () = prove!(R_X86_64_TPOFF32 == 23);
+
+const _: () = prove!(R_X86_64_GOTPC32_TLSDESC == 34);
+
+const _: () = prove!(R_X86_64_TLSDESC_CALL == 35);
+
+const _: () = prove!(R_X86_64_TLSDESC == 36);
+
+const _: () = prove!(R_X86_64_GOTPCRELX == 41);
+
+const _: () = prove!(R_X86_64_REX_GOTPCRELX == 42);
+
+// Numbers of segments.
+const _: () = prove!(PT_LOAD == 1);
+
+const _: () = prove!(PT_DYNAMIC == 2);
+
+const _: () = prove!(PT_TLS == 7);
+
+const _: () = prove!(PT_GNU_RELRO == 0x6474_e552);
+
+const _: () = prove!(PF_X == 1);
+
+const _: () = prove!(PF_W == 2);
+
+const _: () = prove!(PF_R == 4);
+
+// Numbers of dynamic entries.
+const _: () = prove!(DT_NULL == 0);
+
+const _: () = prove!(DT_HASH == 4);
+
+const _: () = prove!(DT_STRTAB == 5);
+
+const _: () = prove!(DT_SYMTAB == 6);
+
+const _: () = prove!(DT_RELA == 7);
+
+const _: () = prove!(DT_RELASZ == 8);
+
+const _: () = prove!(DT_RELAENT == 9);
+
+const _: () = prove!(DT_STRSZ == 10);
+
+const _: () = prove!(DT_SYMENT == 11);
+
+const _: () = prove!(DT_FLAGS == 30);
+
+const _: () = prove!(DT_FLAGS_1 == 0x6fff_fffb);
+
+const _: () = prove!(DF_STATIC_TLS == 0x10);
+
+const _: () = prove!(DF_1_PIE == 0x0800_0000);
+
+// Sizes of records.
+const _: () = prove!(Header::SIZE == 64);
+
+const _: () = prove!(SectionHeader::SIZE == 64);
+
+const _: () = prove!(SymbolEntry::SIZE == 24);
+
+const _: () = prove!(Rela::SIZE == 24);
+
+const _: () = prove!(Segment::SIZE == 56);
+
+const _: () = prove!(DynamicEntry::SIZE == 16);

@@ -112,41 +112,6 @@ fn repeated(alloc: Global, text: &str, count: usize) -> Result<String, Fail> {
 }
 
 #[test]
-fn takes_64_images(rt: HostRuntime) -> Result<(), Fail> {
-    let alloc = rt.alloc();
-    let mut images = String::new(alloc);
-    for number in 0..64 {
-        write!(images, "image i{number} late a.o\n")?;
-    }
-    let found = fault_text(alloc, images.as_str())?;
-    assert_eq!(rt; found.as_str(), "0 NoExe");
-    images.push_str("image app exe a/b\n")?;
-    let found = fault_text(alloc, images.as_str())?;
-    assert_eq!(rt; found.as_str(), "65 Count");
-    Ok(())
-}
-
-#[test]
-fn takes_names_up_to_their_limits(rt: HostRuntime) -> Result<(), Fail> {
-    let alloc = rt.alloc();
-    let name = repeated(alloc, "n", 64)?;
-    let object = repeated(alloc, "/", 255)?;
-    let good = format!(in alloc; "image {name} exe a.o {object}\n1 call {name} {object} 0 0 0\n")?;
-    let found = fault_text(alloc, good.as_str())?;
-    assert_eq!(rt; found.as_str(), "");
-    for (front, back) in [
-        ("image n", " exe a.o"),
-        ("image app exe a.o n", " b.o"),
-        ("image app exe a.o /", ""),
-    ] {
-        let long = format!(in alloc; "{front}{name}{name}{name}{name}{back}\n")?;
-        let found = fault_text(alloc, long.as_str())?;
-        assert_eq!(rt; found.as_str(), "1 Name", "in {long:?}");
-    }
-    Ok(())
-}
-
-#[test]
 fn takes_65536_lines(rt: HostRuntime) -> Result<(), Fail> {
     let alloc = rt.alloc();
     let mut lines = repeated(alloc, "\n", 65_535)?;

@@ -7,7 +7,6 @@
 
 #[cfg(test)]
 mod built_objects;
-#[cfg(test)]
 mod constants;
 #[cfg(test)]
 mod jobs;
