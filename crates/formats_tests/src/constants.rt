@@ -1,5 +1,5 @@
-//! Every number of the file format that has a name, beside the number itself (gABI; psABI). Definitions cite the names, so a wrong
-//! number would prove.
+//! Every number of the file format that has a name, beside the number itself (gABI; psABI). Definitions cite the names, so a
+//! wrong number would prove; here it is refused where the crate is built.
 
 use elf_records::dynamic::{
     DF_1_PIE, DF_STATIC_TLS, DT_FLAGS, DT_FLAGS_1, DT_HASH, DT_NULL, DT_RELA, DT_RELAENT,
