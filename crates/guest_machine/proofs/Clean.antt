@@ -12,7 +12,8 @@ use Rattle.amd64_subset.specs.declared.instr.Decoded.{Decoded}
 use Rattle.amd64_subset.specs.declared.instr.Target.{Target}
 use Rattle.amd64_subset.specs.declared.instr.Target.TheVariants.{Relative, Indirect}
 use Rattle.amd64_subset.specs.declared.instr.Operation.{Operation}
-use Rattle.amd64_subset.specs.declared.instr.Operation.TheVariants.{Move, StoreByte, ExtendByte, ExtendLong, LoadAddress, Compute, Test, Multiply, Shift as ShiftBy, Push, Pop, Leave, Call, Jump, JumpIf, Return, Nop, Undefined}
+use Rattle.amd64_subset.specs.declared.instr.Operation.TheVariants.{Move, StoreByte, ExtendByte, ExtendLong, LoadAddress, Compute, Test, Multiply, Shift as ShiftBy, Push, Pop, Leave, Call, Jump}
+use Rattle.amd64_subset.specs.declared.instr.Operation.TheVariants.{JumpIf, Return, Nop, Undefined}
 use Rattle.amd64_subset.specs.declared.operand.Base.{Base}
 use Rattle.amd64_subset.specs.declared.operand.Base.TheVariants.{Absolute, NextInstruction, Register as OfRegister}
 use Rattle.amd64_subset.specs.declared.operand.Index.{Index}
@@ -24,24 +25,27 @@ use Rattle.amd64_subset.specs.declared.operand.Operands.TheVariants.{IntoRegiste
 use Rattle.amd64_subset.specs.Decoding.{decoded}
 use Rattle.guest_arithmetic.specs.declared.cause.Cause.{Cause}
 use Rattle.guest_arithmetic.specs.declared.effect.Effect.{Effect}
-use Rattle.guest_machine.specs.declared.frame.Frame.{Frame}
-use Rattle.guest_machine.specs.declared.slot.Slot.{Slot}
-use Rattle.guest_machine.specs.declared.slot.Slot.TheVariants.{Place, Register as OfSlot}
+use Rattle.guest_operands.specs.declared.frame.Frame.{Frame}
+use Rattle.guest_operands.specs.declared.slot.Slot.{Slot}
+use Rattle.guest_operands.specs.declared.slot.Slot.TheVariants.{Place, Register as OfSlot}
 use Rattle.guest_arithmetic.specs.declared.flags.Flags.{Flags}
-use Rattle.guest_machine.specs.declared.state.Registers.{Registers}
-use Rattle.guest_machine.specs.declared.state.State.{State}
-use Rattle.guest_machine.specs.declared.stop.Stop.{Stop}
-use Rattle.guest_machine.specs.declared.space.Access.TheVariants.{Read, Write}
-use Rattle.guest_machine.specs.Access.{Refusal, Refused, Shut, Accesses, next_place, both_reached, reached, cons, bytes_from, bytes_at, all_write, put_all, load_of, store_of, fetch_of}
+use Rattle.guest_operands.specs.declared.state.Registers.{Registers}
+use Rattle.guest_operands.specs.declared.state.State.{State}
+use Rattle.guest_operands.specs.declared.stop.Stop.{Stop}
+use Rattle.guest_operands.specs.declared.space.Access.TheVariants.{Read, Write}
+use Rattle.guest_operands.specs.Access.{Refusal, Refused, Shut, Accesses, next_place, both_reached, reached, cons, bytes_from, bytes_at, all_write, put_all, load_of, store_of, fetch_of}
 use Rattle.guest_machine.specs.Clean.{IsClean, PlainIsClean}
 use Rattle.guest_arithmetic.specs.Flags.{is_less, is_less_or_equal, is_below_or_equal, condition_of}
 use Rattle.guest_arithmetic.specs.Cause.{used, both}
-use Rattle.guest_machine.specs.Operand.{size_of, charged, unmoved, moved_by, base_of, index_of, address_of, number_at, carried, weighed, taken_at, taken, put}
+use Rattle.guest_operands.specs.Operand.{size_of, charged, unmoved, moved_by, base_of, index_of, address_of, number_at, carried, weighed, taken_at, taken, put}
 use Rattle.guest_arithmetic.specs.Plain.{plain_operations}
-use Rattle.guest_machine.specs.Ranges.{byte_in, range_accesses, is_field_of}
+use Rattle.guest_operands.specs.Ranges.{byte_in, range_accesses, is_field_of}
 use Rattle.guest_machine.specs.Run.{Next, Goes, Ends, Looks, Outcome, run, over_or, go_on, next_of, returned, is_look, machine, stop_of}
-use Rattle.guest_machine.specs.Step.{immediate_of, is_cleared, nop_use, finished, concluded, move_in, stored, store_byte, move_number, move_of, extend_byte, extend_long, load_address, compute_in, compute_out, add_field, compute_plain, compute_number, compute_of, test_of, multiply_of, shift_of, pushed, push_of, pop_of, leave_of, return_of, call_of, jump_of, jump_if, nop_of, act, frame_of, act_if, step_of}
-use Rattle.guest_machine.specs.Use.{◌>>=◌, clean, there, After, left}
+use Rattle.guest_operands.specs.Frame.{frame_of}
+use Rattle.guest_machine.specs.Step.{immediate_of, is_cleared, nop_use, finished, concluded, move_in, stored, store_byte, move_number, move_of, extend_byte, extend_long, load_address, compute_in}
+use Rattle.guest_machine.specs.Step.{compute_out, add_field, compute_plain, compute_number, compute_of, test_of, multiply_of, shift_of, pushed, push_of, pop_of, leave_of, return_of, call_of, jump_of}
+use Rattle.guest_machine.specs.Step.{jump_if, nop_of, act, act_if, step_of}
+use Rattle.guest_operands.specs.Use.{◌>>=◌, clean, there, After, left}
 use Rattle.guest_arithmetic.specs.Values.{Operations}
 
 abbrev IsUsed : {A : Type 0} → Result A Cause → Type 0
@@ -151,7 +155,8 @@ module _ {W F B M : Type 0} (ops : Operations W F B) (acc : Accesses M B) (alway
 
   address-is : (f : Frame) (s : State W F) (memory : Memory) → IsUsed (address_of ops f s memory)
   unfolding address_of
-  address-is f s memory = used-is _ _ (charged-is f.displacement_field _ (both-are _ _ (base-is f.displacement_field f.displacement f.next s.registers memory.base) (index-is s.registers memory.index)))
+  address-is f s memory =
+      used-is _ _ (charged-is f.displacement_field _ (both-are _ _ (base-is f.displacement_field f.displacement f.next s.registers memory.base) (index-is s.registers memory.index)))
 
   number-is : (width : Width) (w : W) → IsUsed (number_at ops width w)
   unfolding number_at

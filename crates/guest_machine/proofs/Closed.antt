@@ -1,6 +1,6 @@
 -- Related memories stay so where some bytes of the first are closed.
 use Rattle.std.proofs.Common.{◌≡◌, ℕ, Bool, true, false, Result, Ok, Err, refl}
-use Rattle.guest_machine.specs.Access.{Refusal, Accesses, unless_shut, closed}
+use Rattle.guest_operands.specs.Access.{Refusal, Accesses, unless_shut, closed}
 use Rattle.guest_machine.specs.Follow.{Reaches, Alike, IsKept}
 
 reaches-unless : {A A' : Type 0} (R : A → A' → Type 0) (b : Bool) (r : Result A Refusal) (r' : Result A' Refusal) → Reaches R r r' → Reaches R (unless_shut b r) r'

@@ -10,18 +10,18 @@ use Rattle.amd64_subset.specs.declared.operand.Base.TheVariants.{Absolute, NextI
 use Rattle.amd64_subset.specs.declared.operand.Index.{Index}
 use Rattle.amd64_subset.specs.declared.operand.Memory.{Memory}
 use Rattle.guest_arithmetic.specs.declared.cause.Cause.{Cause}
-use Rattle.guest_machine.specs.declared.frame.Frame.{Frame}
-use Rattle.guest_machine.specs.declared.state.Registers.{Registers}
-use Rattle.guest_machine.specs.declared.state.State.{State}
-use Rattle.guest_machine.specs.declared.stop.Stop.{Stop}
-use Rattle.guest_machine.specs.declared.stop.Stop.TheVariants.{Returned, Look, Address, Code, Unclean, Steps}
-use Rattle.guest_machine.specs.Access.{Refusal, Refused, Shut}
+use Rattle.guest_operands.specs.declared.frame.Frame.{Frame}
+use Rattle.guest_operands.specs.declared.state.Registers.{Registers}
+use Rattle.guest_operands.specs.declared.state.State.{State}
+use Rattle.guest_operands.specs.declared.stop.Stop.{Stop}
+use Rattle.guest_operands.specs.declared.stop.Stop.TheVariants.{Returned, Look, Address, Code, Unclean, Steps}
+use Rattle.guest_operands.specs.Access.{Refusal, Refused, Shut}
 use Rattle.guest_arithmetic.specs.Arithmetic.{low}
 use Rattle.guest_machine.specs.Follow.{Uses, Reaches, Follows, Alike, IsFollowed, SameRegisters, SameState, SameFrame}
 use Rattle.guest_arithmetic.specs.Cause.{used, both}
-use Rattle.guest_machine.specs.Operand.{factor_of, charged, carried_as, unmoved, moved_by, base_of, index_of, address_of, kept, kept_byte, number_at}
-use Rattle.guest_machine.specs.State.{register_of, with_register, with_word, with_stack, at_place}
-use Rattle.guest_machine.specs.Use.{◌>>=◌, plus, clean, there}
+use Rattle.guest_operands.specs.Operand.{factor_of, charged, carried_as, unmoved, moved_by, base_of, index_of, address_of, kept, kept_byte, number_at}
+use Rattle.guest_operands.specs.State.{register_of, with_register, with_word, with_stack, at_place}
+use Rattle.guest_operands.specs.Use.{◌>>=◌, plus, clean, there}
 use Rattle.guest_arithmetic.specs.Values.{Operations}
 
 -- ** stops
@@ -124,25 +124,50 @@ module _ {W F B W' F' B' : Type 0} (same : Alike W F B W' F' B') where
   same_register r r' h R14 = h.r14
   same_register r r' h R15 = h.r15
 
+  -- each register of the one is related to that of the other
+  pub all_registers : (r : Registers W) (r' : Registers W')
+      → same.word r.rax r'.rax → same.word r.rcx r'.rcx → same.word r.rdx r'.rdx → same.word r.rbx r'.rbx → same.word r.rsp r'.rsp → same.word r.rbp r'.rbp
+      → same.word r.rsi r'.rsi → same.word r.rdi r'.rdi → same.word r.r8 r'.r8 → same.word r.r9 r'.r9 → same.word r.r10 r'.r10
+      → same.word r.r11 r'.r11 → same.word r.r12 r'.r12 → same.word r.r13 r'.r13 → same.word r.r14 r'.r14 → same.word r.r15 r'.r15
+      → SameRegisters same r r'
+  all_registers r r' x0 x1 x2 x3 x4 x5 x6 x7 x8 x9 x10 x11 x12 x13 x14 x15 = record {
+    rax = x0;
+    rcx = x1;
+    rdx = x2;
+    rbx = x3;
+    rsp = x4;
+    rbp = x5;
+    rsi = x6;
+    rdi = x7;
+    r8 = x8;
+    r9 = x9;
+    r10 = x10;
+    r11 = x11;
+    r12 = x12;
+    r13 = x13;
+    r14 = x14;
+    r15 = x15;
+  }
+
   pub same_with : (r : Registers W) (r' : Registers W') → SameRegisters same r r' → (name : Register) (w : W) (w' : W') → same.word w w'
       → SameRegisters same (with_register r name w) (with_register r' name w')
   unfolding with_register
-  same_with r r' h Rax w w' x = record { rax = x; rcx = h.rcx; rdx = h.rdx; rbx = h.rbx; rsp = h.rsp; rbp = h.rbp; rsi = h.rsi; rdi = h.rdi; r8 = h.r8; r9 = h.r9; r10 = h.r10; r11 = h.r11; r12 = h.r12; r13 = h.r13; r14 = h.r14; r15 = h.r15 }
-  same_with r r' h Rcx w w' x = record { rax = h.rax; rcx = x; rdx = h.rdx; rbx = h.rbx; rsp = h.rsp; rbp = h.rbp; rsi = h.rsi; rdi = h.rdi; r8 = h.r8; r9 = h.r9; r10 = h.r10; r11 = h.r11; r12 = h.r12; r13 = h.r13; r14 = h.r14; r15 = h.r15 }
-  same_with r r' h Rdx w w' x = record { rax = h.rax; rcx = h.rcx; rdx = x; rbx = h.rbx; rsp = h.rsp; rbp = h.rbp; rsi = h.rsi; rdi = h.rdi; r8 = h.r8; r9 = h.r9; r10 = h.r10; r11 = h.r11; r12 = h.r12; r13 = h.r13; r14 = h.r14; r15 = h.r15 }
-  same_with r r' h Rbx w w' x = record { rax = h.rax; rcx = h.rcx; rdx = h.rdx; rbx = x; rsp = h.rsp; rbp = h.rbp; rsi = h.rsi; rdi = h.rdi; r8 = h.r8; r9 = h.r9; r10 = h.r10; r11 = h.r11; r12 = h.r12; r13 = h.r13; r14 = h.r14; r15 = h.r15 }
-  same_with r r' h Rsp w w' x = record { rax = h.rax; rcx = h.rcx; rdx = h.rdx; rbx = h.rbx; rsp = x; rbp = h.rbp; rsi = h.rsi; rdi = h.rdi; r8 = h.r8; r9 = h.r9; r10 = h.r10; r11 = h.r11; r12 = h.r12; r13 = h.r13; r14 = h.r14; r15 = h.r15 }
-  same_with r r' h Rbp w w' x = record { rax = h.rax; rcx = h.rcx; rdx = h.rdx; rbx = h.rbx; rsp = h.rsp; rbp = x; rsi = h.rsi; rdi = h.rdi; r8 = h.r8; r9 = h.r9; r10 = h.r10; r11 = h.r11; r12 = h.r12; r13 = h.r13; r14 = h.r14; r15 = h.r15 }
-  same_with r r' h Rsi w w' x = record { rax = h.rax; rcx = h.rcx; rdx = h.rdx; rbx = h.rbx; rsp = h.rsp; rbp = h.rbp; rsi = x; rdi = h.rdi; r8 = h.r8; r9 = h.r9; r10 = h.r10; r11 = h.r11; r12 = h.r12; r13 = h.r13; r14 = h.r14; r15 = h.r15 }
-  same_with r r' h Rdi w w' x = record { rax = h.rax; rcx = h.rcx; rdx = h.rdx; rbx = h.rbx; rsp = h.rsp; rbp = h.rbp; rsi = h.rsi; rdi = x; r8 = h.r8; r9 = h.r9; r10 = h.r10; r11 = h.r11; r12 = h.r12; r13 = h.r13; r14 = h.r14; r15 = h.r15 }
-  same_with r r' h R8 w w' x = record { rax = h.rax; rcx = h.rcx; rdx = h.rdx; rbx = h.rbx; rsp = h.rsp; rbp = h.rbp; rsi = h.rsi; rdi = h.rdi; r8 = x; r9 = h.r9; r10 = h.r10; r11 = h.r11; r12 = h.r12; r13 = h.r13; r14 = h.r14; r15 = h.r15 }
-  same_with r r' h R9 w w' x = record { rax = h.rax; rcx = h.rcx; rdx = h.rdx; rbx = h.rbx; rsp = h.rsp; rbp = h.rbp; rsi = h.rsi; rdi = h.rdi; r8 = h.r8; r9 = x; r10 = h.r10; r11 = h.r11; r12 = h.r12; r13 = h.r13; r14 = h.r14; r15 = h.r15 }
-  same_with r r' h R10 w w' x = record { rax = h.rax; rcx = h.rcx; rdx = h.rdx; rbx = h.rbx; rsp = h.rsp; rbp = h.rbp; rsi = h.rsi; rdi = h.rdi; r8 = h.r8; r9 = h.r9; r10 = x; r11 = h.r11; r12 = h.r12; r13 = h.r13; r14 = h.r14; r15 = h.r15 }
-  same_with r r' h R11 w w' x = record { rax = h.rax; rcx = h.rcx; rdx = h.rdx; rbx = h.rbx; rsp = h.rsp; rbp = h.rbp; rsi = h.rsi; rdi = h.rdi; r8 = h.r8; r9 = h.r9; r10 = h.r10; r11 = x; r12 = h.r12; r13 = h.r13; r14 = h.r14; r15 = h.r15 }
-  same_with r r' h R12 w w' x = record { rax = h.rax; rcx = h.rcx; rdx = h.rdx; rbx = h.rbx; rsp = h.rsp; rbp = h.rbp; rsi = h.rsi; rdi = h.rdi; r8 = h.r8; r9 = h.r9; r10 = h.r10; r11 = h.r11; r12 = x; r13 = h.r13; r14 = h.r14; r15 = h.r15 }
-  same_with r r' h R13 w w' x = record { rax = h.rax; rcx = h.rcx; rdx = h.rdx; rbx = h.rbx; rsp = h.rsp; rbp = h.rbp; rsi = h.rsi; rdi = h.rdi; r8 = h.r8; r9 = h.r9; r10 = h.r10; r11 = h.r11; r12 = h.r12; r13 = x; r14 = h.r14; r15 = h.r15 }
-  same_with r r' h R14 w w' x = record { rax = h.rax; rcx = h.rcx; rdx = h.rdx; rbx = h.rbx; rsp = h.rsp; rbp = h.rbp; rsi = h.rsi; rdi = h.rdi; r8 = h.r8; r9 = h.r9; r10 = h.r10; r11 = h.r11; r12 = h.r12; r13 = h.r13; r14 = x; r15 = h.r15 }
-  same_with r r' h R15 w w' x = record { rax = h.rax; rcx = h.rcx; rdx = h.rdx; rbx = h.rbx; rsp = h.rsp; rbp = h.rbp; rsi = h.rsi; rdi = h.rdi; r8 = h.r8; r9 = h.r9; r10 = h.r10; r11 = h.r11; r12 = h.r12; r13 = h.r13; r14 = h.r14; r15 = x }
+  same_with r r' h Rax w w' x = all_registers _ _ x h.rcx h.rdx h.rbx h.rsp h.rbp h.rsi h.rdi h.r8 h.r9 h.r10 h.r11 h.r12 h.r13 h.r14 h.r15
+  same_with r r' h Rcx w w' x = all_registers _ _ h.rax x h.rdx h.rbx h.rsp h.rbp h.rsi h.rdi h.r8 h.r9 h.r10 h.r11 h.r12 h.r13 h.r14 h.r15
+  same_with r r' h Rdx w w' x = all_registers _ _ h.rax h.rcx x h.rbx h.rsp h.rbp h.rsi h.rdi h.r8 h.r9 h.r10 h.r11 h.r12 h.r13 h.r14 h.r15
+  same_with r r' h Rbx w w' x = all_registers _ _ h.rax h.rcx h.rdx x h.rsp h.rbp h.rsi h.rdi h.r8 h.r9 h.r10 h.r11 h.r12 h.r13 h.r14 h.r15
+  same_with r r' h Rsp w w' x = all_registers _ _ h.rax h.rcx h.rdx h.rbx x h.rbp h.rsi h.rdi h.r8 h.r9 h.r10 h.r11 h.r12 h.r13 h.r14 h.r15
+  same_with r r' h Rbp w w' x = all_registers _ _ h.rax h.rcx h.rdx h.rbx h.rsp x h.rsi h.rdi h.r8 h.r9 h.r10 h.r11 h.r12 h.r13 h.r14 h.r15
+  same_with r r' h Rsi w w' x = all_registers _ _ h.rax h.rcx h.rdx h.rbx h.rsp h.rbp x h.rdi h.r8 h.r9 h.r10 h.r11 h.r12 h.r13 h.r14 h.r15
+  same_with r r' h Rdi w w' x = all_registers _ _ h.rax h.rcx h.rdx h.rbx h.rsp h.rbp h.rsi x h.r8 h.r9 h.r10 h.r11 h.r12 h.r13 h.r14 h.r15
+  same_with r r' h R8 w w' x = all_registers _ _ h.rax h.rcx h.rdx h.rbx h.rsp h.rbp h.rsi h.rdi x h.r9 h.r10 h.r11 h.r12 h.r13 h.r14 h.r15
+  same_with r r' h R9 w w' x = all_registers _ _ h.rax h.rcx h.rdx h.rbx h.rsp h.rbp h.rsi h.rdi h.r8 x h.r10 h.r11 h.r12 h.r13 h.r14 h.r15
+  same_with r r' h R10 w w' x = all_registers _ _ h.rax h.rcx h.rdx h.rbx h.rsp h.rbp h.rsi h.rdi h.r8 h.r9 x h.r11 h.r12 h.r13 h.r14 h.r15
+  same_with r r' h R11 w w' x = all_registers _ _ h.rax h.rcx h.rdx h.rbx h.rsp h.rbp h.rsi h.rdi h.r8 h.r9 h.r10 x h.r12 h.r13 h.r14 h.r15
+  same_with r r' h R12 w w' x = all_registers _ _ h.rax h.rcx h.rdx h.rbx h.rsp h.rbp h.rsi h.rdi h.r8 h.r9 h.r10 h.r11 x h.r13 h.r14 h.r15
+  same_with r r' h R13 w w' x = all_registers _ _ h.rax h.rcx h.rdx h.rbx h.rsp h.rbp h.rsi h.rdi h.r8 h.r9 h.r10 h.r11 h.r12 x h.r14 h.r15
+  same_with r r' h R14 w w' x = all_registers _ _ h.rax h.rcx h.rdx h.rbx h.rsp h.rbp h.rsi h.rdi h.r8 h.r9 h.r10 h.r11 h.r12 h.r13 x h.r15
+  same_with r r' h R15 w w' x = all_registers _ _ h.rax h.rcx h.rdx h.rbx h.rsp h.rbp h.rsi h.rdi h.r8 h.r9 h.r10 h.r11 h.r12 h.r13 h.r14 x
 
   pub same_word : (s : State W F) (s' : State W' F') → SameState same s s' → (name : Register) (w : W) (w' : W') → same.word w w'
       → SameState same (with_word s name w) (with_word s' name w')
@@ -155,7 +180,7 @@ module _ {W F B W' F' B' : Type 0} (same : Alike W F B W' F' B') where
 
   pub same_stack : (s : State W F) (s' : State W' F') → SameState same s s' → (w : W) (w' : W') → same.word w w' → SameState same (with_stack s w) (with_stack s' w')
   same_stack s s' h w w' x = record {
-    registers = record { rax = h.registers.rax; rcx = h.registers.rcx; rdx = h.registers.rdx; rbx = h.registers.rbx; rsp = x; rbp = h.registers.rbp; rsi = h.registers.rsi; rdi = h.registers.rdi; r8 = h.registers.r8; r9 = h.registers.r9; r10 = h.registers.r10; r11 = h.registers.r11; r12 = h.registers.r12; r13 = h.registers.r13; r14 = h.registers.r14; r15 = h.registers.r15 };
+    registers = let k = h.registers in all_registers _ _ k.rax k.rcx k.rdx k.rbx x k.rbp k.rsi k.rdi k.r8 k.r9 k.r10 k.r11 k.r12 k.r13 k.r14 k.r15;
     flags = h.flags;
     place = h.place;
     thread_pointer = h.thread_pointer;
@@ -189,7 +214,8 @@ module _ {W F B W' F' B' : Type 0} (same : Alike W F B W' F' B') (ops : Operatio
   unmoved-uses None field' n n' f = let p = followed.plain field' n n' f in rw (p.0, p.1) refl
   unmoved-uses (Some at) field' n n' f = followed.misused at field' n n' f
 
-  pub moved_by-uses : (field field' : Option ℕ) (n n' : ℕ) → same.field field field' n n' → (w : W) (w' : W') → same.word w w' → Uses (λ p q. p ≡ q) (moved_by ops field n w) (moved_by ops' field' n' w')
+  pub moved_by-uses : (field field' : Option ℕ) (n n' : ℕ) → same.field field field' n n' → (w : W) (w' : W') → same.word w w'
+      → Uses (λ p q. p ≡ q) (moved_by ops field n w) (moved_by ops' field' n' w')
   moved_by-uses None field' n n' f w w' h =
       let p = followed.plain field' n n' f in
       rw (p.0, p.1) (uses-same (plus n) (ops.number_of w) (ops'.number_of w') (followed.number_of w w' h))

@@ -1,6 +1,6 @@
 -- Loads and stores of related memories, by their bytes.
 use Rattle.std.proofs.Common.{◌≡◌, ℕ, zero, suc, ◌+◌, ◌≤◌, List, [], ◌∷◌, length, Result, Ok, Err, refl, ap, ◌∙◌, inl, inr, arith}
-use Rattle.guest_machine.specs.Access.{Refusal, Refused, Shut, Accesses, IsSize, next_place, both_reached, reached, cons, bytes_from, bytes_at, all_write, put_all, load_of, store_of}
+use Rattle.guest_operands.specs.Access.{Refusal, Refused, Shut, Accesses, IsSize, next_place, both_reached, reached, cons, bytes_from, bytes_at, all_write, put_all, load_of, store_of}
 use Rattle.guest_machine.specs.Follow.{Reaches, All2, Alike, IsFollowed, IsKept}
 use Rattle.guest_arithmetic.specs.Values.{Operations}
 

@@ -12,7 +12,8 @@ use Rattle.amd64_subset.specs.declared.instr.Condition.TheVariants.{Overflow, No
 use Rattle.amd64_subset.specs.declared.instr.Target.{Target}
 use Rattle.amd64_subset.specs.declared.instr.Target.TheVariants.{Relative, Indirect}
 use Rattle.amd64_subset.specs.declared.instr.Operation.{Operation}
-use Rattle.amd64_subset.specs.declared.instr.Operation.TheVariants.{Move, StoreByte, ExtendByte, ExtendLong, LoadAddress, Compute, Test, Multiply, Shift as ShiftBy, Push, Pop, Leave, Call, Jump, JumpIf, Return, Nop, Undefined}
+use Rattle.amd64_subset.specs.declared.instr.Operation.TheVariants.{Move, StoreByte, ExtendByte, ExtendLong, LoadAddress, Compute, Test, Multiply, Shift as ShiftBy, Push, Pop, Leave, Call, Jump}
+use Rattle.amd64_subset.specs.declared.instr.Operation.TheVariants.{JumpIf, Return, Nop, Undefined}
 use Rattle.amd64_subset.specs.declared.operand.Memory.{Memory}
 use Rattle.amd64_subset.specs.declared.operand.Operand.{Operand}
 use Rattle.amd64_subset.specs.declared.operand.Operand.TheVariants.{InMemory, Register as InRegister}
@@ -23,24 +24,27 @@ use Rattle.guest_arithmetic.specs.declared.effect.Change.{Change}
 use Rattle.guest_arithmetic.specs.declared.effect.Change.TheVariants.{Set, Unsettled, Kept}
 use Rattle.guest_arithmetic.specs.declared.effect.Changes.{Changes}
 use Rattle.guest_arithmetic.specs.declared.effect.Effect.{Effect}
-use Rattle.guest_machine.specs.declared.frame.Frame.{Frame}
-use Rattle.guest_machine.specs.declared.slot.Slot.{Slot}
-use Rattle.guest_machine.specs.declared.slot.Slot.TheVariants.{Place, Register as OfSlot}
-use Rattle.guest_machine.specs.declared.slot.Taken.{Taken}
+use Rattle.guest_operands.specs.declared.frame.Frame.{Frame}
+use Rattle.guest_operands.specs.declared.slot.Slot.{Slot}
+use Rattle.guest_operands.specs.declared.slot.Slot.TheVariants.{Place, Register as OfSlot}
+use Rattle.guest_operands.specs.declared.slot.Taken.{Taken}
 use Rattle.guest_arithmetic.specs.declared.flags.Flags.{Flags}
-use Rattle.guest_machine.specs.declared.state.State.{State}
-use Rattle.guest_machine.specs.declared.stop.Stop.TheVariants.{Address, Code}
-use Rattle.guest_machine.specs.Access.{Refusal, Refused, Shut, Accesses, IsSize, load_of}
+use Rattle.guest_operands.specs.declared.state.State.{State}
+use Rattle.guest_operands.specs.declared.stop.Stop.TheVariants.{Address, Code}
+use Rattle.guest_operands.specs.Access.{Refusal, Refused, Shut, Accesses, IsSize, load_of}
 use Rattle.guest_arithmetic.specs.Arithmetic.{low, differ, bits_of, sum_effect, compute_effect, product_effect, shift_effect}
 use Rattle.guest_arithmetic.specs.Flags.{changed, with_changes, is_less, is_less_or_equal, is_below_or_equal, condition_of}
 use Rattle.guest_machine.specs.Follow.{Uses, Reaches, Follows, Alike, IsFollowed, IsKept, SameFlags, SameState, SameFrame, SameAfter}
 use Rattle.guest_arithmetic.specs.Cause.{used, both}
-use Rattle.guest_machine.specs.Operand.{size_of, charged, address_of, number_at, carried, weighed, taken_at, taken, put}
-use Rattle.guest_machine.specs.State.{register_of}
-use Rattle.guest_machine.specs.Step.{immediate_of, sign_extended, all_unsettled, is_cleared, settled, nop_use, finished, concluded, move_in, stored, store_byte, move_number, move_of, extend_byte, extend_long, load_address, compute_in, compute_out, add_field, compute_plain, compute_number, compute_of, test_of, multiply_of, shift_of, pushed, push_of, pop_of, leave_of, return_of, call_of, jump_of, jump_if, nop_of, act}
-use Rattle.guest_machine.specs.Use.{◌>>=◌, plus, clean, there, After, left}
+use Rattle.guest_operands.specs.Operand.{size_of, charged, address_of, number_at, carried, weighed, taken_at, taken, put}
+use Rattle.guest_operands.specs.State.{register_of}
+use Rattle.guest_machine.specs.Step.{immediate_of, sign_extended, all_unsettled, is_cleared, settled, nop_use, finished, concluded, move_in, stored, store_byte, move_number, move_of, extend_byte}
+use Rattle.guest_machine.specs.Step.{extend_long, load_address, compute_in, compute_out, add_field, compute_plain, compute_number, compute_of, test_of, multiply_of, shift_of, pushed, push_of, pop_of}
+use Rattle.guest_machine.specs.Step.{leave_of, return_of, call_of, jump_of, jump_if, nop_of, act}
+use Rattle.guest_operands.specs.Use.{◌>>=◌, plus, clean, there, After, left}
 use Rattle.guest_arithmetic.specs.Values.{Operations}
-use Rattle.guest_machine.proofs.Follow.{follows-then, follows-same, follows-clean, follows-there, follows-if, uses-used, uses-same, uses-both, uses-charged, same_register, same_with, same_word, same_stack, same_place, carried-same, kept-same, kept_byte-same, number_at-uses, address-uses, unmoved-uses}
+use Rattle.guest_machine.proofs.Follow.{all_registers, follows-then, follows-same, follows-clean, follows-there, follows-if, uses-used, uses-same, uses-both, uses-charged, same_register, same_with, same_word}
+use Rattle.guest_machine.proofs.Follow.{same_stack, same_place, carried-same, kept-same, kept_byte-same, number_at-uses, address-uses, unmoved-uses}
 use Rattle.guest_machine.proofs.FollowMemory.{load-reach, store-reach}
 
 size_of-is : (width : Width) → IsSize (size_of width)
@@ -174,7 +178,8 @@ module _ {W F B W' F' B' : Type 0} (same : Alike W F B W' F' B') (ops : Operatio
   weighed-follows width here here' e (Err Shut) r' h other other' k = tt
 
   taken_at-follows : (width : Width) (here here' : ℕ) → here ≡ here' → (m : M) (m' : M') → Same m m' → (address address' other other' : Result ℕ Cause)
-      → Uses (λ a b. a ≡ b) address address' → Uses (λ a b. a ≡ b) other other' → Follows (λ a b. a ≡ b) (taken_at ops acc width here m address other) (taken_at ops' acc' width here' m' address' other')
+      → Uses (λ a b. a ≡ b) address address' → Uses (λ a b. a ≡ b) other other'
+      → Follows (λ a b. a ≡ b) (taken_at ops acc width here m address other) (taken_at ops' acc' width here' m' address' other')
   unfolding taken_at
   taken_at-follows width here here' e m m' k (Ok place) (Ok place') other other' a o =
       subst (λ p. Follows (λ a b. a ≡ b) (taken_at ops acc width here m (Ok place) other) (taken_at ops' acc' width here' m' (Ok p) other')) a
@@ -244,10 +249,12 @@ module _ {W F B W' F' B' : Type 0} (same : Alike W F B W' F' B') (ops : Operatio
       → Follows Then (move_number ops acc width f s m to) (move_number ops' acc' width f' s' m' to)
   unfolding move_number
   move_number-follows width f f' s s' m m' (InRegister to) g h k =
-      follows-same Then _ _ _ _ (follows-clean (λ p q. p ≡ q) s.place s'.place _ _ (immediate-uses same ops ops' followed width f.immediate_field f'.immediate_field f.immediate f'.immediate g.immediate))
+      follows-same Then _ _ _ _
+      (follows-clean (λ p q. p ≡ q) s.place s'.place _ _ (immediate-uses same ops ops' followed width f.immediate_field f'.immediate_field f.immediate f'.immediate g.immediate))
       (λ number. record { state = same_place same _ _ (same_word same s s' h to _ _ (followed.word number)) f.next f'.next g.next; memory = k })
   move_number-follows width f f' s s' m m' (InMemory to) g h k =
-      follows-same Then _ _ _ _ (follows-clean (λ p q. p ≡ q) s.place s'.place _ _ (immediate-uses same ops ops' followed width f.immediate_field f'.immediate_field f.immediate f'.immediate g.immediate))
+      follows-same Then _ _ _ _
+      (follows-clean (λ p q. p ≡ q) s.place s'.place _ _ (immediate-uses same ops ops' followed width f.immediate_field f'.immediate_field f.immediate f'.immediate g.immediate))
       (λ number. stored-follows (size_of width) (size_of-is width) f f' s s' m m' to _ _ (followed.word number) g h k)
 
   move_of-follows : (width : Width) (f f' : Frame) (s : State W F) (s' : State W' F') (m : M) (m' : M') (operands : Operands) → SameFrame same f f' → SameState same s s' → Same m m'
@@ -276,7 +283,8 @@ module _ {W F B W' F' B' : Type 0} (same : Alike W F B W' F' B') (ops : Operatio
   extend_long-follows f f' s s' m m' to from g h k =
       follows-then same.word Then _ _ _ _ (carried-follows Long f f' s s' m m' from g h k)
       (λ w w' x. record {
-        state = same_place same _ _ (same_word same s s' h to _ _ (carried-same same ops ops' followed sign_extended (ops.number_of w) (ops'.number_of w') (followed.number_of w w' x))) f.next f'.next g.next;
+        state = same_place same _ _ (same_word same s s' h to _ _ (carried-same same ops ops' followed sign_extended (ops.number_of w) (ops'.number_of w') (followed.number_of w w' x))) f.next f'.next
+            g.next;
         memory = k;
       })
 
@@ -299,7 +307,8 @@ module _ {W F B W' F' B' : Type 0} (same : Alike W F B W' F' B') (ops : Operatio
       → SameFrame same f f' → SameState same s s' → Same m m' → Follows Then (compute_out ops acc arithmetic width f s m to from) (compute_out ops' acc' arithmetic width f' s' m' to from)
   unfolding compute_out
   compute_out-follows arithmetic width f f' s s' m m' to from g h k =
-      follows-same Then _ _ _ _ (taken-follows width f f' s s' m m' (InMemory to) _ _ g h k (number_at-uses same ops ops' followed width _ _ (same_register same s.registers s'.registers h.registers from)))
+      follows-same Then _ _ _ _
+      (taken-follows width f f' s s' m m' (InMemory to) _ _ g h k (number_at-uses same ops ops' followed width _ _ (same_register same s.registers s'.registers h.registers from)))
       (λ it. concluded-follows arithmetic width it.slot (compute_effect arithmetic width it.number it.other) f f' s s' m m' g h k)
 
   -- a field that is added to a base, where the second machine adds a number
@@ -383,7 +392,8 @@ module _ {W F B W' F' B' : Type 0} (same : Alike W F B W' F' B') (ops : Operatio
       follows-same Then _ _ _ _ (taken-follows width f f' s s' m m' from _ _ g h k (number_at-uses same ops ops' followed width _ _ (same_register same s.registers s'.registers h.registers to)))
       (λ it. finished-follows width (OfSlot to) (product_effect width it.other it.number) f f' s s' m m' g h k)
 
-  shift_of-follows : (shift : Shift) (width : Width) (f f' : Frame) (s : State W F) (s' : State W' F') (m : M) (m' : M') (to : Operand) (count : ℕ) → SameFrame same f f' → SameState same s s' → Same m m'
+  shift_of-follows : (shift : Shift) (width : Width) (f f' : Frame) (s : State W F) (s' : State W' F') (m : M) (m' : M') (to : Operand) (count : ℕ) → SameFrame same f f' → SameState same s s'
+      → Same m m'
       → Follows Then (shift_of ops acc shift width f s m to count) (shift_of ops' acc' shift width f' s' m' to count)
   unfolding shift_of
   shift_of-follows shift width f f' s s' m m' to count g h k =
@@ -426,7 +436,7 @@ module _ {W F B W' F' B' : Type 0} (same : Alike W F B W' F' B') (ops : Operatio
   same_framed : (s : State W F) (s' : State W' F') → SameState same s s' → (w : W) (w' : W') → same.word w w' → (v : W) (v' : W') → same.word v v' → (p p' : ℕ) → p ≡ p'
       → SameState same (record s { registers = record s.registers { rsp = w; rbp = v }; place = p }) (record s' { registers = record s'.registers { rsp = w'; rbp = v' }; place = p' })
   same_framed s s' h w w' x v v' y p p' e = record {
-    registers = record { rax = h.registers.rax; rcx = h.registers.rcx; rdx = h.registers.rdx; rbx = h.registers.rbx; rsp = x; rbp = y; rsi = h.registers.rsi; rdi = h.registers.rdi; r8 = h.registers.r8; r9 = h.registers.r9; r10 = h.registers.r10; r11 = h.registers.r11; r12 = h.registers.r12; r13 = h.registers.r13; r14 = h.registers.r14; r15 = h.registers.r15 };
+    registers = let k = h.registers in all_registers same _ _ k.rax k.rcx k.rdx k.rbx x y k.rsi k.rdi k.r8 k.r9 k.r10 k.r11 k.r12 k.r13 k.r14 k.r15;
     flags = h.flags;
     place = e;
     thread_pointer = h.thread_pointer;

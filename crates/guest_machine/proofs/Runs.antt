@@ -1,15 +1,15 @@
 -- How a run begins: each way in which it can.
 use Rattle.std.proofs.Common.{◌≡◌, ℕ, zero, suc, ◌+◌, ◌-◌, true, false, Some, None, Ok, Err, refl}
 use Rattle.std.specs.Prelude.{◌==◌}
-use Rattle.guest_machine.specs.declared.stop.Stop.{Stop}
-use Rattle.guest_machine.specs.declared.stop.Stop.TheVariants.{Steps, Look}
-use Rattle.guest_machine.specs.declared.state.State.{State}
+use Rattle.guest_operands.specs.declared.stop.Stop.{Stop}
+use Rattle.guest_operands.specs.declared.stop.Stop.TheVariants.{Steps, Look}
+use Rattle.guest_operands.specs.declared.state.State.{State}
 use Rattle.guest_arithmetic.specs.Values.{Operations}
-use Rattle.guest_machine.specs.Ranges.{AddressSpace, range_accesses, is_field_of}
+use Rattle.guest_operands.specs.Ranges.{AddressSpace, range_accesses, is_field_of}
 use Rattle.guest_machine.specs.Machine.{Standing}
 use Rattle.guest_machine.specs.Run.{Goes, Ends, Looks, Ended, Waits, Stepping, run, machine, machine_of, is_look, returned, Runs}
 use Rattle.guest_machine.specs.Step.{step_of}
-use Rattle.guest_machine.specs.Use.{After, left}
+use Rattle.guest_operands.specs.Use.{After, left}
 
 module _ {S : Type 0} (x : Stepping S) where
   pub run-over : (n : ℕ) (s : S) (stop : Stop) → x.over s ≡ Some stop → run x n s ≡ Ended stop n s

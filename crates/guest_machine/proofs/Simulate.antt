@@ -1,6 +1,6 @@
 -- Runs follow runs.
 use Rattle.std.proofs.Common.{◌≡◌, ℕ, zero, suc, ◌-◌, ◌*◌, ◌≤◌, Some, None, refl, sym, ap, ◌∙◌, inl, inr, arith}
-use Rattle.guest_machine.specs.declared.stop.Stop.{Stop}
+use Rattle.guest_operands.specs.declared.stop.Stop.{Stop}
 use Rattle.guest_machine.specs.Run.{Next, Goes, Ends, Looks, Outcome, Ended, Waits, Stepping, run, over_or, go_on}
 use Rattle.guest_machine.specs.Simulate.{IsUnclean, Moves, Advances, OverAlike, IsSimulated, SameOut, GoesThrough, IsThrough, Joined}
 use Rattle.guest_machine.proofs.Runs.{run-over, run-spent, run-looks, run-ends, run-goes}

@@ -11,7 +11,8 @@ use Rattle.amd64_subset.specs.declared.instr.Arithmetic.{Arithmetic}
 use Rattle.amd64_subset.specs.declared.instr.Arithmetic.TheVariants.{Add, Or, And, Sub, Xor, Compare}
 use Rattle.amd64_subset.specs.declared.instr.Decoded.{Decoded}
 use Rattle.amd64_subset.specs.declared.instr.Operation.{Operation}
-use Rattle.amd64_subset.specs.declared.instr.Operation.TheVariants.{Move, StoreByte, ExtendByte, ExtendLong, LoadAddress, Compute, Test, Multiply, Shift, Push, Pop, Leave, Call, Jump, JumpIf, Return, Nop, Undefined}
+use Rattle.amd64_subset.specs.declared.instr.Operation.TheVariants.{Move, StoreByte, ExtendByte, ExtendLong, LoadAddress, Compute, Test, Multiply, Shift, Push, Pop, Leave, Call, Jump, JumpIf, Return}
+use Rattle.amd64_subset.specs.declared.instr.Operation.TheVariants.{Nop, Undefined}
 use Rattle.amd64_subset.specs.declared.instr.Target.TheVariants.{Relative, Indirect}
 use Rattle.amd64_subset.specs.declared.operand.Memory.{Memory}
 use Rattle.amd64_subset.specs.declared.operand.Operand.{Operand}
@@ -23,24 +24,29 @@ use Rattle.guest_arithmetic.specs.declared.cause.Cause.{Cause}
 use Rattle.guest_arithmetic.specs.declared.effect.Effect.{Effect}
 use Rattle.guest_arithmetic.specs.Cause.{used, both}
 use Rattle.guest_arithmetic.specs.Values.{Operations}
-use Rattle.guest_machine.specs.declared.frame.Frame.{Frame}
-use Rattle.guest_machine.specs.declared.slot.Slot.{Slot}
-use Rattle.guest_machine.specs.declared.slot.Slot.TheVariants.{Place, Register as OfSlot}
-use Rattle.guest_machine.specs.declared.slot.Taken.{Taken}
-use Rattle.guest_machine.specs.declared.space.Size.{Size}
-use Rattle.guest_machine.specs.declared.space.Size.TheVariants.{Byte, Long, Quad}
-use Rattle.guest_machine.specs.declared.state.State.{State}
-use Rattle.guest_machine.specs.declared.stop.Stop.{Stop}
+use Rattle.guest_operands.specs.declared.frame.Frame.{Frame}
+use Rattle.guest_operands.specs.declared.slot.Slot.{Slot}
+use Rattle.guest_operands.specs.declared.slot.Slot.TheVariants.{Place, Register as OfSlot}
+use Rattle.guest_operands.specs.declared.slot.Taken.{Taken}
+use Rattle.guest_operands.specs.declared.space.Size.{Size}
+use Rattle.guest_operands.specs.declared.space.Size.TheVariants.{Byte, Long, Quad}
+use Rattle.guest_operands.specs.declared.state.State.{State}
+use Rattle.guest_operands.specs.declared.stop.Stop.{Stop}
 use Rattle.guest_machine.specs.declared.touch.Direction.TheVariants.{Load, Store}
 use Rattle.guest_machine.specs.declared.touch.Touch.{Touch}
 use Rattle.guest_machine.specs.declared.touch.Touches.{Touches}
-use Rattle.guest_machine.specs.Access.{Refusal, Refused, Accesses, unless_shut, closed, bytes_in, next_place, both_reached, reached, cons, bytes_from, bytes_at, all_write, put_all, code_then, code_at, load_of, store_of, fetch_of}
-use Rattle.guest_machine.specs.Operand.{size_for, size_of, charged, address_of, number_at, carried, weighed, taken_at, taken, put}
-use Rattle.guest_machine.specs.State.{register_of, at_place}
+use Rattle.guest_operands.specs.Access.{Refusal, Refused, Accesses, unless_shut, closed, bytes_in, next_place, both_reached, reached, cons, bytes_from, bytes_at, all_write, put_all, code_then}
+use Rattle.guest_operands.specs.Access.{code_at, load_of, store_of, fetch_of}
+use Rattle.guest_operands.specs.Operand.{size_for, size_of, charged, address_of, number_at, carried, weighed, taken_at, taken, put}
+use Rattle.guest_operands.specs.State.{register_of, at_place}
 use Rattle.guest_arithmetic.specs.Arithmetic.{compute_effect, product_effect}
-use Rattle.guest_machine.specs.Step.{immediate_of, all_unsettled, is_cleared, add_field, finished, concluded, move_in, stored, store_byte, move_number, move_of, extend_byte, extend_long, load_address, compute_in, compute_out, compute_plain, compute_number, compute_of, test_of, multiply_of, shift_of, pushed, push_of, pop_of, leave_of, return_of, call_of, jump_of, jump_if, nop_of, act, frame_of, act_if, step_of}
-use Rattle.guest_machine.specs.Touch.{touch_at, paired, push_touch, pop_touch, operand_touch, changed_touches, computed_touches, touches_of, touches_if, next_touches, places_from, is_refused, refuses, touched_then, touched}
-use Rattle.guest_machine.specs.Use.{◌>>=◌, plus, clean, there, After, left}
+use Rattle.guest_operands.specs.Frame.{frame_of}
+use Rattle.guest_machine.specs.Step.{immediate_of, all_unsettled, is_cleared, add_field, finished, concluded, move_in, stored, store_byte, move_number, move_of, extend_byte, extend_long, load_address}
+use Rattle.guest_machine.specs.Step.{compute_in, compute_out, compute_plain, compute_number, compute_of, test_of, multiply_of, shift_of, pushed, push_of, pop_of, leave_of, return_of, call_of, jump_of}
+use Rattle.guest_machine.specs.Step.{jump_if, nop_of, act, act_if, step_of}
+use Rattle.guest_machine.specs.Touch.{touch_at, paired, push_touch, pop_touch, operand_touch, changed_touches, computed_touches, touches_of, touches_if, next_touches, places_from, is_refused, refuses}
+use Rattle.guest_machine.specs.Touch.{touched_then, touched}
+use Rattle.guest_operands.specs.Use.{◌>>=◌, plus, clean, there, After, left}
 
 -- what follows from a value that was reached
 bind-same : {A C : Type 0} (x : Result A Stop) (f g : A → Result C Stop) → ((a : A) → x ≡ Ok a → f a ≡ g a) → (x >>= f) ≡ (x >>= g)
@@ -229,7 +235,8 @@ module _ {W F B M : Type 0} (ops : Operations W F B) (acc : Accesses M B) (shut 
     finished-open width slot effect free = rw (slot-put width slot (ops.word effect.number) free) refl
 
     -- what goes into a register reaches no memory
-    concluded-register : (arithmetic : Arithmetic) (width : Width) (name : Register) (effect : Effect) → concluded ops acc' arithmetic width (OfSlot name) effect f s m ≡ concluded ops acc arithmetic width (OfSlot name) effect f s m
+    concluded-register : (arithmetic : Arithmetic) (width : Width) (name : Register) (effect : Effect)
+        → concluded ops acc' arithmetic width (OfSlot name) effect f s m ≡ concluded ops acc arithmetic width (OfSlot name) effect f s m
     unfolding concluded
     concluded-register Compare width name effect = refl
     concluded-register Add width name effect = finished-open width (OfSlot name) effect tt
@@ -247,7 +254,8 @@ module _ {W F B M : Type 0} (ops : Operations W F B) (acc : Accesses M B) (shut 
         (bind-same (taken ops acc width f s m operand other) k' k
         (λ it e. let is = taken-is width operand other it e in h it (slot-open width operand it.slot is.slot_is is.made free)))
 
-    computed-open : (arithmetic : Arithmetic) (width : Width) (operand : Operand) (other : Result ℕ Cause) (effect : Taken → Effect) → Free acc shut m (computed_touches ops f s arithmetic width operand)
+    computed-open : (arithmetic : Arithmetic) (width : Width) (operand : Operand) (other : Result ℕ Cause) (effect : Taken → Effect)
+        → Free acc shut m (computed_touches ops f s arithmetic width operand)
         → (taken ops acc' width f s m operand other >>= λ it. concluded ops acc' arithmetic width it.slot (effect it) f s m)
         ≡ (taken ops acc width f s m operand other >>= λ it. concluded ops acc arithmetic width it.slot (effect it) f s m)
     unfolding concluded
@@ -260,7 +268,8 @@ module _ {W F B M : Type 0} (ops : Operations W F B) (acc : Accesses M B) (shut 
 
     -- a load whose address was asked, and what is done with the word
     loads-open : (r : Result ℕ Cause) (size : Size) (k : ℕ → W → Result (After W F M) Stop) → Free acc shut m (paired (touch_at Load size r) None)
-        → (clean s.place r >>= λ place. there s.place (load_of ops acc' m place (bytes_in size)) >>= k place) ≡ (clean s.place r >>= λ place. there s.place (load_of ops acc m place (bytes_in size)) >>= k place)
+        → (clean s.place r >>= λ place. there s.place (load_of ops acc' m place (bytes_in size)) >>= k place)
+        ≡ (clean s.place r >>= λ place. there s.place (load_of ops acc m place (bytes_in size)) >>= k place)
     loads-open (Err cause) size k free = refl
     loads-open (Ok place) size k free = rw (load-open place (bytes_in size) (first-open acc shut m (record { direction = Load; size = size; address = place }) None free)) refl
 
@@ -296,7 +305,8 @@ module _ {W F B M : Type 0} (ops : Operations W F B) (acc : Accesses M B) (shut 
     moved-open width (IntoMemory to from) free = stored-open (address_of ops f s to) (size_for width) _ free
     moved-open width (Immediate (InRegister to)) free = refl
     moved-open width (Immediate (InMemory to)) free =
-        after-number (immediate_of ops width f.immediate_field f.immediate) (λ number. stored ops acc' (size_of width) f s m to (ops.word number)) (λ number. stored ops acc (size_of width) f s m to (ops.word number))
+        after-number (immediate_of ops width f.immediate_field f.immediate) (λ number. stored ops acc' (size_of width) f s m to (ops.word number))
+        (λ number. stored ops acc (size_of width) f s m to (ops.word number))
         (λ number. stored-open (address_of ops f s to) (size_for width) (ops.word number) free)
 
     plain-open : (arithmetic : Arithmetic) (width : Width) (field : Option ℕ) (to : Operand) → Free acc shut m (computed_touches ops f s arithmetic width to)
@@ -339,14 +349,16 @@ module _ {W F B M : Type 0} (ops : Operations W F B) (acc : Accesses M B) (shut 
     extends-open to (InRegister from) free = refl
     extends-open to (InMemory from) free = loads-open (address_of ops f s from) Byte _ free
 
-    call-open : (operand : Operand) → Free acc shut m (paired (operand_touch ops f s Load Quad operand) (push_touch ops s)) → call_of ops acc' f s m (Indirect operand) ≡ call_of ops acc f s m (Indirect operand)
+    call-open : (operand : Operand) → Free acc shut m (paired (operand_touch ops f s Load Quad operand) (push_touch ops s))
+        → call_of ops acc' f s m (Indirect operand) ≡ call_of ops acc f s m (Indirect operand)
     unfolding call_of
     call-open operand free =
         rw (taken-open QuadWidth operand (ops.number_of s.registers.rsp) (push_touch ops s) free)
         (bind-same (taken ops acc QuadWidth f s m operand (ops.number_of s.registers.rsp)) _ _
         (λ it e. let is = taken-is QuadWidth operand (ops.number_of s.registers.rsp) it e in
         ap (λ (r : Result (After W F M) Stop). r >>= λ after. Ok (left (at_place after.state it.number) after.memory))
-        (pushed-open it.other (ops.word f.next) (push-open (ops.number_of s.registers.rsp) (rest-open acc shut m (operand_touch ops f s Load Quad operand) (push_touch ops s) is.made free) it.other is.other_is))))
+        (pushed-open it.other (ops.word f.next)
+        (push-open (ops.number_of s.registers.rsp) (rest-open acc shut m (operand_touch ops f s Load Quad operand) (push_touch ops s) is.made free) it.other is.other_is))))
 
     -- a push from %rsp
     pushes-open : (word : W) (r : Result ℕ Cause) (k : After W F M → Result (After W F M) Stop) → Free acc shut m (paired (touch_at Store Quad (used (λ stack. plus stack (2 ^ 64 - 8)) r)) None)

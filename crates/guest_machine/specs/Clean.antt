@@ -1,12 +1,12 @@
 -- Machines that never stop unclean.
 use Rattle.std.specs.Prelude.{ℕ, Bool}
-use Rattle.guest_machine.specs.declared.state.State.{State}
-use Rattle.guest_machine.specs.declared.stop.Stop.{Stop}
-use Rattle.guest_machine.specs.declared.stop.Stop.TheVariants.{Returned, Look, Address, Code, Unclean, Steps}
+use Rattle.guest_operands.specs.declared.state.State.{State}
+use Rattle.guest_operands.specs.declared.stop.Stop.{Stop}
+use Rattle.guest_operands.specs.declared.stop.Stop.TheVariants.{Returned, Look, Address, Code, Unclean, Steps}
 use Rattle.guest_arithmetic.specs.Plain.{plain_operations}
-use Rattle.guest_machine.specs.Ranges.{AddressSpace}
+use Rattle.guest_operands.specs.Ranges.{AddressSpace}
 use Rattle.guest_machine.specs.Run.{run, machine_of, stop_of}
-use Rattle.guest_machine.specs.Use.{left}
+use Rattle.guest_operands.specs.Use.{left}
 
 abbrev pub IsClean : Stop → Type 0
 IsClean (Returned number) = Unit {0}

@@ -3,15 +3,15 @@
 -- parameter.
 use Rattle.std.specs.Prelude.{◌≡◌, ℕ, ◌<◌, Bool, List, [], ◌∷◌, length, Option, Some, None, Result, Ok, Err}
 use Rattle.guest_arithmetic.specs.declared.cause.Cause.{Cause}
-use Rattle.guest_machine.specs.declared.frame.Frame.{Frame}
-use Rattle.guest_machine.specs.declared.state.Registers.{Registers}
+use Rattle.guest_operands.specs.declared.frame.Frame.{Frame}
+use Rattle.guest_operands.specs.declared.state.Registers.{Registers}
 use Rattle.guest_arithmetic.specs.declared.flags.Flags.{Flags}
-use Rattle.guest_machine.specs.declared.state.State.{State}
-use Rattle.guest_machine.specs.declared.stop.Stop.{Stop}
-use Rattle.guest_machine.specs.declared.stop.Stop.TheVariants.{Returned, Look, Address, Code, Unclean, Steps}
-use Rattle.guest_machine.specs.Access.{Refusal, Refused, Shut, Accesses, IsSize}
-use Rattle.guest_machine.specs.Operand.{unmoved, moved_by}
-use Rattle.guest_machine.specs.Use.{After}
+use Rattle.guest_operands.specs.declared.state.State.{State}
+use Rattle.guest_operands.specs.declared.stop.Stop.{Stop}
+use Rattle.guest_operands.specs.declared.stop.Stop.TheVariants.{Returned, Look, Address, Code, Unclean, Steps}
+use Rattle.guest_operands.specs.Access.{Refusal, Refused, Shut, Accesses, IsSize}
+use Rattle.guest_operands.specs.Operand.{unmoved, moved_by}
+use Rattle.guest_operands.specs.Use.{After}
 use Rattle.guest_arithmetic.specs.Values.{Operations}
 
 -- a use in the first is that use in the second; where the first may not be used, anything may stand

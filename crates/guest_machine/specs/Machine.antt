@@ -1,10 +1,10 @@
 -- What callers see of a machine.
 use Rattle.std.specs.Prelude.{◌≡◌, ℕ, ◌+◌, Bool, true, false, Result, Ok, IsErr}
-use Rattle.guest_machine.specs.declared.stop.Stop.{Stop}
-use Rattle.guest_machine.specs.declared.state.State.{State}
+use Rattle.guest_operands.specs.declared.stop.Stop.{Stop}
+use Rattle.guest_operands.specs.declared.state.State.{State}
 use Rattle.guest_arithmetic.specs.Values.{Operations}
-use Rattle.guest_machine.specs.Access.{Accesses}
-use Rattle.guest_machine.specs.Use.{After, left}
+use Rattle.guest_operands.specs.Access.{Accesses}
+use Rattle.guest_operands.specs.Use.{After, left}
 use Rattle.guest_machine.specs.Step.{return_of}
 
 -- a machine: what it holds, and the steps that it took

@@ -2,12 +2,12 @@
 use Rattle.std.specs.Prelude.{ℕ, zero, suc, ◌≡◌, ◌+◌, ◌-◌, ◌||◌, ◌==◌, Bool, Result, Ok, Err, Option, Some, None, if◌then◌else◌}
 use Rattle.guest_arithmetic.specs.declared.cause.Cause.{Cause}
 use Rattle.guest_arithmetic.specs.declared.cause.Cause.TheVariants.{Answer}
-use Rattle.guest_machine.specs.declared.stop.Stop.{Stop}
-use Rattle.guest_machine.specs.declared.stop.Stop.TheVariants.{Returned, Look, Unclean, Steps}
+use Rattle.guest_operands.specs.declared.stop.Stop.{Stop}
+use Rattle.guest_operands.specs.declared.stop.Stop.TheVariants.{Returned, Look, Unclean, Steps}
 use Rattle.guest_arithmetic.specs.Values.{Operations}
-use Rattle.guest_machine.specs.Access.{Accesses}
-use Rattle.guest_machine.specs.Use.{After, left}
-use Rattle.guest_machine.specs.Ranges.{AddressSpace, range_accesses, is_field_of}
+use Rattle.guest_operands.specs.Access.{Accesses}
+use Rattle.guest_operands.specs.Use.{After, left}
+use Rattle.guest_operands.specs.Ranges.{AddressSpace, range_accesses, is_field_of}
 use Rattle.guest_machine.specs.Machine.{Standing}
 use Rattle.guest_machine.specs.Step.{step_of}
 

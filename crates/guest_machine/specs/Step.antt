@@ -23,19 +23,20 @@ use Rattle.guest_arithmetic.specs.declared.cause.Cause.{Cause}
 use Rattle.guest_arithmetic.specs.declared.effect.Change.TheVariants.{Unsettled}
 use Rattle.guest_arithmetic.specs.declared.effect.Changes.{Changes}
 use Rattle.guest_arithmetic.specs.declared.effect.Effect.{Effect}
-use Rattle.guest_machine.specs.declared.frame.Frame.{Frame}
-use Rattle.guest_machine.specs.declared.slot.Slot.{Slot}
-use Rattle.guest_machine.specs.declared.slot.Slot.TheVariants.{Register as OfSlot}
-use Rattle.guest_machine.specs.declared.state.State.{State}
-use Rattle.guest_machine.specs.declared.stop.Stop.{Stop}
-use Rattle.guest_machine.specs.declared.stop.Stop.TheVariants.{Code}
-use Rattle.guest_machine.specs.Access.{Accesses, load_of, store_of, fetch_of}
+use Rattle.guest_operands.specs.declared.frame.Frame.{Frame}
+use Rattle.guest_operands.specs.declared.slot.Slot.{Slot}
+use Rattle.guest_operands.specs.declared.slot.Slot.TheVariants.{Register as OfSlot}
+use Rattle.guest_operands.specs.declared.state.State.{State}
+use Rattle.guest_operands.specs.declared.stop.Stop.{Stop}
+use Rattle.guest_operands.specs.declared.stop.Stop.TheVariants.{Code}
+use Rattle.guest_operands.specs.Access.{Accesses, load_of, store_of, fetch_of}
 use Rattle.guest_arithmetic.specs.Arithmetic.{low, bits_of, compute_effect, product_effect, shift_effect}
 use Rattle.guest_arithmetic.specs.Flags.{with_changes, condition_of}
 use Rattle.guest_arithmetic.specs.Cause.{used}
-use Rattle.guest_machine.specs.Operand.{size_of, charged, unmoved, carried_as, address_of, kept, kept_byte, number_at, carried, taken, put}
-use Rattle.guest_machine.specs.State.{register_of, with_word, with_stack, at_place}
-use Rattle.guest_machine.specs.Use.{◌>>=◌, plus, clean, there, After, left}
+use Rattle.guest_operands.specs.Frame.{frame_of}
+use Rattle.guest_operands.specs.Operand.{size_of, charged, unmoved, carried_as, address_of, kept, kept_byte, number_at, carried, taken, put}
+use Rattle.guest_operands.specs.State.{register_of, with_word, with_stack, at_place}
+use Rattle.guest_operands.specs.Use.{◌>>=◌, plus, clean, there, After, left}
 use Rattle.guest_arithmetic.specs.Values.{Operations}
 
 -- the lower half as a signed number of 64 bits
@@ -285,21 +286,6 @@ module _ {W F B M : Type 0} (ops : Operations W F B) (acc : Accesses M B) where
   act frame (Nop operand) state memory = nop_of frame state memory operand
   -- ud2
   act frame Undefined state memory = Err (Code state.place)
-
--- an offset field that begins in an instruction
-abbrev pub field_at : (ℕ → Bool) → ℕ → Option ℕ → Option ℕ
-field_at is_field here None = None
-field_at is_field here (Some within) = if is_field (plus here within) then Some (plus here within) else None
-
--- what stands around the operation of an instruction that was read at a place
-unfoldable pub frame_of : (ℕ → Bool) → ℕ → Decoded → Frame
-frame_of is_field here it = record {
-  next = plus here it.len;
-  displacement = it.instr.displacement;
-  immediate = it.instr.immediate;
-  displacement_field = field_at is_field here it.disp;
-  immediate_field = field_at is_field here it.imm;
-}
 
 module _ {W F B M : Type 0} (ops : Operations W F B) (acc : Accesses M B) (is_field : ℕ → Bool) where
   abbrev pub act_if : Option Decoded → State W F → M → Result (After W F M) Stop

@@ -16,18 +16,18 @@ use Rattle.amd64_subset.specs.declared.operand.Operands.TheVariants.{IntoRegiste
 use Rattle.guest_arithmetic.specs.declared.cause.Cause.{Cause}
 use Rattle.guest_arithmetic.specs.Cause.{used}
 use Rattle.guest_arithmetic.specs.Values.{Operations}
-use Rattle.guest_machine.specs.declared.frame.Frame.{Frame}
-use Rattle.guest_machine.specs.declared.space.Size.{Size}
-use Rattle.guest_machine.specs.declared.space.Size.TheVariants.{Byte, Long, Quad}
-use Rattle.guest_machine.specs.declared.state.State.{State}
+use Rattle.guest_operands.specs.declared.frame.Frame.{Frame}
+use Rattle.guest_operands.specs.declared.space.Size.{Size}
+use Rattle.guest_operands.specs.declared.space.Size.TheVariants.{Byte, Long, Quad}
+use Rattle.guest_operands.specs.declared.state.State.{State}
 use Rattle.guest_machine.specs.declared.touch.Direction.{Direction}
 use Rattle.guest_machine.specs.declared.touch.Direction.TheVariants.{Load, Store}
 use Rattle.guest_machine.specs.declared.touch.Touch.{Touch}
 use Rattle.guest_machine.specs.declared.touch.Touches.{Touches}
-use Rattle.guest_machine.specs.Access.{Refusal, Accesses, next_place, bytes_at, all_write, bytes_in, fetch_of}
-use Rattle.guest_machine.specs.Operand.{address_of, size_for}
-use Rattle.guest_machine.specs.Step.{frame_of}
-use Rattle.guest_machine.specs.Use.{plus}
+use Rattle.guest_operands.specs.Access.{Refusal, Accesses, next_place, bytes_at, all_write, bytes_in, fetch_of}
+use Rattle.guest_operands.specs.Operand.{address_of, size_for}
+use Rattle.guest_operands.specs.Frame.{frame_of}
+use Rattle.guest_operands.specs.Use.{plus}
 
 -- an access at an address; where that is no number it is left out
 abbrev pub touch_at : Direction → Size → Result ℕ Cause → Option Touch

@@ -3,18 +3,14 @@
 ghost use Rattle.std.specs.Prelude.{◌≡◌};
 ghost use Rattle.guest_arithmetic.specs.Flags.{with_changes};
 ghost use Rattle.guest_machine.specs.Step.{is_cleared, finished, concluded, settled, compute_in, compute_out, add_field, compute_plain, compute_number, compute_of, test_of, multiply_of, shift_of, all_unsettled};
-ghost use Rattle.guest_machine.specs.Use.{Does};
+ghost use Rattle.guest_operands.specs.Use.{Does};
 
-use crate::frame::Frame;
 use crate::moves::immediate;
-use crate::operand::charged;
-use crate::slot::{Slot, number_at, put, take_operand};
-use crate::space::Space;
-use crate::state::{State, register};
-use crate::stop::Stop;
-use crate::uses::used;
 use amd64_subset::{Arithmetic, Memory, Operand, Operands, Register, Shift, Width};
 use guest_arithmetic::{Change, Changes, Effect, Values, compute, product, shift, with_changes};
+use guest_operands::{
+    Frame, Slot, Space, State, Stop, charged, number_at, put, register, take_operand, used,
+};
 
 /// Whether a register is combined with itself to 0, whatever it holds.
 #[tactic(auto, unfolding(crate::specs::Step::is_cleared))]

@@ -2,17 +2,11 @@
 
 ghost use Rattle.std.specs.Prelude.{◌≡◌};
 ghost use Rattle.guest_machine.specs.Step.{jump_of, jump_if, nop_use, nop_of};
-ghost use Rattle.guest_machine.specs.Use.{Does};
+ghost use Rattle.guest_operands.specs.Use.{Does};
 
-use crate::frame::Frame;
-use crate::operand::address;
-use crate::slot::take_operand;
-use crate::space::Space;
-use crate::state::State;
-use crate::stop::Stop;
-use crate::uses::used;
 use amd64_subset::{Condition, Operand, Target, Width};
 use guest_arithmetic::{Cause, Values, condition};
+use guest_operands::{Frame, Space, State, Stop, address, take_operand, used};
 
 /// jmp
 #[tactic(auto, unfolding(crate::specs::Step::jump_of))]

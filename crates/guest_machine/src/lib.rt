@@ -4,7 +4,8 @@
 //! this crate has a machine for the instructions that compilers write around thread-local storage:
 //! moves, arithmetic with the four flags CF, ZF, SF and OF, pushes and pops, jumps, calls. Which bytes
 //! spell an instruction is `amd64_subset`'s to say; what one does is said here, by Intel's manual
-//! (volume 2), one definition an instruction, in `specs/Step.antt`.
+//! (volume 2), one definition an instruction, in `specs/Step.antt`. How its operands are found, read and
+//! written is `guest_operands`'.
 //!
 //! **A step** fetches up to 15 bytes at the machine's place, reads an instruction, and does it whole or
 //! not at all. `48 8b 07`, mov (%rdi), %rax, asks for %rdi as a number, loads eight bytes there, and
@@ -25,8 +26,8 @@
 //! the first cause where several stand. So one step serves twice: to run an image, and to check that a
 //! program does nothing that depends on what the linker chose.
 //!
-//! **What memory is is a parameter** (`Space`): what may be fetched, loaded and stored where. Contracts
-//! see it as ranges of bytes with rights. `guest_memory` has one in owned bytes.
+//! **What memory is is a parameter** (`Space` of `guest_operands`): what may be fetched, loaded and stored
+//! where. Contracts see it as ranges of bytes with rights. `guest_memory` has one in owned bytes.
 //!
 //! **What an instruction touches** is told without a memory (`Machine::touches`): its accesses in their
 //! order, at most two. `ff 53 08`, call *8(%rbx), loads eight bytes at %rbx + 8 and then stores eight below
@@ -40,25 +41,16 @@
 #![tactic(auto)]
 
 mod compute;
-mod frame;
 mod jump;
 pub mod laws;
 mod machine;
 mod moves;
-mod operand;
 mod run;
-mod slot;
-mod space;
 mod stack;
-mod state;
 mod step;
-mod stop;
 mod touch;
-mod uses;
 
+pub use guest_operands::{Access, Registers, Size, Space, State, Stop};
 pub use machine::Machine;
 pub use run::{DESCRIPTOR, GET_ADDRESS, RETURN};
-pub use space::{Access, Size, Space};
-pub use state::{Registers, State};
-pub use stop::Stop;
 pub use touch::{Direction, Touch, Touches};

@@ -3,22 +3,19 @@
 ghost use Rattle.std.specs.Prelude.{◌≡◌, ◌-◌, ◌^◌, ◌<◌, ◌≤◌, max};
 ghost use Rattle.amd64_subset.specs.Register.{register_of};
 ghost use Rattle.guest_machine.specs.Machine.{Answers, answer_of};
-ghost use Rattle.guest_machine.specs.Ranges.{range_accesses, is_field_of};
+ghost use Rattle.guest_operands.specs.Ranges.{range_accesses, is_field_of};
 ghost use Rattle.guest_machine.specs.Run.{Runs};
-ghost use Rattle.guest_machine.specs.State.{start_of, with_register};
-ghost use Rattle.guest_machine.specs.State as state;
+ghost use Rattle.guest_operands.specs.State.{start_of, with_register};
+ghost use Rattle.guest_operands.specs.State as state;
 ghost use Rattle.guest_machine.specs.Touch.{next_touches};
 
-use crate::frame::frame_at;
 use crate::run::run;
-use crate::space::Space;
 use crate::stack::return_from;
-use crate::state::{State, register, set_register, start};
 use crate::step::instruction;
-use crate::stop::Stop;
 use crate::touch::{Touches, touches_of};
 use amd64_subset::Register;
 use guest_arithmetic::{Flags, Values};
+use guest_operands::{Space, State, Stop, frame_at, register, set_register, start};
 use std::marker::Model;
 
 /// A machine and the number of steps that it took.

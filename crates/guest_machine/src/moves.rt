@@ -1,20 +1,18 @@
 //! mov, movzx, movslq and lea.
 
 ghost use Rattle.std.specs.Prelude.{◌≡◌, ◌<◌, IfOk};
-ghost use Rattle.guest_machine.specs.Access.{bytes_in};
+ghost use Rattle.guest_operands.specs.Access.{bytes_in};
 ghost use Rattle.guest_arithmetic.specs.Arithmetic.{span_of};
-ghost use Rattle.guest_machine.specs.Operand.{carried_as};
+ghost use Rattle.guest_operands.specs.Operand.{carried_as};
 ghost use Rattle.guest_machine.specs.Step.{immediate_of, sign_extended, move_in, stored, store_byte, move_number, move_of, extend_byte, extend_long, load_address};
-ghost use Rattle.guest_machine.specs.Use.{Does};
+ghost use Rattle.guest_operands.specs.Use.{Does};
 
-use crate::frame::Frame;
-use crate::operand::{address, carried, kept, kept_byte, size, unmoved};
-use crate::space::{Size, Space};
-use crate::state::{State, register, set_register};
-use crate::stop::Stop;
-use crate::uses::{load, store, used};
 use amd64_subset::{Memory, Operand, Operands, Register, Width};
 use guest_arithmetic::{Cause, Values, low};
+use guest_operands::{
+    Frame, Size, Space, State, Stop, address, carried, kept, kept_byte, load, register,
+    set_register, size, store, unmoved, used,
+};
 
 /// The immediate at a width.
 #[tactic(auto, unfolding(crate::specs::Step::immediate_of))]

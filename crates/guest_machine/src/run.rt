@@ -3,11 +3,9 @@
 ghost use Rattle.std.specs.Prelude.{◌≡◌};
 ghost use Rattle.guest_machine.specs.Run.{Runs, returned, is_look};
 
-use crate::space::Space;
-use crate::state::State;
 use crate::step::step;
-use crate::stop::Stop;
 use guest_arithmetic::{Cause, Values};
+use guest_operands::{Space, State, Stop};
 
 /// Where a call returns to.
 pub const RETURN: u64 = 0x2000;

@@ -3,16 +3,13 @@
 ghost use Rattle.std.specs.Prelude.{◌≡◌};
 ghost use Rattle.amd64_subset.specs.declared.instr.Target.TheVariants.{Indirect};
 ghost use Rattle.guest_machine.specs.Step.{pushed, push_of, pop_of, leave_of, return_of, call_of};
-ghost use Rattle.guest_machine.specs.Use.{Does};
+ghost use Rattle.guest_operands.specs.Use.{Does};
 
-use crate::frame::Frame;
-use crate::slot::take_operand;
-use crate::space::{Size, Space};
-use crate::state::{State, register, set_register};
-use crate::stop::Stop;
-use crate::uses::{load, store, used};
 use amd64_subset::{Operand, Register, Target, Width};
 use guest_arithmetic::Values;
+use guest_operands::{
+    Frame, Size, Space, State, Stop, load, register, set_register, store, take_operand, used,
+};
 
 /// A word onto the stack, from where %rsp points.
 #[tactic(auto, unfolding(crate::specs::Step::pushed))]

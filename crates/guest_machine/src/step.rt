@@ -1,26 +1,23 @@
 //! One instruction, and one step.
 
 ghost use Rattle.std.specs.Prelude.{◌≡◌};
-ghost use Rattle.guest_machine.specs.Ranges.{range_accesses, is_field_of};
+ghost use Rattle.guest_operands.specs.Ranges.{range_accesses, is_field_of};
 ghost use Rattle.amd64_subset.specs.Decoding.{decoded};
-ghost use Rattle.guest_machine.specs.Access.{fetch_of};
+ghost use Rattle.guest_operands.specs.Access.{fetch_of};
 ghost use Rattle.guest_machine.specs.Step.{act, step_of};
-ghost use Rattle.guest_machine.specs.Use.{Does};
+ghost use Rattle.guest_operands.specs.Use.{Does};
 
 use crate::compute::{compute_operands, multiply, shift_operand, test};
-use crate::frame::{Frame, frame_at};
 use crate::jump::{jump, jump_if, nop};
 use crate::moves::{extend_byte, extend_long, load_address, move_operands, store_byte};
-use crate::space::Space;
 use crate::stack::{call, leave, pop, push, return_from};
-use crate::state::State;
-use crate::stop::Stop;
 use amd64_subset::Operation::{
     Call, Compute, ExtendByte, ExtendLong, Jump, JumpIf, Leave, LoadAddress, Move, Multiply, Nop,
     Pop, Push, Return, Shift, StoreByte, Test, Undefined,
 };
 use amd64_subset::{Decoded, Operation, decode};
 use guest_arithmetic::Values;
+use guest_operands::{Frame, Space, State, Stop, frame_at};
 
 /// One instruction.
 #[tactic(auto, unfolding(crate::specs::Step::act))]

@@ -5,16 +5,13 @@ ghost use Rattle.amd64_subset.specs.declared.operand.Operand.TheVariants.{InMemo
 ghost use Rattle.guest_machine.specs.declared.touch.Direction.TheVariants.{Load};
 ghost use Rattle.guest_machine.specs.Touch.{touch_at, paired, operand_touch, changed_touches, computed_touches, move_touches, compute_touches, call_touches, jump_touches, pop_touch, push_touch, touches_of};
 
-use crate::frame::Frame;
-use crate::operand::{address, size};
-use crate::space::Size;
-use crate::state::State;
 use amd64_subset::Operation::{
     Call, Compute, ExtendByte, ExtendLong, Jump, JumpIf, Leave, LoadAddress, Move, Multiply, Nop,
     Pop, Push, Return, Shift, StoreByte, Test, Undefined,
 };
 use amd64_subset::{Arithmetic, Memory, Operand, Operands, Operation, Target, Width};
 use guest_arithmetic::{Cause, Values};
+use guest_operands::{Frame, Size, State, address, size};
 
 /// Which way an access goes.
 #[derive(Clone, Copy, PartialEq, Eq, Debug)]

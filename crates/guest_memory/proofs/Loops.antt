@@ -2,10 +2,10 @@
 use Rattle.std.proofs.Common.{◌≡◌, ℕ, suc, ◌+◌, ◌-◌, ◌<◌, ◌≤◌, true, false, List, [], ◌∷◌, ◌++◌, length, take, set, Option, Some, None, refl, sym, ap, ◌∙◌, append_assoc, append-nil, length-take, arith}
 use Rattle.std.proofs.lemmas.List.{take_more_set}
 use Rattle.std.specs.Prelude.{is_some, option_map, option_and_then}
-use Rattle.guest_machine.specs.declared.space.Access.TheVariants.{Read, Write, Run}
+use Rattle.guest_operands.specs.declared.space.Access.TheVariants.{Read, Write, Run}
 use Rattle.guest_arithmetic.specs.Values.{Operations}
-use Rattle.guest_machine.specs.Access.{next_place, bytes_from, put_all, code_at, fetch_of}
-use Rattle.guest_machine.specs.Ranges.{Range, AddressSpace, byte_in, range_accesses, with_byte}
+use Rattle.guest_operands.specs.Access.{next_place, bytes_from, put_all, code_at, fetch_of}
+use Rattle.guest_operands.specs.Ranges.{Range, AddressSpace, byte_in, range_accesses, with_byte}
 use Rattle.guest_memory.specs.Several.{before, bytes_in, all_writable}
 
 -- the bytes that are asked are those that were read and those that are left

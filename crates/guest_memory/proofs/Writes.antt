@@ -1,8 +1,8 @@
 -- A byte that is written changes the first range that may be written there, and no other.
 use Rattle.std.proofs.Common.{◌≡◌, ℕ, zero, suc, ◌-◌, ◌<◌, ◌≤◌, Bool, true, false, List, [], ◌∷◌, length, get_or, set, refl, ap, arith}
 use Rattle.std.specs.Prelude.{if◌then◌else◌, slice_set, ◌&&◌}
-use Rattle.guest_machine.specs.declared.space.Access.TheVariants.{Write}
-use Rattle.guest_machine.specs.Ranges.{Range, grants, holds, with_byte}
+use Rattle.guest_operands.specs.declared.space.Access.TheVariants.{Write}
+use Rattle.guest_operands.specs.Ranges.{Range, grants, holds, with_byte}
 use Rattle.guest_memory.specs.Writable.{first_writable}
 
 module _ {B : Type 0} (place : ℕ) (byte : B) where

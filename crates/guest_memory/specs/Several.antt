@@ -1,8 +1,8 @@
 -- Several bytes behind one another, over ranges.
 use Rattle.std.specs.Prelude.{ℕ, zero, suc, ◌&&◌, Bool, true, List, [], ◌∷◌, Option, Some, None, is_some}
-use Rattle.guest_machine.specs.declared.space.Access.TheVariants.{Read, Write}
-use Rattle.guest_machine.specs.Access.{next_place}
-use Rattle.guest_machine.specs.Ranges.{Range, byte_in}
+use Rattle.guest_operands.specs.declared.space.Access.TheVariants.{Read, Write}
+use Rattle.guest_operands.specs.Access.{next_place}
+use Rattle.guest_operands.specs.Ranges.{Range, byte_in}
 
 -- a byte before others, where all are there
 abbrev pub before : {B : Type 0} → Option B → Option (List B) → Option (List B)

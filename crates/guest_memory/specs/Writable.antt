@@ -1,7 +1,7 @@
 -- Which range takes a byte that is written.
 use Rattle.std.specs.Prelude.{ℕ, zero, suc, List, [], ◌∷◌, if◌then◌else◌}
-use Rattle.guest_machine.specs.declared.space.Access.TheVariants.{Write}
-use Rattle.guest_machine.specs.Ranges.{Range, grants}
+use Rattle.guest_operands.specs.declared.space.Access.TheVariants.{Write}
+use Rattle.guest_operands.specs.Ranges.{Range, grants}
 
 -- the first range that may be written at a place, or how many there are where none may
 abbrev pub first_writable : {B : Type 0} → List (Range B) → ℕ → ℕ

@@ -1,14 +1,14 @@
 //! Accesses of several bytes, made of their bytes.
 
 ghost use Rattle.std.specs.Prelude.{◌≡◌, ◌≤◌, length, take, is_some, option_map};
-ghost use Rattle.guest_machine.specs.Access.{fetch_of, store_of};
+ghost use Rattle.guest_operands.specs.Access.{fetch_of, store_of};
 ghost use Rattle.guest_arithmetic.specs.Four.{bytes_of};
-ghost use Rattle.guest_machine.specs.declared.space.Access.TheVariants.{Read, Write, Run};
-ghost use Rattle.guest_machine.specs.Ranges.{AddressSpace, range_accesses, is_field_of, byte_in, with_byte, Loads, Stores, StoresAs};
+ghost use Rattle.guest_operands.specs.declared.space.Access.TheVariants.{Read, Write, Run};
+ghost use Rattle.guest_operands.specs.Ranges.{AddressSpace, range_accesses, is_field_of, byte_in, with_byte, Loads, Stores, StoresAs};
 ghost use Rattle.guest_memory.specs.Several.{bytes_in, all_writable};
 
 use guest_arithmetic::{Four, Values};
-use guest_machine::Size;
+use guest_operands::Size;
 
 /// A memory that is reached one byte at a time. Where it can do this, `load`, `store` and `fetch`
 /// below do the rest of a `Space`.

@@ -1,4 +1,4 @@
-//! Memory for a `guest_machine`, one byte at a time.
+//! Memory for a guest machine, one byte at a time.
 //!
 //! A thread of a linked program sees a few ranges of addresses: its stack, its blocks of thread-local
 //! storage, the parts of the images that are loaded. Each byte of a range may be read, written or run,

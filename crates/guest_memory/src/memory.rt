@@ -3,12 +3,12 @@
 ghost use Rattle.std.specs.Prelude.{◌≡◌, [], ◌∷◌, ◌++◌, OnOk, OnErr, ◌==◌};
 ghost use Rattle.std.specs.List.{list_any};
 ghost use Rattle.guest_memory.specs.Writable.{first_writable};
-ghost use Rattle.guest_machine.specs.Ranges.{byte_in, with_byte};
+ghost use Rattle.guest_operands.specs.Ranges.{byte_in, with_byte};
 
 use crate::bytes::{Bytes, fetch, load, store};
 use crate::range::GuestRange;
 use guest_arithmetic::Values;
-use guest_machine::{Access, Size, Space};
+use guest_operands::{Access, Size, Space};
 use std::alloc::{AllocError, AllocFailed, Global};
 use std::marker::Model;
 
@@ -20,7 +20,7 @@ pub struct GuestMemory<B> {
 }
 
 impl<B> Model for GuestMemory<B> {
-    ghost use Rattle.guest_machine.specs.Ranges.{AddressSpace};
+    ghost use Rattle.guest_operands.specs.Ranges.{AddressSpace};
 
     ghost Value = { AddressSpace B };
 
@@ -121,7 +121,7 @@ impl<V: Values> Bytes<V> for GuestMemory<V::Byte> {
         write_in(&mut self.ranges, place, byte);
     }
 
-    #[tactic(auto, unfolding(guest_machine::specs::Ranges::is_field_of))]
+    #[tactic(auto, unfolding(guest_operands::specs::Ranges::is_field_of))]
     fn is_field(&self, place: u64) -> bool {
         is_among(&self.fields, place)
     }
@@ -142,7 +142,7 @@ impl<V: Values> Space<V> for GuestMemory<V::Byte> {
         store::<V, GuestMemory<V::Byte>>(self, place, size, word)
     }
 
-    #[tactic(auto, unfolding(guest_machine::specs::Ranges::is_field_of))]
+    #[tactic(auto, unfolding(guest_operands::specs::Ranges::is_field_of))]
     fn is_field(&self, place: u64) -> bool {
         is_among(&self.fields, place)
     }

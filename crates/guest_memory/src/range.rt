@@ -1,9 +1,9 @@
 //! A range of bytes with its rights.
 
 ghost use Rattle.std.specs.Prelude.{◌≡◌, ◌<◌, ◌-◌, IsTrue, slice_get, slice_set};
-ghost use Rattle.guest_machine.specs.Ranges.{grants, holds};
+ghost use Rattle.guest_operands.specs.Ranges.{grants, holds};
 
-use guest_machine::Access;
+use guest_operands::Access;
 use std::marker::Model;
 
 /// What may be done with the bytes of a range.
@@ -23,7 +23,7 @@ pub struct GuestRange<B> {
 }
 
 impl<B> Model for GuestRange<B> {
-    ghost use Rattle.guest_machine.specs.Ranges.{Range};
+    ghost use Rattle.guest_operands.specs.Ranges.{Range};
 
     ghost Value = { Range B };
 

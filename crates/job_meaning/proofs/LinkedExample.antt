@@ -14,13 +14,14 @@ use Rattle.amd64_subset.specs.Register.{register_of as named_register, number_of
 use Rattle.amd64_subset.specs.Row.{condition_of, fixed_row_of, row_of, escaped_row_of, arithmetic_of, shift_of, group_action, takes}
 use Rattle.amd64_subset.specs.Selectors.{allowed, displacement_size, memory_in, sib_at, selectors_at}
 use Rattle.amd64_subset.specs.Spelling.{field_of}
-use Rattle.guest_machine.specs.declared.state.State.{State}
+use Rattle.guest_operands.specs.declared.state.State.{State}
 use Rattle.guest_machine.specs.Access.{Refused, Accesses, code_at, fetch_of}
 use Rattle.guest_machine.specs.Operand.{base_of, index_of, address_of}
 use Rattle.guest_arithmetic.specs.Plain.{plain_operations}
 use Rattle.guest_machine.specs.State.{register_of, with_register, with_word, at_place, start_of}
 use Rattle.guest_machine.specs.Touch.{touches_of, next_touches, touched}
-use Rattle.guest_machine.specs.Step.{load_address, act, frame_of, step_of}
+use Rattle.guest_machine.specs.Frame.{frame_of}
+use Rattle.guest_machine.specs.Step.{load_address, act, step_of}
 use Rattle.guest_machine.specs.Use.{left}
 use Rattle.job_meaning.specs.declared.marks.Mark.{Mark}
 use Rattle.job_meaning.specs.declared.marks.Mark.TheVariants.{Usual, Field}

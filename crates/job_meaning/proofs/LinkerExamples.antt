@@ -15,13 +15,14 @@ use Rattle.amd64_subset.specs.Selectors.{allowed, displacement_size, memory_in, 
 use Rattle.guest_arithmetic.specs.declared.cause.Cause.TheVariants as cause
 use Rattle.guest_arithmetic.specs.Arithmetic.{compute_effect, sum_effect, sum_overflows}
 use Rattle.guest_arithmetic.specs.Flags.{with_changes}
-use Rattle.guest_machine.specs.declared.state.State.{State}
-use Rattle.guest_machine.specs.declared.stop.Stop.{Stop}
-use Rattle.guest_machine.specs.declared.stop.Stop.TheVariants.{Address, Code, Unclean}
+use Rattle.guest_operands.specs.declared.state.State.{State}
+use Rattle.guest_operands.specs.declared.stop.Stop.{Stop}
+use Rattle.guest_operands.specs.declared.stop.Stop.TheVariants.{Address, Code, Unclean}
 use Rattle.guest_machine.specs.Access.{Refused, Accesses, fetch_of, load_of, store_of}
 use Rattle.guest_machine.specs.Operand.{base_of, index_of, address_of, number_at, carried, taken_at, taken, put}
 use Rattle.guest_machine.specs.State.{register_of, with_register, with_word, start_of}
-use Rattle.guest_machine.specs.Step.{act, frame_of, pushed, call_of, compute_of, compute_out, is_cleared, concluded, finished, move_of, move_in, return_of}
+use Rattle.guest_machine.specs.Frame.{frame_of}
+use Rattle.guest_machine.specs.Step.{act, pushed, call_of, compute_of, compute_out, is_cleared, concluded, finished, move_of, move_in, return_of}
 use Rattle.guest_machine.specs.Touch.{touches_of, next_touches, touched}
 use Rattle.guest_machine.specs.Use.{After}
 use Rattle.job_meaning.specs.declared.marks.Mark.{Mark}

@@ -13,11 +13,12 @@ use Rattle.amd64_subset.specs.Spelling.{field_of}
 use Rattle.amd64_subset.proofs.Beginning.{none_lem}
 use Rattle.guest_arithmetic.specs.declared.cause.Cause.{Cause}
 use Rattle.guest_arithmetic.specs.declared.cause.Cause.TheVariants as cause
-use Rattle.guest_machine.specs.declared.state.State.{State}
-use Rattle.guest_machine.specs.declared.stop.Stop.TheVariants.{Code}
+use Rattle.guest_operands.specs.declared.state.State.{State}
+use Rattle.guest_operands.specs.declared.stop.Stop.TheVariants.{Code}
 use Rattle.guest_machine.specs.Access.{Accesses, closed, code_at, fetch_of}
 use Rattle.guest_machine.specs.Follow.{Follows, Alike, IsFollowed, IsKept, SameState, SameFrame, SameAfter}
-use Rattle.guest_machine.specs.Step.{field_at, frame_of, act_if, step_of}
+use Rattle.guest_machine.specs.Frame.{field_at, frame_of}
+use Rattle.guest_machine.specs.Step.{act_if, step_of}
 use Rattle.guest_machine.specs.Touch.{touches_of, touches_if, next_touches, touched}
 use Rattle.guest_machine.specs.Use.{plus}
 use Rattle.guest_arithmetic.specs.Values.{Operations}

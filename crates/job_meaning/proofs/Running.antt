@@ -2,9 +2,9 @@
 use Rattle.std.proofs.Common.{◌≡◌, ◌*◌, ◌≤◌, ℕ, ◌⊎◌, inl, inr, Bool, true, false, ◌==◌, Option, Some, None, Result, Ok, Err, refl, sym, ap, ◌∙◌, arith}
 use Rattle.std.specs.Prelude.{if◌then◌else◌}
 use Rattle.guest_arithmetic.specs.declared.cause.Cause.{Cause}
-use Rattle.guest_machine.specs.declared.state.State.{State}
-use Rattle.guest_machine.specs.declared.stop.Stop.{Stop}
-use Rattle.guest_machine.specs.declared.stop.Stop.TheVariants.{Returned, Look, Address, Code, Unclean, Steps}
+use Rattle.guest_operands.specs.declared.state.State.{State}
+use Rattle.guest_operands.specs.declared.stop.Stop.{Stop}
+use Rattle.guest_operands.specs.declared.stop.Stop.TheVariants.{Returned, Look, Address, Code, Unclean, Steps}
 use Rattle.guest_machine.specs.Access.{Accesses, closed}
 use Rattle.guest_machine.specs.Follow.{Uses, Follows, Alike, IsFollowed, IsKept, SameAfter}
 use Rattle.guest_machine.specs.Run.{Ends, Stepping, next_of, returned, is_look, machine, run}

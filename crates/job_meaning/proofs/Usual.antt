@@ -7,9 +7,10 @@ use Rattle.amd64_subset.specs.declared.instr.Decoded.{Decoded}
 use Rattle.amd64_subset.specs.Beginning.{begins_of}
 use Rattle.amd64_subset.specs.Decoding.{decoded}
 use Rattle.guest_arithmetic.specs.declared.cause.Cause.{Cause}
-use Rattle.guest_machine.specs.declared.state.State.{State}
+use Rattle.guest_operands.specs.declared.state.State.{State}
 use Rattle.guest_machine.specs.Access.{Accesses, code_at, fetch_of}
-use Rattle.guest_machine.specs.Step.{field_at, frame_of, act, act_if, step_of}
+use Rattle.guest_machine.specs.Frame.{field_at, frame_of}
+use Rattle.guest_machine.specs.Step.{act, act_if, step_of}
 use Rattle.guest_machine.specs.Use.{plus}
 use Rattle.guest_arithmetic.specs.Values.{Operations}
 use Rattle.job_meaning.specs.declared.marks.Mark.{Mark}

@@ -1,6 +1,6 @@
 -- The laws of one step, over memories of ranges.
 use Rattle.std.specs.Prelude.{◌≡◌, ℕ, Bool, false, Some, None}
-use Rattle.guest_machine.specs.declared.state.State.{State}
+use Rattle.guest_operands.specs.declared.state.State.{State}
 use Rattle.guest_machine.specs.Follow.{Follows, SameState, SameAfter}
 use Rattle.guest_arithmetic.specs.Plain.{plain_operations}
 use Rattle.guest_machine.specs.Ranges.{AddressSpace, range_accesses}

@@ -8,9 +8,9 @@ use Rattle.amd64_subset.specs.Beginning.{begins_of}
 use Rattle.amd64_subset.specs.Decoding.{decoded}
 use Rattle.guest_arithmetic.specs.declared.cause.Cause.{Cause}
 use Rattle.guest_arithmetic.specs.declared.cause.Cause.TheVariants as cause
-use Rattle.guest_machine.specs.declared.state.State.{State}
-use Rattle.guest_machine.specs.declared.stop.Stop.{Stop}
-use Rattle.guest_machine.specs.declared.stop.Stop.TheVariants.{Unclean}
+use Rattle.guest_operands.specs.declared.state.State.{State}
+use Rattle.guest_operands.specs.declared.stop.Stop.{Stop}
+use Rattle.guest_operands.specs.declared.stop.Stop.TheVariants.{Unclean}
 use Rattle.guest_machine.specs.Access.{Accesses, next_place, fetch_of}
 use Rattle.guest_machine.specs.Step.{act_if}
 use Rattle.guest_machine.specs.Touch.{next_touches, touched}

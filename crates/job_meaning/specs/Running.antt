@@ -1,8 +1,8 @@
 -- Runs of the meaning, where no sequence is a step yet: running into one is unclean, since its places are odd.
 use Rattle.std.specs.Prelude.{◌≡◌, ℕ, ◌==◌, Bool, true, Some, None, Result, Ok, Err, if◌then◌else◌}
 use Rattle.guest_arithmetic.specs.declared.cause.Cause.TheVariants as cause
-use Rattle.guest_machine.specs.declared.stop.Stop.{Stop}
-use Rattle.guest_machine.specs.declared.stop.Stop.TheVariants.{Returned, Look, Address, Code, Unclean, Steps}
+use Rattle.guest_operands.specs.declared.stop.Stop.{Stop}
+use Rattle.guest_operands.specs.declared.stop.Stop.TheVariants.{Returned, Look, Address, Code, Unclean, Steps}
 use Rattle.guest_machine.specs.Access.{Accesses}
 use Rattle.guest_machine.specs.Run.{Stepping, next_of, returned, is_look}
 use Rattle.guest_machine.specs.Use.{After}

@@ -12,14 +12,15 @@ use Rattle.amd64_subset.specs.Register.{register_of as named_register, number_of
 use Rattle.amd64_subset.specs.Row.{condition_of as encoded_condition, fixed_row_of, row_of, escaped_row_of, arithmetic_of, shift_of, group_action, takes}
 use Rattle.amd64_subset.specs.Selectors.{allowed, displacement_size, memory_in, sib_at, selectors_at}
 use Rattle.guest_arithmetic.specs.declared.cause.Cause.TheVariants.{Linker, Flags, Steps}
-use Rattle.guest_machine.specs.declared.stop.Stop.{Stop}
-use Rattle.guest_machine.specs.declared.stop.Stop.TheVariants.{Returned, Address, Code, Unclean}
+use Rattle.guest_operands.specs.declared.stop.Stop.{Stop}
+use Rattle.guest_operands.specs.declared.stop.Stop.TheVariants.{Returned, Address, Code, Unclean}
 use Rattle.guest_machine.specs.Access.{fetch_of, load_of, store_of}
 use Rattle.guest_arithmetic.specs.Arithmetic.{product_fits, product_effect}
 use Rattle.guest_arithmetic.specs.Flags.{with_changes, condition_of}
 use Rattle.guest_machine.specs.Operand.{base_of, index_of, address_of, kept, carried, number_at, taken_at, taken, put}
 use Rattle.guest_machine.specs.State.{register_of, with_register, start_of}
-use Rattle.guest_machine.specs.Step.{act, frame_of, move_of, move_in, stored, multiply_of, finished, pushed, push_of, call_of, return_of, jump_of, jump_if}
+use Rattle.guest_machine.specs.Frame.{frame_of}
+use Rattle.guest_machine.specs.Step.{act, move_of, move_in, stored, multiply_of, finished, pushed, push_of, call_of, return_of, jump_of, jump_if}
 use Rattle.job_meaning.specs.declared.values.Byte.TheVariants.{Value}
 use Rattle.guest_machine.specs.Touch.{touches_of, next_touches, touched}
 use Rattle.job_meaning.specs.Marked.{marked_operations}

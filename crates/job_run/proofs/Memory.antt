@@ -1,8 +1,8 @@
 -- The meaning's memory and the machine's: byte by byte the same, also under writes, and as code the same but where the linker's own stands.
 use Rattle.std.proofs.Common.{◌≡◌, ℕ, Bool, true, false, List, [], ◌∷◌, ◌++◌, Option, Some, None, refl, sym, ap, ◌∙◌, arith}
 use Rattle.std.specs.Prelude.{if◌then◌else◌, option_and_then}
-use Rattle.guest_machine.specs.declared.space.Access.{Access}
-use Rattle.guest_machine.specs.declared.space.Access.TheVariants.{Read, Write, Run}
+use Rattle.guest_operands.specs.declared.space.Access.{Access}
+use Rattle.guest_operands.specs.declared.space.Access.TheVariants.{Read, Write, Run}
 use Rattle.guest_machine.specs.Access.{Accesses, closed}
 use Rattle.guest_machine.specs.Follow.{All2, IsKept}
 use Rattle.guest_arithmetic.specs.Plain.{plain_operations}

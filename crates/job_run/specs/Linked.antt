@@ -1,6 +1,6 @@
 -- What two loads have in common, the meaning's and that of the image that was linked.
 use Rattle.std.specs.Prelude.{◌≡◌, ℕ, List, option_and_then}
-use Rattle.guest_machine.specs.declared.space.Access.TheVariants.{Read, Write, Run}
+use Rattle.guest_operands.specs.declared.space.Access.TheVariants.{Read, Write, Run}
 use Rattle.guest_machine.specs.Follow.{All2}
 use Rattle.guest_machine.specs.Ranges.{byte_in}
 use Rattle.job_meaning.specs.declared.marks.Mark.TheVariants.{Usual}

@@ -1,6 +1,6 @@
 -- Where the first machine never looks, the second may be one that nobody answers.
 use Rattle.std.proofs.Common.{ℕ, zero, suc, Option, Some, None, ap, inl, inr}
-use Rattle.guest_machine.specs.declared.stop.Stop.{Stop}
+use Rattle.guest_operands.specs.declared.stop.Stop.{Stop}
 use Rattle.guest_machine.specs.Run.{Next, Goes, Ends, Looks, Stepping}
 use Rattle.guest_machine.specs.Simulate.{Moves, Advances, OverAlike, IsSimulated}
 use Rattle.thread_blocks.specs.MachineTurns.{alone_next, alone}

@@ -1,6 +1,6 @@
 -- A call begins alike over related values: one definition serves both, and so its first looks do the same.
 use Rattle.std.proofs.Common.{◌≡◌, ℕ, zero, suc, ◌+◌, ◌-◌, ◌≤◌, false, List, [], ◌∷◌, Option, Some, None, refl, subst, sym, inr, arith}
-use Rattle.guest_machine.specs.declared.space.Access.{Access}
+use Rattle.guest_operands.specs.declared.space.Access.{Access}
 use Rattle.guest_machine.specs.Access.{bytes_from}
 use Rattle.guest_machine.specs.Follow.{All2, Alike, IsFollowed, SameState}
 use Rattle.guest_machine.specs.Ranges.{byte_in}

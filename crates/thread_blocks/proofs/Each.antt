@@ -1,6 +1,6 @@
 -- Threads that each do their own are alike where each is.
 use Rattle.std.proofs.Common.{◌≡◌, ℕ, zero, suc, ◌*◌, ◌≤◌, List, Option, Some, None, refl, ap, inl, inr}
-use Rattle.guest_machine.specs.declared.stop.Stop.{Stop}
+use Rattle.guest_operands.specs.declared.stop.Stop.{Stop}
 use Rattle.guest_machine.specs.Run.{Next, Goes, Ends, Looks, Stepping}
 use Rattle.guest_machine.specs.Simulate.{Moves, Advances, OverAlike, IsSimulated}
 use Rattle.thread_blocks.specs.Spaces.{next_image}

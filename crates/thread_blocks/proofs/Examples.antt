@@ -1,7 +1,7 @@
 -- Small worlds whose turns are computed, to see that the definitions say what they should.
 use Rattle.std.proofs.Common.{◌≡◌, ℕ, zero, suc, List, [], ◌∷◌, length, map, Option, Some, None, Bool, true, false, refl, ap, inr, arith}
-use Rattle.guest_machine.specs.declared.stop.Stop.{Stop}
-use Rattle.guest_machine.specs.declared.stop.Stop.TheVariants.{Returned, Steps, Unclean}
+use Rattle.guest_operands.specs.declared.stop.Stop.{Stop}
+use Rattle.guest_operands.specs.declared.stop.Stop.TheVariants.{Returned, Steps, Unclean}
 use Rattle.guest_arithmetic.specs.declared.cause.Cause.TheVariants.{Steps as NoStep}
 use Rattle.guest_machine.specs.Simulate.{Advances, OverAlike}
 use Rattle.thread_blocks.specs.TurnsAlike.{SameBegun, IsAlike}

@@ -21,18 +21,19 @@ use Rattle.amd64_subset.specs.declared.operand.Operands.TheVariants.{IntoRegiste
 use Rattle.amd64_subset.specs.Decoding.{decoded}
 use Rattle.guest_arithmetic.specs.declared.cause.Cause.{Cause}
 use Rattle.guest_arithmetic.specs.declared.effect.Effect.{Effect}
-use Rattle.guest_machine.specs.declared.frame.Frame.{Frame}
-use Rattle.guest_machine.specs.declared.slot.Slot.{Slot}
-use Rattle.guest_machine.specs.declared.slot.Slot.TheVariants.{Place, Register as OfSlot}
-use Rattle.guest_machine.specs.declared.state.State.{State}
-use Rattle.guest_machine.specs.declared.stop.Stop.{Stop}
+use Rattle.guest_operands.specs.declared.frame.Frame.{Frame}
+use Rattle.guest_operands.specs.declared.slot.Slot.{Slot}
+use Rattle.guest_operands.specs.declared.slot.Slot.TheVariants.{Place, Register as OfSlot}
+use Rattle.guest_operands.specs.declared.state.State.{State}
+use Rattle.guest_operands.specs.declared.stop.Stop.{Stop}
 use Rattle.guest_machine.specs.Access.{Refusal, Refused, Shut, Accesses, next_place, reached, bytes_from, bytes_at, all_write, put_all, code_at, fetch_of, load_of, store_of}
 use Rattle.guest_arithmetic.specs.Arithmetic.{bits_of, compute_effect, product_effect, shift_effect}
 use Rattle.guest_arithmetic.specs.Flags.{condition_of}
 use Rattle.guest_machine.specs.Operand.{size_of, address_of, number_at, carried, taken_at, taken, put}
 use Rattle.guest_machine.specs.Run.{Next, Goes, Ends, Looks, Outcome, Ended, Stepping, over_or, go_on, run, next_of, is_look, machine}
 use Rattle.guest_machine.specs.State.{register_of}
-use Rattle.guest_machine.specs.Step.{immediate_of, all_unsettled, is_cleared, nop_use, finished, concluded, move_in, stored, store_byte, move_number, move_of, extend_byte, extend_long, load_address, compute_in, compute_out, add_field, compute_plain, compute_number, compute_of, test_of, multiply_of, shift_of, pushed, push_of, pop_of, leave_of, return_of, call_of, jump_of, jump_if, nop_of, act, frame_of, act_if, step_of}
+use Rattle.guest_machine.specs.Frame.{frame_of}
+use Rattle.guest_machine.specs.Step.{immediate_of, all_unsettled, is_cleared, nop_use, finished, concluded, move_in, stored, store_byte, move_number, move_of, extend_byte, extend_long, load_address, compute_in, compute_out, add_field, compute_plain, compute_number, compute_of, test_of, multiply_of, shift_of, pushed, push_of, pop_of, leave_of, return_of, call_of, jump_of, jump_if, nop_of, act, act_if, step_of}
 use Rattle.guest_machine.specs.Use.{◌>>=◌, plus, clean, there, After}
 use Rattle.guest_arithmetic.specs.Values.{Operations}
 use Rattle.thread_blocks.specs.Spaces.{IsImage, after_of, mapped, next_image, outcome_image, IsRunImage}

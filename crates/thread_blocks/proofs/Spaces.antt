@@ -1,8 +1,8 @@
 -- A thread's space lets a machine do what its ranges let it do; and spaces that are related part by part stay so.
 use Rattle.std.proofs.Common.{◌≡◌, ℕ, zero, suc, ◌-◌, Bool, true, false, List, [], ◌∷◌, ◌++◌, length, Option, Some, None, refl, sym, ap, subst}
 use Rattle.std.specs.Prelude.{if◌then◌else◌, ◌&&◌, nat_le, nat_lt, slice_get, slice_set, ok_or}
-use Rattle.guest_machine.specs.declared.space.Access.{Access}
-use Rattle.guest_machine.specs.declared.space.Access.TheVariants.{Read, Write, Run}
+use Rattle.guest_operands.specs.declared.space.Access.{Access}
+use Rattle.guest_operands.specs.declared.space.Access.TheVariants.{Read, Write, Run}
 use Rattle.guest_machine.specs.Access.{Refused, reached}
 use Rattle.guest_machine.specs.Follow.{All2, Reaches, Alike, IsKept}
 use Rattle.guest_machine.specs.Ranges.{Range, grants, byte_in, with_byte, range_accesses, is_field_of}

@@ -1,7 +1,7 @@
 -- Threads of one kind follow threads of another, turn by turn and in any order; and an order gives each thread fronts of its history.
 use Rattle.std.proofs.Common.{◌≡◌, ◌⊎◌, ℕ, zero, suc, ◌+◌, ◌-◌, ◌*◌, ◌≤◌, List, [], ◌∷◌, ◌++◌, map, length, take, Option, Some, None, refl, sym, ap, subst, ◌∙◌, inl, inr, arith, append_assoc, append-nil}
 use Rattle.std.specs.Prelude.{slice_get, slice_set, option_and_then}
-use Rattle.guest_machine.specs.declared.stop.Stop.{Stop}
+use Rattle.guest_operands.specs.declared.stop.Stop.{Stop}
 use Rattle.guest_machine.specs.Run.{Outcome, Ended, Waits, run}
 use Rattle.guest_machine.specs.Simulate.{SameOut}
 use Rattle.guest_machine.specs.Follow.{All2}

@@ -1,7 +1,7 @@
 -- What a thread's memory is: its stack, its own blocks, and what stands there to be read and to be run.
 use Rattle.std.specs.Prelude.{◌≡◌, ℕ, ◌-◌, Bool, true, false, List, [], ◌∷◌, ◌++◌, slice_set, Option, Some, None, Result, Ok, Err, ok_or, option_and_then, if◌then◌else◌}
-use Rattle.guest_machine.specs.declared.space.Access.TheVariants.{Read, Write, Run}
-use Rattle.guest_machine.specs.declared.stop.Stop.{Stop}
+use Rattle.guest_operands.specs.declared.space.Access.TheVariants.{Read, Write, Run}
+use Rattle.guest_operands.specs.declared.stop.Stop.{Stop}
 use Rattle.guest_machine.specs.Access.{Refusal, Refused, Shut, Accesses, reached}
 use Rattle.guest_machine.specs.Follow.{All2}
 use Rattle.guest_machine.specs.Ranges.{Range, AddressSpace, grants, byte_in, with_byte}

@@ -1,6 +1,6 @@
 -- What threads do, turn by turn: a turn is a look at the events so far and the private steps up to the next look.
 use Rattle.std.specs.Prelude.{ℕ, zero, suc, ◌+◌, ◌-◌, ◌*◌, List, [], ◌∷◌, ◌++◌, length, replicate, slice_get, slice_set, Option, Some, None, option_and_then}
-use Rattle.guest_machine.specs.declared.stop.Stop.{Stop}
+use Rattle.guest_operands.specs.declared.stop.Stop.{Stop}
 use Rattle.guest_machine.specs.Run.{Stepping, Outcome, Ended, Waits, run}
 use Rattle.transcript_text.specs.declared.outcomes.Outcome.{Outcome as Answer}
 

@@ -71,7 +71,7 @@ impl Bytes<Plain> for Reach {
         }
     }
 
-    #[tactic(auto, unfolding(guest_machine::specs::Ranges::is_field_of))]
+    #[tactic(auto, unfolding(guest_operands::specs::Ranges::is_field_of))]
     fn is_field(&self, place: u64) -> bool {
         <GuestMemory<u8> as Bytes<Plain>>::is_field(&self.rest, place)
     }

@@ -1,5 +1,5 @@
 use Rattle.guest_arithmetic.specs.Plain.{plain_operations}
-use Rattle.guest_machine.specs.Ranges.{range_accesses}
+use Rattle.guest_operands.specs.Ranges.{range_accesses}
 use Rattle.guest_machine.proofs.Touching.{step-open}
 use Rattle.guest_machine.proofs.laws.reaches_what_it_touches.Goals as goal
 

@@ -1,6 +1,6 @@
 use Rattle.std.proofs.Common.{◌≡◌, suc, ◌+◌, ◌-◌, sym, ◌∙◌, ap, arith, eq-eqb, ne_eqb}
 use Rattle.guest_machine.specs.Run.{Ended, returned}
-use Rattle.guest_machine.specs.Use.{left}
+use Rattle.guest_operands.specs.Use.{left}
 use Rattle.guest_machine.proofs.Runs.{machine-over, machine-spent, machine-looks, machine-ends, machine-goes, runs-ended, runs-waits}
 use Rattle.guest_machine.proofs.run.run.Goals as goal
 
@@ -35,7 +35,8 @@ loop-state-preserved g c =
     let more : c.args.limit - c.loop-state.taken ≡ suc (c.args.limit - (c.loop-state.taken + 1)) = omega arith in
     record {
       same =
-          sym (machine-goes g.V.Values.operations _ _ (c.args.limit - (c.loop-state.taken + 1)) _ (ne_eqb _ _ c.if-state-eq-RETURN.false) (sym c.is_look.ensures ∙ c.if-is_look.false) c.in_default.ensures)
+          sym (machine-goes g.V.Values.operations _ _ (c.args.limit - (c.loop-state.taken + 1)) _ (ne_eqb _ _ c.if-state-eq-RETURN.false) (sym c.is_look.ensures ∙ c.if-is_look.false)
+          c.in_default.ensures)
           ∙ (rw more at c.loop-state.invariant.same);
       counted = omega arith;
     }

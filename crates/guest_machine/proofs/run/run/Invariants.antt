@@ -1,6 +1,6 @@
 use Rattle.std.proofs.Common.{◌≡◌, ◌+◌, ◌-◌}
 use Rattle.guest_machine.specs.Run.{machine_of, run}
-use Rattle.guest_machine.specs.Use.{left}
+use Rattle.guest_operands.specs.Use.{left}
 use Rattle.guest_machine.proofs.run.run.Given as goal
 
 -- what is left to run from here is what was to run at first, and no step was lost

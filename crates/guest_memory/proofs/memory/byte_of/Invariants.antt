@@ -1,5 +1,5 @@
 use Rattle.std.proofs.Common.{◌≡◌, drop}
-use Rattle.guest_machine.specs.Ranges.{byte_in}
+use Rattle.guest_operands.specs.Ranges.{byte_in}
 use Rattle.guest_memory.proofs.memory.byte_of.Given as goal
 
 -- no range so far grants it

@@ -1,7 +1,7 @@
 //! What a machine holds besides its memory.
 
 ghost use Rattle.std.specs.Prelude.{◌≡◌};
-ghost use Rattle.guest_machine.specs.State.{register_of, with_register, start_of};
+ghost use Rattle.guest_operands.specs.State.{register_of, with_register, start_of};
 
 use amd64_subset::Register;
 use guest_arithmetic::{Flags, Values};
@@ -39,7 +39,7 @@ pub struct State<W, F> {
 }
 
 #[tactic(auto, unfolding(crate::specs::State::register_of))]
-pub(crate) fn register<W: Copy>(registers: &Registers<W>, register: Register) -> W
+pub fn register<W: Copy>(registers: &Registers<W>, register: Register) -> W
     ensures { result ≡ register_of registers.now register }
 {
     match register {
@@ -63,7 +63,7 @@ pub(crate) fn register<W: Copy>(registers: &Registers<W>, register: Register) ->
 }
 
 #[tactic(auto, unfolding(crate::specs::State::with_register))]
-pub(crate) fn set_register<W: Copy>(registers: &mut Registers<W>, register: Register, word: W)
+pub fn set_register<W: Copy>(registers: &mut Registers<W>, register: Register, word: W)
     ensures { registers.new ≡ with_register registers.old register word }
 {
     match register {
@@ -88,7 +88,7 @@ pub(crate) fn set_register<W: Copy>(registers: &mut Registers<W>, register: Regi
 
 /// A machine before a call's first step.
 #[tactic(auto, unfolding(crate::specs::State::start_of))]
-pub(crate) fn start<V: Values>(
+pub fn start<V: Values>(
     place: u64,
     stack: u64,
     a: V::Word,

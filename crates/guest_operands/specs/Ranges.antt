@@ -1,10 +1,10 @@
 -- A memory as two finite lists: ranges of bytes with their rights, and the places of offset fields.
 use Rattle.std.specs.Prelude.{◌≡◌, ℕ, ◌-◌, ◌&&◌, ◌==◌, Bool, true, false, List, [], ◌∷◌, length, slice_get, slice_set, Option, None, Result, Ok, Err, ok_or, option_and_then, nat_le, nat_lt, if◌then◌else◌}
 use Rattle.std.specs.List.{list_any}
-use Rattle.guest_machine.specs.declared.space.Access.{Access}
-use Rattle.guest_machine.specs.declared.space.Access.TheVariants.{Read, Write, Run}
-use Rattle.guest_machine.specs.declared.space.Size.{Size}
-use Rattle.guest_machine.specs.Access.{Refusal, Refused, Accesses, reached, bytes_in, load_of, store_of}
+use Rattle.guest_operands.specs.declared.space.Access.{Access}
+use Rattle.guest_operands.specs.declared.space.Access.TheVariants.{Read, Write, Run}
+use Rattle.guest_operands.specs.declared.space.Size.{Size}
+use Rattle.guest_operands.specs.Access.{Refusal, Refused, Accesses, reached, bytes_in, load_of, store_of}
 use Rattle.guest_arithmetic.specs.Values.{Operations}
 
 -- bytes from a start on, and what may be done with each of them

@@ -2,11 +2,11 @@
 use Rattle.std.specs.Prelude.{◌≡◌, ℕ, ◌+◌, ◌%◌, ◌^◌, Result, Ok, Err}
 use Rattle.guest_arithmetic.specs.declared.cause.Cause.{Cause}
 use Rattle.guest_arithmetic.specs.declared.cause.Cause.TheVariants.{Linker}
-use Rattle.guest_machine.specs.declared.stop.Stop.{Stop}
-use Rattle.guest_machine.specs.declared.stop.Stop.TheVariants.{Address, Unclean}
-use Rattle.guest_machine.specs.declared.state.State.{State}
-use Rattle.guest_machine.specs.Access.{Refusal, Refused, Shut, Accesses}
-use Rattle.guest_machine.specs.Ranges.{AddressSpace, range_accesses}
+use Rattle.guest_operands.specs.declared.stop.Stop.{Stop}
+use Rattle.guest_operands.specs.declared.stop.Stop.TheVariants.{Address, Unclean}
+use Rattle.guest_operands.specs.declared.state.State.{State}
+use Rattle.guest_operands.specs.Access.{Refusal, Refused, Shut, Accesses}
+use Rattle.guest_operands.specs.Ranges.{AddressSpace, range_accesses}
 use Rattle.guest_arithmetic.specs.Cause.{cause_with}
 use Rattle.guest_arithmetic.specs.Values.{Operations}
 

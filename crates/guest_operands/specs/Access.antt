@@ -1,8 +1,8 @@
 -- What a memory lets a machine do, one byte at a time, and the accesses of several bytes that follow.
 use Rattle.std.specs.Prelude.{◌≡◌, ◌⊎◌, ℕ, Bool, true, false, zero, suc, ◌+◌, ◌%◌, ◌^◌, List, [], ◌∷◌, Option, Some, None, Result, Ok, Err}
 use Rattle.guest_arithmetic.specs.Values.{Operations}
-use Rattle.guest_machine.specs.declared.space.Size.{Size}
-use Rattle.guest_machine.specs.declared.space.Size.TheVariants.{Byte, Long, Quad}
+use Rattle.guest_operands.specs.declared.space.Size.{Size}
+use Rattle.guest_operands.specs.declared.space.Size.TheVariants.{Byte, Long, Quad}
 
 -- why an access does not take place
 pub data Refusal : Type 0 where

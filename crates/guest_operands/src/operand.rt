@@ -1,8 +1,8 @@
 //! What operands are: addresses, and words that are carried.
 
 ghost use Rattle.std.specs.Prelude.{◌≡◌, ◌<◌, ◌%◌, if◌then◌else◌};
-ghost use Rattle.guest_machine.specs.Operand.{factor_of, size_for, charged, unmoved, moved_by, base_of, index_of, address_of, kept, kept_byte, carried_as, carried};
-ghost use Rattle.guest_machine.specs.Ranges.{range_accesses};
+ghost use Rattle.guest_operands.specs.Operand.{factor_of, size_for, charged, unmoved, moved_by, base_of, index_of, address_of, kept, kept_byte, carried_as, carried};
+ghost use Rattle.guest_operands.specs.Ranges.{range_accesses};
 
 use crate::frame::Frame;
 use crate::space::{Size, Space};
@@ -24,7 +24,7 @@ fn factor(scale: Scale) -> u64
 }
 
 /// How many bytes an operand of the width has.
-pub(crate) fn size(width: Width) -> Size
+pub fn size(width: Width) -> Size
     ensures { result ≡ size_for width }
 {
     match width {
@@ -34,7 +34,7 @@ pub(crate) fn size(width: Width) -> Size
 }
 
 /// Where an offset field stands, any other cause is a misuse of the field.
-pub(crate) fn charged<A: Copy>(field: Option<u64>, answer: Result<A, Cause>) -> Result<A, Cause>
+pub fn charged<A: Copy>(field: Option<u64>, answer: Result<A, Cause>) -> Result<A, Cause>
     ensures { result ≡ charged field answer }
 {
     match (field, answer) {
@@ -44,7 +44,7 @@ pub(crate) fn charged<A: Copy>(field: Option<u64>, answer: Result<A, Cause>) -> 
 }
 
 /// A number that stands in an instruction, where no base is added.
-pub(crate) fn unmoved<V: Values>(field: Option<u64>, number: u64) -> Result<u64, Cause>
+pub fn unmoved<V: Values>(field: Option<u64>, number: u64) -> Result<u64, Cause>
     ensures { result ≡ unmoved V.operations field number }
 {
     match field {
@@ -99,7 +99,7 @@ fn index<V: Values>(registers: &Registers<V::Word>, index: Option<Index>) -> Res
 
 /// Where a memory operand lies.
 #[tactic(auto, unfolding(crate::specs::Operand::address_of))]
-pub(crate) fn address<V: Values>(
+pub fn address<V: Values>(
     frame: &Frame,
     state: &State<V::Word, V::Flag>,
     memory: &Memory,
@@ -122,7 +122,7 @@ fn segment(is_prefixed: bool, thread_pointer: u64) -> u64
 
 /// A register's word as it is carried at a width.
 #[tactic(auto, unfolding(crate::specs::Operand::kept))]
-pub(crate) fn kept<V: Values>(width: Width, word: V::Word) -> V::Word
+pub fn kept<V: Values>(width: Width, word: V::Word) -> V::Word
     ensures { result ≡ kept V.operations width word }
 {
     match width {
@@ -144,7 +144,7 @@ fn low<V: Values>(word: V::Word, modulus: u64) -> V::Word
 
 /// A word's lowest byte as it is carried.
 #[tactic(auto, unfolding(crate::specs::Operand::kept_byte))]
-pub(crate) fn kept_byte<V: Values>(word: V::Word) -> V::Word
+pub fn kept_byte<V: Values>(word: V::Word) -> V::Word
     ensures { result ≡ kept_byte V.operations word }
 {
     low::<V>(word, 256)
@@ -152,7 +152,7 @@ pub(crate) fn kept_byte<V: Values>(word: V::Word) -> V::Word
 
 /// What an operand holds, to be carried.
 #[tactic(auto, unfolding(crate::specs::Operand::carried))]
-pub(crate) fn carried<V: Values, S: Space<V>>(
+pub fn carried<V: Values, S: Space<V>>(
     width: Width,
     frame: &Frame,
     state: &State<V::Word, V::Flag>,

@@ -12,22 +12,22 @@ use Rattle.amd64_subset.specs.declared.operand.Operand.{Operand}
 use Rattle.amd64_subset.specs.declared.operand.Operand.TheVariants.{InMemory, Register as InRegister}
 use Rattle.guest_arithmetic.specs.declared.cause.Cause.{Cause}
 use Rattle.guest_arithmetic.specs.declared.cause.Cause.TheVariants.{Field}
-use Rattle.guest_machine.specs.declared.stop.Stop.{Stop}
-use Rattle.guest_machine.specs.declared.stop.Stop.TheVariants.{Unclean}
-use Rattle.guest_machine.specs.declared.state.Registers.{Registers}
-use Rattle.guest_machine.specs.declared.state.State.{State}
-use Rattle.guest_machine.specs.declared.frame.Frame.{Frame}
+use Rattle.guest_operands.specs.declared.stop.Stop.{Stop}
+use Rattle.guest_operands.specs.declared.stop.Stop.TheVariants.{Unclean}
+use Rattle.guest_operands.specs.declared.state.Registers.{Registers}
+use Rattle.guest_operands.specs.declared.state.State.{State}
+use Rattle.guest_operands.specs.declared.frame.Frame.{Frame}
 use Rattle.guest_arithmetic.specs.Values.{Operations}
-use Rattle.guest_machine.specs.Access.{Refusal, Accesses, bytes_in, load_of, store_of}
-use Rattle.guest_machine.specs.declared.slot.Slot.{Slot}
-use Rattle.guest_machine.specs.declared.space.Size.{Size}
-use Rattle.guest_machine.specs.declared.space.Size.TheVariants.{Long as LongSize, Quad as QuadSize}
-use Rattle.guest_machine.specs.declared.slot.Slot.TheVariants.{Place, Register as OfSlot}
-use Rattle.guest_machine.specs.declared.slot.Taken.{Taken}
+use Rattle.guest_operands.specs.Access.{Refusal, Accesses, bytes_in, load_of, store_of}
+use Rattle.guest_operands.specs.declared.slot.Slot.{Slot}
+use Rattle.guest_operands.specs.declared.space.Size.{Size}
+use Rattle.guest_operands.specs.declared.space.Size.TheVariants.{Long as LongSize, Quad as QuadSize}
+use Rattle.guest_operands.specs.declared.slot.Slot.TheVariants.{Place, Register as OfSlot}
+use Rattle.guest_operands.specs.declared.slot.Taken.{Taken}
 use Rattle.guest_arithmetic.specs.Arithmetic.{low}
-use Rattle.guest_machine.specs.State.{register_of, with_word}
+use Rattle.guest_operands.specs.State.{register_of, with_word}
 use Rattle.guest_arithmetic.specs.Cause.{used, both, cause_with}
-use Rattle.guest_machine.specs.Use.{◌>>=◌, plus, clean, there, refused_with, After, left}
+use Rattle.guest_operands.specs.Use.{◌>>=◌, plus, clean, there, refused_with, After, left}
 
 abbrev pub factor_of : Scale → ℕ
 factor_of One = 1

@@ -2,11 +2,11 @@
 
 ghost use Rattle.std.specs.Prelude.{◌≡◌, ◌<◌, IfOk};
 ghost use Rattle.guest_arithmetic.specs.Arithmetic.{span_of};
-ghost use Rattle.guest_machine.specs.Operand.{size_of, number_at, weighed, taken_at, taken, put};
-ghost use Rattle.guest_machine.specs.Access.{load_of};
-ghost use Rattle.guest_machine.specs.Ranges.{range_accesses};
+ghost use Rattle.guest_operands.specs.Operand.{size_of, number_at, weighed, taken_at, taken, put};
+ghost use Rattle.guest_operands.specs.Access.{load_of};
+ghost use Rattle.guest_operands.specs.Ranges.{range_accesses};
 ghost use Rattle.guest_arithmetic.specs.Cause.{cause_with};
-ghost use Rattle.guest_machine.specs.Use.{Does};
+ghost use Rattle.guest_operands.specs.Use.{Does};
 
 use crate::frame::Frame;
 use crate::operand::{address, size};
@@ -35,7 +35,7 @@ pub struct Taken {
 
 /// A word's use at a width.
 #[tactic(auto, unfolding(crate::specs::Operand::number_at))]
-pub(crate) fn number_at<V: Values>(width: Width, word: V::Word) -> Result<u64, Cause>
+pub fn number_at<V: Values>(width: Width, word: V::Word) -> Result<u64, Cause>
     ensures value { result ≡ number_at V.operations width word }
     ensures small { IfOk result (λ number. number < span_of width) }
 {
@@ -101,7 +101,7 @@ fn take_at<V: Values, S: Space<V>>(
 
 /// What an operand holds, to be used beside another use.
 #[tactic(auto, unfolding(crate::specs::Operand::taken))]
-pub(crate) fn take_operand<V: Values, S: Space<V>>(
+pub fn take_operand<V: Values, S: Space<V>>(
     width: Width,
     frame: &Frame,
     state: &State<V::Word, V::Flag>,
@@ -133,7 +133,7 @@ pub(crate) fn take_operand<V: Values, S: Space<V>>(
 
 /// Puts a result into its place.
 #[tactic(auto, unfolding(crate::specs::Operand::put))]
-pub(crate) fn put<V: Values, S: Space<V>>(
+pub fn put<V: Values, S: Space<V>>(
     width: Width,
     slot: Slot,
     word: V::Word,

@@ -1,8 +1,8 @@
 //! What stands around an instruction's operation.
 
 ghost use Rattle.std.specs.Prelude.{◌≡◌};
-ghost use Rattle.guest_machine.specs.Ranges.{is_field_of};
-ghost use Rattle.guest_machine.specs.Step.{frame_of, field_at};
+ghost use Rattle.guest_operands.specs.Ranges.{is_field_of};
+ghost use Rattle.guest_operands.specs.Frame.{frame_of, field_at};
 
 use crate::space::Space;
 use amd64_subset::Decoded;
@@ -33,8 +33,8 @@ fn field<V: Values, S: Space<V>>(space: &S, here: u64, within: Option<u8>) -> Op
     None
 }
 
-#[tactic(auto, unfolding(crate::specs::Step::frame_of))]
-pub(crate) fn frame_at<V: Values, S: Space<V>>(space: &S, here: u64, decoded: &Decoded) -> Frame
+#[tactic(auto, unfolding(crate::specs::Frame::frame_of))]
+pub fn frame_at<V: Values, S: Space<V>>(space: &S, here: u64, decoded: &Decoded) -> Frame
     ensures { result ≡ frame_of (is_field_of (S.memory space.now)) here decoded.now }
 {
     Frame {

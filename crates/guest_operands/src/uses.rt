@@ -1,16 +1,16 @@
 //! Uses and accesses by the instruction at an address.
 
 ghost use Rattle.std.specs.Prelude.{◌≡◌};
-ghost use Rattle.guest_machine.specs.Access.{bytes_in, load_of, store_of};
-ghost use Rattle.guest_machine.specs.Ranges.{range_accesses};
-ghost use Rattle.guest_machine.specs.Use.{clean, there, LeavesMemory};
+ghost use Rattle.guest_operands.specs.Access.{bytes_in, load_of, store_of};
+ghost use Rattle.guest_operands.specs.Ranges.{range_accesses};
+ghost use Rattle.guest_operands.specs.Use.{clean, there, LeavesMemory};
 
 use crate::space::{Size, Space};
 use crate::stop::Stop;
 use guest_arithmetic::{Cause, Values};
 
 /// A use by the instruction at a place.
-pub(crate) fn used<A: Copy>(here: u64, answer: Result<A, Cause>) -> Result<A, Stop>
+pub fn used<A: Copy>(here: u64, answer: Result<A, Cause>) -> Result<A, Stop>
     ensures { result ≡ clean here answer }
 {
     match answer {
@@ -20,7 +20,7 @@ pub(crate) fn used<A: Copy>(here: u64, answer: Result<A, Cause>) -> Result<A, St
 }
 
 /// A load by the instruction at a place.
-pub(crate) fn load<V: Values, S: Space<V>>(
+pub fn load<V: Values, S: Space<V>>(
     space: &S,
     here: u64,
     address: u64,
@@ -36,7 +36,7 @@ pub(crate) fn load<V: Values, S: Space<V>>(
 }
 
 /// A store by the instruction at a place.
-pub(crate) fn store<V: Values, S: Space<V>>(
+pub fn store<V: Values, S: Space<V>>(
     space: &mut S,
     here: u64,
     address: u64,

@@ -1,0 +1,6 @@
+pub mod Access
+pub mod Frame
+pub mod Operand
+pub mod Ranges
+pub mod State
+pub mod Use

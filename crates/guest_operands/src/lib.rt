@@ -1,0 +1,40 @@
+//! A machine's operands: where they lie, and how they are read and written.
+//!
+//! Most of what an x86-64 instruction does is to find its operands. Each is a register, a number in the
+//! instruction's own bytes, or memory at a base register plus an index times 1, 2, 4 or 8 plus a displacement
+//! (Intel's manual, volume 1, section 3.7.5), to which the FS prefix adds the thread pointer (psABI, section 3.4.6).
+//! That part is the same for mov and for imul, and stands here: what a machine holds ([`State`]), what a memory
+//! lets it do ([`Space`]), and each way in which an operand is read and written. `guest_machine` makes
+//! instructions, steps and runs of it.
+//!
+//! An example. `48 8b 44 f7 10` spells mov 0x10(%rdi,%rsi,8), %rax. With 0x5000 in %rdi and 2 in %rsi
+//! [`address`] is 0x5020, and [`carried`] is the word of the eight bytes there. Where one of them may not be read it is
+//! `Stop::Address` with the instruction's own place. In `64 48 8b 44 f7 10` the thread pointer is added too.
+//!
+//! **A word is carried or used.** The parameter `Values` of `guest_arithmetic` says what words are, and one
+//! may have no number, as the base of a thread's block, which the linker is free to choose. [`carried`] takes
+//! such a word along whole; of a part of it nothing is known. An address, and what [`take_operand`] reads, is
+//! used: where there is no number the stop is `Unclean`, with the first cause where several stand.
+//!
+//! The rule that the crate keeps: **a stop leaves all as it was.** An instruction's uses of registers are asked before
+//! its memory is; a load changes nothing; [`store`] and [`put`] write an operand whole or not at all.
+//!
+//! Contracts see a memory as ranges of bytes with rights, and the places of offset fields (`specs/Ranges.antt`).
+//! Each access is defined by its single bytes (`specs/Access.antt`), operands are in `specs/Operand.antt`.
+#![tactic(auto)]
+
+mod frame;
+mod operand;
+mod slot;
+mod space;
+mod state;
+mod stop;
+mod uses;
+
+pub use frame::{Frame, frame_at};
+pub use operand::{address, carried, charged, kept, kept_byte, size, unmoved};
+pub use slot::{Slot, Taken, number_at, put, take_operand};
+pub use space::{Access, Size, Space};
+pub use state::{Registers, State, register, set_register, start};
+pub use stop::Stop;
+pub use uses::{load, store, used};
