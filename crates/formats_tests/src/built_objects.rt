@@ -5,10 +5,17 @@ use elf_records::section_header::{SHT_RELA, SHT_STRTAB, SHT_SYMTAB};
 use elf_records::symbol::{STT_FUNC, STT_TLS};
 use elf_records::{Header, SectionHeader, read_header, read_rela, read_section, read_symbol};
 use object_builder::{Section, Symbol, draft_of, object_of, rela};
+use std::alloc::{AllocError, Global};
 use std::test::Fail;
 
-#[test]
-fn builds_an_object(rt: HostRuntime) -> Result<(), Fail> {
+/// Where the contents of sections begin: behind the headers of the file and of eight sections.
+const CONTENTS: u64 = Header::SIZE + 8 * SectionHeader::SIZE;
+
+/// Of the object below: 13 bytes of contents, one relocation, three symbols, and the names.
+const LENGTH: usize = 576 + 13 + 24 + 72 + 5 + 52;
+
+/// An object of a function and of two thread-local variables, one of which has no bytes.
+fn example(alloc: Global) -> Result<Vec<u8>, AllocError> {
     let relocations = [rela(4, R_X86_64_TPOFF32, 2, 0)];
     let sections = [
         Section::code(b"\x64\x8b\x04\x25\0\0\0\0\xc3").with(&relocations),
@@ -19,10 +26,13 @@ fn builds_an_object(rt: HostRuntime) -> Result<(), Fail> {
         Symbol::global(b"f", STT_FUNC, 1, 0, 9),
         Symbol::global(b"x", STT_TLS, 3, 0, 4),
     ];
-    let bytes = object_of(rt.alloc(), &sections, &symbols)?;
-    // the headers of the file and of eight sections, 13 bytes of contents, a relocation, three symbols, names
-    let contents = Header::SIZE + 8 * SectionHeader::SIZE;
-    assert_eq!(rt; bytes.len(), 576 + 13 + 24 + 72 + 5 + 52);
+    object_of(alloc, &sections, &symbols)
+}
+
+#[test]
+fn builds_the_headers(rt: HostRuntime) -> Result<(), Fail> {
+    let bytes = example(rt.alloc())?;
+    assert_eq!(rt; bytes.len(), LENGTH);
     let header = read_header(&bytes, 0).ok_or("there is a header")?;
     assert_eq!(rt; (header.e_shnum, header.e_shstrndx), (8, 7));
     let kinds = [0, 1, SHT_RELA, 1, 8, SHT_SYMTAB, SHT_STRTAB, SHT_STRTAB];
@@ -31,9 +41,15 @@ fn builds_an_object(rt: HostRuntime) -> Result<(), Fail> {
         let section = read_section(&bytes, at).ok_or("there is a section")?;
         assert_eq!(rt; section.kind, *kind);
     }
-    let relocation = read_rela(&bytes, contents + 13).ok_or("there is a relocation")?;
-    assert_eq!(rt; relocation, relocations[0]);
-    let x = read_symbol(&bytes, contents + 13 + 24 + 48).ok_or("there is x")?;
+    Ok(())
+}
+
+#[test]
+fn builds_the_tables(rt: HostRuntime) -> Result<(), Fail> {
+    let bytes = example(rt.alloc())?;
+    let relocation = read_rela(&bytes, CONTENTS + 13).ok_or("there is a relocation")?;
+    assert_eq!(rt; relocation, rela(4, R_X86_64_TPOFF32, 2, 0));
+    let x = read_symbol(&bytes, CONTENTS + 13 + 24 + 48).ok_or("there is x")?;
     assert_eq!(rt; (x.shndx, x.size), (3, 4));
     Ok(())
 }

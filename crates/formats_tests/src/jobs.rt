@@ -111,19 +111,21 @@ fn repeated(alloc: Global, text: &str, count: usize) -> Result<String, Fail> {
     Ok(all)
 }
 
-#[test]
-fn takes_65536_lines(rt: HostRuntime) -> Result<(), Fail> {
-    let alloc = rt.alloc();
+/// A job of 65,538 lines, of which the last two do not count: an image and a comment.
+fn long_job(alloc: Global, behind: &str) -> Result<String, Fail> {
     let mut lines = repeated(alloc, "\n", 65_535)?;
     lines.push_str("image app exe a.o\n\n# skipped lines may follow\n")?;
-    let found = fault_text(alloc, lines.as_str())?;
-    assert_eq!(rt; found.as_str(), "");
-    lines.push_str("fuel 0")?;
-    let found = fault_text(alloc, lines.as_str())?;
-    assert_eq!(rt; found.as_str(), "65539 Count");
-    lines.push_str(" \t")?;
-    let found = fault_text(alloc, lines.as_str())?;
-    assert_eq!(rt; found.as_str(), "65539 NotText");
+    lines.push_str(behind)?;
+    Ok(lines)
+}
+
+#[test]
+fn takes_65536_lines(rt: HostRuntime) -> Result<(), Fail> {
+    for (behind, want) in [("", ""), ("fuel 0", "65539 Count"), ("fuel 0 \t", "65539 NotText")] {
+        let job = long_job(rt.alloc(), behind)?;
+        let found = fault_text(rt.alloc(), job.as_str())?;
+        assert_eq!(rt; found.as_str(), want);
+    }
     Ok(())
 }
 
@@ -161,10 +163,8 @@ fn lines_of(alloc: Global, job: &Job, thread: u32) -> Result<String, Fail> {
     Ok(all)
 }
 
-#[test]
-fn reads_a_job(rt: HostRuntime) -> Result<(), Fail> {
-    let alloc = rt.alloc();
-    let job = Job::read(alloc, GOOD.as_bytes())?;
+/// The images of a job, as one text.
+fn images_of(alloc: Global, job: &Job) -> Result<String, Fail> {
     let mut images = String::new(alloc);
     for image in job.images() {
         let name = image.name.as_str();
@@ -176,31 +176,54 @@ fn reads_a_job(rt: HostRuntime) -> Result<(), Fail> {
         }
         images.push_str("; ")?;
     }
+    Ok(images)
+}
+
+#[test]
+fn reads_images(rt: HostRuntime) -> Result<(), Fail> {
+    let job = Job::read(rt.alloc(), GOOD.as_bytes())?;
+    let images = images_of(rt.alloc(), &job)?;
     assert_eq!(rt;
         images.as_str(),
         "app Pie a.o; lib Start l.o; plug Late p.o q.o; more Late m.o; "
     );
     assert_eq!(rt; job.number("plug"), Some(3));
     assert_eq!(rt; job.number("plu"), None);
+    Ok(())
+}
+
+#[test]
+fn reads_threads(rt: HostRuntime) -> Result<(), Fail> {
+    let job = Job::read(rt.alloc(), GOOD.as_bytes())?;
     assert_eq!(rt; job.threads(), 2);
     assert_eq!(rt; job.fuel(), 4_294_967_295);
     assert_eq!(rt; job.order(), [2, 1, 2].as_slice());
-    let first = lines_of(alloc, &job, 1)?;
-    assert_eq!(rt;
-        first.as_str(),
-        "open 3; peek 3 v 4096; close 3; call 1 main 0 0 0; "
-    );
-    let second = lines_of(alloc, &job, 2)?;
-    assert_eq!(rt;
-        second.as_str(),
-        "call 2 f 1 18446744073709551615 0; open 4; "
-    );
     assert_eq!(rt; job.lines(0).len(), 0);
     assert_eq!(rt; job.lines(3).len(), 0);
+    Ok(())
+}
 
-    let small = Job::read(alloc, b"image app exe a.o\n1 call app f 0 0 0\n")?;
-    assert_eq!(rt; small.threads(), 1);
-    assert_eq!(rt; small.fuel(), 100_000);
-    assert_eq!(rt; small.order().len(), 0);
+#[test]
+fn reads_lines(rt: HostRuntime) -> Result<(), Fail> {
+    let job = Job::read(rt.alloc(), GOOD.as_bytes())?;
+    let lines = lines_of(rt.alloc(), &job, 1)?;
+    assert_eq!(rt;
+        lines.as_str(),
+        "open 3; peek 3 v 4096; close 3; call 1 main 0 0 0; "
+    );
+    let lines = lines_of(rt.alloc(), &job, 2)?;
+    assert_eq!(rt;
+        lines.as_str(),
+        "call 2 f 1 18446744073709551615 0; open 4; "
+    );
+    Ok(())
+}
+
+#[test]
+fn knows_what_is_not_said(rt: HostRuntime) -> Result<(), Fail> {
+    let job = Job::read(rt.alloc(), b"image app exe a.o\n1 call app f 0 0 0\n")?;
+    assert_eq!(rt; job.threads(), 1);
+    assert_eq!(rt; job.fuel(), 100_000);
+    assert_eq!(rt; job.order().len(), 0);
     Ok(())
 }

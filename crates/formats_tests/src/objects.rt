@@ -215,30 +215,46 @@ fn set_last(names: &mut Vec<u8>, number: u64) -> Result<(), Fail> {
     Ok(())
 }
 
+fn change_symbol(draft: &mut Draft, entry: &str, field: &str, number: u64) -> Result<(), Fail> {
+    let entry: usize = entry.parse()?;
+    let symbol = draft.symbols.get_mut(entry).ok_or("there is the symbol")?;
+    set_symbol(symbol, field, number)
+}
+
+fn change_relocation(draft: &mut Draft, entry: &str, field: &str, number: u64) -> Result<(), Fail> {
+    let entry: usize = entry.parse()?;
+    let relocation = draft.relocations.get_mut(entry).ok_or("there is one")?;
+    set_relocation(relocation, field, number)
+}
+
+fn change_section(draft: &mut Draft, entry: &str, field: &str, number: u64) -> Result<(), Fail> {
+    let entry: usize = entry.parse()?;
+    let header = draft.sections.get_mut(entry).ok_or("there is one")?;
+    set_section(header, field, number)
+}
+
+/// Changes a field of a record.
+fn set(draft: &mut Draft, record: &str, field: &str, number: u64) -> Result<(), Fail> {
+    if let Some(entry) = record.strip_prefix('y') {
+        return change_symbol(draft, entry, field, number);
+    }
+    if let Some(entry) = record.strip_prefix('r') {
+        return change_relocation(draft, entry, field, number);
+    }
+    match record {
+        "h" => set_header(&mut draft.header, field, number),
+        "names" => set_last(&mut draft.names, number),
+        "section_names" => set_last(&mut draft.section_names, number),
+        section => change_section(draft, section, field, number),
+    }
+}
+
 /// Makes a change.
 fn change(draft: &mut Draft, word: &str) -> Result<(), Fail> {
     let (place, number) = word.split_once('=').ok_or("a change has =")?;
     let (record, field) = place.split_once('.').ok_or("a change has .")?;
     let number: u64 = number.parse()?;
-    match record {
-        "h" => return set_header(&mut draft.header, field, number),
-        "names" => return set_last(&mut draft.names, number),
-        "section_names" => return set_last(&mut draft.section_names, number),
-        _ => {}
-    }
-    if let Some(entry) = record.strip_prefix('y') {
-        let entry: usize = entry.parse()?;
-        let symbol = draft.symbols.get_mut(entry).ok_or("there is the symbol")?;
-        return set_symbol(symbol, field, number);
-    }
-    if let Some(entry) = record.strip_prefix('r') {
-        let entry: usize = entry.parse()?;
-        let relocation = draft.relocations.get_mut(entry).ok_or("there is one")?;
-        return set_relocation(relocation, field, number);
-    }
-    let section: usize = record.parse()?;
-    let header = draft.sections.get_mut(section).ok_or("there is one")?;
-    set_section(header, field, number)
+    set(draft, record, field, number)
 }
 
 /// What reading answers, as a case writes it.

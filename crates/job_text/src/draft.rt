@@ -37,7 +37,7 @@ const MAX_THREADS: u64 = 64;
 const MAX_FUEL: u64 = 0xffff_ffff;
 
 /// Where an image stands: each group of images is counted from 0 in the order of the job.
-#[derive(Clone, Copy, PartialEq, Eq, Debug)]
+#[derive(Clone, Copy)]
 pub(crate) enum Slot {
     Program,
     Start(u8),

@@ -70,7 +70,7 @@ impl<T: Drop> From<AllocFailed<T>> for JobFault {
 }
 
 /// What is wrong with one line, before its number is known.
-#[derive(Debug, Drop)]
+#[derive(Drop)]
 pub(crate) enum Flaw {
     OutOfMemory,
     Kind(JobFaultKind),

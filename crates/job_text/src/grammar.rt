@@ -9,7 +9,7 @@ use crate::words::Words;
 use link_faults::ImageKind;
 
 /// What a thread does on its line.
-#[derive(Clone, Copy, PartialEq, Eq, Debug)]
+#[derive(Clone, Copy)]
 pub(crate) enum Verb {
     Call,
     Open,
@@ -18,7 +18,7 @@ pub(crate) enum Verb {
 }
 
 /// What a line is, by its first words.
-#[derive(Clone, Copy, PartialEq, Eq, Debug)]
+#[derive(Clone, Copy)]
 pub(crate) enum Heading {
     /// `image NAME KIND OBJ..`
     Image(ImageKind),

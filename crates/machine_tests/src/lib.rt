@@ -1,13 +1,9 @@
-//! Tests of the machine's layer that use public calls alone: of reading and writing
-//! instructions, of running them, and of marked values.
+//! Tests of the machine's layer that use public calls alone: of running instructions, and of marked values.
 //!
-//! They stand in a crate of their own, so that the crates that they test are proved once. What the
-//! tests expect comes from outside: from GNU as and objdump, and from the processor that ran the
-//! rows of `machine/rows.rt`.
+//! They stand in a crate of their own, so that the crates that they test are proved once. What the tests expect comes
+//! from outside: from the processor that ran the rows of `machine/rows.rt`.
 #![tactic(auto)]
 
-#[cfg(test)]
-mod instructions;
 #[cfg(test)]
 mod machine;
 #[cfg(test)]

@@ -16,7 +16,7 @@ pub const INITIAL_DATA: SectionClass = SectionClass::Writable { initial: true };
 pub const ZERO_DATA: SectionClass = SectionClass::Writable { initial: false };
 
 /// A section as a layout sees it. One that linking drops has no class, and takes no room.
-#[derive(Clone, Copy, PartialEq, Eq, Debug)]
+#[derive(Clone, Copy)]
 pub struct Section {
     pub class: Option<SectionClass>,
     /// How many bytes it has in memory.

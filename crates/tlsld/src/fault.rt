@@ -6,7 +6,7 @@ use ports::FetchFault;
 use std::alloc::{AllocError, AllocFailed};
 
 /// Why a command gives no output.
-#[derive(Debug, Drop)]
+#[derive(Drop)]
 pub enum CommandFault {
     /// The store failed.
     Store,
@@ -17,7 +17,7 @@ pub enum CommandFault {
 }
 
 /// What of the input is refused.
-#[derive(Debug, Drop)]
+#[derive(Drop)]
 pub enum InputRefusal {
     /// The path does not take this job yet.
     JobNotYet,
@@ -26,7 +26,7 @@ pub enum InputRefusal {
 }
 
 /// Why an object is refused.
-#[derive(Clone, Copy, Debug)]
+#[derive(Clone, Copy)]
 pub enum Reason {
     Fault {
         section: u64,

@@ -5,7 +5,7 @@ use elf_object::FaultKind;
 use std::alloc::AllocError;
 
 /// Why an object is refused.
-#[derive(Clone, Copy, Debug)]
+#[derive(Clone, Copy)]
 pub enum ObjectRefusal {
     /// There was no memory.
     OutOfMemory,

@@ -1,7 +1,7 @@
 -- What was read has a spelling.
 use Rattle.std.proofs.Common.{◌∙◌, sym, arith}
 use Rattle.amd64_encoder.proofs.Spellable.{decoded_spellable}
-use Rattle.machine_tests.proofs.instructions.writes.Goals as goal
+use Rattle.instruction_tests.proofs.instructions.writes.Goals as goal
 
 pub encode-requires : goal.encode-requires
 encode-requires g c =
