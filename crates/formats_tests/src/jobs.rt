@@ -121,7 +121,11 @@ fn long_job(alloc: Global, behind: &str) -> Result<String, Fail> {
 
 #[test]
 fn takes_65536_lines(rt: HostRuntime) -> Result<(), Fail> {
-    for (behind, want) in [("", ""), ("fuel 0", "65539 Count"), ("fuel 0 \t", "65539 NotText")] {
+    for (behind, want) in [
+        ("", ""),
+        ("fuel 0", "65539 Count"),
+        ("fuel 0 \t", "65539 NotText"),
+    ] {
         let job = long_job(rt.alloc(), behind)?;
         let found = fault_text(rt.alloc(), job.as_str())?;
         assert_eq!(rt; found.as_str(), want);

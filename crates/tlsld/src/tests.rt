@@ -6,6 +6,7 @@ use crate::tlsld;
 use objects::{function, reader};
 use ports::{MemorySink, MemoryStore};
 use std::alloc::Global;
+use std::process::Abort;
 use std::sync::Wait;
 use std::test::Fail;
 use std::thread::Threads;
@@ -98,6 +99,25 @@ fn runs_or_refuses_objects(rt: HostRuntime) -> Result<(), Fail> {
     Ok(())
 }
 
+/// Runs a job whose lines behind its image are these, over an object of one function, and compares what it says of its
+/// one line.
+fn check_call<R: Threads + Wait + Sync + Abort>(
+    rt: &R,
+    alloc: Global,
+    lines: &[u8],
+    code: &[u8],
+    outcome: &[u8],
+) -> Result<(), Fail> {
+    let mut job = b"image app exe a.o\n".to_vec(alloc)?;
+    job.extend_from_slice(lines)?;
+    let object = function(alloc, code)?;
+    let store = store_of(alloc, job.as_slice(), object.as_slice())?;
+    let (ended, put) = ends(rt, alloc, &["run", "job"], store, MemorySink::new(alloc))?;
+    assert_eq!(rt; ended, 0);
+    assert_eq!(rt; put.as_slice().strip_prefix(b"t1 l1 g0 "), Some(outcome));
+    Ok(())
+}
+
 #[test]
 fn runs_code(rt: HostRuntime) -> Result<(), Fail> {
     let alloc = rt.alloc();
@@ -131,15 +151,7 @@ fn runs_code(rt: HostRuntime) -> Result<(), Fail> {
         (b"1 call app g 0 0 0\n", b"\xc3", b"refused symbol\n"),
     ];
     for (line, code, result) in rows {
-        let mut job = b"image app exe a.o\n".to_vec(alloc)?;
-        job.extend_from_slice(line)?;
-        let object = function(alloc, code)?;
-        let store = store_of(alloc, job.as_slice(), object.as_slice())?;
-        let (ended, put) = ends(&rt, alloc, &["run", "job"], store, MemorySink::new(alloc))?;
-        let mut text = b"t1 l1 g0 ".to_vec(alloc)?;
-        text.extend_from_slice(result)?;
-        assert_eq!(rt; ended, 0);
-        assert_eq!(rt; put.as_slice(), text.as_slice());
+        check_call(&rt, alloc, line, code, result)?;
     }
     Ok(())
 }
