@@ -1,4 +1,4 @@
-//! Each public function once, on bytes from outside: those of an object that defines `_Thread_local int x` and calls
+//! Each reader once, on bytes from outside: those of an object that defines `_Thread_local int x` and calls
 //! `__tls_get_addr` for it, and for the last two records those of a C library (Debian's glibc 2.36). The fields
 //! expected are the ones that `readelf -h -S -s -r -l -d` of GNU Binutils 2.40 prints for these files.
 
@@ -9,9 +9,8 @@ use elf_records::relocation::R_X86_64_TLSGD;
 use elf_records::section_header::{SHF_ALLOC, SHF_TLS, SHF_WRITE, SHT_PROGBITS};
 use elf_records::symbol::{STB_GLOBAL, STT_TLS, STV_DEFAULT};
 use elf_records::{
-    DynamicEntry, Header, Rela, SectionHeader, Segment, SymbolEntry, fits, read_dynamic,
-    read_header, read_rela, read_section, read_segment, read_symbol, write_dynamic, write_header,
-    write_rela, write_section, write_segment, write_symbol,
+    DynamicEntry, Header, Rela, SectionHeader, Segment, SymbolEntry, read_dynamic, read_header,
+    read_rela, read_section, read_segment, read_symbol,
 };
 
 const HEADER: [u8; 64] = *b"\
@@ -44,7 +43,7 @@ const FLAGS: [u8; 16] = *b"\
     \x1e\0\0\0\0\0\0\0\x10\0\0\0\0\0\0\0";
 
 #[test]
-fn reads_and_writes_a_header(rt: HostRuntime) {
+fn reads_a_header(rt: HostRuntime) {
     let mut ident = [0; 16];
     ident[..7].copy_from_slice(&ELF_IDENT);
     let expected = Header {
@@ -64,15 +63,10 @@ fn reads_and_writes_a_header(rt: HostRuntime) {
         e_shstrndx: 7,
     };
     assert_eq!(rt; read_header(&HEADER, 0), Some(expected));
-    assert_eq!(rt; read_header(&HEADER, 1), None);
-    assert_eq!(rt; read_header(&HEADER, u64::MAX), None);
-    let mut copy = [0; 64];
-    write_header(&expected, &mut copy, 0);
-    assert_eq!(rt; copy, HEADER);
 }
 
 #[test]
-fn reads_and_writes_a_section_header(rt: HostRuntime) {
+fn reads_a_section_header(rt: HostRuntime) {
     // [ 3] .tdata  PROGBITS  0000000000000000 000251 000014 00 WAT  0   0  8
     let expected = SectionHeader {
         name: 18,
@@ -87,15 +81,10 @@ fn reads_and_writes_a_section_header(rt: HostRuntime) {
         entsize: 0,
     };
     assert_eq!(rt; read_section(&TDATA, 0), Some(expected));
-    assert_eq!(rt; read_section(&TDATA, 1), None);
-    assert_eq!(rt; read_section(&TDATA, u64::MAX), None);
-    let mut copy = [0; 64];
-    write_section(&expected, &mut copy, 0);
-    assert_eq!(rt; copy, TDATA);
 }
 
 #[test]
-fn reads_and_writes_a_symbol(rt: HostRuntime) {
+fn reads_a_symbol(rt: HostRuntime) {
     // 2: 0000000000000008     4 TLS     GLOBAL DEFAULT    3 x
     let expected = SymbolEntry {
         name: 3,
@@ -106,18 +95,13 @@ fn reads_and_writes_a_symbol(rt: HostRuntime) {
         size: 4,
     };
     assert_eq!(rt; read_symbol(&SYMBOL_X, 0), Some(expected));
-    assert_eq!(rt; read_symbol(&SYMBOL_X, 1), None);
-    assert_eq!(rt; read_symbol(&SYMBOL_X, u64::MAX), None);
-    let mut copy = [0; 24];
-    write_symbol(&expected, &mut copy, 0);
-    assert_eq!(rt; copy, SYMBOL_X);
     assert_eq!(rt; expected.binding(), STB_GLOBAL);
     assert_eq!(rt; expected.kind(), STT_TLS);
     assert_eq!(rt; expected.visibility(), STV_DEFAULT);
 }
 
 #[test]
-fn reads_and_writes_a_relocation(rt: HostRuntime) {
+fn reads_a_relocation(rt: HostRuntime) {
     // 0000000000000004  0000000200000013 R_X86_64_TLSGD  0000000000000008 x - 4
     let expected = Rela {
         offset: 4,
@@ -125,18 +109,13 @@ fn reads_and_writes_a_relocation(rt: HostRuntime) {
         addend: -4,
     };
     assert_eq!(rt; read_rela(&TLSGD, 0), Some(expected));
-    assert_eq!(rt; read_rela(&TLSGD, 1), None);
-    assert_eq!(rt; read_rela(&TLSGD, u64::MAX), None);
-    let mut copy = [0; 24];
-    write_rela(&expected, &mut copy, 0);
-    assert_eq!(rt; copy, TLSGD);
     assert_eq!(rt; expected.symbol(), 2);
     assert_eq!(rt; expected.kind(), R_X86_64_TLSGD);
     assert_eq!(rt; Rela::info_of(2, R_X86_64_TLSGD), expected.info);
 }
 
 #[test]
-fn reads_and_writes_a_program_header(rt: HostRuntime) {
+fn reads_a_program_header(rt: HostRuntime) {
     // TLS  0x1cf8d0 0x00000000001cf8d0 0x00000000001cf8d0 0x000010 0x000090 R  0x8
     let expected = Segment {
         kind: PT_TLS,
@@ -149,26 +128,14 @@ fn reads_and_writes_a_program_header(rt: HostRuntime) {
         align: 8,
     };
     assert_eq!(rt; read_segment(&TLS_SEGMENT, 0), Some(expected));
-    assert_eq!(rt; read_segment(&TLS_SEGMENT, 1), None);
-    assert_eq!(rt; read_segment(&TLS_SEGMENT, u64::MAX), None);
-    let mut copy = [0; 56];
-    write_segment(&expected, &mut copy, 0);
-    assert_eq!(rt; copy, TLS_SEGMENT);
 }
 
 #[test]
-fn reads_and_writes_a_dynamic_entry(rt: HostRuntime) {
+fn reads_a_dynamic_entry(rt: HostRuntime) {
     // 0x000000000000001e (FLAGS)  STATIC_TLS
     let expected = DynamicEntry {
         tag: DT_FLAGS,
         value: DF_STATIC_TLS,
     };
     assert_eq!(rt; read_dynamic(&FLAGS, 0), Some(expected));
-    assert_eq!(rt; read_dynamic(&FLAGS, 1), None);
-    assert_eq!(rt; read_dynamic(&FLAGS, u64::MAX), None);
-    let mut copy = [0; 16];
-    write_dynamic(&expected, &mut copy, 0);
-    assert_eq!(rt; copy, FLAGS);
-    assert!(rt; fits(&FLAGS, 0, DynamicEntry::SIZE));
-    assert!(rt; !fits(&FLAGS, u64::MAX, 1));
 }
