@@ -8,7 +8,7 @@ use Rattle.tls_layout.specs.Sections.{Layout}
 use Rattle.link_core.specs.Laying.{Progress, with_section, with_sections}
 use Rattle.link_core.specs.Parts.{placed_section, placed_object, placed_from}
 use Rattle.link_core.specs.declared.part.PartKind.{PartKind}
-use Rattle.link_core.proofs.Search.{range_first, range_none}
+use Rattle.tls_symbols.proofs.Search.{range_first, range_none}
 
 pub sections_append : (so_far : Progress) (xs ys : List Placed) → with_sections so_far (xs ++ ys) ≡ with_sections (with_sections so_far xs) ys
 sections_append so_far [] ys = refl

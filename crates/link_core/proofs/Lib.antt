@@ -6,7 +6,6 @@ pub mod Rising
 pub mod Standing
 pub mod Meant
 pub mod Offsets
-pub mod Search
 pub mod Sections
 pub mod Relocated
 pub mod Values

@@ -9,7 +9,7 @@ use Rattle.link_core.specs.Parts.{is_of}
 use Rattle.std.specs.List.{list_all, range_with_len}
 use Rattle.std.proofs.lemmas.Bool.{cases_lt}
 use Rattle.elf_object.specs.Object.{section_count}
-use Rattle.link_core.proofs.Search.{both_pass}
+use Rattle.tls_symbols.proofs.Search.{both_pass}
 use Rattle.link_core.proofs.Sections.{first_class, past_class}
 use Rattle.elf_object.specs.declared.relocation.Relocation.{Relocation}
 use Rattle.object_faults.specs.declared.relocation.RelocationKind.{RelocationKind}
@@ -18,7 +18,7 @@ use Rattle.elf_object.specs.Lawful.{IsLawful, IsKeptAs, has_initial}
 use Rattle.elf_object.specs.Lent.{symbol_place, symbol_binding, section_class, section_bytes, section_size, kept_relocation_table, relocations_in}
 use Rattle.elf_object.specs.Parts.{symbol_count}
 use Rattle.elf_object.specs.declared.symbol.SymbolBinding.TheVariants.{Global}
-use Rattle.link_core.specs.Definitions.{same_binding}
+use Rattle.tls_symbols.specs.Definitions.{same_binding}
 use Rattle.link_core.specs.Taken.{is_taken, is_tpoff, is_own_variable, is_small, section_is_taken, object_is_taken}
 
 third : (a b c d : Bool) → (a && (b && (c && d))) ≡ true → c ≡ true

@@ -21,7 +21,7 @@ use Rattle.tls_layout.specs.Statics.{tls_offset}
 use Rattle.tls_layout.proofs.Rounds.{round_up-near, power_bounds}
 use Rattle.tls_layout.proofs.Together.{power_more}
 use Rattle.tls_relocs.specs.ValueLaws.{signed_fits}
-use Rattle.link_core.specs.Definitions.{same_binding}
+use Rattle.tls_symbols.specs.Definitions.{same_binding}
 use Rattle.link_core.specs.Fields.{block_offset, offset_in, symbol_offset, field_of}
 use Rattle.link_core.specs.Taken.{is_own_variable, is_small, is_taken, is_tpoff}
 use Rattle.link_core.proofs.FieldBytes.{row_is}

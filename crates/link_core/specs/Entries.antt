@@ -7,8 +7,8 @@ use Rattle.tls_layout.specs.Sections.{Layout}
 use Rattle.tls_layout.specs.Places.{address_of, executable}
 use Rattle.link_core.specs.Parts.{object_at, is_of}
 use Rattle.link_core.specs.declared.part.PartKind.TheVariants.{Code}
-use Rattle.link_core.specs.Definitions.{definition_of}
-use Rattle.link_core.specs.declared.symbols.SymbolRef.{SymbolRef}
+use Rattle.tls_symbols.specs.Definitions.{definition_of}
+use Rattle.tls_symbols.specs.declared.symbols.SymbolRef.{SymbolRef}
 
 abbrev pub below : ℕ → ℕ → Option ℕ
 below end place = if nat_lt place end then Some place else None

@@ -1,4 +1,3 @@
-pub mod Definitions
 pub mod Entries
 pub mod Fields
 pub mod Laws

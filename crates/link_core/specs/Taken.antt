@@ -11,7 +11,7 @@ use Rattle.elf_object.specs.declared.symbol.SymbolPlace.{SymbolPlace}
 use Rattle.elf_object.specs.declared.symbol.SymbolPlace.TheVariants.{InSection}
 use Rattle.elf_object.specs.Lent.{section_class, symbol_binding, symbol_place, relocations}
 use Rattle.elf_object.specs.Object.{section_count}
-use Rattle.link_core.specs.Definitions.{same_binding}
+use Rattle.tls_symbols.specs.Definitions.{same_binding}
 
 abbrev pub is_tpoff : RelocationKind → Bool
 is_tpoff TpOff32 = true

@@ -3,9 +3,9 @@ ghost use Rattle.std.specs.Prelude.{◌≡◌, ◌+◌};
 ghost use Rattle.link_core.specs.Entries.{below, code_place, entry_of};
 
 use crate::part::{PartKind, address_or_zero, is_of};
-use crate::symbols::definition;
 use elf_object::{Object, SymbolPlace};
 use tls_layout::Placement;
+use tls_symbols::definition;
 
 /// Where a call of the name begins: the place of its definition, if that is a byte of the executable class.
 #[tactic(auto, unfolding(crate::specs::Entries::entry_of))]

@@ -12,8 +12,7 @@
 //! thread pointer (psABI AMD64, "Relocation Types"). Fields are written one after another, in the order of the
 //! section's entries.
 //!
-//! The rule of names: a name is the first GLOBAL symbol that defines it, in the order of objects and then of
-//! symbols, and if there is none, the first WEAK one (gABI, "Symbol Table"). It can be called if it stands in code,
+//! The rule of names: a name is its definition in the image (`tls_symbols`), and can be called if that stands in code,
 //! before the end of the code.
 //!
 //! An example: a.o defines `f` at the start of `.text`, and `x`, 4 bytes with the value 42, in `.tdata`. b.o has
@@ -34,8 +33,8 @@
 //! ```
 //!
 //! [`link`] makes the image of objects that [`takes`] accepts: each relocation is a TPOFF32 of a GLOBAL variable in
-//! the object's own thread-local storage, with an addend of -2^20 to 2^20, so that its value fits. [`definition`]
-//! and [`entry_place`] find names.
+//! the object's own thread-local storage, with an addend of -2^20 to 2^20, so that its value fits.
+//! [`entry_place`] finds a function by its name.
 //!
 //! The rule of meaning: **an image holds at each address what its objects mean there** (`specs/Meant`): the byte of
 //! the section that stands there, in a relocation's field the byte of its value, and between sections zero. That
@@ -45,9 +44,8 @@
 //! fields and else its own bytes, and the sections of a part rise.
 //!
 //! `specs/Taken` says which relocations are taken, `specs/Fields` what is written in a section, `specs/Parts` how
-//! sections make an image, `specs/Laying` what stands after each section that is laid down, and `specs/Definitions`
-//! and `specs/Entries` what a name is and where it stands. Linking copies each section once, and writes each field
-//! once.
+//! sections make an image, `specs/Laying` what stands after each section that is laid down, and `specs/Entries`
+//! where a name stands. Linking copies each section once, and writes each field once.
 #![tactic(auto)]
 
 mod entry;
@@ -55,11 +53,9 @@ mod fields;
 mod image;
 pub mod laws;
 mod part;
-mod symbols;
 mod taken;
 
 pub use entry::entry as entry_place;
 pub use image::{Linked, link};
 pub use part::PartKind;
-pub use symbols::{SymbolRef, definition};
 pub use taken::object_is_taken as takes;

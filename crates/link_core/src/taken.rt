@@ -9,7 +9,7 @@ use elf_object::{Object, Relocation, RelocationKind, SectionClass, SymbolBinding
 const ADDEND_LIMIT: u64 = 1 << 20;
 
 /// Whether each relocation of an object is taken.
-#[tactic(auto, using(crate::proofs::Search::all_fails, crate::proofs::Search::all_later, crate::proofs::Search::all_none), unfolding(crate::specs::Taken::object_is_taken))]
+#[tactic(auto, using(tls_symbols::proofs::Search::all_fails, tls_symbols::proofs::Search::all_later, tls_symbols::proofs::Search::all_none), unfolding(crate::specs::Taken::object_is_taken))]
 pub fn object_is_taken(object: &Object) -> bool
     ensures { result ≡ object_is_taken object.now }
 {

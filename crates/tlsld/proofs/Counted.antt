@@ -7,7 +7,7 @@ use Rattle.std.specs.Prelude.{fold, sum}
 use Rattle.std.specs.List.{list_all, list_any, range_with_len}
 use Rattle.elf_object.specs.Lent.{symbol_name, symbol_binding}
 use Rattle.elf_object.specs.declared.symbol.SymbolBinding.TheVariants.{Global}
-use Rattle.link_core.proofs.Search.{range_first, range_none, all_fails, all_later, all_none}
+use Rattle.tls_symbols.proofs.Search.{range_first, range_none, all_fails, all_later, all_none}
 use Rattle.tlsld.specs.SmallObjects.{get_address, is_small_name, has_small_name, names_at, global_names, all_new}
 
 sums : (x y : ℕ) (xs : List ℕ) → fold (λ a b. a + b) (x + y) xs ≡ x + fold (λ a b. a + b) y xs

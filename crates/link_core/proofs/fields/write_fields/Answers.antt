@@ -4,7 +4,7 @@ use Rattle.link_core.specs.Fields.{with_fields}
 use Rattle.link_core.specs.Taken.{is_taken}
 use Rattle.tls_relocs.specs.Fields.{field_patch}
 use Rattle.tls_relocs.specs.Patches.{patched}
-use Rattle.link_core.proofs.Search.{first_all, rest_all_of, first_passes, rest_passes}
+use Rattle.tls_symbols.proofs.Search.{first_all, rest_all_of, first_passes, rest_passes}
 use Rattle.link_core.proofs.Relocated.{there_of_lawful}
 use Rattle.link_core.proofs.fields.write_fields.Goals as goal
 

@@ -1,7 +1,7 @@
 use Rattle.std.proofs.Common.{All, sym, subst, ◌∙◌}
 use Rattle.elf_object.specs.Lawful.{IsLawful}
 use Rattle.link_core.specs.Taken.{is_taken}
-use Rattle.link_core.proofs.Search.{passes_rest, rest_all}
+use Rattle.tls_symbols.proofs.Search.{passes_rest, rest_all}
 use Rattle.link_core.proofs.taken.section_is_taken.Goals as goal
 
 pub loop-relocation-preserved : goal.loop-relocation-preserved

@@ -1,0 +1,7 @@
+pub mod EndsOfNames
+pub mod Alignments
+pub mod HeaderTable
+pub mod Counts
+pub mod File
+pub mod Order
+pub mod TablesInside

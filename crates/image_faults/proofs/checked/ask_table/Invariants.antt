@@ -1,0 +1,6 @@
+use Rattle.std.proofs.Common.{◌<◌, ℕ}
+use Rattle.image_faults.specs.Faults.{BreaksTable}
+use Rattle.image_faults.proofs.checked.ask_table.Given as goal
+
+abbrev pub invariant-loop-entry : goal.invariant-loop-entry
+invariant-loop-entry l = (e : ℕ) → e < l.entry → BreaksTable l.rule l.tables.bytes.now e → ⊥

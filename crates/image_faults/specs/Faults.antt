@@ -1,0 +1,100 @@
+-- When bytes stand for an image: what each rule says, and which fault is the first.
+use Rattle.std.specs.Prelude.{◌≡◌, ◌+◌, ◌*◌, ◌<◌, ℕ, List, Option, Some, None, Result, Ok, Err, length}
+use Rattle.image_faults.specs.declared.fault.FaultKind.{FaultKind}
+use Rattle.image_faults.specs.declared.fault.ImageFault.{ImageFault}
+use Rattle.image_faults.specs.declared.fault.ImageFault.TheVariants.{OutOfMemory, At}
+use Rattle.image_faults.specs.declared.rule.Rule.{Rule}
+use Rattle.image_faults.specs.declared.rule.Rule.TheVariants.{Length, Ident, Field, Extent, Segment, Entry, Table}
+use Rattle.image_faults.specs.declared.rule.TableRule.{TableRule}
+use Rattle.image_faults.specs.declared.rule.TableRule.TheVariants.{Symbol, Relocation, TlsSymbol, TlsRelocation}
+use Rattle.image_faults.specs.Rules.{number, kind_of}
+use Rattle.image_faults.specs.Parts.{header, last}
+use Rattle.image_faults.specs.Fields.{IsWrongIdent, IsRightField, field_offset}
+use Rattle.image_faults.specs.Segments.{PassesEnd, IsWrongSegment}
+use Rattle.image_faults.specs.Array.{IsRightEntry, entry_place, symbol_count, symbols_place, relocation_count}
+use Rattle.image_faults.specs.Array.{relocations_place}
+use Rattle.image_faults.specs.Symbols.{IsRightSymbol, IsPastTls}
+use Rattle.image_faults.specs.Relocations.{IsRightRelocation, IsOwnOutside}
+
+-- how many entries a table has
+abbrev pub table_count : TableRule → List ℕ → ℕ
+table_count Symbol b = symbol_count b
+table_count Relocation b = relocation_count b
+table_count TlsSymbol b = symbol_count b
+table_count TlsRelocation b = relocation_count b
+
+-- where the table begins in the file
+abbrev pub table_place : TableRule → List ℕ → ℕ
+table_place Symbol b = symbols_place b
+table_place Relocation b = relocations_place b
+table_place TlsSymbol b = symbols_place b
+table_place TlsRelocation b = relocations_place b
+
+-- the entry breaks the rule of its table
+unfoldable pub BreaksTable : TableRule → List ℕ → ℕ → Type 0
+BreaksTable Symbol b e = IsRightSymbol b e → ⊥
+BreaksTable Relocation b e = IsRightRelocation b e → ⊥
+BreaksTable TlsSymbol b e = IsPastTls b e
+BreaksTable TlsRelocation b e = IsOwnOutside b e
+
+-- entry e breaks the rule: a byte of the identification, a program header, an entry of the array, of a table; 0 of
+-- the whole file
+unfoldable pub Breaks : Rule → List ℕ → ℕ → Type 0
+Breaks Length b e = (e ≡ 0) × (length b < 64)
+Breaks Ident b e = IsWrongIdent (header b) e
+Breaks (Field rule) b e = (e ≡ 0) × (IsRightField rule (header b) → ⊥)
+Breaks Extent b e = (e ≡ 0) × PassesEnd b
+Breaks Segment b e = IsWrongSegment b e
+Breaks (Entry rule) b e = (e ≡ entry_place rule b) × (IsRightEntry rule b → ⊥)
+Breaks (Table rule) b e = (e < table_count rule b) × BreaksTable rule b e
+
+-- where in the file the fault of a rule at an entry is told
+abbrev pub offset_of : Rule → List ℕ → ℕ → ℕ
+offset_of Length b e = length b
+offset_of Ident b e = e
+offset_of (Field rule) b e = field_offset rule
+offset_of Extent b e = length b
+offset_of Segment b e = 64 + 56 * e
+offset_of (Entry rule) b e = (last b).offset + 16 * e
+offset_of (Table rule) b e = table_place rule b + 24 * e
+
+-- no entry breaks the rule
+abbrev pub Keeps : Rule → List ℕ → Type 0
+Keeps rule b = (e : ℕ) → Breaks rule b e → ⊥
+
+-- the first n rules are kept
+abbrev pub KeepsBelow : ℕ → List ℕ → Type 0
+KeepsBelow n b = (rule : Rule) → number rule < n → Keeps rule b
+
+-- the bytes stand for an image
+abbrev pub IsImage : List ℕ → Type 0
+IsImage b = (rule : Rule) → Keeps rule b
+
+-- the least number at which P holds, or that there is none
+abbrev pub IsFirstAt : (ℕ → Type 0) → Option ℕ → Type 0
+IsFirstAt P None = (e : ℕ) → P e → ⊥
+IsFirstAt P (Some e) = P e × ((f : ℕ) → f < e → P f → ⊥)
+
+-- the first fault: the rule is broken here, at no earlier entry, and all earlier rules are kept
+pub record IsFirst (b : List ℕ) (rule : Rule) (e : ℕ) : Type 0 where
+  pub here : Breaks rule b e
+  pub nowhere_earlier : (f : ℕ) → f < e → Breaks rule b f → ⊥
+  pub earlier_rules : KeepsBelow (number rule) b
+
+-- a fault of this kind at this offset is the first
+pub record IsFirstFault (b : List ℕ) (offset : ℕ) (kind : FaultKind) : Type 0 where
+  pub rule : Rule
+  pub entry : ℕ
+  pub first : IsFirst b rule entry
+  pub offset_is : offset ≡ offset_of rule b entry
+  pub kind_is : kind ≡ kind_of rule
+
+-- what a refusal says of the bytes; asking takes no memory
+abbrev pub IsFault : List ℕ → ImageFault → Type 0
+IsFault b OutOfMemory = ⊥
+IsFault b (At offset kind) = IsFirstFault b offset kind
+
+-- what a step says that asked all rules up to number n
+abbrev pub Answers : {X : Type 0} → ℕ → List ℕ → Result X ImageFault → Type 0
+Answers n b (Ok _) = KeepsBelow (n + 1) b
+Answers n b (Err fault) = IsFault b fault

@@ -1,0 +1,12 @@
+pub mod Array
+pub mod Counts
+pub mod FaultNames
+pub mod Faults
+pub mod Fields
+pub mod Names
+pub mod Parts
+pub mod Places
+pub mod Relocations
+pub mod Rules
+pub mod Segments
+pub mod Symbols

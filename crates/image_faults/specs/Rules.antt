@@ -1,0 +1,67 @@
+-- The order of the rules, and the kind of fault where one is broken.
+use Rattle.std.specs.Prelude.{◌+◌, ℕ}
+use Rattle.image_faults.specs.declared.fault.FaultKind.{FaultKind}
+use Rattle.image_faults.specs.declared.fault.FaultKind.TheVariants as kind
+use Rattle.image_faults.specs.declared.rule.Rule.{Rule}
+use Rattle.image_faults.specs.declared.rule.Rule.TheVariants.{Length, Ident, Field, Extent, Segment, Entry, Table}
+use Rattle.image_faults.specs.declared.rule.FieldRule.{FieldRule}
+use Rattle.image_faults.specs.declared.rule.FieldRule.TheVariants.{FileType, Machine, Version, TableOffset, EntrySize}
+use Rattle.image_faults.specs.declared.rule.FieldRule.TheVariants.{Count}
+use Rattle.image_faults.specs.declared.rule.EntryRule.{EntryRule}
+use Rattle.image_faults.specs.declared.rule.EntryRule.TheVariants.{Hash, Strings, Symbols, StringsSize, SymbolSize}
+use Rattle.image_faults.specs.declared.rule.EntryRule.TheVariants.{Relocations, RelocationsSize, RelocationSize, Flags}
+use Rattle.image_faults.specs.declared.rule.EntryRule.TheVariants.{End}
+use Rattle.image_faults.specs.declared.rule.TableRule.{TableRule}
+use Rattle.image_faults.specs.declared.rule.TableRule.TheVariants.{Symbol, Relocation, TlsSymbol, TlsRelocation}
+
+-- the fields in the order of the file
+abbrev pub field_number : FieldRule → ℕ
+field_number FileType = 0
+field_number Machine = 1
+field_number Version = 2
+field_number TableOffset = 3
+field_number EntrySize = 4
+field_number Count = 5
+
+-- the entries in the order of the array
+abbrev pub entry_number : EntryRule → ℕ
+entry_number Hash = 0
+entry_number Strings = 1
+entry_number Symbols = 2
+entry_number StringsSize = 3
+entry_number SymbolSize = 4
+entry_number Relocations = 5
+entry_number RelocationsSize = 6
+entry_number RelocationSize = 7
+entry_number Flags = 8
+entry_number End = 9
+
+-- the tables in the order in which they are asked
+abbrev pub table_number : TableRule → ℕ
+table_number Symbol = 0
+table_number Relocation = 1
+table_number TlsSymbol = 2
+table_number TlsRelocation = 3
+
+-- the order of the rules
+abbrev pub number : Rule → ℕ
+number Length = 0
+number Ident = 1
+number (Field rule) = 2 + field_number rule
+number Extent = 8
+number Segment = 9
+number (Entry rule) = 10 + entry_number rule
+number (Table rule) = 20 + table_number rule
+
+-- the kind of fault where the rule is broken
+abbrev pub kind_of : Rule → FaultKind
+kind_of Length = kind.Truncated
+kind_of Ident = kind.Header
+kind_of (Field rule) = kind.Header
+kind_of Extent = kind.Truncated
+kind_of Segment = kind.Segment
+kind_of (Entry rule) = kind.Dynamic
+kind_of (Table Symbol) = kind.Dynamic
+kind_of (Table Relocation) = kind.Relocation
+kind_of (Table TlsSymbol) = kind.TlsPlace
+kind_of (Table TlsRelocation) = kind.TlsPlace

@@ -1,0 +1,58 @@
+//! What may be wrong with an image, a program or a module that a linker wrote.
+//!
+//! A linker's output tells its loader where everything is: *program headers* say which bytes of the file to put at
+//! which addresses, one of them leads to the *dynamic array*, and that leads to a hash table, symbols, their names
+//! and the relocations that are left for the loader. Every one of these numbers may lie. This crate asks each of
+//! them once, and takes no memory.
+//!
+//! The rule that it keeps: **an image is exactly what keeps every [`Rule`]**, and the fault that is answered is the
+//! first: all earlier rules are kept, and no earlier entry breaks this one. It is told with its offset in the file.
+//! `specs/` has the rules: `Fields` for the header, `Segments` for the program headers, `Array`, `Symbols` and
+//! `Relocations`; `Faults` puts them in order. They know nothing of how the code looks for what breaks them.
+//! Checking goes through each table at most twice, with no search through another table (a LOAD is looked for among
+//! the ten that there may be at most), so its time grows with the file.
+//!
+//! An example. The image of one function and one thread-local variable has five program headers,
+//!
+//! ```text
+//! LOAD     offset 0x1000  vaddr 0x400000  filesz 9    X     64 8b 04 25 fc ff ff ff c3    mov %fs:-4, %eax; ret
+//! LOAD     offset 0x2000  vaddr 0x401000  filesz 4    R     2a 00 00 00                   the variable's first value
+//! LOAD     offset 0x3000  vaddr 0x402000  filesz 197  R     the array and the tables
+//! DYNAMIC  offset 0x3000  vaddr 0x402000  filesz 96   R
+//! TLS      offset 0x2000  vaddr 0x401000  filesz 4    R     memsz 4, align 4
+//! ```
+//!
+//! With the variable's symbol at 5, past the 4 bytes of its TLS segment, it is refused as `image 12456 TlsPlace`.
+//!
+//! The format is that of the System V ABI (gABI, "Program Loading and Dynamic Linking"), of its supplement for
+//! x86-64 (psABI) and of "ELF Handling For Thread-Local Storage". The narrow form asked here, in which a part of
+//! the file at an address stands at one offset and the array has its entries in one order, is this project's own:
+//! it is what its linker writes.
+#![tactic(auto)]
+
+mod array;
+mod checked;
+mod fault;
+mod found;
+mod headers;
+mod loader_kind;
+mod loads;
+mod names;
+mod places;
+mod relocation_tests;
+mod rule;
+mod searches;
+mod segments;
+mod symbol_tests;
+mod tables;
+mod words;
+
+pub use checked::fault_free;
+pub use fault::{FaultKind, ImageFault};
+pub use headers::Headers;
+pub use loader_kind::LoaderKind;
+pub use places::{FileKind, Places};
+pub use rule::{EntryRule, FieldRule, Rule, TableRule};
+pub use segments::Segments;
+pub use symbol_tests::TLS_GET_ADDR;
+pub use tables::Tables;

@@ -1,0 +1,50 @@
+//! The types of relocation that a loader works on.
+
+ghost use Rattle.std.specs.Prelude.{◌≡◌};
+ghost use Rattle.image_faults.specs.Relocations.{loader_kind, field_width};
+
+use elf_records::relocation::{
+    R_X86_64_DTPMOD64, R_X86_64_DTPOFF64, R_X86_64_JUMP_SLOT, R_X86_64_RELATIVE, R_X86_64_TLSDESC,
+    R_X86_64_TPOFF64,
+};
+
+/// A type of relocation that a loader works on (psABI, "Relocation Types").
+#[derive(Clone, Copy, PartialEq, Eq, Debug)]
+pub enum LoaderKind {
+    /// JUMP_SLOT: the address of a function of the run time.
+    JumpSlot,
+    /// RELATIVE: where the image is loaded, and the addend.
+    Relative,
+    /// DTPMOD64: the number of a module with thread-local data.
+    Module,
+    /// DTPOFF64: a symbol's offset in its module's TLS segment.
+    ModuleOffset,
+    /// TPOFF64: a symbol's offset from the thread pointer.
+    ThreadOffset,
+    /// TLSDESC: two words by which a function finds a symbol.
+    Descriptor,
+}
+
+impl LoaderKind {
+    /// The type of a number.
+    pub fn numbered(number: u32) -> Option<LoaderKind>
+        ensures { result ≡ loader_kind number }
+    {
+        match number {
+            R_X86_64_JUMP_SLOT => Some(LoaderKind::JumpSlot),
+            R_X86_64_RELATIVE => Some(LoaderKind::Relative),
+            R_X86_64_DTPMOD64 => Some(LoaderKind::Module),
+            R_X86_64_DTPOFF64 => Some(LoaderKind::ModuleOffset),
+            R_X86_64_TPOFF64 => Some(LoaderKind::ThreadOffset),
+            R_X86_64_TLSDESC => Some(LoaderKind::Descriptor),
+            _ => None,
+        }
+    }
+}
+
+/// How many bytes a relocation of this type writes.
+pub fn field_width(number: u32) -> u64
+    ensures { result ≡ field_width number }
+{
+    if number == R_X86_64_TLSDESC { 16 } else { 8 }
+}

@@ -1,0 +1,3 @@
+pub mod PartsLent
+pub mod RelocationsLent
+pub mod TextLengths

@@ -1,0 +1,155 @@
+-- What the bytes of a file spell: the image that they stand for (gABI, "Program Header", "Symbol Table",
+-- "Relocation").
+use Rattle.std.specs.Prelude.{◌+◌, ◌==◌, ℕ, Bool, not, List, drop, slice_range, Option, Some, None, unwrap_or}
+use Rattle.std.specs.Prelude.{if◌then◌else◌}
+use Rattle.std.specs.List.{before_first}
+use denote.Bor.{Bor}
+use Rattle.elf_records.specs.declared.symbol.SymbolEntry.{SymbolEntry}
+use Rattle.elf_records.specs.declared.program_header.Segment.{Segment}
+use Rattle.elf_records.specs.declared.relocation.Rela.{Rela}
+use Rattle.elf_records.specs.Records.{rela_symbol, rela_kind, symbol_binding, symbol_kind, symbol_visibility}
+use Rattle.elf_records.specs.declared.program_header.TheConstants.{PF_X, PF_R}
+use Rattle.elf_records.specs.declared.symbol.TheConstants.{SHN_UNDEF, STB_GLOBAL, STB_WEAK, STT_NOTYPE, STT_OBJECT}
+use Rattle.elf_records.specs.declared.symbol.TheConstants.{STT_FUNC, STT_SECTION, STT_FILE, STV_DEFAULT, STV_INTERNAL}
+use Rattle.elf_records.specs.declared.symbol.TheConstants.{STV_HIDDEN}
+use Rattle.image_faults.specs.declared.places.FileKind.{FileKind}
+use Rattle.image_faults.specs.declared.loader_kind.LoaderKind.TheVariants.{Relative}
+use Rattle.image_faults.specs.Parts.{segment, loads, tls}
+use Rattle.image_faults.specs.Array.{symbol_count, relocation_count, strings_place, strings_size}
+use Rattle.image_faults.specs.Symbols.{symbol}
+use Rattle.image_faults.specs.Relocations.{rela, loader_kind}
+use Rattle.image_faults.specs.Places.{file_kind, is_flagged, got}
+use Rattle.image_file.specs.declared.part.PartClass.{PartClass}
+use Rattle.image_file.specs.declared.part.PartClass.TheVariants.{Executable, ReadOnly, Writable}
+use Rattle.image_file.specs.declared.part.ImagePart.{ImagePart}
+use Rattle.image_file.specs.declared.part.TlsPart.{TlsPart}
+use Rattle.image_file.specs.declared.symbol.SymbolBinding.{SymbolBinding}
+use Rattle.image_file.specs.declared.symbol.SymbolBinding.TheVariants.{Local, Global, Weak}
+use Rattle.image_file.specs.declared.symbol.SymbolType.{SymbolType}
+use Rattle.image_file.specs.declared.symbol.SymbolType.TheVariants.{NoType, Object, Func, Section, File, Tls}
+use Rattle.image_file.specs.declared.symbol.Visibility.{Visibility}
+use Rattle.image_file.specs.declared.symbol.Visibility.TheVariants.{Default, Internal, Hidden, Protected}
+use Rattle.image_file.specs.declared.symbol.ImageSymbol.{ImageSymbol}
+use Rattle.image_file.specs.declared.relocation.ImageRelocation.{ImageRelocation}
+use Rattle.image_file.specs.Tabled.{tabled}
+
+-- a part that is loaded: its class, its address and its bytes
+pub record Part : Type 0 where
+  pub class : PartClass
+  pub address : ℕ
+  pub bytes : List ℕ
+
+-- an image, as a loader sees it
+pub record Spelled : Type 0 where
+  pub kind : FileKind
+  pub parts : List Part
+  pub got : Option ℕ
+  pub tls : Option TlsPart
+  pub symbols : List ImageSymbol
+  pub names : List (List ℕ)
+  pub relocations : List ImageRelocation
+  pub is_flagged : Bool
+
+-- what the flags of a LOAD allow
+abbrev pub class_numbered : ℕ → PartClass
+class_numbered n = if n == PF_X then Executable else if n == PF_R then ReadOnly else Writable
+
+-- LOAD i
+unfoldable pub part : List ℕ → ℕ → Part
+part b i = record {
+  class = class_numbered (segment b i).flags;
+  address = (segment b i).vaddr;
+  bytes = slice_range b (segment b i).offset ((segment b i).offset + (segment b i).filesz);
+}
+
+-- what is lent of a part, without the loan
+abbrev pub part_seen : Option ImagePart → Option Part
+part_seen None = None
+part_seen (Some lent) = Some (record { class = lent.class; address = lent.address; bytes = lent.bytes.now })
+
+-- the TLS segment, by its header
+abbrev pub tls_part : Segment → TlsPart
+tls_part s = record { address = s.vaddr; initial = s.filesz; size = s.memsz; alignment = s.align }
+
+abbrev pub tls_of : Option Segment → Option TlsPart
+tls_of None = None
+tls_of (Some s) = Some (tls_part s)
+
+-- the binding, the type and the visibility that numbers of the file stand for
+abbrev pub binding_numbered : ℕ → SymbolBinding
+binding_numbered n = if n == STB_GLOBAL then Global else if n == STB_WEAK then Weak else Local
+
+abbrev pub type_numbered : ℕ → SymbolType
+type_numbered n =
+    if n == STT_NOTYPE then NoType else
+    if n == STT_OBJECT then Object else
+    if n == STT_FUNC then Func else
+    if n == STT_SECTION then Section else
+    if n == STT_FILE then File else
+    Tls
+
+abbrev pub visibility_numbered : ℕ → Visibility
+visibility_numbered n = if n == STV_DEFAULT then Default else if n == STV_INTERNAL then Internal else if n ==
+    STV_HIDDEN then Hidden else Protected
+
+-- what a symbol says, but for its name
+unfoldable pub symbol_of : SymbolEntry → ImageSymbol
+symbol_of s = record {
+  binding = binding_numbered (symbol_binding s);
+  kind = type_numbered (symbol_kind s);
+  visibility = visibility_numbered (symbol_visibility s);
+  is_defined = not (s.shndx == SHN_UNDEF);
+  value = s.value;
+  size = s.size;
+}
+
+-- the names, and the text among them from an offset up to the first zero byte
+abbrev pub strings : List ℕ → List ℕ
+strings b = slice_range b (strings_place b) (strings_place b + strings_size b)
+
+unfoldable pub text_at : List ℕ → ℕ → List ℕ
+text_at table at = before_first (λ byte. byte == 0) (drop at table)
+
+abbrev pub name : List ℕ → ℕ → List ℕ
+name b k = text_at (strings b) (symbol b k).name
+
+-- what is lent of a name, without the loan
+abbrev pub text_seen : Option (Bor (List ℕ)) → Option (List ℕ)
+text_seen None = None
+text_seen (Some lent) = Some lent.now
+
+-- what a relocation says; no other number than that of a type stands in an image
+unfoldable pub relocation_of : Rela → ImageRelocation
+relocation_of r = record {
+  place = r.offset;
+  kind = unwrap_or (loader_kind (rela_kind r)) Relative;
+  symbol =
+      rela_symbol r;
+  addend = r.addend;
+}
+
+-- the lists of an image: the names of symbols stand beside them, since each is found when it is asked for
+abbrev pub parts : List ℕ → List Part
+parts b = tabled (part b) (loads b)
+
+abbrev pub symbols : List ℕ → List ImageSymbol
+symbols b = tabled (λ k. symbol_of (symbol b k)) (symbol_count b)
+
+abbrev pub names : List ℕ → List (List ℕ)
+names b = tabled (name b) (symbol_count b)
+
+abbrev pub relocations : List ℕ → List ImageRelocation
+relocations b = tabled (λ k. relocation_of (rela b k)) (relocation_count b)
+
+-- the image that the bytes spell
+abbrev pub spelled : List ℕ → Spelled
+spelled b = record {
+  kind = file_kind b;
+  parts = parts b;
+  got = got b;
+  tls = tls_of (tls b);
+  symbols = symbols b;
+  names = names b;
+  relocations = relocations b;
+  is_flagged = is_flagged b;
+}

@@ -1,0 +1,50 @@
+//! The parts of an image that are loaded, and its TLS segment.
+
+ghost use Rattle.std.specs.Prelude.{◌≡◌};
+ghost use Rattle.image_file.specs.Spelled.{class_numbered};
+
+use elf_records::program_header::{PF_R, PF_X};
+
+/// What may be done with a part.
+#[derive(Clone, Copy, PartialEq, Eq, Debug)]
+pub enum PartClass {
+    /// It is executed.
+    Executable,
+    /// It is read.
+    ReadOnly,
+    /// It is read and written.
+    Writable,
+}
+
+/// A part of an image, as it is loaded.
+#[derive(Clone, Copy, Debug)]
+pub struct ImagePart<'a> {
+    pub class: PartClass,
+    /// Its address, before a loader moves the image.
+    pub address: u64,
+    pub bytes: &'a [u8],
+}
+
+/// What each thread's block of an image begins as.
+#[derive(Clone, Copy, PartialEq, Eq, Debug)]
+pub struct TlsPart {
+    /// The address of the initial image.
+    pub address: u64,
+    /// How many bytes that has; those of the block behind it begin as zero.
+    pub initial: u64,
+    /// How many bytes the block has.
+    pub size: u64,
+    /// What the block's address is a multiple of.
+    pub alignment: u64,
+}
+
+/// What the flags of a LOAD allow.
+pub fn class_numbered(flags: u32) -> PartClass
+    ensures { result ≡ class_numbered flags }
+{
+    match flags {
+        PF_X => PartClass::Executable,
+        PF_R => PartClass::ReadOnly,
+        _ => PartClass::Writable,
+    }
+}

@@ -1,0 +1,32 @@
+//! What an image says of a relocation (gABI, "Relocation").
+
+ghost use Rattle.std.specs.Prelude.{◌≡◌};
+ghost use Rattle.image_file.specs.Spelled.{relocation_of};
+
+use elf_records::Rela;
+use image_faults::LoaderKind;
+
+/// A relocation that a loader works on.
+#[derive(Clone, Copy, PartialEq, Eq, Debug)]
+pub struct ImageRelocation {
+    /// The address of the bytes that it writes, before the image is moved.
+    pub place: u64,
+    pub kind: LoaderKind,
+    /// The number of the symbol, or 0.
+    pub symbol: u32,
+    /// What is added.
+    pub addend: i64,
+}
+
+/// What an entry of the table of relocations says.
+#[tactic(auto, unfolding(crate::specs::Spelled::relocation_of))]
+pub fn relocation_of(entry: Rela) -> ImageRelocation
+    ensures { result ≡ relocation_of entry }
+{
+    ImageRelocation {
+        place: entry.offset,
+        kind: LoaderKind::numbered(entry.kind()).unwrap_or(LoaderKind::Relative),
+        symbol: entry.symbol(),
+        addend: entry.addend,
+    }
+}

@@ -1,0 +1,4 @@
+pub mod Choices
+pub mod Rows
+pub mod Rewriting
+pub mod Laws

@@ -1,0 +1,13 @@
+pub mod ApartSites
+pub mod Calls
+pub mod Clashes
+pub mod Found
+pub mod Marked
+pub mod Marking
+pub mod OneForm
+pub mod Opened
+pub mod Rising
+pub mod Rows
+pub mod Seconds
+pub mod Sections
+pub mod Tables

@@ -1,0 +1,95 @@
+-- What holds of every row of the table.
+use Rattle.std.proofs.Common.{◌≡◌, ◌+◌, ◌<◌, ◌≤◌, ℕ, length, Option, Some, None, IfSome, refl, arith}
+use Rattle.elf_object.specs.Relocations.{field_width}
+use Rattle.object_faults.specs.declared.relocation.RelocationKind.{RelocationKind}
+use Rattle.object_faults.specs.declared.relocation.RelocationKind.TheVariants.{Pc32, Plt32, GotPcRel, TlsGd, TlsLd, GotTpOff, GotPc32TlsDesc, TlsDescCall, GotPcRelX, RexGotPcRelX}
+use Rattle.sequence_match.specs.declared.forms.Form.{Form}
+use Rattle.sequence_match.specs.declared.forms.Form.TheVariants.{Gd, Ld, IeMov, IeAdd, GdInd, LdInd, DescLea, DescCall}
+use Rattle.sequence_match.specs.declared.forms.Call.{Call}
+use Rattle.sequence_match.specs.declared.forms.Call.TheVariants.{Direct, Indirect}
+use Rattle.sequence_match.specs.declared.forms.Second.{Second}
+use Rattle.sequence_match.specs.Forms.{row, IsCallKind}
+use Rattle.sequence_match.specs.Faults.{IsOfSequence}
+
+-- a row has at most sixteen bytes
+pub row_short : (form : Form) → length (row form).cells ≤ 16
+unfolding row
+row_short Gd = omega arith
+row_short Ld = omega arith
+row_short IeMov = omega arith
+row_short IeAdd = omega arith
+row_short GdInd = omega arith
+row_short LdInd = omega arith
+row_short DescLea = omega arith
+row_short DescCall = omega arith
+
+-- its relocations stand in it
+pub first_inside : (form : Form) → (row form).first_at < length (row form).cells
+unfolding row
+first_inside Gd = omega arith
+first_inside Ld = omega arith
+first_inside IeMov = omega arith
+first_inside IeAdd = omega arith
+first_inside GdInd = omega arith
+first_inside LdInd = omega arith
+first_inside DescLea = omega arith
+first_inside DescCall = omega arith
+
+pub second_inside : (form : Form) → IfSome (row form).second (λ second. second.at < length (row form).cells)
+unfolding row
+second_inside Gd = omega arith
+second_inside Ld = omega arith
+second_inside IeMov = tt
+second_inside IeAdd = tt
+second_inside GdInd = omega arith
+second_inside LdInd = omega arith
+second_inside DescLea = tt
+second_inside DescCall = tt
+
+-- so where the bytes of a row lie in the code, its second relocation does
+pub second_within : (second : Option Second) (n start len : ℕ) → IfSome second (λ s. s.at < n) → start + n ≤ len
+    → IfSome second (λ s. start + s.at < len)
+second_within None n start len h fits = h
+second_within (Some s) n start len h fits = omega arith
+
+-- its first relocation is of a type of sequences
+pub first_of_sequence : (form : Form) → IsOfSequence (row form).first
+unfolding row
+first_of_sequence Gd = tt
+first_of_sequence Ld = tt
+first_of_sequence IeMov = tt
+first_of_sequence IeAdd = tt
+first_of_sequence GdInd = tt
+first_of_sequence LdInd = tt
+first_of_sequence DescLea = tt
+first_of_sequence DescCall = tt
+
+-- where there is a second one, the first has a field
+pub first_has_field : (form : Form) (second : Second) → (row form).second ≡ Some second → field_width (row form).first ≡ 4
+unfolding row
+first_has_field Gd second h = refl
+first_has_field Ld second h = refl
+first_has_field IeMov second h = absurd (cc)
+first_has_field IeAdd second h = absurd (cc)
+first_has_field GdInd second h = refl
+first_has_field LdInd second h = refl
+first_has_field DescLea second h = absurd (cc)
+first_has_field DescCall second h = absurd (cc)
+
+-- a call's relocation has a field of four bytes
+pub call_width_is : (call : Call) (kind : RelocationKind) → IsCallKind call kind → field_width kind ≡ 4
+call_width_is Direct Plt32 h = refl
+call_width_is Direct Pc32 h = refl
+call_width_is Indirect GotPcRel h = refl
+call_width_is Indirect GotPcRelX h = refl
+call_width_is Indirect RexGotPcRelX h = refl
+call_width_is _ _ h = absurd h
+
+-- so has each type of sequences but that of a descriptor's call
+pub sequence_width : (kind : RelocationKind) → IsOfSequence kind → (kind ≡ TlsDescCall → ⊥) → field_width kind ≡ 4
+sequence_width TlsGd h other = refl
+sequence_width TlsLd h other = refl
+sequence_width GotTpOff h other = refl
+sequence_width GotPc32TlsDesc h other = refl
+sequence_width TlsDescCall h other = absurd (other refl)
+sequence_width _ h other = absurd h

@@ -1,0 +1,100 @@
+-- The sites of an object, and what is wrong with one whose thread-local accesses are no sites.
+use Rattle.std.specs.Prelude.{◌≡◌, ◌≢◌, ◌<◌, ℕ, List, [], Option, Some, codes}
+use Rattle.std.specs.List.{All, AllPairs, Contains}
+use Rattle.object_faults.specs.declared.class.SectionClass.{SectionClass}
+use Rattle.object_faults.specs.declared.class.SectionClass.TheVariants.{Executable}
+use Rattle.object_faults.specs.declared.fault.FaultKind.{FaultKind}
+use Rattle.object_faults.specs.declared.fault.FaultKind.TheVariants.{Sequence, StrayCall}
+use Rattle.object_faults.specs.declared.fault.ObjectFault.{ObjectFault}
+use Rattle.object_faults.specs.declared.fault.ObjectFault.TheVariants.{OutOfMemory, At}
+use Rattle.object_faults.specs.declared.relocation.RelocationKind.{RelocationKind}
+use Rattle.object_faults.specs.declared.relocation.RelocationKind.TheVariants.{Nothing, TlsGd, TlsLd, GotTpOff}
+use Rattle.object_faults.specs.declared.relocation.RelocationKind.TheVariants.{GotPc32TlsDesc, TlsDescCall}
+use Rattle.elf_object.specs.declared.relocation.Relocation.{Relocation}
+use Rattle.elf_object.specs.declared.symbol.SymbolPlace.TheVariants.{Undefined}
+use Rattle.elf_object.specs.Parts.{symbol_count}
+use Rattle.elf_object.specs.Faults.{number, Earlier}
+use Rattle.elf_object.specs.Lent.{section_bytes, section_class, relocations, kept_relocation_table, symbol_name}
+use Rattle.elf_object.specs.Lent.{symbol_place}
+use Rattle.sequence_match.specs.declared.places.Site.{Site}
+use Rattle.sequence_match.specs.Forms.{row}
+use Rattle.sequence_match.specs.Sites.{IsEntry, IsSecond, IsSiteOf}
+
+-- the bytes of a section of this class, where it is executable
+abbrev pub bytes_of_code : Option SectionClass → List ℕ → List ℕ
+bytes_of_code (Some Executable) bytes = bytes
+bytes_of_code _ bytes = []
+
+-- the code of section s: its bytes, where it is executable
+unfoldable pub code_of : List ℕ → ℕ → List ℕ
+code_of b s = bytes_of_code (section_class b s) (section_bytes b s)
+
+-- symbol n is `__tls_get_addr`, and the object does not define it
+abbrev pub IsGetter : List ℕ → ℕ → Type 0
+IsGetter b n =
+    (n < symbol_count b) × (symbol_place b n ≡ Undefined) × (symbol_name b n ≡ codes "__tls_get_addr")
+
+-- a sequence of the object
+abbrev pub IsSite : List ℕ → Site → Type 0
+IsSite b site =
+    (e : ℕ) × IsSiteOf (code_of b site.section) (relocations b site.section) (IsGetter b) e site
+
+-- the types that stand only in sequences, as the first relocation
+abbrev pub IsOfSequence : RelocationKind → Type 0
+IsOfSequence TlsGd = Unit {0}
+IsOfSequence TlsLd = Unit {0}
+IsOfSequence GotTpOff = Unit {0}
+IsOfSequence GotPc32TlsDesc = Unit {0}
+IsOfSequence TlsDescCall = Unit {0}
+IsOfSequence _ = ⊥
+
+-- relocation number e is of such a type, and it is the first one of no sequence
+abbrev pub IsLoose : List ℕ → List Relocation → (ℕ → Type 0) → ℕ → Type 0
+IsLoose code xs getter e =
+    (x : Relocation) × IsEntry xs e x × IsOfSequence x.kind × ((site : Site) → IsSiteOf code xs getter e site → ⊥)
+
+-- relocation number f names `__tls_get_addr`, and it is the second one of no sequence
+abbrev pub IsStray : List ℕ → List Relocation → (ℕ → Type 0) → ℕ → Type 0
+IsStray code xs getter f =
+    (x : Relocation) × IsEntry xs f x × (x.kind ≢ Nothing) × getter x.symbol
+    × ((e : ℕ) (site : Site) → IsSiteOf code xs getter e site
+    → IsSecond (row site.form).second getter xs site.start f → ⊥)
+
+-- the kind stands at relocation number e of these
+abbrev pub StandsAt : FaultKind → List ℕ → List Relocation → (ℕ → Type 0) → ℕ → Type 0
+StandsAt Sequence code xs getter e = IsLoose code xs getter e
+StandsAt StrayCall code xs getter e = IsStray code xs getter e
+StandsAt _ code xs getter e = ⊥
+
+-- the kind stands at relocation number e of section s
+abbrev pub StandsOf : FaultKind → List ℕ → ℕ → ℕ → Type 0
+StandsOf kind b s e = StandsAt kind (code_of b s) (relocations b s) (IsGetter b) e
+
+-- the kind stands at entry e of section r, which holds the relocations of a section that linking keeps
+abbrev pub Stands : FaultKind → List ℕ → ℕ → ℕ → Type 0
+Stands kind b r e = (0 < r) × ((s : ℕ) × (kept_relocation_table b s ≡ r) × StandsOf kind b s e)
+
+-- the kind stands nowhere
+abbrev pub Nowhere : FaultKind → List ℕ → Type 0
+Nowhere kind b = (r e : ℕ) → Stands kind b r e → ⊥
+
+-- the first fault: it stands here, at no lower section or entry, and no earlier kind stands anywhere
+pub record IsFirst (b : List ℕ) (r e : ℕ) (kind : FaultKind) : Type 0 where
+  pub here : Stands kind b r e
+  pub nowhere_earlier : (t f : ℕ) → Earlier t f r e → Stands kind b t f → ⊥
+  pub earlier_kinds : (earlier : FaultKind) → number earlier < number kind → Nowhere earlier b
+
+-- what a refusal says of the object; of want of memory nothing
+abbrev pub IsFault : List ℕ → ObjectFault → Type 0
+IsFault b OutOfMemory = Unit {0}
+IsFault b (At r e kind) = IsFirst b r e kind
+
+-- one site stands before another: in a lower section, or at a lower offset of the same
+abbrev pub Before : Site → Site → Type 0
+Before p q = Earlier p.section p.start q.section q.start
+
+-- exactly the sites of the object, each once, rising by section and start
+pub record AreSites (b : List ℕ) (sites : List Site) : Type 0 where
+  pub only : All (IsSite b) sites
+  pub every : (site : Site) → IsSite b site → Contains sites site
+  pub rising : AllPairs Before sites

@@ -1,0 +1,72 @@
+-- Which sequences stand in code, by its bytes and its relocations. Which symbols are `__tls_get_addr`, the definitions
+-- are given.
+use Rattle.std.specs.Prelude.{◌≡◌, ◌+◌, ◌<◌, ◌≤◌, ℕ, negsuc, List, length, slice_index, IsTrue, IfSome}
+use Rattle.std.specs.Prelude.{Option, Some, None}
+use Rattle.std.specs.List.{slice_get}
+use Rattle.elf_object.specs.declared.relocation.Relocation.{Relocation}
+use Rattle.elf_object.specs.Relocations.{field_width}
+use Rattle.sequence_match.specs.declared.forms.Cell.{Cell}
+use Rattle.sequence_match.specs.declared.forms.Cell.TheVariants.{Field}
+use Rattle.sequence_match.specs.declared.forms.Second.{Second}
+use Rattle.sequence_match.specs.declared.places.Site.{Site}
+use Rattle.sequence_match.specs.Forms.{Sequence, fits, row, register, IsCallKind}
+
+-- byte k of the section lies in the relocation's field
+abbrev pub Covers : Relocation → ℕ → Type 0
+Covers x k = (x.offset ≤ k) × (k < x.offset + field_width x.kind)
+
+-- relocation number e is x
+abbrev pub IsEntry : List Relocation → ℕ → Relocation → Type 0
+IsEntry xs e x = slice_get xs e ≡ Some x
+
+-- no relocation changes byte k
+abbrev pub IsBare : List Relocation → ℕ → Type 0
+IsBare xs k = (f : ℕ) (x : Relocation) → IsEntry xs f x → Covers x k → ⊥
+
+-- a byte that is part of the instruction's spelling
+abbrev pub IsLiteral : Cell → Type 0
+IsLiteral Field = ⊥
+IsLiteral _ = Unit {0}
+
+-- the byte at a place is one that the cell allows, and where it is literal no relocation changes it
+abbrev pub StandsIn : List ℕ → List Relocation → Cell → ℕ → Type 0
+StandsIn code xs cell place = IsTrue (fits cell (slice_index code place)) × (IsLiteral cell → IsBare xs place)
+
+-- the cells stand in the code from start on
+pub record IsSpelled (code : List ℕ) (xs : List Relocation) (cells : List Cell) (start : ℕ) : Type 0 where
+  pub inside : start + length cells ≤ length code
+  pub stands : (k : ℕ) (cell : Cell) → slice_get cells k ≡ Some cell → StandsIn code xs cell (start + k)
+
+-- the relocation is as the first one of the sequence is to be
+pub record Opens (sequence : Sequence) (start : ℕ) (x : Relocation) : Type 0 where
+  pub kind_is : x.kind ≡ sequence.first
+  pub offset_is : x.offset ≡ start + sequence.first_at
+  pub addend_is : IfSome sequence.addend (λ addend. x.addend ≡ addend)
+
+-- the relocation is as the second one is to be
+pub record Calls (second : Second) (getter : ℕ → Type 0) (start : ℕ) (x : Relocation) : Type 0 where
+  pub kind_is : IsCallKind second.call x.kind
+  pub offset_is : x.offset ≡ start + second.at
+  pub addend_is : x.addend ≡ negsuc 3
+  pub names : getter x.symbol
+
+-- relocation number f is the second one of the sequence that starts there, where the sequence has two
+abbrev pub IsSecond : Option Second → (ℕ → Type 0) → List Relocation → ℕ → ℕ → Type 0
+IsSecond None getter xs start f = ⊥
+IsSecond (Some second) getter xs start f = (x : Relocation) × IsEntry xs f x × Calls second getter start x
+
+-- there is a second relocation, where the sequence has two
+abbrev pub HasSecond : Option Second → (ℕ → Type 0) → List Relocation → ℕ → Type 0
+HasSecond None getter xs start = Unit {0}
+HasSecond (Some second) getter xs start = (f : ℕ) × IsSecond (Some second) getter xs start f
+
+-- site is a sequence of the code, and relocation number e is its first. Of two that stand at one place, as
+-- relocations without a field may, only the earlier one can be that.
+pub record IsSiteOf (code : List ℕ) (xs : List Relocation) (getter : ℕ → Type 0) (e : ℕ) (site : Site) : Type 0 where
+  pub spelled : IsSpelled code xs (row site.form).cells site.start
+  pub first : (x : Relocation) × IsEntry xs e x × Opens (row site.form) site.start x × (site.symbol ≡ x.symbol)
+  pub earliest : (f : ℕ) (x : Relocation) → f < e → IsEntry xs f x → x.kind ≡ (row site.form).first
+      → x.offset ≡ site.start + (row site.form).first_at → ⊥
+  pub second : HasSecond (row site.form).second getter xs site.start
+  pub len_is : site.len ≡ length (row site.form).cells
+  pub reg_is : site.reg ≡ register site.form code site.start

@@ -1,0 +1,36 @@
+//! The instruction sequences by which code reaches thread-local storage.
+//!
+//! A thread-local variable has another address in each thread. Code finds it by a few fixed sequences of instructions,
+//! which the psABI spells out byte by byte, so that a linker may know one where it sees it and write a shorter one in
+//! its place. The general one asks the run time:
+//!
+//! ```text
+//! 66 48 8d 3d 00 00 00 00    lea x@tlsgd(%rip), %rdi        R_X86_64_TLSGD at 4 of x, addend -4
+//! 66 66 48 e8 00 00 00 00    call __tls_get_addr@plt        R_X86_64_PLT32 at 12 of __tls_get_addr, addend -4
+//! ```
+//!
+//! It is one *site* of the form [`Form::Gd`]: sixteen bytes, of which eight lie in the fields of two relocations and
+//! the others are as they are shown. [`Form::row`] has the whole table, a row a form.
+//!
+//! The rule that the crate keeps: **a site is what the table says, and nothing else is taken for one.** Its bytes are
+//! those of the row, in code; its relocations stand where the row has them, with its addends; the second one names
+//! `__tls_get_addr`, which the object does not define; and no other relocation changes a byte of the row.
+//!
+//! [`sites`] answers all sites of an object, rising. An object whose accesses are no sites is at fault: a relocation
+//! that belongs to a sequence and opens none is a `Sequence`, and another use of the undefined `__tls_get_addr` a
+//! `StrayCall`. In the example above an addend of 0 at offset 4 is `Sequence` at that entry, and the call alone, with no
+//! `lea` before it, is `StrayCall`.
+//!
+//! The forms are those of "ELF Handling For Thread-Local Storage" (Drepper) and of the psABI ("Thread-Local Storage").
+#![tactic(auto)]
+
+mod finding;
+mod forms;
+pub mod laws;
+mod marks;
+mod matching;
+mod places;
+
+pub use finding::sites;
+pub use forms::{Call, Cell, Form, Row, Second};
+pub use places::Site;

@@ -1,0 +1,21 @@
+//! Where a sequence stands in an object.
+
+use crate::forms::Form;
+
+/// A sequence of an object's code.
+#[derive(Clone, Copy, PartialEq, Eq, Debug)]
+pub struct Site {
+    /// The section that it lies in.
+    pub section: u32,
+    /// The offset of its first byte in that section.
+    pub start: u64,
+    /// How many bytes it has.
+    pub len: u64,
+    /// Its row in the table.
+    pub form: Form,
+    /// The symbol that its first relocation names: the variable, or of a form of the module the symbol that the
+    /// assembler put there.
+    pub symbol: u32,
+    /// The register that it writes, 0 to 15, of the two forms that have one; else 0.
+    pub reg: u8,
+}

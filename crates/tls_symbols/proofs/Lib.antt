@@ -1,0 +1,11 @@
+pub mod Exported
+pub mod ExportLaw
+pub mod FirstFaults
+pub mod KnownNames
+pub mod Numbered
+pub mod Places
+pub mod Resolves
+pub mod Search
+pub mod Sections
+pub mod Told
+pub mod Within

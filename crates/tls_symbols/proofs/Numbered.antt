@@ -1,0 +1,98 @@
+-- Names keep their numbers where more names come.
+use Rattle.std.proofs.Common.{◌≡◌, ◌+◌, ◌<◌, ◌∙◌, ◌++◌, ℕ, Bool, true, false, cond, List, [], ◌∷◌, length, map, eqb, inl, inr, refl, sym, ap, subst, Bor, arith}
+use Rattle.std.specs.Global.{Vec}
+use Rattle.std.specs.Prelude.{if◌then◌else◌, slice_index, slice_index_or}
+use Rattle.std.specs.List.{list_any, position_or_len}
+use Rattle.std.specs.Str.{bytes_eq}
+use Rattle.std.proofs.lemmas.Bool.{cases_lt}
+use Rattle.std.proofs.lemmas.Bool.Decides.{nat_tests}
+use Rattle.std.proofs.lemmas.List.{length-append, length-map, map-append, get_or_append_left, get_or_push}
+use Rattle.std.proofs.lemmas.List.Folds.{position_or_len_push}
+use Rattle.indexmap.specs.IndexSet.{insert_key}
+use Rattle.elf_object.specs.Lent.{symbol_name}
+use Rattle.tls_symbols.specs.Numbers.{Names, number_of, Grows, AreNumbered, AreListed, AllListed}
+
+-- a name is equal to itself
+pub same_name : (name : List ℕ) → bytes_eq name name ≡ true
+same_name [] = refl
+same_name (x ∷ xs) = grind (arith, nat_tests, same_name xs)
+
+pub grows_refl : (names : Names) → Grows names names
+grows_refl names = record { keeps = λ name n h. h }
+
+pub grows_then : (a b c : Names) → Grows a b → Grows b c → Grows a c
+grows_then a b c first next = record { keeps = λ name n h. next.keeps name n (first.keeps name n h) }
+
+-- the test by which names are kept apart
+abbrev pub same_names : Bor (List ℕ) → Bor (List ℕ) → Bool
+same_names x y = bytes_eq x.now y.now
+
+pushed : (m n k : ℕ) → m < n → cond (eqb m n) k m ≡ m
+pushed m n k less = grind (arith, nat_tests)
+
+last : (m n : ℕ) → cond (eqb m n) (n + 0) m ≡ m
+last m n = grind (arith, nat_tests)
+
+grows_push : (names : Names) (k : Bor (List ℕ)) → Grows names (names ++ k ∷ [])
+grows_push names k = record {
+  keeps = λ name n h. record {
+    number = h.number ∙ sym (position_or_len_push (λ x. bytes_eq name x.now) names k ∙ pushed (number_of names name) (length names) _ (subst (λ m. m < length names) h.number h.within));
+    within = omega (arith, h.within, length-append names (k ∷ []));
+  };
+}
+
+-- one more name
+pub grows_insert : (names : Names) (k : Bor (List ℕ)) → Grows names (insert_key same_names names k)
+grows_insert names k = by_test (list_any (same_names k) names)
+  where
+    by_test : (t : Bool) → Grows names (if t then names else names ++ k ∷ [])
+    by_test true = grows_refl names
+    by_test false = grows_push names k
+
+-- has the number that it was given
+pub number_insert : (names : Names) (k : Bor (List ℕ)) → position_or_len (same_names k) names ≡ number_of (insert_key same_names names k) k.now
+number_insert names k = by_test (list_any (same_names k) names)
+  where
+    by_test : (t : Bool) → number_of names k.now ≡ number_of (if t then names else names ++ k ∷ []) k.now
+    by_test true = refl
+    by_test false =
+        sym (position_or_len_push (λ x. bytes_eq k.now x.now) names k
+        ∙ ap (λ t. cond (eqb (number_of names k.now) (length names)) (length names + cond t 0 1) (number_of names k.now)) (same_name k.now)
+        ∙ last (number_of names k.now) (length names))
+
+-- what holds of each entry so far, and of one more
+pub each_push : {X : Type 0} (P : ℕ → X → Type 0) (xs : List X) (y d : X) (n : ℕ) → length xs ≡ n
+    → ((k : ℕ) → k < n → P k (slice_index_or xs k d)) → P n y → (k : ℕ) → k < n + 1 → P k (slice_index_or (xs ++ y ∷ []) k d)
+each_push P xs y d n len each last k below = elim (cases_lt k n) [
+  | inl less ↦ subst (P k) (sym (get_or_append_left xs (y ∷ []) d k (omega (arith, len)))) (each k less)
+  | inr most ↦ let at : k ≡ n = omega arith in
+      subst (λ m. P m (slice_index_or (xs ++ y ∷ []) m d)) (sym at) (subst (P n) (sym (get_or_push xs y d n len)) last)
+]
+
+-- numbers among more names
+pub numbered_grows : (old new : Names) (b numbers : List ℕ) → Grows old new → AreNumbered old b numbers → AreNumbered new b numbers
+numbered_grows old new b numbers grows all = record {
+  len = all.len;
+  each = λ e below shared. grows.keeps (symbol_name b e) (slice_index numbers e) (all.each e below shared);
+}
+
+pub listed_grows : (old new : Names) (listed : List (List ℕ)) (numbers : List ℕ) → Grows old new → AreListed old listed numbers → AreListed new listed numbers
+listed_grows old new listed numbers grows all = record {
+  len = all.len;
+  each = λ j below. grows.keeps (slice_index_or listed j []) (slice_index numbers j) (all.each j below);
+}
+
+pub lists_grow : (old new : Names) (lists : List (List (List ℕ))) (numbers : List (List ℕ)) → Grows old new → AllListed old lists numbers → AllListed new lists numbers
+lists_grow old new lists numbers grows all = record {
+  len = all.len;
+  each = λ k below. listed_grows old new (slice_index_or lists k []) (slice_index_or numbers k []) grows (all.each k below);
+}
+
+-- the same of lists, each of which is held by a `Vec`
+pub vecs_push : (P : ℕ → List ℕ → Type 0) (old new : List (Vec ℕ)) (own : Vec ℕ) (n : ℕ) → length old ≡ n → new ≡ old ++ own ∷ []
+    → ((k : ℕ) → k < n → P k (slice_index_or (map (λ v. v.items) old) k [])) → P n own.items → (k : ℕ) → k < n + 1 → P k (slice_index_or (map (λ v. v.items) new) k [])
+vecs_push P old new own n len pushed each last =
+    let f : Vec ℕ → List ℕ = λ v. v.items in
+    let P' : List (List ℕ) → Type 0 = λ xs. (k : ℕ) → k < n + 1 → P k (slice_index_or xs k []) in
+    subst P' (sym (ap (map f) pushed ∙ map-append f old (own ∷ [])))
+    (each_push P (map f old) own.items [] n (length-map old f ∙ len) each last)

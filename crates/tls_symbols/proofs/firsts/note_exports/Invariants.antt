@@ -1,0 +1,10 @@
+use Rattle.std.proofs.Common.{◌≡◌, ℕ, List, drop}
+use Rattle.tls_symbols.specs.Firsts.{export_in}
+use Rattle.tls_symbols.specs.Numbers.{or_else, told}
+use Rattle.tls_symbols.proofs.firsts.note_exports.Given as goal
+
+-- with the names that are left, the table tells what it is to tell
+abbrev pub invariant-loop-number : goal.invariant-loop-number
+invariant-loop-number l = (name : List ℕ) →
+    or_else (told l.numbers.names.keys l.table name) (export_in l.image name (drop l.number-index l.exports))
+    ≡ or_else (told l.numbers.names.keys l.fn.table name) (export_in l.image name l.exports)

@@ -1,0 +1,136 @@
+-- What the symbol of a relocation is bound to (gABI, "Symbol Table"; Drepper, "ELF Handling For Thread-Local Storage",
+-- section 4: which ways to reach a variable leave room for another module's).
+use Rattle.std.specs.Prelude.{◌+◌, ◌-◌, ◌&&◌, ◌++◌, ℕ, Bool, true, false, not, List, [], ◌∷◌, Option, Some, None}
+use Rattle.std.specs.Prelude.{codes, slice_index_or, nat_eq, if◌then◌else◌}
+use Rattle.std.specs.List.{flat_map, list_any, range_with_len}
+use Rattle.std.specs.Str.{bytes_eq}
+use Rattle.object_faults.specs.declared.class.SectionClass.{SectionClass}
+use Rattle.object_faults.specs.declared.class.SectionClass.TheVariants.{Tls}
+use Rattle.object_faults.specs.declared.relocation.RelocationKind.{RelocationKind}
+use Rattle.object_faults.specs.declared.relocation.RelocationKind.TheVariants.{TlsGd, GotTpOff}
+use Rattle.object_faults.specs.declared.relocation.RelocationKind.TheVariants.{GotPc32TlsDesc, TlsDescCall}
+use Rattle.elf_object.specs.declared.relocation.Relocation.{Relocation}
+use Rattle.elf_object.specs.declared.symbol.SymbolBinding.TheVariants.{Local}
+use Rattle.elf_object.specs.declared.symbol.SymbolPlace.{SymbolPlace}
+use Rattle.elf_object.specs.declared.symbol.SymbolPlace.TheVariants.{InSection}
+use Rattle.elf_object.specs.declared.symbol.Visibility.{Visibility}
+use Rattle.elf_object.specs.declared.symbol.Visibility.TheVariants.{Default, Protected}
+use Rattle.elf_object.specs.Lent.{section_class, symbol_binding, symbol_name, symbol_place, symbol_visibility}
+use Rattle.elf_object.specs.Parts.{symbol_count}
+use Rattle.tls_symbols.specs.declared.binding.Binding.{Binding}
+use Rattle.tls_symbols.specs.declared.binding.Binding.TheVariants.{Here, Startup, Runtime}
+use Rattle.tls_symbols.specs.declared.symbols.SymbolRef.{SymbolRef}
+use Rattle.tls_symbols.specs.Definitions.{definition_of, same_binding, IsWithin}
+
+-- the function of the run time, which no object defines (Drepper, section 3.4)
+abbrev pub get_address : List ℕ
+get_address = codes "__tls_get_addr"
+
+-- the bytes of object o
+abbrev pub object_at : List (List ℕ) → ℕ → List ℕ
+object_at objects o = slice_index_or objects o []
+
+-- ** symbols of thread-local storage
+
+abbrev pub is_tls_class : Option SectionClass → Bool
+is_tls_class (Some (Tls initial)) = true
+is_tls_class class = false
+
+-- whether what is defined there is thread-local: it lies in a section of thread-local storage
+abbrev pub is_tls_place : List ℕ → SymbolPlace → Bool
+is_tls_place b (InSection s) = is_tls_class (section_class b s)
+is_tls_place b place = false
+
+abbrev pub is_tls_symbol : List ℕ → ℕ → Bool
+is_tls_symbol b e = is_tls_place b (symbol_place b e)
+
+-- ** what an image exports
+
+-- whether other images see a symbol (gABI, st_other)
+abbrev pub is_visible : Visibility → Bool
+is_visible Default = true
+is_visible Protected = true
+is_visible _ = false
+
+abbrev pub is_same : SymbolRef → SymbolRef → Bool
+is_same x y = nat_eq x.object y.object && nat_eq x.symbol y.symbol
+
+-- whether the definition is symbol e of object o
+abbrev pub is_symbol : Option SymbolRef → ℕ → ℕ → Bool
+is_symbol (Some found) o e = nat_eq found.object o && nat_eq found.symbol e
+is_symbol None o e = false
+
+-- whether symbol e of object o, GLOBAL or WEAK, is the definition that its name binds to
+abbrev pub is_its_definition : List (List ℕ) → ℕ → List ℕ → ℕ → Bool
+is_its_definition objects o b e =
+    not (same_binding Local (symbol_binding b e)) && is_symbol (definition_of objects (symbol_name b e)) o e
+
+-- whether the image exports its name by it
+abbrev pub is_exported : List (List ℕ) → ℕ → List ℕ → ℕ → Bool
+is_exported objects o b e =
+    is_its_definition objects o b e && (is_tls_symbol b e && is_visible (symbol_visibility b e))
+
+abbrev pub exported_at : List (List ℕ) → ℕ → List ℕ → ℕ → List (List ℕ)
+exported_at objects o b e = if is_exported objects o b e then symbol_name b e ∷ [] else []
+
+-- the names that symbols of object o export; symbol 0 is reserved
+unfoldable pub exported_in : List (List ℕ) → ℕ → List ℕ → List (List ℕ)
+exported_in objects o b = flat_map (exported_at objects o b) (range_with_len 1 (symbol_count b - 1))
+
+-- those of the objects from number o on
+abbrev pub exported_from : List (List ℕ) → ℕ → List (List ℕ) → List (List ℕ)
+exported_from objects o [] = []
+exported_from objects o (b ∷ more) = exported_in objects o b ++ exported_from objects (o + 1) more
+
+-- the names that an image of these objects exports, in the order of their definitions
+unfoldable pub exported_names : List (List ℕ) → List (List ℕ)
+exported_names objects = exported_from objects 0 objects
+
+-- ** what a relocation's symbol is bound to
+
+-- the types that another image's variable may be reached by: the loader fills in what they need
+abbrev pub may_import : RelocationKind → Bool
+may_import TlsGd = true
+may_import GotTpOff = true
+may_import GotPc32TlsDesc = true
+may_import TlsDescCall = true
+may_import kind = false
+
+-- the first of the startup images, from number k on, that exports the name
+abbrev pub first_export : List ℕ → ℕ → List (List (List ℕ)) → Option ℕ
+first_export name k [] = None
+first_export name k (names ∷ more) = if list_any (bytes_eq name) names then Some k else first_export name (k + 1) more
+
+abbrev pub of_startup : Option ℕ → Option Binding
+of_startup (Some k) = Some (Startup k)
+of_startup None = None
+
+abbrev pub here_or : Option SymbolRef → Option Binding → Option Binding
+here_or (Some found) rest = Some (Here found)
+here_or None rest = rest
+
+-- what a name is bound to, which a relocation of this type names; image 1 is the program
+abbrev pub name_binding : List (List ℕ) → List (List (List ℕ)) → RelocationKind → List ℕ → Option Binding
+name_binding objects startup kind name =
+    if bytes_eq name get_address then Some Runtime else
+    here_or (definition_of objects name) (if may_import kind then of_startup (first_export name 1 startup) else None)
+
+-- what the symbol is bound to that a relocation of object o names; a LOCAL one is bound to itself
+unfoldable pub binding_of : List (List ℕ) → List (List (List ℕ)) → ℕ → Relocation → Option Binding
+binding_of objects startup o r =
+    let b = object_at objects o in
+    if same_binding Local (symbol_binding b r.symbol)
+    then Some (Here (record { object = o; symbol = r.symbol }))
+    else name_binding objects startup r.kind (symbol_name b r.symbol)
+
+-- whether what it is bound to is thread-local; what a startup image exports always is
+abbrev pub is_tls_binding : List (List ℕ) → Binding → Bool
+is_tls_binding objects (Here found) = is_tls_symbol (object_at objects found.object) found.symbol
+is_tls_binding objects (Startup k) = true
+is_tls_binding objects Runtime = false
+
+-- what is bound in the image is a symbol of it
+abbrev pub IsBindingWithin : List (List ℕ) → Binding → Type 0
+IsBindingWithin objects (Here found) = IsWithin objects found
+IsBindingWithin objects (Startup k) = Unit {0}
+IsBindingWithin objects Runtime = Unit {0}

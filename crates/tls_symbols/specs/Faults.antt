@@ -1,0 +1,138 @@
+-- When the names of an image are at fault: what each kind means, and which fault is the first.
+use Rattle.std.specs.Prelude.{◌≡◌, ◌<◌, ◌⊎◌, ◌&&◌, ◌||◌, ℕ, Bool, true, false, not, List, [], Option, Some, None}
+use Rattle.std.specs.Prelude.{is_none, length, slice_get, IsSomeAnd}
+use Rattle.std.specs.Str.{bytes_eq}
+use Rattle.object_faults.specs.declared.relocation.RelocationKind.{RelocationKind}
+use Rattle.object_faults.specs.declared.relocation.RelocationKind.TheVariants.{Nothing, TlsGd, TlsLd, DtpOff32}
+use Rattle.object_faults.specs.declared.relocation.RelocationKind.TheVariants.{GotTpOff}
+use Rattle.object_faults.specs.declared.relocation.RelocationKind.TheVariants.{TpOff32, GotPc32TlsDesc, TlsDescCall}
+use Rattle.elf_object.specs.declared.relocation.Relocation.{Relocation}
+use Rattle.elf_object.specs.declared.symbol.SymbolBinding.TheVariants.{Local, Global}
+use Rattle.elf_object.specs.Lent.{relocations, relocation_target, symbol_binding, symbol_name, symbol_place}
+use Rattle.elf_object.specs.Object.{section_count}
+use Rattle.elf_object.specs.Parts.{symbol_count, symbol_table}
+use Rattle.object_faults.specs.Firsts.{nonzero}
+use Rattle.link_faults.specs.declared.fault.LinkFault.{LinkFault}
+use Rattle.link_faults.specs.declared.fault.LinkFault.TheVariants.{OutOfMemory, At}
+use Rattle.link_faults.specs.declared.fault.LinkFaultKind.{LinkFaultKind}
+use Rattle.link_faults.specs.declared.fault.LinkFaultKind.TheVariants.{Undefined, Duplicate, NotTls}
+use Rattle.tls_symbols.specs.declared.binding.Binding.{Binding}
+use Rattle.tls_symbols.specs.Definitions.{definition_of, is_defined, same_binding}
+use Rattle.tls_symbols.specs.Bindings.{binding_of, get_address, is_symbol, is_tls_binding, object_at}
+
+-- ** what a relocation is charged with
+
+-- a relocation of type NONE names nothing
+abbrev pub names_symbol : RelocationKind → Bool
+names_symbol Nothing = false
+names_symbol kind = true
+
+-- the types of thread-local storage (psABI, "Relocation Types")
+abbrev pub is_tls_kind : RelocationKind → Bool
+is_tls_kind TlsGd = true
+is_tls_kind TlsLd = true
+is_tls_kind DtpOff32 = true
+is_tls_kind GotTpOff = true
+is_tls_kind TpOff32 = true
+is_tls_kind GotPc32TlsDesc = true
+is_tls_kind TlsDescCall = true
+is_tls_kind kind = false
+
+abbrev pub differ : Bool → Bool → Bool
+differ true other = not other
+differ false other = other
+
+-- whether a relocation of this type may not name what is bound so: one of the two is thread-local, and the other isn't
+abbrev pub is_mismatched : List (List ℕ) → RelocationKind → Option Binding → Bool
+is_mismatched objects kind None = false
+is_mismatched objects kind (Some binding) = differ (is_tls_kind kind) (is_tls_binding objects binding)
+
+-- whether a relocation of object o has no binding, or one that does not suit it
+abbrev pub is_faulty : LinkFaultKind → List (List ℕ) → List (List (List ℕ)) → ℕ → Relocation → Bool
+is_faulty Undefined objects startup o r = names_symbol r.kind && is_none (binding_of objects startup o r)
+is_faulty NotTls objects startup o r =
+    names_symbol r.kind && is_mismatched objects r.kind (binding_of objects startup o r)
+is_faulty kind objects startup o r = false
+
+-- ** what a symbol is charged with
+
+-- whether symbol e of object o is a second strong definition: its name binds to another
+abbrev pub is_second : List (List ℕ) → ℕ → List ℕ → ℕ → Bool
+is_second objects o b e =
+    (same_binding Global (symbol_binding b e) && is_defined (symbol_place b e))
+    && not (is_symbol (definition_of objects (symbol_name b e)) o e)
+
+-- whether it defines the function of the run time for all objects
+abbrev pub takes_run_time : List ℕ → ℕ → Bool
+takes_run_time b e =
+    (not (same_binding Local (symbol_binding b e)) && is_defined (symbol_place b e))
+    && bytes_eq (symbol_name b e) get_address
+
+abbrev pub is_duplicate : List (List ℕ) → ℕ → List ℕ → ℕ → Bool
+is_duplicate objects o b e = is_second objects o b e || takes_run_time b e
+
+-- ** the first fault
+
+-- the relocations that section s of an object holds, where linking keeps what they are for
+abbrev pub held_for : List ℕ → Option ℕ → List Relocation
+held_for b (Some t) = relocations b t
+held_for b None = []
+
+unfoldable pub held_in : List ℕ → ℕ → List Relocation
+held_in b s = held_for b (nonzero (relocation_target b s))
+
+-- entry e of section s of object o is a relocation that is charged with the kind
+abbrev pub IsFaultyUse : LinkFaultKind → List (List ℕ) → List (List (List ℕ)) → ℕ → ℕ → ℕ → Type 0
+IsFaultyUse kind objects startup o s e =
+    (o < length objects) × (0 < s) × (s < section_count (object_at objects o))
+    × IsSomeAnd (slice_get (held_in (object_at objects o) s) e) (λ r. is_faulty kind objects startup o r ≡ true)
+
+-- symbol e of object o, in the symbol table s, is a duplicate
+abbrev pub IsDuplicateAt : List (List ℕ) → ℕ → ℕ → ℕ → Type 0
+IsDuplicateAt objects o s e =
+    let b = object_at objects o in
+    (o < length objects) × (s ≡ symbol_table b) × (0 < e) × (e < symbol_count b) × (is_duplicate objects o b e ≡ true)
+
+-- the kind stands at entry e of section s of object o: what each kind means
+unfoldable pub Stands : LinkFaultKind → List (List ℕ) → List (List (List ℕ)) → ℕ → ℕ → ℕ → Type 0
+Stands Undefined objects startup o s e = IsFaultyUse Undefined objects startup o s e
+Stands Duplicate objects startup o s e = IsDuplicateAt objects o s e
+Stands NotTls objects startup o s e = IsFaultyUse NotTls objects startup o s e
+Stands kind objects startup o s e = ⊥
+
+-- the order of the kinds that names may be charged with
+abbrev pub number : LinkFaultKind → ℕ
+number Undefined = 0
+number Duplicate = 1
+number NotTls = 2
+number kind = 3
+
+-- one place comes before another: by object, then by section, then by entry
+abbrev pub Earlier : ℕ → ℕ → ℕ → ℕ → ℕ → ℕ → Type 0
+Earlier p t f o s e = (p < o) ⊎ ((p ≡ o) × ((t < s) ⊎ ((t ≡ s) × (f < e))))
+
+-- the kind stands nowhere
+abbrev pub Nowhere : LinkFaultKind → List (List ℕ) → List (List (List ℕ)) → Type 0
+Nowhere kind objects startup = (o s e : ℕ) → Stands kind objects startup o s e → ⊥
+
+-- none of the first n kinds stands anywhere
+abbrev pub NoneBelow : ℕ → List (List ℕ) → List (List (List ℕ)) → Type 0
+NoneBelow n objects startup = (kind : LinkFaultKind) → number kind < n → Nowhere kind objects startup
+
+-- all names are as they should be
+abbrev pub AreResolved : List (List ℕ) → List (List (List ℕ)) → Type 0
+AreResolved objects startup = NoneBelow 3 objects startup
+
+-- the first fault: it stands here, at no earlier place, and no earlier kind stands anywhere
+pub record IsFirst (objects : List (List ℕ)) (startup : List (List (List ℕ))) (kind : LinkFaultKind)
+    (o s e : ℕ) : Type 0 where
+  pub known : number kind < 3
+  pub here : Stands kind objects startup o s e
+  pub nowhere_earlier : (p t f : ℕ) → Earlier p t f o s e → Stands kind objects startup p t f → ⊥
+  pub earlier_kinds : NoneBelow (number kind) objects startup
+
+-- what a refusal says of the objects; of want of memory nothing. No fault of a name is one of the image as a whole
+abbrev pub IsFault : List (List ℕ) → List (List (List ℕ)) → LinkFault → Type 0
+IsFault objects startup OutOfMemory = Unit {0}
+IsFault objects startup (At kind (Some o) s e) = IsFirst objects startup kind o s e
+IsFault objects startup (At kind None s e) = ⊥

@@ -1,0 +1,26 @@
+-- What is known of the names of an image, and what it tells by their numbers.
+use Rattle.std.specs.Prelude.{◌==◌, ℕ, Option, Some, None, map, if◌then◌else◌}
+use Rattle.object_faults.specs.declared.relocation.RelocationKind.{RelocationKind}
+use Rattle.tls_symbols.specs.declared.binding.Binding.{Binding}
+use Rattle.tls_symbols.specs.declared.binding.Binding.TheVariants.{Runtime}
+use Rattle.tls_symbols.specs.declared.image_names.ImageNames.{ImageNames}
+use Rattle.tls_symbols.specs.declared.symbols.SymbolRef.{SymbolRef}
+use Rattle.tls_symbols.specs.Bindings.{here_or, may_import, of_startup}
+use Rattle.tls_symbols.specs.Numbers.{KnowsNames, at_number, or_else}
+
+abbrev pub IsKnown : ImageNames → Type 0
+IsKnown n =
+    KnowsNames n.objects.now n.startup.now n.numbers.names.keys (map (λ own. own.items) n.numbers.symbols.items)
+    n.strong.items n.weak.items n.imported.items
+
+-- by the number of a name: its definition, the first startup image that exports it, and its binding
+abbrev pub definition_at : ImageNames → ℕ → Option SymbolRef
+definition_at n number = or_else (at_number n.strong.items number) (at_number n.weak.items number)
+
+abbrev pub imported_at : ImageNames → ℕ → Option Binding
+imported_at n number = of_startup (at_number n.imported.items number)
+
+abbrev pub binding_at : ImageNames → ℕ → RelocationKind → Option Binding
+binding_at n number kind =
+    if number == 0 then Some Runtime else
+    here_or (definition_at n number) (if may_import kind then imported_at n number else None)

@@ -1,0 +1,9 @@
+pub mod Bindings
+pub mod Definitions
+pub mod Faults
+pub mod Firsts
+pub mod Known
+pub mod Laws
+pub mod Numbers
+pub mod Resolved
+pub mod Searches

@@ -1,0 +1,96 @@
+-- Names and their numbers, and what a table over these numbers tells of each name.
+use Rattle.std.specs.Prelude.{◌≡◌, ◌<◌, ℕ, false, List, [], Option, Some, None, length, map, slice_index}
+use Rattle.std.specs.Prelude.{slice_index_or, slice_set}
+use Rattle.std.specs.Borrow.{Bor}
+use Rattle.std.specs.Global.{Vec}
+use Rattle.std.specs.List.{position_or_len}
+use Rattle.std.specs.Str.{bytes_eq}
+use Rattle.elf_object.specs.declared.symbol.SymbolBinding.{SymbolBinding}
+use Rattle.elf_object.specs.declared.symbol.SymbolBinding.TheVariants.{Local, Global, Weak}
+use Rattle.elf_object.specs.Lent.{symbol_binding, symbol_name}
+use Rattle.elf_object.specs.Parts.{symbol_count}
+use Rattle.tls_symbols.specs.declared.symbols.SymbolRef.{SymbolRef}
+use Rattle.tls_symbols.specs.Definitions.{first_from, same_binding}
+use Rattle.tls_symbols.specs.Bindings.{first_export, get_address, object_at}
+
+-- names, each of which is lent
+abbrev pub Names : Type 0
+Names = List (Bor (List ℕ))
+
+-- the number of a name: the place of the first that is equal, or how many there are
+abbrev pub number_of : Names → List ℕ → ℕ
+number_of names name = position_or_len (λ k. bytes_eq name k.now) names
+
+-- the name stands among the names, at this number
+pub record IsNumberOf (names : Names) (name : List ℕ) (n : ℕ) : Type 0 where
+  pub number : n ≡ number_of names name
+  pub within : n < length names
+
+-- more names, among which each name keeps its number
+pub record Grows (old new : Names) : Type 0 where
+  pub keeps : (name : List ℕ) (n : ℕ) → IsNumberOf old name n → IsNumberOf new name n
+
+-- symbol e has the number of its name, but where it is LOCAL
+abbrev pub IsNumbered : Names → List ℕ → ℕ → ℕ → Type 0
+IsNumbered names b e n = same_binding Local (symbol_binding b e) ≡ false → IsNumberOf names (symbol_name b e) n
+
+-- each symbol of an object has
+pub record AreNumbered (names : Names) (b numbers : List ℕ) : Type 0 where
+  pub len : length numbers ≡ symbol_count b
+  pub each : (e : ℕ) → e < symbol_count b → IsNumbered names b e (slice_index numbers e)
+
+-- each symbol of each object has
+pub record AllNumbered (names : Names) (objects numbers : List (List ℕ)) : Type 0 where
+  pub len : length numbers ≡ length objects
+  pub each : (o : ℕ) → o < length objects → AreNumbered names (object_at objects o) (slice_index_or numbers o [])
+
+-- each name of a list has its number
+pub record AreListed (names : Names) (listed : List (List ℕ)) (numbers : List ℕ) : Type 0 where
+  pub len : length numbers ≡ length listed
+  pub each : (j : ℕ) → j < length listed → IsNumberOf names (slice_index_or listed j []) (slice_index numbers j)
+
+-- each name of each list has
+pub record AllListed (names : Names) (lists : List (List (List ℕ))) (numbers : List (List ℕ)) : Type 0 where
+  pub len : length numbers ≡ length lists
+  pub each : (k : ℕ) → k < length lists → AreListed names (slice_index_or lists k []) (slice_index_or numbers k [])
+
+-- what a table has at a number; nothing past its end
+abbrev pub at_number : {X : Type 0} → List (Option X) → ℕ → Option X
+at_number table n = slice_index_or table n None
+
+abbrev pub or_else : {X : Type 0} → Option X → Option X → Option X
+or_else (Some x) rest = Some x
+or_else None rest = rest
+
+-- the table with an entry, where there was none
+abbrev pub with_first : {X : Type 0} → List (Option X) → ℕ → X → List (Option X)
+with_first table n x = slice_set table n (or_else (at_number table n) (Some x))
+
+-- what a table tells of a name
+abbrev pub told : {X : Type 0} → Names → List (Option X) → List ℕ → Option X
+told names table name = at_number table (number_of names name)
+
+-- a table that tells the first definition of each name, with this binding
+pub record TellsDefinitions (names : Names) (binding : SymbolBinding) (objects : List (List ℕ))
+    (table : List (Option SymbolRef)) : Type 0 where
+  pub len : length table ≡ length names
+  pub tells : (name : List ℕ) → told names table name ≡ first_from binding name 0 objects
+
+-- one that tells the first startup image that exports each name
+pub record TellsExports (names : Names) (startup : List (List (List ℕ))) (table : List (Option ℕ)) : Type 0 where
+  pub len : length table ≡ length names
+  pub tells : (name : List ℕ) → told names table name ≡ first_export name 1 startup
+
+-- all that is known of the names of an image
+pub record KnowsNames (objects : List (List ℕ)) (startup : List (List (List ℕ))) (names : Names)
+    (numbers : List (List ℕ)) (strong weak : List (Option SymbolRef)) (imported : List (Option ℕ)) : Type 0 where
+  -- number 0 is that of the function of the run time
+  pub run_time : IsNumberOf names get_address 0
+  pub numbered : AllNumbered names objects numbers
+  pub strongly : TellsDefinitions names Global objects strong
+  pub weakly : TellsDefinitions names Weak objects weak
+  pub exports : TellsExports names startup imported
+
+-- the numbers of what stands at an index
+abbrev pub own_numbers : List (Vec ℕ) → ℕ → List ℕ
+own_numbers numbers index = slice_index_or (map (λ own. own.items) numbers) index []

@@ -1,0 +1,100 @@
+//! What the symbols of an image's relocations are bound to.
+
+ghost use Rattle.std.specs.Prelude.{◌≡◌, ◌<◌, ◌-◌, ◌^◌, IfErr, IfOk, IfSome, MatchOption, OnOk, length};
+ghost use Rattle.elf_object.specs.Parts.{symbol_count};
+ghost use Rattle.tls_symbols.specs.Bindings.{binding_of, object_at, IsBindingWithin};
+ghost use Rattle.tls_symbols.specs.Definitions.{definition_of, IsWithin};
+ghost use Rattle.tls_symbols.specs.Faults.{AreResolved, IsFault};
+ghost use Rattle.tls_symbols.specs.Known.{IsKnown};
+
+use crate::binding::Binding;
+use crate::duplicates::first_duplicate;
+use crate::export_list::Exports;
+use crate::image_names::{ImageNames, binding, definition_named, know_names};
+use crate::symbols::SymbolRef;
+use crate::uses::first_use;
+use elf_object::{Object, Relocation};
+use link_faults::{LinkFault, LinkFaultKind};
+use std::alloc::Global;
+use std::marker::Model;
+
+/// What the names of an image are bound to. Contracts see its objects and what the startup images export.
+#[derive(Drop)]
+pub struct Bindings<'l, 's, 'a> {
+    names: ImageNames<'l, 's, 'a>,
+}
+
+impl<'l, 's, 'a> Model for Bindings<'l, 's, 'a> {
+    ghost use Rattle.tls_symbols.specs.Resolved.{Resolved};
+    ghost use Rattle.tls_symbols.specs.Known.{IsKnown};
+    ghost use Rattle.tls_symbols.specs.Faults.{AreResolved};
+
+    ghost Value = { Resolved };
+
+    ghost view = { λ b. record { objects = b.names.objects.now; startup = b.names.startup.now } };
+
+    ghost invariant = { λ b. IsKnown b.names × AreResolved b.names.objects.now b.names.startup.now };
+}
+
+/// The first fault of the names of an image.
+fn first_fault(names: &ImageNames) -> Option<LinkFault>
+    requires { IsKnown names.now }
+    ensures { MatchOption result (AreResolved names.now.objects.now names.now.startup.now)
+        (IsFault names.now.objects.now names.now.startup.now) }
+{
+    match first_use(names, LinkFaultKind::Undefined) {
+        Some(place) => Some(place.fault(LinkFaultKind::Undefined)),
+        None => match first_duplicate(names) {
+            Some(place) => Some(place.fault(LinkFaultKind::Duplicate)),
+            None => match first_use(names, LinkFaultKind::NotTls) {
+                Some(place) => Some(place.fault(LinkFaultKind::NotTls)),
+                None => None,
+            },
+        },
+    }
+}
+
+/// Binds the names of an image of these objects, beside startup images that export these names: of all of them in
+/// image order, the image's own included where it is one. Answers the first fault: `Undefined`, else `Duplicate`, else
+/// `NotTls`, at the first object, section and entry.
+pub fn resolve<'l, 's, 'a>(
+    alloc: Global,
+    objects: &'l [Object<'a>],
+    startup: &'s [Exports<'a>],
+) -> Result<Bindings<'l, 's, 'a>, LinkFault>
+    requires few { length startup.now < 2 ^ 32 - 1 }
+    ensures objects { IfOk result (λ bindings. bindings.objects ≡ objects.now) }
+    ensures startup { IfOk result (λ bindings. bindings.startup ≡ startup.now) }
+    ensures resolved { OnOk result (AreResolved objects.now startup.now) }
+    ensures fault { IfErr result (IsFault objects.now startup.now) }
+{
+    let names = know_names(alloc, objects, startup)?;
+    match first_fault(&names) {
+        Some(fault) => Err(fault),
+        None => Ok(Bindings { names }),
+    }
+}
+
+impl Bindings<'_, '_, '_> {
+    /// What the symbol is bound to that a relocation of an object names, in time that does not depend on the names.
+    /// `None` where it has no binding, which no relocation of the objects has that names a symbol. `object` is the
+    /// object's place in the list, from 0.
+    pub fn binding(&self, object: usize, relocation: &Relocation) -> Option<Binding>
+        requires object { object < length self.now.objects }
+        requires symbol { relocation.now.symbol < symbol_count (object_at self.now.objects object) }
+        ensures binding { result ≡ binding_of self.now.objects self.now.startup object relocation.now }
+        ensures within { IfSome result (IsBindingWithin self.now.objects) }
+        ensures resolved { AreResolved self.now.objects self.now.startup }
+    {
+        binding(&self.names, object, relocation)
+    }
+
+    /// The definition that a name binds to in the image, in time that depends on the name's length alone.
+    pub fn definition(&self, name: &[u8]) -> Option<SymbolRef>
+        ensures definition { result ≡ definition_of self.now.objects name.now }
+        ensures within { IfSome result (IsWithin self.now.objects) }
+        ensures resolved { AreResolved self.now.objects self.now.startup }
+    {
+        definition_named(&self.names, name)
+    }
+}

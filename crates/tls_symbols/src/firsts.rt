@@ -1,0 +1,124 @@
+//! Tables over the numbers of names: what comes first of each name.
+
+ghost use Rattle.std.specs.Prelude.{◌≡◌, ◌<◌, ◌-◌, ◌^◌, ◌&&◌, false, IfOk, length, map};
+ghost use Rattle.elf_object.specs.Lent.{symbol_binding, symbol_place};
+ghost use Rattle.elf_object.specs.Parts.{symbol_count};
+ghost use Rattle.elf_object.specs.declared.symbol.SymbolBinding.TheVariants.{Local};
+ghost use Rattle.tls_symbols.specs.Definitions.{is_defined, same_binding};
+ghost use Rattle.tls_symbols.specs.Firsts.{NotesDefinitions, NotesExports};
+ghost use Rattle.tls_symbols.specs.Numbers.{AllListed, AllNumbered, AreListed, AreNumbered, TellsDefinitions};
+ghost use Rattle.tls_symbols.specs.Numbers.{TellsExports, own_numbers, with_first};
+
+use crate::export_list::Exports;
+use crate::numbers::Numbers;
+use crate::symbols::SymbolRef;
+use elf_object::{Object, SymbolBinding, SymbolPlace};
+use std::alloc::{AllocError, Global};
+
+/// Notes a definition, where the table has none of the name yet.
+fn note_definition(table: &mut [Option<SymbolRef>], number: usize, found: SymbolRef)
+    requires { number < length table.old }
+    ensures { table.new ≡ with_first table.old number found }
+{
+    table[number] = table[number].or(Some(found));
+}
+
+/// Notes a startup image, where the table has none for the name yet.
+fn note_image(table: &mut [Option<u32>], number: usize, image: u32)
+    requires { number < length table.old }
+    ensures { table.new ≡ with_first table.old number image }
+{
+    table[number] = table[number].or(Some(image));
+}
+
+/// Whether a symbol defines its name, with this binding.
+fn is_definition(object: &Object, number: u32, binding: SymbolBinding) -> bool
+    requires { number < symbol_count object.now }
+    ensures { result ≡ (same_binding binding (symbol_binding object.now number)
+        && is_defined (symbol_place object.now number)) }
+{
+    match object.symbol(number) {
+        Some(part) => part.binding == binding && part.place != SymbolPlace::Undefined,
+        None => false,
+    }
+}
+
+/// Notes the definitions that an object has, with this binding.
+fn note_object(
+    numbers: &Numbers,
+    index: usize,
+    object: &Object,
+    binding: SymbolBinding,
+    table: &mut [Option<SymbolRef>],
+)
+    requires numbered { AreNumbered numbers.now.names.keys object.now (own_numbers numbers.now.symbols.items index) }
+    requires there { index < length numbers.now.symbols.items }
+    requires shared { same_binding Local binding ≡ false }
+    requires len { length table.old ≡ length numbers.now.names.keys }
+    ensures { NotesDefinitions numbers.now.names.keys binding index object.now table.old table.new }
+{
+    let own = &numbers.symbols[index];
+    for symbol in 1..object.symbol_count() {
+        if is_definition(object, symbol, binding) {
+            let found = SymbolRef {
+                object: index as u64,
+                symbol,
+            };
+            note_definition(table, own[symbol as usize], found);
+        }
+    }
+}
+
+/// The first definition of each name, with this binding.
+pub fn first_definitions(
+    alloc: Global,
+    numbers: &Numbers,
+    objects: &[Object],
+    binding: SymbolBinding,
+) -> Result<Vec<Option<SymbolRef>>, AllocError>
+    requires numbered { AllNumbered numbers.now.names.keys objects.now
+        (map (λ own. own.items) numbers.now.symbols.items) }
+    requires shared { same_binding Local binding ≡ false }
+    ensures { IfOk result (λ table. TellsDefinitions numbers.now.names.keys binding objects.now table.items) }
+{
+    let mut table = vec![in alloc; None; numbers.names.len()]?;
+    for (index, object) in objects.iter().enumerate() {
+        note_object(numbers, index, object, binding, &mut table);
+    }
+    Ok(table)
+}
+
+/// Notes what a startup image exports.
+fn note_exports(
+    numbers: &Numbers,
+    index: usize,
+    exports: &Exports,
+    image: u32,
+    table: &mut [Option<u32>],
+)
+    requires listed { AreListed numbers.now.names.keys exports.now (own_numbers numbers.now.exported.items index) }
+    requires there { index < length numbers.now.exported.items }
+    requires len { length table.old ≡ length numbers.now.names.keys }
+    ensures { NotesExports numbers.now.names.keys image exports.now table.old table.new }
+{
+    for number in &numbers.exported[index] {
+        note_image(table, *number, image);
+    }
+}
+
+/// The first startup image that exports each name; image 1 is the program.
+pub fn first_exports(
+    alloc: Global,
+    numbers: &Numbers,
+    startup: &[Exports],
+) -> Result<Vec<Option<u32>>, AllocError>
+    requires few { length startup.now < 2 ^ 32 - 1 }
+    requires listed { AllListed numbers.now.names.keys startup.now (map (λ own. own.items) numbers.now.exported.items) }
+    ensures { IfOk result (λ table. TellsExports numbers.now.names.keys startup.now table.items) }
+{
+    let mut table = vec![in alloc; None; numbers.names.len()]?;
+    for (index, exports) in startup.iter().enumerate() {
+        note_exports(numbers, index, exports, index as u32 + 1, &mut table);
+    }
+    Ok(table)
+}

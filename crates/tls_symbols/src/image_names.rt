@@ -1,0 +1,181 @@
+//! All that is known of the names of an image.
+
+ghost use Rattle.std.specs.Prelude.{◌≡◌, ◌<◌, ◌^◌, ◌-◌, IfOk, IfSome, false, length};
+ghost use Rattle.std.specs.Str.{bytes_eq};
+ghost use Rattle.elf_object.specs.Lent.{symbol_binding, symbol_name};
+ghost use Rattle.elf_object.specs.declared.symbol.SymbolBinding.TheVariants.{Local};
+ghost use Rattle.elf_object.specs.Parts.{symbol_count};
+ghost use Rattle.tls_symbols.specs.Bindings.{binding_of, get_address, may_import, object_at, IsBindingWithin};
+ghost use Rattle.tls_symbols.specs.Definitions.{definition_of, same_binding, IsWithin};
+ghost use Rattle.tls_symbols.specs.Known.{IsKnown, binding_at, definition_at, imported_at};
+ghost use Rattle.tls_symbols.specs.Numbers.{IsNumbered};
+
+use crate::binding::Binding;
+use crate::export_list::Exports;
+use crate::firsts::{first_definitions, first_exports};
+use crate::numbers::{Numbers, number_names};
+use crate::symbols::SymbolRef;
+use elf_object::{Object, Relocation, RelocationKind, SymbolBinding};
+use std::alloc::{AllocError, Global};
+
+/// An image's names: their numbers, and by these what each stands for.
+#[derive(Drop)]
+pub struct ImageNames<'l, 's, 'a> {
+    pub objects: &'l [Object<'a>],
+    pub startup: &'s [Exports<'a>],
+    pub numbers: Numbers<'a>,
+    pub strong: Vec<Option<SymbolRef>>,
+    pub weak: Vec<Option<SymbolRef>>,
+    pub imported: Vec<Option<u32>>,
+}
+
+/// What is known of the names of an image of these objects, beside these startup images.
+pub fn know_names<'l, 's, 'a>(
+    alloc: Global,
+    objects: &'l [Object<'a>],
+    startup: &'s [Exports<'a>],
+) -> Result<ImageNames<'l, 's, 'a>, AllocError>
+    requires few { length startup.now < 2 ^ 32 - 1 }
+    ensures known { IfOk result IsKnown }
+    ensures objects { IfOk result (λ names. names.objects.now ≡ objects.now) }
+    ensures startup { IfOk result (λ names. names.startup.now ≡ startup.now) }
+{
+    let numbers = number_names(alloc, objects, startup)?;
+    let strong = first_definitions(alloc, &numbers, objects, SymbolBinding::Global)?;
+    let weak = first_definitions(alloc, &numbers, objects, SymbolBinding::Weak)?;
+    let imported = first_exports(alloc, &numbers, startup)?;
+    Ok(ImageNames {
+        objects,
+        startup,
+        numbers,
+        strong,
+        weak,
+        imported,
+    })
+}
+
+/// The definition of the name of this number: the first strong one, else the first weak one.
+fn definition_at(names: &ImageNames, number: usize) -> Option<SymbolRef>
+    ensures { result ≡ definition_at names.now number }
+{
+    match names.strong.get(number) {
+        Some(Some(strong)) => Some(*strong),
+        _ => match names.weak.get(number) {
+            Some(weak) => *weak,
+            None => None,
+        },
+    }
+}
+
+/// The definition that a name binds to.
+pub fn definition_named(names: &ImageNames, name: &[u8]) -> Option<SymbolRef>
+    requires { IsKnown names.now }
+    ensures definition { result ≡ definition_of names.now.objects.now name.now }
+    ensures within { IfSome result (IsWithin names.now.objects.now) }
+{
+    match names.numbers.names.get_index_of(name) {
+        Some(number) => definition_at(names, number),
+        None => None,
+    }
+}
+
+/// The number of a symbol's name; of a LOCAL symbol any.
+fn number_at(names: &ImageNames, object: usize, symbol: u32) -> usize
+    requires known { IsKnown names.now }
+    requires object { object < length names.now.objects.now }
+    requires symbol { symbol < symbol_count (object_at names.now.objects.now object) }
+    ensures { IsNumbered names.now.numbers.names.keys (object_at names.now.objects.now object) symbol result }
+{
+    let own = &names.numbers.symbols[object];
+    own[symbol as usize]
+}
+
+/// The definition that the name of a symbol binds to, one that is not LOCAL.
+pub fn symbol_definition(names: &ImageNames, object: usize, symbol: u32) -> Option<SymbolRef>
+    requires known { IsKnown names.now }
+    requires object { object < length names.now.objects.now }
+    requires symbol { symbol < symbol_count (object_at names.now.objects.now object) }
+    requires shared { same_binding Local (symbol_binding (object_at names.now.objects.now object) symbol) ≡ false }
+    ensures { result ≡ definition_of names.now.objects.now
+        (symbol_name (object_at names.now.objects.now object) symbol) }
+{
+    definition_at(names, number_at(names, object, symbol))
+}
+
+/// Whether a symbol, one that is not LOCAL, has the name of the run time's function.
+pub fn is_run_time(names: &ImageNames, object: usize, symbol: u32) -> bool
+    requires known { IsKnown names.now }
+    requires object { object < length names.now.objects.now }
+    requires symbol { symbol < symbol_count (object_at names.now.objects.now object) }
+    requires shared { same_binding Local (symbol_binding (object_at names.now.objects.now object) symbol) ≡ false }
+    ensures { result ≡ bytes_eq (symbol_name (object_at names.now.objects.now object) symbol) get_address }
+{
+    number_at(names, object, symbol) == 0
+}
+
+/// Whether a relocation of this type may name what another image exports.
+fn may_import(kind: RelocationKind) -> bool
+    ensures { result ≡ may_import kind }
+{
+    matches!(
+        kind,
+        RelocationKind::TlsGd
+            | RelocationKind::GotTpOff
+            | RelocationKind::GotPc32TlsDesc
+            | RelocationKind::TlsDescCall
+    )
+}
+
+/// The first startup image that exports the name of this number.
+fn imported_at(names: &ImageNames, number: usize) -> Option<Binding>
+    ensures { result ≡ imported_at names.now number }
+{
+    match names.imported.get(number) {
+        Some(Some(image)) => Some(Binding::Startup(*image)),
+        _ => None,
+    }
+}
+
+/// What the name of this number is bound to, which a relocation of this type names.
+fn binding_at(names: &ImageNames, number: usize, kind: RelocationKind) -> Option<Binding>
+    ensures { result ≡ binding_at names.now number kind }
+{
+    if number == 0 {
+        return Some(Binding::Runtime);
+    }
+    match definition_at(names, number) {
+        Some(found) => Some(Binding::Here(found)),
+        None if may_import(kind) => imported_at(names, number),
+        None => None,
+    }
+}
+
+/// Whether a symbol is LOCAL.
+fn is_local(object: &Object, symbol: u32) -> bool
+    requires { symbol < symbol_count object.now }
+    ensures { result ≡ same_binding Local (symbol_binding object.now symbol) }
+{
+    match object.symbol(symbol) {
+        Some(part) => matches!(part.binding, SymbolBinding::Local),
+        None => false,
+    }
+}
+
+/// What the symbol is bound to that a relocation of an object names.
+#[tactic(auto, unfolding(crate::specs::Bindings::binding_of))]
+pub fn binding(names: &ImageNames, object: usize, relocation: &Relocation) -> Option<Binding>
+    requires known { IsKnown names.now }
+    requires object { object < length names.now.objects.now }
+    requires symbol { relocation.now.symbol < symbol_count (object_at names.now.objects.now object) }
+    ensures binding { result ≡ binding_of names.now.objects.now names.now.startup.now object relocation.now }
+    ensures within { IfSome result (IsBindingWithin names.now.objects.now) }
+{
+    if is_local(&names.objects[object], relocation.symbol) {
+        return Some(Binding::Here(SymbolRef {
+            object: object as u64,
+            symbol: relocation.symbol,
+        }));
+    }
+    let number = number_at(names, object, relocation.symbol);
+    binding_at(names, number, relocation.kind)
+}

@@ -1,0 +1,153 @@
+//! The numbers of names: each name is hashed once, and is a number from then on.
+
+ghost use Rattle.std.specs.Prelude.{◌≡◌, ◌<◌, length, map, slice_index_or, IfOk, OnOk};
+ghost use Rattle.elf_object.specs.Parts.{symbol_count};
+ghost use Rattle.tls_symbols.specs.Bindings.{get_address};
+ghost use Rattle.tls_symbols.specs.Numbers.{AllListed, AllNumbered, AreListed, AreNumbered, Grows, IsNumberOf};
+ghost use Rattle.tls_symbols.specs.Numbers.{IsNumbered};
+
+use crate::export_list::Exports;
+use elf_object::{Object, SymbolBinding};
+use indexmap::IndexSet;
+use std::alloc::{AllocError, Global};
+
+/// The function of the run time.
+const GET_ADDRESS: &[u8] = b"__tls_get_addr";
+
+/// The names of an image, and the numbers of those that its symbols and the startup images have.
+#[derive(Drop)]
+pub struct Numbers<'a> {
+    /// All names, each once. The first is the run time's.
+    pub names: IndexSet<&'a [u8]>,
+    /// The number of each symbol of each object; of a LOCAL one 0.
+    pub symbols: Vec<Vec<usize>>,
+    /// The numbers of what each startup image exports.
+    pub exported: Vec<Vec<usize>>,
+}
+
+/// The names of an image before any is added: that of the run time's function.
+fn first_names<'a>(alloc: Global) -> Result<IndexSet<&'a [u8]>, AllocError>
+    ensures { IfOk result (λ names. IsNumberOf names.keys get_address 0) }
+{
+    let mut names = IndexSet::new(alloc);
+    names.insert(GET_ADDRESS)?;
+    Ok(names)
+}
+
+/// The number of a name.
+fn number_name<'a>(names: &mut IndexSet<&'a [u8]>, name: &'a [u8]) -> Result<usize, AllocError>
+    ensures number { IfOk result (IsNumberOf names.new.keys name.now) }
+    ensures grows { OnOk result (Grows names.old.keys names.new.keys) }
+{
+    let (number, _) = names.insert_full(name)?;
+    Ok(number)
+}
+
+/// The number of a symbol's name; 0 of a LOCAL symbol, whose name is not looked at.
+fn number_symbol<'a>(
+    object: &Object<'a>,
+    symbol: u32,
+    names: &mut IndexSet<&'a [u8]>,
+) -> Result<usize, AllocError>
+    requires { symbol < symbol_count object.now }
+    ensures number { IfOk result (IsNumbered names.new.keys object.now symbol) }
+    ensures grows { OnOk result (Grows names.old.keys names.new.keys) }
+{
+    match object.symbol(symbol) {
+        Some(part) if part.binding != SymbolBinding::Local => {
+            number_name(names, object.symbol_name(symbol))
+        }
+        _ => Ok(0),
+    }
+}
+
+/// The numbers of an object's symbols.
+fn number_symbols<'a>(
+    alloc: Global,
+    object: &Object<'a>,
+    names: &mut IndexSet<&'a [u8]>,
+) -> Result<Vec<usize>, AllocError>
+    ensures numbers { IfOk result (λ numbers. AreNumbered names.new.keys object.now numbers.items) }
+    ensures grows { OnOk result (Grows names.old.keys names.new.keys) }
+{
+    let mut numbers = Vec::new(alloc);
+    for symbol in 0..object.symbol_count() {
+        let number = number_symbol(object, symbol, names)?;
+        numbers.push(number)?;
+    }
+    Ok(numbers)
+}
+
+/// The numbers of all objects' symbols.
+fn number_objects<'a>(
+    alloc: Global,
+    objects: &[Object<'a>],
+    names: &mut IndexSet<&'a [u8]>,
+) -> Result<Vec<Vec<usize>>, AllocError>
+    ensures numbers { IfOk result (λ numbers.
+        AllNumbered names.new.keys objects.now (map (λ own. own.items) numbers.items)) }
+    ensures grows { OnOk result (Grows names.old.keys names.new.keys) }
+{
+    let mut numbers = Vec::new(alloc);
+    for object in objects {
+        let own = number_symbols(alloc, object, names)?;
+        numbers.push(own)?;
+    }
+    Ok(numbers)
+}
+
+/// The numbers of listed names.
+fn number_list<'a>(
+    alloc: Global,
+    listed: &[&'a [u8]],
+    names: &mut IndexSet<&'a [u8]>,
+) -> Result<Vec<usize>, AllocError>
+    ensures numbers { IfOk result (λ numbers.
+        AreListed names.new.keys (map (λ name. name.now) listed.now) numbers.items) }
+    ensures grows { OnOk result (Grows names.old.keys names.new.keys) }
+{
+    let mut numbers = Vec::new(alloc);
+    for name in listed {
+        let number = number_name(names, name)?;
+        numbers.push(number)?;
+    }
+    Ok(numbers)
+}
+
+/// The numbers of what the startup images export.
+fn number_exports<'a>(
+    alloc: Global,
+    startup: &[Exports<'a>],
+    names: &mut IndexSet<&'a [u8]>,
+) -> Result<Vec<Vec<usize>>, AllocError>
+    ensures numbers { IfOk result (λ numbers.
+        AllListed names.new.keys startup.now (map (λ own. own.items) numbers.items)) }
+    ensures grows { OnOk result (Grows names.old.keys names.new.keys) }
+{
+    let mut numbers = Vec::new(alloc);
+    for exports in startup {
+        let own = number_list(alloc, exports.names(), names)?;
+        numbers.push(own)?;
+    }
+    Ok(numbers)
+}
+
+/// Numbers the names of an image: the run time's function first, then what startup images export, then its symbols'.
+pub fn number_names<'a>(
+    alloc: Global,
+    objects: &[Object<'a>],
+    startup: &[Exports<'a>],
+) -> Result<Numbers<'a>, AllocError>
+    ensures run_time { IfOk result (λ n. IsNumberOf n.names.keys get_address 0) }
+    ensures symbols { IfOk result (λ n. AllNumbered n.names.keys objects.now (map (λ own. own.items) n.symbols.items)) }
+    ensures exported { IfOk result (λ n. AllListed n.names.keys startup.now (map (λ own. own.items) n.exported.items)) }
+{
+    let mut names = first_names(alloc)?;
+    let exported = number_exports(alloc, startup, &mut names)?;
+    let symbols = number_objects(alloc, objects, &mut names)?;
+    Ok(Numbers {
+        names,
+        symbols,
+        exported,
+    })
+}
