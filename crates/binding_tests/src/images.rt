@@ -19,46 +19,46 @@ const VARIABLES: u16 = 1;
 const CODE: u16 = 2;
 
 /// A GLOBAL variable.
-pub fn variable(name: &'static [u8]) -> Symbol<'static> {
+pub(crate) fn variable(name: &'static [u8]) -> Symbol<'static> {
     Symbol::global(name, STT_TLS, VARIABLES, 0, 4)
 }
 
 /// A GLOBAL function.
-pub fn function(name: &'static [u8]) -> Symbol<'static> {
+pub(crate) fn function(name: &'static [u8]) -> Symbol<'static> {
     Symbol::global(name, STT_FUNC, CODE, 0, 1)
 }
 
 /// A GLOBAL name that the object does not define.
-pub fn undefined(name: &'static [u8]) -> Symbol<'static> {
+pub(crate) fn undefined(name: &'static [u8]) -> Symbol<'static> {
     Symbol::global(name, STT_NOTYPE, 0, 0, 0)
 }
 
 /// A LOCAL variable.
-pub fn local(name: &'static [u8]) -> Symbol<'static> {
+pub(crate) fn local(name: &'static [u8]) -> Symbol<'static> {
     Symbol::local(name, STT_TLS, VARIABLES, 4, 4)
 }
 
 /// A LOCAL function.
-pub fn local_function(name: &'static [u8]) -> Symbol<'static> {
+pub(crate) fn local_function(name: &'static [u8]) -> Symbol<'static> {
     Symbol::local(name, STT_FUNC, CODE, 0, 1)
 }
 
 /// The symbol, but WEAK.
-pub fn weak(symbol: Symbol<'static>) -> Symbol<'static> {
+pub(crate) fn weak(symbol: Symbol<'static>) -> Symbol<'static> {
     let mut symbol = symbol;
     symbol.entry.info = SymbolEntry::info_of(STB_WEAK, symbol.entry.info % 16);
     symbol
 }
 
 /// The symbol with this visibility.
-pub fn seen_as(visibility: u8, symbol: Symbol<'static>) -> Symbol<'static> {
+pub(crate) fn seen_as(visibility: u8, symbol: Symbol<'static>) -> Symbol<'static> {
     let mut symbol = symbol;
     symbol.entry.other = visibility;
     symbol
 }
 
 /// An object of these symbols, with a relocation for each pair of a type and a symbol's number.
-pub fn object(
+pub(crate) fn object(
     alloc: Global,
     symbols: &[Symbol],
     uses: &[(u32, u32)],
@@ -75,7 +75,7 @@ pub fn object(
 }
 
 /// The objects of these files.
-pub fn read<'a>(alloc: Global, files: &'a [Vec<u8>]) -> Result<Vec<Object<'a>>, Fail> {
+pub(crate) fn read<'a>(alloc: Global, files: &'a [Vec<u8>]) -> Result<Vec<Object<'a>>, Fail> {
     let mut objects = Vec::new(alloc);
     for file in files {
         objects.push(Object::read(alloc, file.as_slice())?)?;
@@ -84,7 +84,10 @@ pub fn read<'a>(alloc: Global, files: &'a [Vec<u8>]) -> Result<Vec<Object<'a>>, 
 }
 
 /// What images of these objects export, one after the other.
-pub fn exports_of<'a>(alloc: Global, images: &'a [Vec<Vec<u8>>]) -> Result<Vec<Exports<'a>>, Fail> {
+pub(crate) fn exports_of<'a>(
+    alloc: Global,
+    images: &'a [Vec<Vec<u8>>],
+) -> Result<Vec<Exports<'a>>, Fail> {
     let mut startup = Vec::new(alloc);
     for image in images {
         let objects = read(alloc, image.as_slice())?;
@@ -94,7 +97,7 @@ pub fn exports_of<'a>(alloc: Global, images: &'a [Vec<Vec<u8>>]) -> Result<Vec<E
 }
 
 /// The names, one behind the other.
-pub fn exported(alloc: Global, exports: &Exports) -> Result<Vec<u8>, AllocError> {
+pub(crate) fn exported(alloc: Global, exports: &Exports) -> Result<Vec<u8>, AllocError> {
     let mut text = Vec::new(alloc);
     for name in exports.names() {
         text.extend_from_slice(name)?;
@@ -105,7 +108,11 @@ pub fn exported(alloc: Global, exports: &Exports) -> Result<Vec<u8>, AllocError>
 
 /// What each relocation of the code of each object is bound to, or the fault: `here OBJECT SYMBOL`, `startup IMAGE`,
 /// `run-time` or `none`.
-pub fn said(alloc: Global, files: &[Vec<u8>], images: &[Vec<Vec<u8>>]) -> Result<String, Fail> {
+pub(crate) fn said(
+    alloc: Global,
+    files: &[Vec<u8>],
+    images: &[Vec<Vec<u8>>],
+) -> Result<String, Fail> {
     let objects = read(alloc, files)?;
     let startup = exports_of(alloc, images)?;
     if startup.len() > 100 {

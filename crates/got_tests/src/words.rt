@@ -12,24 +12,24 @@ use tls_symbols::SymbolRef;
 pub const BLOCK: u64 = 0x18;
 
 /// The entry of a need in each of these kinds of image.
-pub fn assert_row(rt: &impl Abort, kinds: &[ImageKind], need: &Need, entry: &Entry) {
+pub(crate) fn assert_row(rt: &impl Abort, kinds: &[ImageKind], need: &Need, entry: &Entry) {
     for kind in kinds {
         assert_eq!(rt; &entry_of(*kind, BLOCK, need), entry);
     }
 }
 
 /// Where the entry of a need begins.
-pub fn assert_start(rt: &impl Abort, table: &GotPlan, need: &Need, start: Option<u64>) {
+pub(crate) fn assert_start(rt: &impl Abort, table: &GotPlan, need: &Need, start: Option<u64>) {
     assert_eq!(rt; table.start(need), start);
 }
 
 /// What the entry of a number holds.
-pub fn assert_entry(rt: &impl Abort, table: &GotPlan, number: usize, entry: Entry) {
+pub(crate) fn assert_entry(rt: &impl Abort, table: &GotPlan, number: usize, entry: Entry) {
     assert_eq!(rt; table.entry(number), Some(entry));
 }
 
 /// A number that the linker knows.
-pub fn held<'a>(number: u64) -> Word<'a> {
+pub(crate) fn held<'a>(number: u64) -> Word<'a> {
     Word {
         number,
         relocation: None,
@@ -37,7 +37,7 @@ pub fn held<'a>(number: u64) -> Word<'a> {
 }
 
 /// A number that the loader writes over.
-pub fn loaded<'a>(
+pub(crate) fn loaded<'a>(
     number: u64,
     kind: DynamicKind,
     symbol: DynamicSymbol<'a>,
@@ -54,22 +54,22 @@ pub fn loaded<'a>(
 }
 
 /// A word that the loader writes for the image itself.
-pub fn own<'a>(kind: DynamicKind, addend: u64) -> Word<'a> {
+pub(crate) fn own<'a>(kind: DynamicKind, addend: u64) -> Word<'a> {
     loaded(0, kind, DynamicSymbol::Image, addend)
 }
 
 /// A word that the loader writes for the variable `x` of another image.
-pub fn imported<'a>(kind: DynamicKind) -> Word<'a> {
+pub(crate) fn imported<'a>(kind: DynamicKind) -> Word<'a> {
     loaded(0, kind, DynamicSymbol::Imported(Name::new(b"x")), 0)
 }
 
 /// The entry of the run time's function.
-pub fn runtime<'a>() -> Entry<'a> {
+pub(crate) fn runtime<'a>() -> Entry<'a> {
     Entry::One(loaded(0, DynamicKind::JumpSlot, DynamicSymbol::Runtime, 0))
 }
 
 /// A symbol of the first object.
-pub fn symbol(number: u32) -> SymbolRef {
+pub(crate) fn symbol(number: u32) -> SymbolRef {
     SymbolRef {
         object: 0,
         symbol: number,
@@ -77,7 +77,7 @@ pub fn symbol(number: u32) -> SymbolRef {
 }
 
 /// A variable of the image itself, symbol 2.
-pub fn here<'a>(offset: u64) -> Target<'a> {
+pub(crate) fn here<'a>(offset: u64) -> Target<'a> {
     Target::Here {
         symbol: symbol(2),
         offset,
@@ -85,12 +85,12 @@ pub fn here<'a>(offset: u64) -> Target<'a> {
 }
 
 /// The variable `x` of another image.
-pub fn elsewhere<'a>() -> Target<'a> {
+pub(crate) fn elsewhere<'a>() -> Target<'a> {
     Target::Import(Name::new(b"x"))
 }
 
 /// The word with the address of a function, symbol 1.
-pub fn address<'a>(place: u64) -> Need<'a> {
+pub(crate) fn address<'a>(place: u64) -> Need<'a> {
     Need::AddressWord {
         symbol: symbol(1),
         place,

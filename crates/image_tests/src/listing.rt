@@ -94,7 +94,7 @@ fn push_relocation(
 }
 
 /// The text of an image.
-pub fn listed(alloc: Global, image: &Image) -> Result<String, Fail> {
+pub(crate) fn listed(alloc: Global, image: &Image) -> Result<String, Fail> {
     let mut text = String::from_str(
         alloc,
         match image.kind() {

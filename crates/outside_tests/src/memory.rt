@@ -4,7 +4,11 @@ use std::alloc::Global;
 use std::test::Fail;
 
 /// What the file of that name holds, behind a mark, through the trait.
-pub fn fetched<S: Store>(alloc: Global, store: &mut S, name: &str) -> Result<Vec<u8>, FetchFault> {
+pub(crate) fn fetched<S: Store>(
+    alloc: Global,
+    store: &mut S,
+    name: &str,
+) -> Result<Vec<u8>, FetchFault> {
     let mut into = Vec::from_slice(alloc, b">")?;
     store.fetch(name, &mut into)?;
     Ok(into)
