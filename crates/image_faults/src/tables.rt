@@ -161,6 +161,13 @@ impl Tables<'_> {
         self.segment(number)
     }
 
+    /// The header of the dynamic array.
+    pub fn dynamic(&self) -> Segment
+        ensures { result ≡ segment_header self.now.bytes.now (loads_of self.now.bytes.now) }
+    {
+        self.segment(self.places.loads)
+    }
+
     /// The header of the TLS segment, if there is one.
     pub fn tls(&self) -> Option<Segment>
         ensures { result ≡ tls_of self.now.bytes.now }

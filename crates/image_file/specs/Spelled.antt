@@ -15,7 +15,7 @@ use Rattle.elf_records.specs.declared.symbol.TheConstants.{STV_HIDDEN}
 use Rattle.image_faults.specs.declared.places.FileKind.{FileKind}
 use Rattle.image_faults.specs.declared.loader_kind.LoaderKind.TheVariants.{Relative}
 use Rattle.image_faults.specs.Parts.{segment, loads, tls}
-use Rattle.image_faults.specs.Array.{symbol_count, relocation_count, strings_place, strings_size}
+use Rattle.image_faults.specs.Array.{array_size, symbol_count, relocation_count, strings_place, strings_size}
 use Rattle.image_faults.specs.Symbols.{symbol}
 use Rattle.image_faults.specs.Relocations.{rela, loader_kind}
 use Rattle.image_faults.specs.Places.{file_kind, is_flagged, got}
@@ -39,10 +39,11 @@ pub record Part : Type 0 where
   pub address : ℕ
   pub bytes : List ℕ
 
--- an image, as a loader sees it
+-- an image, as a loader sees it; its last part holds the dynamic tables, and begins with the dynamic array
 pub record Spelled : Type 0 where
   pub kind : FileKind
   pub parts : List Part
+  pub array_size : ℕ
   pub got : Option ℕ
   pub tls : Option TlsPart
   pub symbols : List ImageSymbol
@@ -123,8 +124,7 @@ unfoldable pub relocation_of : Rela → ImageRelocation
 relocation_of r = record {
   place = r.offset;
   kind = unwrap_or (loader_kind (rela_kind r)) Relative;
-  symbol =
-      rela_symbol r;
+  symbol = rela_symbol r;
   addend = r.addend;
 }
 
@@ -146,6 +146,7 @@ abbrev pub spelled : List ℕ → Spelled
 spelled b = record {
   kind = file_kind b;
   parts = parts b;
+  array_size = array_size b;
   got = got b;
   tls = tls_of (tls b);
   symbols = symbols b;

@@ -45,6 +45,20 @@ pub fn read(alloc: Global, bytes: &[u8]) -> Result<Image, ImageFault>
 }
 
 impl Image {
+    /// The image of bytes that are known to stand for one. They are kept as they are, and not copied.
+    pub fn from_bytes(bytes: Vec<u8>) -> Image
+        requires { IsImage bytes.items }
+        ensures { result ≡ spelled bytes.items }
+    {
+        match fault_free(bytes.as_slice()) {
+            Ok(tables) => {
+                let places = tables.places;
+                Image { bytes, places }
+            }
+            Err(_) => unreachable!(),
+        }
+    }
+
     /// What the image is.
     pub fn kind(&self) -> FileKind
         ensures { result ≡ self.now.kind }
@@ -72,6 +86,17 @@ impl Image {
         ensures { result ≡ length self.now.parts }
     {
         self.places.loads
+    }
+
+    /// How many bytes the dynamic array has. It begins where the last part does.
+    pub fn array_size(&self) -> u64
+        ensures { result ≡ self.now.array_size }
+    {
+        let tables = Tables {
+            bytes: self.bytes.as_slice(),
+            places: self.places,
+        };
+        tables.dynamic().filesz
     }
 
     /// A part, by its number. `None` exactly past the last.

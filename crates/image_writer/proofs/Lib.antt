@@ -1,0 +1,4 @@
+pub mod Agreement
+pub mod Headed
+pub mod Linked
+pub mod Loaded
