@@ -2,3 +2,5 @@ pub mod Agreement
 pub mod Headed
 pub mod Linked
 pub mod Loaded
+pub mod SameBytes
+pub mod SameLists
