@@ -1,4 +1,6 @@
 pub mod Agreement
+pub mod Decided
 pub mod Headed
 pub mod Linked
 pub mod Loaded
+pub mod Positive
