@@ -1,18 +1,15 @@
 -- What an image keeps, said of each place: the rules say only that nothing breaks them.
-use Rattle.std.proofs.Common.{◌≡◌, ◌≢◌, ◌+◌, ◌-◌, ◌*◌, ◌%◌, ◌^◌, ◌<◌, ◌≤◌, ◌⊎◌, ◌∙◌, ℕ, zero, suc, List, length, inl, inr, refl, sym, subst, arith, if◌then◌else◌}
+use Rattle.std.proofs.Common.{◌≡◌, ◌+◌, ◌*◌, ◌^◌, ◌<◌, ◌≤◌, ℕ, List, length, inl, inr, refl, arith}
 use Rattle.elf_records.specs.declared.program_header.Segment.{Segment as Header}
-use Rattle.elf_records.specs.declared.file_header.TheConstants.{ET_EXEC, ET_DYN}
-use Rattle.elf_records.specs.declared.program_header.TheConstants.{PT_DYNAMIC, PT_TLS, PT_GNU_RELRO, PF_X, PF_R, PF_W}
-use Rattle.image_faults.specs.declared.rule.Rule.TheVariants.{Length, Ident, Field, Extent, Segment, Entry, Table}
+use Rattle.image_faults.specs.declared.rule.Rule.TheVariants.{Length, Field, Extent, Segment, Entry}
 use Rattle.image_faults.specs.declared.rule.FieldRule.{FieldRule}
 use Rattle.image_faults.specs.declared.rule.FieldRule.TheVariants.{FileType, Machine, Version, TableOffset, EntrySize, Count}
 use Rattle.image_faults.specs.declared.rule.EntryRule.{EntryRule}
 use Rattle.image_faults.specs.declared.rule.EntryRule.TheVariants.{Hash, Strings, Symbols, StringsSize, SymbolSize, Relocations, RelocationsSize, RelocationSize, Flags, End}
-use Rattle.image_faults.specs.Counts.{how_many}
-use Rattle.image_faults.specs.Parts.{header, count, segment, base, loads, last, is_writable, behind_last_writable, has_relro, relro_place}
+use Rattle.image_faults.specs.Parts.{header, count, segment, loads}
 use Rattle.image_faults.specs.Fields.{IsRightField}
-use Rattle.image_faults.specs.Segments.{PassesEnd, IsPlaced, IsClass, IsWhole, IsInRange, IsOfFewWritten, IsLastConstant, IsRightLoad, IsRightDynamic, HoldsInitialImage, IsAlignment, IsRightTls, IsRightRelro, IsRightRest, IsWrongSegment}
-use Rattle.image_faults.specs.Array.{HasTag, HoldsTable, IsRightEntry, IsFlagged, IsProgram, entry, entry_place, array_size, flags_entry}
+use Rattle.image_faults.specs.Segments.{IsRightLoad, IsRightDynamic, HoldsInitialImage, IsAlignment, IsRightTls, IsRightRelro, IsRightRest}
+use Rattle.image_faults.specs.Array.{HasTag, HoldsTable, IsRightEntry, entry_place}
 use Rattle.image_faults.specs.Faults.{Breaks, IsImage}
 use Rattle.image_writer.proofs.Decided.{Dec, stable, dec_eq, dec_lt, dec_le, dec_map, dec_not, dec_differ, dec_or, dec_both, dec_three, dec_four, dec_five, dec_six, dec_seven, dec_below, dec_some}
 
