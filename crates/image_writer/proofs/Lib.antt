@@ -1,6 +1,12 @@
 pub mod Agreement
+pub mod Counted
+pub mod Decided
 pub mod Headed
 pub mod Linked
 pub mod Loaded
+pub mod Positive
+pub mod SameArray
 pub mod SameBytes
 pub mod SameLists
+pub mod SameTables
+pub mod Seen
