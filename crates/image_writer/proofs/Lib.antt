@@ -7,6 +7,7 @@ pub mod Loaded
 pub mod Positive
 pub mod SameArray
 pub mod SameBytes
+pub mod SameHeaders
 pub mod SameLists
 pub mod SameTables
 pub mod Seen
