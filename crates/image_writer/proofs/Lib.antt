@@ -9,5 +9,7 @@ pub mod SameArray
 pub mod SameBytes
 pub mod SameHeaders
 pub mod SameLists
+pub mod SameRules
+pub mod SameSpelled
 pub mod SameTables
 pub mod Seen

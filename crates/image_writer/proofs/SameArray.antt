@@ -3,6 +3,7 @@ use Rattle.std.proofs.Common.{◌≡◌, ◌+◌, ◌-◌, ◌*◌, ◌/◌, ◌
 use Rattle.std.proofs.lemmas.Bool.{cases_lt, and_parts}
 use Rattle.std.proofs.lemmas.Bool.Decides.{nat_tests}
 use Rattle.elf_records.specs.Records.{dynamic_at}
+use Rattle.elf_records.specs.declared.dynamic.TheConstants.{DT_RELA, DT_RELASZ, DT_STRSZ}
 use Rattle.image_faults.specs.Parts.{header, segment, loads, last, has_tls, tls_size}
 use Rattle.image_faults.specs.Array.{array_size, entry, HasTag, has_tag, place, HoldsTable, has_relocations, relocations_size, relocation_count, flags_entry, strings_size}
 use Rattle.image_writer.proofs.SameBytes.{HoldSame, same_dynamic}
@@ -91,15 +92,15 @@ same_if p false m n d tests same = rw tests refl
 -- the size of the names is the same
 pub same_strings_size : (f b : List ℕ) → SameHeaders f b → strings_size f ≡ strings_size b
 same_strings_size f b same =
-    same_if (has_tag f 3 10) (has_tag b 3 10) (entry f 3).value (entry b 3).value 0 (same_has_tag f b same 3 10)
-    (λ passes. same_value f b same 3 (tagged_within b 3 10 passes))
+    same_if (has_tag f 3 DT_STRSZ) (has_tag b 3 DT_STRSZ) (entry f 3).value (entry b 3).value 0 (same_has_tag f b same 3 DT_STRSZ)
+    (λ passes. same_value f b same 3 (tagged_within b 3 DT_STRSZ passes))
 
 -- that of the relocations
 pub same_relocations_size : (f b : List ℕ) → SameHeaders f b → relocations_size f ≡ relocations_size b
 same_relocations_size f b same =
-    same_if (has_tag f 5 7 && has_tag f 6 8) (has_tag b 5 7 && has_tag b 6 8) (entry f 6).value (entry b 6).value 0
-    (rw (same_has_tag f b same 5 7, same_has_tag f b same 6 8) refl)
-    (λ passes. same_value f b same 6 (tagged_within b 6 8 (and_parts (has_tag b 5 7) (has_tag b 6 8) passes).1))
+    same_if (has_tag f 5 DT_RELA && has_tag f 6 DT_RELASZ) (has_tag b 5 DT_RELA && has_tag b 6 DT_RELASZ) (entry f 6).value (entry b 6).value 0
+    (rw (same_has_tag f b same 5 DT_RELA, same_has_tag f b same 6 DT_RELASZ) refl)
+    (λ passes. same_value f b same 6 (tagged_within b 6 DT_RELASZ (and_parts (has_tag b 5 DT_RELA) (has_tag b 6 DT_RELASZ) passes).1))
 
 -- and how many there are
 pub same_relocation_count : (f b : List ℕ) → SameHeaders f b → relocation_count f ≡ relocation_count b
@@ -108,7 +109,7 @@ same_relocation_count f b same = ap (λ n. n / 24) (same_relocations_size f b sa
 
 -- the flags stand at the same entry
 pub same_flags_entry : (f b : List ℕ) → SameHeaders f b → flags_entry f ≡ flags_entry b
-same_flags_entry f b same = ap (λ (c : Bool). if c then 8 else 5) (same_has_tag f b same 5 7)
+same_flags_entry f b same = ap (λ (c : Bool). if c then 8 else 5) (same_has_tag f b same 5 DT_RELA)
 
 -- an address of the last LOAD stands at the same place in the file
 pub same_place : (f b : List ℕ) → SameHeaders f b → (address : ℕ) → place f address ≡ place b address

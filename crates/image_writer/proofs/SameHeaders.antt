@@ -1,6 +1,7 @@
 -- A file of an image that was read: its headers say what those of the image did, and its parts hold the same bytes.
 use Rattle.std.proofs.Common.{◌≡◌, ◌+◌, ◌-◌, ◌*◌, ◌<◌, ◌≤◌, ◌⊎◌, ◌∙◌, ℕ, Bool, true, false, List, length, take, Option, Some, None, is_some, refl, sym, ap, subst, inl, inr, arith, ◌==◌, if◌then◌else◌, slice_range}
 use Rattle.elf_records.specs.Fields.{part_at}
+use Rattle.elf_records.specs.declared.dynamic.TheConstants.{DT_FLAGS_1}
 use Rattle.elf_records.specs.declared.file_header.Header.{Header}
 use Rattle.elf_records.specs.declared.program_header.Segment.{Segment}
 use Rattle.image_faults.specs.declared.rule.FieldRule.TheVariants.{FileType}
@@ -222,7 +223,7 @@ same_headers b f image file leads =
     record {
       file_type =
           ap (λ (h : Header). h.e_type) leads.header_is ∙ made_type o
-          ∙ type_again (header b).e_type (has_tag b (flags_entry b) 1879048187) (field_right b image FileType);
+          ∙ type_again (header b).e_type (has_tag b (flags_entry b) DT_FLAGS_1) (field_right b image FileType);
       loads_are = same_loads b f o saw leads;
       flags_are = λ i h.
           ap (λ (s : Segment). s.flags) (load_made b f o saw leads i h) ∙ made_flags b (file_kind b) i

@@ -5,6 +5,7 @@ use Rattle.std.proofs.lemmas.Bool.{cases_Bool, and_parts}
 use Rattle.std.proofs.lemmas.Bool.Decides.{nat_tests}
 use Rattle.elf_records.specs.Fields.{number_at, part_at}
 use Rattle.elf_records.specs.Records.{symbol_at, rela_at}
+use Rattle.elf_records.specs.declared.dynamic.TheConstants.{DT_RELA, DT_RELASZ}
 use Rattle.image_faults.specs.declared.rule.EntryRule.{EntryRule}
 use Rattle.image_faults.specs.declared.rule.EntryRule.TheVariants.{Hash, Strings, Symbols, Relocations}
 use Rattle.image_faults.specs.Parts.{last}
@@ -139,10 +140,10 @@ tag_of_test n a t k passes = grind (arith, nat_tests)
 
 -- where there is a relocation, their table lies in the last LOAD
 pub relocations_held : (b : List ℕ) → IsRightEntry Relocations b → 0 < relocation_count b
-    → HasTag b 5 7 × HoldsTable b (entry b 5).value (relocations_size b)
+    → HasTag b 5 DT_RELA × HoldsTable b (entry b 5).value (relocations_size b)
 relocations_held b right some =
     let sized : 0 < relocations_size b = omega (arith, count_of_size b) in
-    let named = size_named (has_relocations b) (has_tag b 6 8) (entry b 6).value sized in
+    let named = size_named (has_relocations b) (has_tag b 6 DT_RELASZ) (entry b 6).value sized in
     elim right [
       | inl none ↦ absurd (none (tag_of_test _ _ _ _ named))
       | inr holds ↦ holds
