@@ -1,11 +1,13 @@
 -- Two files whose program headers say the same, and whose last LOAD holds the same bytes, have the same dynamic array.
-use Rattle.std.proofs.Common.{◌≡◌, ◌+◌, ◌-◌, ◌*◌, ◌/◌, ◌<◌, ◌≤◌, ◌⊎◌, ◌∙◌, ℕ, List, Bool, true, false, refl, inl, inr, sym, ap, arith, nat_le, ◌==◌, ◌&&◌, if◌then◌else◌}
+use Rattle.std.proofs.Common.{◌≡◌, ◌+◌, ◌-◌, ◌*◌, ◌/◌, ◌<◌, ◌≤◌, ◌∙◌, ℕ, List, Bool, true, false, refl, inl, inr, sym, ap, arith, nat_le, ◌==◌, ◌&&◌}
+use Rattle.std.proofs.Common.{if◌then◌else◌}
 use Rattle.std.proofs.lemmas.Bool.{cases_lt, and_parts}
 use Rattle.std.proofs.lemmas.Bool.Decides.{nat_tests}
 use Rattle.elf_records.specs.Records.{dynamic_at}
 use Rattle.elf_records.specs.declared.dynamic.TheConstants.{DT_RELA, DT_RELASZ, DT_STRSZ}
 use Rattle.image_faults.specs.Parts.{header, segment, loads, last, has_tls, tls_size}
-use Rattle.image_faults.specs.Array.{array_size, entry, HasTag, has_tag, place, HoldsTable, has_relocations, relocations_size, relocation_count, flags_entry, strings_size}
+use Rattle.image_faults.specs.Array.{array_size, entry, HasTag, has_tag, place, HoldsTable, relocations_size, relocation_count, flags_entry}
+use Rattle.image_faults.specs.Array.{strings_size}
 use Rattle.image_writer.proofs.SameBytes.{HoldSame, same_dynamic}
 
 -- what the headers of two files say alike; the last LOAD of both holds the same bytes, and the array lies in it

@@ -1,5 +1,5 @@
 -- Two lists of bytes that hold the same m bytes from an offset on: what is read inside these bytes is the same.
-use Rattle.std.proofs.Common.{◌≡◌, ◌+◌, ◌-◌, ◌*◌, ◌<◌, ◌≤◌, ◌∙◌, ℕ, List, refl, sym, ap, arith, length, take, drop, slice_index, slice_range, subst}
+use Rattle.std.proofs.Common.{◌≡◌, ◌+◌, ◌-◌, ◌<◌, ◌≤◌, ◌∙◌, ℕ, List, sym, ap, arith, length, take, drop, slice_index, slice_range, subst}
 use Rattle.std.proofs.lemmas.List.{length-drop, length-take}
 use Rattle.elf_records.specs.Fields.{number_at, part_at}
 use Rattle.elf_records.specs.Records.{symbol_at, rela_at, dynamic_at}

@@ -1,6 +1,8 @@
 -- A file of an image that was read: its headers say what those of the image did, and its parts hold the same bytes.
-use Rattle.std.proofs.Common.{◌≡◌, ◌+◌, ◌-◌, ◌*◌, ◌<◌, ◌≤◌, ◌⊎◌, ◌∙◌, ℕ, Bool, true, false, List, length, take, Option, Some, None, is_some, refl, sym, ap, subst, inl, inr, arith, ◌==◌, if◌then◌else◌, slice_range}
+use Rattle.std.proofs.Common.{◌≡◌, ◌+◌, ◌-◌, ◌<◌, ◌≤◌, ◌⊎◌, ◌∙◌, ℕ, Bool, true, false, List, length, Option, Some, None, is_some, refl, sym, ap, inl}
+use Rattle.std.proofs.Common.{inr, arith, ◌==◌, if◌then◌else◌, slice_range}
 use Rattle.elf_records.specs.Fields.{part_at}
+use Rattle.elf_records.specs.declared.file_header.TheConstants.{ET_EXEC, ET_DYN}
 use Rattle.elf_records.specs.declared.dynamic.TheConstants.{DT_FLAGS_1}
 use Rattle.elf_records.specs.declared.file_header.Header.{Header}
 use Rattle.elf_records.specs.declared.program_header.Segment.{Segment}
@@ -8,18 +10,16 @@ use Rattle.image_faults.specs.declared.rule.FieldRule.TheVariants.{FileType}
 use Rattle.image_faults.specs.declared.places.FileKind.{FileKind}
 use Rattle.image_faults.specs.declared.places.FileKind.TheVariants.{Exe, Pie, Module}
 use Rattle.image_faults.specs.Parts.{header, segment, loads, base, last, has_tls, tls, tls_size}
-use Rattle.image_faults.specs.Segments.{IsClass, IsRightLoad}
+use Rattle.image_faults.specs.Segments.{IsClass}
 use Rattle.image_faults.specs.Array.{array_size, has_tag, flags_entry}
 use Rattle.image_faults.specs.Places.{file_kind}
 use Rattle.image_faults.specs.Faults.{IsImage}
 use Rattle.image_file.specs.declared.part.TlsPart.{TlsPart}
-use Rattle.image_file.specs.declared.part.PartClass.TheVariants.{ReadOnly}
-use Rattle.image_file.specs.Spelled.{Part, part as part_read, parts as parts_read, class_numbered, tls_of, spelled}
+use Rattle.image_file.specs.Spelled.{part as part_read, class_numbered, tls_of, spelled}
 use Rattle.image_file.specs.Tabled.{tabled_at}
-use Rattle.image_writer.specs.declared.outline.PartPlace.{PartPlace}
 use Rattle.image_writer.specs.Outlined.{Outlined, outline_of, part, last_part, end_of}
-use Rattle.image_writer.specs.Page.{base_of, flags_of, type_of, file_offset, file_header, load_header, dynamic_header, page}
-use Rattle.image_writer.specs.Loadable.{IsLoadable, HoldsTls}
+use Rattle.image_writer.specs.Page.{base_of, flags_of, type_of, file_offset, file_header, load_header, dynamic_header}
+use Rattle.image_writer.specs.Loadable.{HoldsTls}
 use Rattle.image_writer.specs.Files.{IsFileOf}
 use Rattle.image_writer.proofs.Headed.{IsHeaded, headed}
 use Rattle.image_writer.proofs.Loaded.{loadable}
@@ -39,13 +39,13 @@ flags_again s class = elim class [
 ]
 
 -- the type of a file that is told again
-type_again : (n : ℕ) (c : Bool) → (n ≡ 2) ⊎ (n ≡ 3) → type_of (if n == 3 then (if c then Pie else Module) else Exe) ≡ n
+type_again : (n : ℕ) (c : Bool) → (n ≡ ET_EXEC) ⊎ (n ≡ ET_DYN) → type_of (if n == ET_DYN then (if c then Pie else Module) else Exe) ≡ n
 type_again n c kind = elim kind [
   | inl exe ↦ rw exe refl
   | inr dyn ↦ rw dyn (by_flag c)
 ]
   where
-    by_flag : (c : Bool) → type_of (if c then Pie else Module) ≡ 3
+    by_flag : (c : Bool) → type_of (if c then Pie else Module) ≡ ET_DYN
     by_flag true = refl
     by_flag false = refl
 

@@ -1,5 +1,5 @@
 -- Lists of what stands at each number below another are equal where they agree at each of these numbers.
-use Rattle.std.proofs.Common.{◌≡◌, ◌+◌, ◌<◌, ◌∙◌, ℕ, zero, suc, List, [], ◌∷◌, refl, sym, ap, arith, map, subst}
+use Rattle.std.proofs.Common.{◌≡◌, ◌+◌, ◌<◌, ◌∙◌, ℕ, zero, suc, refl, ap, arith, map, subst}
 use Rattle.std.specs.List.{range_with_len}
 use Rattle.image_file.specs.Tabled.{tabled}
 

@@ -1,25 +1,32 @@
 -- Two files whose headers say the same, and whose last LOAD holds the same bytes: what the entries of the array, the
 -- symbols and the relocations of one keep, those of the other keep.
-use Rattle.std.proofs.Common.{◌≡◌, ◌≢◌, ◌+◌, ◌-◌, ◌*◌, ◌%◌, ◌<◌, ◌≤◌, ◌⊎◌, ◌∙◌, ℕ, ℤ, List, Bool, Option, Some, None, refl, inl, inr, sym, ap, subst, arith, slice_index}
+use Rattle.std.proofs.Common.{◌≡◌, ◌≢◌, ◌+◌, ◌-◌, ◌*◌, ◌%◌, ◌<◌, ◌≤◌, ◌⊎◌, ◌∙◌, ℕ, ℤ, List, Bool, Option, Some, None, inl, inr, sym, ap, subst, arith}
+use Rattle.std.proofs.Common.{slice_index}
 use Rattle.std.specs.Prelude.{IsTrue, ◌<ℤ◌, pos}
 use Rattle.elf_records.specs.Fields.{part_at}
 use Rattle.elf_records.specs.Records.{rela_symbol, rela_kind, symbol_binding, symbol_kind}
 use Rattle.elf_records.specs.declared.symbol.SymbolEntry.{SymbolEntry}
 use Rattle.elf_records.specs.declared.relocation.Rela.{Rela}
-use Rattle.elf_records.specs.declared.dynamic.TheConstants.{DT_NULL, DT_HASH, DT_STRTAB, DT_SYMTAB, DT_RELA, DT_RELASZ, DT_RELAENT, DT_STRSZ, DT_SYMENT, DT_FLAGS, DT_FLAGS_1}
+use Rattle.elf_records.specs.declared.dynamic.TheConstants.{DT_NULL, DT_HASH, DT_STRTAB, DT_SYMTAB, DT_RELA, DT_RELASZ, DT_RELAENT, DT_STRSZ}
+use Rattle.elf_records.specs.declared.dynamic.TheConstants.{DT_SYMENT, DT_FLAGS, DT_FLAGS_1}
 use Rattle.elf_records.specs.declared.symbol.TheConstants.{SHN_UNDEF, STB_GLOBAL, STB_WEAK, STT_COMMON, STT_TLS}
 use Rattle.image_faults.specs.declared.rule.EntryRule.{EntryRule}
-use Rattle.image_faults.specs.declared.rule.EntryRule.TheVariants.{Hash, Strings, Symbols, StringsSize, SymbolSize, Relocations, RelocationsSize, RelocationSize, Flags, End}
+use Rattle.image_faults.specs.declared.rule.EntryRule.TheVariants.{Hash, Strings, Symbols, StringsSize, SymbolSize, Relocations, RelocationsSize}
+use Rattle.image_faults.specs.declared.rule.EntryRule.TheVariants.{RelocationSize, Flags, End}
 use Rattle.image_faults.specs.declared.loader_kind.LoaderKind.{LoaderKind}
 use Rattle.image_faults.specs.declared.loader_kind.LoaderKind.TheVariants.{JumpSlot, Relative, Module, ModuleOffset, ThreadOffset, Descriptor}
 use Rattle.image_faults.specs.declared.symbol_tests.TheConstants.{TLS_GET_ADDR}
-use Rattle.image_faults.specs.Parts.{segment, loads, has_tls, tls_size}
-use Rattle.image_faults.specs.Array.{HasTag, HoldsTable, IsRightEntry, IsFlagged, IsProgram, entry, flags_entry, array_size, symbol_count, bucket_count, relocation_count, relocations_size, strings_size, strings_place}
+use Rattle.image_faults.specs.Parts.{loads, has_tls, tls_size}
+use Rattle.image_faults.specs.Array.{HasTag, HoldsTable, IsRightEntry, entry, flags_entry, symbol_count, relocation_count, relocations_size}
+use Rattle.image_faults.specs.Array.{strings_size, strings_place}
 use Rattle.image_faults.specs.Names.{Ends}
 use Rattle.image_faults.specs.Symbols.{symbol, IsRightSymbol, IsImport, IsRuntime, IsPastTls}
-use Rattle.image_faults.specs.Relocations.{rela, loader_kind, field_width, MayName, NamesRight, HoldsField, IsBehindLast, IsRightRelocation, IsOutsideTls, LacksOwnTls, IsOwnOutside}
-use Rattle.image_writer.proofs.SameArray.{SameHeaders, tag_there, tag_back, table_there, same_value, same_flags_entry, same_strings_size, same_relocations_size, same_relocation_count}
-use Rattle.image_writer.proofs.SameTables.{same_bucket_count, same_symbol_count, same_strings_place, same_string_byte, same_string_part, same_symbol_entry, same_rela_entry}
+use Rattle.image_faults.specs.Relocations.{rela, loader_kind, field_width, MayName, NamesRight, HoldsField, IsBehindLast, IsRightRelocation}
+use Rattle.image_faults.specs.Relocations.{IsOutsideTls, LacksOwnTls, IsOwnOutside}
+use Rattle.image_writer.proofs.SameArray.{SameHeaders, tag_there, tag_back, table_there, same_value, same_flags_entry, same_strings_size}
+use Rattle.image_writer.proofs.SameArray.{same_relocations_size}
+use Rattle.image_writer.proofs.SameTables.{same_bucket_count, same_symbol_count, same_strings_place, same_string_byte, same_string_part}
+use Rattle.image_writer.proofs.SameTables.{same_symbol_entry, same_rela_entry}
 
 -- a table at an address that is the same, of a size that is the same
 table_moved : (f b : List ℕ) → SameHeaders f b → (v w m n : ℕ) → v ≡ w → m ≡ n → HoldsTable b w n → HoldsTable f v m

@@ -1,5 +1,6 @@
 -- Two files whose headers say the same, and whose parts hold the same bytes, spell the same image.
-use Rattle.std.proofs.Common.{◌≡◌, ◌+◌, ◌<◌, ◌∙◌, ℕ, List, Bool, Option, refl, sym, ap, arith, ◌==◌, if◌then◌else◌, slice_range}
+use Rattle.std.proofs.Common.{◌≡◌, ◌+◌, ◌<◌, ◌∙◌, ℕ, List, Bool, Option, refl, sym, ap, ◌==◌, if◌then◌else◌, slice_range}
+use Rattle.elf_records.specs.declared.file_header.TheConstants.{ET_DYN}
 use Rattle.elf_records.specs.declared.dynamic.TheConstants.{DT_FLAGS, DT_FLAGS_1}
 use Rattle.image_faults.specs.declared.places.FileKind.{FileKind}
 use Rattle.image_faults.specs.declared.places.FileKind.TheVariants.{Exe, Pie, Module}
@@ -12,8 +13,9 @@ use Rattle.image_file.specs.declared.part.PartClass.{PartClass}
 use Rattle.image_file.specs.declared.part.TlsPart.{TlsPart}
 use Rattle.image_file.specs.declared.symbol.ImageSymbol.{ImageSymbol}
 use Rattle.image_file.specs.declared.relocation.ImageRelocation.{ImageRelocation}
-use Rattle.image_file.specs.Spelled.{Part, Spelled, class_numbered, tls_of, symbol_of, text_at, relocation_of, part, name, strings, parts, symbols, names, relocations, spelled}
-use Rattle.image_writer.proofs.SameBytes.{HoldSame, same_range, range_is_part}
+use Rattle.image_file.specs.Spelled.{Part, Spelled, class_numbered, tls_of, symbol_of, text_at, relocation_of, part, name, strings, parts, symbols}
+use Rattle.image_file.specs.Spelled.{names, relocations, spelled}
+use Rattle.image_writer.proofs.SameBytes.{HoldSame, range_is_part}
 use Rattle.image_writer.proofs.SameLists.{same_tabled}
 use Rattle.image_writer.proofs.SameArray.{SameHeaders, same_has_tag, same_flags_entry, same_relocation_count}
 use Rattle.image_writer.proofs.SameTables.{same_symbol_count, same_strings, same_symbol_entry, same_rela_entry}
@@ -27,8 +29,8 @@ flags_tag f b same tag =
 -- the files are of the same kind
 pub same_kind : (f b : List ℕ) → SameHeaders f b → file_kind f ≡ file_kind b
 same_kind f b same =
-    ap (λ t. if t == 3 then (if has_tag f (flags_entry f) DT_FLAGS_1 then Pie else Module) else Exe) same.file_type
-    ∙ ap (λ c. if (header b).e_type == 3 then (if c then Pie else Module) else Exe) (flags_tag f b same DT_FLAGS_1)
+    ap (λ t. if t == ET_DYN then (if has_tag f (flags_entry f) DT_FLAGS_1 then Pie else Module) else Exe) same.file_type
+    ∙ ap (λ c. if (header b).e_type == ET_DYN then (if c then Pie else Module) else Exe) (flags_tag f b same DT_FLAGS_1)
 
 -- both ask for their thread-local data in the same way
 pub same_flagged : (f b : List ℕ) → SameHeaders f b → is_flagged f ≡ is_flagged b

@@ -1,16 +1,16 @@
 -- Two files whose headers say the same, and whose last LOAD holds the same bytes, have the same tables: the hash table,
 -- the names, the symbols and the relocations, where those of one lie in its last LOAD.
-use Rattle.std.proofs.Common.{◌≡◌, ◌+◌, ◌-◌, ◌*◌, ◌/◌, ◌<◌, ◌≤◌, ◌⊎◌, ◌∙◌, ℕ, List, Bool, true, false, refl, inl, inr, sym, ap, arith, nat_le, ◌==◌, ◌&&◌, if◌then◌else◌, slice_index, slice_range}
-use Rattle.std.proofs.lemmas.Bool.{cases_Bool, and_parts}
+use Rattle.std.proofs.Common.{◌≡◌, ◌+◌, ◌*◌, ◌/◌, ◌<◌, ◌≤◌, ◌∙◌, ℕ, List, Bool, true, false, refl, inl, inr, sym, ap, arith, nat_le, ◌==◌, ◌&&◌}
+use Rattle.std.proofs.Common.{if◌then◌else◌, slice_index, slice_range}
 use Rattle.std.proofs.lemmas.Bool.Decides.{nat_tests}
 use Rattle.elf_records.specs.Fields.{number_at, part_at}
 use Rattle.elf_records.specs.Records.{symbol_at, rela_at}
 use Rattle.elf_records.specs.declared.dynamic.TheConstants.{DT_RELA, DT_RELASZ}
-use Rattle.image_faults.specs.declared.rule.EntryRule.{EntryRule}
 use Rattle.image_faults.specs.declared.rule.EntryRule.TheVariants.{Hash, Strings, Symbols, Relocations}
 use Rattle.image_faults.specs.Parts.{last}
 use Rattle.image_faults.specs.Array.{array_size, entry, HasTag, has_tag, place, HoldsTable, IsRightEntry, hash_place, bucket_count, symbol_count}
-use Rattle.image_faults.specs.Array.{strings_place, strings_size, symbols_place, has_relocations, relocations_size, relocations_place, relocation_count}
+use Rattle.image_faults.specs.Array.{strings_place, strings_size, symbols_place, has_relocations, relocations_size, relocations_place}
+use Rattle.image_faults.specs.Array.{relocation_count}
 use Rattle.image_faults.specs.Symbols.{symbol}
 use Rattle.image_faults.specs.Relocations.{rela}
 use Rattle.image_file.specs.Spelled.{strings}
