@@ -1,5 +1,5 @@
 -- Facts that hold or not: of numbers, and of facts made of such.
-use Rattle.std.proofs.Common.{◌≡◌, ◌≢◌, ◌+◌, ◌^◌, ◌<◌, ◌≤◌, ◌⊎◌, ℕ, zero, suc, inl, inr, sym, subst, arith}
+use Rattle.std.proofs.Common.{◌≡◌, ◌≢◌, ◌<◌, ◌≤◌, ◌⊎◌, ℕ, zero, suc, inl, inr, subst, arith}
 
 -- it holds, or it doesn't
 abbrev pub Dec : Type 0 → Type 0
@@ -81,6 +81,7 @@ dec_seven p q r s t u v =
     (λ all. (all.0, (all.1, all.2, all.3, all.4, all.5, all.6)))
     (dec_both p (dec_six q r s t u v))
 
+-- a number below the next one is below this one, or is it
 below_or_at : (n m : ℕ) → n < suc m → (n < m) ⊎ (n ≡ m)
 below_or_at n m h = grind arith
 
