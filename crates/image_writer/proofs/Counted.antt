@@ -15,8 +15,8 @@ lead_passes p zero i h = absurd (omega arith)
 lead_passes p (suc n) i h = elim (lead_step i (leading p n) n (p n) h) [
   | inl earlier ↦ lead_passes p n i earlier
   | inr other ↦ elim other [
-      | inl here ↦ let P : ℕ → Type 0 = λ k. p k ≡ true in subst P (sym here.0) here.1
-      | inr all ↦ lead_passes p n i (omega (arith, all.0, all.1))
+    | inl here ↦ let P : ℕ → Type 0 = λ k. p k ≡ true in subst P (sym here.0) here.1
+    | inr all ↦ lead_passes p n i (omega (arith, all.0, all.1))
   ]
 ]
 

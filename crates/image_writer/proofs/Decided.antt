@@ -38,8 +38,8 @@ pub dec_or : {P Q : Type 0} → Dec P → Dec Q → Dec (P ⊎ Q)
 dec_or p q = elim p [
   | inl one ↦ inl (inl one)
   | inr never ↦ elim q [
-      | inl other ↦ inl (inr other)
-      | inr nor ↦ inr (λ both. elim both [ inl a ↦ never a | inr b ↦ nor b ])
+    | inl other ↦ inl (inr other)
+    | inr nor ↦ inr (λ both. elim both [ inl a ↦ never a | inr b ↦ nor b ])
   ]
 ]
 
@@ -91,11 +91,11 @@ dec_below P zero known = inr (λ found. omega (arith, found.1))
 dec_below P (suc n) known = elim (dec_below P n known) [
   | inl found ↦ inl (found.0, omega (arith, found.1), found.2)
   | inr none ↦ elim (known n) [
-      | inl here ↦ inl (n, omega arith, here)
-      | inr not ↦ inr (λ found. elim (below_or_at found.0 n found.1) [
-          | inl lower ↦ none (found.0, lower, found.2)
-          | inr same ↦ not (subst P same found.2)
-      ])
+    | inl here ↦ inl (n, omega arith, here)
+    | inr not ↦ inr (λ found. elim (below_or_at found.0 n found.1) [
+      | inl lower ↦ none (found.0, lower, found.2)
+      | inr same ↦ not (subst P same found.2)
+    ])
   ]
 ]
 

@@ -65,8 +65,8 @@ relro_behind b image i relro h =
     elim (below_at_above i (loads b)) [
       | inl load ↦ absurd (omega (arith, kind, load_kind b i load))
       | inr more ↦ elim more [
-          | inl dynamic ↦ absurd (omega (arith, kind, dynamic_kind b image i dynamic))
-          | inr behind ↦ behind
+        | inl dynamic ↦ absurd (omega (arith, kind, dynamic_kind b image i dynamic))
+        | inr behind ↦ behind
       ]
     ]
 
@@ -227,8 +227,7 @@ array_right b o image is =
 -- a part that holds the initial image
 holds_right : (b : List ℕ) (o : Outlined) → IsSeen b o → (s : Segment) (i : ℕ) → HoldsInitialImage b s i → HoldsInitial o (tls_part s) i
 holds_right b o is s i holds =
-    let below : i < loads b = omega (arith, holds.0) in
-    (
+    let below : i < loads b = omega (arith, holds.0) in (
       omega (arith, holds.0, is.parts_are),
       part_class b o is i below ∙ ap class_numbered holds.1,
       part_address b o is i below ∙ holds.2,
@@ -295,5 +294,6 @@ loadable_seen b o image is = record {
   tls_is = tls_seen b o image is;
 }
 
+-- an image that was read can be told by a page of headers
 pub loadable : (b : List ℕ) → IsImage b → IsLoadable (outline_of (spelled b))
 loadable b image = loadable_seen b (outline_of (spelled b)) image (seen b image)

@@ -69,8 +69,8 @@ seen b image = record {
   base_is = base_of_type (header b).e_type (has_tag b (flags_entry b) DT_FLAGS_1) (field_right b image FileType);
   parts_are = length-map (parts_read b) place_of ∙ length-tabled (part_read b) (loads b);
   part_is = λ i h.
-    seen_at (part_read b) place_of (loads b) i no_part h
-    ∙ place_read b i (segment_in b image i (omega (arith, h, (dynamic_right b image).1)));
+      seen_at (part_read b) place_of (loads b) i no_part h
+      ∙ place_read b i (segment_in b image i (omega (arith, h, (dynamic_right b image).1)));
   array_is = refl;
   got_is = refl;
   tls_is = refl;
