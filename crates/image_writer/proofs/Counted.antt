@@ -3,9 +3,6 @@ use Rattle.std.proofs.Common.{◌≡◌, ◌+◌, ◌<◌, ◌≤◌, ◌⊎◌,
 use Rattle.std.proofs.lemmas.Bool.Decides.{nat_tests}
 use Rattle.image_faults.specs.Counts.{leading, how_many, behind_last}
 
-below_or_at : (n m : ℕ) → n < suc m → (n < m) ⊎ (n ≡ m)
-below_or_at n m h = grind arith
-
 -- one more number: it leads only if all before do
 lead_step : (i r n : ℕ) (q : Bool) → i < (if nat_lt r n then r else (if q then suc n else n))
     → (i < r) ⊎ ((i ≡ n) × (q ≡ true)) ⊎ ((n ≤ r) × (i < n))
@@ -18,11 +15,12 @@ lead_passes p zero i h = absurd (omega arith)
 lead_passes p (suc n) i h = elim (lead_step i (leading p n) n (p n) h) [
   | inl earlier ↦ lead_passes p n i earlier
   | inr other ↦ elim other [
-      | inl here ↦ let P : ℕ → Type 0 = λ k. p k ≡ true in subst P (sym here.0) here.1
-      | inr all ↦ lead_passes p n i (omega (arith, all.0, all.1))
+    | inl here ↦ let P : ℕ → Type 0 = λ k. p k ≡ true in subst P (sym here.0) here.1
+    | inr all ↦ lead_passes p n i (omega (arith, all.0, all.1))
   ]
 ]
 
+-- one more number: the count stays at most m
 many_step : (r s m : ℕ) (q : Bool) → s ≤ m → (q ≡ false) ⊎ (s < m) → (if q then suc s else s) ≤ m
 many_step r s m q h kept = grind arith
 
@@ -52,6 +50,7 @@ last_alike p q (suc n) same =
     let here = same n (omega arith) in
     rw (here, earlier) refl
 
+-- one more number: it is the last that passes, or the one found before is
 last_step : (r n : ℕ) (q : Bool) → 0 < (if q then suc n else r)
     → ((q ≡ true) × ((if q then suc n else r) ≡ n + 1)) ⊎ ((0 < r) × ((if q then suc n else r) ≡ r))
 last_step r n q h = grind arith

@@ -1,5 +1,5 @@
 -- Facts that hold or not: of numbers, and of facts made of such.
-use Rattle.std.proofs.Common.{◌≡◌, ◌≢◌, ◌+◌, ◌^◌, ◌<◌, ◌≤◌, ◌⊎◌, ℕ, zero, suc, inl, inr, sym, subst, arith}
+use Rattle.std.proofs.Common.{◌≡◌, ◌≢◌, ◌<◌, ◌≤◌, ◌⊎◌, ℕ, zero, suc, inl, inr, subst, arith}
 
 -- it holds, or it doesn't
 abbrev pub Dec : Type 0 → Type 0
@@ -38,8 +38,8 @@ pub dec_or : {P Q : Type 0} → Dec P → Dec Q → Dec (P ⊎ Q)
 dec_or p q = elim p [
   | inl one ↦ inl (inl one)
   | inr never ↦ elim q [
-      | inl other ↦ inl (inr other)
-      | inr nor ↦ inr (λ both. elim both [ inl a ↦ never a | inr b ↦ nor b ])
+    | inl other ↦ inl (inr other)
+    | inr nor ↦ inr (λ both. elim both [ inl a ↦ never a | inr b ↦ nor b ])
   ]
 ]
 
@@ -81,6 +81,7 @@ dec_seven p q r s t u v =
     (λ all. (all.0, (all.1, all.2, all.3, all.4, all.5, all.6)))
     (dec_both p (dec_six q r s t u v))
 
+-- a number below the next one is below this one, or is it
 below_or_at : (n m : ℕ) → n < suc m → (n < m) ⊎ (n ≡ m)
 below_or_at n m h = grind arith
 
@@ -90,11 +91,11 @@ dec_below P zero known = inr (λ found. omega (arith, found.1))
 dec_below P (suc n) known = elim (dec_below P n known) [
   | inl found ↦ inl (found.0, omega (arith, found.1), found.2)
   | inr none ↦ elim (known n) [
-      | inl here ↦ inl (n, omega arith, here)
-      | inr not ↦ inr (λ found. elim (below_or_at found.0 n found.1) [
-          | inl lower ↦ none (found.0, lower, found.2)
-          | inr same ↦ not (subst P same found.2)
-      ])
+    | inl here ↦ inl (n, omega arith, here)
+    | inr not ↦ inr (λ found. elim (below_or_at found.0 n found.1) [
+      | inl lower ↦ none (found.0, lower, found.2)
+      | inr same ↦ not (subst P same found.2)
+    ])
   ]
 ]
 

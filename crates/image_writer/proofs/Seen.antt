@@ -1,19 +1,16 @@
 -- What the outline of an image that was read says, by the headers of its file.
-use Rattle.std.proofs.Common.{◌≡◌, ◌+◌, ◌<◌, ◌≤◌, ◌⊎◌, ◌∙◌, ℕ, Bool, true, false, List, length, map, get_or, option_map, Option, length-take, length-drop, refl, sym, ap, inl, inr, arith, ◌==◌, if◌then◌else◌}
-use Rattle.std.proofs.lemmas.List.{get_or-map, length-map}
+use Rattle.std.proofs.Common.{◌≡◌, ◌+◌, ◌<◌, ◌≤◌, ◌⊎◌, ◌∙◌, ℕ, Bool, true, false, List, length, map, get_or, option_map, length-take, length-drop, refl, ap, inl, inr, arith, ◌==◌, if◌then◌else◌}
+use Rattle.std.proofs.lemmas.List.{length-map}
 use Rattle.std.proofs.lemmas.Option.{get_or_from_slice_get, slice_get-map}
-use Rattle.std.proofs.lemmas.Bool.Decides.{nat_tests}
 use Rattle.std.specs.List.{slice_range}
 use Rattle.image_faults.specs.declared.rule.FieldRule.TheVariants.{FileType}
-use Rattle.image_faults.specs.declared.places.FileKind.{FileKind}
 use Rattle.image_faults.specs.declared.places.FileKind.TheVariants.{Exe, Pie, Module}
 use Rattle.image_faults.specs.Parts.{header, segment, loads, base, tls}
 use Rattle.elf_records.specs.declared.dynamic.TheConstants.{DT_FLAGS_1}
 use Rattle.image_faults.specs.Array.{array_size, has_tag, flags_entry}
-use Rattle.image_faults.specs.Places.{file_kind, got}
+use Rattle.image_faults.specs.Places.{got}
 use Rattle.image_faults.specs.Faults.{IsImage}
-use Rattle.image_file.specs.declared.part.TlsPart.{TlsPart}
-use Rattle.image_file.specs.Spelled.{Part, part as part_read, parts as parts_read, class_numbered, tls_of, spelled}
+use Rattle.image_file.specs.Spelled.{part as part_read, parts as parts_read, class_numbered, tls_of, spelled}
 use Rattle.image_file.specs.Tabled.{tabled, length-tabled, tabled_at}
 use Rattle.image_writer.specs.declared.outline.PartPlace.{PartPlace}
 use Rattle.image_writer.specs.Outlined.{Outlined, outline_of, place_of, part, no_part}
@@ -72,8 +69,8 @@ seen b image = record {
   base_is = base_of_type (header b).e_type (has_tag b (flags_entry b) DT_FLAGS_1) (field_right b image FileType);
   parts_are = length-map (parts_read b) place_of ∙ length-tabled (part_read b) (loads b);
   part_is = λ i h.
-    seen_at (part_read b) place_of (loads b) i no_part h
-    ∙ place_read b i (segment_in b image i (omega (arith, h, (dynamic_right b image).1)));
+      seen_at (part_read b) place_of (loads b) i no_part h
+      ∙ place_read b i (segment_in b image i (omega (arith, h, (dynamic_right b image).1)));
   array_is = refl;
   got_is = refl;
   tls_is = refl;
