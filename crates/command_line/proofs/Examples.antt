@@ -31,6 +31,16 @@ twice : asked (codes "run" ∷ codes "job" ∷ codes "--no-relax" ∷ codes "--n
 unfolding asked takes_words clap_on_literals
 twice = refl
 
+-- show app
+a_show : asked (codes "show" ∷ codes "app" ∷ []) ≡ Some (task.Show (codes "app"))
+unfolding asked takes_words clap_on_literals
+a_show = refl
+
+-- show app --no-relax
+a_show_with_an_option : asked (codes "show" ∷ codes "app" ∷ codes "--no-relax" ∷ []) ≡ None
+unfolding asked takes_words clap_on_literals
+a_show_with_an_option = refl
+
 -- run -- JOB, whatever the text JOB is
 any_job : (job : Text) → asked (codes "run" ∷ codes "--" ∷ job ∷ []) ≡ Some (task.Run job false)
 unfolding asked takes_words clap_on_literals

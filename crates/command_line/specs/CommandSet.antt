@@ -19,6 +19,10 @@ no_relax_rule = record (new_rule (codes "no-relax")) {
 abbrev pub run_app : App
 run_app = with_rule (with_rule (new_app (codes "run")) (text_rule (codes "JOB"))) no_relax_rule
 
+-- show FILE
+abbrev pub show_app : App
+show_app = with_rule (new_app (codes "show")) (text_rule (codes "FILE"))
+
 -- the words begin with a command, and there is no command `help`
 abbrev pub top_settings : Shape → Shape
 top_settings s = record s { no_binary_name = true; subcommand_required = true; disable_help_subcommand = true }
@@ -28,4 +32,4 @@ bare_tool = on_top top_settings (new_app (codes "tlsld"))
 
 -- all the commands
 abbrev pub tool_app : App
-tool_app = with_subcommand bare_tool run_app.top
+tool_app = with_subcommand (with_subcommand bare_tool run_app.top) show_app.top

@@ -31,9 +31,16 @@ flag_at id rows = bytes_eq (text_at id rows) (codes "true")
 abbrev pub run_task : List Row → Task
 run_task rows = task.Run (text_at (codes "JOB") rows) (flag_at (codes "no-relax") rows)
 
+-- show FILE
+abbrev pub show_task : List Row → Task
+show_task rows = task.Show (text_at (codes "FILE") rows)
+
 -- the task that a command and the values of its arguments give
 abbrev pub task_of : Text × List Row → Option Task
-task_of command = if bytes_eq command.0 (codes "run") then Some (run_task command.1) else None
+task_of command =
+    if bytes_eq command.0 (codes "run") then Some (run_task command.1) else
+    if bytes_eq command.0 (codes "show") then Some (show_task command.1) else
+    None
 
 -- the task that the words give, where they are taken
 unfoldable pub asked : List Text → Option Task

@@ -3,7 +3,8 @@ ghost use Rattle.std.specs.Prelude.{◌≡◌, false, IfOk};
 ghost use Rattle.clap.specs.Walk.{rule_of};
 ghost use Rattle.clap.specs.Simple.{app_of};
 ghost use Rattle.clap.specs.declared.builder.command.Command.TheViews.{out-Command};
-ghost use Rattle.command_line.specs.CommandSet.{text_rule, no_relax_rule, run_app, bare_tool, tool_app};
+ghost use Rattle.command_line.specs.CommandSet.{text_rule, no_relax_rule, run_app, show_app};
+ghost use Rattle.command_line.specs.CommandSet.{bare_tool, tool_app};
 
 use clap::{Arg, ArgAction, Command};
 use std::alloc::{AllocError, Global};
@@ -36,6 +37,14 @@ fn run_command<'a>(alloc: Global) -> Result<Command<'a>, AllocError>
         .arg(no_relax_flag(alloc))
 }
 
+/// `show FILE`.
+fn show_command<'a>(alloc: Global) -> Result<Command<'a>, AllocError>
+    ensures app { IfOk result (λ command. app_of command ≡ show_app) }
+    ensures local { IfOk result (λ command. (out-Command command).has_globals ≡ false) }
+{
+    Command::new(alloc, "show").arg(text_argument(alloc, "FILE"))
+}
+
 /// The linker's command line without its commands: the first word is one.
 fn bare_command<'a>(alloc: Global) -> Command<'a>
     ensures { app_of result ≡ bare_tool }
@@ -50,5 +59,7 @@ fn bare_command<'a>(alloc: Global) -> Command<'a>
 pub(crate) fn tool_command<'a>(alloc: Global) -> Result<Command<'a>, AllocError>
     ensures { IfOk result (λ command. app_of command ≡ tool_app) }
 {
-    bare_command(alloc).subcommand(run_command(alloc)?)
+    bare_command(alloc)
+        .subcommand(run_command(alloc)?)?
+        .subcommand(show_command(alloc)?)
 }

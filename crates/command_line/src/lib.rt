@@ -7,6 +7,7 @@
 //! | words | task |
 //! |---|---|
 //! | `run JOB [--no-relax]` | link the images of the job in the file JOB, and run its threads |
+//! | `show FILE` | print what the image in the file FILE says |
 //!
 //! ```text
 //! run a.job                    Run { job: "a.job", no_relax: false }
@@ -14,6 +15,7 @@
 //! run -- --no-relax            Run { job: "--no-relax", no_relax: false }
 //! run -                        Run { job: "-", no_relax: false }
 //! run                          usage: there is no JOB
+//! show app                     Show { file: "app" }
 //! run a.job b.job              usage: there is one word too many
 //! run a.job --no-rel           usage: an option has no shorter forms
 //! --help                       usage: a wish for help is no task

@@ -12,6 +12,11 @@ pub enum Task {
         /// Whether each code sequence stays as the compiler wrote it.
         no_relax: bool,
     },
+    /// `show FILE`: print what an image says.
+    Show {
+        /// The name of the image's file.
+        file: Text,
+    },
 }
 
 /// Why words give no task.

@@ -4,7 +4,7 @@ ghost use Rattle.std.specs.Option.{option_and_then};
 ghost use Rattle.clap.specs.Matches.{found_of};
 ghost use Rattle.clap.specs.Walk.{rows_of};
 ghost use Rattle.clap.specs.Simple.{subcommand_rows_of};
-ghost use Rattle.command_line.specs.Words.{takes_words, asked, task_of, run_task, text_at, flag_at};
+ghost use Rattle.command_line.specs.Words.{takes_words, asked, task_of, run_task, show_task, text_at, flag_at};
 
 use crate::command_set::tool_command;
 use crate::{Task, Text, WordsFault};
@@ -46,6 +46,14 @@ fn run_of(alloc: Global, matches: &ArgMatches<'_>) -> Result<Task, AllocError>
     })
 }
 
+fn show_of(alloc: Global, matches: &ArgMatches<'_>) -> Result<Task, AllocError>
+    ensures { IfOk result (λ task. task ≡ show_task (rows_of (found_of matches.now))) }
+{
+    Ok(Task::Show {
+        file: Text::copy_of(alloc, text_of(matches, "FILE"))?,
+    })
+}
+
 /// The task of the command that `clap` found, with the values of its words.
 fn task_of_matches(alloc: Global, matches: &ArgMatches<'_>) -> Result<Task, WordsFault>
     ensures ok { IfOk result (λ task. option_and_then task_of (subcommand_rows_of matches.now) ≡ Some task) }
@@ -54,6 +62,7 @@ fn task_of_matches(alloc: Global, matches: &ArgMatches<'_>) -> Result<Task, Word
 {
     match matches.subcommand() {
         Some(("run", values)) => Ok(run_of(alloc, values)?),
+        Some(("show", values)) => Ok(show_of(alloc, values)?),
         _ => Err(WordsFault::Usage),
     }
 }

@@ -1,7 +1,7 @@
 //! An image: a file that was read and found without fault.
 
 ghost use Rattle.std.specs.Prelude.{◌≡◌, ◌<◌, IfOk, IfErr, IfSome, length, slice_get};
-ghost use Rattle.image_faults.specs.Faults.{IsImage};
+ghost use Rattle.image_faults.specs.Faults.{IsImage, IsFault};
 ghost use Rattle.image_file.specs.Spelled.{spelled, part_seen, text_seen};
 ghost use Rattle.image_file.specs.Refusals.{IsRefusal};
 
@@ -42,6 +42,15 @@ pub fn read(alloc: Global, bytes: &[u8]) -> Result<Image, ImageFault>
         bytes: bytes.to_vec(alloc)?,
         places,
     })
+}
+
+/// The same of bytes that are handed over. They are kept as they are, so that no memory is taken.
+pub fn read_owned(bytes: Vec<u8>) -> Result<Image, ImageFault>
+    ensures image { IfOk result (λ image. (image ≡ spelled bytes.items) × IsImage bytes.items) }
+    ensures fault { IfErr result (IsFault bytes.items) }
+{
+    let places = fault_free(bytes.as_slice())?.places;
+    Ok(Image { bytes, places })
 }
 
 impl Image {

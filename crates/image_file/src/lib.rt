@@ -23,7 +23,7 @@ mod part;
 mod relocation;
 mod symbol;
 
-pub use image::{Image, images_cross_threads, read};
+pub use image::{Image, images_cross_threads, read, read_owned};
 pub use image_faults::{FaultKind, FileKind, ImageFault, LoaderKind};
 pub use part::{ImagePart, PartClass, TlsPart};
 pub use relocation::ImageRelocation;

@@ -3,7 +3,8 @@ use Rattle.std.proofs.Common.{◌≡◌, ◌∙◌, ℕ, suc, List, [], ◌∷�
 use Rattle.command_line.specs.declared.tasks.Task.{Task}
 use Rattle.tlsld.specs.declared.reply.Answer.{Answer}
 use Rattle.tlsld.specs.declared.reply.Answer.TheVariants.{Replies, StoreFails, NoMemory}
-use Rattle.tlsld.specs.Replies.{Asked, AsksOfAnswer, IsDelivered, job_name}
+use Rattle.tlsld.specs.Replies.{Asked, AsksOfAnswer, IsDelivered}
+use Rattle.tlsld.specs.Tasks.{task_names}
 use Rattle.tlsld.specs.Statuses.{IsLate}
 use Rattle.std.proofs.Math.Seq.{take-length}
 use Rattle.job_text.specs.Jobs.{job_of}
@@ -50,7 +51,7 @@ answered code (inr (inr four)) (inl zero) = omega arith
 answered code (inr (inr four)) (inr five) = omega arith
 
 pub asked_of : (fs : Files) (asked : Task) (answer : Answer) (old new : Option Names) (code : ℕ) → AsksOfAnswer fs asked old new answer → IsDelivered answer code → Asked fs asked old new code
-asked_of fs asked (Replies reply) old new code e delivered = record { front = asks_all (run_names fs (job_name asked)) old new e; all = λ own. e }
+asked_of fs asked (Replies reply) old new code e delivered = record { front = asks_all (task_names fs asked) old new e; all = λ own. e }
 asked_of fs asked StoreFails old new code front delivered = record { front = front; all = λ own. absurd (answered code delivered own) }
 asked_of fs asked NoMemory old new code front delivered = record { front = front; all = λ own. absurd (answered code (inr delivered) own) }
 

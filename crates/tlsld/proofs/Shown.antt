@@ -22,6 +22,7 @@ own_code status.Usage h = absurd h
 own_code status.Store h = absurd h
 own_code status.Job h = inr (omega arith)
 own_code status.Object h = inr (omega arith)
+own_code status.Image h = inr (omega arith)
 
 answer_may : (files : Option Files) (task : Task) (answer : Answer) (before now own : ℕ) (text : List ℕ) → AnswerCounts before now answer → IfSome files (λ fs. AnswerSays fs task answer)
     → IsAnswer answer own text → MaySay files task own text

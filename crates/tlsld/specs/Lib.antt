@@ -2,6 +2,7 @@ pub mod Delivery
 pub mod Executables
 pub mod Faults
 pub mod FetchFaults
+pub mod Listings
 pub mod Narrow
 pub mod Replies
 pub mod Runs
@@ -10,3 +11,4 @@ pub mod SmallJobs
 pub mod SmallObjects
 pub mod Statuses
 pub mod Steps
+pub mod Tasks

@@ -1,11 +1,10 @@
 -- What a command answers, what the top calls show of it, and what that has to do with the store.
 use Rattle.std.specs.Prelude.{◌≡◌, ◌≤◌, ℕ, ◌⊎◌, List, Option, Some, None}
 use Rattle.command_line.specs.declared.tasks.Task.{Task}
-use Rattle.command_line.specs.declared.tasks.Task.TheVariants as task
 use Rattle.ports.specs.Files.{Files}
 use Rattle.ports.specs.Sinks.{SinkView}
-use Rattle.tlsld.specs.Says.{RunSays}
-use Rattle.tlsld.specs.Steps.{AsksFront, run_names, with_names}
+use Rattle.tlsld.specs.Tasks.{TaskSays, task_names}
+use Rattle.tlsld.specs.Steps.{AsksFront, with_names}
 use Rattle.tlsld.specs.Statuses.{code_of, IsLate}
 use Rattle.tlsld.specs.Delivery.{Delivered, store_line, usage_line}
 use Rattle.ports.specs.Counts.{Counted}
@@ -21,6 +20,7 @@ IsOfFiles status.Usage = ⊥
 IsOfFiles status.Store = ⊥
 IsOfFiles status.Job = Unit {0}
 IsOfFiles status.Object = Unit {0}
+IsOfFiles status.Image = Unit {0}
 
 -- the store's count of faults rose where the answer is that the store failed, and only there
 abbrev pub AnswerCounts : ℕ → ℕ → Answer → Type 0
@@ -34,21 +34,17 @@ IsDelivered (Replies reply) code = (code ≡ code_of reply.status) ⊎ IsLate co
 IsDelivered StoreFails code = (code ≡ 3) ⊎ IsLate code
 IsDelivered NoMemory code = IsLate code
 
--- the file of the job that a task runs
-abbrev pub job_name : Task → List ℕ
-job_name (task.Run job no_relax) = job
-
 -- the answer is what the command says over these files, but that the store may fail, and memory may be wanting
 abbrev pub AnswerSays : Files → Task → Answer → Type 0
-AnswerSays fs asked (Replies reply) = RunSays fs (job_name asked) (code_of reply.status) reply.text.items
+AnswerSays fs asked (Replies reply) = TaskSays fs asked (code_of reply.status) reply.text.items
 AnswerSays fs asked StoreFails = Unit {0}
 AnswerSays fs asked NoMemory = Unit {0}
 
 -- the names asked for are a front of the command's, and all of them where it replies
 abbrev pub AsksOfAnswer : Files → Task → Option (List (List ℕ)) → Option (List (List ℕ)) → Answer → Type 0
-AsksOfAnswer fs asked old new (Replies reply) = new ≡ with_names (run_names fs (job_name asked)) old
-AsksOfAnswer fs asked old new StoreFails = AsksFront (run_names fs (job_name asked)) old new
-AsksOfAnswer fs asked old new NoMemory = AsksFront (run_names fs (job_name asked)) old new
+AsksOfAnswer fs asked old new (Replies reply) = new ≡ with_names (task_names fs asked) old
+AsksOfAnswer fs asked old new StoreFails = AsksFront (task_names fs asked) old new
+AsksOfAnswer fs asked old new NoMemory = AsksFront (task_names fs asked) old new
 
 -- the status and the text of an answer
 abbrev pub IsAnswer : Answer → ℕ → List ℕ → Type 0
@@ -62,7 +58,7 @@ IsAnswer NoMemory own text = ⊥
 -- where the store tells none, any text with a status of its own
 abbrev pub MaySay : Option Files → Task → ℕ → List ℕ → Type 0
 MaySay None asked own text = ((own ≡ 3) × (text ≡ store_line)) ⊎ ((own ≡ 0) ⊎ (5 ≤ own))
-MaySay (Some fs) asked own text = ((own ≡ 3) × (text ≡ store_line)) ⊎ RunSays fs (job_name asked) own text
+MaySay (Some fs) asked own text = ((own ≡ 3) × (text ≡ store_line)) ⊎ TaskSays fs asked own text
 
 -- what is shown: 1 is want of memory, and comes after a front of another text only where the sink had no memory for it;
 -- 4 is a sink that failed; and every other status goes with the whole of its text
@@ -71,8 +67,8 @@ Shows files asked old new code = Delivered (MaySay files asked) old new code
 
 -- the names asked for: a front of the command's, and all of them where it ended with a status of its own
 pub record Asked (fs : Files) (asked : Task) (old new : Option (List (List ℕ))) (code : ℕ) : Type 0 where
-  pub front : AsksFront (run_names fs (job_name asked)) old new
-  pub all : (code ≡ 0) ⊎ (5 ≤ code) → new ≡ with_names (run_names fs (job_name asked)) old
+  pub front : AsksFront (task_names fs asked) old new
+  pub all : (code ≡ 0) ⊎ (5 ≤ code) → new ≡ with_names (task_names fs asked) old
 
 -- ---- the words
 

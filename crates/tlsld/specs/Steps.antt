@@ -8,10 +8,11 @@ use Rattle.ports.specs.Files.{Files, file_at}
 use Rattle.tlsld.specs.declared.small_run.refusal.ObjectRefusal.{ObjectRefusal as Why}
 use Rattle.tlsld.specs.declared.small_run.refusal.ObjectRefusal.TheVariants as why
 use Rattle.tlsld.specs.Says.{job_not_yet, fault_text, not_yet_text}
+use Rattle.tlsld.specs.Listings.{image_fault_text}
 use Rattle.tlsld.specs.declared.fault.CommandFault.{CommandFault}
 use Rattle.tlsld.specs.declared.fault.CommandFault.TheVariants as fault
 use Rattle.tlsld.specs.declared.fault.InputRefusal.{InputRefusal}
-use Rattle.tlsld.specs.declared.fault.InputRefusal.TheVariants.{JobNotYet, Object}
+use Rattle.tlsld.specs.declared.fault.InputRefusal.TheVariants.{JobNotYet, Object, Image}
 use Rattle.tlsld.specs.declared.fault.Reason.{Reason}
 use Rattle.tlsld.specs.declared.fault.Reason.TheVariants.{Fault, NotYet}
 
@@ -19,6 +20,7 @@ use Rattle.tlsld.specs.declared.fault.Reason.TheVariants.{Fault, NotYet}
 abbrev pub refusal_code : InputRefusal → ℕ
 refusal_code JobNotYet = 5
 refusal_code (Object name reason) = 6
+refusal_code (Image offset kind) = 8
 
 abbrev pub object_text : List ℕ → Reason → List ℕ
 object_text name (Fault section entry kind) = fault_text name section entry kind
@@ -27,6 +29,7 @@ object_text name NotYet = not_yet_text name
 abbrev pub refusal_text : InputRefusal → List ℕ
 refusal_text JobNotYet = job_not_yet
 refusal_text (Object name reason) = object_text (string_bytes name) reason
+refusal_text (Image offset kind) = image_fault_text offset kind
 
 -- a step's answer is what says, but that the store may fail, and memory may be wanting
 abbrev pub Comes : {T : Type 0} → (T → List ℕ) → (ℕ → List ℕ → Type 0) → Result T CommandFault → Type 0

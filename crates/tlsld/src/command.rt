@@ -1,10 +1,13 @@
 //! The commands: for each one the steps from its words to its output, in the order in which their faults come.
-ghost use Rattle.std.specs.Prelude.{◌≡◌, ◌<◌, ◌^◌, Some, Ok, IfOk, IfErr, IfSome};
+ghost use Rattle.std.specs.Prelude.{◌≡◌, ◌<◌, ◌^◌, [], ◌∷◌, Some, Ok, IfOk, IfErr, IfSome};
+ghost use Rattle.image_text.specs.Shown.{shown};
 ghost use Rattle.job_text.specs.Jobs.{job_of as job_of_text};
 ghost use Rattle.ports.specs.Files.{with_name};
 ghost use Rattle.tlsld.specs.Faults.{StoreCounts, NoStoreFault, IsNoStoreFault};
 ghost use Rattle.tlsld.specs.Replies.{AnswerCounts, AnswerSays, AsksOfAnswer};
 ghost use Rattle.tlsld.specs.Says.{JobSays, ObjectSays, RunSays, SmallSays, one_line_text};
+ghost use Rattle.tlsld.specs.Listings.{ListingSays};
+ghost use Rattle.tlsld.specs.Tasks.{ShowSays, TaskSays, task_names};
 ghost use Rattle.tlsld.specs.Steps.{Asks, Comes, IsNoJob, IsRefusalOf, job_names, run_names};
 
 use crate::fault::{CommandFault, InputRefusal, Reason};
@@ -15,6 +18,8 @@ use crate::reply::{Answer, Reply};
 use crate::small_run::{ObjectRefusal, run_small};
 use crate::status::Status;
 use command_line::Task;
+use image_file::{Image, ImageFault, read_owned};
+use image_text::push_shown;
 use job_text::{Job, JobFault};
 use ports::Store;
 use std::alloc::{AllocError, Global};
@@ -29,8 +34,7 @@ pub fn answer<S: Store>(alloc: Global, task: &Task, store: &mut S) -> Answer
     ensures asks { IfSome (S.files store.old) (λ fs. AsksOfAnswer fs task.now
         (S.asked store.old) (S.asked store.new) result) }
 {
-    let Task::Run { job, no_relax: _ } = task;
-    match run(alloc, store, job.as_str()) {
+    match output(alloc, task, store) {
         Ok(text) => Answer::Replies(Reply {
             status: Status::Done,
             text,
@@ -42,6 +46,60 @@ pub fn answer<S: Store>(alloc: Global, task: &Task, store: &mut S) -> Answer
             Err(_) => Answer::NoMemory,
         },
     }
+}
+
+/// What a command puts where nothing is wrong.
+fn output<S: Store>(
+    alloc: Global,
+    task: &Task,
+    store: &mut S,
+) -> Result<Vec<u8>, CommandFault>
+    ensures files { S.files store.new ≡ S.files store.old }
+    ensures cause { StoreCounts (S.faults store.old) (S.faults store.new) result }
+    ensures says { IfSome (S.files store.old) (λ fs. Comes (λ text. text.items) (TaskSays fs task.now) result) }
+    ensures asks { IfSome (S.files store.old) (λ fs. Asks (task_names fs task.now)
+        (S.asked store.old) (S.asked store.new) result) }
+{
+    match task {
+        Task::Run { job, no_relax: _ } => run(alloc, store, job.as_str()),
+        Task::Show { file } => show(alloc, store, file.as_str()),
+    }
+}
+
+/// `show FILE`: what the image says.
+fn show<S: Store>(alloc: Global, store: &mut S, name: &str) -> Result<Vec<u8>, CommandFault>
+    ensures files { S.files store.new ≡ S.files store.old }
+    ensures cause { StoreCounts (S.faults store.old) (S.faults store.new) result }
+    ensures says { IfSome (S.files store.old) (λ fs. Comes (λ text. text.items) (ShowSays fs name.now) result) }
+    ensures asks { Asks (name.now ∷ []) (S.asked store.old) (S.asked store.new) result }
+{
+    match whole_file(alloc, store, name) {
+        Ok(bytes) => show_file(alloc, bytes),
+        Err(fault) => Err(fault),
+    }
+}
+
+/// What the image of these bytes says.
+fn show_file(alloc: Global, bytes: Vec<u8>) -> Result<Vec<u8>, CommandFault>
+    ensures says { Comes (λ text. text.items) (ListingSays bytes.items) result }
+    ensures cause { NoStoreFault result }
+{
+    match read_owned(bytes) {
+        Ok(image) => Ok(listing_of(alloc, &image)?),
+        Err(ImageFault::OutOfMemory) => Err(CommandFault::OutOfMemory),
+        Err(ImageFault::At { offset, kind }) => {
+            Err(CommandFault::Refused(InputRefusal::Image { offset, kind }))
+        }
+    }
+}
+
+/// What an image says.
+fn listing_of(alloc: Global, image: &Image) -> Result<Vec<u8>, AllocError>
+    ensures { IfOk result (λ text. text.items ≡ shown image.now) }
+{
+    let mut text = Vec::new(alloc);
+    push_shown(alloc, image, &mut text)?;
+    Ok(text)
 }
 
 /// `run JOB`: the transcript of the job.

@@ -23,6 +23,8 @@ pub enum InputRefusal {
     JobNotYet,
     /// The object of this name.
     Object { name: String, reason: Reason },
+    /// The image, at an offset in its file.
+    Image { offset: u64, kind: image_file::FaultKind },
 }
 
 /// Why an object is refused.

@@ -1,6 +1,7 @@
 //! The line that a refusal puts in place of the output.
 ghost use Rattle.std.specs.Prelude.{◌≡◌, IfOk};
 ghost use Rattle.tlsld.specs.Says.{fault_text, not_yet_text};
+ghost use Rattle.tlsld.specs.Listings.{image_fault_text};
 ghost use Rattle.tlsld.specs.Steps.{object_text, refusal_code, refusal_text};
 ghost use Rattle.tlsld.specs.Replies.{IsOfFiles};
 ghost use Rattle.tlsld.specs.Statuses.{code_of};
@@ -25,6 +26,10 @@ pub fn reply_of(alloc: Global, refusal: &InputRefusal) -> Result<Reply, AllocErr
         InputRefusal::Object { name, reason } => Ok(Reply {
             status: Status::Object,
             text: object_line(alloc, name.as_str(), *reason)?,
+        }),
+        InputRefusal::Image { offset, kind } => Ok(Reply {
+            status: Status::Image,
+            text: image_line(alloc, *offset, *kind)?,
         }),
     }
 }
@@ -52,6 +57,16 @@ fn fault_line(
     ensures { IfOk result (λ text. text.items ≡ fault_text name.now section entry kind) }
 {
     Ok(format!(in alloc; "object {name} section {section} entry {entry} {kind}\n")?.into_bytes())
+}
+
+fn image_line(
+    alloc: Global,
+    offset: u64,
+    kind: image_file::FaultKind,
+) -> Result<Vec<u8>, AllocError>
+    ensures { IfOk result (λ text. text.items ≡ image_fault_text offset kind) }
+{
+    Ok(format!(in alloc; "image {offset} {kind}\n")?.into_bytes())
 }
 
 fn not_yet_line(alloc: Global, name: &str) -> Result<Vec<u8>, AllocError>

@@ -14,6 +14,8 @@ pub enum Status {
     Job,
     /// 6: an object has a fault.
     Object,
+    /// 8: an image has a fault.
+    Image,
 }
 
 impl Status {
@@ -29,6 +31,7 @@ impl Status {
             Status::Store => 3,
             Status::Job => 5,
             Status::Object => 6,
+            Status::Image => 8,
         }
     }
 }
