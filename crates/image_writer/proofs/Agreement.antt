@@ -52,20 +52,20 @@ rules_there b f image same tables below (Entry rule) =
     λ e broken. broken.1 (entry_there f b same tables.hash rule (entry_right b image rule))
 rules_there b f image same tables below (Table Symbol) =
     λ k broken.
-        let within : k < symbol_count b = omega (arith, same_symbol_count f b same tables.hash, broken.0) in
-        image (Table Symbol) k (within, λ right. broken.1 (symbol_there f b same tables k within right))
+    let within : k < symbol_count b = omega (arith, same_symbol_count f b same tables.hash, broken.0) in
+    image (Table Symbol) k (within, λ right. broken.1 (symbol_there f b same tables k within right))
 rules_there b f image same tables below (Table Relocation) =
     λ k broken.
-        let within : k < relocation_count b = omega (arith, same_relocation_count f b same, broken.0) in
-        image (Table Relocation) k (within, λ right. broken.1 (relocation_there f b same tables k within right))
+    let within : k < relocation_count b = omega (arith, same_relocation_count f b same, broken.0) in
+    image (Table Relocation) k (within, λ right. broken.1 (relocation_there f b same tables k within right))
 rules_there b f image same tables below (Table TlsSymbol) =
     λ k broken.
-        let within : k < symbol_count b = omega (arith, same_symbol_count f b same tables.hash, broken.0) in
-        image (Table TlsSymbol) k (within, past_back f b same tables k within broken.1)
+    let within : k < symbol_count b = omega (arith, same_symbol_count f b same tables.hash, broken.0) in
+    image (Table TlsSymbol) k (within, past_back f b same tables k within broken.1)
 rules_there b f image same tables below (Table TlsRelocation) =
     λ k broken.
-        let within : k < relocation_count b = omega (arith, same_relocation_count f b same, broken.0) in
-        image (Table TlsRelocation) k (within, outside_tls_back f b same tables k within broken.1)
+    let within : k < relocation_count b = omega (arith, same_relocation_count f b same, broken.0) in
+    image (Table TlsRelocation) k (within, outside_tls_back f b same tables k within broken.1)
 
 -- a file of an image that was read stands for an image, and for just that one
 pub reads_again : (b f : List ℕ) → IsImage b → HoldsTls (outline_of (spelled b)) → IsFileOf f (spelled b)
@@ -73,9 +73,8 @@ pub reads_again : (b f : List ℕ) → IsImage b → HoldsTls (outline_of (spell
 reads_again b f image holds file =
     let leads : IsHeaded f (outline_of (spelled b)) = file_headed b f image holds file in
     let same : SameHeaders f b = same_headers b f image file leads in
-    let tables : AreRight b = tables_right b image in
-    (
+    let tables : AreRight b = tables_right b image in (
       rules_there b f image same tables leads.rules,
       same_spelled f b same tables (same_part_bytes b f image file) leads.got_is
-        (same_tls b f (outline_of (spelled b)) (seen b image) leads),
+          (same_tls b f (outline_of (spelled b)) (seen b image) leads),
     )

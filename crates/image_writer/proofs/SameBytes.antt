@@ -17,7 +17,7 @@ same_part m at f b same n p from to =
     let within : k + n ≤ m = omega arith in
     let place : at + k ≡ p = omega arith in
     let inner : part_at n (at + k) f ≡ part_at n (at + k) b =
-        sym (part_at-own n k m at f within) ∙ ap (part_at n k) same ∙ part_at-own n k m at b within in
+    sym (part_at-own n k m at f within) ∙ ap (part_at n k) same ∙ part_at-own n k m at b within in
     let P : ℕ → Type 0 = λ q. part_at n q f ≡ part_at n q b in
     subst P place inner
 
@@ -28,7 +28,7 @@ same_number m at f b same n p from to =
     let within : k + n ≤ m = omega arith in
     let place : at + k ≡ p = omega arith in
     let inner : number_at n (at + k) f ≡ number_at n (at + k) b =
-        sym (number_at-own n k m at f within) ∙ ap (number_at n k) same ∙ number_at-own n k m at b within in
+    sym (number_at-own n k m at f within) ∙ ap (number_at n k) same ∙ number_at-own n k m at b within in
     let P : ℕ → Type 0 = λ q. number_at n q f ≡ number_at n q b in
     subst P place inner
 

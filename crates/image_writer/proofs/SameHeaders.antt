@@ -33,8 +33,8 @@ flags_again : (s : Segment) → IsClass s → flags_of (class_numbered s.flags) 
 flags_again s class = elim class [
   | inl code ↦ rw code refl
   | inr other ↦ elim other [
-      | inl constant ↦ rw constant refl
-      | inr written ↦ rw written refl
+    | inl constant ↦ rw constant refl
+    | inr written ↦ rw written refl
   ]
 ]
 
@@ -152,12 +152,12 @@ same_part_bytes b f image file i h =
     let size : length (part_read b i).bytes ≡ s.filesz = ap length read ∙ part_length s.filesz s.offset b inside in
     let based : base_of (file_kind b) ≡ base b = (seen b image).base_is in
     let placed : file_offset (file_kind b) (part_read b i).address ≡ s.offset =
-        ap (file_offset (file_kind b)) (read_address b i)
-        ∙ offset_again (file_kind b) b s based (load_right b image i h).0 in
+    ap (file_offset (file_kind b)) (read_address b i)
+    ∙ offset_again (file_kind b) b s based (load_right b image i h).0 in
     part_there f b (part_read b i).bytes (length (part_read b i).bytes) s.filesz
-        (file_offset (file_kind b) (part_read b i).address) s.offset
-        (file.parts_are i (part_read b i) (tabled_at (part_read b) (loads b) i h))
-        read size placed
+    (file_offset (file_kind b) (part_read b i).address) s.offset
+    (file.parts_are i (part_read b i) (tabled_at (part_read b) (loads b) i h))
+    read size placed
 
 -- where the last part ends in the file
 end_place : (kind : FileKind) (b : List ℕ) (s : Segment) → base_of kind ≡ base b → s.vaddr + 4096 ≡ s.offset + base b
@@ -194,17 +194,18 @@ long_enough b f image file =
     let inside : (last b).offset + (last b).filesz ≤ length b = segment_in b image (loads b - 1) (omega (arith, h, (dynamic_right b image).1)) in
     let same : HoldSame (last b).filesz (last b).offset f b = same_part_bytes b f image file (loads b - 1) h in
     let long : length (part_at (last b).filesz (last b).offset f) ≡ (last b).filesz =
-        ap length same ∙ part_length (last b).filesz (last b).offset b inside in
+    ap length same ∙ part_length (last b).filesz (last b).offset b inside in
     let filled : 0 < (last b).filesz = some_bytes (last b).filesz (last b).memsz right.2.0 right.2.1 in
     let there = part_inside (last b).filesz (last b).offset f filled long in
     let ends : file_offset (file_kind b) (end_of (last_part (outline_of (spelled b)))) ≡ (last b).offset + (last b).filesz =
-        ap (λ p. file_offset (file_kind b) (end_of p)) (last_seen b (outline_of (spelled b)) saw h)
-        ∙ ap (file_offset (file_kind b)) (end_made b (loads b - 1))
-        ∙ end_place (file_kind b) b (last b) saw.base_is right.0 in
+    ap (λ p. file_offset (file_kind b) (end_of p)) (last_seen b (outline_of (spelled b)) saw h)
+    ∙ ap (file_offset (file_kind b)) (end_made b (loads b - 1))
+    ∙ end_place (file_kind b) b (last b) saw.base_is right.0 in
     at_most _ _ _ ends there
   where
     some_bytes : (n m : ℕ) → n ≡ m → 0 < m → 0 < n
     some_bytes n m e h = omega arith
+
     at_most : (m n l : ℕ) → m ≡ n → n ≤ l → m ≤ l
     at_most m n l e h = omega arith
 

@@ -54,25 +54,22 @@ where_relocated f b same more right = elim right [
 
 -- each entry of the array that is right in one is right in the other
 pub entry_there : (f b : List ℕ) → SameHeaders f b → IsRightEntry Hash b → (rule : EntryRule) → IsRightEntry rule b → IsRightEntry rule f
-entry_there f b same hash Hash right =
-    (
-      tag_there f b same 0 DT_HASH right.0,
-      table_moved f b same (entry f 0).value (entry b 0).value (12 + 4 * symbol_count f) (12 + 4 * symbol_count b)
-        (same_value f b same 0 right.0.0) (ap (λ n. 12 + 4 * n) (same_symbol_count f b same right)) right.1,
-      same_bucket_count f b same right ∙ right.2,
-    )
-entry_there f b same hash Strings right =
-    (
-      tag_there f b same 1 DT_STRTAB right.0,
-      table_moved f b same (entry f 1).value (entry b 1).value (strings_size f) (strings_size b)
-        (same_value f b same 1 right.0.0) (same_strings_size f b same) right.1,
-    )
-entry_there f b same hash Symbols right =
-    (
-      tag_there f b same 2 DT_SYMTAB right.0,
-      table_moved f b same (entry f 2).value (entry b 2).value (24 * symbol_count f) (24 * symbol_count b)
-        (same_value f b same 2 right.0.0) (ap (λ n. 24 * n) (same_symbol_count f b same hash)) right.1,
-    )
+entry_there f b same hash Hash right = (
+  tag_there f b same 0 DT_HASH right.0,
+  table_moved f b same (entry f 0).value (entry b 0).value (12 + 4 * symbol_count f) (12 + 4 * symbol_count b)
+      (same_value f b same 0 right.0.0) (ap (λ n. 12 + 4 * n) (same_symbol_count f b same right)) right.1,
+  same_bucket_count f b same right ∙ right.2,
+)
+entry_there f b same hash Strings right = (
+  tag_there f b same 1 DT_STRTAB right.0,
+  table_moved f b same (entry f 1).value (entry b 1).value (strings_size f) (strings_size b)
+      (same_value f b same 1 right.0.0) (same_strings_size f b same) right.1,
+)
+entry_there f b same hash Symbols right = (
+  tag_there f b same 2 DT_SYMTAB right.0,
+  table_moved f b same (entry f 2).value (entry b 2).value (24 * symbol_count f) (24 * symbol_count b)
+      (same_value f b same 2 right.0.0) (ap (λ n. 24 * n) (same_symbol_count f b same hash)) right.1,
+)
 entry_there f b same hash StringsSize right = tag_there f b same 3 DT_STRSZ right
 entry_there f b same hash SymbolSize right =
     (tag_there f b same 4 DT_SYMENT right.0, same_value f b same 4 right.0.0 ∙ right.1)
@@ -81,33 +78,33 @@ entry_there f b same hash Relocations right =
     (λ (h : HasTag b 5 DT_RELA × HoldsTable b (entry b 5).value (relocations_size b)). (
       tag_there f b same 5 DT_RELA h.0,
       table_moved f b same (entry f 5).value (entry b 5).value (relocations_size f) (relocations_size b)
-        (same_value f b same 5 h.0.0) (same_relocations_size f b same) h.1,
+          (same_value f b same 5 h.0.0) (same_relocations_size f b same) h.1,
     ))
     right
 entry_there f b same hash RelocationsSize right =
     where_relocated f b same
     (λ (h : HasTag b 6 DT_RELASZ × ((entry b 6).value % 24 ≡ 0)).
-      (tag_there f b same 6 DT_RELASZ h.0, ap (λ n. n % 24) (same_value f b same 6 h.0.0) ∙ h.1))
+    (tag_there f b same 6 DT_RELASZ h.0, ap (λ n. n % 24) (same_value f b same 6 h.0.0) ∙ h.1))
     right
 entry_there f b same hash RelocationSize right =
     where_relocated f b same
     (λ (h : HasTag b 7 DT_RELAENT × ((entry b 7).value ≡ 24)).
-      (tag_there f b same 7 DT_RELAENT h.0, same_value f b same 7 h.0.0 ∙ h.1))
+    (tag_there f b same 7 DT_RELAENT h.0, same_value f b same 7 h.0.0 ∙ h.1))
     right
 entry_there f b same hash Flags right =
     let number = same_flags_entry f b same in
     elim right [
       | inl end ↦ inl (tag_moved f b same (flags_entry f) (flags_entry b) DT_NULL number end)
       | inr other ↦ elim other [
-          | inl flagged ↦ inr (inl (
-              tag_moved f b same (flags_entry f) (flags_entry b) DT_FLAGS number flagged.0,
-              value_moved f b same (flags_entry f) (flags_entry b) DT_FLAGS _ number flagged.0 flagged.1,
-            ))
-          | inr program ↦ inr (inr (
-              tag_moved f b same (flags_entry f) (flags_entry b) DT_FLAGS_1 number program.0,
-              value_moved f b same (flags_entry f) (flags_entry b) DT_FLAGS_1 _ number program.0 program.1,
-              same.file_type ∙ program.2,
-            ))
+        | inl flagged ↦ inr (inl (
+          tag_moved f b same (flags_entry f) (flags_entry b) DT_FLAGS number flagged.0,
+          value_moved f b same (flags_entry f) (flags_entry b) DT_FLAGS _ number flagged.0 flagged.1,
+        ))
+        | inr program ↦ inr (inr (
+          tag_moved f b same (flags_entry f) (flags_entry b) DT_FLAGS_1 number program.0,
+          value_moved f b same (flags_entry f) (flags_entry b) DT_FLAGS_1 _ number program.0 program.1,
+          same.file_type ∙ program.2,
+        ))
       ]
     ]
 entry_there f b same hash End right =
@@ -120,14 +117,13 @@ entry_there f b same hash End right =
 -- a name that ends in one ends in the other
 ends_there : (f b : List ℕ) → SameHeaders f b → IsRightEntry Strings b → (at : ℕ) → Ends b (strings_place b) (strings_size b) at
     → Ends f (strings_place f) (strings_size f) at
-ends_there f b same right at ends =
-    (
-      ends.0,
-      ends.1,
-      omega (arith, same_strings_size f b same, ends.2),
-      ap (λ p. slice_index f (p + ends.0)) (same_strings_place f b same right)
+ends_there f b same right at ends = (
+  ends.0,
+  ends.1,
+  omega (arith, same_strings_size f b same, ends.2),
+  ap (λ p. slice_index f (p + ends.0)) (same_strings_place f b same right)
       ∙ same_string_byte f b same right ends.0 ends.2 ∙ ends.3,
-    )
+)
 
 -- the tables of an image that was read
 pub record AreRight (b : List ℕ) : Type 0 where
@@ -140,9 +136,9 @@ pub record AreRight (b : List ℕ) : Type 0 where
 pub symbol_there : (f b : List ℕ) → SameHeaders f b → AreRight b → (k : ℕ) → k < symbol_count b → IsRightSymbol b k → IsRightSymbol f k
 symbol_there f b same tables k within right =
     let P : SymbolEntry → Type 0 = λ s.
-        Ends f (strings_place f) (strings_size f) s.name
-        × (symbol_kind s ≤ STT_TLS) × (symbol_kind s ≢ STT_COMMON)
-        × ((k ≡ 0) ⊎ (symbol_binding s ≡ STB_GLOBAL) ⊎ (symbol_binding s ≡ STB_WEAK)) in
+    Ends f (strings_place f) (strings_size f) s.name
+    × (symbol_kind s ≤ STT_TLS) × (symbol_kind s ≢ STT_COMMON)
+    × ((k ≡ 0) ⊎ (symbol_binding s ≡ STB_GLOBAL) ⊎ (symbol_binding s ≡ STB_WEAK)) in
     subst P (sym (same_symbol_entry f b same tables.symbols k within))
     (ends_there f b same tables.strings (symbol b k).name right.0, right.1, right.2, right.3)
 
@@ -156,14 +152,13 @@ import_there f b same tables k within imported =
 runtime_there : (f b : List ℕ) → SameHeaders f b → AreRight b → (k : ℕ) → k < symbol_count b → IsRuntime b k → IsRuntime f k
 runtime_there f b same tables k within named =
     let P : SymbolEntry → Type 0 = λ s.
-        (s.shndx ≡ SHN_UNDEF) × (s.name + 15 ≤ strings_size f)
-        × (part_at 15 (strings_place f + s.name) f ≡ TLS_GET_ADDR) in
-    subst P (sym (same_symbol_entry f b same tables.symbols k within))
-    (
+    (s.shndx ≡ SHN_UNDEF) × (s.name + 15 ≤ strings_size f)
+    × (part_at 15 (strings_place f + s.name) f ≡ TLS_GET_ADDR) in
+    subst P (sym (same_symbol_entry f b same tables.symbols k within)) (
       named.0,
       omega (arith, same_strings_size f b same, named.1),
       ap (λ p. part_at 15 (p + (symbol b k).name) f) (same_strings_place f b same tables.strings)
-      ∙ same_string_part f b same tables.strings 15 (symbol b k).name named.1 ∙ named.2,
+          ∙ same_string_part f b same tables.strings 15 (symbol b k).name named.1 ∙ named.2,
     )
 
 -- what a relocation may name in one, it may in the other
@@ -183,8 +178,7 @@ may_name_there f b same tables (Some Descriptor) k within may =
 -- a LOAD of one that holds the bytes holds them in the other
 field_there : (f b : List ℕ) → SameHeaders f b → (r : Rela) (i : ℕ) → HoldsField b r i → HoldsField f r i
 field_there f b same r i holds =
-    let below : i < loads b = omega (arith, holds.0) in
-    (
+    let below : i < loads b = omega (arith, holds.0) in (
       omega (arith, same.loads_are, holds.0),
       omega (arith, same.vaddr_is i below, holds.1),
       within _ _ _ _ _ (same.vaddr_is i below) (same.memsz_is i below) holds.2,
@@ -206,8 +200,7 @@ pub relocation_there : (f b : List ℕ) → SameHeaders f b → AreRight b → (
 relocation_there f b same tables k within right =
     let r : Rela = rela b k in
     let P : Rela → Type 0 = λ r. NamesRight f r × ((i : ℕ) × HoldsField f r i) × IsBehindLast f k in
-    subst P (sym (same_rela_entry f b same tables.relocations k within))
-    (
+    subst P (sym (same_rela_entry f b same tables.relocations k within)) (
       (
         omega (arith, same_symbol_count f b same tables.hash, right.0.0),
         may_name_there f b same tables (loader_kind (rela_kind r)) (rela_symbol r) right.0.0 right.0.1,

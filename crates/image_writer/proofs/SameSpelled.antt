@@ -56,8 +56,8 @@ range_there f b n m at from place size same =
 pub same_part : (f b : List ℕ) → SameHeaders f b → (i : ℕ) → i < loads b → HoldSame (segment b i).filesz (segment b i).offset f b → part f i ≡ part b i
 same_part f b same i h bytes =
     let content : slice_range f (segment f i).offset ((segment f i).offset + (segment f i).filesz) ≡ slice_range b (segment b i).offset ((segment b i).offset + (segment b i).filesz) =
-        range_there f b (segment f i).filesz (segment b i).filesz (segment f i).offset (segment b i).offset
-        (same.offset_is i h) (same.filesz_is i h) bytes in
+    range_there f b (segment f i).filesz (segment b i).filesz (segment f i).offset (segment b i).offset
+    (same.offset_is i h) (same.filesz_is i h) bytes in
     part_made f i
     ∙ ap (λ n. made (class_numbered n) (segment f i).vaddr (slice_range f (segment f i).offset ((segment f i).offset + (segment f i).filesz))) (same.flags_are i h)
     ∙ ap (λ a. made (class_numbered (segment b i).flags) a (slice_range f (segment f i).offset ((segment f i).offset + (segment f i).filesz))) (same.vaddr_is i h)
@@ -81,8 +81,8 @@ pub same_names : (f b : List ℕ) → SameHeaders f b → AreRight b → names f
 same_names f b same tables =
     same_tabled (name f) (name b) (symbol_count f) (symbol_count b) (same_symbol_count f b same tables.hash)
     (λ k h.
-        ap (λ l. text_at l (symbol f k).name) (same_strings f b same tables.strings)
-        ∙ ap (λ s. text_at (strings b) s.name) (same_symbol_entry f b same tables.symbols k h))
+    ap (λ l. text_at l (symbol f k).name) (same_strings f b same tables.strings)
+    ∙ ap (λ s. text_at (strings b) s.name) (same_symbol_entry f b same tables.symbols k h))
 
 -- the relocations
 pub same_relocations : (f b : List ℕ) → SameHeaders f b → AreRight b → relocations f ≡ relocations b
@@ -124,5 +124,5 @@ pub same_spelled : (f b : List ℕ) → SameHeaders f b → AreRight b → ((i :
 same_spelled f b same tables bytes got_is tls_is =
     spelled_made f
     ∙ made_same (same_kind f b same) (same_parts f b same bytes) same.array_size_is got_is tls_is
-        (same_symbols f b same tables) (same_names f b same tables) (same_relocations f b same tables) (same_flagged f b same)
+    (same_symbols f b same tables) (same_names f b same tables) (same_relocations f b same tables) (same_flagged f b same)
     ∙ sym (spelled_made b)

@@ -39,8 +39,8 @@ unfolding bucket_count
 same_bucket_count f b same right =
     ap (λ at. number_at 4 at f) (same_hash_place f b same right)
     ∙ same_number (last b).filesz (last b).offset f b same.last_bytes 4 (hash_place b)
-        (table_from b (entry b 0).value (12 + 4 * symbol_count b) right.1)
-        (omega (arith, table_to b (entry b 0).value (12 + 4 * symbol_count b) right.1))
+    (table_from b (entry b 0).value (12 + 4 * symbol_count b) right.1)
+    (omega (arith, table_to b (entry b 0).value (12 + 4 * symbol_count b) right.1))
 
 -- where the number of chains stands
 count_of : (b : List ℕ) → symbol_count b ≡ number_at 4 (hash_place b + 4) b
@@ -72,6 +72,7 @@ same_string_byte f b same right k within =
   where
     further : (at from k : ℕ) → at ≤ from → at ≤ from + k
     further at from k h = omega arith
+
     less : (from n k end : ℕ) → from + n ≤ end → k < n → from + k < end
     less from n k end h within = omega arith
 
@@ -86,6 +87,7 @@ same_string_part f b same right n k within =
   where
     further : (at from k : ℕ) → at ≤ from → at ≤ from + k
     further at from k h = omega arith
+
     less : (from size k n end : ℕ) → from + size ≤ end → k + n ≤ size → from + k + n ≤ end
     less from size k n end h within = omega arith
 
@@ -119,7 +121,7 @@ same_symbol_entry f b same right k within =
     let to = table_to b (entry b 2).value (24 * n) right.1 in
     ap (λ at. symbol_at (at + 24 * k) f) (same_symbols_place f b same right)
     ∙ same_symbol (last b).filesz (last b).offset f b same.last_bytes (symbols_place b + 24 * k)
-        (record_from _ _ k from) (record_to _ n k (24 * n) _ to (omega arith) within)
+    (record_from _ _ k from) (record_to _ n k (24 * n) _ to (omega arith) within)
 
 -- where there is a relocation, the array names their table
 size_named : (p q : Bool) (n : ℕ) → 0 < (if p && q then n else 0) → p ≡ true
@@ -158,4 +160,4 @@ same_rela_entry f b same right k within =
     let to = table_to b (entry b 5).value (relocations_size b) held.1 in
     ap (λ at. rela_at (at + 24 * k) f) (same_entry_place f b same 5 held.0.0)
     ∙ same_rela (last b).filesz (last b).offset f b same.last_bytes (relocations_place b + 24 * k)
-        (record_from _ _ k from) (record_to _ (relocation_count b) k (relocations_size b) _ to (count_of_size b) within)
+    (record_from _ _ k from) (record_to _ (relocation_count b) k (relocations_size b) _ to (count_of_size b) within)
