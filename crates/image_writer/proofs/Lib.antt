@@ -1,4 +1,5 @@
 pub mod Agreement
+pub mod HeaderBytes
 pub mod HeaderRows
 pub mod Headed
 pub mod Linked
