@@ -1,5 +1,6 @@
 pub mod Agreement
 pub mod HeaderBytes
+pub mod HeaderCounts
 pub mod HeaderRows
 pub mod Headed
 pub mod Linked
