@@ -1,6 +1,7 @@
 pub mod Agreement
 pub mod HeaderBytes
 pub mod HeaderCounts
+pub mod HeaderFinds
 pub mod HeaderReads
 pub mod HeaderRows
 pub mod Headed
