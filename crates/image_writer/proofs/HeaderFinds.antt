@@ -104,3 +104,124 @@ which n i m r below = elim (near n i) [
   | inl lt ↦ inl lt
   | inr more ↦ elim more [ inl is ↦ inr (inl is) | inr gt ↦ inr (inr (behind n i m r gt below)) ]
 ]
+
+-- a TLS segment is told just where there is one
+tls_of_kind : (n c kind : ℕ) (m : Option TlsPart) (r : Option ℕ) → c ≡ n + 1 + one_if_some m + one_if_some r
+    → ((t : TlsPart) → m ≡ Some t → kind ≡ PT_TLS) → ((g : ℕ) → m ≡ None → r ≡ Some g → kind ≡ PT_GNU_RELRO)
+    → (nat_lt (n + 1) c && (kind == PT_TLS)) ≡ is_some m
+tls_of_kind n c kind None None number tls relro = grind (arith, nat_tests)
+tls_of_kind n c kind None (Some g) number tls relro = let is = relro g refl refl in grind (arith, nat_tests)
+tls_of_kind n c kind (Some t) r number tls relro =
+    let is = tls t refl in
+    let more : n + 1 < c = omega arith in
+    grind (arith, nat_tests)
+
+none_of_none : (m : Option TlsPart) → m ≡ None → one_if_some m ≡ 0
+none_of_none m is = rw is refl
+
+pub has_tls_read : (f : List ℕ) (o : Outlined) → AreRead f o → has_tls f ≡ is_some o.tls
+has_tls_read f o read =
+    let same = loads_read f o read in
+    rw same (
+      tls_of_kind (length o.parts) (count f) (segment f (length o.parts + 1)).kind o.tls o.got read.count_is
+      (λ t is. kind_of_tls f o t read is)
+      (λ g none is.
+          let at : length o.parts + 1 + one_if_some o.tls ≡ length o.parts + 1 = omega (arith, none_of_none o.tls none) in
+          (ap (λ i. (segment f i).kind) (sym at)) ∙ kind_of_relro f o g read is)
+    )
+
+-- its numbers are read
+tls_numbers : (k : FileKind) (t : TlsPart) → tls_part (tls_header k t) ≡ t
+unfolding tls_header
+tls_numbers k t = refl
+
+tls_when : (s : Segment) (h : Bool) (m : Option TlsPart) → h ≡ is_some m → ((t : TlsPart) → m ≡ Some t → tls_part s ≡ t)
+    → tls_of (if h then Some s else None) ≡ m
+tls_when s h None is told = rw is refl
+tls_when s h (Some t) is told = rw is (ap Some (told t refl))
+
+pub tls_read : (f : List ℕ) (o : Outlined) → AreRead f o → tls_of (tls f) ≡ o.tls
+tls_read f o read =
+    let same = loads_read f o read in
+    tls_when (segment f (loads f + 1)) (has_tls f) o.tls (has_tls_read f o read)
+    (λ t is. rw same (ap tls_part (read.tls_is t is) ∙ tls_numbers o.kind t))
+
+-- a part that the loader alone writes is told just where there is one
+no_relro : (f : List ℕ) (o : Outlined) → AreRead f o → o.got ≡ None → (i : ℕ) → i < count f → is_relro f i ≡ false
+no_relro f o read none i below = elim (which (length o.parts) i o.tls o.got (omega (arith, read.count_is))) [
+  | inl lt ↦ is_not_of (segment f i).kind PT_LOAD PT_GNU_RELRO (kind_of_load f o i read lt) (λ e. omega arith)
+  | inr more ↦ elim more [
+      | inl is ↦ is_not_of (segment f i).kind PT_DYNAMIC PT_GNU_RELRO (rw is (kind_of_dynamic f o read)) (λ e. omega arith)
+      | inr rest ↦ elim rest [
+          | inl tls ↦ is_not_of (segment f i).kind PT_TLS PT_GNU_RELRO (rw (tls.0) (kind_of_tls f o tls.1.0 read tls.1.1)) (λ e. omega arith)
+          | inr relro ↦ absurd (let e = sym none ∙ relro.1.1 in cc)
+        ]
+    ]
+]
+
+relro_told : (n : ℕ) → 0 < n → nat_lt 0 n ≡ true
+relro_told n some = grind (arith, nat_tests)
+
+relro_untold : (n : ℕ) → n ≡ 0 → nat_lt 0 n ≡ false
+relro_untold n none = grind (arith, nat_tests)
+
+relro_when : (f : List ℕ) (o : Outlined) (r : Option ℕ) → AreRead f o → o.got ≡ r → has_relro f ≡ is_some r
+relro_when f o None read is = relro_untold (behind_last (is_relro f) (count f)) (last_none (is_relro f) (count f) (no_relro f o read is))
+relro_when f o (Some g) read is =
+    let at = length o.parts + 1 + one_if_some o.tls in
+    let one : one_if_some o.got ≡ 1 = rw is refl in
+    let number : count f ≡ at + 1 = omega (arith, read.count_is) in
+    let here = last_is (is_relro f) at (is_of (segment f at).kind PT_GNU_RELRO (kind_of_relro f o g read is)) in
+    relro_told (behind_last (is_relro f) (count f)) (rw number (omega (arith, here)))
+
+pub has_relro_read : (f : List ℕ) (o : Outlined) → AreRead f o → has_relro f ≡ is_some o.got
+has_relro_read f o read = relro_when f o o.got read refl
+
+-- where it stands
+place_when : (n : ℕ) (h : Bool) (m : Option TlsPart) → h ≡ is_some m → (if h then n + 2 else n + 1) ≡ n + 1 + one_if_some m
+place_when n h None is = rw is (omega arith)
+place_when n h (Some t) is = rw is (omega arith)
+
+pub relro_place_read : (f : List ℕ) (o : Outlined) → AreRead f o → relro_place f ≡ length o.parts + 1 + one_if_some o.tls
+relro_place_read f o read =
+    place_when (loads f) (has_tls f) o.tls (has_tls_read f o read) ∙ ap (λ n. n + 1 + one_if_some o.tls) (loads_read f o read)
+
+-- which parts are written
+load_flags : (k : FileKind) (p : PartPlace) → (load_header k p).flags ≡ flags_of p.class
+unfolding load_header
+load_flags k p = refl
+
+pub flags_read : (f : List ℕ) (o : Outlined) (i : ℕ) → AreRead f o → i < length o.parts → (segment f i).flags ≡ flags_of (part o i).class
+flags_read f o i read below = ap (λ s. s.flags) (read.load_is i below) ∙ load_flags o.kind (part o i)
+
+written_flags : (c : PartClass) → (flags_of c == PF_R + PF_W) ≡ is_writable c
+written_flags Executable = refl
+written_flags ReadOnly = refl
+written_flags Writable = refl
+
+written_read : (f : List ℕ) (o : Outlined) (i : ℕ) → AreRead f o → i < length o.parts → is_writable_header f i ≡ is_written o i
+written_read f o i read below = ap (λ n. n == PF_R + PF_W) (flags_read f o i read below) ∙ written_flags (part o i).class
+
+pub many_read : (f : List ℕ) (o : Outlined) (i : ℕ) → AreRead f o → i ≤ length o.parts
+    → how_many (is_writable_header f) i ≡ how_many (is_written o) i
+many_read f o i read within = many_agree (is_writable_header f) (is_written o) i (λ j below. written_read f o j read (omega arith))
+
+pub last_read : (f : List ℕ) (o : Outlined) → AreRead f o → behind_last_writable f ≡ behind_last (is_written o) (length o.parts)
+last_read f o read =
+    rw (loads_read f o read)
+    (last_agree (is_writable_header f) (is_written o) (length o.parts) (λ j below. written_read f o j read below))
+
+-- the part that the loader alone writes
+got_when : (h : Bool) (n : ℕ) (r : Option ℕ) → h ≡ is_some r → ((g : ℕ) → r ≡ Some g → n ≡ g + 1)
+    → (if h && nat_lt 0 n then Some (n - 1) else None) ≡ r
+got_when h n None is found = rw is refl
+got_when h n (Some g) is found =
+    let number = found g refl in
+    let some : nat_lt 0 n ≡ true = relro_told n (omega arith) in
+    let less : n - 1 ≡ g = omega arith in
+    rw (is, some, less) refl
+
+pub got_read : (f : List ℕ) (o : Outlined) → AreRead f o → IsLoadable o → got f ≡ o.got
+got_read f o read loadable =
+    got_when (has_relro f) (behind_last_writable f) o.got (has_relro_read f o read)
+    (λ g is. last_read f o read ∙ loadable.got_is g is)
