@@ -2,6 +2,7 @@ pub mod Agreement
 pub mod HeaderBytes
 pub mod HeaderCounts
 pub mod HeaderFinds
+pub mod HeaderLoads
 pub mod HeaderReads
 pub mod HeaderRows
 pub mod Headed
