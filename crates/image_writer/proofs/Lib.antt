@@ -1,9 +1,11 @@
 pub mod Agreement
 pub mod HeaderBytes
 pub mod HeaderCounts
+pub mod HeaderExtents
 pub mod HeaderFinds
 pub mod HeaderLoads
 pub mod HeaderReads
+pub mod HeaderRest
 pub mod HeaderRows
 pub mod Headed
 pub mod Linked
