@@ -7,6 +7,7 @@ pub mod HeaderLoads
 pub mod HeaderReads
 pub mod HeaderRest
 pub mod HeaderRows
+pub mod HeaderRules
 pub mod Headed
 pub mod Linked
 pub mod Loaded
