@@ -1,5 +1,5 @@
 -- What a file that a page of headers leads is read as: its header, its program headers, and the rules that they keep.
-use Rattle.std.proofs.Common.{◌≡◌, ◌+◌, ◌-◌, ◌<◌, ◌≤◌, ℕ, Bool, List, Option, Some, None, length, take, is_some, refl, sym, ap, ◌∙◌, arith, if◌then◌else◌}
+use Rattle.std.proofs.Common.{◌≡◌, ◌+◌, ◌-◌, ◌<◌, ◌≤◌, ℕ, Bool, List, Option, Some, None, length, take, is_some, refl, ap, arith, if◌then◌else◌}
 use Rattle.elf_records.specs.declared.program_header.Segment.{Segment}
 use Rattle.image_faults.specs.Parts.{header, count, segment, base, loads, last, has_tls, tls}
 use Rattle.image_faults.specs.Parts.{tls_size as tls_size_read}
@@ -11,7 +11,7 @@ use Rattle.image_writer.specs.Outlined.{Outlined, part, last_part, end_of}
 use Rattle.image_writer.specs.Page.{base_of, file_header, load_header, dynamic_header, file_offset, page}
 use Rattle.image_writer.specs.Loadable.{IsLoadable, HoldsTls, one_if_some}
 use Rattle.image_writer.specs.Linkable.{tls_size}
-use Rattle.image_writer.proofs.HeaderReads.{AreRead, are_read}
+use Rattle.image_writer.proofs.HeaderReads.{are_read}
 use Rattle.image_writer.proofs.HeaderFinds.{base_read, loads_read, has_tls_read, tls_read, got_read}
 use Rattle.image_writer.proofs.HeaderExtents.{segment_inside}
 use Rattle.image_writer.proofs.HeaderRules.{keeps_ten}
@@ -42,6 +42,7 @@ size_of s h (Some t) is told =
     let same : tls_part s ≡ t = cc in
     rw is (ap (λ p. p.size) same)
 
+-- a file whose first page is that of an image, and that is long enough, says just that image
 pub headed : (f : List ℕ) (o : Outlined) → take 4096 f ≡ page o → IsLoadable o → HoldsTls o
     → file_offset o.kind (end_of (last_part o)) ≤ length f → IsHeaded f o
 headed f o leads loadable holds long =

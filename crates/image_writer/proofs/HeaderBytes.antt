@@ -1,11 +1,10 @@
 -- What a file says whose first 4096 bytes are a page of headers: the header and each program header are read as they
 -- were written.
-use Rattle.std.proofs.Common.{◌≡◌, ◌+◌, ◌-◌, ◌*◌, ◌^◌, ◌<◌, ◌≤◌, ℕ, List, [], ◌∷◌, ◌++◌, length, take, replicate, slice_index_or, refl, sym, ap, ◌∙◌, arith, append-nil, append_assoc, length-append}
+use Rattle.std.proofs.Common.{◌≡◌, ◌+◌, ◌-◌, ◌*◌, ◌^◌, ◌<◌, ◌≤◌, ℕ, List, [], ◌++◌, length, take, replicate, rules, slice_index_or, refl, sym, ap, ◌∙◌, arith, append-nil, length-append}
 use Rattle.std.proofs.lemmas.List.{length-take}
 use Rattle.std.proofs.lemmas.List.{length-replicate}
 use Rattle.std.specs.List.{flat_map}
 use Rattle.elf_records.specs.declared.program_header.Segment.{Segment}
-use Rattle.elf_records.specs.declared.file_header.Header.{Header}
 use Rattle.elf_records.specs.Fields.{part_at}
 use Rattle.elf_records.specs.Laws.{part_at-take}
 use Rattle.elf_records.specs.Records.{FitsSegment, FitsHeader, header_at, segment_at, header_bytes, segment_bytes}
@@ -26,8 +25,7 @@ type_fits Module = omega arith
 -- the header's numbers lie in the range of their types
 pub header_fits : (o : Outlined) → length (program_headers o) ≤ 10 → FitsHeader (file_header o)
 unfolding file_header
-header_fits o few =
-    (refl, (type_fits o.kind, (omega arith, (omega arith, (omega arith, (omega arith, (omega arith, (omega arith, (omega arith, (omega arith, (omega arith, (omega arith, (omega arith, (omega arith, tt))))))))))))))
+header_fits o few = search (rules, type_fits, arith)
 
 -- the page takes 4096 bytes
 pub length_page : (o : Outlined) → length (program_headers o) ≤ 10 → length (page o) ≡ 4096
@@ -72,8 +70,8 @@ segment_led f o i s d leads few below is fits =
     let front : length (header_bytes (file_header o)) ≡ 64 = length-header_bytes (file_header o) (header_fits o few).0 in
     sym (segment_at-own (64 + 56 * i) f)
     ∙ ap (segment_at 0) (
-      part_led f (header_bytes (file_header o) ++ (flat_map segment_bytes (program_headers o) ++ back)) 56 (64 + 56 * i) leads (omega arith)
-      ∙ row_at segment_bytes 56 (program_headers o) i d 64 (header_bytes (file_header o)) back front length-segment_bytes below
-      ∙ ap segment_bytes is
+    part_led f (header_bytes (file_header o) ++ (flat_map segment_bytes (program_headers o) ++ back)) 56 (64 + 56 * i) leads (omega arith)
+    ∙ row_at segment_bytes 56 (program_headers o) i d 64 (header_bytes (file_header o)) back front length-segment_bytes below
+    ∙ ap segment_bytes is
     )
     ∙ segment_alone s fits

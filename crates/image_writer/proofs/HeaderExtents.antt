@@ -1,14 +1,12 @@
 -- The bytes that each header tells lie in the file, if those of the last part do.
-use Rattle.std.proofs.Common.{◌≡◌, ◌+◌, ◌-◌, ◌*◌, ◌^◌, ◌<◌, ◌≤◌, ◌⊎◌, ℕ, zero, suc, List, Option, Some, None, length, refl, sym, ap, subst, ◌∙◌, arith, inl, inr}
+use Rattle.std.proofs.Common.{◌≡◌, ◌+◌, ◌-◌, ◌<◌, ◌≤◌, ◌⊎◌, ℕ, zero, suc, List, length, sym, ap, subst, ◌∙◌, arith, inl, inr}
 use Rattle.elf_records.specs.declared.program_header.Segment.{Segment}
-use Rattle.image_faults.specs.declared.places.FileKind.{FileKind}
 use Rattle.image_faults.specs.Parts.{count, segment}
-use Rattle.image_faults.specs.Segments.{HasSegmentPastEnd, PassesEnd}
+use Rattle.image_faults.specs.Segments.{PassesEnd}
 use Rattle.image_file.specs.declared.part.TlsPart.{TlsPart}
-use Rattle.image_writer.specs.declared.outline.PartPlace.{PartPlace}
 use Rattle.image_writer.specs.Outlined.{Outlined, part, last_part, end_of}
 use Rattle.image_writer.specs.Page.{base_of, file_offset, load_header, dynamic_header, tls_header, relro_header}
-use Rattle.image_writer.specs.Loadable.{IsLoadable, HoldsTls, IsRightPart, IsRightTlsPart, one_if_some}
+use Rattle.image_writer.specs.Loadable.{IsLoadable, HoldsTls, IsRightTlsPart}
 use Rattle.image_writer.proofs.HeaderReads.{AreRead, some_at, got_below}
 use Rattle.image_writer.proofs.HeaderFinds.{which}
 
@@ -16,6 +14,7 @@ use Rattle.image_writer.proofs.HeaderFinds.{which}
 same_or_below : (i j : ℕ) → i ≤ suc j → (i ≤ j) ⊎ (i ≡ suc j)
 same_or_below i j h = grind arith
 
+-- no part ends further than one behind it
 pub rises : (o : Outlined) (i j : ℕ) → IsLoadable o → i ≤ j → j < length o.parts → end_of (part o i) ≤ end_of (part o j)
 rises o i zero loadable within below = let same : i ≡ 0 = omega arith in rw same (omega arith)
 rises o i (suc j) loadable within below = elim (same_or_below i j within) [
@@ -44,6 +43,7 @@ inside k a n e whole long within above = omega arith
 abbrev pub IsInside : List ℕ → Segment → Type 0
 IsInside f s = s.offset + s.filesz ≤ length f
 
+-- those of a LOAD
 load_inside : (f : List ℕ) (o : Outlined) (i : ℕ) → IsLoadable o → file_offset o.kind (end_of (last_part o)) ≤ length f → i < length o.parts
     → IsInside f (load_header o.kind (part o i))
 unfolding load_header
@@ -51,6 +51,7 @@ load_inside f o i loadable long below =
     let right = loadable.parts i below in
     inside (base_of o.kind) (part o i).address (part o i).size (end_of (last_part o)) (length f) long (ends_within o i loadable below) (omega (arith, right.above))
 
+-- those of GNU_RELRO
 relro_inside : (f : List ℕ) (o : Outlined) (i : ℕ) → IsLoadable o → file_offset o.kind (end_of (last_part o)) ≤ length f → i < length o.parts
     → IsInside f (relro_header o.kind (part o i))
 unfolding relro_header
@@ -58,6 +59,7 @@ relro_inside f o i loadable long below =
     let right = loadable.parts i below in
     inside (base_of o.kind) (part o i).address (part o i).size (end_of (last_part o)) (length f) long (ends_within o i loadable below) (omega (arith, right.above))
 
+-- those of DYNAMIC
 dynamic_inside : (f : List ℕ) (o : Outlined) → IsLoadable o → file_offset o.kind (end_of (last_part o)) ≤ length f → IsInside f (dynamic_header o)
 unfolding dynamic_header
 dynamic_inside f o loadable long =
@@ -65,6 +67,7 @@ dynamic_inside f o loadable long =
     let within = loadable.array_in in
     inside (base_of o.kind) (last_part o).address o.array_size (end_of (last_part o)) (length f) long (omega arith) (omega (arith, right.above))
 
+-- those of the initial image
 tls_inside : (f : List ℕ) (o : Outlined) (t : TlsPart) → IsLoadable o → file_offset o.kind (end_of (last_part o)) ≤ length f → IsRightTlsPart o t
     → t.address ≤ end_of (last_part o) → IsInside f (tls_header o.kind t)
 unfolding tls_header
@@ -79,6 +82,7 @@ tls_inside f o t loadable long right near =
     ] in
     inside (base_of o.kind) t.address t.initial (end_of (last_part o)) (length f) long ends right.placed
 
+-- those of each header of the table
 pub segment_inside : (f : List ℕ) (o : Outlined) (i : ℕ) → AreRead f o → IsLoadable o → HoldsTls o
     → file_offset o.kind (end_of (last_part o)) ≤ length f → i < count f → IsInside f (segment f i)
 segment_inside f o i read loadable holds long below =
@@ -86,19 +90,19 @@ segment_inside f o i read loadable holds long below =
     elim (which (length o.parts) i o.tls o.got (omega (arith, read.count_is))) [
       | inl lt ↦ subst P (sym (read.load_is i lt)) (load_inside f o i loadable long lt)
       | inr more ↦ elim more [
-          | inl is ↦ subst P (sym (ap (segment f) is ∙ read.dynamic_is)) (dynamic_inside f o loadable long)
-          | inr rest ↦ elim rest [
-              | inl tls ↦
-                  let t = tls.1.0 in
-                  let right = some_at o.tls (IsRightTlsPart o) t tls.1.1 loadable.tls_is in
-                  let near = some_at o.tls (λ s. s.address ≤ end_of (last_part o)) t tls.1.1 holds in
-                  subst P (sym (ap (segment f) tls.0 ∙ read.tls_is t tls.1.1)) (tls_inside f o t loadable long right near)
-              | inr relro ↦
-                  let g = relro.1.0 in
-                  subst P (sym (ap (segment f) relro.0 ∙ read.relro_is g relro.1.1))
-                  (relro_inside f o g loadable long (got_below o g loadable relro.1.1))
-            ]
+        | inl is ↦ subst P (sym (ap (segment f) is ∙ read.dynamic_is)) (dynamic_inside f o loadable long)
+        | inr rest ↦ elim rest [
+          | inl tls ↦
+              let t = tls.1.0 in
+              let right = some_at o.tls (IsRightTlsPart o) t tls.1.1 loadable.tls_is in
+              let near = some_at o.tls (λ s. s.address ≤ end_of (last_part o)) t tls.1.1 holds in
+              subst P (sym (ap (segment f) tls.0 ∙ read.tls_is t tls.1.1)) (tls_inside f o t loadable long right near)
+          | inr relro ↦
+              let g = relro.1.0 in
+              subst P (sym (ap (segment f) relro.0 ∙ read.relro_is g relro.1.1))
+              (relro_inside f o g loadable long (got_below o g loadable relro.1.1))
         ]
+      ]
     ]
 
 -- nothing that the headers tell passes the end of the file

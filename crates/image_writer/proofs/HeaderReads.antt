@@ -1,11 +1,9 @@
 -- Each program header of a page is read as it was written: its numbers lie in the range of their types.
-use Rattle.std.proofs.Common.{◌≡◌, ◌+◌, ◌-◌, ◌*◌, ◌%◌, ◌^◌, ◌<◌, ◌≤◌, ◌⊎◌, ℕ, zero, suc, List, Option, Some, None, IfSome, length, take, refl, sym, ap, subst, ◌∙◌, arith, inl, inr}
+use Rattle.std.proofs.Common.{◌≡◌, ◌+◌, ◌-◌, ◌^◌, ◌<◌, ◌≤◌, ℕ, List, Option, Some, IfSome, length, take, refl, ap, subst, ◌∙◌, arith}
 use Rattle.std.proofs.lemmas.Nat.{pow_below}
-use Rattle.elf_records.specs.declared.program_header.Segment.{Segment}
 use Rattle.elf_records.specs.Records.{FitsSegment}
 use Rattle.image_faults.specs.declared.places.FileKind.{FileKind}
 use Rattle.image_faults.specs.declared.places.FileKind.TheVariants.{Exe, Pie, Module}
-use Rattle.image_faults.specs.Counts.{behind_last}
 use Rattle.image_faults.specs.Parts.{header, count, segment}
 use Rattle.image_faults.specs.Segments.{IsAlignment}
 use Rattle.image_file.specs.declared.part.PartClass.{PartClass}
@@ -14,8 +12,8 @@ use Rattle.image_file.specs.declared.part.TlsPart.{TlsPart}
 use Rattle.image_writer.specs.declared.outline.PartPlace.{PartPlace}
 use Rattle.image_writer.specs.Outlined.{Outlined, part, last_part, end_of}
 use Rattle.image_writer.specs.Page.{base_of, flags_of, file_header, load_header, dynamic_header, tls_header, relro_header, program_headers, page}
-use Rattle.image_writer.specs.Loadable.{IsLoadable, HoldsTls, IsRightPart, IsRightTlsPart, is_written, one_if_some}
-use Rattle.image_writer.proofs.HeaderCounts.{last_within, last_passes}
+use Rattle.image_writer.specs.Loadable.{IsLoadable, HoldsTls, IsRightTlsPart, is_written, one_if_some}
+use Rattle.image_writer.proofs.HeaderCounts.{last_within}
 use Rattle.image_writer.proofs.HeaderRows.{length_headers, row_of_load, row_of_dynamic, row_of_tls, row_of_relro}
 use Rattle.image_writer.proofs.HeaderBytes.{long_enough, header_led, segment_led}
 
@@ -25,6 +23,7 @@ base_low Exe = omega arith
 base_low Pie = omega arith
 base_low Module = omega arith
 
+-- the flags of a class are small
 flags_fit : (c : PartClass) → flags_of c < 256 ^ 4
 flags_fit Executable = omega arith
 flags_fit ReadOnly = omega arith
@@ -37,6 +36,7 @@ load_fits k p below =
     let low = base_low k in
     (omega arith, (flags_fit p.class, (omega arith, (omega arith, (omega arith, (omega arith, (omega arith, (omega arith, tt))))))))
 
+-- DYNAMIC fits
 dynamic_fits : (o : Outlined) → end_of (last_part o) ≤ base_of o.kind + 2 ^ 26 → o.array_size ≤ (last_part o).size
     → FitsSegment (dynamic_header o)
 unfolding dynamic_header
@@ -44,6 +44,7 @@ dynamic_fits o below within =
     let low = base_low o.kind in
     (omega arith, (omega arith, (omega arith, (omega arith, (omega arith, (omega arith, (omega arith, (omega arith, tt))))))))
 
+-- GNU_RELRO fits
 relro_fits : (k : FileKind) (p : PartPlace) → end_of p ≤ base_of k + 2 ^ 26 → FitsSegment (relro_header k p)
 unfolding relro_header
 relro_fits k p below =
@@ -56,6 +57,7 @@ power_small k few =
     let below : 2 ^ k < 2 ^ 13 = pow_below k 13 (omega arith) in
     omega arith
 
+-- TLS fits
 tls_fits : (k : FileKind) (t : TlsPart) → t.address ≤ base_of k + 2 ^ 26 → t.initial ≤ t.size → t.size ≤ 2 ^ 20 → IsAlignment t.alignment
     → FitsSegment (tls_header k t)
 unfolding tls_header
@@ -68,6 +70,7 @@ tls_fits k t below initial small alignment =
 pub some_at : {X : Type 0} (m : Option X) (P : X → Type 0) (x : X) → m ≡ Some x → IfSome m P → P x
 some_at {X} m P x is all = let Q : Option X → Type 0 = λ k. IfSome k P in subst Q is all
 
+-- one header stands for what is there
 pub one_of_some : {X : Type 0} (m : Option X) (x : X) → m ≡ Some x → one_if_some m ≡ 1
 one_of_some m x is = rw is refl
 
@@ -75,6 +78,7 @@ one_of_some m x is = rw is refl
 pub part_below : (o : Outlined) (i : ℕ) → IsLoadable o → i < length o.parts → end_of (part o i) ≤ base_of o.kind + 2 ^ 26
 part_below o i loadable below = (loadable.parts i below).below
 
+-- so does the last part
 pub last_below : (o : Outlined) → IsLoadable o → end_of (last_part o) ≤ base_of o.kind + 2 ^ 26
 last_below o loadable = part_below o (length o.parts - 1) loadable (omega (arith, loadable.some))
 
@@ -94,10 +98,12 @@ pub record AreRead (f : List ℕ) (o : Outlined) : Type 0 where
   pub relro_is : (g : ℕ) → o.got ≡ Some g
       → segment f (length o.parts + 1 + one_if_some o.tls) ≡ relro_header o.kind (part o g)
 
+-- the header counts the program headers
 count_of : (o : Outlined) → (file_header o).e_phnum ≡ length (program_headers o)
 unfolding file_header
 count_of o = refl
 
+-- a file whose first 4096 bytes are the page says all that
 pub are_read : (f : List ℕ) (o : Outlined) → take 4096 f ≡ page o → IsLoadable o → HoldsTls o → AreRead f o
 are_read f o leads loadable holds =
     let number = length_headers o in

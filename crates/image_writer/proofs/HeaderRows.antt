@@ -1,5 +1,5 @@
 -- Which program header is which: one for each part, and behind them DYNAMIC, TLS and GNU_RELRO.
-use Rattle.std.proofs.Common.{◌≡◌, ◌+◌, ◌-◌, ◌<◌, ◌≤◌, ℕ, suc, List, [], ◌∷◌, ◌++◌, Option, Some, None, length, map, slice_index_or, refl, sym, ap, ◌∙◌, arith, length-append}
+use Rattle.std.proofs.Common.{◌≡◌, ◌+◌, ◌<◌, ℕ, suc, List, ◌∷◌, ◌++◌, Option, Some, None, length, map, slice_index_or, refl, ◌∙◌, arith, length-append}
 use Rattle.std.proofs.lemmas.List.{length-map, get_or-map, get_or_append_left, get_or_at, get_or-append-add}
 use Rattle.elf_records.specs.declared.program_header.Segment.{Segment}
 use Rattle.image_faults.specs.declared.places.FileKind.{FileKind}
@@ -9,10 +9,12 @@ use Rattle.image_writer.specs.Loadable.{one_if_some}
 use Rattle.image_writer.specs.Page.{load_header, dynamic_header, tls_header, relro_header, tls_headers, relro_headers}
 use Rattle.image_writer.specs.Page.{program_headers}
 
+-- one header tells the TLS segment, if there is one
 length_tls : (k : FileKind) (t : Option TlsPart) → length (tls_headers k t) ≡ one_if_some t
 length_tls k None = refl
 length_tls k (Some t) = refl
 
+-- one tells the part that the loader alone writes, if there is one
 length_relro : (o : Outlined) (g : Option ℕ) → length (relro_headers o g) ≡ one_if_some g
 length_relro o None = refl
 length_relro o (Some g) = refl
@@ -25,6 +27,7 @@ length_joined front d tls relro n t r fs ts rs =
     let inner = length-append tls relro in
     rw (outer) (omega arith)
 
+-- in all, one for each part, DYNAMIC, and one for each of the two that there is
 pub length_headers : (o : Outlined) → length (program_headers o) ≡ length o.parts + 1 + one_if_some o.tls + one_if_some o.got
 unfolding program_headers
 length_headers o =
@@ -59,15 +62,16 @@ tls_first : (k : FileKind) (t : TlsPart) (m : Option TlsPart) (rest : List Segme
     → slice_index_or (tls_headers k m ++ rest) 0 d ≡ tls_header k t
 tls_first k t m rest d is = rw is refl
 
+-- the header of the TLS segment stands right behind DYNAMIC
 pub row_of_tls : (o : Outlined) (t : TlsPart) (d : Segment) → o.tls ≡ Some t
     → slice_index_or (program_headers o) (length o.parts + 1) d ≡ tls_header o.kind t
 unfolding program_headers
 row_of_tls o t d is =
     let none : length o.parts + 1 ≡ length o.parts + 1 + 0 = omega arith in
     rw none (
-      behind_dynamic (map (load_header o.kind) o.parts) (dynamic_header o) (tls_headers o.kind o.tls ++ relro_headers o o.got) d (length o.parts) 0
-      (length-map o.parts (load_header o.kind))
-      ∙ tls_first o.kind t o.tls (relro_headers o o.got) d is
+    behind_dynamic (map (load_header o.kind) o.parts) (dynamic_header o) (tls_headers o.kind o.tls ++ relro_headers o o.got) d (length o.parts) 0
+    (length-map o.parts (load_header o.kind))
+    ∙ tls_first o.kind t o.tls (relro_headers o o.got) d is
     )
 
 -- GNU_RELRO, behind TLS if that is there
@@ -76,6 +80,7 @@ relro_behind : (o : Outlined) (g : ℕ) (m : Option TlsPart) (r : Option ℕ) (d
 relro_behind o g None r d is = rw is refl
 relro_behind o g (Some t) r d is = rw is refl
 
+-- that of the part which the loader alone writes stands last
 pub row_of_relro : (o : Outlined) (g : ℕ) (d : Segment) → o.got ≡ Some g
     → slice_index_or (program_headers o) (length o.parts + 1 + one_if_some o.tls) d ≡ relro_header o.kind (part o g)
 unfolding program_headers

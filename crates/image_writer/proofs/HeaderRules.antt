@@ -1,5 +1,5 @@
 -- The rules of the header and of the program headers are kept by a file that a page of headers leads.
-use Rattle.std.proofs.Common.{◌≡◌, ◌≢◌, ◌+◌, ◌-◌, ◌*◌, ◌^◌, ◌<◌, ◌≤◌, ◌⊎◌, ℕ, zero, suc, List, [], ◌∷◌, ◌++◌, length, replicate, slice_index, slice_index_or, refl, sym, ap, subst, ◌∙◌, arith, inl, inr}
+use Rattle.std.proofs.Common.{◌≡◌, ◌<◌, ◌≤◌, ◌⊎◌, ℕ, List, length, replicate, refl, sym, subst, ◌∙◌, arith, inl, inr}
 use Rattle.std.proofs.lemmas.List.{get_or_append_left}
 use Rattle.elf_records.specs.declared.file_header.Header.{Header}
 use Rattle.elf_records.specs.declared.file_header.TheConstants.{ELF_IDENT, ET_EXEC, ET_DYN}
@@ -9,14 +9,14 @@ use Rattle.image_faults.specs.declared.rule.Rule.{Rule}
 use Rattle.image_faults.specs.declared.rule.Rule.TheVariants.{Length, Ident, Field, Extent, Segment, Entry, Table}
 use Rattle.image_faults.specs.declared.rule.FieldRule.{FieldRule}
 use Rattle.image_faults.specs.declared.rule.FieldRule.TheVariants.{FileType, Machine, Version, TableOffset, EntrySize, Count}
-use Rattle.image_faults.specs.Parts.{header, count, segment, loads}
+use Rattle.image_faults.specs.Parts.{count}
 use Rattle.image_faults.specs.Fields.{IsWrongIdent, IsRightField}
 use Rattle.image_faults.specs.Rules.{number}
-use Rattle.image_faults.specs.Segments.{IsRightLoad, IsRightDynamic, IsRightRest, IsWrongSegment}
-use Rattle.image_faults.specs.Faults.{Breaks, Keeps, KeepsBelow}
+use Rattle.image_faults.specs.Segments.{IsWrongSegment}
+use Rattle.image_faults.specs.Faults.{Breaks, Keeps}
 use Rattle.image_writer.specs.Outlined.{Outlined, last_part, end_of}
-use Rattle.image_writer.specs.Page.{type_of, file_offset, file_header, program_headers}
-use Rattle.image_writer.specs.Loadable.{IsLoadable, HoldsTls, one_if_some}
+use Rattle.image_writer.specs.Page.{type_of, file_offset, file_header}
+use Rattle.image_writer.specs.Loadable.{IsLoadable, HoldsTls}
 use Rattle.image_writer.proofs.HeaderReads.{AreRead}
 use Rattle.image_writer.proofs.HeaderFinds.{loads_read}
 use Rattle.image_writer.proofs.HeaderLoads.{right_load, right_dynamic}
@@ -34,6 +34,7 @@ right_type Exe = inl refl
 right_type Pie = inr refl
 right_type Module = inr refl
 
+-- each field is right
 right_field : (o : Outlined) (rule : FieldRule) → 0 < (file_header o).e_phnum → (file_header o).e_phnum ≤ 10 → IsRightField rule (file_header o)
 unfolding file_header
 right_field o FileType some few = right_type o.kind
@@ -50,9 +51,9 @@ right_segments f o e read loadable wrong =
     elim wrong [
       | inl load ↦ load.1 (right_load f o e read loadable (omega (arith, load.0)))
       | inr other ↦ elim other [
-          | inl dynamic ↦ dynamic.1 (right_dynamic f o e read loadable (dynamic.0 ∙ same))
-          | inr rest ↦ rest.2 (right_rest f o e read loadable (omega (arith, rest.0)) rest.1)
-        ]
+        | inl dynamic ↦ dynamic.1 (right_dynamic f o e read loadable (dynamic.0 ∙ same))
+        | inr rest ↦ rest.2 (right_rest f o e read loadable (omega (arith, rest.0)) rest.1)
+      ]
     ]
 
 -- each of the first ten rules is kept
