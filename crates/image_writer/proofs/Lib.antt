@@ -2,3 +2,4 @@ pub mod Agreement
 pub mod Headed
 pub mod Linked
 pub mod Loaded
+pub mod TableRows
