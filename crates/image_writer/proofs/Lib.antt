@@ -3,3 +3,4 @@ pub mod Headed
 pub mod Linked
 pub mod Loaded
 pub mod TableRows
+pub mod TableSizes
