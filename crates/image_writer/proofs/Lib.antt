@@ -4,3 +4,4 @@ pub mod Linked
 pub mod Loaded
 pub mod TableRows
 pub mod TableSizes
+pub mod TableTold

@@ -55,7 +55,7 @@ length-array c =
     _ _ (relocation_entry_count c (has_relocations c)) (flags_entry_count c.is_flagged c.kind))
 
 -- the hash table
-length-words : (n : ℕ) → length (hash_words n) ≡ 3 + n
+pub length-words : (n : ℕ) → length (hash_words n) ≡ 3 + n
 unfolding hash_words
 length-words n = omega (arith, length-tabled (chain n) n)
 
