@@ -5,3 +5,4 @@ pub mod Loaded
 pub mod TableRows
 pub mod TableSizes
 pub mod TableTold
+pub mod TableNames
