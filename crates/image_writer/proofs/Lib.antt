@@ -6,3 +6,4 @@ pub mod TableRows
 pub mod TableSizes
 pub mod TableTold
 pub mod TableNames
+pub mod TableKinds
