@@ -7,3 +7,5 @@ pub mod TableSizes
 pub mod TableTold
 pub mod TableNames
 pub mod TableKinds
+pub mod TableArray
+pub mod TableSeen
