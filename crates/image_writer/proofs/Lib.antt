@@ -9,3 +9,4 @@ pub mod TableNames
 pub mod TableKinds
 pub mod TableArray
 pub mod TableSeen
+pub mod TablePlaces
