@@ -10,3 +10,4 @@ pub mod TableKinds
 pub mod TableArray
 pub mod TableSeen
 pub mod TablePlaces
+pub mod TableEntries

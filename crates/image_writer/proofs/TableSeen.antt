@@ -158,7 +158,7 @@ end_seen f c s some =
     (next_entry c ∙ second_is c.is_flagged c.kind some)).0
 
 -- what the file says there
-pub IsFlagsSeen : List ℕ → Contents → ℕ → Type 0
+unfoldable pub IsFlagsSeen : List ℕ → Contents → ℕ → Type 0
 IsFlagsSeen f c j =
     ((c.is_flagged ≡ true) × HasTag f j DT_FLAGS × ((entry f j).value ≡ DF_STATIC_TLS) × HasTag f (j + 1) DT_NULL)
     ⊎ (((c.is_flagged ≡ false) × (c.kind ≡ Pie) × HasTag f j DT_FLAGS_1 × ((entry f j).value ≡ DF_1_PIE) × HasTag f (j + 1) DT_NULL)
