@@ -11,3 +11,4 @@ pub mod TableArray
 pub mod TableSeen
 pub mod TablePlaces
 pub mod TableEntries
+pub mod TableOutline
