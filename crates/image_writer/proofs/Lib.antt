@@ -12,3 +12,4 @@ pub mod TableSeen
 pub mod TablePlaces
 pub mod TableEntries
 pub mod TableOutline
+pub mod TableRules
