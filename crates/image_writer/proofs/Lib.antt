@@ -13,3 +13,5 @@ pub mod TablePlaces
 pub mod TableEntries
 pub mod TableOutline
 pub mod TableRules
+pub mod TableTls
+pub mod TableSpelled

@@ -159,20 +159,20 @@ names_told f c r Descriptor k below may = elim may [
 ]
 
 -- what the row of a relocation says
-type_told : (q : Rela) (r : ImageRelocation) → q ≡ relocation_entry r → loader_kind (rela_kind q) ≡ Some r.kind
+pub type_told : (q : Rela) (r : ImageRelocation) → q ≡ relocation_entry r → loader_kind (rela_kind q) ≡ Some r.kind
 type_told q r same = ap (λ e. loader_kind (rela_kind e)) same ∙ ap loader_kind (type_of_entry r) ∙ kind_back r.kind
 
 width_told : (q : Rela) (r : ImageRelocation) → q ≡ relocation_entry r → field_width (rela_kind q) ≡ width r.kind
 width_told q r same = ap (λ e. field_width (rela_kind e)) same ∙ ap field_width (type_of_entry r) ∙ width_back r.kind
 
-symbol_told : (q : Rela) (r : ImageRelocation) → q ≡ relocation_entry r → rela_symbol q ≡ r.symbol
+pub symbol_told : (q : Rela) (r : ImageRelocation) → q ≡ relocation_entry r → rela_symbol q ≡ r.symbol
 symbol_told q r same = ap rela_symbol same ∙ symbol_of_entry r
 
 place_told : (q : Rela) (r : ImageRelocation) → q ≡ relocation_entry r → q.offset ≡ r.place
 unfolding relocation_entry
 place_told q r same = ap (λ (e : Rela). e.offset) same
 
-addend_told : (q : Rela) (r : ImageRelocation) → q ≡ relocation_entry r → q.addend ≡ r.addend
+pub addend_told : (q : Rela) (r : ImageRelocation) → q ≡ relocation_entry r → q.addend ≡ r.addend
 unfolding relocation_entry
 addend_told q r same = ap (λ (e : Rela). e.addend) same
 
