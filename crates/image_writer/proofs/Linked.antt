@@ -1,5 +1,5 @@
 -- A file of finished contents stands for an image, and for just that.
-use Rattle.std.proofs.Common.{◌≡◌, ◌<◌, ◌^◌, ℕ, List, length, All, arith}
+use Rattle.std.proofs.Common.{◌≡◌, ◌<◌, ◌^◌, ℕ, List, All, arith}
 use Rattle.std.specs.Int.{w64}
 use Rattle.std.specs.Prelude.{FitsSigned}
 use Rattle.image_faults.specs.declared.rule.Rule.TheVariants.{Length, Ident, Field, Extent, Segment, Entry, Table}
@@ -51,20 +51,21 @@ all_kept f headers entries tables Segment = headers Segment (omega arith)
 all_kept f headers entries tables (Entry rule) = entries rule
 all_kept f headers entries tables (Table rule) = tables rule
 
+-- the file stands for an image, which is the contents with their tables
 pub stands_for : (c : Contents) (f : List ℕ) → IsLinkable c → AreFitting c → IsFileOf f (finished c)
     → IsImage f × (spelled f ≡ finished c)
 unfolding finished
 stands_for c f linkable fitting file =
-    let o = outline_of (finished c) in
     let loadable = linkable.loadable in
     let heads : IsHeaded f (outline_of (finished c)) =
-    headed f o file.page_is loadable linkable.holds_tls (long_enough c f loadable file) in
+    headed f (outline_of (finished c)) file.page_is loadable linkable.holds_tls (long_enough c f loadable file) in
     let tables = seen_is c f heads loadable file in
     let type = type_is c f heads in
     let read = is_read f c tables linkable.named fitting.values fitting.sizes fitting.places fitting.addends
-    linkable.relocations in
-    (all_kept f heads.rules (entries_kept f c tables type)
-    (tables_kept f c heads read linkable.symbols linkable.relocations linkable.rising),
-    spelled_same (spelled f) (finished c) (kind_is f c tables type linkable.flagged) (parts_are f (finished c) heads file)
-    tables.array_is heads.got_is heads.tls_is (symbols_are f c read) (names_are f c read linkable.symbols)
-    (relocations_are f c read) (flagged_is f c tables))
+    linkable.relocations in (
+      all_kept f heads.rules (entries_kept f c tables type)
+          (tables_kept f c heads read linkable.symbols linkable.relocations linkable.rising),
+      spelled_same (spelled f) (finished c) (kind_is f c tables type linkable.flagged) (parts_are f (finished c) heads file)
+          tables.array_is heads.got_is heads.tls_is (symbols_are f c read) (names_are f c read linkable.symbols)
+          (relocations_are f c read) (flagged_is f c tables),
+    )

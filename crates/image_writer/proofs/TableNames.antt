@@ -1,7 +1,7 @@
 -- The names of the symbols, as the string table holds them.
-use Rattle.std.proofs.Common.{◌≡◌, ◌≢◌, ◌+◌, ◌-◌, ◌<◌, ◌≤◌, ◌==◌, ℕ, zero, suc, Bool, true, false, List, [], ◌∷◌, ◌++◌, All}
+use Rattle.std.proofs.Common.{◌≡◌, ◌≢◌, ◌+◌, ◌<◌, ◌≤◌, ◌==◌, ℕ, zero, suc, true, false, List, [], ◌∷◌, ◌++◌, All}
 use Rattle.std.proofs.Common.{length, take, drop, get_or, sum_by, codes, refl, sym, ap, ◌∙◌, arith, length-append, length-drop}
-use Rattle.std.proofs.Common.{get_or-drop, get_or-take, append_assoc, subst, slice_index, take_at, drop_at, drop-drop}
+use Rattle.std.proofs.Common.{get_or-drop, get_or-take, append_assoc, slice_index, take_at, drop_at, drop-drop}
 use Rattle.std.specs.List.{flat_map, before_first}
 use Rattle.std.proofs.lemmas.List.{drop_more, get_or_at, get_or_append_left}
 use Rattle.std.proofs.lemmas.List.Sums.{sum_by-cons, position_or_len_is}
@@ -89,9 +89,12 @@ pub name_ends : (names : List (List ℕ)) (k at : ℕ) (f : List ℕ) → k < le
 name_ends names k at f below here =
     let inside = name_inside names k below in
     let end : ℕ = begin names k + length (get_or names k []) in
-    let within : end < length (flat_map name_bytes names) = omega (arith, inside) in
-    (end, omega arith, within,
-    byte_in_file (length (flat_map name_bytes names)) at end f (flat_map name_bytes names) here within ∙ zero_at names k below)
+    let within : end < length (flat_map name_bytes names) = omega (arith, inside) in (
+      end,
+      omega arith,
+      within,
+      byte_in_file (length (flat_map name_bytes names)) at end f (flat_map name_bytes names) here within ∙ zero_at names k below,
+    )
 
 -- in a file that holds the table, the name of the function of the run time stands with its zero byte
 pub runtime_named : (names : List (List ℕ)) (k at : ℕ) (f : List ℕ) → k < length names
@@ -101,9 +104,10 @@ unfolding part_at
 runtime_named names k at f below here named =
     let inside = name_inside names k below in
     let long : length (get_or names k []) ≡ 14 = ap length named in
-    let within : begin names k + 15 ≤ length (flat_map name_bytes names) = omega (arith, inside, long) in
-    (within,
-    sym (part_at-own 15 (begin names k) (length (flat_map name_bytes names)) at f within)
-    ∙ ap (part_at 15 (begin names k)) here
-    ∙ ap (take 15) (name_at names k below)
-    ∙ ap (λ n. take 15 (n ++ (0 ∷ flat_map name_bytes (drop (k + 1) names)))) named)
+    let within : begin names k + 15 ≤ length (flat_map name_bytes names) = omega (arith, inside, long) in (
+      within,
+      sym (part_at-own 15 (begin names k) (length (flat_map name_bytes names)) at f within)
+          ∙ ap (part_at 15 (begin names k)) here
+          ∙ ap (take 15) (name_at names k below)
+          ∙ ap (λ n. take 15 (n ++ (0 ∷ flat_map name_bytes (drop (k + 1) names)))) named,
+    )

@@ -1,6 +1,6 @@
 -- The outline of finished contents, and where a file of it holds the dynamic tables.
-use Rattle.std.proofs.Common.{◌≡◌, ◌+◌, ◌-◌, ◌^◌, ◌<◌, ◌≤◌, ℕ, List, [], ◌∷◌, ◌++◌, length, get_or, map, take, drop, Some, min, slice_get}
-use Rattle.std.proofs.Common.{refl, sym, ap, ◌∙◌, arith, length-take, length-drop, length-append}
+use Rattle.std.proofs.Common.{◌≡◌, ◌+◌, ◌-◌, ◌^◌, ◌<◌, ◌≤◌, ℕ, List, [], ◌∷◌, ◌++◌, length, get_or, drop, Some}
+use Rattle.std.proofs.Common.{refl, ap, ◌∙◌, arith, length-take, length-drop}
 use Rattle.std.proofs.lemmas.List.{get_or-map, get_or_append_left, get_or_push, length-map, length_push}
 use Rattle.std.proofs.lemmas.Option.{slice_get-get_or}
 use Rattle.elf_records.specs.Fields.{part_at}
@@ -8,19 +8,17 @@ use Rattle.elf_records.specs.declared.program_header.Segment.{Segment}
 use Rattle.image_faults.specs.declared.places.FileKind.{FileKind}
 use Rattle.image_faults.specs.declared.places.FileKind.TheVariants.{Exe, Pie, Module}
 use Rattle.image_faults.specs.Parts.{header, last, loads, segment}
-use Rattle.image_faults.specs.Array as seen
 use Rattle.image_file.specs.Spelled.{Part}
-use Rattle.image_writer.specs.declared.outline.PartPlace.{PartPlace}
-use Rattle.image_writer.specs.Outlined.{Outlined, end_of, last_part, no_part, outline_of, part, place_of}
+use Rattle.image_writer.specs.Outlined.{end_of, last_part, no_part, outline_of, part, place_of}
 use Rattle.image_writer.specs.Page.{base_of, dynamic_header, file_header, file_offset, load_header, type_of}
 use Rattle.image_writer.specs.Contents.{Contents, tables_address}
-use Rattle.image_writer.specs.Tables.{array_size, finished, tables, tables_part}
+use Rattle.image_writer.specs.Tables.{finished, tables, tables_part}
 use Rattle.image_writer.specs.Loadable.{IsLoadable, IsRightPart}
 use Rattle.image_writer.specs.Files.{IsFileOf}
 use Rattle.image_writer.proofs.Headed.{IsHeaded}
 use Rattle.image_writer.proofs.TableSeen.{IsSeen}
 
--- its parts
+-- it has one part more than the contents
 pub part_count : (c : Contents) → length (outline_of (finished c)).parts ≡ length c.parts + 1
 unfolding finished
 part_count c = length-map (c.parts ++ (tables_part c ∷ [])) place_of ∙ length_push c.parts (tables_part c)
@@ -33,6 +31,7 @@ tables_place c =
     get_or-map place_of (c.parts ++ (tables_part c ∷ [])) (length c.parts) (tables_part c) no_part (omega (arith, more))
     ∙ ap place_of (get_or_push c.parts (tables_part c) (tables_part c) (length c.parts) refl)
 
+-- the last of its parts is that of the tables
 pub last_place : (c : Contents) → last_part (outline_of (finished c)) ≡ place_of (tables_part c)
 last_place c =
     let count = part_count c in
@@ -64,11 +63,13 @@ tables_right c loadable =
     let count = part_count c in
     loadable.parts (length c.parts) (omega (arith, count))
 
+-- no image begins above 4 MiB
 base_low : (kind : FileKind) → base_of kind ≤ 4194304
 base_low Exe = omega arith
 base_low Pie = omega arith
 base_low Module = omega arith
 
+-- the tables end below 68 MiB
 pub tables_small : (c : Contents) → IsLoadable (outline_of (finished c)) → tables_address c + length (tables c) ≤ 71303168
 unfolding finished tables_part
 tables_small c loadable =
@@ -88,9 +89,11 @@ lies n at f bytes here long some =
     let same = ap length here in
     omega (arith, first, second, same)
 
+-- the end of a part, as an offset in the file
 offset_end : (base address size : ℕ) → base ≤ address → address + size + 4096 - base ≡ address + 4096 - base + size
 offset_end base address size above = omega arith
 
+-- the file is as long as its headers say
 pub long_enough : (c : Contents) (f : List ℕ) → IsLoadable (outline_of (finished c)) → IsFileOf f (finished c)
     → file_offset (outline_of (finished c)).kind (end_of (last_part (outline_of (finished c)))) ≤ length f
 unfolding finished tables_part

@@ -1,7 +1,7 @@
 -- Rows that stand behind one another, and pieces of a list of bytes: what is read at their places.
-use Rattle.std.proofs.Common.{◌≡◌, ◌+◌, ◌*◌, ◌<◌, ◌≤◌, ℕ, zero, suc, List, [], ◌∷◌, ◌++◌, length, take, drop, get_or}
+use Rattle.std.proofs.Common.{◌≡◌, ◌+◌, ◌*◌, ◌<◌, ◌≤◌, ℕ, zero, suc, List, [], ◌∷◌, ◌++◌, length, get_or}
 use Rattle.std.proofs.Common.{refl, sym, ap, ◌∙◌, arith, length-append, append_assoc, mul-zero, mul-suc, take_all}
-use Rattle.std.proofs.Common.{not-suc-le-zero, zero-add, append-nil, ◌^◌}
+use Rattle.std.proofs.Common.{append-nil, ◌^◌}
 use Rattle.std.specs.List.{flat_map}
 use Rattle.elf_records.specs.Fields.{part_at, number_at, bytes_of}
 use Rattle.elf_records.specs.Laws.{part_at-append, part_at-behind, part_at-own, number_at-own, number_again}
@@ -39,16 +39,18 @@ row_at f w wide (x ∷ xs) (suc k) d below =
     ∙ part_at-behind w (w * k) (f x) (flat_map f xs)
     ∙ row_at f w wide xs k d (omega arith)
 
--- bytes in the first of six pieces, in the second, in the fourth, in the fifth and in the last
+-- bytes in the first of some pieces
 pub in_first : (n at : ℕ) (a rest : List ℕ) → at + n ≤ length a → part_at n at (a ++ rest) ≡ part_at n at a
 in_first n at a rest within = part_at-append n at a rest within
 
+-- in the second
 pub in_second : (n start at : ℕ) (a b rest : List ℕ) → start ≡ length a → at + n ≤ length b
     → part_at n (start + at) (a ++ (b ++ rest)) ≡ part_at n at b
 in_second n start at a b rest place within =
     ap (λ s. part_at n (s + at) (a ++ (b ++ rest))) place
     ∙ part_at-behind n at a (b ++ rest) ∙ part_at-append n at b rest within
 
+-- in the third
 pub in_third : (n start at : ℕ) (a b c rest : List ℕ) → start ≡ length a + length b → at + n ≤ length c
     → part_at n (start + at) (a ++ (b ++ (c ++ rest))) ≡ part_at n at c
 in_third n start at a b c rest place within =
@@ -56,6 +58,7 @@ in_third n start at a b c rest place within =
     ap (part_at n (start + at)) (sym (append_assoc a b (c ++ rest)))
     ∙ in_second n start at (a ++ b) c rest (omega arith) within
 
+-- in the fourth
 pub in_fourth : (n start at : ℕ) (a b c d rest : List ℕ) → start ≡ length a + length b + length c → at + n ≤ length d
     → part_at n (start + at) (a ++ (b ++ (c ++ (d ++ rest)))) ≡ part_at n at d
 in_fourth n start at a b c d rest place within =
@@ -63,6 +66,7 @@ in_fourth n start at a b c d rest place within =
     ap (part_at n (start + at)) (sym (append_assoc a b (c ++ (d ++ rest))))
     ∙ in_third n start at (a ++ b) c d rest (omega arith) within
 
+-- in the fifth
 pub in_fifth : (n start at : ℕ) (a b c d e rest : List ℕ) → start ≡ length a + length b + length c + length d
     → at + n ≤ length e → part_at n (start + at) (a ++ (b ++ (c ++ (d ++ (e ++ rest))))) ≡ part_at n at e
 in_fifth n start at a b c d e rest place within =
@@ -70,6 +74,7 @@ in_fifth n start at a b c d e rest place within =
     ap (part_at n (start + at)) (sym (append_assoc a b (c ++ (d ++ (e ++ rest)))))
     ∙ in_fourth n start at (a ++ b) c d e rest (omega arith) within
 
+-- all of the sixth, which is the last
 pub in_last : (start : ℕ) (a b c d e s : List ℕ)
     → start ≡ length a + length b + length c + length d + length e
     → part_at (length s) start (a ++ (b ++ (c ++ (d ++ (e ++ s))))) ≡ s

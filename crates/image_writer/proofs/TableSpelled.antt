@@ -1,6 +1,6 @@
 -- A file of an image spells its parts, and one of finished contents their symbols, names and relocations.
-use Rattle.std.proofs.Common.{◌≡◌, ◌≢◌, ◌+◌, ◌-◌, ◌<◌, ◌≤◌, ℕ, zero, suc, Bool, List, [], ◌∷◌, ◌++◌, Option, Some, All, length, get_or}
-use Rattle.std.proofs.Common.{slice_range, map, refl, sym, ap, ◌∙◌, arith}
+use Rattle.std.proofs.Common.{◌≡◌, ◌≢◌, ◌+◌, ◌-◌, ◌<◌, ◌≤◌, ℕ, zero, suc, Bool, List, [], Option, All, length, get_or}
+use Rattle.std.proofs.Common.{slice_range, refl, ap, ◌∙◌, arith}
 use Rattle.std.proofs.lemmas.List.{get_or-map, get_or_default, length-map, same_lists}
 use Rattle.std.proofs.lemmas.Option.{get_or_from_slice_get, slice_get-get_or}
 use Rattle.elf_records.specs.Fields.{part_at}
@@ -47,9 +47,11 @@ class_back Executable = refl
 class_back ReadOnly = refl
 class_back Writable = refl
 
+-- what is left of a sum
 cut : (a n : ℕ) → a + n - a ≡ n
 cut a n = omega arith
 
+-- a part by its fields
 part_made : PartClass → ℕ → List ℕ → Part
 part_made class address bytes = record { class = class; address = address; bytes = bytes }
 
@@ -129,6 +131,7 @@ spelled_made kind parts array_size got tls symbols names relocations is_flagged 
   is_flagged = is_flagged;
 }
 
+-- images of the same fields are the same
 pub spelled_same : (s t : Spelled) → s.kind ≡ t.kind → s.parts ≡ t.parts → s.array_size ≡ t.array_size → s.got ≡ t.got
     → s.tls ≡ t.tls → s.symbols ≡ t.symbols → s.names ≡ t.names → s.relocations ≡ t.relocations
     → s.is_flagged ≡ t.is_flagged → s ≡ t

@@ -1,14 +1,11 @@
 -- A file of finished contents keeps the rules of its thread-local symbols and relocations, and so all rules of its tables.
-use Rattle.std.proofs.Common.{◌≡◌, ◌≢◌, ◌+◌, ◌<◌, ◌≤◌, ◌⊎◌, ◌≤ℤ◌, ◌<ℤ◌, ℕ, ℤ, pos, zero, suc, Bool, true, false, List, [], ◌∷◌}
-use Rattle.std.proofs.Common.{Option, Some, None, All, IsSome, IsTrue, length, get_or, is_some, if◌then◌else◌}
+use Rattle.std.proofs.Common.{◌≡◌, ◌+◌, ◌<◌, ◌≤◌, ◌⊎◌, ◌<ℤ◌, ℕ, ℤ, pos, zero, suc, Bool, true, false, List}
+use Rattle.std.proofs.Common.{Option, Some, None, All, IsSome, IsTrue, length, get_or, if◌then◌else◌}
 use Rattle.std.proofs.Common.{refl, sym, ap, ◌∙◌, arith, inl, inr, subst}
-use Rattle.std.proofs.lemmas.Bool.{cases_eq}
 use Rattle.std.specs.Int.Signed.{<ℤ-≤ℤ_trans, <ℤ_irrefl}
-use Rattle.elf_records.specs.Records.{rela_kind, rela_symbol, symbol_kind}
+use Rattle.elf_records.specs.Records.{symbol_kind}
 use Rattle.elf_records.specs.declared.program_header.Segment.{Segment}
 use Rattle.elf_records.specs.declared.symbol.SymbolEntry.{SymbolEntry}
-use Rattle.elf_records.specs.declared.relocation.Rela.{Rela}
-use Rattle.elf_records.specs.declared.symbol.TheConstants.{STT_TLS}
 use Rattle.image_faults.specs.declared.loader_kind.LoaderKind.{LoaderKind}
 use Rattle.image_faults.specs.declared.loader_kind.LoaderKind.TheVariants.{JumpSlot, Relative, Module, ModuleOffset}
 use Rattle.image_faults.specs.declared.loader_kind.LoaderKind.TheVariants.{ThreadOffset, Descriptor}
@@ -16,7 +13,6 @@ use Rattle.image_faults.specs.declared.rule.TableRule.{TableRule}
 use Rattle.image_faults.specs.declared.rule.TableRule.TheVariants.{Symbol, Relocation, TlsSymbol, TlsRelocation}
 use Rattle.image_faults.specs.declared.rule.Rule.TheVariants.{Table}
 use Rattle.image_faults.specs.Parts.{has_tls, loads, segment, tls, tls_size}
-use Rattle.image_faults.specs.Array.{relocation_count, symbol_count}
 use Rattle.image_faults.specs.Symbols as found
 use Rattle.image_faults.specs.Symbols.{IsPastTls}
 use Rattle.image_faults.specs.Relocations.{IsOutsideTls, IsOwnOutside, LacksOwnTls, rela}
@@ -27,7 +23,7 @@ use Rattle.image_file.specs.declared.relocation.ImageRelocation.{ImageRelocation
 use Rattle.image_file.specs.Spelled.{tls_of}
 use Rattle.image_writer.specs.Outlined.{outline_of}
 use Rattle.image_writer.specs.Contents.{Contents, symbol}
-use Rattle.image_writer.specs.Tables.{finished, name_start, symbol_entry, symbol_total, type_number}
+use Rattle.image_writer.specs.Tables.{finished, name_start, symbol_entry, symbol_total}
 use Rattle.image_writer.specs.Linkable as owed
 use Rattle.image_writer.specs.Linkable.{AreRising, HasOwnTls, IsOffset, IsRightRelocation, IsRightSymbol}
 use Rattle.image_writer.proofs.Headed.{IsHeaded}
@@ -39,16 +35,18 @@ use Rattle.image_writer.proofs.TableRules.{IsRead, addend_told, relocation_right
 no_relocation : ImageRelocation
 no_relocation = record { place = 0; kind = Relative; symbol = 0; addend = pos 0 }
 
--- how many bytes the TLS segment has, and whether there is one
+-- how many bytes the TLS segment has, by its header
 size_by : (b : Bool) (s : Segment) (o : Option TlsPart) → tls_of (if b then Some s else None) ≡ o
     → (if b then s.memsz else 0) ≡ owed.tls_size o
 size_by true s o told = ap owed.tls_size told
 size_by false s o told = ap owed.tls_size told
 
+-- the segment of the file has as many bytes as that of the contents
 tls_size_is : (f : List ℕ) (c : Contents) → IsHeaded f (outline_of (finished c)) → tls_size f ≡ owed.tls_size c.tls
 unfolding finished
 tls_size_is f c headed = size_by (has_tls f) (segment f (loads f + 1)) c.tls headed.tls_is
 
+-- the file has a segment where the contents have one
 has_tls_is : (f : List ℕ) (c : Contents) → IsHeaded f (outline_of (finished c)) → IsSome c.tls → IsTrue (has_tls f)
 unfolding finished
 has_tls_is f c headed some = headed.has_tls_is ∙ some
@@ -66,12 +64,12 @@ symbol_inside f c headed r k below right past =
     let value : (found.symbol f k).value ≡ (symbol c k).value = ap (λ (e : SymbolEntry). e.value) same in
     let size = tls_size_is f c headed in
     elim right [
-        inl first ↦
-        let none : (symbol c 0).kind ≡ Tls = subst (λ n. (symbol c n).kind ≡ Tls) first kind in cc
+      | inl first ↦
+          let none : (symbol c 0).kind ≡ Tls = subst (λ n. (symbol c n).kind ≡ Tls) first kind in cc
       | inr it ↦
-        let inside = it.inside kind defined in
-        let beyond = past.2 in
-        omega (arith, size, value, inside, beyond)
+          let inside = it.inside kind defined in
+          let beyond = past.2 in
+          omega (arith, size, value, inside, beyond)
     ]
 
 -- an offset in the segment does not lie outside
@@ -81,6 +79,7 @@ not_outside f c size addend within (inl below) = <ℤ_irrefl (<ℤ-≤ℤ_trans 
 not_outside f c size addend within (inr above) =
     <ℤ_irrefl (<ℤ-≤ℤ_trans (subst (λ n. pos n <ℤ addend) size above) within.1)
 
+-- a relocation lacks nothing of the segment that the contents have for it
 not_lacking : (f : List ℕ) (c : Contents) → IsHeaded f (outline_of (finished c)) → (kind : LoaderKind) (addend : ℤ)
     → HasOwnTls c kind addend → LacksOwnTls f (Some kind) addend → ⊥
 not_lacking f c headed JumpSlot addend own lacks = lacks
@@ -92,6 +91,7 @@ not_lacking f c headed ThreadOffset addend own (inr outside) = not_outside f c (
 not_lacking f c headed Descriptor addend own (inl lacks) = lacks (has_tls_is f c headed own.0)
 not_lacking f c headed Descriptor addend own (inr outside) = not_outside f c (tls_size_is f c headed) addend own.1 outside
 
+-- a relocation of the image itself lies in the segment
 relocation_inside : (f : List ℕ) (c : Contents) → IsHeaded f (outline_of (finished c)) → IsRead f c
     → All (IsRightRelocation c) c.relocations → (k : ℕ) (d : ImageRelocation) → k < length c.relocations → IsOwnOutside f k → ⊥
 relocation_inside f c headed r right k d below outside =
