@@ -23,3 +23,16 @@ pub mod SameRules
 pub mod SameSpelled
 pub mod SameTables
 pub mod Seen
+pub mod TableArray
+pub mod TableEntries
+pub mod TableKinds
+pub mod TableNames
+pub mod TableOutline
+pub mod TablePlaces
+pub mod TableRows
+pub mod TableRules
+pub mod TableSeen
+pub mod TableSizes
+pub mod TableSpelled
+pub mod TableTls
+pub mod TableTold
