@@ -1,14 +1,11 @@
-//! Reading images: what they spell, what a change of them answers, and that no front of one is taken.
+//! Reading images: what a change of them answers, and that no front of one is taken.
 
 use crate::cases::CASES;
 use crate::images::{ANYWHERE, DYNAMIC, MODULE, PROGRAM, WRITTEN};
-use crate::spelled;
 use image_faults::fault_free;
 use image_file::{FaultKind, Image, ImageFault, SymbolBinding, Visibility, read};
-use image_text::push_shown;
 use std::alloc::{AllocError, Global};
 use std::process::Abort;
-use std::str;
 use std::test::Fail;
 
 /// Writes bytes, given in hexadecimal digits, at an offset.
@@ -75,29 +72,6 @@ fn finds_the_first_fault(rt: HostRuntime) -> Result<(), Fail> {
             check(&rt, line)?;
         }
     }
-    Ok(())
-}
-
-/// Compares what an image spells with what another program printed of it.
-fn spells(rt: &(impl Abort + AllocGlobal), pieces: &str, want: &str) -> Result<(), Fail> {
-    let bytes = bytes_of(rt.alloc(), pieces)?;
-    let image = read(rt.alloc(), bytes.as_slice())?;
-    let mut found = Vec::new(rt.alloc());
-    push_shown(&image, &mut found)?;
-    let found = str::from_utf8(found.as_slice())
-        .ok()
-        .ok_or("names are text")?;
-    assert_eq!(rt; found, want);
-    Ok(())
-}
-
-#[test]
-fn tells_what_an_image_spells(rt: HostRuntime) -> Result<(), Fail> {
-    spells(&rt, PROGRAM, spelled::PROGRAM)?;
-    spells(&rt, ANYWHERE, spelled::ANYWHERE)?;
-    spells(&rt, MODULE, spelled::MODULE)?;
-    spells(&rt, WRITTEN, spelled::WRITTEN)?;
-    spells(&rt, DYNAMIC, spelled::DYNAMIC)?;
     Ok(())
 }
 
