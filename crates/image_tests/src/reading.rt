@@ -20,7 +20,7 @@ fn put(alloc: Global, bytes: &mut Vec<u8>, at: &str, digits: &str) -> Result<(),
 }
 
 /// The bytes of an image.
-fn bytes_of(alloc: Global, pieces: &str) -> Result<Vec<u8>, Fail> {
+pub(crate) fn bytes_of(alloc: Global, pieces: &str) -> Result<Vec<u8>, Fail> {
     let (size, pieces) = pieces.split_once('\n').ok_or("a size")?;
     let size: usize = size.parse()?;
     let mut bytes = vec![in alloc; 0u8; size]?;
