@@ -2,3 +2,9 @@ pub mod Agreement
 pub mod Headed
 pub mod Linked
 pub mod Loaded
+pub mod Puts
+pub mod Hashes
+pub mod Rows
+pub mod Strings
+pub mod Places
+pub mod Headings

@@ -1,5 +1,6 @@
 -- What a draft tells of an image's dynamic tables, wherever the bytes of its parts stand.
 use Rattle.std.specs.Prelude.{◌≡◌, ◌+◌, ◌*◌, ◌^◌, ◌<◌, ℕ, Bool, true, false, List, [], ◌∷◌, length, map, FitsSigned}
+use Rattle.std.specs.Prelude.{◌==◌, if◌then◌else◌}
 use Rattle.std.specs.Int.{w64, next_multiple_of}
 use Rattle.elf_records.specs.declared.dynamic.DynamicEntry.{DynamicEntry}
 use Rattle.elf_records.specs.declared.dynamic.TheConstants.{DT_HASH, DT_STRTAB, DT_SYMTAB, DT_RELA, DT_RELASZ}
@@ -61,6 +62,10 @@ abbrev pub leading_entries : Bool → ℕ → ℕ → List DynamicEntry
 leading_entries false place count = []
 leading_entries true place count =
     array_entry DT_RELA place ∷ array_entry DT_RELASZ (24 * count) ∷ array_entry DT_RELAENT 24 ∷ []
+
+-- the word of the one bucket
+abbrev pub bucket : ℕ → ℕ
+bucket total = if total == 1 then 0 else 1
 
 -- contents that a draft tells, with their tables at an address
 pub record IsTold (d : Draft) (address : ℕ) (c : Contents) : Type 0 where

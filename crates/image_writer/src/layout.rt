@@ -111,14 +111,21 @@ pub fn layout_of(draft: &Draft<'_>) -> Layout
     }
 }
 
+/// Where the last part ends.
+fn places_end(draft: &Draft<'_>) -> u64
+    requires { places_end draft.now.kind draft.now.parts.now < 2 ^ 64 }
+    ensures { result ≡ places_end draft.now.kind draft.now.parts.now }
+{
+    match draft.parts.last() {
+        Some(part) => part.address + part.size,
+        None => base_of(draft.kind),
+    }
+}
+
 /// The address at which the tables begin: the next page behind the parts.
 pub fn next_page(draft: &Draft<'_>) -> u64
     requires { next_page draft.now < 2 ^ 64 }
     ensures { result ≡ next_page draft.now }
 {
-    let end = match draft.parts.last() {
-        Some(part) => part.address + part.size,
-        None => base_of(draft.kind),
-    };
-    end.next_multiple_of(PAGE_SIZE)
+    places_end(draft).next_multiple_of(PAGE_SIZE)
 }

@@ -8,7 +8,7 @@ ghost use Rattle.image_writer.specs.Headers.{IsNear, header_of, loads_bytes};
 ghost use Rattle.image_writer.specs.Loadable.{IsLoadable, HoldsTls};
 ghost use Rattle.image_writer.specs.Outlined.{outlined, part, last_part};
 ghost use Rattle.image_writer.specs.Page.{base_of, flags_of, type_of, file_offset, load_header, dynamic_header};
-ghost use Rattle.image_writer.specs.Page.{tls_headers, relro_headers, program_headers, page};
+ghost use Rattle.image_writer.specs.Page.{tls_headers, relro_header, relro_headers, program_headers, page};
 
 use crate::outline::{Outline, PartPlace};
 use crate::put::put_zeros;
@@ -150,24 +150,31 @@ fn tls_header(outline: &Outline<'_>) -> Option<Segment>
     })
 }
 
-/// The program header of the part that the loader alone writes, if there is one.
+/// The program header of the part that the loader alone writes.
 #[tactic(auto, unfolding(crate::specs::Page::relro_header))]
-fn relro_header(outline: &Outline<'_>) -> Option<Segment>
-    requires loadable { IsLoadable (outlined outline.now) }
-    ensures { option_to_list result ≡ relro_headers (outlined outline.now) outline.now.got }
+fn relro_header(kind: FileKind, part: &PartPlace) -> Segment
+    requires { IsNear kind part.now.address }
+    ensures { result ≡ relro_header kind part.now }
 {
-    let got = outline.got?;
-    let part = &outline.parts[got as usize];
-    Some(Segment {
+    Segment {
         kind: PT_GNU_RELRO,
         flags: PF_R,
-        offset: file_offset(outline.kind, part.address),
+        offset: file_offset(kind, part.address),
         vaddr: part.address,
         paddr: part.address,
         filesz: part.size,
         memsz: part.size,
         align: 1,
-    })
+    }
+}
+
+/// The same, if there is such a part.
+fn got_header(outline: &Outline<'_>) -> Option<Segment>
+    requires loadable { IsLoadable (outlined outline.now) }
+    ensures { option_to_list result ≡ relro_headers (outlined outline.now) outline.now.got }
+{
+    let got = outline.got?;
+    Some(relro_header(outline.kind, &outline.parts[got as usize]))
 }
 
 /// Puts a LOAD for each part.
@@ -205,7 +212,7 @@ fn put_headers(outline: &Outline<'_>, out: &mut [u8], at: usize)
     let next = next + SEGMENT_SIZE;
     put_if(tls_header(outline), out, next);
     let next = next + SEGMENT_SIZE * usize::from(outline.tls.is_some());
-    put_if(relro_header(outline), out, next);
+    put_if(got_header(outline), out, next);
 }
 
 /// How many program headers there are.

@@ -9,7 +9,7 @@ ghost use Rattle.image_writer.specs.Contents.{Contents};
 ghost use Rattle.image_writer.specs.Tables.{array, array_size, hash_words, chain};
 ghost use Rattle.image_writer.specs.Tables.{symbol_total, symbol_rows, relocation_entry, strings, tables};
 ghost use Rattle.image_writer.specs.Told.{told, layout_of, tables_size, leading_entries, place_entries};
-ghost use Rattle.image_writer.specs.Told.{IsTold, IsSymbolFitting, IsRelocationFitting};
+ghost use Rattle.image_writer.specs.Told.{bucket, IsTold, IsSymbolFitting, IsRelocationFitting};
 
 use crate::draft::{Draft, NamedSymbol};
 use crate::entries::{null_symbol, relocation_entry, symbol_entry};
@@ -114,6 +114,13 @@ fn put_array(draft: &Draft<'_>, layout: &Layout, address: u64, out: &mut [u8], a
     write_dynamic(&entry(DT_NULL, 0), out, next as u64);
 }
 
+/// The word of the one bucket: the number of the first symbol, or 0 where there is none.
+fn bucket(total: u32) -> u32
+    ensures { result ≡ bucket total }
+{
+    if total == 1 { 0 } else { 1 }
+}
+
 /// The word of a symbol in the hash table's chains: the number of the next, or 0 behind the last.
 fn chain(total: u32, number: u32) -> u32
     requires { number < total }
@@ -134,7 +141,7 @@ fn put_hash(total: u32, out: &mut [u8], at: usize)
 {
     put_word(out, at, 1);
     put_word(out, at + 4, total);
-    put_word(out, at + 8, if total == 1 { 0 } else { 1 });
+    put_word(out, at + 8, bucket(total));
     for number in 0..total {
         put_word(out, at + 12 + 4 * number as usize, chain(total, number));
     }
