@@ -1,6 +1,7 @@
 -- The page of headers, put piece by piece.
 use Rattle.std.proofs.Common.{ℕ, ◌+◌, ◌-◌, ◌*◌, ◌≤◌, ◌≡◌, Bool, true, false, Option, Some, None, List, [], ◌∷◌, ◌++◌, length, map, replicate, refl, sym, ap, ◌∙◌, arith, append_assoc, length-append}
 use Rattle.std.specs.Prelude.{is_some}
+use mir.Val.{bool_byte}
 use Rattle.std.specs.List.{flat_map}
 use Rattle.std.proofs.lemmas.List.{length-map}
 use Rattle.std.proofs.lemmas.List.Concat.{flat_map-append}
@@ -15,6 +16,11 @@ use Rattle.image_writer.specs.Loadable.{one_if_some}
 use Rattle.image_writer.specs.Outlined.{Outlined}
 use Rattle.image_writer.specs.Page.{load_header, dynamic_header, tls_headers, relro_headers, program_headers, file_header, page}
 use Rattle.image_writer.proofs.Puts.{length-items, put_next}
+
+-- what a test of an option counts
+pub one_if-is : {X : Type 0} (o : Option X) (b : Bool) (n : ℕ) → b ≡ is_some o → n ≡ bool_byte b → n ≡ one_if_some o
+one_if-is None b n is counted = counted ∙ ap bool_byte is
+one_if-is (Some x) b n is counted = counted ∙ ap bool_byte is
 
 -- how many headers there are
 pub tls_headers-count : (kind : FileKind) (t : Option TlsPart) → length (tls_headers kind t) ≡ one_if_some t

@@ -1,13 +1,12 @@
-use Rattle.std.proofs.Common.{rules, ◌≡◌, ◌+◌, ◌*◌, ◌^◌, ◌<◌, ◌≤◌, length, option_to_list, ℕ, ◌-◌, ◌/◌, ◌%◌, Bool, true, false, nat_eq, nat_lt, List, [], ◌∷◌, ◌++◌, slice_index_or, slice_set, bit_and, bit_or, Fits, w8, w32, w64, Bor, MutBor}
-use Rattle.std.specs.List.{flat_map}
-use Rattle.elf_records.specs.Fields.{splice}
-use Rattle.elf_records.specs.Records.{segment_bytes}
-use Rattle.image_writer.specs.Headers.{IsNear, header_of, loads_bytes}
-use Rattle.image_writer.specs.Loadable.{IsLoadable, HoldsTls}
-use Rattle.image_writer.specs.Outlined.{outlined, part, last_part}
-use Rattle.image_writer.specs.Page.{base_of, flags_of, type_of, file_offset, load_header, dynamic_header, tls_headers, relro_headers, program_headers, page}
+use Rattle.std.proofs.Common.{arith}
+use Rattle.image_writer.specs.Outlined.{outlined}
+use Rattle.image_writer.proofs.Headings.{one_if-is, program_headers-count}
 use Rattle.image_writer.proofs.page.header_count.Goals as goal
 
--- src/page.rt:212:1
 pub returns-clause-count : goal.returns-clause-count
-returns-clause-count c = ?
+returns-clause-count c =
+    let o = c.args.outline.now in
+    let tls = one_if-is o.tls c.is_some.result c.from.result c.is_some.ensures c.from.ensures in
+    let got = one_if-is o.got c.is_some-2.result c.from-2.result c.is_some-2.ensures c.from-2.ensures in
+    let all = program_headers-count (outlined o) in
+    omega (arith, tls, got, all)
