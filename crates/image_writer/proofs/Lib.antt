@@ -8,3 +8,4 @@ pub mod Rows
 pub mod Strings
 pub mod Places
 pub mod Headings
+pub mod Layouts

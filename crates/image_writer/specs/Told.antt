@@ -1,10 +1,13 @@
 -- What a draft tells of an image's dynamic tables, wherever the bytes of its parts stand.
-use Rattle.std.specs.Prelude.{◌≡◌, ◌+◌, ◌*◌, ◌^◌, ◌<◌, ℕ, Bool, true, false, List, [], ◌∷◌, length, map, FitsSigned}
-use Rattle.std.specs.Prelude.{◌==◌, if◌then◌else◌}
+use Rattle.std.specs.Prelude.{◌+◌, ◌-◌, ◌*◌, ◌^◌, ◌<◌, ◌==◌, ℕ, Bool, true, false, List, [], ◌∷◌, ◌++◌, length, replicate}
+use Rattle.std.specs.Prelude.{FitsSigned, if◌then◌else◌}
+use Rattle.std.specs.List.{flat_map}
 use Rattle.std.specs.Int.{w64, next_multiple_of}
 use Rattle.elf_records.specs.declared.dynamic.DynamicEntry.{DynamicEntry}
 use Rattle.elf_records.specs.declared.dynamic.TheConstants.{DT_HASH, DT_STRTAB, DT_SYMTAB, DT_RELA, DT_RELASZ}
-use Rattle.elf_records.specs.declared.dynamic.TheConstants.{DT_RELAENT, DT_STRSZ, DT_SYMENT}
+use Rattle.elf_records.specs.declared.dynamic.TheConstants.{DT_RELAENT, DT_STRSZ, DT_SYMENT, DT_NULL}
+use Rattle.elf_records.specs.Fields.{bytes_of}
+use Rattle.elf_records.specs.Records.{dynamic_bytes, symbol_bytes, rela_bytes}
 use Rattle.image_faults.specs.declared.places.FileKind.{FileKind}
 use Rattle.image_file.specs.declared.part.PartClass.TheVariants.{ReadOnly}
 use Rattle.image_file.specs.declared.relocation.ImageRelocation.{ImageRelocation}
@@ -13,8 +16,10 @@ use Rattle.image_writer.specs.declared.draft.NamedSymbol.{NamedSymbol}
 use Rattle.image_writer.specs.declared.draft.Draft.{Draft}
 use Rattle.image_writer.specs.declared.layout.Layout.{Layout}
 use Rattle.image_writer.specs.Page.{base_of}
-use Rattle.image_writer.specs.Contents.{Contents, contents_of, tables_address}
-use Rattle.image_writer.specs.Tables.{array_size, symbols_start, relocations_start, strings_start, strings, array_entry}
+use Rattle.image_writer.specs.Contents.{Contents, contents_of}
+use Rattle.image_writer.specs.Tables.{array_size, hash_size, symbols_start, relocations_start, strings_start, strings}
+use Rattle.image_writer.specs.Tables.{array_entry, flags_entries, has_relocations, hash_words, relocation_entry}
+use Rattle.image_writer.specs.Tables.{symbol_rows, symbol_total}
 
 -- the contents that a draft tells, but for the bytes of its parts
 abbrev pub told : Draft → Contents
@@ -67,14 +72,21 @@ leading_entries true place count =
 abbrev pub bucket : ℕ → ℕ
 bucket total = if total == 1 then 0 else 1
 
--- contents that a draft tells, with their tables at an address
-pub record IsTold (d : Draft) (address : ℕ) (c : Contents) : Type 0 where
-  pub address_is : tables_address c ≡ address
-  pub kind_is : c.kind ≡ d.kind
-  pub symbols_are : c.symbols ≡ map (λ (s : NamedSymbol). s.symbol) d.symbols.now
-  pub names_are : c.names ≡ map (λ (s : NamedSymbol). s.name.now) d.symbols.now
-  pub relocations_are : c.relocations ≡ d.relocations.now
-  pub flagged_is : c.is_flagged ≡ d.is_flagged
+-- the array and the tables of contents, were they at an address
+abbrev pub array_at : ℕ → Contents → List DynamicEntry
+array_at address c =
+    place_entries (layout_of c) address
+    ++ (leading_entries (has_relocations c) (address + relocations_start c) (length c.relocations)
+    ++ (flags_entries c.is_flagged c.kind ++ (array_entry DT_NULL 0 ∷ [])))
+
+unfoldable pub tables_at : ℕ → Contents → List ℕ
+tables_at address c =
+    flat_map dynamic_bytes (array_at address c)
+    ++ (flat_map (bytes_of 4) (hash_words (symbol_total c))
+    ++ (replicate (symbols_start c - (array_size c + hash_size c)) 0
+    ++ (flat_map symbol_bytes (symbol_rows c)
+    ++ (flat_map (λ r. rela_bytes (relocation_entry r)) c.relocations
+    ++ strings c))))
 
 -- numbers in the range of their types, as in all that code holds
 abbrev pub IsSymbolFitting : NamedSymbol → Type 0

@@ -1,15 +1,13 @@
 //! The dynamic tables of an image (gABI, "Dynamic Section", "Hash Table", "Symbol Table", "Relocation", "String
 //! Table").
 
-ghost use Rattle.std.specs.Prelude.{◌≡◌, ℕ, ◌+◌, ◌*◌, ◌^◌, ◌<◌, ◌≤◌, All, length, nat_lt, option_to_list};
+ghost use Rattle.std.specs.Prelude.{◌≡◌, ◌+◌, ◌*◌, ◌^◌, ◌<◌, ◌≤◌, All, length, nat_lt, option_to_list};
 ghost use Rattle.std.specs.List.{flat_map};
 ghost use Rattle.elf_records.specs.Fields.{bytes_of, splice};
 ghost use Rattle.elf_records.specs.Records.{dynamic_bytes, symbol_bytes, rela_bytes};
-ghost use Rattle.image_writer.specs.Contents.{Contents};
-ghost use Rattle.image_writer.specs.Tables.{array, array_size, hash_words, chain};
-ghost use Rattle.image_writer.specs.Tables.{symbol_total, symbol_rows, relocation_entry, strings, tables};
-ghost use Rattle.image_writer.specs.Told.{told, layout_of, tables_size, leading_entries, place_entries};
-ghost use Rattle.image_writer.specs.Told.{bucket, IsTold, IsSymbolFitting, IsRelocationFitting};
+ghost use Rattle.image_writer.specs.Tables.{hash_words, chain, symbol_rows, relocation_entry, strings};
+ghost use Rattle.image_writer.specs.Told.{told, layout_of, leading_entries, place_entries};
+ghost use Rattle.image_writer.specs.Told.{array_at, tables_at, bucket, IsSymbolFitting, IsRelocationFitting};
 
 use crate::draft::{Draft, NamedSymbol};
 use crate::entries::{null_symbol, relocation_entry, symbol_entry};
@@ -50,7 +48,7 @@ fn put_entries(entries: &[DynamicEntry], out: &mut [u8], at: usize)
 /// Puts the entries that lead to relocations, if there are any, and answers where the next entry begins.
 fn put_relocation_entries(place: u64, count: u64, out: &mut [u8], at: usize) -> usize
     requires few { 24 * count < 2 ^ 64 }
-    requires room { at + 48 ≤ length out.old }
+    requires room { at + 16 * length (leading_entries (nat_lt 0 count) place count) ≤ length out.old }
     ensures bytes { out.new ≡ splice at (flat_map dynamic_bytes (leading_entries (nat_lt 0 count) place count)) out.old }
     ensures next { result ≡ at + 16 * length (leading_entries (nat_lt 0 count) place count) }
 {
@@ -102,9 +100,9 @@ fn put_places(layout: &Layout, address: u64, out: &mut [u8], at: usize)
 /// Puts the dynamic array.
 fn put_array(draft: &Draft<'_>, layout: &Layout, address: u64, out: &mut [u8], at: usize)
     requires layout { layout.now ≡ layout_of (told draft.now) }
-    requires below { address + tables_size (told draft.now) < 2 ^ 64 }
-    requires room { at + array_size (told draft.now) ≤ length out.old }
-    ensures { (c : Contents) → IsTold draft.now address c → out.new ≡ splice at (flat_map dynamic_bytes (array c)) out.old }
+    requires below { address + layout.now.strings_start < 2 ^ 64 }
+    requires room { at + layout.now.array_size ≤ length out.old }
+    ensures { out.new ≡ splice at (flat_map dynamic_bytes (array_at address (told draft.now))) out.old }
 {
     put_places(layout, address, out, at);
     let next = at + ENTRY_SIZE * PLACE_ENTRIES;
@@ -150,7 +148,7 @@ fn put_hash(total: u32, out: &mut [u8], at: usize)
 /// Puts the symbols.
 fn put_symbols(draft: &Draft<'_>, out: &mut [u8], at: usize)
     requires names { length (strings (told draft.now)) < 2 ^ 32 }
-    requires room { at + 24 * symbol_total (told draft.now) ≤ length out.old }
+    requires room { at + 24 * (length draft.now.symbols.now + 1) ≤ length out.old }
     ensures bytes { out.new ≡ splice at (flat_map symbol_bytes (symbol_rows (told draft.now))) out.old }
     ensures fitting { All IsSymbolFitting draft.now.symbols.now }
 {
@@ -192,10 +190,10 @@ fn put_strings(draft: &Draft<'_>, out: &mut [u8], at: usize)
 /// Puts the tables, whose part begins at an address.
 pub fn put_tables(draft: &Draft<'_>, layout: &Layout, address: u64, out: &mut [u8], at: usize)
     requires layout { layout.now ≡ layout_of (told draft.now) }
-    requires small { tables_size (told draft.now) < 2 ^ 32 }
-    requires below { address + tables_size (told draft.now) < 2 ^ 64 }
-    requires room { at + tables_size (told draft.now) ≤ length out.old }
-    ensures bytes { (c : Contents) → IsTold draft.now address c → out.new ≡ splice at (tables c) out.old }
+    requires small { layout.now.strings_start + layout.now.strings_size < 2 ^ 32 }
+    requires below { address + layout.now.strings_start < 2 ^ 64 }
+    requires room { at + (layout.now.strings_start + layout.now.strings_size) ≤ length out.old }
+    ensures bytes { out.new ≡ splice at (tables_at address (told draft.now)) out.old }
     ensures symbols { All IsSymbolFitting draft.now.symbols.now }
     ensures relocations { All IsRelocationFitting draft.now.relocations.now }
 {
@@ -203,7 +201,7 @@ pub fn put_tables(draft: &Draft<'_>, layout: &Layout, address: u64, out: &mut [u
     put_array(draft, layout, address, out, at);
     let hash = at + layout.array_size as usize;
     put_hash(total as u32, out, hash);
-    let hash_end = hash + (HASH_HEAD as usize + total) * WORD_SIZE as usize;
+    let hash_end = hash + WORD_SIZE as usize * (HASH_HEAD as usize + total);
     let symbols = at + layout.symbols_start as usize;
     put_zeros(out, hash_end, symbols - hash_end);
     put_symbols(draft, out, symbols);
