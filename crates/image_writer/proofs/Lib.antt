@@ -9,3 +9,4 @@ pub mod Strings
 pub mod Places
 pub mod Headings
 pub mod Layouts
+pub mod Laying

@@ -1,6 +1,6 @@
 //! An image's file, written.
 
-ghost use Rattle.std.specs.Prelude.{◌≡◌, ◌+◌, ◌-◌, ◌^◌, ◌<◌, ◌≤◌, ◌++◌, OnOk, OnErr, IfOk, length, map};
+ghost use Rattle.std.specs.Prelude.{◌≡◌, ◌+◌, ◌-◌, ◌^◌, ◌<◌, ◌≤◌, ◌++◌, OnOk, OnErr, IfOk, length, map, replicate};
 ghost use Rattle.elf_records.specs.Fields.{splice};
 ghost use Rattle.image_faults.specs.Faults.{IsImage};
 ghost use Rattle.image_file.specs.Spelled.{spelled};
@@ -12,8 +12,19 @@ ghost use Rattle.image_writer.specs.Written.{laid, written};
 use crate::outline::{Outline, PartPlace};
 use crate::page::{PAGE_SIZE, base_of, file_offset, put_page};
 use crate::put::{grow, put_bytes, put_zeros};
-use image_file::{Image, image_is_spelled};
+use image_file::{Image, ImagePart, image_is_spelled};
 use std::alloc::{AllocError, Global};
+
+/// Where a part lies.
+fn place_of(part: &ImagePart<'_>) -> PartPlace
+    ensures { result ≡ record { class = part.now.class; address = part.now.address; size = length part.now.bytes.now } }
+{
+    PartPlace {
+        class: part.class,
+        address: part.address,
+        size: part.bytes.len() as u64,
+    }
+}
 
 /// Where the parts of an image lie.
 fn places_of(alloc: Global, image: &Image) -> Result<Vec<PartPlace>, AllocError>
@@ -22,12 +33,9 @@ fn places_of(alloc: Global, image: &Image) -> Result<Vec<PartPlace>, AllocError>
 {
     let mut places = Vec::with_capacity(alloc, image.part_count() as usize)?;
     for number in 0..image.part_count() {
-        if let Some(part) = image.part(number) {
-            places.push(PartPlace {
-                class: part.class,
-                address: part.address,
-                size: part.bytes.len() as u64,
-            })?;
+        match image.part(number) {
+            Some(part) => places.push(place_of(&part))?,
+            None => unreachable!(),
         }
     }
     Ok(places)
@@ -42,21 +50,32 @@ fn file_size(outline: &Outline<'_>) -> usize
     file_offset(outline.kind, last.address + last.size) as usize
 }
 
+/// Puts a part behind what ends at an address, with zeros between them.
+fn put_part(part: &ImagePart<'_>, end: u64, out: &mut [u8], at: usize)
+    requires rising { end ≤ part.now.address }
+    requires room { at + (part.now.address - end + length part.now.bytes.now) ≤ length out.old }
+    ensures { out.new ≡ splice at (replicate (part.now.address - end) 0 ++ part.now.bytes.now) out.old }
+{
+    let gap = (part.address - end) as usize;
+    put_zeros(out, at, gap);
+    put_bytes(out, at + gap, part.bytes);
+}
+
 /// Puts the parts of an image, each at its address, with zeros between them.
 fn put_parts(image: &Image, out: &mut [u8], at: usize)
     requires loadable { IsLoadable (outline_of image.now) }
     requires room { at + length (laid (base_of image.now.kind) image.now.parts) ≤ length out.old }
     ensures { out.new ≡ splice at (laid (base_of image.now.kind) image.now.parts) out.old }
 {
-    let mut next = at;
-    let mut end = base_of(image.kind());
+    let base = base_of(image.kind());
+    let mut end = base;
     for number in 0..image.part_count() {
-        if let Some(part) = image.part(number) {
-            let gap = (part.address - end) as usize;
-            put_zeros(out, next, gap);
-            put_bytes(out, next + gap, part.bytes);
-            next += gap + part.bytes.len();
-            end = part.address + part.bytes.len() as u64;
+        match image.part(number) {
+            Some(part) => {
+                put_part(&part, end, out, at + (end - base) as usize);
+                end = part.address + part.bytes.len() as u64;
+            }
+            None => unreachable!(),
         }
     }
 }
