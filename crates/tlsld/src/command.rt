@@ -49,11 +49,7 @@ pub fn answer<S: Store>(alloc: Global, task: &Task, store: &mut S) -> Answer
 }
 
 /// What a command puts where nothing is wrong.
-fn output<S: Store>(
-    alloc: Global,
-    task: &Task,
-    store: &mut S,
-) -> Result<Vec<u8>, CommandFault>
+fn output<S: Store>(alloc: Global, task: &Task, store: &mut S) -> Result<Vec<u8>, CommandFault>
     ensures files { S.files store.new ≡ S.files store.old }
     ensures cause { StoreCounts (S.faults store.old) (S.faults store.new) result }
     ensures says { IfSome (S.files store.old) (λ fs. Comes (λ text. text.items) (TaskSays fs task.now) result) }
