@@ -9,8 +9,6 @@ mod cases;
 #[cfg(test)]
 mod images;
 #[cfg(test)]
-mod listing;
-#[cfg(test)]
 mod reading;
 #[cfg(test)]
 mod spelled;

@@ -2,12 +2,13 @@
 
 use crate::cases::CASES;
 use crate::images::{ANYWHERE, DYNAMIC, MODULE, PROGRAM, WRITTEN};
-use crate::listing::listed;
 use crate::spelled;
 use image_faults::fault_free;
 use image_file::{FaultKind, Image, ImageFault, SymbolBinding, Visibility, read};
+use image_text::push_shown;
 use std::alloc::{AllocError, Global};
 use std::process::Abort;
+use std::str;
 use std::test::Fail;
 
 /// Writes bytes, given in hexadecimal digits, at an offset.
@@ -81,8 +82,12 @@ fn finds_the_first_fault(rt: HostRuntime) -> Result<(), Fail> {
 fn spells(rt: &(impl Abort + AllocGlobal), pieces: &str, want: &str) -> Result<(), Fail> {
     let bytes = bytes_of(rt.alloc(), pieces)?;
     let image = read(rt.alloc(), bytes.as_slice())?;
-    let found = listed(rt.alloc(), &image)?;
-    assert_eq!(rt; found.as_str(), want);
+    let mut found = Vec::new(rt.alloc());
+    push_shown(&image, &mut found)?;
+    let found = str::from_utf8(found.as_slice())
+        .ok()
+        .ok_or("names are text")?;
+    assert_eq!(rt; found, want);
     Ok(())
 }
 

@@ -98,7 +98,7 @@ fn listing_of(alloc: Global, image: &Image) -> Result<Vec<u8>, AllocError>
     ensures { IfOk result (λ text. text.items ≡ shown image.now) }
 {
     let mut text = Vec::new(alloc);
-    push_shown(alloc, image, &mut text)?;
+    push_shown(image, &mut text)?;
     Ok(text)
 }
 

@@ -1,0 +1,75 @@
+-- An image as text: a line for each thing that it spells.
+use Rattle.std.specs.Prelude.{ℕ, ◌-◌, ◌^◌, List, [], ◌++◌, length, drop, codes, Bool, false}
+use Rattle.std.specs.Prelude.{Option, slice_get, option_to_list, option_and_then, if◌then◌else◌}
+use Rattle.std.specs.List.{flat_map, zip}
+use Rattle.std.specs.Fmt.{decimal, signed_decimal, digits, padded_integral, format_spec}
+use Rattle.image_faults.specs.declared.places.FileKind.{FileKind}
+use Rattle.image_file.specs.declared.part.ImagePart.{ImagePart}
+use Rattle.image_file.specs.declared.part.TlsPart.{TlsPart}
+use Rattle.image_file.specs.declared.symbol.ImageSymbol.{ImageSymbol}
+use Rattle.image_file.specs.declared.relocation.ImageRelocation.{ImageRelocation}
+use Rattle.image_file.specs.Spelled.{Part, Spelled}
+use Rattle.image_text.specs.Words.{kind_word, class_word, import_word, type_number, loader_number}
+
+-- a number as 16 hexadecimal digits
+abbrev pub hex16 : ℕ → List ℕ
+hex16 n = padded_integral (format_spec 32 0 4 16 (2 ^ 64 - 1)) false [] (digits 16 false n)
+
+-- what the image is
+unfoldable pub kind_line : FileKind → List ℕ
+kind_line kind = codes "kind " ++ kind_word kind ++ codes "\n"
+
+-- a part that is lent, without the loan
+abbrev pub lent_part : ImagePart → Part
+lent_part lent = record { class = lent.class; address = lent.address; bytes = lent.bytes.now }
+
+-- a part: what may be done with it, its address, its length
+unfoldable pub part_line : Part → List ℕ
+part_line part =
+    codes "part " ++ class_word part.class ++ codes " " ++ hex16 part.address ++ codes " "
+    ++ decimal (length part.bytes) ++ codes "\n"
+
+-- the TLS segment: its address, how many bytes the file has of it, how many a block has, its alignment
+unfoldable pub tls_line : TlsPart → List ℕ
+tls_line tls =
+    codes "tls " ++ hex16 tls.address ++ codes " " ++ decimal tls.initial ++ codes " " ++ decimal tls.size ++ codes " "
+    ++ decimal tls.alignment ++ codes "\n"
+
+-- the part that the loader alone writes
+unfoldable pub relro_line : Part → List ℕ
+relro_line part = codes "relro " ++ hex16 part.address ++ codes " " ++ decimal (length part.bytes) ++ codes "\n"
+
+-- a symbol with its name: its value, its type, whether another image defines it, its name
+unfoldable pub symbol_line : ImageSymbol × List ℕ → List ℕ
+symbol_line named =
+    codes "symbol " ++ hex16 named.0.value ++ codes " " ++ decimal (type_number named.0.kind) ++ codes " "
+    ++ import_word named.0.is_defined ++ named.1 ++ codes "\n"
+
+-- a relocation: its place, its type, its symbol's number, its addend
+unfoldable pub relocation_line : ImageRelocation → List ℕ
+relocation_line relocation =
+    codes "reloc " ++ hex16 relocation.place ++ codes " " ++ decimal (loader_number relocation.kind) ++ codes " "
+    ++ decimal relocation.symbol ++ codes " " ++ signed_decimal relocation.addend ++ codes "\n"
+
+-- that the image wants its thread-local data at a fixed distance from the thread pointer, if it does
+abbrev pub flag_line : Bool → List ℕ
+flag_line is_flagged = if is_flagged then codes "static-tls\n" else []
+
+-- the part that the loader alone writes, if there is one
+abbrev pub got_part : Spelled → Option Part
+got_part image = option_and_then (slice_get image.parts) image.got
+
+-- each symbol and its name
+abbrev pub named : Spelled → List (ImageSymbol × List ℕ)
+named image = zip image.symbols image.names
+
+-- the text of an image; its symbols from number 1 on
+unfoldable pub shown : Spelled → List ℕ
+shown image =
+    kind_line image.kind
+    ++ flat_map part_line image.parts
+    ++ flat_map tls_line (option_to_list image.tls)
+    ++ flat_map relro_line (option_to_list (got_part image))
+    ++ flat_map symbol_line (drop 1 (named image))
+    ++ flat_map relocation_line image.relocations
+    ++ flag_line image.is_flagged

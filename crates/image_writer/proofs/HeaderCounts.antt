@@ -1,0 +1,103 @@
+-- Numbers that pass a test: how many lead, how many there are and which is the last, where the tests are known.
+use Rattle.std.proofs.Common.{◌≡◌, ◌+◌, ◌<◌, ◌≤◌, ◌⊎◌, ℕ, zero, suc, Bool, true, false, refl, inl, inr, arith, add-one, nat_lt, if◌then◌else◌}
+use Rattle.std.proofs.lemmas.Bool.Decides.{nat_tests}
+use Rattle.image_faults.specs.Counts.{leading, how_many, behind_last}
+
+-- a step of `leading`: one more that passes, behind none that fails
+lead_of : (r n : ℕ) (q : Bool) → r ≡ n → q ≡ true → (if nat_lt r n then r else (if q then suc n else n)) ≡ suc n
+lead_of r n q same passes = grind (arith, nat_tests)
+
+-- the first that fails
+stop_of : (r n : ℕ) (q : Bool) → r ≡ n → q ≡ false → (if nat_lt r n then r else (if q then suc n else n)) ≡ n
+stop_of r n q same fails = grind (arith, nat_tests)
+
+-- what was found stays
+stay_of : (r n m : ℕ) → r < n → (if nat_lt r n then r else m) ≡ r
+stay_of r n m below = grind (arith, nat_tests)
+
+-- below the next number: below this one, or this one
+below_or_at : (n m : ℕ) → n < suc m → (n < m) ⊎ (n ≡ m)
+below_or_at n m h = grind arith
+
+-- all numbers below n pass
+leading_all : (p : ℕ → Bool) (n : ℕ) → ((i : ℕ) → i < n → p i ≡ true) → leading p n ≡ n
+unfolding leading
+leading_all p zero all = refl
+leading_all p (suc n) all = lead_of (leading p n) n (p n) (leading_all p n (λ i lt. all i (omega arith))) (all n (omega arith))
+
+-- all numbers below n pass, and n does not
+pub leading_is : (p : ℕ → Bool) (n m : ℕ) → ((i : ℕ) → i < n → p i ≡ true) → p n ≡ false → n < m → leading p m ≡ n
+unfolding leading
+leading_is p n zero all fails h = absurd (omega arith)
+leading_is p n (suc m) all fails h = elim (below_or_at n m h) [
+  | inl lt ↦
+      let earlier = leading_is p n m all fails lt in
+      rw earlier (stay_of n m (if p m then suc m else m) lt)
+  | inr same ↦ rw (← same) (stop_of (leading p n) n (p n) (leading_all p n all) fails)
+]
+
+-- two tests that agree below n
+pub many_agree : (p q : ℕ → Bool) (n : ℕ) → ((i : ℕ) → i < n → p i ≡ q i) → how_many p n ≡ how_many q n
+unfolding how_many
+many_agree p q zero agree = refl
+many_agree p q (suc n) agree = rw (agree n (omega arith), many_agree p q n (λ i lt. agree i (omega arith))) refl
+
+-- so they have one last number
+pub last_agree : (p q : ℕ → Bool) (n : ℕ) → ((i : ℕ) → i < n → p i ≡ q i) → behind_last p n ≡ behind_last q n
+unfolding behind_last
+last_agree p q zero agree = refl
+last_agree p q (suc n) agree = rw (agree n (omega arith), last_agree p q n (λ i lt. agree i (omega arith))) refl
+
+-- one more number keeps or raises how many pass
+many_grows : (m : ℕ) (b : Bool) → m ≤ (if b then suc m else m)
+many_grows m true = omega arith
+many_grows m false = omega arith
+
+-- a number that passes raises it
+many_raises : (m : ℕ) (b : Bool) → b ≡ true → m < (if b then suc m else m)
+many_raises m b is = rw is (omega arith)
+
+-- a number below n that passes is not among those below itself
+pub many_below : (p : ℕ → Bool) (i n : ℕ) → i < n → p i ≡ true → how_many p i < how_many p n
+unfolding how_many
+many_below p i zero h passes = absurd (omega arith)
+many_below p i (suc n) h passes = elim (below_or_at i n h) [
+  | inl lt ↦
+      let earlier = many_below p i n lt passes in
+      let step = many_grows (how_many p n) (p n) in
+      omega arith
+  | inr same ↦ rw same (many_raises (how_many p n) (p n) (rw (← same) passes))
+]
+
+-- one more number moves the last one that passes to itself, or leaves it
+last_grows : (m n : ℕ) (b : Bool) → m ≤ n → (if b then suc n else m) ≤ suc n
+last_grows m n true h = omega arith
+last_grows m n false h = omega arith
+
+-- the last one that passes is below n
+pub last_within : (p : ℕ → Bool) (n : ℕ) → behind_last p n ≤ n
+unfolding behind_last
+last_within p zero = omega arith
+last_within p (suc n) = last_grows (behind_last p n) n (p n) (last_within p n)
+
+-- what was found is the number itself, or was found before
+last_found : (p : ℕ → Bool) (m n g : ℕ) (b : Bool) → p n ≡ b → (if b then suc n else m) ≡ g + 1 → (m ≡ g + 1 → p g ≡ true) → p g ≡ true
+last_found p m n g true is found earlier = let same : g ≡ n = omega arith in rw same is
+last_found p m n g false is found earlier = earlier found
+
+-- the last one that passes does pass
+pub last_passes : (p : ℕ → Bool) (n g : ℕ) → behind_last p n ≡ g + 1 → p g ≡ true
+unfolding behind_last
+last_passes p zero g found = absurd (omega arith)
+last_passes p (suc n) g found = last_found p (behind_last p n) n g (p n) refl found (λ h. last_passes p n g h)
+
+-- no number below n passes
+pub last_none : (p : ℕ → Bool) (n : ℕ) → ((i : ℕ) → i < n → p i ≡ false) → behind_last p n ≡ 0
+unfolding behind_last
+last_none p zero none = refl
+last_none p (suc n) none = rw (none n (omega arith), last_none p n (λ i lt. none i (omega arith))) refl
+
+-- the last number passes
+pub last_is : (p : ℕ → Bool) (n : ℕ) → p n ≡ true → behind_last p (n + 1) ≡ n + 1
+unfolding behind_last
+last_is p n passes = rw (add-one, passes) refl
