@@ -18,7 +18,6 @@
 
 mod image;
 mod lent;
-mod names;
 mod part;
 mod relocation;
 mod symbol;

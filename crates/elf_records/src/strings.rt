@@ -1,11 +1,23 @@
-//! Names in a string table: each ends at its first zero byte (gABI, "String Table").
+//! Texts in a string table: each ends at its first zero byte (gABI, "String Table").
 
-ghost use Rattle.std.specs.Prelude.{◌≡◌, ◌==◌, ◌<◌, ◌≤◌, drop, length, MatchOption};
+ghost use Rattle.std.specs.Prelude.{◌≡◌, ◌==◌, ◌+◌, ◌<◌, ◌≤◌, drop, length, MatchOption};
 ghost use Rattle.std.specs.List.{position_or_len};
-ghost use Rattle.elf_object.specs.Lent.{text_at};
+ghost use Rattle.elf_records.specs.Strings.{IsNamesEnd, text_at};
+
+/// The offset behind the last zero byte of the string table of `size` bytes at `from`, or 0. A name that begins before
+/// it ends.
+pub fn names_end(bytes: &[u8], from: u64, size: u64) -> u64
+    requires { from + size ≤ length bytes.now }
+    ensures { IsNamesEnd bytes.now from size result }
+{
+    let mut end = size;
+    while end > 0 && bytes[(from + end - 1) as usize] != 0 {
+        end -= 1;
+    }
+    end
+}
 
 /// How many bytes come before the first zero byte.
-
 fn text_len(bytes: &[u8]) -> usize
     ensures { result ≡ position_or_len (λ byte. byte == 0) bytes.now }
 {
@@ -26,7 +38,7 @@ fn rest_at(table: &[u8], at: usize) -> &[u8]
 }
 
 /// The text of a string table from an offset up to the first zero byte.
-#[tactic(auto, unfolding(crate::specs::Lent::text_at))]
+#[tactic(auto, unfolding(crate::specs::Strings::text_at))]
 pub fn text_at(table: &[u8], at: usize) -> &[u8]
     ensures { result.now ≡ text_at table.now at }
 {
@@ -35,7 +47,7 @@ pub fn text_at(table: &[u8], at: usize) -> &[u8]
 }
 
 /// The same of a text of at most `limit` bytes; `None` of a longer one. No byte behind the limit is looked at.
-#[tactic(auto, unfolding(crate::specs::Lent::text_at), using(crate::proofs::TextLengths::longer_than, crate::proofs::TextLengths::is_short))]
+#[tactic(auto, unfolding(crate::specs::Strings::text_at), using(crate::proofs::TextLengths::longer_than, crate::proofs::TextLengths::is_short))]
 pub fn short_text_at(table: &[u8], at: usize, limit: usize) -> Option<&[u8]>
     ensures { MatchOption result (limit < length (text_at table.now at))
         (λ text. (text.now ≡ text_at table.now at) × (length text.now ≤ limit)) }

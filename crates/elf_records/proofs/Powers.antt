@@ -1,7 +1,7 @@
 -- A number with one bit set is a power of two.
-use Rattle.std.proofs.Common.{◌≡◌, ◌+◌, ◌-◌, ◌*◌, ◌/◌, ◌%◌, ◌^◌, ◌<◌, ◌≤◌, ◌⊎◌, ◌∙◌, ℕ, zero, suc, inl, inr, refl, sym, ap, subst, arith}
+use Rattle.std.proofs.Common.{◌≡◌, ◌+◌, ◌-◌, ◌*◌, ◌/◌, ◌%◌, ◌^◌, ◌<◌, ◌≤◌, ◌⊎◌, ◌∙◌, ℕ, zero, suc, inl, inr, sym, ap, arith}
 use Rattle.std.specs.Prelude.{count_ones}
-use Rattle.object_faults.specs.Classes.{IsAlignment}
+use Rattle.elf_records.specs.Alignments.{IsAlignment}
 use Rattle.std.proofs.Math.Nat.{pow-suc, mul-suc}
 use Rattle.std.proofs.lemmas.Nat.{ones_le_self, pow-add}
 use Rattle.std.specs.Int.Count.{ones_step}
@@ -45,29 +45,30 @@ bits_of_power (suc k) =
     let rest : count_ones (2 ^ suc k / 2) ≡ 1 = ap count_ones half ∙ bits_of_power k in
     omega arith
 
--- an alignment that a section may ask for is 0, or a power of two of at most 4,096
+pub pow_above : (k : ℕ) → 0 < 2 ^ k
+pow_above zero = omega arith
+pow_above (suc k) = let rest = pow_above k in let step = pow-suc 2 k in omega arith
+
+-- an alignment is a power of two of at most 4,096
 pub alignment_of : (n : ℕ) → n ≤ 4096 → count_ones n ≡ 1 → IsAlignment n
-alignment_of n small one = let found = power_below 13 n (omega arith) one in inr (found.0, omega (arith, found.1), found.2)
+alignment_of n small one = let found = power_below 13 n (omega arith) one in (found.0, omega (arith, found.1), found.2)
 
 powers : (k : ℕ) → k ≤ 12 → 2 ^ k ≤ 4096
 powers k h =
     let more : 2 ^ (k + (12 - k)) ≡ 2 ^ k * 2 ^ (12 - k) = pow-add 2 k (12 - k) in
     let all : k + (12 - k) ≡ 12 = omega arith in
     let whole : 2 ^ k * 2 ^ (12 - k) ≡ 4096 = sym more ∙ ap (λ m. 2 ^ m) all in
-    at_most (2 ^ k) (2 ^ (12 - k)) (pow-pos (12 - k)) whole
+    at_most (2 ^ k) (2 ^ (12 - k)) (pow_above (12 - k)) whole
   where
     at_most : (a b : ℕ) → 0 < b → a * b ≡ 4096 → a ≤ 4096
     at_most a zero h e = absurd (omega arith)
     at_most a (suc b) h e = let step : a * suc b ≡ a * b + a = mul-suc a b in omega arith
 
-    pow-pos : (k : ℕ) → 0 < 2 ^ k
-    pow-pos zero = omega arith
-    pow-pos (suc k) = let rest = pow-pos k in let step = pow-suc 2 k in omega arith
+pub alignment_small : (n : ℕ) → IsAlignment n → n ≤ 4096
+alignment_small n power = rw power.2 (powers power.0 power.1)
 
-pub is_alignment_small : (n : ℕ) → IsAlignment n → (n ≡ 0 → ⊥) → n ≤ 4096
-is_alignment_small n (inl none) some = absurd (some none)
-is_alignment_small n (inr power) some = rw power.2 (powers power.0 power.1)
+pub alignment_bits : (n : ℕ) → IsAlignment n → count_ones n ≡ 1
+alignment_bits n power = rw power.2 (bits_of_power power.0)
 
-pub is_alignment_bits : (n : ℕ) → IsAlignment n → (n ≡ 0 → ⊥) → count_ones n ≡ 1
-is_alignment_bits n (inl none) some = absurd (some none)
-is_alignment_bits n (inr power) some = rw power.2 (bits_of_power power.0)
+pub alignment_above : (n : ℕ) → IsAlignment n → 0 < n
+alignment_above n power = rw power.2 (pow_above power.0)

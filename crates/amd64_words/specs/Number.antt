@@ -2,8 +2,8 @@
 -- 2.2.1.3).
 use Rattle.std.specs.Prelude.{ℕ, ◌+◌, List, slice_index, nat_lt, if◌then◌else◌}
 use Rattle.std.specs.Int.{w32, w64, from_le_bytes}
-use Rattle.amd64_subset.specs.declared.size.Size.{Size}
-use Rattle.amd64_subset.specs.declared.size.Size.TheVariants.{Zero, One, Four, Eight}
+use Rattle.amd64_words.specs.declared.size.Size.{Size}
+use Rattle.amd64_words.specs.declared.size.Size.TheVariants.{Zero, One, Four, Eight}
 
 abbrev pub count_of : Size → ℕ
 count_of Zero = 0

@@ -1,6 +1,6 @@
 -- How many bytes a text has up to its first zero byte, and what its front tells of that.
-use Rattle.std.proofs.Common.{◌≡◌, ◌==◌, ◌-◌, ◌+◌, ◌<◌, ◌≤◌, ◌⊎◌, ◌∙◌, ℕ, zero, suc, Bool, true, false, cond, ltb, unwrap_or, not, Option, Some, None, List, [], ◌∷◌, length, length-take, take, inl, inr, refl, ap, arith}
-use Rattle.std.specs.List.{prefix_len, position_or_len, before_first}
+use Rattle.std.proofs.Common.{◌≡◌, ◌==◌, ◌+◌, ◌<◌, ◌≤◌, ◌⊎◌, ℕ, zero, suc, Bool, true, false, cond, ltb, unwrap_or, not, Some, None, List, [], ◌∷◌, length, length-take, take, inl, inr, refl, ap, arith}
+use Rattle.std.specs.List.{position_or_len, before_first}
 use Rattle.std.proofs.lemmas.Grind.{common_steps}
 use Rattle.std.proofs.lemmas.List.Folds.{length-prefix_len}
 

@@ -1,10 +1,7 @@
 //! The numbers in an instruction's bytes, and how many bytes each has.
 
 ghost use Rattle.std.specs.Prelude.{◌≡◌, ◌≤◌, length};
-ghost use Rattle.amd64_subset.specs.Number.{count_of, signed_of, signed_byte_of, signed_long_of};
-ghost use Rattle.amd64_subset.specs.Reading.{Gives, numbers_at};
-
-use crate::fault::Fault;
+ghost use Rattle.amd64_words.specs.Number.{count_of, signed_of, signed_byte_of, signed_long_of};
 
 /// How many bytes a displacement, a distance or an immediate has.
 #[derive(Clone, Copy)]
@@ -31,7 +28,7 @@ impl Size {
 
     /// The number in so many bytes, sign-extended to 64 bits.
     #[tactic(auto, unfolding(crate::specs::Number::signed_of))]
-    fn signed(self, bytes: &[u8]) -> u64
+    pub fn signed(self, bytes: &[u8]) -> u64
         requires { length bytes.now ≡ count_of self }
         ensures { result ≡ signed_of self bytes.now }
     {
@@ -66,33 +63,4 @@ fn signed_long(number: u32) -> u64
     } else {
         number + 0xffff_ffff_0000_0000
     }
-}
-
-/// A displacement and an immediate (or a distance), sign-extended.
-#[derive(Clone, Copy)]
-pub struct Numbers {
-    pub displacement: u64,
-    pub immediate: u64,
-}
-
-/// Reads a displacement and an immediate of these sizes.
-#[tactic(auto, unfolding(crate::specs::Reading::numbers_at))]
-pub(crate) fn read_numbers(
-    displacement: Size,
-    immediate: Size,
-    bytes: &[u8],
-) -> Result<(Numbers, &[u8]), Fault>
-    ensures { Gives (λ x. (x.0, x.1.now)) result (numbers_at displacement immediate bytes.now) }
-{
-    let size = displacement.count() + immediate.count();
-    if bytes.len() < size as usize {
-        return Err(Fault::Short(size - bytes.len() as u8));
-    }
-    let (first, rest) = bytes.split_at(displacement.count() as usize);
-    let (second, rest) = rest.split_at(immediate.count() as usize);
-    let numbers = Numbers {
-        displacement: displacement.signed(first),
-        immediate: immediate.signed(second),
-    };
-    Ok((numbers, rest))
 }

@@ -1,7 +1,7 @@
 //! The general registers and their numbers.
 
 ghost use Rattle.std.specs.Prelude.{◌≡◌, ◌<◌};
-ghost use Rattle.amd64_subset.specs.Register.{register_of, number_of, extended};
+ghost use Rattle.amd64_words.specs.Register.{register_of, number_of, extended};
 
 /// One of the sixteen general registers. Its index in this list is its number in an encoding: the
 /// low three bits stand in an instruction's own bytes, the fourth in its REX prefix.
@@ -61,7 +61,7 @@ impl Register {
     }
 
     /// The register of three bits in the instruction's own bytes and a fourth in its REX prefix.
-    pub(crate) fn extended(low: u8, high: bool) -> Register
+    pub fn extended(low: u8, high: bool) -> Register
         requires { low < 8 }
         ensures { result ≡ extended low high }
     {

@@ -1,8 +1,8 @@
 -- Registers by their numbers (Intel's manual, volume 2, table 2-2).
 use Rattle.std.specs.Prelude.{ℕ, ◌+◌, Bool, ◌==◌, if◌then◌else◌}
-use Rattle.amd64_subset.specs.declared.register.Register.{Register}
-use Rattle.amd64_subset.specs.declared.register.Register.TheVariants.{Rax, Rcx, Rdx, Rbx, Rsp, Rbp, Rsi, Rdi, R8, R9}
-use Rattle.amd64_subset.specs.declared.register.Register.TheVariants.{R10, R11, R12, R13, R14, R15}
+use Rattle.amd64_words.specs.declared.register.Register.{Register}
+use Rattle.amd64_words.specs.declared.register.Register.TheVariants.{Rax, Rcx, Rdx, Rbx, Rsp, Rbp, Rsi, Rdi, R8, R9}
+use Rattle.amd64_words.specs.declared.register.Register.TheVariants.{R10, R11, R12, R13, R14, R15}
 
 unfoldable pub register_of : ℕ → Register
 register_of number =

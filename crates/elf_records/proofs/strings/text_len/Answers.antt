@@ -1,10 +1,10 @@
-use Rattle.std.proofs.Common.{◌==◌, ◌∙◌, not, length, unwrap_or, ap, rules, tests}
+use Rattle.std.proofs.Common.{◌==◌, ◌∙◌, length, unwrap_or, ap, rules, tests}
 use Rattle.std.specs.List.{position_or_len}
 use Rattle.std.proofs.lemmas.Iterator.{YieldsList-from_slice}
 use Rattle.std.proofs.lemmas.Iterator.Search.{position_from_yields_List}
 use Rattle.std.proofs.lemmas.List.Sums.{prefix_len-le-length}
-use Rattle.elf_object.proofs.TextLengths.{first_or_length}
-use Rattle.elf_object.proofs.names.text_len.Goals as goal
+use Rattle.elf_records.proofs.TextLengths.{first_or_length}
+use Rattle.elf_records.proofs.strings.text_len.Goals as goal
 
 pub returns : goal.returns
 returns c =
