@@ -1,0 +1,5 @@
+pub mod Asked
+pub mod FirstCharged
+pub mod Objects
+pub mod Places
+pub mod Positions
