@@ -3,3 +3,4 @@ pub mod FirstCharged
 pub mod Objects
 pub mod Places
 pub mod Positions
+pub mod Sums
