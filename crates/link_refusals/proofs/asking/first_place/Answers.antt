@@ -1,4 +1,3 @@
-use Rattle.std.proofs.Common.{sym}
 use Rattle.link_refusals.specs.Faults.{test_of}
 use Rattle.link_refusals.proofs.FirstCharged.{found_or_none}
 use Rattle.link_refusals.proofs.asking.first_place.Goals as goal
