@@ -9,3 +9,5 @@
 mod images;
 #[cfg(test)]
 mod names;
+#[cfg(test)]
+mod refusals;

@@ -1,0 +1,6 @@
+pub mod Asked
+pub mod FirstCharged
+pub mod Objects
+pub mod Places
+pub mod Positions
+pub mod Sums

@@ -1,0 +1,10 @@
+use Rattle.std.proofs.Common.{◌≡◌, ◌+◌, ◌*◌, ◌≤◌, ◌^◌, drop}
+use Rattle.std.specs.Prelude.{sum_by}
+use Rattle.link_refusals.specs.Counts.{own_count, relocation_count}
+use Rattle.link_refusals.proofs.count.relocation_count.Given as goal
+
+-- what is counted and what the objects that are left have is all
+abbrev pub invariant-loop-object : goal.invariant-loop-object
+invariant-loop-object l =
+    (l.count + sum_by own_count (drop l.object-index l.objects) ≡ relocation_count l.objects) ×
+    (l.count ≤ 2 ^ 36 * l.object-index)

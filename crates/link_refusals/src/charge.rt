@@ -1,0 +1,82 @@
+//! What a relocation may be refused for.
+
+ghost use Rattle.std.specs.Prelude.{◌≡◌, ◌≢◌, ◌<◌, length};
+ghost use Rattle.elf_object.specs.Parts.{symbol_count};
+ghost use Rattle.tls_symbols.specs.Bindings.{binding_of, object_at};
+ghost use Rattle.link_refusals.specs.Faults.{test_of, IsAskedWithin};
+ghost use Rattle.link_refusals.specs.Refused.{asks_storage, is_here, is_moved, is_refused};
+
+use elf_object::{Relocation, RelocationKind};
+use link_faults::{ImageKind, LinkFaultKind};
+use tls_symbols::{Binding, Bindings};
+
+/// A question about the relocations of an image.
+#[derive(Clone, Copy)]
+pub enum Charge<'b, 'l, 's, 'a> {
+    /// Does the kind of the image refuse its type, with this fault?
+    ByType(LinkFaultKind, ImageKind),
+    /// Does it want storage that the image, which has none, would have itself?
+    ByStorage(ImageKind, &'b Bindings<'l, 's, 'a>),
+}
+
+/// Whether an image of this kind may lie at any address.
+fn is_moved(image: ImageKind) -> bool
+    ensures { result ≡ is_moved image }
+{
+    !matches!(image, ImageKind::Exe)
+}
+
+/// Whether an image of this kind refuses relocations of a type with this fault.
+fn is_refused(fault: LinkFaultKind, image: ImageKind, kind: RelocationKind) -> bool
+    ensures { result ≡ is_refused fault image kind }
+{
+    match (fault, kind) {
+        (LinkFaultKind::LocalExecInModule, RelocationKind::TpOff32) => image.is_module(),
+        (
+            LinkFaultKind::NarrowInModule,
+            RelocationKind::Absolute32 | RelocationKind::Absolute32Signed,
+        ) => is_moved(image),
+        _ => false,
+    }
+}
+
+/// Whether it is a symbol of the image itself.
+fn is_here(bound: Option<Binding>) -> bool
+    ensures { result ≡ is_here bound }
+{
+    matches!(bound, Some(Binding::Here(_)))
+}
+
+/// Whether a relocation asks for storage that the image itself has.
+fn asks_storage(
+    bindings: &Bindings,
+    image: ImageKind,
+    index: usize,
+    relocation: &Relocation,
+) -> bool
+    requires object { index < length bindings.now.objects }
+    requires symbol { relocation.now.kind ≢ RelocationKind.Nothing
+        → relocation.now.symbol < symbol_count (object_at bindings.now.objects index) }
+    ensures { result ≡ asks_storage image relocation.now.kind
+        (binding_of bindings.now.objects bindings.now.startup index relocation.now) }
+{
+    match relocation.kind {
+        RelocationKind::TlsLd => true,
+        RelocationKind::TlsGd | RelocationKind::GotTpOff => {
+            image.is_module() && is_here(bindings.binding(index, relocation))
+        }
+        RelocationKind::GotPc32TlsDesc => is_here(bindings.binding(index, relocation)),
+        _ => false,
+    }
+}
+
+/// Whether a relocation of an object is charged.
+pub fn is_charged(charge: &Charge, index: usize, relocation: &Relocation) -> bool
+    requires { IsAskedWithin index relocation.now charge.now }
+    ensures { result ≡ test_of charge.now index relocation.now }
+{
+    match charge {
+        Charge::ByType(fault, image) => is_refused(*fault, *image, relocation.kind),
+        Charge::ByStorage(image, bindings) => asks_storage(bindings, *image, index, relocation),
+    }
+}

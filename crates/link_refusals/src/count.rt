@@ -1,0 +1,53 @@
+//! How many relocations an image has.
+
+ghost use Rattle.std.specs.Prelude.{◌≡◌, ◌+◌, ◌*◌, ◌<◌, ◌≤◌, ◌^◌, ◌↔◌, IsTrue, length};
+ghost use Rattle.elf_object.specs.Lent.{relocations};
+ghost use Rattle.link_refusals.specs.Counts.{own_count, relocation_count};
+
+use elf_object::Object;
+
+/// How many relocations an image may have.
+pub const MAX_RELOCATIONS: u128 = 1 << 19;
+
+/// How many relocations a section has that linking keeps.
+fn section_count(object: &Object, section: u32) -> u64
+    ensures count { result ≡ length (relocations object.now section) }
+    ensures few { result ≤ 2 ^ 20 }
+{
+    let mut count = 0;
+    for _relocation in object.relocs(section) {
+        count += 1;
+    }
+    count
+}
+
+/// How many the sections of an object have.
+#[tactic(auto, unfolding(crate::specs::Counts::own_count))]
+fn own_count(object: &Object) -> u64
+    ensures count { result ≡ own_count object.now }
+    ensures few { result ≤ 2 ^ 36 }
+{
+    let mut count = 0;
+    for section in 1..object.section_count() {
+        count += section_count(object, section);
+    }
+    count
+}
+
+/// How many relocations the objects have, of sections that linking keeps.
+pub fn relocation_count(objects: &[Object]) -> u128
+    ensures { result ≡ relocation_count objects.now }
+{
+    let mut count = 0;
+    for object in objects {
+        count += u128::from(own_count(object));
+    }
+    count
+}
+
+/// Whether they are no more than an image may have.
+pub fn has_few_relocations(objects: &[Object]) -> bool
+    ensures { IsTrue result ↔ (relocation_count objects.now ≤ MAX_RELOCATIONS) }
+{
+    relocation_count(objects) <= MAX_RELOCATIONS
+}
