@@ -1,0 +1,5 @@
+pub mod Adding
+pub mod Foreign
+pub mod Lists
+pub mod Named
+pub mod Sums
