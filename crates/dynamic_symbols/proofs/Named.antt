@@ -165,7 +165,7 @@ abbrev HasOne : List (List ℕ) → List ℕ → Type 0
 HasOne objects name = is_some (definition_of objects name) ≡ true
 
 names_have : (objects : List (List ℕ)) → All (HasOne objects) (defined_names objects)
-unfolding defined_names
+unfolding defined_in defined_names
 names_have objects = all_distinct (HasOne objects) (flat_map defined_in objects) (all_flat_at (HasOne objects) defined_in objects [] in_object)
   where
     at_symbol : (o e : ℕ) → o < length objects → 1 ≤ e → e < symbol_count (object_at objects o) → All (HasOne objects) (defined_at (object_at objects o) e)
@@ -176,7 +176,6 @@ names_have objects = all_distinct (HasOne objects) (flat_map defined_in objects)
         by false is = all_nil (HasOne objects)
 
     in_object : (o : ℕ) → o < length objects → All (HasOne objects) (defined_in (object_at objects o))
-    unfolding defined_in
     in_object o within = all_flat_range (HasOne objects) (defined_at (object_at objects o)) 1 (symbol_count (object_at objects o) - 1)
         (λ e low high. at_symbol o e within low (omega (arith, low, high)))
 

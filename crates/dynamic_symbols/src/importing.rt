@@ -72,5 +72,5 @@ pub fn imports<'a>(
     for (index, own) in sites.iter().enumerate() {
         add_imported(bindings, index, &objects[index], own, &mut names)?;
     }
-    names.as_slice().to_vec(alloc)
+    Vec::from_slice(alloc, names.as_slice())
 }
