@@ -1,8 +1,8 @@
 -- Names that are added one by one, and the list that they come to.
-use Rattle.std.proofs.Common.{◌≡◌, ◌+◌, ◌-◌, ◌<◌, ◌≤◌, ◌∙◌, ◌&&◌, ◌||◌, ℕ, suc, Bool, true, false, not, cond, List, [], ◌∷◌, ◌++◌, drop, filter, map, refl, sym, ap, Bor, append_assoc, append-nil, length, arith}
+use Rattle.std.proofs.Common.{◌≡◌, ◌+◌, ◌-◌, ◌<◌, ◌≤◌, ◌∙◌, ◌&&◌, ◌||◌, ℕ, suc, Bool, true, false, not, cond, List, [], ◌∷◌, ◌++◌, Some, None, drop, filter, map, refl, sym, ap, Bor, append_assoc, append-nil, length, arith}
 use Rattle.std.specs.Global.{Vec}
 use Rattle.std.specs.Prelude.{if◌then◌else◌, slice_index_or}
-use Rattle.std.specs.List.{flat_map, list_any, range_with_len}
+use Rattle.std.specs.List.{cons_option, filter_map, flat_map, list_any, range_with_len}
 use Rattle.std.specs.Str.{bytes_eq}
 use Rattle.std.proofs.Math.ListN.{drop_of_length-le}
 use Rattle.std.proofs.Math.Seq.{drop-cons}
@@ -13,9 +13,11 @@ use Rattle.indexmap.specs.IndexSet.{insert_key}
 use Rattle.elf_object.specs.Lent.{symbol_name}
 use Rattle.elf_object.specs.Parts.{symbol_count}
 use Rattle.sequence_match.specs.declared.places.Site.{Site}
+use Rattle.tls_symbols.specs.declared.symbols.SymbolRef.{SymbolRef}
 use Rattle.tls_symbols.specs.Bindings.{object_at}
+use Rattle.tls_symbols.specs.Definitions.{definition_of}
 use Rattle.tls_symbols.proofs.Search.{range_first}
-use Rattle.dynamic_symbols.specs.Names.{defined_at, distinct, imported_from, imported_in, is_definition}
+use Rattle.dynamic_symbols.specs.Names.{defined_at, distinct, imported_at, imported_from, imported_in, is_definition, is_import}
 use Rattle.dynamic_symbols.specs.Walks.{with_name, with_names}
 
 -- ** what a set of names that are lent keeps
@@ -149,6 +151,9 @@ drop_here xs i x is below =
     let next : suc i ≡ i + 1 = omega arith in
     drop-cons xs i x below ∙ ap (λ y. y ∷ drop (suc i) xs) (sym is) ∙ ap (λ m. x ∷ drop m xs) next
 
+pub drop_at : {X : Type 0} (xs : List X) (i : ℕ) (d : X) → i < length xs → drop i xs ≡ slice_index_or xs i d ∷ drop (i + 1) xs
+drop_at xs i d below = drop_here xs i (slice_index_or xs i d) (get_or_default xs i d (slice_index_or xs i d) below) below
+
 pub ended : {X : Type 0} (f : X → List (List ℕ)) (seen : List (List ℕ)) (xs : List X) (i : ℕ) → length xs ≤ i → seen ≡ with_names seen (flat_map f (drop i xs))
 ended f seen xs i past = sym (ap (λ ys. with_names seen (flat_map f ys)) (drop_of_length-le xs past))
 
@@ -171,3 +176,34 @@ own_sites sites i own is below = get_or-map (λ v. v.items) sites i own [] below
 
 pub object_is : (objects : List (List ℕ)) (i : ℕ) (b : List ℕ) → b ≡ slice_index_or objects i b → i < length objects → object_at objects i ≡ b
 object_is objects i b is below = get_or_default objects i [] b below ∙ sym is
+
+-- ** a definition for each name
+
+module _ (objects : List (List ℕ)) (seen : List SymbolRef) (zs : List (Bor (List ℕ))) (i : ℕ) where
+  pub bound_some : (d : Bor (List ℕ)) (found : SymbolRef) → i < length zs → Some found ≡ definition_of objects (slice_index_or zs i d).now
+      → (seen ++ found ∷ []) ++ filter_map (definition_of objects) (map (λ z. z.now) (drop (i + 1) zs)) ≡ seen ++ filter_map (definition_of objects) (map (λ z. z.now) (drop i zs))
+  bound_some d found below is =
+      let rest = filter_map (definition_of objects) (map (λ z. z.now) (drop (i + 1) zs)) in
+      append_assoc seen (found ∷ []) rest
+      ∙ ap (λ o. seen ++ cons_option o rest) is
+      ∙ ap (λ ws. seen ++ filter_map (definition_of objects) (map (λ z. z.now) ws)) (sym (drop_at zs i d below))
+
+  pub bound_none : (d : Bor (List ℕ)) → i < length zs → None ≡ definition_of objects (slice_index_or zs i d).now
+      → seen ++ filter_map (definition_of objects) (map (λ z. z.now) (drop (i + 1) zs)) ≡ seen ++ filter_map (definition_of objects) (map (λ z. z.now) (drop i zs))
+  bound_none d below is =
+      let rest = filter_map (definition_of objects) (map (λ z. z.now) (drop (i + 1) zs)) in
+      ap (λ o. seen ++ cons_option o rest) is
+      ∙ ap (λ ws. seen ++ filter_map (definition_of objects) (map (λ z. z.now) ws)) (sym (drop_at zs i d below))
+
+  pub bound_all : length zs ≤ i → seen ≡ seen ++ filter_map (definition_of objects) (map (λ z. z.now) (drop i zs))
+  bound_all past = sym (ap (λ ws. seen ++ filter_map (definition_of objects) (map (λ z. z.now) ws)) (drop_of_length-le zs past) ∙ append-nil seen)
+
+-- ** the names of sites
+
+pub imports_one : (objects : List (List ℕ)) (startup : List (List (List ℕ))) (o : ℕ) (site : Site) → is_import objects startup o site ≡ true
+    → imported_at objects startup o site ≡ symbol_name (object_at objects o) site.symbol ∷ []
+imports_one objects startup o site is = rw is refl
+
+pub imports_none : (objects : List (List ℕ)) (startup : List (List (List ℕ))) (o : ℕ) (site : Site) → is_import objects startup o site ≡ false
+    → imported_at objects startup o site ≡ []
+imports_none objects startup o site is = rw is refl
