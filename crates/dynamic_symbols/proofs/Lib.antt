@@ -2,4 +2,5 @@ pub mod Adding
 pub mod Foreign
 pub mod Lists
 pub mod Named
+pub mod OfSites
 pub mod Sums

@@ -3,13 +3,16 @@ use Rattle.std.specs.Prelude.{◌≡◌, ◌≢◌, ◌<◌, ◌≤◌, ℕ, tru
 use Rattle.std.specs.List.{All, AllPairs}
 use Rattle.elf_object.specs.declared.relocation.Relocation.{Relocation}
 use Rattle.elf_object.specs.declared.symbol.SymbolBinding.TheVariants.{Local}
+use Rattle.elf_object.specs.Faults.{IsObject}
 use Rattle.elf_object.specs.Lent.{symbol_binding, symbol_place}
 use Rattle.elf_object.specs.Parts.{symbol_count}
 use Rattle.sequence_match.specs.declared.places.Site.{Site}
+use Rattle.sequence_match.specs.Faults.{AreSites}
 use Rattle.tls_symbols.specs.declared.symbols.SymbolRef.{SymbolRef}
 use Rattle.tls_symbols.specs.Bindings.{binding_of, get_address, object_at}
 use Rattle.tls_symbols.specs.Definitions.{definition_of, is_defined, same_binding, IsWithin}
 use Rattle.dynamic_symbols.specs.Names.{defined_names, defined_symbols, imports, name_of}
+use Rattle.dynamic_symbols.specs.Walks.{HaveSymbols}
 
 -- the symbol is one of the image's, and defines a name for all objects
 pub record IsShared (objects : List (List ℕ)) (found : SymbolRef) : Type 0 where
@@ -48,3 +51,7 @@ ImportsAreForeign = (objects : List (List ℕ)) (startup : List (List (List ℕ)
 abbrev pub BindingsAreByUse : Type 0
 BindingsAreByUse = (objects : List (List ℕ)) (startup : List (List (List ℕ))) (o : ℕ) (x y : Relocation)
     → x.kind ≡ y.kind → x.symbol ≡ y.symbol → binding_of objects startup o x ≡ binding_of objects startup o y
+
+-- the sites of an object name its own symbols
+abbrev pub SitesHaveSymbols : Type 0
+SitesHaveSymbols = (b : List ℕ) (sites : List Site) → IsObject b → AreSites b sites → HaveSymbols b sites

@@ -1,7 +1,8 @@
 //! Laws of dynamic symbols. The functions do nothing: what they ensure is the law.
 
 ghost use Rattle.dynamic_symbols.specs.Laws.{BindingsAreByUse, ImportsAreDistinct, ImportsAreForeign};
-ghost use Rattle.dynamic_symbols.specs.Laws.{NamesAreDistinct, SymbolsAreShared, SymbolsHaveTheNames};
+ghost use Rattle.dynamic_symbols.specs.Laws.{NamesAreDistinct, SitesHaveSymbols, SymbolsAreShared};
+ghost use Rattle.dynamic_symbols.specs.Laws.{SymbolsHaveTheNames};
 
 /// Every defined symbol is within the objects, and is neither LOCAL nor undefined.
 pub fn symbols_are_shared()
@@ -31,4 +32,9 @@ pub fn imports_are_foreign()
 /// What the symbol of a relocation is bound to depends on the relocation's type and symbol alone.
 pub fn bindings_are_by_use()
     ensures { BindingsAreByUse }
+{}
+
+/// The sites of an object name its own symbols.
+pub fn sites_have_symbols()
+    ensures { SitesHaveSymbols }
 {}

@@ -11,7 +11,7 @@ use tls_symbols::SymbolRef;
 /// How many bytes a name takes beside its own: an entry of the symbol table, and a zero in the string table.
 const BESIDE: u64 = 25;
 
-/// The most that the names of an image may take.
+/// The most that the names of an image may take, 4 MiB.
 pub const NAME_LIMIT: u64 = 1 << 22;
 
 /// A sum of sizes with one more name.
