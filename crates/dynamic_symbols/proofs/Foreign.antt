@@ -1,7 +1,7 @@
 -- What an image imports is not defined in it, and is not the run time's function.
-use Rattle.std.proofs.Common.{◌≡◌, ◌+◌, ℕ, Bool, true, false, List, [], ◌∷◌, ◌++◌, Option, Some, None, refl, arith}
+use Rattle.std.proofs.Common.{◌≡◌, ◌+◌, ℕ, Bool, true, false, List, [], ◌∷◌, Option, Some, None, refl}
 use Rattle.std.specs.Prelude.{if◌then◌else◌}
-use Rattle.std.specs.List.{All, flat_map}
+use Rattle.std.specs.List.{All}
 use Rattle.std.specs.Str.{bytes_eq}
 use Rattle.std.proofs.lemmas.Slice.Eq.{bytes_eq-Decides}
 use Rattle.elf_object.specs.declared.relocation.Relocation.{Relocation}
@@ -14,7 +14,7 @@ use Rattle.tls_symbols.specs.declared.symbols.SymbolRef.{SymbolRef}
 use Rattle.tls_symbols.specs.Bindings.{binding_of, first_export, get_address, here_or, may_import, name_binding, object_at, of_startup}
 use Rattle.tls_symbols.specs.Definitions.{definition_of, same_binding}
 use Rattle.dynamic_symbols.specs.Laws.{BindingsAreByUse, ImportsAreDistinct, ImportsAreForeign, IsForeign}
-use Rattle.dynamic_symbols.specs.Names.{distinct, first_of, imported_at, imported_from, imported_in, imports, is_import, is_startup}
+use Rattle.dynamic_symbols.specs.Names.{first_of, imported_at, imported_from, imported_in, imports, is_import, is_startup}
 use Rattle.dynamic_symbols.proofs.Lists.{all_append, all_cons, all_distinct, all_flat, all_nil, distinct_names}
 
 module _ (objects : List (List ℕ)) (startup : List (List (List ℕ))) where

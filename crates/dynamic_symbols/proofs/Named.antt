@@ -1,6 +1,6 @@
 -- Each name that symbols define has a definition that it binds to, and that has the name.
-use Rattle.std.proofs.Common.{◌≡◌, ◌≢◌, ◌+◌, ◌-◌, ◌<◌, ◌≤◌, ◌∙◌, ◌&&◌, ◌⊎◌, ℕ, zero, suc, Bool, true, false, not, List, [], ◌∷◌, ◌++◌, Option, Some, None, is_some, length, drop, map, inl, inr, refl, sym, ap, subst, arith}
-use Rattle.std.specs.Prelude.{if◌then◌else◌, slice_index_or}
+use Rattle.std.proofs.Common.{◌≡◌, ◌≢◌, ◌+◌, ◌-◌, ◌<◌, ◌≤◌, ◌∙◌, ◌&&◌, ℕ, Bool, true, false, not, List, [], ◌∷◌, Option, Some, None, is_some, length, drop, map, inl, inr, refl, sym, ap, subst, arith}
+use Rattle.std.specs.Prelude.{if◌then◌else◌}
 use Rattle.std.specs.List.{All, AllPairs, cons_option, filter_map, find, flat_map, range_with_len}
 use Rattle.std.specs.Str.{bytes_eq}
 use Rattle.std.proofs.lemmas.Bool.{cases_lt}
@@ -15,7 +15,7 @@ use Rattle.tls_symbols.specs.Bindings.{object_at}
 use Rattle.tls_symbols.specs.Definitions.{defines, definition_of, first_from, first_in, found_or, is_defined, or_weak, same_binding, IsWithin}
 use Rattle.tls_symbols.proofs.Within.{Dropped, dropped_is, find_found, find_nothing}
 use Rattle.dynamic_symbols.specs.Laws.{IsShared, NamesAreDistinct, SymbolsAreShared, SymbolsHaveTheNames}
-use Rattle.dynamic_symbols.specs.Names.{defined_at, defined_in, defined_names, defined_symbols, distinct, is_definition, name_of}
+use Rattle.dynamic_symbols.specs.Names.{defined_at, defined_in, defined_names, defined_symbols, is_definition, name_of}
 use Rattle.dynamic_symbols.proofs.Lists.{all_cons, all_distinct, all_first, all_flat_at, all_flat_range, all_nil, all_rest, distinct_names}
 
 both : (s t : Bool) → (s && t) ≡ true → (s ≡ true) × (t ≡ true)

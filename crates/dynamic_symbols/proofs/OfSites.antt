@@ -1,9 +1,8 @@
 -- The sites of an object name its own symbols.
-use Rattle.std.proofs.Common.{◌≡◌, ◌<◌, ◌∙◌, ℕ, zero, suc, List, [], ◌∷◌, Some, length, sym, subst, arith}
+use Rattle.std.proofs.Common.{◌≡◌, ◌<◌, ◌∙◌, ℕ, zero, suc, List, [], ◌∷◌, Some, sym, subst, arith}
 use Rattle.std.specs.List.{All, slice_get}
 use Rattle.std.specs.Prelude.{slice_index_or}
 use Rattle.object_faults.specs.declared.relocation.RelocationKind.TheVariants.{Nothing}
-use Rattle.elf_object.specs.declared.relocation.Relocation.{Relocation}
 use Rattle.elf_object.specs.Faults.{IsObject}
 use Rattle.elf_object.specs.Lawful.{IsLawful}
 use Rattle.elf_object.specs.LawsOfRelocations.{lawful}
@@ -12,7 +11,7 @@ use Rattle.elf_object.specs.Parts.{symbol_count}
 use Rattle.sequence_match.specs.declared.forms.Form.{Form}
 use Rattle.sequence_match.specs.declared.forms.Form.TheVariants.{Gd, Ld, IeMov, IeAdd, GdInd, LdInd, DescLea, DescCall}
 use Rattle.sequence_match.specs.declared.places.Site.{Site}
-use Rattle.sequence_match.specs.Faults.{AreSites, IsSite}
+use Rattle.sequence_match.specs.Faults.{IsSite}
 use Rattle.sequence_match.specs.Forms.{row}
 use Rattle.dynamic_symbols.specs.Laws.{SitesHaveSymbols}
 

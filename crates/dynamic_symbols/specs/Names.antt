@@ -1,6 +1,6 @@
 -- Which symbols the dynamic symbol table of an image has, and in which order (gABI, "Symbol Table" and "Dynamic
 -- Section"; the order is this project's own).
-use Rattle.std.specs.Prelude.{◌+◌, ◌-◌, ◌&&◌, ◌++◌, ℕ, Bool, true, false, not, pos, List, [], ◌∷◌, Option, Some, None}
+use Rattle.std.specs.Prelude.{◌+◌, ◌-◌, ◌&&◌, ◌++◌, ℕ, Bool, true, false, not, pos, List, [], ◌∷◌, Option, Some}
 use Rattle.std.specs.Prelude.{filter, length, sum_by, if◌then◌else◌}
 use Rattle.std.specs.List.{filter_map, flat_map, range_with_len}
 use Rattle.std.specs.Str.{bytes_eq}
@@ -11,7 +11,7 @@ use Rattle.elf_object.specs.Parts.{symbol_count}
 use Rattle.sequence_match.specs.declared.places.Site.{Site}
 use Rattle.sequence_match.specs.Forms.{row}
 use Rattle.tls_symbols.specs.declared.binding.Binding.{Binding}
-use Rattle.tls_symbols.specs.declared.binding.Binding.TheVariants.{Here, Startup, Runtime}
+use Rattle.tls_symbols.specs.declared.binding.Binding.TheVariants.{Startup}
 use Rattle.tls_symbols.specs.declared.symbols.SymbolRef.{SymbolRef}
 use Rattle.tls_symbols.specs.Bindings.{binding_of, object_at}
 use Rattle.tls_symbols.specs.Definitions.{definition_of, is_defined, same_binding}

@@ -42,7 +42,7 @@ fn add_imported<'a>(
     requires symbols { HaveSymbols object.now sites.now }
     ensures { OnOk result (map (λ name. name.now) names.new.keys
         ≡ with_names (map (λ name. name.now) names.old.keys)
-            (imported_in bindings.now.objects bindings.now.startup index sites.now)) }
+        (imported_in bindings.now.objects bindings.now.startup index sites.now)) }
 {
     for site in sites {
         if is_import(bindings, index, site) {

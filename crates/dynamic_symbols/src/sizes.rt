@@ -18,7 +18,8 @@ pub const NAME_LIMIT: u64 = 1 << 22;
 fn with_name(size: u64, name: &[u8]) -> u64
     ensures { result ≡ min (size + size_of name.now) u64.MAX }
 {
-    size.saturating_add(BESIDE).saturating_add(name.len() as u64)
+    size.saturating_add(BESIDE)
+        .saturating_add(name.len() as u64)
 }
 
 /// How many bytes the names of these symbols and these imports take in the dynamic symbol table and its string table;

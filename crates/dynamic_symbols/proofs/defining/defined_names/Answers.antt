@@ -1,4 +1,4 @@
-use Rattle.std.proofs.Common.{◌∙◌, ◌+◌, drop, map, sym, ap}
+use Rattle.std.proofs.Common.{◌∙◌, ◌+◌, drop, map, ap}
 use Rattle.std.specs.List.{flat_map}
 use Rattle.dynamic_symbols.specs.Names.{defined_in, defined_names}
 use Rattle.dynamic_symbols.specs.Walks.{with_names}

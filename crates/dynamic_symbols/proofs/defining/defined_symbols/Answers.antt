@@ -1,4 +1,4 @@
-use Rattle.std.proofs.Common.{◌≡◌, ◌∙◌, ◌+◌, ◌++◌, drop, map, sym, ap, subst}
+use Rattle.std.proofs.Common.{◌∙◌, ◌+◌, ◌++◌, drop, map, sym, ap, subst}
 use Rattle.std.specs.List.{All, filter_map}
 use Rattle.tls_symbols.specs.Definitions.{definition_of, IsWithin}
 use Rattle.dynamic_symbols.specs.Names.{defined_names, defined_symbols}

@@ -1,4 +1,4 @@
-use Rattle.std.proofs.Common.{◌≡◌, ◌∙◌, ◌+◌, drop, map, refl, sym, ap}
+use Rattle.std.proofs.Common.{◌∙◌, ◌+◌, drop, map, refl, sym, ap}
 use Rattle.std.specs.Prelude.{slice_index_or}
 use Rattle.std.specs.List.{flat_map}
 use Rattle.elf_object.specs.Lent.{symbol_name}
