@@ -1,0 +1,6 @@
+pub mod Adding
+pub mod Foreign
+pub mod Lists
+pub mod Named
+pub mod OfSites
+pub mod Sums

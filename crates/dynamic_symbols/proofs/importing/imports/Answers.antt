@@ -1,0 +1,55 @@
+use Rattle.std.proofs.Common.{◌≡◌, ◌<◌, ◌∙◌, ◌+◌, ℕ, List, Bor, drop, length, map, sym, ap, subst, arith}
+use Rattle.std.specs.Global.{Vec}
+use Rattle.std.specs.Prelude.{Result, Ok, Err, IfOk}
+use Rattle.tls_symbols.specs.Bindings.{object_at}
+use Rattle.dynamic_symbols.specs.Names.{distinct, imported_from, imported_in, imports}
+use Rattle.dynamic_symbols.specs.Walks.{HaveSymbols, with_names}
+use Rattle.dynamic_symbols.proofs.Adding.{added, drop_here, ended_from, object_is, own_sites, walk_from}
+use Rattle.dynamic_symbols.proofs.importing.imports.Goals as goal
+
+pub add_imported-requires-clause-symbols : goal.add_imported-requires-clause-symbols
+add_imported-requires-clause-symbols c =
+    let objects = c.args.objects.now in
+    let sites = c.args.sites.now in
+    let i = c.loop-index.index in
+    let own = c.index-sites-index.result in
+    let b = c.index-objects-index.result in
+    let below : i < length objects = omega (arith, c.loop-index-test.true, c.requires.each) in
+    let sites_are = own_sites sites i own c.index-sites-index.is c.loop-index-test.true ∙ sym c.deref.ensures.value in
+    subst (λ o. HaveSymbols o c.deref.result.now) (object_is objects i b c.index-objects-index.is below)
+    (subst (HaveSymbols (object_at objects i)) sites_are (c.requires.symbols i below))
+
+pub loop-index-preserved : goal.loop-index-preserved
+loop-index-preserved c =
+    let objects = c.args.bindings.now.objects in
+    let startup = c.args.bindings.now.startup in
+    let sites = c.args.sites.now in
+    let i = c.loop-index.index in
+    let own = c.index-sites-index.result in
+    let seen = map (λ name. name.now) c.loop-index.names.keys in
+    let rest = imported_from objects startup (i + 1) (map (λ v. v.items) (drop (i + 1) sites)) in
+    ap (λ ns. with_names ns rest) c.in_ok-add_imported.ensures
+    ∙ ap (λ ys. with_names (with_names seen (imported_in objects startup i ys)) rest) c.deref.ensures.value
+    ∙ walk_from objects startup seen sites i own (drop_here sites i own c.index-sites-index.is c.loop-index-test.true)
+    ∙ c.loop-index.invariant
+
+-- what a copy of lent names has
+copied : {E : Type 0} (made : Result (Vec (Bor (List ℕ))) E) (lent : List (Bor (List ℕ))) (names : List (List ℕ)) → IfOk made (λ v. v.items ≡ lent)
+    → map (λ name. name.now) lent ≡ names → IfOk made (λ v. map (λ name. name.now) v.items ≡ names)
+copied (Ok v) lent names is known = ap (map (λ name. name.now)) is ∙ known
+copied (Err e) lent names is known = tt
+
+pub returns : goal.returns
+unfolding imports
+returns c =
+    let objects = c.args.bindings.now.objects in
+    let startup = c.args.bindings.now.startup in
+    let sites = c.args.sites.now in
+    let listed = map (λ own. own.items) sites in
+    let known =
+    ap (map (λ name. name.now)) c.as_slice.ensures.keys
+    ∙ ended_from objects startup (map (λ name. name.now) c.loop-index.names.keys) sites c.loop-index.index c.loop-index-test.false
+    ∙ c.loop-index.invariant
+    ∙ added (imported_from objects startup 0 listed)
+    ∙ ap (λ os. distinct (imported_from os startup 0 listed)) (sym c.requires.objects) in
+    copied c.from_slice.result c.as_slice.result.now (imports c.args.objects.now startup listed) c.from_slice.ensures.items known

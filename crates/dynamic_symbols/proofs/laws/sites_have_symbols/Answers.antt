@@ -1,0 +1,5 @@
+use Rattle.dynamic_symbols.proofs.OfSites.{sites_symbols}
+use Rattle.dynamic_symbols.proofs.laws.sites_have_symbols.Goals as goal
+
+pub returns : goal.returns
+returns c = sites_symbols

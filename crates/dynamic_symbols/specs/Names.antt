@@ -1,0 +1,90 @@
+-- Which symbols the dynamic symbol table of an image has, and in which order (gABI, "Symbol Table" and "Dynamic
+-- Section"; the order is this project's own).
+use Rattle.std.specs.Prelude.{◌+◌, ◌-◌, ◌&&◌, ◌++◌, ℕ, Bool, true, false, not, pos, List, [], ◌∷◌, Option, Some}
+use Rattle.std.specs.Prelude.{filter, length, sum_by, if◌then◌else◌}
+use Rattle.std.specs.List.{filter_map, flat_map, range_with_len}
+use Rattle.std.specs.Str.{bytes_eq}
+use Rattle.elf_object.specs.declared.relocation.Relocation.{Relocation}
+use Rattle.elf_object.specs.declared.symbol.SymbolBinding.TheVariants.{Local}
+use Rattle.elf_object.specs.Lent.{symbol_binding, symbol_name, symbol_place}
+use Rattle.elf_object.specs.Parts.{symbol_count}
+use Rattle.sequence_match.specs.declared.places.Site.{Site}
+use Rattle.sequence_match.specs.Forms.{row}
+use Rattle.tls_symbols.specs.declared.binding.Binding.{Binding}
+use Rattle.tls_symbols.specs.declared.binding.Binding.TheVariants.{Startup}
+use Rattle.tls_symbols.specs.declared.symbols.SymbolRef.{SymbolRef}
+use Rattle.tls_symbols.specs.Bindings.{binding_of, object_at}
+use Rattle.tls_symbols.specs.Definitions.{definition_of, is_defined, same_binding}
+
+-- each of these names once, where it comes first
+abbrev pub distinct : List (List ℕ) → List (List ℕ)
+distinct [] = []
+distinct (name ∷ names) = name ∷ filter (λ other. not (bytes_eq name other)) (distinct names)
+
+-- ** what the image defines
+
+-- whether symbol e, GLOBAL or WEAK, defines its name
+abbrev pub is_definition : List ℕ → ℕ → Bool
+is_definition b e = not (same_binding Local (symbol_binding b e)) && is_defined (symbol_place b e)
+
+-- its name, where it does
+abbrev pub defined_at : List ℕ → ℕ → List (List ℕ)
+defined_at b e = if is_definition b e then symbol_name b e ∷ [] else []
+
+-- the names that the symbols of an object define; symbol 0 is reserved
+unfoldable pub defined_in : List ℕ → List (List ℕ)
+defined_in b = flat_map (defined_at b) (range_with_len 1 (symbol_count b - 1))
+
+-- the names that the objects define, each once, in the order of the first symbols that do
+unfoldable pub defined_names : List (List ℕ) → List (List ℕ)
+defined_names objects = distinct (flat_map defined_in objects)
+
+-- what these names bind to: the first strong definition, else the first weak one
+unfoldable pub defined_symbols : List (List ℕ) → List SymbolRef
+defined_symbols objects = filter_map (definition_of objects) (defined_names objects)
+
+-- ** what the image imports
+
+-- a relocation of the type of a site's first one that names the site's symbol; a binding depends on nothing else of it
+abbrev pub first_of : Site → Relocation
+first_of site = record { offset = 0; kind = (row site.form).first; symbol = site.symbol; addend = pos 0 }
+
+abbrev pub is_startup : Option Binding → Bool
+is_startup (Some (Startup image)) = true
+is_startup _ = false
+
+-- whether a startup image defines what a site of object o uses
+abbrev pub is_import : List (List ℕ) → List (List (List ℕ)) → ℕ → Site → Bool
+is_import objects startup o site = is_startup (binding_of objects startup o (first_of site))
+
+-- its name, where one does
+abbrev pub imported_at : List (List ℕ) → List (List (List ℕ)) → ℕ → Site → List (List ℕ)
+imported_at objects startup o site =
+    if is_import objects startup o site then symbol_name (object_at objects o) site.symbol ∷ [] else []
+
+-- the names of the sites of object o
+unfoldable pub imported_in : List (List ℕ) → List (List (List ℕ)) → ℕ → List Site → List (List ℕ)
+imported_in objects startup o sites = flat_map (imported_at objects startup o) sites
+
+-- those of the objects from number o on
+abbrev pub imported_from : List (List ℕ) → List (List (List ℕ)) → ℕ → List (List Site) → List (List ℕ)
+imported_from objects startup o [] = []
+imported_from objects startup o (sites ∷ more) =
+    imported_in objects startup o sites ++ imported_from objects startup (o + 1) more
+
+-- the names that a startup image defines and a sequence uses, each once, in the order of their first sites
+unfoldable pub imports : List (List ℕ) → List (List (List ℕ)) → List (List Site) → List (List ℕ)
+imports objects startup sites = distinct (imported_from objects startup 0 sites)
+
+-- ** how much room the names take
+
+abbrev pub name_of : List (List ℕ) → SymbolRef → List ℕ
+name_of objects found = symbol_name (object_at objects found.object) found.symbol
+
+-- a name: 24 bytes of the symbol table, and in the string table its own and the zero behind them
+abbrev pub size_of : List ℕ → ℕ
+size_of name = 25 + length name
+
+-- all that are defined and imported
+unfoldable pub name_size : List (List ℕ) → List SymbolRef → List (List ℕ) → ℕ
+name_size objects symbols imported = sum_by (λ found. size_of (name_of objects found)) symbols + sum_by size_of imported
