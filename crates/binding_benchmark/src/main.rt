@@ -8,12 +8,14 @@ ghost use Rattle.tls_symbols.specs.Bindings.{object_at};
 
 use anyhow::{Context, Result, ensure};
 use elf_object::Object;
+use elf_records::Rela;
 use elf_records::relocation::R_X86_64_TPOFF32;
 use elf_records::symbol::{STT_NOTYPE, STT_TLS};
 use object_builder::{Section, Symbol, object_of, rela};
 use std::alloc::{AllocError, Global};
-use std::env;
-use std::time::Instant;
+use std::rt::Clock;
+use std::time::{Duration, Instant};
+use std::{env, io};
 use tls_symbols::{Binding, Bindings, resolve};
 
 /// How many variables an object defines, and how many it uses.
@@ -31,17 +33,24 @@ fn names(alloc: Global, object: u32) -> Result<Vec<String>, AllocError> {
     Ok(names)
 }
 
-/// An object that defines its variables and uses those of another one.
-fn example(alloc: Global, object: u32, other: u32) -> Result<Vec<u8>, AllocError> {
-    let own = names(alloc, object)?;
-    let used = names(alloc, other)?;
+/// Symbols that define variables, and behind them those of variables that are used.
+fn symbols<'a>(
+    alloc: Global,
+    own: &'a [String],
+    used: &'a [String],
+) -> Result<Vec<Symbol<'a>>, AllocError> {
     let mut symbols = Vec::new(alloc);
-    for name in &own {
+    for name in own {
         symbols.push(Symbol::global(name.as_bytes(), STT_TLS, 1, 0, 4))?;
     }
-    for name in &used {
+    for name in used {
         symbols.push(Symbol::global(name.as_bytes(), STT_NOTYPE, 0, 0, 0))?;
     }
+    Ok(symbols)
+}
+
+/// A use of each variable that is used.
+fn relocations(alloc: Global) -> Result<Vec<Rela>, AllocError> {
     let mut relocations = Vec::new(alloc);
     for number in 0..VARIABLES {
         relocations.push(rela(
@@ -51,9 +60,37 @@ fn example(alloc: Global, object: u32, other: u32) -> Result<Vec<u8>, AllocError
             0,
         ))?;
     }
+    Ok(relocations)
+}
+
+/// An object that defines its variables and uses those of another one.
+fn example(alloc: Global, object: u32, other: u32) -> Result<Vec<u8>, AllocError> {
+    let own = names(alloc, object)?;
+    let used = names(alloc, other)?;
+    let symbols = symbols(alloc, own.as_slice(), used.as_slice())?;
+    let relocations = relocations(alloc)?;
     let variables = Section::variables(&[1; 4]);
     let code = Section::code(&[0x90; CODE_SIZE]).with(relocations.as_slice());
     object_of(alloc, &[variables, code], symbols.as_slice())
+}
+
+/// The files of so many objects.
+fn files_of(alloc: Global, number: u32) -> Result<Vec<Vec<u8>>, AllocError> {
+    let mut files = Vec::new(alloc);
+    for object in 0..number {
+        let other = if object == 0 { number - 1 } else { object - 1 };
+        files.push(example(alloc, object, other)?)?;
+    }
+    Ok(files)
+}
+
+/// The objects of these files.
+fn objects_of<'a>(alloc: Global, files: &'a [Vec<u8>]) -> Result<Vec<Object<'a>>> {
+    let mut objects = Vec::new(alloc);
+    for file in files {
+        objects.push(Object::read(alloc, file.as_slice())?)?;
+    }
+    Ok(objects)
 }
 
 /// How many relocations of an object's code are bound to a symbol of the image.
@@ -83,28 +120,45 @@ fn count_bound(bindings: &Bindings, objects: &[Object]) -> u64
     count
 }
 
-fn main(rt: HostRuntime) -> Result<()> {
-    let mut words = env::args(&rt)?.skip(1);
-    let number: u32 = words.next().context("how many objects")?.parse()?;
-    ensure!(1 <= number && number <= 10_000, "1 to 10,000 objects");
-    let mut files = Vec::new(rt.alloc());
-    for object in 0..number {
-        let other = if object == 0 { number - 1 } else { object - 1 };
-        files.push(example(rt.alloc(), object, other)?)?;
-    }
-    let mut objects = Vec::new(rt.alloc());
-    for file in &files {
-        objects.push(Object::read(rt.alloc(), file.as_slice())?)?;
-    }
-    let start = Instant::now(&rt)?;
-    let bindings = resolve(rt.alloc(), objects.as_slice(), &[])?;
-    let binding = start.elapsed(&rt)?;
-    let start = Instant::now(&rt)?;
-    let bound = count_bound(&bindings, objects.as_slice());
-    let telling = start.elapsed(&rt)?;
-    println!(rt; "{number} objects, {bound} relocations bound")?;
-    if words.next().is_some() {
+/// How many are, and how long it took to tell.
+fn tell(rt: &impl Clock, bindings: &Bindings, objects: &[Object]) -> io::Result<(u64, Duration)>
+    requires { bindings.now.objects ≡ objects.now }
+{
+    let start = Instant::now(rt)?;
+    let bound = count_bound(bindings, objects);
+    Ok((bound, start.elapsed(rt)?))
+}
+
+/// Binds the names of all objects, and prints what it came to.
+fn bind(
+    rt: &(impl Print + Clock),
+    alloc: Global,
+    objects: &[Object],
+    is_timed: bool,
+) -> Result<()> {
+    let start = Instant::now(rt)?;
+    let bindings = resolve(alloc, objects, &[])?;
+    let binding = start.elapsed(rt)?;
+    let (bound, telling) = tell(rt, &bindings, objects)?;
+    println!(rt; "{} objects, {bound} relocations bound", objects.len())?;
+    if is_timed {
         println!(rt; "bound in {binding:?}, told in {telling:?}")?;
     }
     Ok(())
+}
+
+/// How many objects are asked for.
+fn number_of(word: Option<String>) -> Result<u32> {
+    let number: u32 = word.context("how many objects")?.parse()?;
+    ensure!(1 <= number && number <= 10_000, "1 to 10,000 objects");
+    Ok(number)
+}
+
+fn main(rt: HostRuntime) -> Result<()> {
+    let mut words = env::args(&rt)?.skip(1);
+    let number = number_of(words.next())?;
+    let is_timed = words.next().is_some();
+    let files = files_of(rt.alloc(), number)?;
+    let objects = objects_of(rt.alloc(), files.as_slice())?;
+    bind(&rt, rt.alloc(), objects.as_slice(), is_timed)
 }

@@ -4,78 +4,126 @@ ghost use Rattle.std.specs.Prelude.{◌≡◌, ◌<◌, length};
 ghost use Rattle.tls_symbols.specs.Bindings.{object_at};
 
 use elf_object::Object;
-use elf_records::symbol::{STB_WEAK, STT_FUNC, STT_NOTYPE, STT_TLS};
-use elf_records::{Rela, SymbolEntry};
+use elf_records::Rela;
+use elf_records::symbol::STT_NOTYPE;
 use link_faults::LinkFault;
 use object_builder::{Section, Symbol, object_of, rela};
 use std::alloc::{AllocError, Global};
 use std::test::Fail;
 use tls_symbols::{Binding, Bindings, Exports, exports, resolve};
 
-/// The section of variables of each object, and that of its code. Section 3 holds the code's relocations, where there
-/// are any, and the symbols come behind that.
-const VARIABLES: u16 = 1;
+/// The section of each object's code. Section 1 holds its variables, section 3 the code's relocations, where there are
+/// any, and the symbols come behind that.
+const CODE: u32 = 2;
 
-const CODE: u16 = 2;
+/// The kinds of symbols: st_info, st_shndx, st_other, st_value and st_size of each. `v` is a GLOBAL variable, `f` a
+/// GLOBAL function, `u` a GLOBAL name that the object does not define, and with `w` in front the same, but WEAK; `l` and
+/// `k` are a LOCAL variable and function; `vi`, `vh` and `vp` are internal, hidden and protected.
+const KINDS: &str = "\
+v 22 1 0 0 4
+f 18 2 0 0 1
+u 16 0 0 0 0
+wv 38 1 0 0 4
+wf 34 2 0 0 1
+wu 32 0 0 0 0
+l 6 1 0 4 4
+k 2 2 0 0 1
+vi 22 1 1 0 4
+vh 22 1 2 0 4
+vp 22 1 3 0 4
+";
 
-/// A GLOBAL variable.
-pub(crate) fn variable(name: &'static [u8]) -> Symbol<'static> {
-    Symbol::global(name, STT_TLS, VARIABLES, 0, 4)
+/// The numbers of a kind.
+fn numbers_of(kind: &str) -> Option<&'static str> {
+    for row in KINDS.lines() {
+        let (name, numbers) = row.split_once(' ')?;
+        if name == kind {
+            return Some(numbers);
+        }
+    }
+    None
 }
 
-/// A GLOBAL function.
-pub(crate) fn function(name: &'static [u8]) -> Symbol<'static> {
-    Symbol::global(name, STT_FUNC, CODE, 0, 1)
+/// The numbers of a row; fewer are followed by zeros.
+fn row_of(numbers: &str) -> [u64; 5] {
+    let mut row = [0; 5];
+    for (index, word) in numbers.split(' ').enumerate() {
+        if index < 5 {
+            row[index] = word.parse().unwrap_or(0);
+        }
+    }
+    row
 }
 
-/// A GLOBAL name that the object does not define.
-pub(crate) fn undefined(name: &'static [u8]) -> Symbol<'static> {
-    Symbol::global(name, STT_NOTYPE, 0, 0, 0)
+/// The symbol of a word KIND:NAME.
+fn symbol_of(word: &str) -> Option<Symbol<'_>> {
+    let (kind, name) = word.split_once(':')?;
+    let row = row_of(numbers_of(kind)?);
+    let mut symbol = Symbol::global(
+        name.as_bytes(),
+        STT_NOTYPE,
+        (row[1] % 8) as u16,
+        row[3],
+        row[4],
+    );
+    symbol.entry.info = (row[0] % 256) as u8;
+    symbol.entry.other = (row[2] % 4) as u8;
+    Some(symbol)
 }
 
-/// A LOCAL variable.
-pub(crate) fn local(name: &'static [u8]) -> Symbol<'static> {
-    Symbol::local(name, STT_TLS, VARIABLES, 4, 4)
+/// The symbols of an object's words.
+fn symbols_of(alloc: Global, words: &str) -> Result<Vec<Symbol<'_>>, Fail> {
+    let mut symbols = Vec::new(alloc);
+    for word in words.split_whitespace() {
+        if !word.contains('@') {
+            symbols.push(symbol_of(word).ok_or("a symbol")?)?;
+        }
+    }
+    Ok(symbols)
 }
 
-/// A LOCAL function.
-pub(crate) fn local_function(name: &'static [u8]) -> Symbol<'static> {
-    Symbol::local(name, STT_FUNC, CODE, 0, 1)
-}
-
-/// The symbol, but WEAK.
-pub(crate) fn weak(symbol: Symbol<'static>) -> Symbol<'static> {
-    let mut symbol = symbol;
-    symbol.entry.info = SymbolEntry::info_of(STB_WEAK, symbol.entry.info % 16);
-    symbol
-}
-
-/// The symbol with this visibility.
-pub(crate) fn seen_as(visibility: u8, symbol: Symbol<'static>) -> Symbol<'static> {
-    let mut symbol = symbol;
-    symbol.entry.other = visibility;
-    symbol
-}
-
-/// An object of these symbols, with a relocation for each pair of a type and a symbol's number.
-pub(crate) fn object(
-    alloc: Global,
-    symbols: &[Symbol],
-    uses: &[(u32, u32)],
-) -> Result<Vec<u8>, AllocError> {
+/// The relocations of an object's words TYPE@SYMBOL, one behind the other.
+fn relocations_of(alloc: Global, words: &str) -> Result<Vec<Rela>, Fail> {
     let mut relocations = Vec::new(alloc);
     let mut offset = 0_u64;
-    for (kind, symbol) in uses {
-        relocations.push(rela(offset, *kind, *symbol, 0))?;
-        offset = offset.saturating_add(8);
+    for word in words.split_whitespace() {
+        if let Some((kind, symbol)) = word.split_once('@') {
+            relocations.push(rela(offset, kind.parse()?, symbol.parse()?, 0))?;
+            offset = offset.saturating_add(8);
+        }
     }
+    Ok(relocations)
+}
+
+/// The object of these words.
+fn object(alloc: Global, words: &str) -> Result<Vec<u8>, Fail> {
+    let symbols = symbols_of(alloc, words)?;
+    let relocations = relocations_of(alloc, words)?;
     let code = Section::code(&[0x90; 128]).with(relocations.as_slice());
     let variables = Section::variables(&[1; 8]);
-    object_of(alloc, &[variables, code], symbols)
+    Ok(object_of(alloc, &[variables, code], symbols.as_slice())?)
+}
+
+/// The objects of an image, with `/` between them.
+pub(crate) fn files_of(alloc: Global, objects: &str) -> Result<Vec<Vec<u8>>, Fail> {
+    let mut files = Vec::new(alloc);
+    for words in objects.split('/') {
+        files.push(object(alloc, words)?)?;
+    }
+    Ok(files)
+}
+
+/// Images, each behind a `|`.
+pub(crate) fn images_of(alloc: Global, text: &str) -> Result<Vec<Vec<Vec<u8>>>, Fail> {
+    let mut images = Vec::new(alloc);
+    for objects in text.split('|').skip(1) {
+        images.push(files_of(alloc, objects)?)?;
+    }
+    Ok(images)
 }
 
 /// The objects of these files.
-pub(crate) fn read<'a>(alloc: Global, files: &'a [Vec<u8>]) -> Result<Vec<Object<'a>>, Fail> {
+fn read<'a>(alloc: Global, files: &'a [Vec<u8>]) -> Result<Vec<Object<'a>>, Fail> {
     let mut objects = Vec::new(alloc);
     for file in files {
         objects.push(Object::read(alloc, file.as_slice())?)?;
@@ -84,10 +132,7 @@ pub(crate) fn read<'a>(alloc: Global, files: &'a [Vec<u8>]) -> Result<Vec<Object
 }
 
 /// What images of these objects export, one after the other.
-pub(crate) fn exports_of<'a>(
-    alloc: Global,
-    images: &'a [Vec<Vec<u8>>],
-) -> Result<Vec<Exports<'a>>, Fail> {
+fn exports_of<'a>(alloc: Global, images: &'a [Vec<Vec<u8>>]) -> Result<Vec<Exports<'a>>, Fail> {
     let mut startup = Vec::new(alloc);
     for image in images {
         let objects = read(alloc, image.as_slice())?;
@@ -96,12 +141,22 @@ pub(crate) fn exports_of<'a>(
     Ok(startup)
 }
 
-/// The names, one behind the other.
-pub(crate) fn exported(alloc: Global, exports: &Exports) -> Result<Vec<u8>, AllocError> {
-    let mut text = Vec::new(alloc);
+/// Adds the names that an image exports, one behind the other.
+fn push_names(exports: &Exports, text: &mut Vec<u8>) -> Result<(), AllocError> {
     for name in exports.names() {
         text.extend_from_slice(name)?;
         text.push(b' ')?;
+    }
+    text.push(b'/')?;
+    Ok(())
+}
+
+/// The names that images export, with a `/` behind each image's.
+pub(crate) fn exported(alloc: Global, images: &[Vec<Vec<u8>>]) -> Result<Vec<u8>, Fail> {
+    let startup = exports_of(alloc, images)?;
+    let mut text = Vec::new(alloc);
+    for exports in &startup {
+        push_names(exports, &mut text)?;
     }
     Ok(text)
 }
@@ -148,7 +203,7 @@ fn push_said(
     requires there { index < length bindings.now.objects }
     requires here { object.now ≡ object_at bindings.now.objects index }
 {
-    for relocation in object.relocs(u32::from(CODE)) {
+    for relocation in object.relocs(CODE) {
         if relocation.symbol < object.symbol_count() {
             let one = one_said(alloc, bindings.binding(index, &relocation))?;
             text.push_str(one.as_str())?;

@@ -1,263 +1,78 @@
 //! Which definition a name binds to, what images export, and which fault comes first.
 
-use crate::images::{
-    exported, exports_of, function, local, local_function, object, said, seen_as, undefined,
-    variable, weak,
-};
-use elf_records::relocation::{
-    R_X86_64_64, R_X86_64_GOTPC32_TLSDESC, R_X86_64_GOTPCREL, R_X86_64_GOTTPOFF, R_X86_64_NONE,
-    R_X86_64_PLT32, R_X86_64_TLSDESC_CALL, R_X86_64_TLSGD, R_X86_64_TLSLD, R_X86_64_TPOFF32,
-};
-use elf_records::symbol::{STV_HIDDEN, STV_INTERNAL, STV_PROTECTED};
+use crate::images::{exported, files_of, images_of, said};
+use std::alloc::Global;
+use std::process::Abort;
 use std::test::Fail;
 
-/// The types by which code reaches a variable of its own image alone.
-const OWN: u32 = R_X86_64_TPOFF32;
+/// Each line: what each use is bound to, or the fault; then the objects of an image, with `/` between them, and each
+/// startup image behind a `|`. An object is words KIND:NAME, its symbols from number 1 on, and TYPE@SYMBOL, its uses by
+/// relocations. Of the types, 23 (TPOFF32) and 20 (TLSLD) are uses of the own image alone; 19 (TLSGD), 22 (GOTTPOFF), 34
+/// (GOTPC32_TLSDESC) and 35 (TLSDESC_CALL) leave room for another one; 0 (NONE), 1 (64), 4 (PLT32) and 9 (GOTPCREL) are
+/// not for variables.
+const CASES: &str = "\
+// a strong definition before a weak one, whichever comes first; symbol 1 of object 1 in both
+here 1 1: u:x 23@1 / v:x / wv:x
+here 2 1: u:x 23@1 / wv:x / v:x
+// the first of two weak definitions, and the same symbol where both are weak
+here 1 2: u:x 23@1 / wv:w wv:x / wv:x
+// a LOCAL symbol binds to itself, and the other object's use of the name to the GLOBAL one
+here 0 1 here 1 1 here 1 1: l:x 23@1 / v:x 23@1 / u:x 23@1
+// one object has a LOCAL and a GLOBAL symbol of one name
+here 0 1 here 0 2: l:x v:x 23@1 23@2
+// of a name in two startup images the first, and for the four types alone that leave room for another image
+startup 1 startup 2 startup 1 startup 2 run-time: u:x wu:y u:__tls_get_addr 19@1 22@2 34@1 35@2 4@3 0@9 | v:x vh:z f:f | v:x wv:y vi:i vp:p
+// a use that leaves no room for another image
+Undefined at object Some(0) section 3 entry 1: u:x 19@1 23@1 | v:x vh:z
+// a hidden name, a WEAK one that nothing defines, and a module pair, which is the image's own
+Undefined at object Some(0) section 3 entry 0: u:z 19@1 | v:x vh:z
+Undefined at object Some(1) section 3 entry 0:  / wu:w 1@1
+Undefined at object Some(0) section 3 entry 0: u:x 20@1 | v:x vh:z
+// two strong definitions of a name that nothing uses, in two objects and in one; section 3 holds the symbols
+Duplicate at object Some(1) section 3 entry 2: v:x / f:f v:x
+Duplicate at object Some(0) section 3 entry 3: v:x f:f v:x
+// the run time's function, WEAK; a LOCAL one of that name is none of it, and a strong one beside a weak one is fine
+Duplicate at object Some(0) section 3 entry 1: wf:__tls_get_addr
+here 0 1 here 0 2: k:__tls_get_addr v:x wv:x 4@1 23@3
+// a function by a type of thread-local storage, and a variable by another type
+NotTls at object Some(0) section 3 entry 1: v:x f:f 23@1 19@2
+NotTls at object Some(0) section 3 entry 1: v:x f:f 4@2 9@1
+// the run time's function is no variable, and the definition decides, not the type of the undefined symbol
+NotTls at object Some(0) section 3 entry 0: u:__tls_get_addr 19@1
+// NotTls in object 0, Duplicate in object 1, Undefined in object 2: the kinds count before the places
+Undefined at object Some(2) section 3 entry 0: v:x f:f 19@2 / v:x / u:n 4@1
+Duplicate at object Some(1) section 3 entry 1: v:x f:f 19@2 / v:x
+";
 
-#[test]
-fn names_of_one_image(rt: HostRuntime) -> Result<(), Fail> {
-    let alloc = rt.alloc();
-    // A strong definition before a weak one, whichever comes first; symbol 1 of object 1 in both.
-    let uses = object(alloc, &[undefined(b"x")], &[(OWN, 1)])?;
-    let weak_one = object(alloc, &[weak(variable(b"x"))], &[])?;
-    let strong_one = object(alloc, &[variable(b"x")], &[])?;
-    let files = vec![in alloc; uses, strong_one, weak_one]?;
-    assert_eq!(rt; said(alloc, &files, &[])?.as_str(), "here 1 1 ");
-    let uses = object(alloc, &[undefined(b"x")], &[(OWN, 1)])?;
-    let weak_one = object(alloc, &[weak(variable(b"x"))], &[])?;
-    let strong_one = object(alloc, &[variable(b"x")], &[])?;
-    let files = vec![in alloc; uses, weak_one, strong_one]?;
-    assert_eq!(rt; said(alloc, &files, &[])?.as_str(), "here 2 1 ");
+/// Compares what is said with what a case wants.
+fn same(rt: &impl Abort, found: &str, want: &str, line: &str) {
+    assert!(rt; found.trim_end() == want, "{found}: {line}");
+}
+
+/// Compares what is said of one case.
+fn check(rt: &impl Abort, alloc: Global, line: &str) -> Result<(), Fail> {
+    let (want, rest) = line.split_once(": ").ok_or("an answer")?;
+    let own = rest.split('|').next().unwrap_or("");
+    let files = files_of(alloc, own)?;
+    let images = images_of(alloc, rest)?;
+    same(rt, said(alloc, &files, &images)?.as_str(), want, line);
     Ok(())
 }
 
 #[test]
-fn weak_and_local_names(rt: HostRuntime) -> Result<(), Fail> {
-    let alloc = rt.alloc();
-    // The first of two weak definitions, and the same symbol where both are weak.
-    let uses = object(alloc, &[undefined(b"x")], &[(OWN, 1)])?;
-    let first = object(alloc, &[weak(variable(b"w")), weak(variable(b"x"))], &[])?;
-    let second = object(alloc, &[weak(variable(b"x"))], &[])?;
-    let files = vec![in alloc; uses, first, second]?;
-    assert_eq!(rt; said(alloc, &files, &[])?.as_str(), "here 1 2 ");
-    // A LOCAL symbol binds to itself, and the other object's use of the name to the GLOBAL one.
-    let own = object(alloc, &[local(b"x")], &[(OWN, 1)])?;
-    let global = object(alloc, &[variable(b"x")], &[(OWN, 1)])?;
-    let other = object(alloc, &[undefined(b"x")], &[(OWN, 1)])?;
-    let files = vec![in alloc; own, global, other]?;
-    assert_eq!(rt;
-        said(alloc, &files, &[])?.as_str(),
-        "here 0 1 here 1 1 here 1 1 "
-    );
-    // One object has a LOCAL and a GLOBAL symbol of one name.
-    let both = object(alloc, &[local(b"x"), variable(b"x")], &[(OWN, 1), (OWN, 2)])?;
-    let files = vec![in alloc; both]?;
-    assert_eq!(rt; said(alloc, &files, &[])?.as_str(), "here 0 1 here 0 2 ");
+fn names_bind(rt: HostRuntime) -> Result<(), Fail> {
+    for line in CASES.lines() {
+        if !line.starts_with("//") {
+            check(&rt, rt.alloc(), line)?;
+        }
+    }
     Ok(())
 }
 
+// z is hidden, i internal, p protected, and f no variable.
 #[test]
-fn names_of_startup_images(rt: HostRuntime) -> Result<(), Fail> {
-    let alloc = rt.alloc();
-    // Two startup images export x, the second y too; z is hidden, i internal, p protected, f no variable.
-    let program = object(
-        alloc,
-        &[
-            variable(b"x"),
-            seen_as(STV_HIDDEN, variable(b"z")),
-            function(b"f"),
-        ],
-        &[],
-    )?;
-    let module = object(
-        alloc,
-        &[
-            variable(b"x"),
-            weak(variable(b"y")),
-            seen_as(STV_INTERNAL, variable(b"i")),
-            seen_as(STV_PROTECTED, variable(b"p")),
-        ],
-        &[],
-    )?;
-    let images = vec![in alloc; vec![in alloc; program]?, vec![in alloc; module]?]?;
-    let startup = exports_of(alloc, &images)?;
-    assert_eq!(rt; startup.len(), 2);
-    assert_eq!(rt; exported(alloc, &startup[0])?.as_slice(), b"x ".as_slice());
-    assert_eq!(rt;
-        exported(alloc, &startup[1])?.as_slice(),
-        b"x y p ".as_slice()
-    );
-    // Of a name in both the first, and for the four types alone that leave room for another image.
-    let uses = object(
-        alloc,
-        &[
-            undefined(b"x"),
-            weak(undefined(b"y")),
-            undefined(b"__tls_get_addr"),
-        ],
-        &[
-            (R_X86_64_TLSGD, 1),
-            (R_X86_64_GOTTPOFF, 2),
-            (R_X86_64_GOTPC32_TLSDESC, 1),
-            (R_X86_64_TLSDESC_CALL, 2),
-            (R_X86_64_PLT32, 3),
-            (R_X86_64_NONE, 9),
-        ],
-    )?;
-    let files = vec![in alloc; uses]?;
-    assert_eq!(rt;
-        said(alloc, &files, &images)?.as_str(),
-        "startup 1 startup 2 startup 1 startup 2 run-time "
-    );
-    Ok(())
-}
-
-#[test]
-fn undefined_names(rt: HostRuntime) -> Result<(), Fail> {
-    let alloc = rt.alloc();
-    let program = object(
-        alloc,
-        &[variable(b"x"), seen_as(STV_HIDDEN, variable(b"z"))],
-        &[],
-    )?;
-    let images = vec![in alloc; vec![in alloc; program]?]?;
-    // A use that leaves no room for another image.
-    let uses = object(alloc, &[undefined(b"x")], &[(R_X86_64_TLSGD, 1), (OWN, 1)])?;
-    let files = vec![in alloc; uses]?;
-    assert_eq!(rt;
-        said(alloc, &files, &images)?.as_str(),
-        "Undefined at object Some(0) section 3 entry 1"
-    );
-    // A hidden name, a WEAK one that nothing defines, and a module pair, which is the image's own.
-    let uses = object(alloc, &[undefined(b"z")], &[(R_X86_64_TLSGD, 1)])?;
-    let files = vec![in alloc; uses]?;
-    assert_eq!(rt;
-        said(alloc, &files, &images)?.as_str(),
-        "Undefined at object Some(0) section 3 entry 0"
-    );
-    let fine = object(alloc, &[], &[])?;
-    let uses = object(alloc, &[weak(undefined(b"w"))], &[(R_X86_64_64, 1)])?;
-    let files = vec![in alloc; fine, uses]?;
-    assert_eq!(rt;
-        said(alloc, &files, &[])?.as_str(),
-        "Undefined at object Some(1) section 3 entry 0"
-    );
-    let uses = object(alloc, &[undefined(b"x")], &[(R_X86_64_TLSLD, 1)])?;
-    let files = vec![in alloc; uses]?;
-    assert_eq!(rt;
-        said(alloc, &files, &images)?.as_str(),
-        "Undefined at object Some(0) section 3 entry 0"
-    );
-    Ok(())
-}
-
-#[test]
-fn duplicate_names(rt: HostRuntime) -> Result<(), Fail> {
-    let alloc = rt.alloc();
-    // Two strong definitions of a name that nothing uses, in two objects and in one; section 3 holds the symbols.
-    let first = object(alloc, &[variable(b"x")], &[])?;
-    let second = object(alloc, &[function(b"f"), variable(b"x")], &[])?;
-    let files = vec![in alloc; first, second]?;
-    assert_eq!(rt;
-        said(alloc, &files, &[])?.as_str(),
-        "Duplicate at object Some(1) section 3 entry 2"
-    );
-    let both = object(
-        alloc,
-        &[variable(b"x"), function(b"f"), variable(b"x")],
-        &[],
-    )?;
-    let files = vec![in alloc; both]?;
-    assert_eq!(rt;
-        said(alloc, &files, &[])?.as_str(),
-        "Duplicate at object Some(0) section 3 entry 3"
-    );
-    // The run time's function, WEAK. A LOCAL one of that name is none of it, and a strong one beside a weak one is
-    // fine.
-    let taken = object(alloc, &[weak(function(b"__tls_get_addr"))], &[])?;
-    let files = vec![in alloc; taken]?;
-    assert_eq!(rt;
-        said(alloc, &files, &[])?.as_str(),
-        "Duplicate at object Some(0) section 3 entry 1"
-    );
-    let own = object(
-        alloc,
-        &[
-            local_function(b"__tls_get_addr"),
-            variable(b"x"),
-            weak(variable(b"x")),
-        ],
-        &[(R_X86_64_PLT32, 1), (OWN, 3)],
-    )?;
-    let files = vec![in alloc; own]?;
-    assert_eq!(rt; said(alloc, &files, &[])?.as_str(), "here 0 1 here 0 2 ");
-    Ok(())
-}
-
-#[test]
-fn uses_that_do_not_suit(rt: HostRuntime) -> Result<(), Fail> {
-    let alloc = rt.alloc();
-    // A function by a type of thread-local storage, and a variable by another type.
-    let uses = object(
-        alloc,
-        &[variable(b"x"), function(b"f")],
-        &[(OWN, 1), (R_X86_64_TLSGD, 2)],
-    )?;
-    let files = vec![in alloc; uses]?;
-    assert_eq!(rt;
-        said(alloc, &files, &[])?.as_str(),
-        "NotTls at object Some(0) section 3 entry 1"
-    );
-    let uses = object(
-        alloc,
-        &[variable(b"x"), function(b"f")],
-        &[(R_X86_64_PLT32, 2), (R_X86_64_GOTPCREL, 1)],
-    )?;
-    let files = vec![in alloc; uses]?;
-    assert_eq!(rt;
-        said(alloc, &files, &[])?.as_str(),
-        "NotTls at object Some(0) section 3 entry 1"
-    );
-    // The run time's function is no variable, and the definition decides, not the type of the undefined symbol.
-    let uses = object(
-        alloc,
-        &[undefined(b"__tls_get_addr")],
-        &[(R_X86_64_TLSGD, 1)],
-    )?;
-    let files = vec![in alloc; uses]?;
-    assert_eq!(rt;
-        said(alloc, &files, &[])?.as_str(),
-        "NotTls at object Some(0) section 3 entry 0"
-    );
-    Ok(())
-}
-
-#[test]
-fn two_faults(rt: HostRuntime) -> Result<(), Fail> {
-    let alloc = rt.alloc();
-    // NotTls in object 0, Duplicate in object 1, Undefined in object 2: the kinds count before the places.
-    let suits_not = object(
-        alloc,
-        &[variable(b"x"), function(b"f")],
-        &[(R_X86_64_TLSGD, 2)],
-    )?;
-    let again = object(alloc, &[variable(b"x")], &[])?;
-    let nothing = object(alloc, &[undefined(b"n")], &[(R_X86_64_PLT32, 1)])?;
-    let files = vec![in alloc; suits_not, again, nothing]?;
-    assert_eq!(rt;
-        said(alloc, &files, &[])?.as_str(),
-        "Undefined at object Some(2) section 3 entry 0"
-    );
-    let suits_not = object(
-        alloc,
-        &[variable(b"x"), function(b"f")],
-        &[(R_X86_64_TLSGD, 2)],
-    )?;
-    let again = object(alloc, &[variable(b"x")], &[])?;
-    let files = vec![in alloc; suits_not, again]?;
-    assert_eq!(rt;
-        said(alloc, &files, &[])?.as_str(),
-        "Duplicate at object Some(1) section 3 entry 1"
-    );
+fn images_export(rt: HostRuntime) -> Result<(), Fail> {
+    let images = images_of(rt.alloc(), "| v:x vh:z f:f | v:x wv:y vi:i vp:p")?;
+    assert!(rt; exported(rt.alloc(), &images)?.as_slice() == b"x /x y p /".as_slice());
     Ok(())
 }

@@ -1,6 +1,6 @@
 //! Jobs against the answers that the grammar gives.
 
-use job_text::{Action, Job, JobFault, ThreadLine};
+use job_text::{Job, JobFault};
 use std::alloc::Global;
 use std::test::Fail;
 
@@ -97,7 +97,7 @@ fn finds_the_first_fault(rt: HostRuntime) -> Result<(), Fail> {
         let (want, job) = row.split_once(": ").ok_or("a row")?;
         let job = text_of(alloc, job)?;
         let found = fault_text(alloc, job.as_str())?;
-        assert_eq!(rt; found.as_str(), want, "in {job:?}");
+        assert!(rt; found.as_str() == want, "{found} in {job}");
     }
     Ok(())
 }
@@ -128,7 +128,7 @@ fn takes_65536_lines(rt: HostRuntime) -> Result<(), Fail> {
     ] {
         let job = long_job(rt.alloc(), behind)?;
         let found = fault_text(rt.alloc(), job.as_str())?;
-        assert_eq!(rt; found.as_str(), want);
+        assert!(rt; found.as_str() == want, "{found}");
     }
     Ok(())
 }
@@ -138,96 +138,42 @@ const GOOD: &str = "# each group in the order of the job\nimage plug late p.o q.
     2 call lib f 1 0xFFFFFFFFFFFFFFff 0\n1 open plug\n1 peek plug v 4096\n1 close plug\n\
     image more late m.o\n2 open more\n0x1 call app main 0 0 0";
 
-/// A line of a thread, as text.
-fn line_of(alloc: Global, line: &ThreadLine) -> Result<String, Fail> {
-    let image = line.image;
-    let text = match &line.action {
-        Action::Call { symbol, a, b, c } => {
-            let symbol = symbol.as_str();
-            format!(in alloc; "call {image} {symbol} {a} {b} {c}")?
-        }
-        Action::Open => format!(in alloc; "open {image}")?,
-        Action::Close => format!(in alloc; "close {image}")?,
-        Action::Peek { symbol, length } => {
-            let symbol = symbol.as_str();
-            format!(in alloc; "peek {image} {symbol} {length}")?
-        }
-    };
-    Ok(text)
-}
+/// What that job says, as Debug prints it.
+const GOOD_SAID: &str = "\
+2 4294967295 [2, 1, 2]\n\
+[\
+Image { name: Name { text: \"app\" }, kind: Pie, objects: Names { items: [Name { text: \"a.o\" }] } }, \
+Image { name: Name { text: \"lib\" }, kind: Start, objects: Names { items: [Name { text: \"l.o\" }] } }, \
+Image { name: Name { text: \"plug\" }, kind: Late, objects: Names { items: [Name { text: \"p.o\" }, Name { text: \"q.o\" }] } }, \
+Image { name: Name { text: \"more\" }, kind: Late, objects: Names { items: [Name { text: \"m.o\" }] } }]\n\
+[\
+ThreadLine { image: 3, action: Open }, \
+ThreadLine { image: 3, action: Peek { symbol: Name { text: \"v\" }, length: 4096 } }, \
+ThreadLine { image: 3, action: Close }, \
+ThreadLine { image: 1, action: Call { symbol: Name { text: \"main\" }, a: 0, b: 0, c: 0 } }]\n\
+[\
+ThreadLine { image: 2, action: Call { symbol: Name { text: \"f\" }, a: 1, b: 18446744073709551615, c: 0 } }, \
+ThreadLine { image: 4, action: Open }]\n";
 
-/// The lines of a thread, as one text.
-fn lines_of(alloc: Global, job: &Job, thread: u32) -> Result<String, Fail> {
-    let mut all = String::new(alloc);
-    for line in job.lines(thread) {
-        let text = line_of(alloc, line)?;
-        all.push_str(text.as_str())?;
-        all.push_str("; ")?;
-    }
-    Ok(all)
-}
+const LITTLE_SAID: &str = "\
+1 100000 []\n\
+[Image { name: Name { text: \"app\" }, kind: Exe, objects: Names { items: [Name { text: \"a.o\" }] } }]\n\
+[ThreadLine { image: 1, action: Open }]\n[]\n";
 
-/// The images of a job, as one text.
-fn images_of(alloc: Global, job: &Job) -> Result<String, Fail> {
-    let mut images = String::new(alloc);
-    for image in job.images() {
-        let name = image.name.as_str();
-        let kind = image.kind;
-        write!(images, "{name} {kind:?}")?;
-        for object in image.objects.as_slice() {
-            images.push_str(" ")?;
-            images.push_str(object.as_str())?;
-        }
-        images.push_str("; ")?;
-    }
-    Ok(images)
+/// What a job says, as one text: its threads, steps and order, its images, and the lines of two threads.
+fn said(alloc: Global, job: &str) -> Result<String, Fail> {
+    let job = Job::read(alloc, job.as_bytes())?;
+    let (threads, fuel, order) = (job.threads(), job.fuel(), job.order());
+    let (images, first, second) = (job.images(), job.lines(1), job.lines(2));
+    Ok(format!(in alloc; "{threads} {fuel} {order:?}\n{images:?}\n{first:?}\n{second:?}\n")?)
 }
 
 #[test]
-fn reads_images(rt: HostRuntime) -> Result<(), Fail> {
-    let job = Job::read(rt.alloc(), GOOD.as_bytes())?;
-    let images = images_of(rt.alloc(), &job)?;
-    assert_eq!(rt;
-        images.as_str(),
-        "app Pie a.o; lib Start l.o; plug Late p.o q.o; more Late m.o; "
-    );
-    assert_eq!(rt; job.number("plug"), Some(3));
-    assert_eq!(rt; job.number("plu"), None);
-    Ok(())
-}
-
-#[test]
-fn reads_threads(rt: HostRuntime) -> Result<(), Fail> {
-    let job = Job::read(rt.alloc(), GOOD.as_bytes())?;
-    assert_eq!(rt; job.threads(), 2);
-    assert_eq!(rt; job.fuel(), 4_294_967_295);
-    assert_eq!(rt; job.order(), [2, 1, 2].as_slice());
-    assert_eq!(rt; job.lines(0).len(), 0);
-    assert_eq!(rt; job.lines(3).len(), 0);
-    Ok(())
-}
-
-#[test]
-fn reads_lines(rt: HostRuntime) -> Result<(), Fail> {
-    let job = Job::read(rt.alloc(), GOOD.as_bytes())?;
-    let lines = lines_of(rt.alloc(), &job, 1)?;
-    assert_eq!(rt;
-        lines.as_str(),
-        "open 3; peek 3 v 4096; close 3; call 1 main 0 0 0; "
-    );
-    let lines = lines_of(rt.alloc(), &job, 2)?;
-    assert_eq!(rt;
-        lines.as_str(),
-        "call 2 f 1 18446744073709551615 0; open 4; "
-    );
-    Ok(())
-}
-
-#[test]
-fn knows_what_is_not_said(rt: HostRuntime) -> Result<(), Fail> {
-    let job = Job::read(rt.alloc(), b"image app exe a.o\n1 call app f 0 0 0\n")?;
-    assert_eq!(rt; job.threads(), 1);
-    assert_eq!(rt; job.fuel(), 100_000);
-    assert_eq!(rt; job.order().len(), 0);
+fn reads_a_job(rt: HostRuntime) -> Result<(), Fail> {
+    let found = said(rt.alloc(), GOOD)?;
+    assert!(rt; found.as_str() == GOOD_SAID, "{found}");
+    // what is not said: one thread, 100,000 steps, and no order
+    let found = said(rt.alloc(), "image app exe a.o\n1 open app\n")?;
+    assert!(rt; found.as_str() == LITTLE_SAID, "{found}");
     Ok(())
 }

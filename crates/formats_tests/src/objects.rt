@@ -1,28 +1,27 @@
 //! Whether the definitions of faults say what the standard means. Each case changes some fields of one small object and
 //! gives the answer that a reader of the gABI expects.
 
-use elf_object::{
-    FaultKind, Object, ObjectFault, RelocationKind, SectionClass, SymbolPlace, SymbolType,
-};
+use elf_object::{FaultKind, Object, ObjectFault};
 use elf_records::relocation::{R_X86_64_NONE, R_X86_64_TPOFF32};
 use elf_records::symbol::{STT_FUNC, STT_TLS};
-use elf_records::{Header, Rela, SectionHeader, SymbolEntry};
-use object_builder::{Draft, Section, Symbol, draft_of, rela};
+use object_builder::{Section, Symbol, object_of, rela};
 use std::alloc::{AllocError, Global};
 use std::process::Abort;
 use std::test::Fail;
 
+/// The code of the example: mov %fs:x@tpoff, %eax; ret
+const CODE: &[u8] = b"\x64\x8b\x04\x25\0\0\0\0\xc3";
+
 /// An object with a function and a thread-local variable, as an assembler writes it: sections 1 `.text`, 2 its
 /// relocations, 3 `.tdata`, 4 `.tbss`, 5 `.symtab`, 6 `.strtab`, 7 `.shstrtab`; symbols 1 `f`, 2 `x`. Relocation 1 does
 /// nothing.
-fn example(alloc: Global) -> Result<Draft, AllocError> {
+fn example(alloc: Global) -> Result<Vec<u8>, AllocError> {
     let relocations = [
         rela(4, R_X86_64_TPOFF32, 2, 0),
         rela(4, R_X86_64_NONE, 0, 0),
     ];
     let sections = [
-        // mov %fs:x@tpoff, %eax; ret
-        Section::code(b"\x64\x8b\x04\x25\0\0\0\0\xc3").with(&relocations),
+        Section::code(CODE).with(&relocations),
         Section::variables(b"\x2a\0\0\0"),
         Section::zero_variables(0),
     ];
@@ -30,231 +29,222 @@ fn example(alloc: Global) -> Result<Draft, AllocError> {
         Symbol::global(b"f", STT_FUNC, 1, 0, 9),
         Symbol::global(b"x", STT_TLS, 3, 0, 4),
     ];
-    draft_of(alloc, &sections, &symbols)
+    object_of(alloc, &sections, &symbols)
 }
+
+/// Where each record of the example begins: the file's header, the headers of sections, behind the contents of
+/// sections the relocations and the symbols, and the last byte of each table of names.
+const RECORDS: &str = "\
+h 0
+0 64
+1 128
+2 192
+3 256
+4 320
+5 384
+6 448
+7 512
+r0 589
+r1 613
+y0 637
+y1 661
+y2 685
+names 713
+section_names 765
+";
+
+/// The gABI's fields: where each begins in its record, and how many bytes it has.
+const FIELDS: &str = "\
+e_ident0 0 1
+e_ident4 4 1
+e_ident5 5 1
+e_ident6 6 1
+e_ident7 7 1
+e_type 16 2
+e_machine 18 2
+e_version 20 4
+e_shoff 40 8
+e_shentsize 58 2
+e_shnum 60 2
+e_shstrndx 62 2
+sh_name 0 4
+sh_type 4 4
+sh_flags 8 8
+sh_offset 24 8
+sh_size 32 8
+sh_link 40 4
+sh_info 44 4
+sh_addralign 48 8
+sh_entsize 56 8
+st_name 0 4
+st_info 4 1
+st_shndx 6 2
+st_value 8 8
+st_size 16 8
+r_offset 0 8
+r_type 8 4
+r_sym 12 4
+last 0 1
+";
 
 /// Each line: the answer, `ok` or a section, an entry and a kind; then changes RECORD.FIELD=NUMBER of the example. A
 /// record is the file's header `h`, a section by its number, a symbol `y1`, a relocation `r0`, or the names, whose last
 /// byte can be changed.
 const CASES: &str = "\
 // the file as a whole
-0 0 Truncated h.shoff=18446744073709551615
-1 0 Truncated 1.offset=18446744073709551615
-7 0 Truncated 7.size=53
-3 0 Truncated 3.offset=767 3.size=0
-ok 4.offset=18446744073709551615
-ok 0.kind=1 0.offset=99999
-0 0 NotElf h.ident0=126
-0 0 NotElf h.ident4=1
-0 0 NotElf h.ident5=2
-0 0 NotElf h.ident6=0
-0 0 NotElf h.version=2
-ok h.ident7=3
-0 0 NotRelocatable h.type=2
-0 0 NotRelocatable h.machine=3
-0 0 NotRelocatable h.shentsize=63
-0 0 NotRelocatable h.shnum=0
-0 0 NotRelocatable h.shnum=65280
-0 0 NotRelocatable h.shstrndx=0
-0 0 NotRelocatable h.shstrndx=8
+0 0 Truncated: h.e_shoff=18446744073709551615
+1 0 Truncated: 1.sh_offset=18446744073709551615
+7 0 Truncated: 7.sh_size=53
+3 0 Truncated: 3.sh_offset=767 3.sh_size=0
+ok: 4.sh_offset=18446744073709551615
+ok: 0.sh_type=1 0.sh_offset=99999
+0 0 NotElf: h.e_ident0=126
+0 0 NotElf: h.e_ident4=1
+0 0 NotElf: h.e_ident5=2
+0 0 NotElf: h.e_ident6=0
+0 0 NotElf: h.e_version=2
+ok: h.e_ident7=3
+0 0 NotRelocatable: h.e_type=2
+0 0 NotRelocatable: h.e_machine=3
+0 0 NotRelocatable: h.e_shentsize=63
+0 0 NotRelocatable: h.e_shnum=0
+0 0 NotRelocatable: h.e_shnum=65280
+0 0 NotRelocatable: h.e_shstrndx=0
+0 0 NotRelocatable: h.e_shstrndx=8
 // sections
-7 0 SectionName 7.kind=1
-3 0 SectionName 3.name=52
-7 0 SectionName section_names.last=65
-ok 3.name=51
-3 0 SectionKind 3.kind=9
-3 0 SectionKind 3.kind=17
-3 0 SectionKind 3.kind=18
-3 0 SectionKind 3.flags=1024
-1 0 SectionKind 1.flags=7
-1 0 SectionKind 1.kind=8
-1 0 SectionKind 1.flags=518
-4 0 SectionKind 4.kind=0
-ok 1.flags=54
-1 0 SectionAlign 1.align=3
-1 0 SectionAlign 1.align=8192
-4 0 SectionAlign 4.align=6
-ok 1.align=4096 3.align=0 7.align=3
-4 0 TooLarge 4.size=1048577
-ok 4.size=1048576
+7 0 SectionName: 7.sh_type=1
+3 0 SectionName: 3.sh_name=52
+7 0 SectionName: section_names.last=65
+ok: 3.sh_name=51
+3 0 SectionKind: 3.sh_type=9
+3 0 SectionKind: 3.sh_type=17
+3 0 SectionKind: 3.sh_type=18
+3 0 SectionKind: 3.sh_flags=1024
+1 0 SectionKind: 1.sh_flags=7
+1 0 SectionKind: 1.sh_type=8
+1 0 SectionKind: 1.sh_flags=518
+4 0 SectionKind: 4.sh_type=0
+ok: 1.sh_flags=54
+1 0 SectionAlign: 1.sh_addralign=3
+1 0 SectionAlign: 1.sh_addralign=8192
+4 0 SectionAlign: 4.sh_addralign=6
+ok: 1.sh_addralign=4096 3.sh_addralign=0 7.sh_addralign=3
+4 0 TooLarge: 4.sh_size=1048577
+ok: 4.sh_size=1048576
 // the symbol table
-5 0 SymbolTable 5.entsize=25
-5 0 SymbolTable 5.size=71
-5 0 SymbolTable 5.link=1
-5 0 SymbolTable 5.link=0
-5 0 SymbolTable 5.info=4
-3 0 SymbolTable 3.kind=2 3.flags=0
-5 1 SymbolTable y1.info=2
-5 1 SymbolTable 5.info=2
-5 0 SymbolTable 2.kind=2 2.offset=637 2.size=72 2.link=6
-2 1 SymbolTable 2.kind=2 2.offset=637 2.size=72 2.link=6 y1.info=2
-5 1 SymbolName y1.name=5
-5 1 SymbolName y1.name=0
-5 2 SymbolName names.last=65
-ok y1.name=0 y1.info=2 5.info=2
-5 1 SymbolSection y1.shndx=8
-5 1 SymbolSection y1.shndx=6
-5 1 SymbolSection y1.shndx=65521
-5 1 SymbolSection y1.shndx=65522
-5 1 SymbolSection y1.info=2 5.info=2 y1.shndx=0
-ok y1.info=0 5.info=2 y1.shndx=65521
-ok y1.info=3 5.info=2 y1.shndx=7 y1.value=99999
-5 2 SymbolRange y2.value=1
-5 2 SymbolRange y2.value=1 y2.size=18446744073709551615
-5 1 SymbolRange y1.value=10 y1.size=0
-ok y1.value=9 y1.size=0
-5 1 SymbolKind y1.info=22
-5 1 SymbolKind y1.info=48
-5 1 SymbolKind y1.info=21
-5 1 SymbolKind y1.info=26
-5 2 SymbolKind y2.info=18
-5 2 SymbolKind y2.info=20
-ok y2.shndx=0
+5 0 SymbolTable: 5.sh_entsize=25
+5 0 SymbolTable: 5.sh_size=71
+5 0 SymbolTable: 5.sh_link=1
+5 0 SymbolTable: 5.sh_link=0
+5 0 SymbolTable: 5.sh_info=4
+3 0 SymbolTable: 3.sh_type=2 3.sh_flags=0
+5 1 SymbolTable: y1.st_info=2
+5 1 SymbolTable: 5.sh_info=2
+5 0 SymbolTable: 2.sh_type=2 2.sh_offset=637 2.sh_size=72 2.sh_link=6
+2 1 SymbolTable: 2.sh_type=2 2.sh_offset=637 2.sh_size=72 2.sh_link=6 y1.st_info=2
+5 1 SymbolName: y1.st_name=5
+5 1 SymbolName: y1.st_name=0
+5 2 SymbolName: names.last=65
+ok: y1.st_name=0 y1.st_info=2 5.sh_info=2
+5 1 SymbolSection: y1.st_shndx=8
+5 1 SymbolSection: y1.st_shndx=6
+5 1 SymbolSection: y1.st_shndx=65521
+5 1 SymbolSection: y1.st_shndx=65522
+5 1 SymbolSection: y1.st_info=2 5.sh_info=2 y1.st_shndx=0
+ok: y1.st_info=0 5.sh_info=2 y1.st_shndx=65521
+ok: y1.st_info=3 5.sh_info=2 y1.st_shndx=7 y1.st_value=99999
+5 2 SymbolRange: y2.st_value=1
+5 2 SymbolRange: y2.st_value=1 y2.st_size=18446744073709551615
+5 1 SymbolRange: y1.st_value=10 y1.st_size=0
+ok: y1.st_value=9 y1.st_size=0
+5 1 SymbolKind: y1.st_info=22
+5 1 SymbolKind: y1.st_info=48
+5 1 SymbolKind: y1.st_info=21
+5 1 SymbolKind: y1.st_info=26
+5 2 SymbolKind: y2.st_info=18
+5 2 SymbolKind: y2.st_info=20
+ok: y2.st_shndx=0
 // relocations
-2 0 RelocTarget 2.info=0
-2 0 RelocTarget 2.info=8
-2 0 RelocTarget 2.entsize=25
-2 0 RelocTarget 2.size=23
-2 0 RelocTarget 2.link=6
-2 0 RelocTarget 2.info=4
-2 0 RelocTarget 5.kind=0
-4 0 RelocTarget 4.kind=4 4.flags=0 4.offset=589 4.size=24 4.link=5 4.info=1 4.entsize=24
-4 0 RelocTarget 4.kind=4 4.flags=0 4.offset=589 4.size=0 4.link=5 4.info=1 4.entsize=24 2.size=0
-ok 2.info=4 2.size=0
-ok 2.info=6 2.entsize=1
-2 0 RelocSymbol r0.symbol=0
-2 0 RelocSymbol r0.symbol=3
-2 0 RelocSymbol y1.info=0 5.info=2 y1.shndx=65521 r0.symbol=1
-2 0 RelocSymbol y1.info=3 5.info=2 y1.shndx=7 r0.symbol=1
-ok r0.type=0 r0.symbol=99
-2 0 RelocKind r0.type=24
-2 0 RelocKind r0.type=3
-2 0 RelocKind 2.info=3 r0.offset=0 r0.type=4
-ok 2.info=3 r0.offset=0 r0.type=2
-2 0 RelocRange r0.offset=6
-2 0 RelocRange r0.offset=18446744073709551614
-2 0 RelocRange 2.info=3 r0.offset=0 r0.type=1
-2 0 RelocRange r0.offset=10 r0.type=0
-ok r0.offset=9 r0.type=0
-2 1 RelocOverlap r1.offset=5 r1.type=23 r1.symbol=2
-2 1 RelocOverlap r1.offset=1 r1.type=23 r1.symbol=2
-ok r1.offset=0 r1.type=23 r1.symbol=2
-ok r1.offset=5 r1.type=0 r1.symbol=2
+2 0 RelocTarget: 2.sh_info=0
+2 0 RelocTarget: 2.sh_info=8
+2 0 RelocTarget: 2.sh_entsize=25
+2 0 RelocTarget: 2.sh_size=23
+2 0 RelocTarget: 2.sh_link=6
+2 0 RelocTarget: 2.sh_info=4
+2 0 RelocTarget: 5.sh_type=0
+4 0 RelocTarget: 4.sh_type=4 4.sh_flags=0 4.sh_offset=589 4.sh_size=24 4.sh_link=5 4.sh_info=1 4.sh_entsize=24
+4 0 RelocTarget: 4.sh_type=4 4.sh_flags=0 4.sh_offset=589 4.sh_size=0 4.sh_link=5 4.sh_info=1 4.sh_entsize=24 2.sh_size=0
+ok: 2.sh_info=4 2.sh_size=0
+ok: 2.sh_info=6 2.sh_entsize=1
+2 0 RelocSymbol: r0.r_sym=0
+2 0 RelocSymbol: r0.r_sym=3
+2 0 RelocSymbol: y1.st_info=0 5.sh_info=2 y1.st_shndx=65521 r0.r_sym=1
+2 0 RelocSymbol: y1.st_info=3 5.sh_info=2 y1.st_shndx=7 r0.r_sym=1
+ok: r0.r_type=0 r0.r_sym=99
+2 0 RelocKind: r0.r_type=24
+2 0 RelocKind: r0.r_type=3
+2 0 RelocKind: 2.sh_info=3 r0.r_offset=0 r0.r_type=4
+ok: 2.sh_info=3 r0.r_offset=0 r0.r_type=2
+2 0 RelocRange: r0.r_offset=6
+2 0 RelocRange: r0.r_offset=18446744073709551614
+2 0 RelocRange: 2.sh_info=3 r0.r_offset=0 r0.r_type=1
+2 0 RelocRange: r0.r_offset=10 r0.r_type=0
+ok: r0.r_offset=9 r0.r_type=0
+2 1 RelocOverlap: r1.r_offset=5 r1.r_type=23 r1.r_sym=2
+2 1 RelocOverlap: r1.r_offset=1 r1.r_type=23 r1.r_sym=2
+ok: r1.r_offset=0 r1.r_type=23 r1.r_sym=2
+ok: r1.r_offset=5 r1.r_type=0 r1.r_sym=2
 // two faults at once: kinds in their order, then sections, then entries
-0 0 NotElf h.ident0=126 h.type=2
-1 0 SectionAlign 1.align=3 5.entsize=25
-1 0 SectionAlign 1.align=3 3.align=3
-1 0 SectionKind 1.flags=7 3.name=51 4.align=6
-5 1 SymbolName y1.name=5 y2.name=5
-5 2 SymbolName y2.name=5 y1.shndx=8
-5 1 SymbolName y1.name=5 2.info=0
-2 0 RelocSymbol r0.symbol=0 r0.offset=6
-2 0 RelocKind r0.type=24 r0.offset=99
-2 1 RelocRange r1.offset=6 r1.type=23 r1.symbol=2 r0.offset=5
+0 0 NotElf: h.e_ident0=126 h.e_type=2
+1 0 SectionAlign: 1.sh_addralign=3 5.sh_entsize=25
+1 0 SectionAlign: 1.sh_addralign=3 3.sh_addralign=3
+1 0 SectionKind: 1.sh_flags=7 3.sh_name=51 4.sh_addralign=6
+5 1 SymbolName: y1.st_name=5 y2.st_name=5
+5 2 SymbolName: y2.st_name=5 y1.st_shndx=8
+5 1 SymbolName: y1.st_name=5 2.sh_info=0
+2 0 RelocSymbol: r0.r_sym=0 r0.r_offset=6
+2 0 RelocKind: r0.r_type=24 r0.r_offset=99
+2 1 RelocRange: r1.r_offset=6 r1.r_type=23 r1.r_sym=2 r0.r_offset=5
 ";
 
-fn set_header(header: &mut Header, field: &str, number: u64) -> Result<(), Fail> {
-    match field {
-        "type" => header.e_type = u16::try_from(number)?,
-        "machine" => header.e_machine = u16::try_from(number)?,
-        "version" => header.e_version = u32::try_from(number)?,
-        "shoff" => header.e_shoff = number,
-        "shentsize" => header.e_shentsize = u16::try_from(number)?,
-        "shnum" => header.e_shnum = u16::try_from(number)?,
-        "shstrndx" => header.e_shstrndx = u16::try_from(number)?,
-        "ident0" => header.ident[0] = u8::try_from(number)?,
-        "ident4" => header.ident[4] = u8::try_from(number)?,
-        "ident5" => header.ident[5] = u8::try_from(number)?,
-        "ident6" => header.ident[6] = u8::try_from(number)?,
-        "ident7" => header.ident[7] = u8::try_from(number)?,
-        _ => return Err("a field of the header")?,
+/// What a table has behind a name.
+fn behind(table: &'static str, name: &str) -> Option<&'static str> {
+    for row in table.lines() {
+        let (first, rest) = row.split_once(' ')?;
+        if first == name {
+            return Some(rest);
+        }
     }
-    Ok(())
+    None
 }
 
-fn set_section(section: &mut SectionHeader, field: &str, number: u64) -> Result<(), Fail> {
-    match field {
-        "name" => section.name = u32::try_from(number)?,
-        "kind" => section.kind = u32::try_from(number)?,
-        "flags" => section.flags = number,
-        "offset" => section.offset = number,
-        "size" => section.size = number,
-        "link" => section.link = u32::try_from(number)?,
-        "info" => section.info = u32::try_from(number)?,
-        "align" => section.addralign = number,
-        "entsize" => section.entsize = number,
-        _ => return Err("a field of a section")?,
+/// Writes a number at an offset, in so many bytes, the lowest first.
+fn put(bytes: &mut [u8], at: usize, width: usize, number: u64) -> Option<()> {
+    let mut rest = number;
+    for index in 0..width {
+        *bytes.get_mut(at.checked_add(index)?)? = (rest % 256) as u8;
+        rest /= 256;
     }
-    Ok(())
+    Some(())
 }
 
-fn set_symbol(symbol: &mut SymbolEntry, field: &str, number: u64) -> Result<(), Fail> {
-    match field {
-        "name" => symbol.name = u32::try_from(number)?,
-        "info" => symbol.info = u8::try_from(number)?,
-        "shndx" => symbol.shndx = u16::try_from(number)?,
-        "value" => symbol.value = number,
-        "size" => symbol.size = number,
-        _ => return Err("a field of a symbol")?,
+/// Makes a change of the example, if it is one.
+fn change(bytes: &mut [u8], word: &str) -> Option<()> {
+    let (place, number) = word.split_once('=')?;
+    let (record, field) = place.split_once('.')?;
+    let (offset, width) = behind(FIELDS, field)?.split_once(' ')?;
+    let start: usize = behind(RECORDS, record)?.parse().ok()?;
+    let at = start.checked_add(offset.parse().ok()?)?;
+    put(bytes, at, width.parse().ok()?, number.parse().ok()?)
+}
+
+/// The example after these changes.
+fn changed(alloc: Global, words: &str) -> Result<Vec<u8>, Fail> {
+    let mut bytes = example(alloc)?;
+    for word in words.split_whitespace() {
+        change(bytes.as_mut_slice(), word).ok_or("a change of the example")?;
     }
-    Ok(())
-}
-
-fn set_relocation(relocation: &mut Rela, field: &str, number: u64) -> Result<(), Fail> {
-    match field {
-        "offset" => relocation.offset = number,
-        "type" => relocation.info = Rela::info_of(relocation.symbol(), u32::try_from(number)?),
-        "symbol" => relocation.info = Rela::info_of(u32::try_from(number)?, relocation.kind()),
-        _ => return Err("a field of a relocation")?,
-    }
-    Ok(())
-}
-
-fn set_last(names: &mut Vec<u8>, number: u64) -> Result<(), Fail> {
-    *names.last_mut().ok_or("there are names")? = u8::try_from(number)?;
-    Ok(())
-}
-
-fn change_symbol(draft: &mut Draft, entry: &str, field: &str, number: u64) -> Result<(), Fail> {
-    let entry: usize = entry.parse()?;
-    let symbol = draft.symbols.get_mut(entry).ok_or("there is the symbol")?;
-    set_symbol(symbol, field, number)
-}
-
-fn change_relocation(draft: &mut Draft, entry: &str, field: &str, number: u64) -> Result<(), Fail> {
-    let entry: usize = entry.parse()?;
-    let relocation = draft.relocations.get_mut(entry).ok_or("there is one")?;
-    set_relocation(relocation, field, number)
-}
-
-fn change_section(draft: &mut Draft, entry: &str, field: &str, number: u64) -> Result<(), Fail> {
-    let entry: usize = entry.parse()?;
-    let header = draft.sections.get_mut(entry).ok_or("there is one")?;
-    set_section(header, field, number)
-}
-
-/// Changes a field of a record.
-fn set(draft: &mut Draft, record: &str, field: &str, number: u64) -> Result<(), Fail> {
-    if let Some(entry) = record.strip_prefix('y') {
-        return change_symbol(draft, entry, field, number);
-    }
-    if let Some(entry) = record.strip_prefix('r') {
-        return change_relocation(draft, entry, field, number);
-    }
-    match record {
-        "h" => set_header(&mut draft.header, field, number),
-        "names" => set_last(&mut draft.names, number),
-        "section_names" => set_last(&mut draft.section_names, number),
-        section => change_section(draft, section, field, number),
-    }
-}
-
-/// Makes a change.
-fn change(draft: &mut Draft, word: &str) -> Result<(), Fail> {
-    let (place, number) = word.split_once('=').ok_or("a change has =")?;
-    let (record, field) = place.split_once('.').ok_or("a change has .")?;
-    let number: u64 = number.parse()?;
-    set(draft, record, field, number)
+    Ok(bytes)
 }
 
 /// What reading answers, as a case writes it.
@@ -273,22 +263,11 @@ fn answer(alloc: Global, bytes: &[u8]) -> Result<String, AllocError> {
 }
 
 /// Compares the answer of one case.
-fn check(rt: &(impl Abort + AllocGlobal), line: &str) -> Result<(), Fail> {
-    let mut draft = example(rt.alloc())?;
-    let mut want = String::new(rt.alloc());
-    for word in line.split_whitespace() {
-        if word.contains('=') {
-            change(&mut draft, word)?;
-        } else {
-            if !want.is_empty() {
-                want.push(' ')?;
-            }
-            want.push_str(word)?;
-        }
-    }
-    let bytes = draft.bytes(rt.alloc())?;
-    let found = answer(rt.alloc(), bytes.as_slice())?;
-    assert_eq!(rt; found.as_str(), want.as_str(), "in {line}");
+fn check(rt: &impl Abort, alloc: Global, line: &str) -> Result<(), Fail> {
+    let (want, words) = line.split_once(": ").ok_or("an answer")?;
+    let bytes = changed(alloc, words)?;
+    let found = answer(alloc, bytes.as_slice())?;
+    assert!(rt; found.as_str() == want, "{found} in {line}");
     Ok(())
 }
 
@@ -296,23 +275,32 @@ fn check(rt: &(impl Abort + AllocGlobal), line: &str) -> Result<(), Fail> {
 fn finds_the_first_fault(rt: HostRuntime) -> Result<(), Fail> {
     for line in CASES.lines() {
         if !line.starts_with("//") {
-            check(&rt, line)?;
+            check(&rt, rt.alloc(), line)?;
         }
     }
     Ok(())
 }
 
+/// Whether a file is shorter than what its headers speak of.
+fn is_truncated(alloc: Global, bytes: &[u8]) -> bool {
+    match Object::read(alloc, bytes) {
+        Err(ObjectFault::At { kind, .. }) => kind == FaultKind::Truncated,
+        _ => false,
+    }
+}
+
 #[test]
 fn every_shorter_file_is_truncated(rt: HostRuntime) -> Result<(), Fail> {
-    let bytes = example(rt.alloc())?.bytes(rt.alloc())?;
+    let bytes = example(rt.alloc())?;
     for len in 0..bytes.len() {
-        let found = answer(rt.alloc(), &bytes[..len])?;
-        assert!(rt;
-            found.as_str().ends_with("Truncated"),
-            "{len} bytes: {found}"
-        );
+        assert!(rt; is_truncated(rt.alloc(), &bytes[..len]), "{len} bytes");
     }
     Ok(())
+}
+
+/// A fault as it is printed.
+fn printed(alloc: Global, fault: ObjectFault) -> Result<String, AllocError> {
+    format!(in alloc; "{fault}")
 }
 
 #[test]
@@ -322,102 +310,41 @@ fn prints_a_fault(rt: HostRuntime) -> Result<(), Fail> {
         entry: 7,
         kind: FaultKind::RelocRange,
     };
-    let text = format!(in rt.alloc(); "{fault}")?;
-    assert_eq!(rt; text.as_str(), "section 2 entry 7 RelocRange");
-    let text = format!(in rt.alloc(); "{}", ObjectFault::from(AllocError))?;
-    assert_eq!(rt; text.as_str(), "out of memory");
-    assert_eq!(rt; FaultKind::WritableData.name(), "WritableData");
+    assert!(rt; printed(rt.alloc(), fault)?.as_str() == "section 2 entry 7 RelocRange");
+    assert!(rt; printed(rt.alloc(), AllocError.into())?.as_str() == "out of memory");
     Ok(())
 }
 
-#[test]
-fn lends_sections(rt: HostRuntime) -> Result<(), Fail> {
-    let bytes = example(rt.alloc())?.bytes(rt.alloc())?;
-    let object = Object::read(rt.alloc(), bytes.as_slice())?;
-    assert_eq!(rt; object.section_count(), 8);
-    assert!(rt; object.section(8).is_none());
-    let text = object.section(1).ok_or("there is .text")?;
-    assert_eq!(rt; text.class, Some(SectionClass::Executable));
-    assert_eq!(rt; text.bytes, b"\x64\x8b\x04\x25\0\0\0\0\xc3".as_slice());
-    assert_eq!(rt; (text.size, text.alignment), (9, 1));
-    Ok(())
+/// What no listing of an object prints (`object_listing` prints the rest): the section that programs write, that of the
+/// symbols, that of the relocations of section 1, and the section of which section 2 holds the relocations.
+fn lent(alloc: Global, bytes: &[u8]) -> Result<String, Fail> {
+    let object = Object::read(alloc, bytes)?;
+    let (writable, symbols) = (object.writable(), object.symbol_table());
+    let (table, target) = (object.relocation_table(1), object.relocation_target(2));
+    Ok(format!(in alloc; "{writable:?} {symbols:?} {table:?} {target:?}")?)
 }
 
-#[test]
-fn lends_symbols(rt: HostRuntime) -> Result<(), Fail> {
-    let bytes = example(rt.alloc())?.bytes(rt.alloc())?;
-    let object = Object::read(rt.alloc(), bytes.as_slice())?;
-    assert_eq!(rt; object.symbol_count(), 3);
-    assert!(rt; object.symbol(3).is_none());
-    let x = object.symbol(2).ok_or("there is x")?;
-    assert_eq!(rt; x.kind, SymbolType::Tls);
-    assert_eq!(rt; x.place, SymbolPlace::InSection(3));
-    Ok(())
-}
-
-#[test]
-fn lends_relocations(rt: HostRuntime) -> Result<(), Fail> {
-    let bytes = example(rt.alloc())?.bytes(rt.alloc())?;
-    let object = Object::read(rt.alloc(), bytes.as_slice())?;
-    let mut relocations = object.relocs(1);
-    let relocation = relocations.next().ok_or("there is one")?;
-    assert_eq!(rt; relocation.kind, RelocationKind::TpOff32);
-    assert_eq!(rt;
-        (relocation.offset, relocation.symbol, relocation.addend),
-        (4, 2, 0)
-    );
-    assert_eq!(rt; relocations.count(), 1);
-    Ok(())
-}
-
-#[test]
-fn finds_names_of_sections(rt: HostRuntime) -> Result<(), Fail> {
-    let bytes = example(rt.alloc())?.bytes(rt.alloc())?;
-    let object = Object::read(rt.alloc(), bytes.as_slice())?;
-    assert_eq!(rt; object.section_count(), 8);
-    assert_eq!(rt; object.section_name(1), b".text".as_slice());
-    assert!(rt; object.section_name(0).is_empty());
-    Ok(())
-}
-
-#[test]
-fn finds_names_of_symbols(rt: HostRuntime) -> Result<(), Fail> {
-    let bytes = example(rt.alloc())?.bytes(rt.alloc())?;
-    let object = Object::read(rt.alloc(), bytes.as_slice())?;
-    assert_eq!(rt; object.symbol_count(), 3);
-    assert_eq!(rt; object.symbol_name(2), b"x".as_slice());
-    assert_eq!(rt; object.short_symbol_name(2, 1), Some(b"x".as_slice()));
-    assert!(rt; object.short_symbol_name(2, 0).is_none());
-    assert!(rt; object.symbol_name(0).is_empty());
-    Ok(())
-}
-
-/// The example with data: .tdata loses SHF_TLS, x is an OBJECT, and its relocation needs no thread-local storage.
-fn with_data(alloc: Global) -> Result<Vec<u8>, Fail> {
-    let mut draft = example(alloc)?;
-    for word in ["3.flags=3", "y2.info=17", "r0.type=2"] {
-        change(&mut draft, word)?;
+/// Whether section 1 has the example's code.
+fn lends_code(alloc: Global, bytes: &[u8]) -> Result<bool, Fail> {
+    match Object::read(alloc, bytes)?.section(1) {
+        Some(section) => Ok(section.bytes == CODE),
+        None => Ok(false),
     }
-    Ok(draft.bytes(alloc)?)
+}
+
+/// Whether the name of symbol 2 has at most so many bytes.
+fn lends_short_name(alloc: Global, bytes: &[u8], limit: usize) -> Result<bool, Fail> {
+    let object = Object::read(alloc, bytes)?;
+    Ok(object.symbol_count() == 3 && object.short_symbol_name(2, limit).is_some())
 }
 
 #[test]
-fn numbers_sections(rt: HostRuntime) -> Result<(), Fail> {
-    let bytes = with_data(rt.alloc())?;
-    let object = Object::read(rt.alloc(), bytes.as_slice())?;
-    assert_eq!(rt; object.writable(), Some(3));
-    assert_eq!(rt; object.symbol_table(), Some(5));
-    Ok(())
-}
-
-#[test]
-fn numbers_relocations(rt: HostRuntime) -> Result<(), Fail> {
-    let bytes = with_data(rt.alloc())?;
-    let object = Object::read(rt.alloc(), bytes.as_slice())?;
-    assert_eq!(rt; object.relocation_table(1), Some(2));
-    assert_eq!(rt; object.relocation_table(3), None);
-    assert_eq!(rt; object.relocation_target(2), Some(1));
-    assert_eq!(rt; object.relocation_target(5), None);
-    assert_eq!(rt; object.relocs(0).count(), 0);
+fn lends_what_no_listing_prints(rt: HostRuntime) -> Result<(), Fail> {
+    // .tdata loses SHF_TLS, x is an OBJECT, and its relocation needs no thread-local storage
+    let bytes = changed(rt.alloc(), "3.sh_flags=3 y2.st_info=17 r0.r_type=2")?;
+    assert!(rt; lent(rt.alloc(), &bytes)?.as_str() == "Some(3) Some(5) Some(2) Some(1)");
+    assert!(rt; lends_code(rt.alloc(), &bytes)?);
+    assert!(rt; lends_short_name(rt.alloc(), &bytes, 1)?);
+    assert!(rt; !lends_short_name(rt.alloc(), &bytes, 0)?);
     Ok(())
 }

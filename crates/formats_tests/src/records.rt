@@ -62,7 +62,7 @@ fn reads_a_header(rt: HostRuntime) {
         e_shnum: 8,
         e_shstrndx: 7,
     };
-    assert_eq!(rt; read_header(&HEADER, 0), Some(expected));
+    assert!(rt; read_header(&HEADER, 0) == Some(expected));
 }
 
 #[test]
@@ -80,7 +80,7 @@ fn reads_a_section_header(rt: HostRuntime) {
         addralign: 8,
         entsize: 0,
     };
-    assert_eq!(rt; read_section(&TDATA, 0), Some(expected));
+    assert!(rt; read_section(&TDATA, 0) == Some(expected));
 }
 
 #[test]
@@ -94,10 +94,9 @@ fn reads_a_symbol(rt: HostRuntime) {
         value: 8,
         size: 4,
     };
-    assert_eq!(rt; read_symbol(&SYMBOL_X, 0), Some(expected));
-    assert_eq!(rt; expected.binding(), STB_GLOBAL);
-    assert_eq!(rt; expected.kind(), STT_TLS);
-    assert_eq!(rt; expected.visibility(), STV_DEFAULT);
+    assert!(rt; read_symbol(&SYMBOL_X, 0) == Some(expected));
+    let parts = [expected.binding(), expected.kind(), expected.visibility()];
+    assert!(rt; parts == [STB_GLOBAL, STT_TLS, STV_DEFAULT]);
 }
 
 #[test]
@@ -108,10 +107,8 @@ fn reads_a_relocation(rt: HostRuntime) {
         info: 0x2_0000_0013,
         addend: -4,
     };
-    assert_eq!(rt; read_rela(&TLSGD, 0), Some(expected));
-    assert_eq!(rt; expected.symbol(), 2);
-    assert_eq!(rt; expected.kind(), R_X86_64_TLSGD);
-    assert_eq!(rt; Rela::info_of(2, R_X86_64_TLSGD), expected.info);
+    assert!(rt; read_rela(&TLSGD, 0) == Some(expected));
+    assert!(rt; [expected.symbol(), expected.kind()] == [2, R_X86_64_TLSGD]);
 }
 
 #[test]
@@ -127,7 +124,7 @@ fn reads_a_program_header(rt: HostRuntime) {
         memsz: 0x90,
         align: 8,
     };
-    assert_eq!(rt; read_segment(&TLS_SEGMENT, 0), Some(expected));
+    assert!(rt; read_segment(&TLS_SEGMENT, 0) == Some(expected));
 }
 
 #[test]
@@ -137,5 +134,5 @@ fn reads_a_dynamic_entry(rt: HostRuntime) {
         tag: DT_FLAGS,
         value: DF_STATIC_TLS,
     };
-    assert_eq!(rt; read_dynamic(&FLAGS, 0), Some(expected));
+    assert!(rt; read_dynamic(&FLAGS, 0) == Some(expected));
 }

@@ -4,9 +4,10 @@ mod processor;
 mod rows;
 
 use guest_arithmetic::Plain;
-use guest_machine::{Direction, GET_ADDRESS, Machine, RETURN, Size, Space, Stop, Touch, Touches};
+use guest_machine::{GET_ADDRESS, Machine, RETURN, Space, Stop};
 use guest_memory::{GuestMemory, GuestRange, Rights};
 use std::alloc::Global;
+use std::process::Abort;
 use std::test::Fail;
 
 const CODE: u64 = 0x40_0000;
@@ -29,92 +30,87 @@ fn add(memory: &mut GuestMemory<u8>, range: GuestRange<u8>) -> Result<(), &'stat
     memory.add_range(range).ok().ok_or("memory")
 }
 
-#[test]
-fn a_call_reads_and_returns(rt: HostRuntime) -> Result<(), Fail> {
-    let mut memory: GuestMemory<u8> = GuestMemory::new(rt.alloc());
-    // mov %fs:8, %rax; ret
-    let code = [0x64, 0x48, 0x8b, 0x04, 0x25, 8, 0, 0, 0, 0xc3].to_vec(rt.alloc())?;
-    add(&mut memory, GuestRange::new(CODE, code, RUNNABLE))?;
-    // the return address, and the word that is read
-    let stack = [0, 0x20, 0, 0, 0, 0, 0, 0, 0xe9, 1, 2, 3, 4, 5, 6, 7].to_vec(rt.alloc())?;
-    add(&mut memory, GuestRange::new(STACK, stack, WRITABLE))?;
-    let mut machine: Machine<Plain> = Machine::start(CODE, STACK, 3, 5, 7);
-    machine.set_thread_pointer(STACK);
-    let stop = machine.run(&mut memory, 4);
-    assert_eq!(rt; stop, Stop::Returned(0x0706_0504_0302_01e9));
-    assert_eq!(rt; machine.taken(), 2);
-    assert_eq!(rt; machine.place(), RETURN);
-    assert_eq!(rt; machine.register(4), STACK + 8);
-    Ok(())
-}
-
-/// A memory with code and a stack that returns to 0x2000.
-fn with_code(alloc: Global, code: &[u8]) -> Result<GuestMemory<u8>, Fail> {
+/// A memory with code, and a stack that returns to 0x2000, with a word behind that and room before it.
+fn with_code(alloc: Global, code: Vec<u8>) -> Result<GuestMemory<u8>, Fail> {
     let mut memory = GuestMemory::new(alloc);
-    add(
-        &mut memory,
-        GuestRange::new(CODE, code.to_vec(alloc)?, RUNNABLE),
-    )?;
-    let stack = [0, 0x20, 0, 0, 0, 0, 0, 0].to_vec(alloc)?;
+    add(&mut memory, GuestRange::new(CODE, code, RUNNABLE))?;
+    let stack = [0, 0x20, 0, 0, 0, 0, 0, 0, 0xe9, 1, 2, 3, 4, 5, 6, 7].to_vec(alloc)?;
     add(&mut memory, GuestRange::new(STACK, stack, WRITABLE))?;
+    let below = [0; 8].to_vec(alloc)?;
+    add(&mut memory, GuestRange::new(STACK - 8, below, WRITABLE))?;
     Ok(memory)
 }
 
-#[test]
-fn arithmetic(rt: HostRuntime) -> Result<(), Fail> {
-    // mov %rdi, %rax; imul %rsi, %rax; shl $4, %rax; sub %rdx, %rax; ret: 3 * 5 * 16 - 7
-    let code = [
-        0x48, 0x89, 0xf8, 0x48, 0x0f, 0xaf, 0xc6, 0x48, 0xc1, 0xe0, 4, 0x48, 0x29, 0xd0, 0xc3,
-    ];
-    let mut memory = with_code(rt.alloc(), &code)?;
-    let mut machine: Machine<Plain> = Machine::start(CODE, STACK, 3, 5, 7);
-    assert_eq!(rt; machine.run(&mut memory, 100), Stop::Returned(0xe9));
+/// Each line: code, where it begins, its first two arguments (the third is 7) and how many steps it may take; then how
+/// it stops, and after how many steps. The thread pointer is the stack's address.
+const RUNS: &str = "\
+// mov %fs:8, %rax; ret: the word 0x7060504030201e9
+64488b042508000000c3 400000 3 5 4: Returned(506097522914230761) after 2
+// xor %eax, %eax; 1: add %rdi, %rax; sub $1, %rdi; jne 1b; ret: 4 + 3 + 2 + 1, in 1 + 3 * 4 + 1 steps
+31c04801f84883ef0175f7c3 400000 4 0 c: Steps(4194313) after 12
+31c04801f84883ef0175f7c3 400000 4 0 e: Returned(10) after 14
+// mov (%rdi), %rax; mov %rax, (%rdi); ud2: what cannot be read, what cannot be written, no instruction, no code
+488b074889070f0b 400000 7f0009 0 9: Address(4194304) after 0
+488b074889070f0b 400000 400000 0 9: Address(4194307) after 1
+488b074889070f0b 400000 7f0000 0 9: Code(4194310) after 2
+488b074889070f0b 7f0000 0 0 9: Code(8323072) after 0
+";
+
+/// A hexadecimal number, or 0 where a word is none.
+fn number(word: Option<&str>) -> u64 {
+    u64::from_str_radix(word.unwrap_or(""), 16).unwrap_or(0)
+}
+
+/// A memory with the code of these hexadecimal digits.
+fn with_digits(alloc: Global, digits: Option<&str>) -> Result<GuestMemory<u8>, Fail> {
+    let digits = digits.ok_or("digits")?;
+    with_code(alloc, hex::decode(alloc, digits).ok().ok_or("digits")?)
+}
+
+/// How a call stops, as a line of the table has it.
+fn stopped(alloc: Global, call: &str) -> Result<String, Fail> {
+    let mut words = call.split(' ');
+    let mut memory = with_digits(alloc, words.next())?;
+    let start = number(words.next());
+    let first = number(words.next());
+    let mut machine: Machine<Plain> = Machine::start(start, STACK, first, number(words.next()), 7);
+    machine.set_thread_pointer(STACK);
+    let stop = machine.run(&mut memory, number(words.next()).min(100));
+    let taken = machine.taken();
+    Ok(format!(in alloc; "{stop:?} after {taken}")?)
+}
+
+/// Compares what a test finds with what it wants.
+fn same(rt: &impl Abort, found: &str, want: &str, at: &str) {
+    assert!(rt; found == want, "{found}: {at}");
+}
+
+/// Compares how one call stops.
+fn check(rt: &impl Abort, alloc: Global, line: &str) -> Result<(), Fail> {
+    let (call, want) = line.split_once(": ").ok_or("an answer")?;
+    same(rt, stopped(alloc, call)?.as_str(), want, line);
     Ok(())
 }
 
 #[test]
-fn a_loop_and_its_limit(rt: HostRuntime) -> Result<(), Fail> {
-    // xor %eax, %eax; 1: add %rdi, %rax; sub $1, %rdi; jne 1b; ret: 4 + 3 + 2 + 1, in 1 + 3 * 4 + 1 steps
-    let code = [
-        0x31, 0xc0, 0x48, 1, 0xf8, 0x48, 0x83, 0xef, 1, 0x75, 0xf7, 0xc3,
-    ];
-    let mut memory = with_code(rt.alloc(), &code)?;
-    let mut machine: Machine<Plain> = Machine::start(CODE, STACK, 4, 0, 0);
-    assert_eq!(rt; machine.run(&mut memory, 12), Stop::Steps(CODE + 9));
-    assert_eq!(rt; machine.taken(), 12);
-    assert_eq!(rt; machine.run(&mut memory, 14), Stop::Returned(10));
-    assert_eq!(rt; machine.taken(), 14);
+fn calls_stop(rt: HostRuntime) -> Result<(), Fail> {
+    for line in RUNS.lines() {
+        if !line.starts_with("//") {
+            check(&rt, rt.alloc(), line)?;
+        }
+    }
     Ok(())
 }
 
 #[test]
 fn a_look_and_its_answer(rt: HostRuntime) -> Result<(), Fail> {
     // call 0x1000 from 0x400000; ret
-    let code = [0xe8, 0xfb, 0x0f, 0xc0, 0xff, 0xc3];
-    let mut memory = with_code(rt.alloc(), &code)?;
-    let below = [0; 8].to_vec(rt.alloc())?;
-    add(&mut memory, GuestRange::new(STACK - 8, below, WRITABLE))?;
+    let mut memory = with_digits(rt.alloc(), Some("e8fb0fc0ffc3"))?;
     let mut machine: Machine<Plain> = Machine::start(CODE, STACK, 0, 0, 0);
-    assert_eq!(rt; machine.run(&mut memory, 9), Stop::Look(GET_ADDRESS));
+    assert!(rt; machine.run(&mut memory, 9) == Stop::Look(GET_ADDRESS));
     assert!(rt; machine.answer(&mut memory, 0x77));
-    assert_eq!(rt; machine.run(&mut memory, 9), Stop::Returned(0x77));
-    assert_eq!(rt; machine.taken(), 3);
-    Ok(())
-}
-
-#[test]
-fn stops(rt: HostRuntime) -> Result<(), Fail> {
-    // mov (%rdi), %rax; mov %rax, (%rdi); ud2
-    let code = [0x48, 0x8b, 7, 0x48, 0x89, 7, 0x0f, 0x0b];
-    let mut memory = with_code(rt.alloc(), &code)?;
-    let mut unreadable: Machine<Plain> = Machine::start(CODE, STACK, STACK + 1, 0, 0);
-    assert_eq!(rt; unreadable.run(&mut memory, 9), Stop::Address(CODE));
-    let mut unwritable: Machine<Plain> = Machine::start(CODE, STACK, CODE, 0, 0);
-    assert_eq!(rt; unwritable.run(&mut memory, 9), Stop::Address(CODE + 3));
-    let mut undefined: Machine<Plain> = Machine::start(CODE, STACK, STACK, 0, 0);
-    assert_eq!(rt; undefined.run(&mut memory, 9), Stop::Code(CODE + 6));
-    let mut elsewhere: Machine<Plain> = Machine::start(STACK, STACK, 0, 0, 0);
-    assert_eq!(rt; elsewhere.run(&mut memory, 9), Stop::Code(STACK));
+    assert!(rt; machine.run(&mut memory, 9) == Stop::Returned(0x77));
+    assert!(rt; [machine.taken(), machine.place()] == [3, RETURN]);
     Ok(())
 }
 
@@ -127,43 +123,38 @@ fn fields_are_told(rt: HostRuntime) -> Result<(), Fail> {
     Ok(())
 }
 
-/// What the instruction of these bytes touches, in a call with 3, 5 and 7.
-fn touches(alloc: Global, code: &[u8]) -> Result<Touches, Fail> {
-    let memory = with_code(alloc, code)?;
+/// What the instruction of these digits touches, in a call with 3, 5 and 7.
+fn touched(alloc: Global, digits: &str) -> Result<String, Fail> {
+    let memory = with_digits(alloc, Some(digits))?;
     let machine: Machine<Plain> = Machine::start(CODE, STACK, 3, 5, 7);
-    Ok(machine.touches(&memory))
+    let touches = machine.touches(&memory);
+    Ok(format!(in alloc; "{touches:?}")?)
+}
+
+/// Each line: an instruction, and what it touches.
+const TOUCHED: &str = "\
+// call *8(%rdi): its target is loaded, then the return address is pushed
+ff5708 Touches { first: Some(Touch { direction: Load, size: Quad, address: 11 }), second: Some(Touch { direction: Store, size: Quad, address: 8323064 }) }
+// mov %ecx, (%rsi)
+890e Touches { first: Some(Touch { direction: Store, size: Long, address: 5 }), second: None }
+// lea (%rsi), %rax, and no instruction
+488d06 Touches { first: None, second: None }
+0fffff Touches { first: None, second: None }
+";
+
+/// Compares what one instruction touches.
+fn check_touched(rt: &impl Abort, alloc: Global, line: &str) -> Result<(), Fail> {
+    let (digits, want) = line.split_once(' ').ok_or("an answer")?;
+    same(rt, touched(alloc, digits)?.as_str(), want, line);
+    Ok(())
 }
 
 #[test]
 fn what_is_touched(rt: HostRuntime) -> Result<(), Fail> {
-    // call *8(%rdi): its target is loaded, then the return address is pushed
-    let call = touches(rt.alloc(), &[0xff, 0x57, 8])?;
-    let load = Touch {
-        direction: Direction::Load,
-        size: Size::Quad,
-        address: 11,
-    };
-    let push = Touch {
-        direction: Direction::Store,
-        size: Size::Quad,
-        address: STACK - 8,
-    };
-    assert_eq!(rt; call.first, Some(load));
-    assert_eq!(rt; call.second, Some(push));
-    // mov %ecx, (%rsi)
-    let store = touches(rt.alloc(), &[0x89, 0x0e])?;
-    let long = Touch {
-        direction: Direction::Store,
-        size: Size::Long,
-        address: 5,
-    };
-    assert_eq!(rt; store.first, Some(long));
-    assert_eq!(rt; store.second, None);
-    // lea (%rsi), %rax, and no instruction
-    for code in [&[0x48, 0x8d, 0x06], &[0x0f, 0xff, 0xff]] {
-        let none = touches(rt.alloc(), code)?;
-        assert_eq!(rt; none.first, None);
-        assert_eq!(rt; none.second, None);
+    for line in TOUCHED.lines() {
+        if !line.starts_with("//") {
+            check_touched(&rt, rt.alloc(), line)?;
+        }
     }
     Ok(())
 }

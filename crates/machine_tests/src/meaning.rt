@@ -20,40 +20,31 @@ fn stored_and_loaded<V: Values>(word: V::Word) -> V::Word {
     V::joined_quad(low, high)
 }
 
-#[test]
-fn a_base_is_carried_whole(rt: HostRuntime) {
-    let base = Word::Marked(Token::Base(Block {
+/// A base of instance 2.
+fn base() -> Word {
+    Word::Marked(Token::Base(Block {
         thread: 1,
         instance: 2,
         start: 0x7000,
-    }));
-    assert_eq!(rt; stored_and_loaded::<MarkedValues>(base), base);
-    assert_eq!(rt;
-        stored_and_loaded::<MarkedValues>(Word::Number(0x1234)),
-        Word::Number(0x1234)
-    );
-    assert_eq!(rt;
-        stored_and_loaded::<MarkedValues>(Word::Undefined),
-        Word::Undefined
-    );
+    }))
+}
+
+#[test]
+fn words_are_carried_whole(rt: HostRuntime) {
+    for word in [base(), Word::Number(0x1234), Word::Undefined] {
+        assert!(rt; stored_and_loaded::<MarkedValues>(word) == word);
+    }
 }
 
 #[test]
 fn a_field_moves_a_base_of_its_own_instance(rt: HostRuntime) {
-    let base = Word::Marked(Token::Base(Block {
-        thread: 1,
-        instance: 2,
-        start: 0x7000,
-    }));
     // the code of instance 2 begins at 2^32 + 2 * 2^26
-    assert_eq!(rt; MarkedValues::moved(base, 0x10, 0x1_0800_0000), Ok(0x7010));
-    assert_eq!(rt;
-        MarkedValues::moved(base, 0x10, 0x40_0000),
-        Err(Cause::Field)
-    );
-    assert_eq!(rt;
-        MarkedValues::moved(Word::Number(0x7000), 0x10, 0x1_0800_0000),
-        Err(Cause::Field)
-    );
-    assert_eq!(rt; MarkedValues::number_of(base), Err(Cause::Base));
+    for (word, field, moved) in [
+        (base(), 0x1_0800_0000, Ok(0x7010)),
+        (base(), 0x40_0000, Err(Cause::Field)),
+        (Word::Number(0x7000), 0x1_0800_0000, Err(Cause::Field)),
+    ] {
+        assert!(rt; MarkedValues::moved(word, 0x10, field) == moved);
+    }
+    assert!(rt; MarkedValues::number_of(base()) == Err(Cause::Base));
 }

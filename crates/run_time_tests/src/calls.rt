@@ -1,18 +1,42 @@
 //! Calls of small functions, and what comes of them.
 
 use link_faults::Part;
-use std::alloc::Global;
+use std::alloc::{AllocError, Global};
+use std::process::Abort;
 use std::test::Fail;
 use thread_blocks::{BlockImage, Call, Executable, ThreadMemory, run_call};
-use transcript_text::{LineFault, Outcome};
 
 const CODE: u64 = 0x40_0000;
 
-fn executable(alloc: Global, code: &[u8]) -> Result<Executable, Fail> {
+/// Each line: the code of a function, and what comes of a call of it by thread 2 with 3, 10 and 0 in 5 steps.
+const CALLS: &str = "\
+// mov %fs:-8, %eax; ret: the initial image
+648b0425f8ffffffc3 Returned(42)
+// mov %fs:-4, %eax; ret: the zeros behind it
+648b0425fcffffffc3 Returned(0)
+// mov %fs:0, %rax; ret: 2 * 2^40 + 2^38
+64488b042500000000c3 Returned(2473901162496)
+// mov %rsi, %rax; sub %rdi, %rax; ret: 10 - 3
+4889f04829f8c3 Returned(7)
+// ud2
+0f0b Fault(Code)
+// jmp to itself
+ebfe Fault(Steps)
+// mov %rax, 0x400000: code cannot be written
+4889042500004000c3 Fault(Address)
+// call 0x1000, 0x3ff005 bytes before the next instruction: nobody answers
+e8fb0fc0ffc3 Fault(Address)
+";
+
+/// mov %edi, %fs:-8; ret, and behind it mov %fs:-8, %eax; ret
+const KEEPING: &str = "64893c25f8ffffffc3648b0425f8ffffffc3";
+
+/// A program of this code.
+fn executable(alloc: Global, code: Vec<u8>) -> Result<Executable, AllocError> {
     Ok(Executable {
         code: Part {
             address: CODE,
-            bytes: code.to_vec(alloc)?,
+            bytes: code,
         },
         constants: Part {
             address: 0x40_1000,
@@ -29,6 +53,12 @@ fn executable(alloc: Global, code: &[u8]) -> Result<Executable, Fail> {
     })
 }
 
+/// The program whose code has these hexadecimal digits.
+fn program(alloc: Global, digits: &str) -> Result<Executable, Fail> {
+    let code = hex::decode(alloc, digits).ok().ok_or("digits")?;
+    Ok(executable(alloc, code)?)
+}
+
 fn call_at(place: u64) -> Call {
     Call {
         place,
@@ -38,75 +68,47 @@ fn call_at(place: u64) -> Call {
     }
 }
 
-/// What comes of the function whose code this is, called by thread 2 with 3, 10 and 0.
-fn outcome(alloc: Global, code: &[u8]) -> Result<Outcome, Fail> {
-    let executable = executable(alloc, code)?;
-    match run_call(alloc, &executable, 2, call_at(CODE), 5) {
-        Ok(outcome) => Ok(outcome),
-        Err(_) => Err("memory".into()),
+/// What comes of a call of this code, as text.
+fn called(alloc: Global, digits: &str) -> Result<String, Fail> {
+    let program = program(alloc, digits)?;
+    let outcome = run_call(alloc, &program, 2, call_at(CODE), 5)?;
+    Ok(format!(in alloc; "{outcome:?}")?)
+}
+
+/// Compares what a test finds with what it wants.
+pub(crate) fn same(rt: &impl Abort, found: &str, want: &str, at: &str) {
+    assert!(rt; found == want, "{found}: {at}");
+}
+
+/// Compares what comes of one call.
+fn check(rt: &impl Abort, alloc: Global, line: &str) -> Result<(), Fail> {
+    let (digits, want) = line.split_once(' ').ok_or("an outcome")?;
+    same(rt, called(alloc, digits)?.as_str(), want, line);
+    Ok(())
+}
+
+#[test]
+fn calls_of_functions(rt: HostRuntime) -> Result<(), Fail> {
+    for line in CALLS.lines() {
+        if !line.starts_with("//") {
+            check(&rt, rt.alloc(), line)?;
+        }
     }
-}
-
-#[test]
-fn calls_that_return(rt: HostRuntime) -> Result<(), Fail> {
-    // mov %fs:-8, %eax; ret: the initial image
-    let first = outcome(
-        rt.alloc(),
-        &[0x64, 0x8b, 4, 0x25, 0xf8, 0xff, 0xff, 0xff, 0xc3],
-    )?;
-    assert!(rt; matches!(&first, Outcome::Returned(0x2a)));
-    // mov %fs:-4, %eax; ret: the zeros behind it
-    let rest = outcome(
-        rt.alloc(),
-        &[0x64, 0x8b, 4, 0x25, 0xfc, 0xff, 0xff, 0xff, 0xc3],
-    )?;
-    assert!(rt; matches!(&rest, Outcome::Returned(0)));
-    // mov %fs:0, %rax; ret: 2 * 2^40 + 2^38
-    let pointer = outcome(rt.alloc(), &[0x64, 0x48, 0x8b, 4, 0x25, 0, 0, 0, 0, 0xc3])?;
-    assert!(rt; matches!(&pointer, Outcome::Returned(0x240_0000_0000)));
-    // mov %rsi, %rax; sub %rdi, %rax; ret: 10 - 3
-    let difference = outcome(rt.alloc(), &[0x48, 0x89, 0xf0, 0x48, 0x29, 0xf8, 0xc3])?;
-    assert!(rt; matches!(&difference, Outcome::Returned(7)));
     Ok(())
 }
 
-#[test]
-fn calls_that_end_early(rt: HostRuntime) -> Result<(), Fail> {
-    // ud2
-    let code = outcome(rt.alloc(), &[0x0f, 0x0b])?;
-    assert!(rt; matches!(&code, Outcome::Fault(LineFault::Code)));
-    // jmp to itself
-    let steps = outcome(rt.alloc(), &[0xeb, 0xfe])?;
-    assert!(rt; matches!(&steps, Outcome::Fault(LineFault::Steps)));
-    // mov %rax, 0x400000: code cannot be written
-    let store = outcome(rt.alloc(), &[0x48, 0x89, 4, 0x25, 0, 0, 0x40, 0, 0xc3])?;
-    assert!(rt; matches!(&store, Outcome::Fault(LineFault::Address)));
-    // call 0x1000, 0x3ff005 bytes before the next instruction: nobody answers
-    let look = outcome(rt.alloc(), &[0xe8, 0xfb, 0x0f, 0xc0, 0xff, 0xc3])?;
-    assert!(rt; matches!(&look, Outcome::Fault(LineFault::Address)));
-    Ok(())
+/// What comes of two calls in one memory, one of each function.
+fn called_twice(alloc: Global) -> Result<String, Fail> {
+    let program = program(alloc, KEEPING)?;
+    let mut memory = ThreadMemory::new(alloc, &program, 1)?;
+    let first = memory.call(alloc, call_at(CODE), 5)?;
+    let second = memory.call(alloc, call_at(CODE + 9), 5)?;
+    Ok(format!(in alloc; "{first:?} {second:?}")?)
 }
 
 #[test]
 fn a_block_keeps_its_bytes(rt: HostRuntime) -> Result<(), Fail> {
-    // mov %edi, %fs:-8; ret, and behind it mov %fs:-8, %eax; ret
-    let code = [
-        0x64, 0x89, 0x3c, 0x25, 0xf8, 0xff, 0xff, 0xff, 0xc3, 0x64, 0x8b, 4, 0x25, 0xf8, 0xff,
-        0xff, 0xff, 0xc3,
-    ];
-    let executable = executable(rt.alloc(), &code)?;
-    let mut memory = ThreadMemory::new(rt.alloc(), &executable, 1)
-        .ok()
-        .ok_or("memory")?;
-    let first = memory
-        .call(rt.alloc(), call_at(CODE), 5)
-        .ok()
-        .ok_or("memory")?;
-    assert!(rt; matches!(&first, Outcome::Returned(0)));
-    let second = memory
-        .call(rt.alloc(), call_at(CODE + 9), 5)
-        .ok()
-        .ok_or("memory")?;
-    assert!(rt; matches!(&second, Outcome::Returned(3)));
+    let found = called_twice(rt.alloc())?;
+    same(&rt, found.as_str(), "Returned(0) Returned(3)", KEEPING);
     Ok(())
 }

@@ -3,21 +3,83 @@
 ghost use Rattle.std.specs.Bool.{OnTrue};
 ghost use Rattle.module_table.specs.Modules.{AreInfos};
 
-use module_table::{CloseRefusal, Event, ImageInfo, ModuleTable, OpenRefusal, Registry};
-use std::alloc::Global;
+use crate::calls::same;
+use module_table::{ImageInfo, ModuleTable, Registry};
+use std::alloc::{AllocError, Global};
+use std::fmt::Debug;
 use std::process::Abort;
 use std::test::Fail;
 
-/// What a call gives.
-#[derive(Clone, Copy, PartialEq, Eq, Debug)]
-enum Gives {
-    Opened(u32, u64, u64),
-    NotOpened(OpenRefusal),
-    Closed(u64, bool),
-    NotClosed(CloseRefusal),
-}
+/// Histories, with an empty line between them. The first line of each has the late images behind the program, from
+/// image 2 on: their sizes, with `s` before each whose block is static. The program's block has 4 bytes and begins 4
+/// bytes below the thread pointer. Then a line for each call and its answer: `open` and `close` with a thread, a line
+/// and an image, and questions with one number. `reopen` closes and opens an image so many times, and answers how long
+/// the history is then.
+const HISTORIES: &str = "\
+8
+open 1 1 2: Ok(Opened { instance: 2, id: 2, at: 0 })
+close 1 4 2: Ok(Closed { at: 1, gone: true })
+open 1 5 2: Ok(Opened { instance: 3, id: 2, at: 2 })
+current 2: Some(3)
+instance_of 2: Some(3)
+live 1: true
+live 2: false
+live 3: true
 
-use Gives::{Closed as Closes, NotClosed, NotOpened, Opened as Opens};
+8
+open 1 1 2: Ok(Opened { instance: 2, id: 2, at: 0 })
+open 1 2 2: Ok(Opened { instance: 2, id: 2, at: 1 })
+close 2 1 2: Ok(Closed { at: 2, gone: false })
+close 1 5 2: Ok(Closed { at: 3, gone: true })
+close 1 7 2: Err(NotOpen)
+live 2: false
+len 0: 4
+
+s8
+open 1 1 2: Ok(Opened { instance: 2, id: 2, at: 0 })
+open 1 2 1: Err(Unknown)
+close 1 3 1: Err(Permanent)
+open 1 4 0: Err(Unknown)
+open 1 5 3: Err(Unknown)
+close 1 6 0: Err(NotOpen)
+close 1 7 9: Err(NotOpen)
+since 0: [Event { thread: 1, line: 1, opens: true, image: 2 }]
+
+s8
+open 1 1 2: Ok(Opened { instance: 2, id: 2, at: 0 })
+close 1 4 2: Ok(Closed { at: 1, gone: true })
+open 1 5 2: Ok(Opened { instance: 3, id: 2, at: 2 })
+offset 1: None
+offset 2: None
+offset 3: Some(20)
+
+s4096 s1 s0 9
+open 1 1 2: Ok(Opened { instance: 2, id: 2, at: 0 })
+open 1 2 2: Ok(Opened { instance: 2, id: 2, at: 1 })
+open 1 3 3: Err(StaticFull)
+open 1 4 4: Ok(Opened { instance: 3, id: 3, at: 2 })
+open 1 5 5: Ok(Opened { instance: 4, id: 4, at: 3 })
+close 1 6 2: Ok(Closed { at: 4, gone: false })
+close 1 7 2: Ok(Closed { at: 5, gone: true })
+open 1 8 2: Err(StaticFull)
+offset 3: Some(4100)
+offset 4: None
+
+8 8 8
+open 1 1 2: Ok(Opened { instance: 2, id: 2, at: 0 })
+open 1 2 3: Ok(Opened { instance: 3, id: 3, at: 1 })
+close 1 3 2: Ok(Closed { at: 2, gone: true })
+open 1 4 4: Ok(Opened { instance: 4, id: 2, at: 3 })
+open 1 5 2: Ok(Opened { instance: 5, id: 4, at: 4 })
+reopen 2 4090 0: 8185
+close 1 1 2: Ok(Closed { at: 8185, gone: true })
+open 1 2 2: Err(Full)
+open 1 3 1: Err(Unknown)
+open 1 4 3: Ok(Opened { instance: 3, id: 3, at: 8186 })";
+
+// Of these, the fourth: round(4 + 8, 4) = 12, and after it round(12 + 8, 4) = 20. The fifth: 4 + 4,096 is all of the
+// surplus, and a close gives nothing back; an open that makes no instance needs no room. The sixth: images 2 to 4 stay
+// loaded as instances 5, 3 and 4; each further load needs a close before it.
 
 /// Whether these may be the images of a registry.
 fn are_images(infos: &[ImageInfo]) -> bool
@@ -36,244 +98,183 @@ fn are_images(infos: &[ImageInfo]) -> bool
     !infos.is_empty() && infos.len() <= 64
 }
 
-/// The program: 4 bytes of TLS, aligned to 4.
-fn program() -> ImageInfo {
+/// An image of so many bytes, aligned to 4.
+fn image(late: bool, statics: bool, size: u64) -> ImageInfo {
     ImageInfo {
-        late: false,
-        statics: false,
-        size: 4,
-        align: 4,
-    }
-}
-
-/// A late image of so many bytes, aligned to 4.
-fn late(statics: bool, size: u64) -> ImageInfo {
-    ImageInfo {
-        late: true,
+        late,
         statics,
         size,
         align: 4,
     }
 }
 
-fn open(registry: &mut Registry, thread: u32, line: u32, image: u32) -> Gives {
-    match registry.open(thread, line, image) {
-        Ok(opened) => Opens(opened.instance, opened.id, opened.at),
-        Err(refusal) => NotOpened(refusal),
+/// A number, or 0 where it is none.
+fn number(digits: Option<&str>) -> u32 {
+    match digits {
+        Some(digits) => digits.parse().unwrap_or(0),
+        None => 0,
     }
 }
 
-fn close(registry: &mut Registry, thread: u32, line: u32, image: u32) -> Gives {
-    match registry.close(thread, line, image) {
-        Ok(closed) => Closes(closed.at, closed.gone),
-        Err(refusal) => NotClosed(refusal),
+/// The late image of a word.
+fn late(word: &str) -> ImageInfo {
+    match word.strip_prefix('s') {
+        Some(size) => image(true, true, u64::from(number(Some(size)))),
+        None => image(true, false, u64::from(number(Some(word)))),
     }
 }
 
-/// A registry of these images; the first one's block begins 4 bytes below the thread pointer.
-fn registry_of(rt: &impl Abort, alloc: Global, infos: &[ImageInfo]) -> Result<Registry, Fail> {
-    assert!(rt; are_images(infos));
-    Ok(Registry::new(alloc, infos, 4)?)
-}
-
-/// Makes the calls of a table, and compares what each gives.
-fn check_calls(rt: &impl Abort, registry: &mut Registry, calls: &[(u32, u32, u32, Gives)]) {
-    for (thread, line, image, gives) in calls {
-        let given = match gives {
-            Opens(_, _, _) | NotOpened(_) => open(registry, *thread, *line, *image),
-            Closes(_, _) | NotClosed(_) => close(registry, *thread, *line, *image),
-        };
-        assert_eq!(rt;
-            given,
-            *gives,
-            "thread {thread}, line {line}, image {image}"
-        );
+/// The program, and behind it these late images.
+fn images(alloc: Global, words: &str) -> Result<Vec<ImageInfo>, AllocError> {
+    let mut infos = vec![in alloc; image(false, false, 4)]?;
+    for word in words.split_whitespace() {
+        infos.push(late(word))?;
     }
+    Ok(infos)
 }
 
-/// A registry of these images after the calls of a table.
-fn after(
-    rt: &impl Abort,
+/// A registry of these images.
+fn registry_of(alloc: Global, words: &str) -> Result<Registry, Fail> {
+    let infos = images(alloc, words)?;
+    if !are_images(&infos) {
+        return Err(Fail::from("images of a registry"));
+    }
+    Ok(Registry::new(alloc, &infos, 4)?)
+}
+
+fn shown<T: Debug>(alloc: Global, value: &T) -> Result<String, AllocError> {
+    format!(in alloc; "{value:?}")
+}
+
+/// Closes and opens an image so many times, and says how long the history is then.
+fn reopen(registry: &mut Registry, image: u32, count: u32) -> u64 {
+    for _ in 0..count {
+        let _ = registry.close(1, 1, image);
+        let _ = registry.open(1, 2, image);
+    }
+    registry.len()
+}
+
+/// What a call with three numbers answers.
+fn changes(
     alloc: Global,
-    infos: &[ImageInfo],
-    calls: &[(u32, u32, u32, Gives)],
-) -> Result<Registry, Fail> {
-    let mut registry = registry_of(rt, alloc, infos)?;
-    check_calls(rt, &mut registry, calls);
-    Ok(registry)
-}
-
-#[test]
-fn an_id_comes_again_and_an_instance_does_not(rt: HostRuntime) -> Result<(), Fail> {
-    let calls = [
-        (1, 1, 2, Opens(2, 2, 0)),
-        (1, 4, 2, Closes(1, true)),
-        (1, 5, 2, Opens(3, 2, 2)),
-    ];
-    let registry = after(&rt, rt.alloc(), &[program(), late(false, 8)], &calls)?;
-    assert_eq!(rt; registry.current(2), Some(3));
-    assert_eq!(rt; registry.instance_of(2), Some(3));
-    assert!(rt; registry.live(1) && !registry.live(2) && registry.live(3));
-    Ok(())
-}
-
-#[test]
-fn an_image_is_live_until_its_closes_equal_its_opens(rt: HostRuntime) -> Result<(), Fail> {
-    let calls = [
-        (1, 1, 2, Opens(2, 2, 0)),
-        (1, 2, 2, Opens(2, 2, 1)),
-        (2, 1, 2, Closes(2, false)),
-        (1, 5, 2, Closes(3, true)),
-        (1, 7, 2, NotClosed(CloseRefusal::NotOpen)),
-    ];
-    let registry = after(&rt, rt.alloc(), &[program(), late(false, 8)], &calls)?;
-    assert!(rt; !registry.live(2));
-    assert_eq!(rt; registry.len(), 4);
-    Ok(())
-}
-
-#[test]
-fn refuses_in_order(rt: HostRuntime) -> Result<(), Fail> {
-    let calls = [
-        (1, 1, 2, Opens(2, 2, 0)),
-        (1, 2, 1, NotOpened(OpenRefusal::Unknown)),
-        (1, 3, 1, NotClosed(CloseRefusal::Permanent)),
-        (1, 4, 0, NotOpened(OpenRefusal::Unknown)),
-        (1, 5, 3, NotOpened(OpenRefusal::Unknown)),
-        (1, 6, 0, NotClosed(CloseRefusal::NotOpen)),
-        (1, 7, 9, NotClosed(CloseRefusal::NotOpen)),
-    ];
-    let registry = after(&rt, rt.alloc(), &[program(), late(true, 8)], &calls)?;
-    let only = Event {
-        thread: 1,
-        line: 1,
-        opens: true,
-        image: 2,
-    };
-    assert_eq!(rt; registry.since(0), [only].as_slice());
-    Ok(())
-}
-
-// The program's block begins 4 bytes below the thread pointer: round(4 + 8, 4) = 12, and after it round(12 + 8, 4) =
-// 20.
-#[test]
-fn a_load_gets_bytes_of_its_own(rt: HostRuntime) -> Result<(), Fail> {
-    let calls = [
-        (1, 1, 2, Opens(2, 2, 0)),
-        (1, 4, 2, Closes(1, true)),
-        (1, 5, 2, Opens(3, 2, 2)),
-    ];
-    let registry = after(&rt, rt.alloc(), &[program(), late(true, 8)], &calls)?;
-    assert_eq!(rt; registry.offset(1), None);
-    assert_eq!(rt; registry.offset(2), None);
-    assert_eq!(rt; registry.offset(3), Some(20));
-    Ok(())
-}
-
-// 4 + 4,096 is all of the surplus, and a close gives nothing back; an open that makes no instance needs no room.
-#[test]
-fn the_surplus_runs_out(rt: HostRuntime) -> Result<(), Fail> {
-    let calls = [
-        (1, 1, 2, Opens(2, 2, 0)),
-        (1, 2, 2, Opens(2, 2, 1)),
-        (1, 3, 3, NotOpened(OpenRefusal::StaticFull)),
-        (1, 4, 4, Opens(3, 3, 2)),
-        (1, 5, 5, Opens(4, 4, 3)),
-        (1, 6, 2, Closes(4, false)),
-        (1, 7, 2, Closes(5, true)),
-        (1, 8, 2, NotOpened(OpenRefusal::StaticFull)),
-    ];
-    let images = [
-        program(),
-        late(true, 4096),
-        late(true, 1),
-        late(true, 0),
-        late(false, 9),
-    ];
-    let registry = after(&rt, rt.alloc(), &images, &calls)?;
-    assert_eq!(rt; registry.offset(3), Some(4100));
-    assert_eq!(rt; registry.offset(4), None);
-    Ok(())
-}
-
-// Images 2 to 4 stay loaded as instances 5, 3 and 4; each further load needs a close before it.
-#[test]
-fn no_more_than_4095_instances_are_made(rt: HostRuntime) -> Result<(), Fail> {
-    let calls = [
-        (1, 1, 2, Opens(2, 2, 0)),
-        (1, 2, 3, Opens(3, 3, 1)),
-        (1, 3, 2, Closes(2, true)),
-        (1, 4, 4, Opens(4, 2, 3)),
-        (1, 5, 2, Opens(5, 4, 4)),
-    ];
-    let images = [program(), late(false, 8), late(false, 8), late(false, 8)];
-    let mut registry = after(&rt, rt.alloc(), &images, &calls)?;
-    for _ in 5..4095u32 {
-        close(&mut registry, 1, 1, 2);
-        open(&mut registry, 1, 2, 2);
+    registry: &mut Registry,
+    verb: &str,
+    first: u32,
+    second: u32,
+    third: u32,
+) -> Result<String, AllocError> {
+    match verb {
+        "open" => shown(alloc, &registry.open(first, second, third)),
+        "close" => shown(alloc, &registry.close(first, second, third)),
+        _ => shown(alloc, &reopen(registry, first, second)),
     }
-    let calls = [
-        (1, 1, 2, Closes(8185, true)),
-        (1, 2, 2, NotOpened(OpenRefusal::Full)),
-        (1, 3, 1, NotOpened(OpenRefusal::Unknown)),
-        (1, 4, 3, Opens(3, 3, 8186)),
-    ];
-    check_calls(&rt, &mut registry, &calls);
+}
+
+/// What a question with one number answers.
+fn asks(alloc: Global, registry: &Registry, verb: &str, of: u32) -> Result<String, AllocError> {
+    match verb {
+        "current" => shown(alloc, &registry.current(of)),
+        "instance_of" => shown(alloc, &registry.instance_of(u64::from(of))),
+        "live" => shown(alloc, &registry.live(of)),
+        "offset" => shown(alloc, &registry.offset(of)),
+        "since" => shown(alloc, &registry.since(0)),
+        _ => shown(alloc, &registry.len()),
+    }
+}
+
+/// What the call of a line answers.
+fn answer(alloc: Global, registry: &mut Registry, call: &str) -> Result<String, AllocError> {
+    let mut words = call.split(' ');
+    let verb = words.next().unwrap_or("");
+    let first = number(words.next());
+    let Some(second) = words.next() else {
+        return asks(alloc, registry, verb, first);
+    };
+    let third = number(words.next());
+    changes(alloc, registry, verb, first, number(Some(second)), third)
+}
+
+/// Makes the calls of a history, and compares what each answers.
+fn check(rt: &impl Abort, alloc: Global, history: &str) -> Result<(), Fail> {
+    let (images, calls) = history.split_once('\n').ok_or("images")?;
+    let mut registry = registry_of(alloc, images)?;
+    for line in calls.lines() {
+        let (call, want) = line.split_once(": ").ok_or("an answer")?;
+        same(rt, answer(alloc, &mut registry, call)?.as_str(), want, line);
+    }
     Ok(())
+}
+
+#[test]
+fn histories(rt: HostRuntime) -> Result<(), Fail> {
+    for history in HISTORIES.split("\n\n") {
+        check(&rt, rt.alloc(), history)?;
+    }
+    Ok(())
+}
+
+/// 63 late images.
+const MANY: &str = "\
+s60 s60 s60 s60 s60 s60 s60 s60 s60 s60 s60 s60 s60 s60 s60 s60 s60 s60 s60 s60 s60 \
+s60 s60 s60 s60 s60 s60 s60 s60 s60 s60 s60 s60 s60 s60 s60 s60 s60 s60 s60 s60 s60 \
+s60 s60 s60 s60 s60 s60 s60 s60 s60 s60 s60 s60 s60 s60 s60 s60 s60 s60 s60 s60 s60";
+
+/// Opens each image, and then the last one again and again.
+fn open_all(registry: &mut Registry) {
+    for image in 2..65u32 {
+        let _ = registry.open(1, image, image);
+    }
+    for _ in 0..10_000u32 {
+        let _ = registry.open(2, 1, 64);
+        let _ = registry.close(2, 2, 64);
+    }
 }
 
 // Opens and closes of a loaded image walk nothing, however long the history is.
 #[test]
 fn holds_64_images_and_many_events(rt: HostRuntime) -> Result<(), Fail> {
-    let mut images = vec![in rt.alloc(); program()]?;
-    for _ in 1..64u32 {
-        images.push(late(true, 60))?;
-    }
-    let mut registry = registry_of(&rt, rt.alloc(), &images)?;
-    for image in 2..65u32 {
-        assert_eq!(rt;
-            open(&mut registry, 1, image, image),
-            Opens(image, u64::from(image), u64::from(image - 2))
-        );
-    }
-    assert_eq!(rt; registry.offset(64), Some(4 + 63 * 60));
-    for _ in 0..10_000u32 {
-        open(&mut registry, 2, 1, 64);
-        close(&mut registry, 2, 2, 64);
-    }
-    assert_eq!(rt; registry.len(), 20_063);
-    assert_eq!(rt; registry.instance_of(64), Some(64));
+    let mut registry = registry_of(rt.alloc(), MANY)?;
+    open_all(&mut registry);
+    assert!(rt; registry.offset(64) == Some(4 + 63 * 60) && registry.len() == 20_063);
     Ok(())
 }
 
 #[test]
 fn reserves_and_copies(rt: HostRuntime) -> Result<(), Fail> {
-    let mut registry = registry_of(&rt, rt.alloc(), &[program(), late(false, 8)])?;
-    for (line, gives) in [
-        (1, Opens(2, 2, 0)),
-        (4, Closes(1, true)),
-        (5, Opens(3, 2, 2)),
-    ] {
-        registry.reserve()?;
-        check_calls(&rt, &mut registry, &[(1, line, 2, gives)]);
-    }
+    let mut registry = registry_of(rt.alloc(), "8")?;
+    registry.reserve()?;
+    let _ = registry.open(1, 1, 2);
     let mut copied = registry.copy()?;
-    assert_eq!(rt; copied.since(0), registry.since(0));
-    assert_eq!(rt; close(&mut copied, 1, 6, 2), Closes(3, true));
-    assert_eq!(rt; registry.len(), 3);
-    assert!(rt; registry.live(3) && !copied.live(3));
+    let _ = copied.close(1, 6, 2);
+    assert!(rt; registry.live(2) && !copied.live(2));
     Ok(())
+}
+
+/// A table of the program and a late image.
+fn table(alloc: Global) -> Result<ModuleTable, Fail> {
+    let infos = images(alloc, "8")?;
+    if !are_images(&infos) {
+        return Err(Fail::from("images of a table"));
+    }
+    Ok(ModuleTable::new(alloc, &infos, 4)?)
+}
+
+/// What a table tells of its images.
+fn told(alloc: Global, table: &ModuleTable) -> Result<String, AllocError> {
+    let (seen, program, late) = (table.seen(), table.current(1), table.current(2));
+    let (open, close) = (table.open_refusal(1), table.close_refusal(1));
+    format!(in alloc; "{seen} {program:?} {late:?} {open:?} {close:?}")
 }
 
 #[test]
 fn a_table_before_any_event(rt: HostRuntime) -> Result<(), Fail> {
-    let images = [program(), late(false, 8)];
-    assert!(rt; are_images(&images));
-    let table = ModuleTable::new(rt.alloc(), &images, 4)?;
-    assert_eq!(rt; table.seen(), 0);
-    assert_eq!(rt; (table.current(1), table.current(2)), (Some(1), None));
-    assert_eq!(rt; table.open_refusal(1), Some(OpenRefusal::Unknown));
-    assert_eq!(rt; table.close_refusal(1), Some(CloseRefusal::Permanent));
-    assert!(rt; table.copy()?.live(1));
+    let table = table(rt.alloc())?.copy()?;
+    same(
+        &rt,
+        told(rt.alloc(), &table)?.as_str(),
+        "0 Some(1) None Some(Unknown) Some(Permanent)",
+        "at first",
+    );
     Ok(())
 }

@@ -10,7 +10,6 @@
 mod calls;
 #[cfg(test)]
 mod histories;
-#[cfg(test)]
 mod limits;
 #[cfg(test)]
 mod transcripts;
