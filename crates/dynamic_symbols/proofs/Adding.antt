@@ -1,5 +1,6 @@
 -- Names that are added one by one, and the list that they come to.
-use Rattle.std.proofs.Common.{◌≡◌, ◌+◌, ◌-◌, ◌<◌, ◌≤◌, ◌∙◌, ◌&&◌, ◌||◌, ℕ, suc, Bool, true, false, not, cond, List, [], ◌∷◌, ◌++◌, Some, None, drop, filter, map, refl, sym, ap, Bor, append_assoc, append-nil, length, arith}
+use Rattle.std.proofs.Common.{◌≡◌, ◌+◌, ◌-◌, ◌<◌, ◌≤◌, ◌∙◌, ◌&&◌, ◌||◌, ℕ, suc, Bool, true, false, not, cond, List}
+use Rattle.std.proofs.Common.{[], ◌∷◌, ◌++◌, Some, None, drop, filter, map, refl, sym, ap, Bor, append_assoc, append-nil, length, arith}
 use Rattle.std.specs.Global.{Vec}
 use Rattle.std.specs.Prelude.{if◌then◌else◌, slice_index_or}
 use Rattle.std.specs.List.{cons_option, filter_map, flat_map, list_any, range_with_len}
@@ -127,7 +128,8 @@ added xs = with_names-distinct [] xs ∙ filter_all (distinct xs)
 -- a symbol that defines its name, and one that does not
 module _ (b : List ℕ) (seen : List (List ℕ)) (a : ℕ) (below : a < symbol_count b) where
   pub define_here : is_definition b a ≡ true
-      → with_names (with_name seen (symbol_name b a)) (flat_map (defined_at b) (range_with_len (a + 1) (symbol_count b - (a + 1)))) ≡ with_names seen (flat_map (defined_at b) (range_with_len a (symbol_count b - a)))
+      → with_names (with_name seen (symbol_name b a)) (flat_map (defined_at b) (range_with_len (a + 1) (symbol_count b - (a + 1))))
+      ≡ with_names seen (flat_map (defined_at b) (range_with_len a (symbol_count b - a)))
   define_here here = rw (range_first a (symbol_count b) below, here) refl
 
   pub define_later : is_definition b a ≡ false

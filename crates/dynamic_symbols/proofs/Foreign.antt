@@ -23,14 +23,16 @@ module _ (objects : List (List ℕ)) (startup : List (List (List ℕ))) where
   unfolding binding_of
   foreign o r is = of_local (same_binding Local (symbol_binding (object_at objects o) r.symbol)) is
     where
-      of_definition : (rest : Option Binding) (n : List ℕ) → bytes_eq n get_address ≡ false → (found : Option SymbolRef) → definition_of objects n ≡ found → is_startup (here_or found rest) ≡ true → IsForeign objects n
+      of_definition : (rest : Option Binding) (n : List ℕ) → bytes_eq n get_address ≡ false
+          → (found : Option SymbolRef) → definition_of objects n ≡ found → is_startup (here_or found rest) ≡ true → IsForeign objects n
       of_definition rest n other (Some x) found h = cc
       of_definition rest n other None found h = record {
         undefined = found;
         named = λ same. (let equal : bytes_eq n get_address ≡ true = (bytes_eq-Decides n get_address).1 same in cc);
       }
 
-      of_name : (rest : Option Binding) (n : List ℕ) (t : Bool) → bytes_eq n get_address ≡ t → is_startup (if t then Some Runtime else here_or (definition_of objects n) rest) ≡ true → IsForeign objects n
+      of_name : (rest : Option Binding) (n : List ℕ) (t : Bool) → bytes_eq n get_address ≡ t
+          → is_startup (if t then Some Runtime else here_or (definition_of objects n) rest) ≡ true → IsForeign objects n
       of_name rest n true e h = cc
       of_name rest n false e h = of_definition rest n e (definition_of objects n) refl h
 

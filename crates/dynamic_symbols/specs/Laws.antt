@@ -26,7 +26,8 @@ SymbolsAreShared = (objects : List (List ℕ)) → All (IsShared objects) (defin
 
 -- the symbols' names are the defined names, in their order
 abbrev pub SymbolsHaveTheNames : Type 0
-SymbolsHaveTheNames = (objects : List (List ℕ)) → map (name_of objects) (defined_symbols objects) ≡ defined_names objects
+SymbolsHaveTheNames = (objects : List (List ℕ))
+    → map (name_of objects) (defined_symbols objects) ≡ defined_names objects
 
 -- no two of them are the same
 abbrev pub NamesAreDistinct : Type 0

@@ -20,5 +20,6 @@ loop-object-preserved c =
     let Q : List (List Site) → Type 0 = λ xs. (o : ℕ) → o < n + 1 → P o (slice_index_or xs o []) in
     let pushed = ap (map (λ v. v.items)) c.in_ok-push.ensures.items ∙ map-append (λ v. v.items) old (own ∷ []) in (
       omega (arith, c.in_ok-push.ensures.len, so_far.0),
-      subst Q (sym pushed) (each_push P (map (λ v. v.items) old) own.items [] n (length-map old (λ v. v.items) ∙ so_far.0) so_far.1 (subst (λ b. HaveSymbols b own.items) (sym here) c.in_ok-own.ensures)),
+      subst Q (sym pushed)
+          (each_push P (map (λ v. v.items) old) own.items [] n (length-map old (λ v. v.items) ∙ so_far.0) so_far.1 (subst (λ b. HaveSymbols b own.items) (sym here) c.in_ok-own.ensures)),
     )
