@@ -34,6 +34,14 @@ ends 3 'store fault'
 runs run .
 ends 3 'store fault'
 
+runs show a.o
+ends 8 'image 16 Header'
+head -c 63 /dev/zero > zeros
+runs show zeros
+ends 8 'image 63 Truncated'
+runs show nothing
+ends 3 'store fault'
+
 what='output to a full disk'
 : > out
 "$tool" run job > /dev/full

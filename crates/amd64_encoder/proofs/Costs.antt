@@ -3,15 +3,15 @@ use Rattle.std.proofs.Common.{◌≡◌, ℕ, ◌+◌, ◌/◌, ◌%◌, ◌^◌
 use Rattle.std.specs.Prelude.{◌&&◌, ◌||◌, unwrap_or, is_some, slice_index}
 use Rattle.std.specs.Option.{option_to_list}
 use Rattle.std.proofs.lemmas.Bool.{eqb-true, ltb-false, and_parts}
-use Rattle.amd64_subset.specs.declared.register.Register.{Register}
-use Rattle.amd64_subset.specs.declared.register.Register.TheVariants.{Rax}
+use Rattle.amd64_words.specs.declared.register.Register.{Register}
+use Rattle.amd64_words.specs.declared.register.Register.TheVariants.{Rax}
 use Rattle.amd64_subset.specs.declared.operand.Base.TheVariants as base
 use Rattle.amd64_subset.specs.declared.operand.Index.{Index}
 use Rattle.amd64_subset.specs.declared.operand.Memory.{Memory}
 use Rattle.amd64_subset.specs.declared.operand.Operand.{Operand}
 use Rattle.amd64_subset.specs.declared.operand.Operand.TheVariants as operand
 use Rattle.amd64_subset.specs.declared.prefix.Prefixes.{Prefixes}
-use Rattle.amd64_subset.specs.declared.size.Size.{Size}
+use Rattle.amd64_words.specs.declared.size.Size.{Size}
 use Rattle.amd64_subset.specs.declared.selectors.Selectors.{Selectors}
 use Rattle.amd64_encoder.specs.declared.form.Fields.TheVariants as fields
 use Rattle.amd64_encoder.specs.declared.form.Form.{Form}

@@ -2,11 +2,11 @@
 use Rattle.std.proofs.Common.{◌≡◌, ℕ, ◌/◌, ◌%◌, ◌<◌, Bool, true, false, cond, eqb, List, [], ◌∷◌, length, Option, Some, None, refl, subst, arith, inl, inr, ◌⊎◌}
 use Rattle.std.specs.Prelude.{not, ◌&&◌, ◌||◌}
 use Rattle.std.specs.Option.{option_map}
-use Rattle.amd64_subset.specs.declared.register.Register.{Register}
+use Rattle.amd64_words.specs.declared.register.Register.{Register}
 use Rattle.amd64_subset.specs.declared.instr.Condition.{Condition}
 use Rattle.amd64_subset.specs.declared.instr.Operation.TheVariants as operation
 use Rattle.amd64_subset.specs.declared.prefix.Rex.{Rex}
-use Rattle.amd64_subset.specs.declared.size.Size.TheVariants as size
+use Rattle.amd64_words.specs.declared.size.Size.TheVariants as size
 use Rattle.amd64_subset.specs.declared.row.Row.{Row}
 use Rattle.amd64_subset.specs.declared.row.Row.TheVariants as row
 use Rattle.amd64_subset.specs.declared.row.Numbered.TheVariants as numbered

@@ -2,7 +2,7 @@
 use Rattle.std.proofs.Common.{◌≡◌, ℕ, ◌/◌, ◌%◌, ◌≤◌, Bool, true, false, cond, eqb, leb, List, ◌∷◌, ◌++◌, length, Option, Some, None, refl, ap, arith, append_assoc, length-append}
 use Rattle.std.specs.Prelude.{not, ◌&&◌, ◌||◌, unwrap_or}
 use Rattle.std.specs.Option.{option_to_list}
-use Rattle.amd64_subset.specs.declared.register.Register.{Register}
+use Rattle.amd64_words.specs.declared.register.Register.{Register}
 use Rattle.amd64_subset.specs.declared.operand.Memory.{Memory}
 use Rattle.amd64_subset.specs.declared.operand.Operand.{Operand}
 use Rattle.amd64_subset.specs.declared.operand.Operand.TheVariants as operand
@@ -11,9 +11,9 @@ use Rattle.amd64_subset.specs.declared.instr.Width.{Width}
 use Rattle.amd64_subset.specs.declared.instr.Width.TheVariants.{Long, Quad}
 use Rattle.amd64_subset.specs.declared.prefix.Rex.{Rex}
 use Rattle.amd64_subset.specs.declared.prefix.Prefixes.{Prefixes}
-use Rattle.amd64_subset.specs.declared.size.Size.{Size}
-use Rattle.amd64_subset.specs.declared.size.Size.TheVariants as size
-use Rattle.amd64_subset.specs.declared.size.Numbers.{Numbers}
+use Rattle.amd64_words.specs.declared.size.Size.{Size}
+use Rattle.amd64_words.specs.declared.size.Size.TheVariants as size
+use Rattle.amd64_subset.specs.declared.numbers.Numbers.{Numbers}
 use Rattle.amd64_subset.specs.declared.row.Row.{Row}
 use Rattle.amd64_subset.specs.declared.row.Row.TheVariants as row
 use Rattle.amd64_subset.specs.declared.row.Group.{Group}

@@ -2,8 +2,8 @@
 -- an immediate or a distance has a short field and a long one, the short one where the number fits.
 use Rattle.std.specs.Prelude.{ℕ, ◌+◌, ◌*◌, ◌%◌, Bool, true, false, nat_lt, nat_le, Some, None, ◌||◌, ◌==◌}
 use Rattle.std.specs.Prelude.{if◌then◌else◌}
-use Rattle.amd64_subset.specs.declared.register.Register.{Register}
-use Rattle.amd64_subset.specs.declared.register.Register.TheVariants.{Rax}
+use Rattle.amd64_words.specs.declared.register.Register.{Register}
+use Rattle.amd64_words.specs.declared.register.Register.TheVariants.{Rax}
 use Rattle.amd64_subset.specs.declared.operand.Operand.{Operand}
 use Rattle.amd64_subset.specs.declared.operand.Operand.TheVariants as operand
 use Rattle.amd64_subset.specs.declared.operand.Operands.{Operands}
@@ -19,8 +19,8 @@ use Rattle.amd64_subset.specs.declared.instr.Condition.TheVariants as condition
 use Rattle.amd64_subset.specs.declared.instr.Target.TheVariants.{Relative, Indirect}
 use Rattle.amd64_subset.specs.declared.instr.Operation.{Operation}
 use Rattle.amd64_subset.specs.declared.instr.Operation.TheVariants as operation
-use Rattle.amd64_subset.specs.declared.size.Size.{Size}
-use Rattle.amd64_subset.specs.declared.size.Size.TheVariants as size
+use Rattle.amd64_words.specs.declared.size.Size.{Size}
+use Rattle.amd64_words.specs.declared.size.Size.TheVariants as size
 use Rattle.amd64_encoder.specs.declared.form.Fields.TheVariants as fields
 use Rattle.amd64_encoder.specs.declared.form.Form.{Form}
 use Rattle.amd64_subset.specs.Register.{number_of}

@@ -3,7 +3,7 @@ use Rattle.std.specs.Prelude.{ℕ, ◌+◌, ◌*◌, ◌%◌, Bool, false, List,
 use Rattle.std.specs.Prelude.{Some, None, is_some, not, ◌&&◌, ◌||◌, ◌==◌, if◌then◌else◌}
 use Rattle.std.specs.Option.{option_to_list}
 use Rattle.std.specs.Int.{w64, to_le_bytes}
-use Rattle.amd64_subset.specs.declared.register.Register.{Register}
+use Rattle.amd64_words.specs.declared.register.Register.{Register}
 use Rattle.amd64_subset.specs.declared.operand.Base.{Base}
 use Rattle.amd64_subset.specs.declared.operand.Base.TheVariants as base
 use Rattle.amd64_subset.specs.declared.operand.Scale.{Scale}
@@ -13,7 +13,7 @@ use Rattle.amd64_subset.specs.declared.operand.Operand.{Operand}
 use Rattle.amd64_subset.specs.declared.operand.Operand.TheVariants as operand
 use Rattle.amd64_subset.specs.declared.instr.Instr.{Instr}
 use Rattle.amd64_subset.specs.declared.prefix.Rex.{Rex}
-use Rattle.amd64_subset.specs.declared.size.Size.{Size}
+use Rattle.amd64_words.specs.declared.size.Size.{Size}
 use Rattle.amd64_subset.specs.declared.selectors.Selectors.{Selectors}
 use Rattle.amd64_encoder.specs.declared.form.Fields.{Fields}
 use Rattle.amd64_encoder.specs.declared.form.Fields.TheVariants as fields

@@ -7,8 +7,8 @@ use Rattle.std.proofs.lemmas.Bool.{ltb-false, le-ltb, not-true, not-false}
 use Rattle.std.proofs.lemmas.List.{take_at, drop_at, take-append-drop, length-append, length-take, length-drop}
 use Rattle.amd64_subset.specs.declared.fault.Fault.TheVariants.{Short, Wrong}
 use Rattle.amd64_subset.specs.declared.prefix.Prefixes.{Prefixes}
-use Rattle.amd64_subset.specs.declared.size.Size.{Size}
-use Rattle.amd64_subset.specs.declared.size.Numbers.{Numbers}
+use Rattle.amd64_words.specs.declared.size.Size.{Size}
+use Rattle.amd64_subset.specs.declared.numbers.Numbers.{Numbers}
 use Rattle.amd64_subset.specs.declared.row.Row.{Row}
 use Rattle.amd64_subset.specs.declared.row.Action.{Action}
 use Rattle.amd64_subset.specs.declared.selectors.Selectors.{Selectors}

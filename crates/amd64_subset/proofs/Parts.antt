@@ -6,8 +6,8 @@ use Rattle.amd64_subset.specs.declared.fault.Fault.TheVariants.{Wrong}
 use Rattle.amd64_subset.specs.declared.instr.Operation.TheVariants as operation
 use Rattle.amd64_subset.specs.declared.prefix.Rex.{Rex}
 use Rattle.amd64_subset.specs.declared.prefix.Prefixes.{Prefixes}
-use Rattle.amd64_subset.specs.declared.size.Size.TheVariants as size
-use Rattle.amd64_subset.specs.declared.size.Numbers.{Numbers}
+use Rattle.amd64_words.specs.declared.size.Size.TheVariants as size
+use Rattle.amd64_subset.specs.declared.numbers.Numbers.{Numbers}
 use Rattle.amd64_subset.specs.declared.row.Row.{Row}
 use Rattle.amd64_subset.specs.declared.row.Row.TheVariants as row
 use Rattle.amd64_subset.specs.declared.meaning.Body.{Body}

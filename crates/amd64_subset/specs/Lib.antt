@@ -1,10 +1,10 @@
+pub use Rattle.amd64_words.specs.Number
+pub use Rattle.amd64_words.specs.Register
 pub mod Beginning
 pub mod Decoding
 pub mod Meaning
-pub mod Number
 pub mod Prefix
 pub mod Reading
-pub mod Register
 pub mod Row
 pub mod Selectors
 pub mod Spelling

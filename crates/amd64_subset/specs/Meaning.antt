@@ -1,7 +1,7 @@
 -- What the parts of an instruction's bytes mean together.
 use Rattle.std.specs.Prelude.{ℕ, ◌+◌, ◌%◌, Bool, true, false, Option, Some, None, if◌then◌else◌}
-use Rattle.amd64_subset.specs.declared.register.Register.{Register}
-use Rattle.amd64_subset.specs.declared.register.Register.TheVariants.{Rax}
+use Rattle.amd64_words.specs.declared.register.Register.{Register}
+use Rattle.amd64_words.specs.declared.register.Register.TheVariants.{Rax}
 use Rattle.amd64_subset.specs.declared.operand.Memory.{Memory}
 use Rattle.amd64_subset.specs.declared.operand.Operand.{Operand}
 use Rattle.amd64_subset.specs.declared.operand.Operand.TheVariants as operand
@@ -13,9 +13,9 @@ use Rattle.amd64_subset.specs.declared.instr.Target.TheVariants.{Relative, Indir
 use Rattle.amd64_subset.specs.declared.instr.Operation.{Operation}
 use Rattle.amd64_subset.specs.declared.instr.Operation.TheVariants as operation
 use Rattle.amd64_subset.specs.declared.prefix.Prefixes.{Prefixes}
-use Rattle.amd64_subset.specs.declared.size.Size.{Size}
-use Rattle.amd64_subset.specs.declared.size.Size.TheVariants as size
-use Rattle.amd64_subset.specs.declared.size.Numbers.{Numbers}
+use Rattle.amd64_words.specs.declared.size.Size.{Size}
+use Rattle.amd64_words.specs.declared.size.Size.TheVariants as size
+use Rattle.amd64_subset.specs.declared.numbers.Numbers.{Numbers}
 use Rattle.amd64_subset.specs.declared.row.Numbered.{Numbered}
 use Rattle.amd64_subset.specs.declared.row.Numbered.TheVariants as numbered
 use Rattle.amd64_subset.specs.declared.row.Action.{Action}

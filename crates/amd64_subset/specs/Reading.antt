@@ -2,8 +2,8 @@
 use Rattle.std.specs.Prelude.{◌≡◌, ℕ, ◌+◌, ◌-◌, List, length, take, drop, Result, Ok, Err, nat_lt, if◌then◌else◌}
 use Rattle.amd64_subset.specs.declared.fault.Fault.{Fault}
 use Rattle.amd64_subset.specs.declared.fault.Fault.TheVariants.{Short}
-use Rattle.amd64_subset.specs.declared.size.Size.{Size}
-use Rattle.amd64_subset.specs.declared.size.Numbers.{Numbers}
+use Rattle.amd64_words.specs.declared.size.Size.{Size}
+use Rattle.amd64_subset.specs.declared.numbers.Numbers.{Numbers}
 use Rattle.amd64_subset.specs.Number.{count_of, signed_of}
 
 -- what was read, and the bytes behind it

@@ -13,7 +13,7 @@ use Rattle.amd64_subset.specs.declared.instr.Condition.TheVariants.{Less, NotLes
 use Rattle.amd64_subset.specs.declared.instr.Operation.TheVariants.{Push, Pop, Leave, Return, Undefined}
 use Rattle.amd64_subset.specs.declared.prefix.Rex.{Rex}
 use Rattle.amd64_subset.specs.declared.prefix.Prefixes.{Prefixes}
-use Rattle.amd64_subset.specs.declared.size.Size.TheVariants.{Zero, One, Four, Eight}
+use Rattle.amd64_words.specs.declared.size.Size.TheVariants.{Zero, One, Four, Eight}
 use Rattle.amd64_subset.specs.declared.row.Row.{Row}
 use Rattle.amd64_subset.specs.declared.row.Row.TheVariants as row
 use Rattle.amd64_subset.specs.declared.row.Numbered.TheVariants as numbered

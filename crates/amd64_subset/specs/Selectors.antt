@@ -2,7 +2,7 @@
 -- 2-2 and 2-3).
 use Rattle.std.specs.Prelude.{ℕ, ◌+◌, ◌/◌, ◌%◌, Bool, true, false, List, [], ◌∷◌, Option, Some, None, Result, Ok, Err}
 use Rattle.std.specs.Prelude.{is_some, unwrap_or, not, nat_lt, ◌&&◌, ◌||◌, ◌==◌, if◌then◌else◌}
-use Rattle.amd64_subset.specs.declared.register.Register.{Register}
+use Rattle.amd64_words.specs.declared.register.Register.{Register}
 use Rattle.amd64_subset.specs.declared.operand.Base.{Base}
 use Rattle.amd64_subset.specs.declared.operand.Base.TheVariants as base
 use Rattle.amd64_subset.specs.declared.operand.Scale.{Scale}
@@ -14,8 +14,8 @@ use Rattle.amd64_subset.specs.declared.operand.Operand.TheVariants as operand
 use Rattle.amd64_subset.specs.declared.fault.Fault.{Fault}
 use Rattle.amd64_subset.specs.declared.fault.Fault.TheVariants.{Short, Wrong}
 use Rattle.amd64_subset.specs.declared.prefix.Prefixes.{Prefixes}
-use Rattle.amd64_subset.specs.declared.size.Size.{Size}
-use Rattle.amd64_subset.specs.declared.size.Size.TheVariants as size
+use Rattle.amd64_words.specs.declared.size.Size.{Size}
+use Rattle.amd64_words.specs.declared.size.Size.TheVariants as size
 use Rattle.amd64_subset.specs.declared.row.Row.{Row}
 use Rattle.amd64_subset.specs.declared.row.Action.{Action}
 use Rattle.amd64_subset.specs.declared.row.Action.TheVariants.{StoreByte, LoadAddress, ExtendByte}

@@ -1,7 +1,7 @@
 //! Instructions as values: what one does, and where its fields lie in its bytes.
 
 use crate::operand::{Memory, Operand, Operands};
-use crate::register::Register;
+use amd64_words::Register;
 
 /// The width of an operation. The 32-bit one clears the upper half of a register that it writes.
 #[derive(Clone, Copy, PartialEq, Eq, Debug)]

@@ -43,24 +43,24 @@ mod fault;
 mod instr;
 pub mod laws;
 mod meaning;
+mod numbers;
 mod operand;
 mod prefix;
 mod reading;
-mod register;
 mod row;
 mod selectors;
-mod size;
 
+pub use amd64_words::Register;
 pub use instr::{Arithmetic, Condition, Decoded, Instr, Operation, Shift, Target, Width};
 pub use operand::{Base, Index, Memory, Operand, Operands, Scale};
 pub use reading::{begins, decode};
-pub use register::Register;
 
 /// The parts of an instruction's encoding, of which `specs/Spelling` speaks, for the encoder.
 pub mod encoding {
     pub use crate::meaning::Body;
+    pub use crate::numbers::Numbers;
     pub use crate::prefix::{Prefixes, Rex};
     pub use crate::row::{Action, Group, Numbered, Row};
     pub use crate::selectors::Selectors;
-    pub use crate::size::{Numbers, Size};
+    pub use amd64_words::Size;
 }

@@ -5,12 +5,12 @@ ghost use Rattle.amd64_subset.specs.Meaning.{width_of, from_end, is_immediate, n
 ghost use Rattle.amd64_subset.specs.Meaning.{into_operand, operation_of, alone_body, numbered_body, operand_body};
 
 use crate::instr::{Instr, Operation, Target, Width};
+use crate::numbers::Numbers;
 use crate::operand::{Operand, Operands};
 use crate::prefix::Prefixes;
-use crate::register::Register;
 use crate::row::{Action, Numbered};
 use crate::selectors::Selectors;
-use crate::size::{Numbers, Size};
+use amd64_words::{Register, Size};
 
 /// An instruction, and how far before its end its four-byte fields begin.
 #[derive(Clone, Copy)]

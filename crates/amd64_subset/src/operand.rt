@@ -1,6 +1,6 @@
 //! What an instruction reads and writes: registers and operands in memory.
 
-use crate::register::Register;
+use amd64_words::Register;
 
 /// What an address starts from.
 #[derive(Clone, Copy, PartialEq, Eq, Debug)]

@@ -11,10 +11,11 @@ ghost use Rattle.amd64_subset.specs.Decoding.{instruction_at, before, decoded};
 use crate::fault::Fault;
 use crate::instr::{Decoded, Operation};
 use crate::meaning::{Body, alone_body, numbered_body, operand_body, width};
+use crate::numbers::read_numbers;
 use crate::prefix::{Prefixes, read_prefixes};
 use crate::row::{Row, escaped_row, opcode_row};
 use crate::selectors::read_selectors;
-use crate::size::{Size, read_numbers};
+use amd64_words::Size;
 
 /// The row that an opcode names, where it may follow the prefixes.
 fn accepted(prefixes: Prefixes, row: Option<Row>, rest: &[u8]) -> Result<(Row, &[u8]), Fault>

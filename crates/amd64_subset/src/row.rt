@@ -6,10 +6,9 @@ ghost use Rattle.amd64_subset.specs.Row.{group_action, action_of, accesses, pads
 
 use crate::instr::{Arithmetic, Condition, Operation, Shift};
 use crate::prefix::{Prefixes, Rex};
-use crate::register::Register;
-use crate::size::Size;
 use Action::*;
 use Arithmetic::*;
+use amd64_words::{Register, Size};
 
 /// What stands behind an opcode, and what the instruction does.
 #[derive(Clone, Copy)]

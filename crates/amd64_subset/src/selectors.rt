@@ -9,9 +9,8 @@ ghost use Rattle.amd64_subset.specs.Reading.{Gives};
 use crate::fault::Fault;
 use crate::operand::{Base, Index, Memory, Operand, Scale};
 use crate::prefix::Prefixes;
-use crate::register::Register;
 use crate::row::{Action, Row};
-use crate::size::Size;
+use amd64_words::{Register, Size};
 
 /// The bytes that select an instruction's operands: ModRM, with a mode in its upper two bits, a
 /// register or more of the opcode in the next three, a register or how memory is addressed in the

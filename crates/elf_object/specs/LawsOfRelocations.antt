@@ -9,8 +9,8 @@ use Rattle.object_faults.specs.declared.fault.FaultKind.TheVariants.{RelocSymbol
 use Rattle.object_faults.specs.declared.class.SectionClass.{SectionClass}
 use Rattle.object_faults.specs.declared.class.SectionClass.TheVariants.{Executable, ReadOnly, Tls, Writable}
 use Rattle.elf_object.specs.declared.symbol.SymbolPlace.TheVariants.{Absolute, InSection}
-use Rattle.object_faults.specs.declared.relocation.RelocationKind.{RelocationKind}
-use Rattle.object_faults.specs.declared.relocation.RelocationKind.TheVariants.{Nothing}
+use Rattle.elf_records.specs.declared.relocation.RelocationKind.{RelocationKind}
+use Rattle.elf_records.specs.declared.relocation.RelocationKind.TheVariants.{Nothing}
 use Rattle.elf_object.specs.declared.relocation.Relocation.{Relocation}
 use Rattle.elf_object.specs.Parts.{section, symbol, rela, symbol_count, entry_count}
 use Rattle.elf_object.specs.Classes.{kept_class, IsKeptSection}

@@ -1,9 +1,10 @@
 -- What an object lends: names, bytes, symbols and relocations, as functions of the file's bytes (gABI, "Sections",
 -- "Symbol Table",
 -- "Relocation"). Number 0 of the sections and of the symbols is reserved, and nothing of it is looked at.
-use Rattle.std.specs.Prelude.{◌≡◌, ◌+◌, ◌*◌, ◌==◌, ◌&&◌, ℕ, not, List, [], map, drop, slice_range, Option, None}
+use Rattle.std.specs.Prelude.{◌≡◌, ◌+◌, ◌*◌, ◌==◌, ◌&&◌, ℕ, not, List, [], map, slice_range, Option, None}
 use Rattle.std.specs.Prelude.{is_some, nat_lt, unwrap_or, if◌then◌else◌}
-use Rattle.std.specs.List.{range_with_len, before_first}
+use Rattle.std.specs.List.{range_with_len}
+use Rattle.elf_records.specs.Strings.{text_at}
 use Rattle.elf_records.specs.Records.{rela_at, rela_symbol, rela_kind, symbol_binding as binding_number}
 use Rattle.elf_records.specs.Records.{symbol_kind as type_number, symbol_visibility as visibility_number}
 use Rattle.elf_records.specs.declared.section_header.TheConstants.{SHT_NULL, SHT_RELA, SHT_NOBITS}
@@ -19,7 +20,7 @@ use Rattle.elf_object.specs.declared.symbol.Visibility.{Visibility}
 use Rattle.elf_object.specs.declared.symbol.Visibility.TheVariants.{Default, Internal, Hidden, Protected}
 use Rattle.elf_object.specs.declared.symbol.SymbolPlace.{SymbolPlace}
 use Rattle.elf_object.specs.declared.symbol.SymbolPlace.TheVariants.{Undefined, Absolute, InSection}
-use Rattle.object_faults.specs.declared.relocation.RelocationKind.TheVariants.{Nothing}
+use Rattle.elf_records.specs.declared.relocation.RelocationKind.TheVariants.{Nothing}
 use Rattle.elf_object.specs.declared.relocation.Relocation.{Relocation}
 use Rattle.elf_object.specs.declared.part.SectionPart.{SectionPart}
 use Rattle.elf_object.specs.declared.part.SymbolPart.{SymbolPart}
@@ -46,10 +47,6 @@ visibility_numbered n = if n == STV_DEFAULT then Default else if n == STV_INTERN
 
 abbrev pub place_numbered : ℕ → SymbolPlace
 place_numbered n = if n == SHN_UNDEF then Undefined else if n == SHN_ABS then Absolute else InSection n
-
--- the text of a string table from an offset up to the first zero byte
-unfoldable pub text_at : List ℕ → ℕ → List ℕ
-text_at table at = before_first (λ byte. byte == 0) (drop at table)
 
 -- the bytes of section s in the file
 unfoldable pub section_bytes : List ℕ → ℕ → List ℕ

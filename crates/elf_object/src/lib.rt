@@ -24,7 +24,6 @@
 //! "Relocation"). `specs/Lent` states what is lent, as functions of the file's bytes.
 #![tactic(auto)]
 
-mod names;
 mod object;
 mod part;
 mod part_names;

@@ -4,8 +4,8 @@ ghost use Rattle.std.specs.Prelude.{◌≡◌, ◌<◌, ◌≤◌, MatchOption, 
 ghost use Rattle.elf_object.specs.Parts.{section as section_header, symbol_count, symbol_table};
 ghost use Rattle.elf_object.specs.Lent.{section_bytes, section_name, symbol_name};
 
-use crate::names::{short_text_at, text_at};
 use crate::part::bytes_of;
+use elf_records::strings::{short_text_at, text_at};
 use object_faults::Tables;
 
 /// The name of a section.

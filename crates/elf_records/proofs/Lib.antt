@@ -1,1 +1,3 @@
+pub mod Powers
+pub mod TextLengths
 pub mod Written

@@ -1,6 +1,6 @@
 -- The six records of ELF64, each field at its offset in the record (gABI, "ELF Header", "Sections", "Symbol Table",
 -- "Relocation", "Program Header" and "Dynamic Section").
-use Rattle.std.specs.Prelude.{◌≡◌, ◌+◌, ◌/◌, ◌%◌, ◌^◌, ℕ, List, [], ◌∷◌, ◌++◌, length, FitsSigned}
+use Rattle.std.specs.Prelude.{◌≡◌, ◌≢◌, ◌+◌, ◌/◌, ◌%◌, ◌^◌, ℕ, List, [], ◌∷◌, ◌++◌, length, take, FitsSigned}
 use Rattle.std.specs.Int.{w64, cast_unsigned}
 use Rattle.elf_records.specs.declared.file_header.Header.{Header}
 use Rattle.elf_records.specs.declared.section_header.SectionHeader.{SectionHeader}
@@ -8,6 +8,8 @@ use Rattle.elf_records.specs.declared.symbol.SymbolEntry.{SymbolEntry}
 use Rattle.elf_records.specs.declared.relocation.Rela.{Rela}
 use Rattle.elf_records.specs.declared.program_header.Segment.{Segment}
 use Rattle.elf_records.specs.declared.dynamic.DynamicEntry.{DynamicEntry}
+use Rattle.elf_records.specs.declared.file_header.TheConstants.{ELF_IDENT, EV_CURRENT}
+use Rattle.elf_records.specs.declared.section_header.TheConstants.{SHT_NULL, SHT_NOBITS}
 use Rattle.elf_records.specs.Fields.{FitAll, number_at, part_at, signed_at, spelled}
 
 -- Elf64_Ehdr
@@ -183,3 +185,11 @@ rela_symbol r = r.info / 2 ^ 32
 -- ELF64_R_TYPE: its low half
 abbrev pub rela_kind : Rela → ℕ
 rela_kind r = r.info % 2 ^ 32
+
+-- the first seven bytes say ELF, 64 bits, little-endian, version 1
+abbrev pub IsElf : Header → Type 0
+IsElf h = (take 7 h.ident ≡ ELF_IDENT) × (h.e_version ≡ EV_CURRENT)
+
+-- the file holds bytes of the section
+abbrev pub HasBytes : SectionHeader → Type 0
+HasBytes h = (h.kind ≢ SHT_NULL) × (h.kind ≢ SHT_NOBITS)

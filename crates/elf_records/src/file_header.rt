@@ -1,8 +1,8 @@
 //! The header that every ELF file begins with (gABI, "ELF Header").
 
-ghost use Rattle.std.specs.Prelude.{◌≡◌, ◌+◌, ◌≤◌, length, take, drop};
+ghost use Rattle.std.specs.Prelude.{◌≡◌, ◌+◌, ◌≤◌, ◌↔◌, IsTrue, length, take, drop};
 ghost use Rattle.elf_records.specs.Fields.{IsReadAt, splice};
-ghost use Rattle.elf_records.specs.Records.{header_at, header_bytes};
+ghost use Rattle.elf_records.specs.Records.{header_at, header_bytes, IsElf};
 
 use crate::field::{fits, put_bytes, put_u16, put_u32, put_u64, u16_at, u32_at, u64_at};
 
@@ -87,6 +87,13 @@ pub fn read_header(bytes: &[u8], at: u64) -> Option<Header>
         e_shnum: u16_at(bytes, at + 60),
         e_shstrndx: u16_at(bytes, at + 62),
     })
+}
+
+/// Whether the first bytes are those of ELF with 64 bits and little-endian data.
+pub fn is_elf(header: &Header) -> bool
+    ensures { IsTrue result ↔ IsElf header.now }
+{
+    header.ident[..7] == ELF_IDENT[..] && header.e_version == EV_CURRENT
 }
 
 /// Writes the ELF header at offset `at`, over the bytes that stand there.

@@ -7,7 +7,8 @@
 //! Some sections are tables themselves: of *symbols*, the names that objects share; of *relocations*, the fields that
 //! a linker fills in; and the *dynamic array*, by which a loader finds the tables of an image.
 //!
-//! This crate knows these six records and nothing of what they are for. A number in a record has 1, 2, 4 or 8 bytes,
+//! This crate knows these six records, their tables and the texts of string tables, and nothing of what they are for:
+//! it names types of relocation, and fills no field. A number in a record has 1, 2, 4 or 8 bytes,
 //! the lowest byte first, as on every x86-64 system; one of them, the addend of a relocation, has a sign. For example,
 //! these 24 bytes
 //!
@@ -34,18 +35,20 @@
 //! what callers may use of them.
 #![tactic(auto)]
 
+pub mod alignment;
 pub mod dynamic;
 mod field;
 pub mod file_header;
 pub mod program_header;
 pub mod relocation;
 pub mod section_header;
+pub mod strings;
 pub mod symbol;
 
 pub use dynamic::{DynamicEntry, read_dynamic, write_dynamic};
 pub use field::fits;
 pub use file_header::{Header, read_header, write_header};
 pub use program_header::{Segment, read_segment, write_segment};
-pub use relocation::{Rela, read_rela, write_rela};
-pub use section_header::{SectionHeader, read_section, write_section};
-pub use symbol::{SymbolEntry, read_symbol, write_symbol};
+pub use relocation::{Rela, RelocationKind, read_rela, rela_numbered, write_rela};
+pub use section_header::{SectionHeader, read_section, section_numbered, write_section};
+pub use symbol::{SymbolEntry, read_symbol, symbol_numbered, write_symbol};

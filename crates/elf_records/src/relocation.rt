@@ -1,8 +1,9 @@
 //! Relocation entries with an addend (gABI, "Relocation").
 
-ghost use Rattle.std.specs.Prelude.{◌≡◌, ◌+◌, ◌*◌, ◌^◌, ◌≤◌, length, take, drop};
+ghost use Rattle.std.specs.Prelude.{◌≡◌, ◌+◌, ◌*◌, ◌^◌, ◌≤◌, ◌↔◌, IsTrue, length, take, drop};
 ghost use Rattle.elf_records.specs.Fields.{IsReadAt, splice};
 ghost use Rattle.elf_records.specs.Records.{rela_at, rela_bytes, rela_kind, rela_symbol};
+ghost use Rattle.elf_records.specs.Relocations.{relocation_kind, field_width, width_of, IsOfCode};
 
 use crate::field::{fits, i64_at, put_i64, put_u64, u64_at};
 
@@ -53,6 +54,90 @@ pub const R_X86_64_TLSDESC: u32 = 36;
 pub const R_X86_64_GOTPCRELX: u32 = 41;
 /// The same, in an instruction with a REX prefix.
 pub const R_X86_64_REX_GOTPCRELX: u32 = 42;
+
+/// A type of relocation that linking takes from an object, named without its R_X86_64.
+#[derive(Clone, Copy, PartialEq, Eq, Debug)]
+pub enum RelocationKind {
+    Nothing,
+    Absolute64,
+    Pc32,
+    Plt32,
+    GotPcRel,
+    Absolute32,
+    Absolute32Signed,
+    TlsGd,
+    TlsLd,
+    DtpOff32,
+    GotTpOff,
+    TpOff32,
+    GotPc32TlsDesc,
+    TlsDescCall,
+    GotPcRelX,
+    RexGotPcRelX,
+}
+
+impl RelocationKind {
+    /// The type of a number.
+    pub fn numbered(number: u32) -> Option<RelocationKind>
+        ensures { result ≡ relocation_kind number }
+    {
+        match number {
+            R_X86_64_NONE => Some(RelocationKind::Nothing),
+            R_X86_64_64 => Some(RelocationKind::Absolute64),
+            R_X86_64_PC32 => Some(RelocationKind::Pc32),
+            R_X86_64_PLT32 => Some(RelocationKind::Plt32),
+            R_X86_64_GOTPCREL => Some(RelocationKind::GotPcRel),
+            R_X86_64_32 => Some(RelocationKind::Absolute32),
+            R_X86_64_32S => Some(RelocationKind::Absolute32Signed),
+            R_X86_64_TLSGD => Some(RelocationKind::TlsGd),
+            R_X86_64_TLSLD => Some(RelocationKind::TlsLd),
+            R_X86_64_DTPOFF32 => Some(RelocationKind::DtpOff32),
+            R_X86_64_GOTTPOFF => Some(RelocationKind::GotTpOff),
+            R_X86_64_TPOFF32 => Some(RelocationKind::TpOff32),
+            R_X86_64_GOTPC32_TLSDESC => Some(RelocationKind::GotPc32TlsDesc),
+            R_X86_64_TLSDESC_CALL => Some(RelocationKind::TlsDescCall),
+            R_X86_64_GOTPCRELX => Some(RelocationKind::GotPcRelX),
+            R_X86_64_REX_GOTPCRELX => Some(RelocationKind::RexGotPcRelX),
+            _ => None,
+        }
+    }
+
+    /// How many bytes the field has.
+    pub fn width(self) -> u64
+        ensures { result ≡ field_width self }
+    {
+        match self {
+            RelocationKind::Nothing | RelocationKind::TlsDescCall => 0,
+            RelocationKind::Absolute64 => 8,
+            _ => 4,
+        }
+    }
+
+    /// Whether it belongs to an instruction, so that it stands in executable sections alone.
+    pub fn is_of_code(self) -> bool
+        ensures { IsTrue result ↔ IsOfCode self }
+    {
+        match self {
+            RelocationKind::Nothing
+            | RelocationKind::Absolute64
+            | RelocationKind::Pc32
+            | RelocationKind::Absolute32
+            | RelocationKind::Absolute32Signed
+            | RelocationKind::TpOff32 => false,
+            _ => true,
+        }
+    }
+}
+
+/// How many bytes the field of a relocation of this type has; 0 for a number that is no [`RelocationKind`].
+pub fn width_of(number: u32) -> u64
+    ensures { result ≡ width_of (relocation_kind number) }
+{
+    match RelocationKind::numbered(number) {
+        Some(kind) => kind.width(),
+        None => 0,
+    }
+}
 
 /// An entry of a section of type [`SHT_RELA`](crate::section_header::SHT_RELA): how to fill one field of the section
 /// that it applies to.
@@ -106,6 +191,17 @@ pub fn read_rela(bytes: &[u8], at: u64) -> Option<Rela>
         info: u64_at(bytes, at + 8),
         addend: i64_at(bytes, at + 16),
     })
+}
+
+/// Entry `number` of the relocations that begin at `table`.
+pub fn rela_numbered(bytes: &[u8], table: u64, number: u64) -> Rela
+    requires { table + Rela.SIZE * number + Rela.SIZE ≤ length bytes.now }
+    ensures { result ≡ rela_at (table + Rela.SIZE * number) bytes.now }
+{
+    match read_rela(bytes, table + Rela::SIZE * number) {
+        Some(rela) => rela,
+        None => unreachable!(),
+    }
 }
 
 /// Writes the relocation entry at offset `at`, over the bytes that stand there.

@@ -1,8 +1,8 @@
 //! Section headers (gABI, "Sections").
 
-ghost use Rattle.std.specs.Prelude.{◌≡◌, ◌+◌, ◌≤◌, length, take, drop};
+ghost use Rattle.std.specs.Prelude.{◌≡◌, ◌+◌, ◌*◌, ◌≤◌, ◌↔◌, IsTrue, length, take, drop};
 ghost use Rattle.elf_records.specs.Fields.{IsReadAt, splice};
-ghost use Rattle.elf_records.specs.Records.{section_at, section_bytes};
+ghost use Rattle.elf_records.specs.Records.{section_at, section_bytes, HasBytes};
 
 use crate::field::{fits, put_u32, put_u64, u32_at, u64_at};
 
@@ -96,6 +96,24 @@ pub fn read_section(bytes: &[u8], at: u64) -> Option<SectionHeader>
         addralign: u64_at(bytes, at + 48),
         entsize: u64_at(bytes, at + 56),
     })
+}
+
+/// Header `number` of the table that begins at `table`.
+pub fn section_numbered(bytes: &[u8], table: u64, number: u64) -> SectionHeader
+    requires { table + SectionHeader.SIZE * number + SectionHeader.SIZE ≤ length bytes.now }
+    ensures { result ≡ section_at (table + SectionHeader.SIZE * number) bytes.now }
+{
+    match read_section(bytes, table + SectionHeader::SIZE * number) {
+        Some(header) => header,
+        None => unreachable!(),
+    }
+}
+
+/// Whether the file holds bytes of the section.
+pub fn has_bytes(header: &SectionHeader) -> bool
+    ensures { IsTrue result ↔ HasBytes header.now }
+{
+    header.kind != SHT_NULL && header.kind != SHT_NOBITS
 }
 
 /// Writes the section header at offset `at`, over the bytes that stand there.

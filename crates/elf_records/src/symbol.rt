@@ -126,6 +126,17 @@ pub fn read_symbol(bytes: &[u8], at: u64) -> Option<SymbolEntry>
     })
 }
 
+/// Symbol `number` of the table that begins at `table`.
+pub fn symbol_numbered(bytes: &[u8], table: u64, number: u64) -> SymbolEntry
+    requires { table + SymbolEntry.SIZE * number + SymbolEntry.SIZE ≤ length bytes.now }
+    ensures { result ≡ symbol_at (table + SymbolEntry.SIZE * number) bytes.now }
+{
+    match read_symbol(bytes, table + SymbolEntry::SIZE * number) {
+        Some(symbol) => symbol,
+        None => unreachable!(),
+    }
+}
+
 /// Writes the symbol table entry at offset `at`, over the bytes that stand there.
 pub fn write_symbol(fields: &SymbolEntry, bytes: &mut [u8], at: u64)
     requires { at + SymbolEntry.SIZE ≤ length bytes.old }

@@ -1,4 +1,3 @@
-pub mod EndsOfNames
 pub mod Alignments
 pub mod HeaderTable
 pub mod Counts

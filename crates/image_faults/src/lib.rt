@@ -37,7 +37,6 @@ mod found;
 mod headers;
 mod loader_kind;
 mod loads;
-mod names;
 mod places;
 mod relocation_tests;
 mod rule;

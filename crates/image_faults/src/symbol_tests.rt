@@ -12,7 +12,7 @@ use elf_records::symbol::{SHN_UNDEF, STB_GLOBAL, STB_WEAK, STT_COMMON, STT_TLS};
 pub const TLS_GET_ADDR: [u8; 15] = *b"__tls_get_addr\0";
 
 /// Whether a name that begins at this offset of the names ends.
-#[tactic(auto, using(crate::proofs::EndsOfNames::ends_before, crate::proofs::EndsOfNames::no_end_after))]
+#[tactic(auto, using(elf_records::specs::StringLaws::ends_before, elf_records::specs::StringLaws::no_end_after))]
 fn name_ends(tables: &Tables, at: u64) -> bool
     ensures { IsTrue result ↔ Ends tables.now.bytes.now (strings_place tables.now.bytes.now)
         (strings_size tables.now.bytes.now) at }

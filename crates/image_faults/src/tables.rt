@@ -13,12 +13,12 @@ ghost use Rattle.image_faults.specs.Faults.{KeepsBelow, Answers};
 
 use crate::fault::ImageFault;
 use crate::found::fault_at;
-use crate::names::names_end;
 use crate::places::{FileKind, Places};
 use crate::rule::{EntryRule, Rule};
 use crate::searches::{behind_last_writable, has_relro};
 use crate::segments::Segments;
 use elf_records::dynamic::{DT_FLAGS, DT_FLAGS_1};
+use elf_records::strings::names_end;
 use elf_records::{Header, Rela, Segment, SymbolEntry, read_rela, read_segment, read_symbol};
 
 /// The bytes of an image, and where its tables lie in them.

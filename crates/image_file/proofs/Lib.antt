@@ -1,3 +1,2 @@
 pub mod PartsLent
 pub mod RelocationsLent
-pub mod TextLengths

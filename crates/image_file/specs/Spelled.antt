@@ -1,12 +1,12 @@
 -- What the bytes of a file spell: the image that they stand for (gABI, "Program Header", "Symbol Table",
 -- "Relocation").
-use Rattle.std.specs.Prelude.{◌+◌, ◌==◌, ℕ, Bool, not, List, drop, slice_range, Option, Some, None, unwrap_or}
+use Rattle.std.specs.Prelude.{◌+◌, ◌==◌, ℕ, Bool, not, List, slice_range, Option, Some, None, unwrap_or}
 use Rattle.std.specs.Prelude.{if◌then◌else◌}
-use Rattle.std.specs.List.{before_first}
 use denote.Bor.{Bor}
 use Rattle.elf_records.specs.declared.symbol.SymbolEntry.{SymbolEntry}
 use Rattle.elf_records.specs.declared.program_header.Segment.{Segment}
 use Rattle.elf_records.specs.declared.relocation.Rela.{Rela}
+pub use Rattle.elf_records.specs.Strings.{text_at}
 use Rattle.elf_records.specs.Records.{rela_symbol, rela_kind, symbol_binding, symbol_kind, symbol_visibility}
 use Rattle.elf_records.specs.declared.program_header.TheConstants.{PF_X, PF_R}
 use Rattle.elf_records.specs.declared.symbol.TheConstants.{SHN_UNDEF, STB_GLOBAL, STB_WEAK, STT_NOTYPE, STT_OBJECT}
@@ -104,12 +104,9 @@ symbol_of s = record {
   size = s.size;
 }
 
--- the names, and the text among them from an offset up to the first zero byte
+-- the names, and the text among them where a symbol has its name
 abbrev pub strings : List ℕ → List ℕ
 strings b = slice_range b (strings_place b) (strings_place b + strings_size b)
-
-unfoldable pub text_at : List ℕ → ℕ → List ℕ
-text_at table at = before_first (λ byte. byte == 0) (drop at table)
 
 abbrev pub name : List ℕ → ℕ → List ℕ
 name b k = text_at (strings b) (symbol b k).name

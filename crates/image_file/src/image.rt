@@ -1,6 +1,6 @@
 //! An image: a file that was read and found without fault.
 
-ghost use Rattle.std.specs.Prelude.{◌≡◌, ◌<◌, IfOk, IfErr, IfSome, length, slice_get};
+ghost use Rattle.std.specs.Prelude.{◌≡◌, ◌<◌, ℕ, List, IfOk, IfErr, IfSome, length, slice_get};
 ghost use Rattle.image_faults.specs.Faults.{IsImage, IsFault};
 ghost use Rattle.image_file.specs.Spelled.{spelled, part_seen, text_seen};
 ghost use Rattle.image_file.specs.Refusals.{IsRefusal};
@@ -178,6 +178,13 @@ impl Image {
         };
         relocation_in(&tables, number)
     }
+}
+
+/// An image is what the bytes of some file spell that was found without fault. The call only tells a proof so.
+pub fn image_is_spelled(image: &Image)
+    ensures { (b : List ℕ) × (IsImage b × (image.now ≡ spelled b)) }
+{
+    let _bytes = image.bytes.as_slice();
 }
 
 fn crosses_threads<T: Send + Sync>() {}

@@ -6,10 +6,10 @@ ghost use Rattle.image_faults.specs.Parts.{tls};
 ghost use Rattle.image_file.specs.Spelled.{tls_of};
 ghost use Rattle.image_file.specs.Spelled.{parts, symbols, names, relocations, name, strings, part_seen, text_seen};
 
-use crate::names::text_at;
 use crate::part::{ImagePart, TlsPart, class_numbered};
 use crate::relocation::{ImageRelocation, relocation_of};
 use crate::symbol::{ImageSymbol, symbol_of};
+use elf_records::strings::text_at;
 use image_faults::Tables;
 
 /// A part that is loaded.

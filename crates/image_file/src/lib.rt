@@ -13,17 +13,16 @@
 //! executable, 9 bytes at 0x400000; its TLS segment has 4 bytes; its symbols 1 and 2 are `f`, a function at
 //! 0x400000, and `x`, thread-local at offset 0. It has no GOT and no relocations.
 //!
-//! Writing an image is not built yet.
+//! The crate `image_writer` writes an image again, or makes one of what a linker laid out.
 #![tactic(auto)]
 
 mod image;
 mod lent;
-mod names;
 mod part;
 mod relocation;
 mod symbol;
 
-pub use image::{Image, images_cross_threads, read, read_owned};
+pub use image::{Image, image_is_spelled, images_cross_threads, read, read_owned};
 pub use image_faults::{FaultKind, FileKind, ImageFault, LoaderKind};
 pub use part::{ImagePart, PartClass, TlsPart};
 pub use relocation::ImageRelocation;

@@ -1,9 +1,7 @@
-//! Reading images: what they spell, what a change of them answers, and that no front of one is taken.
+//! Reading images: what a change of them answers, and that no front of one is taken.
 
 use crate::cases::CASES;
 use crate::images::{ANYWHERE, DYNAMIC, MODULE, PROGRAM, WRITTEN};
-use crate::listing::listed;
-use crate::spelled;
 use image_faults::fault_free;
 use image_file::{FaultKind, Image, ImageFault, SymbolBinding, Visibility, read};
 use std::alloc::{AllocError, Global};
@@ -22,7 +20,7 @@ fn put(alloc: Global, bytes: &mut Vec<u8>, at: &str, digits: &str) -> Result<(),
 }
 
 /// The bytes of an image.
-fn bytes_of(alloc: Global, pieces: &str) -> Result<Vec<u8>, Fail> {
+pub(crate) fn bytes_of(alloc: Global, pieces: &str) -> Result<Vec<u8>, Fail> {
     let (size, pieces) = pieces.split_once('\n').ok_or("a size")?;
     let size: usize = size.parse()?;
     let mut bytes = vec![in alloc; 0u8; size]?;
@@ -74,25 +72,6 @@ fn finds_the_first_fault(rt: HostRuntime) -> Result<(), Fail> {
             check(&rt, line)?;
         }
     }
-    Ok(())
-}
-
-/// Compares what an image spells with what another program printed of it.
-fn spells(rt: &(impl Abort + AllocGlobal), pieces: &str, want: &str) -> Result<(), Fail> {
-    let bytes = bytes_of(rt.alloc(), pieces)?;
-    let image = read(rt.alloc(), bytes.as_slice())?;
-    let found = listed(rt.alloc(), &image)?;
-    assert_eq!(rt; found.as_str(), want);
-    Ok(())
-}
-
-#[test]
-fn tells_what_an_image_spells(rt: HostRuntime) -> Result<(), Fail> {
-    spells(&rt, PROGRAM, spelled::PROGRAM)?;
-    spells(&rt, ANYWHERE, spelled::ANYWHERE)?;
-    spells(&rt, MODULE, spelled::MODULE)?;
-    spells(&rt, WRITTEN, spelled::WRITTEN)?;
-    spells(&rt, DYNAMIC, spelled::DYNAMIC)?;
     Ok(())
 }
 

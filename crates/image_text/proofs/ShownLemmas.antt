@@ -57,24 +57,26 @@ paired (a ∷ xs) [] i x y left right = absurd (cc right)
 paired (a ∷ xs) (b ∷ ys) zero x y left right = cc
 paired (a ∷ xs) (b ∷ ys) (suc i) x y left right = paired xs ys i x y left right
 
--- no pair where one of the two is missing
+-- no pair where the first list has nothing
 pub no_first : {X Y : Type 0} (xs : List X) (ys : List Y) (i : ℕ) → None ≡ slice_get xs i → slice_get (zip xs ys) i ≡ None
 no_first [] ys i none = refl
 no_first (a ∷ xs) [] i none = refl
 no_first (a ∷ xs) (b ∷ ys) zero none = absurd (cc none)
 no_first (a ∷ xs) (b ∷ ys) (suc i) none = no_first xs ys i none
 
+-- no pair where the second list has nothing
 pub no_second : {X Y : Type 0} (xs : List X) (ys : List Y) (i : ℕ) → None ≡ slice_get ys i → slice_get (zip xs ys) i ≡ None
 no_second [] ys i none = refl
 no_second (a ∷ xs) [] i none = refl
 no_second (a ∷ xs) (b ∷ ys) zero none = absurd (cc none)
 no_second (a ∷ xs) (b ∷ ys) (suc i) none = no_second xs ys i none
 
--- the lines of one that is there, and of none
+-- the line of one that is there
 pub one_line : {X : Type 0} (f : X → List ℕ) (xs : List X) (i : ℕ) (x : X) (now : List ℕ) → slice_get xs i ≡ Some x
     → now ++ f x ≡ now ++ flat_map f (option_to_list (slice_get xs i))
 one_line f xs i x now is = ap (λ l. now ++ l) (sym (append-nil (f x))) ∙ ap (λ o. now ++ flat_map f (option_to_list o)) (sym is)
 
+-- no line where nothing is
 pub no_line : {X : Type 0} (f : X → List ℕ) (xs : List X) (i : ℕ) (now : List ℕ) → slice_get xs i ≡ None
     → now ≡ now ++ flat_map f (option_to_list (slice_get xs i))
 no_line f xs i now is = sym (append-nil now) ∙ ap (λ o. now ++ flat_map f (option_to_list o)) (sym is)

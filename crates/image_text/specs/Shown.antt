@@ -23,13 +23,13 @@ kind_line kind = codes "kind " ++ kind_word kind ++ codes "\n"
 abbrev pub lent_part : ImagePart → Part
 lent_part lent = record { class = lent.class; address = lent.address; bytes = lent.bytes.now }
 
--- a part
+-- a part: what may be done with it, its address, its length
 unfoldable pub part_line : Part → List ℕ
 part_line part =
     codes "part " ++ class_word part.class ++ codes " " ++ hex16 part.address ++ codes " "
     ++ decimal (length part.bytes) ++ codes "\n"
 
--- the TLS segment
+-- the TLS segment: its address, how many bytes the file has of it, how many a block has, its alignment
 unfoldable pub tls_line : TlsPart → List ℕ
 tls_line tls =
     codes "tls " ++ hex16 tls.address ++ codes " " ++ decimal tls.initial ++ codes " " ++ decimal tls.size ++ codes " "
@@ -39,19 +39,19 @@ tls_line tls =
 unfoldable pub relro_line : Part → List ℕ
 relro_line part = codes "relro " ++ hex16 part.address ++ codes " " ++ decimal (length part.bytes) ++ codes "\n"
 
--- a symbol and its name
+-- a symbol with its name: its value, its type, whether another image defines it, its name
 unfoldable pub symbol_line : ImageSymbol × List ℕ → List ℕ
 symbol_line named =
     codes "symbol " ++ hex16 named.0.value ++ codes " " ++ decimal (type_number named.0.kind) ++ codes " "
     ++ import_word named.0.is_defined ++ named.1 ++ codes "\n"
 
--- a relocation
+-- a relocation: its place, its type, its symbol's number, its addend
 unfoldable pub relocation_line : ImageRelocation → List ℕ
 relocation_line relocation =
     codes "reloc " ++ hex16 relocation.place ++ codes " " ++ decimal (loader_number relocation.kind) ++ codes " "
     ++ decimal relocation.symbol ++ codes " " ++ signed_decimal relocation.addend ++ codes "\n"
 
--- whether it is bound to a fixed distance from the thread pointer
+-- that the image wants its thread-local data at a fixed distance from the thread pointer, if it does
 abbrev pub flag_line : Bool → List ℕ
 flag_line is_flagged = if is_flagged then codes "static-tls\n" else []
 

@@ -1,6 +1,8 @@
+mod SymbolRows
 pub mod Agreement
 pub mod Counted
 pub mod Decided
+pub mod Hashes
 pub mod Headed
 pub mod HeaderBytes
 pub mod HeaderCounts
@@ -11,9 +13,14 @@ pub mod HeaderReads
 pub mod HeaderRest
 pub mod HeaderRows
 pub mod HeaderRules
+pub mod Headings
+pub mod Laying
+pub mod Layouts
 pub mod Linked
 pub mod Loaded
+pub mod Places
 pub mod Positive
+pub mod Puts
 pub mod Rows
 pub mod SameArray
 pub mod SameBytes
@@ -23,3 +30,17 @@ pub mod SameRules
 pub mod SameSpelled
 pub mod SameTables
 pub mod Seen
+pub mod Strings
+pub mod TableArray
+pub mod TableEntries
+pub mod TableKinds
+pub mod TableNames
+pub mod TableOutline
+pub mod TablePlaces
+pub mod TableRows
+pub mod TableRules
+pub mod TableSeen
+pub mod TableSizes
+pub mod TableSpelled
+pub mod TableTls
+pub mod TableTold

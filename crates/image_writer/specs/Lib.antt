@@ -1,8 +1,10 @@
 pub mod Contents
 pub mod Files
+pub mod Headers
 pub mod Linkable
 pub mod Loadable
 pub mod Outlined
 pub mod Page
 pub mod Tables
+pub mod Told
 pub mod Written

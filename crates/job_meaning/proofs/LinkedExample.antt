@@ -3,7 +3,7 @@
 -- field is less by 0x40.
 use Rattle.std.proofs.Common.{◌≡◌, ℕ, zero, suc, Bool, true, false, List, [], ◌∷◌, length, Some, None, Ok, Err, refl}
 use Rattle.std.specs.Prelude.{slice_get, unwrap_or}
-use Rattle.amd64_subset.specs.declared.register.Register.TheVariants.{Rax, Rdi}
+use Rattle.amd64_words.specs.declared.register.Register.TheVariants.{Rax, Rdi}
 use Rattle.amd64_subset.specs.Beginning.{begins_of}
 use Rattle.amd64_subset.specs.Decoding.{end_branch_at, escaped_at, row_at, operated_at, body_at, instruction_at, decoded}
 use Rattle.amd64_subset.specs.Meaning.{numbered_body, operation_of, operand_body}

@@ -2,7 +2,7 @@
 -- Code begins at 0, at 0x7000 a base is stored, eight bytes at 0x8008 may be written, and the room begins at 0x9000.
 use Rattle.std.proofs.Common.{◌≡◌, ◌-◌, ℕ, Bool, List, [], ◌∷◌, Ok, Err, refl}
 use Rattle.std.specs.Prelude.{◌&&◌, nat_le, nat_lt, Result, slice_get, unwrap_or, if◌then◌else◌}
-use Rattle.amd64_subset.specs.declared.register.Register.TheVariants.{Rcx, Rbx, Rsp}
+use Rattle.amd64_words.specs.declared.register.Register.TheVariants.{Rcx, Rbx, Rsp}
 use Rattle.amd64_subset.specs.Beginning.{begins_of}
 use Rattle.amd64_subset.specs.Decoding.{end_branch_at, escaped_at, row_at, operated_at, body_at, instruction_at, decoded}
 use Rattle.amd64_subset.specs.Meaning.{numbered_body, operation_of, operand_body}

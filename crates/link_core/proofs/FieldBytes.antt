@@ -6,8 +6,8 @@ use Rattle.std.proofs.lemmas.Bool.{cases_lt, lt-ltb, le-ltb}
 use Rattle.std.proofs.lemmas.Bool.Decides.{nat_tests}
 use Rattle.elf_records.specs.Fields.{bytes_of}
 use Rattle.elf_object.specs.declared.relocation.Relocation.{Relocation}
-use Rattle.object_faults.specs.declared.relocation.RelocationKind.{RelocationKind}
-use Rattle.object_faults.specs.declared.relocation.RelocationKind.TheVariants.{Nothing, Absolute64, Pc32, Plt32, GotPcRel, Absolute32, Absolute32Signed, TlsGd, TlsLd, DtpOff32, GotTpOff, TpOff32, GotPc32TlsDesc, TlsDescCall, GotPcRelX, RexGotPcRelX}
+use Rattle.elf_records.specs.declared.relocation.RelocationKind.{RelocationKind}
+use Rattle.elf_records.specs.declared.relocation.RelocationKind.TheVariants.{Nothing, Absolute64, Pc32, Plt32, GotPcRel, Absolute32, Absolute32Signed, TlsGd, TlsLd, DtpOff32, GotTpOff, TpOff32, GotPc32TlsDesc, TlsDescCall, GotPcRelX, RexGotPcRelX}
 use Rattle.elf_object.specs.declared.symbol.SymbolPlace.{SymbolPlace}
 use Rattle.elf_object.specs.declared.symbol.SymbolPlace.TheVariants.{Undefined, Absolute, InSection}
 use Rattle.elf_object.specs.Lawful.{IsLawful as IsLawfulRelocation}

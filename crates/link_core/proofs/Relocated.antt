@@ -12,8 +12,8 @@ use Rattle.elf_object.specs.Object.{section_count}
 use Rattle.tls_symbols.proofs.Search.{both_pass}
 use Rattle.link_core.proofs.Sections.{first_class, past_class}
 use Rattle.elf_object.specs.declared.relocation.Relocation.{Relocation}
-use Rattle.object_faults.specs.declared.relocation.RelocationKind.{RelocationKind}
-use Rattle.object_faults.specs.declared.relocation.RelocationKind.TheVariants.{Nothing}
+use Rattle.elf_records.specs.declared.relocation.RelocationKind.{RelocationKind}
+use Rattle.elf_records.specs.declared.relocation.RelocationKind.TheVariants.{Nothing}
 use Rattle.elf_object.specs.Lawful.{IsLawful, IsKeptAs, has_initial}
 use Rattle.elf_object.specs.Lent.{symbol_place, symbol_binding, section_class, section_bytes, section_size, kept_relocation_table, relocations_in}
 use Rattle.elf_object.specs.Parts.{symbol_count}

@@ -4,8 +4,8 @@ use Rattle.std.specs.List.{list_all, range_with_len}
 use Rattle.object_faults.specs.declared.class.SectionClass.{SectionClass}
 use Rattle.object_faults.specs.declared.class.SectionClass.TheVariants.{Tls}
 use Rattle.elf_object.specs.declared.relocation.Relocation.{Relocation}
-use Rattle.object_faults.specs.declared.relocation.RelocationKind.{RelocationKind}
-use Rattle.object_faults.specs.declared.relocation.RelocationKind.TheVariants.{TpOff32}
+use Rattle.elf_records.specs.declared.relocation.RelocationKind.{RelocationKind}
+use Rattle.elf_records.specs.declared.relocation.RelocationKind.TheVariants.{TpOff32}
 use Rattle.elf_object.specs.declared.symbol.SymbolBinding.TheVariants.{Global}
 use Rattle.elf_object.specs.declared.symbol.SymbolPlace.{SymbolPlace}
 use Rattle.elf_object.specs.declared.symbol.SymbolPlace.TheVariants.{InSection}

@@ -1,4 +1,3 @@
-pub mod Alignments
 pub mod EndsOfNames
 pub mod File
 pub mod Order

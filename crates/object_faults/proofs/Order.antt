@@ -1,5 +1,5 @@
 -- The order of the kinds: what is asked in turn, kind after kind, place after place, finds the first fault.
-use Rattle.std.proofs.Common.{◌≡◌, ◌+◌, ◌<◌, ◌≤◌, ◌⊎◌, ◌∙◌, ℕ, List, [], ◌∷◌, get_or, inl, inr, refl, sym, ap, subst, arith}
+use Rattle.std.proofs.Common.{◌≡◌, ◌+◌, ◌<◌, ◌⊎◌, ◌∙◌, ℕ, List, [], ◌∷◌, get_or, inl, inr, refl, sym, ap, subst, arith}
 use Rattle.object_faults.specs.declared.fault.FaultKind.{FaultKind}
 use Rattle.object_faults.specs.declared.fault.FaultKind.TheVariants.{Truncated, NotElf, NotRelocatable, SectionName, SectionKind, SectionAlign, TooLarge, SymbolTable, SymbolName, SymbolSection, SymbolRange, SymbolKind, RelocTarget, RelocSymbol, RelocKind, RelocRange, RelocOverlap, Sequence, StrayCall, WritableData}
 use Rattle.object_faults.specs.declared.kinds.SectionFault.{SectionFault}

@@ -1,5 +1,5 @@
 -- The classes of sections that linking keeps, by flags and type (gABI, "Sections"; psABI, "Special Sections").
-use Rattle.std.specs.Prelude.{◌≡◌, ◌≤◌, ◌^◌, ◌==◌, ◌||◌, ◌⊎◌, ℕ, true, false, List, Option, Some, None, IsSome}
+use Rattle.std.specs.Prelude.{◌≡◌, ◌==◌, ◌||◌, ◌⊎◌, ℕ, true, false, List, Option, Some, None, IsSome}
 use Rattle.std.specs.Prelude.{bit_and, if◌then◌else◌}
 use Rattle.elf_records.specs.declared.section_header.SectionHeader.{SectionHeader}
 use Rattle.object_faults.specs.declared.class.SectionClass.{SectionClass}
@@ -8,6 +8,7 @@ use Rattle.elf_records.specs.declared.section_header.TheConstants.{SHT_PROGBITS,
 use Rattle.elf_records.specs.declared.section_header.TheConstants.{SHT_X86_64_UNWIND, SHF_WRITE, SHF_ALLOC}
 use Rattle.elf_records.specs.declared.section_header.TheConstants.{SHF_EXECINSTR, SHF_TLS}
 use Rattle.object_faults.specs.declared.class.TheConstants.{CLASS_FLAGS, SHF_TLS_WRITE}
+use Rattle.elf_records.specs.Alignments as records
 use Rattle.object_faults.specs.Parts.{section, IsSection}
 
 -- the class of flags, those that all classes may have left out, and a type
@@ -51,4 +52,4 @@ IsTls _ = ⊥
 
 -- an alignment that a section may ask for; 0 asks for as little as 1
 abbrev pub IsAlignment : ℕ → Type 0
-IsAlignment n = (n ≡ 0) ⊎ ((k : ℕ) × (k ≤ 12) × (n ≡ 2 ^ k))
+IsAlignment n = (n ≡ 0) ⊎ records.IsAlignment n

@@ -1,6 +1,6 @@
 -- When an object is at fault: what each kind means, and which fault is the first (gABI; psABI).
 use Rattle.std.specs.Prelude.{◌≡◌, ◌≢◌, ◌+◌, ◌*◌, ◌%◌, ◌^◌, ◌<◌, ◌≤◌, ◌⊎◌, ℕ, List, Option, Result, Ok, Err, Some}
-use Rattle.std.specs.Prelude.{None, IsNone, length, take, bit_and}
+use Rattle.std.specs.Prelude.{None, IsNone, length, bit_and}
 use Rattle.elf_records.specs.declared.file_header.Header.{Header}
 use Rattle.elf_records.specs.declared.section_header.SectionHeader.{SectionHeader}
 use Rattle.elf_records.specs.declared.symbol.SymbolEntry.{SymbolEntry}
@@ -13,19 +13,20 @@ use Rattle.object_faults.specs.declared.fault.FaultKind.TheVariants.{RelocRange,
 use Rattle.object_faults.specs.declared.fault.FaultKind.TheVariants.{WritableData}
 use Rattle.object_faults.specs.declared.fault.ObjectFault.{ObjectFault}
 use Rattle.object_faults.specs.declared.fault.ObjectFault.TheVariants.{OutOfMemory, At}
-use Rattle.elf_records.specs.declared.file_header.TheConstants.{ELF_IDENT, ET_REL, EM_X86_64, EV_CURRENT}
+use Rattle.elf_records.specs.declared.file_header.TheConstants.{ET_REL, EM_X86_64}
 use Rattle.elf_records.specs.declared.section_header.TheConstants.{SHT_STRTAB, SHT_REL, SHT_GROUP, SHT_SYMTAB_SHNDX}
 use Rattle.elf_records.specs.declared.section_header.TheConstants.{SHT_NOBITS, SHF_ALLOC, SHF_TLS}
 use Rattle.elf_records.specs.declared.symbol.TheConstants.{SHN_UNDEF, SHN_ABS, STB_LOCAL, STB_GLOBAL, STB_WEAK}
 use Rattle.elf_records.specs.declared.symbol.TheConstants.{STT_FUNC, STT_FILE, STT_TLS, SHN_LORESERVE}
 use Rattle.object_faults.specs.declared.class.SectionClass.{SectionClass}
 use Rattle.object_faults.specs.declared.class.SectionClass.TheVariants.{Executable}
-use Rattle.object_faults.specs.declared.relocation.RelocationKind.{RelocationKind}
+use Rattle.elf_records.specs.declared.relocation.RelocationKind.{RelocationKind}
 use Rattle.object_faults.specs.Parts.{header, section, symbol, rela, symbol_table, symbol_count, entry_count}
 use Rattle.object_faults.specs.Parts.{HasBytes, IsSection, IsStrings, IsTable, IsRela}
 use Rattle.object_faults.specs.Classes.{class_of, kept_class, IsKept, IsKeptSection, IsTls, IsAlignment}
 use Rattle.object_faults.specs.Names.{byte_of, Ends}
 use Rattle.elf_records.specs.Records.{symbol_binding, symbol_kind, rela_symbol, rela_kind}
+pub use Rattle.elf_records.specs.Records.{IsElf}
 use Rattle.object_faults.specs.Relocations.{relocation_kind, width_at, IsOfCode, IsReloc, Covers}
 
 -- the order of the kinds
@@ -50,10 +51,6 @@ number RelocOverlap = 16
 number Sequence = 17
 number StrayCall = 18
 number WritableData = 19
-
--- the first seven bytes say ELF, 64 bits, little-endian, version 1
-abbrev pub IsElf : Header → Type 0
-IsElf h = (take 7 h.ident ≡ ELF_IDENT) × (h.e_version ≡ EV_CURRENT)
 
 -- a relocatable file for x86-64, with a table of section headers
 abbrev pub IsRelocatable : Header → Type 0

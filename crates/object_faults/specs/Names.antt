@@ -1,5 +1,6 @@
--- Names lie in string tables, and each ends at its first zero byte (gABI, "String Table").
-use Rattle.std.specs.Prelude.{◌≡◌, ◌≢◌, ◌+◌, ◌-◌, ◌<◌, ◌≤◌, ℕ, List, slice_index}
+-- Names lie in string tables.
+use Rattle.std.specs.Prelude.{◌+◌, ℕ, List, slice_index}
+use Rattle.elf_records.specs.Strings.{IsNamesEnd, Ends as EndsIn}
 use Rattle.object_faults.specs.Parts.{section}
 
 -- byte k of section s
@@ -8,15 +9,8 @@ byte_of b s k = slice_index b ((section b s).offset + k)
 
 -- in string table s a zero byte stands at offset `at` or after it, so a name that begins there ends
 abbrev pub Ends : List ℕ → ℕ → ℕ → Type 0
-Ends b s at = (k : ℕ) × (at ≤ k) × (k < (section b s).size) × (byte_of b s k ≡ 0)
+Ends b s at = EndsIn b (section b s).offset (section b s).size at
 
--- n is the offset behind the last zero byte of the string table of this size that begins at `from`, or 0 where it
--- has none
-pub record IsNamesEnd (b : List ℕ) (from size n : ℕ) : Type 0 where
-  pub inside : n ≤ size
-  pub zero_before : 0 < n → slice_index b (from + (n - 1)) ≡ 0
-  pub none_after : (k : ℕ) → n ≤ k → k < size → slice_index b (from + k) ≢ 0
-
--- the same of string table s
+-- n is the offset behind the last zero byte of string table s, or 0 where it has none
 abbrev pub IsEndOfNames : List ℕ → ℕ → ℕ → Type 0
 IsEndOfNames b s n = IsNamesEnd b (section b s).offset (section b s).size n

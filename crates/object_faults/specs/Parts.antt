@@ -1,12 +1,12 @@
 -- Where the parts of an object lie in its bytes (gABI, "ELF Header", "Sections", "Symbol Table", "Relocation").
-use Rattle.std.specs.Prelude.{◌≡◌, ◌≢◌, ◌+◌, ◌*◌, ◌/◌, ◌<◌, ◌==◌, ◌&&◌, ℕ, Bool, List, nat_lt, if◌then◌else◌}
+use Rattle.std.specs.Prelude.{◌≡◌, ◌+◌, ◌*◌, ◌/◌, ◌<◌, ◌==◌, ◌&&◌, ℕ, Bool, List, nat_lt, if◌then◌else◌}
 use Rattle.elf_records.specs.declared.file_header.Header.{Header}
 use Rattle.elf_records.specs.declared.section_header.SectionHeader.{SectionHeader}
 use Rattle.elf_records.specs.declared.symbol.SymbolEntry.{SymbolEntry}
 use Rattle.elf_records.specs.declared.relocation.Rela.{Rela}
 use Rattle.elf_records.specs.Records.{header_at, section_at, symbol_at, rela_at}
-use Rattle.elf_records.specs.declared.section_header.TheConstants.{SHT_NULL, SHT_SYMTAB, SHT_STRTAB, SHT_RELA}
-use Rattle.elf_records.specs.declared.section_header.TheConstants.{SHT_NOBITS}
+use Rattle.elf_records.specs.declared.section_header.TheConstants.{SHT_SYMTAB, SHT_STRTAB, SHT_RELA}
+pub use Rattle.elf_records.specs.Records.{HasBytes}
 use Rattle.object_faults.specs.Firsts.{first_below}
 
 -- the file's header
@@ -23,10 +23,6 @@ IsSection b s = (0 < s) × (s < (header b).e_shnum)
 
 abbrev pub is_section : List ℕ → ℕ → Bool
 is_section b s = nat_lt 0 s && nat_lt s (header b).e_shnum
-
--- the file holds bytes of the section
-abbrev pub HasBytes : SectionHeader → Type 0
-HasBytes h = (h.kind ≢ SHT_NULL) × (h.kind ≢ SHT_NOBITS)
 
 -- s numbers a string table
 abbrev pub IsStrings : List ℕ → ℕ → Type 0

@@ -1,63 +1,9 @@
--- The types of relocation that linking takes (psABI, "Relocation Types").
-use Rattle.std.specs.Prelude.{◌+◌, ◌<◌, ◌≤◌, ◌==◌, ℕ, List, Option, Some, None, if◌then◌else◌}
+-- The relocations of an object, and the bytes that they fill.
+use Rattle.std.specs.Prelude.{◌+◌, ◌<◌, ◌≤◌, ℕ, List}
 use Rattle.elf_records.specs.Records.{rela_kind}
-use Rattle.elf_records.specs.declared.relocation.TheConstants.{R_X86_64_NONE, R_X86_64_64, R_X86_64_PC32}
-use Rattle.elf_records.specs.declared.relocation.TheConstants.{R_X86_64_PLT32, R_X86_64_GOTPCREL, R_X86_64_32}
-use Rattle.elf_records.specs.declared.relocation.TheConstants.{R_X86_64_32S, R_X86_64_TLSGD, R_X86_64_TLSLD}
-use Rattle.elf_records.specs.declared.relocation.TheConstants.{R_X86_64_DTPOFF32, R_X86_64_GOTTPOFF, R_X86_64_TPOFF32}
-use Rattle.elf_records.specs.declared.relocation.TheConstants.{R_X86_64_GOTPC32_TLSDESC, R_X86_64_TLSDESC_CALL}
-use Rattle.elf_records.specs.declared.relocation.TheConstants.{R_X86_64_GOTPCRELX, R_X86_64_REX_GOTPCRELX}
-use Rattle.object_faults.specs.declared.relocation.RelocationKind.{RelocationKind}
-use Rattle.object_faults.specs.declared.relocation.RelocationKind.TheVariants.{Nothing, Absolute64, Pc32, Plt32}
-use Rattle.object_faults.specs.declared.relocation.RelocationKind.TheVariants.{GotPcRel, Absolute32, Absolute32Signed}
-use Rattle.object_faults.specs.declared.relocation.RelocationKind.TheVariants.{TlsGd, TlsLd, DtpOff32, GotTpOff}
-use Rattle.object_faults.specs.declared.relocation.RelocationKind.TheVariants.{TpOff32, GotPc32TlsDesc, TlsDescCall}
-use Rattle.object_faults.specs.declared.relocation.RelocationKind.TheVariants.{GotPcRelX, RexGotPcRelX}
+pub use Rattle.elf_records.specs.Relocations.{relocation_kind, field_width, IsOfCode, width_of}
 use Rattle.object_faults.specs.Parts.{section, rela, entry_count, IsRela}
 use Rattle.object_faults.specs.Classes.{IsKeptSection}
-
--- the type of a number
-abbrev pub relocation_kind : ℕ → Option RelocationKind
-relocation_kind n =
-    if n == R_X86_64_NONE then Some Nothing else
-    if n == R_X86_64_64 then Some Absolute64 else
-    if n == R_X86_64_PC32 then Some Pc32 else
-    if n == R_X86_64_PLT32 then Some Plt32 else
-    if n == R_X86_64_GOTPCREL then Some GotPcRel else
-    if n == R_X86_64_32 then Some Absolute32 else
-    if n == R_X86_64_32S then Some Absolute32Signed else
-    if n == R_X86_64_TLSGD then Some TlsGd else
-    if n == R_X86_64_TLSLD then Some TlsLd else
-    if n == R_X86_64_DTPOFF32 then Some DtpOff32 else
-    if n == R_X86_64_GOTTPOFF then Some GotTpOff else
-    if n == R_X86_64_TPOFF32 then Some TpOff32 else
-    if n == R_X86_64_GOTPC32_TLSDESC then Some GotPc32TlsDesc else
-    if n == R_X86_64_TLSDESC_CALL then Some TlsDescCall else
-    if n == R_X86_64_GOTPCRELX then Some GotPcRelX else
-    if n == R_X86_64_REX_GOTPCRELX then Some RexGotPcRelX else
-    None
-
--- how many bytes the field has
-abbrev pub field_width : RelocationKind → ℕ
-field_width Nothing = 0
-field_width Absolute64 = 8
-field_width TlsDescCall = 0
-field_width _ = 4
-
--- the type belongs to an instruction, so it stands in executable sections alone
-abbrev pub IsOfCode : RelocationKind → Type 0
-IsOfCode Nothing = ⊥
-IsOfCode Absolute64 = ⊥
-IsOfCode Pc32 = ⊥
-IsOfCode Absolute32 = ⊥
-IsOfCode Absolute32Signed = ⊥
-IsOfCode TpOff32 = ⊥
-IsOfCode _ = Unit {0}
-
--- the field's width, 0 for a number that is no type of the list
-abbrev pub width_of : Option RelocationKind → ℕ
-width_of None = 0
-width_of (Some kind) = field_width kind
 
 -- e numbers a relocation of section r, whose target linking keeps
 abbrev pub IsReloc : List ℕ → ℕ → ℕ → Type 0

@@ -1,11 +1,9 @@
 -- What the searches for the symbol table and for sections of relocations find.
-use Rattle.std.proofs.Common.{◌≡◌, ◌<◌, ◌≤◌, ◌+◌, ◌/◌, ℕ, List, Bool, true, false, refl, ap, arith, nat_lt, not}
-use Rattle.std.proofs.Common.{IsTrue, IsSome, Option, Some, None, is_none, if◌then◌else◌, ◌==◌, ◌&&◌}
+use Rattle.std.proofs.Common.{◌≡◌, ◌<◌, ◌≤◌, ◌+◌, ◌/◌, ℕ, List, true, false, refl, ap, arith, nat_lt, not}
+use Rattle.std.proofs.Common.{IsTrue, ◌==◌, ◌&&◌}
 use Rattle.std.proofs.lemmas.Bool.Decides.{nat_tests}
-use Rattle.object_faults.specs.Parts.{header, section, IsSection, IsRela, is_section, symbol_table, symbol_count}
+use Rattle.object_faults.specs.Parts.{header, section, IsRela, symbol_table, symbol_count}
 use Rattle.object_faults.specs.Parts.{is_table, relocation_table, relocates}
-use Rattle.object_faults.specs.declared.class.SectionClass.{SectionClass}
-use Rattle.object_faults.specs.Classes.{kept_class, IsKeptSection}
 use Rattle.object_faults.specs.Firsts.{first_below}
 use Rattle.object_faults.specs.Faults.{IsSecond}
 use Rattle.object_faults.specs.FirstLaws.{first_none, first_found, first_passes, first_least, first_same, first_kept}

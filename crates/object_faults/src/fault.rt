@@ -1,7 +1,7 @@
 //! What may be wrong with an object, and where.
 
 ghost use Rattle.std.specs.Prelude.{◌≡◌, Some, codes};
-ghost use Rattle.object_faults.specs.declared.fault.ObjectFault.TheVariants.{OutOfMemory};
+ghost use Rattle.object_faults.specs.declared.fault.ObjectFault.TheVariants.{OutOfMemory, At};
 ghost use Rattle.object_faults.specs.FaultNames.{kind_name};
 
 use std::alloc::AllocError;
@@ -103,6 +103,17 @@ pub enum ObjectFault {
         entry: u64,
         kind: FaultKind,
     },
+}
+
+/// The fault of this kind at this place.
+pub fn fault_at(section: u64, entry: u64, kind: FaultKind) -> ObjectFault
+    ensures { result ≡ At section entry kind }
+{
+    ObjectFault::At {
+        section,
+        entry,
+        kind,
+    }
 }
 
 impl From<AllocError> for ObjectFault {

@@ -1,14 +1,13 @@
 //! The file's header, and where the table of section headers lies.
 
 ghost use Rattle.std.specs.Prelude.{◌≡◌, ◌+◌, ◌*◌, ◌<◌, ◌≤◌, ◌↔◌, length, IsTrue, MatchOption, IfOk, IfErr};
-ghost use Rattle.elf_records.specs.Records.{section_at};
 ghost use Rattle.object_faults.specs.Parts.{header, section as section_header};
 ghost use Rattle.object_faults.specs.Faults.{IsElf, IsRelocatable, IsFault};
 
-use crate::fault::{FaultKind, ObjectFault};
-use elf_records::file_header::{ELF_IDENT, EM_X86_64, ET_REL, EV_CURRENT};
+use crate::fault::{FaultKind, ObjectFault, fault_at};
+use elf_records::file_header::{EM_X86_64, ET_REL, is_elf};
 use elf_records::symbol::SHN_LORESERVE;
-use elf_records::{Header, SectionHeader, fits, read_header, read_section};
+use elf_records::{Header, SectionHeader, fits, read_header, section_numbered};
 
 /// The bytes of a relocatable file whose table of section headers lies in it.
 #[derive(Clone, Copy)]
@@ -29,17 +28,6 @@ pub struct Headers<'a> {
     ghost inside: { table + 64 * count ≤ length bytes.now },
 }
 
-/// Header `number` of the table that begins at `table`.
-pub fn header_in(bytes: &[u8], table: u64, number: u64) -> SectionHeader
-    requires { table + SectionHeader.SIZE * number + SectionHeader.SIZE ≤ length bytes.now }
-    ensures { result ≡ section_at (table + SectionHeader.SIZE * number) bytes.now }
-{
-    match read_section(bytes, table + SectionHeader::SIZE * number) {
-        Some(header) => header,
-        None => unreachable!(),
-    }
-}
-
 /// Whether `size` bytes from `at` on lie in the file. No sum wraps.
 pub fn lies_in(bytes: &[u8], at: u64, size: u64) -> bool
     ensures { IsTrue result ↔ (at + size ≤ length bytes.now) }
@@ -54,15 +42,8 @@ impl Headers<'_> {
         requires { number < self.now.count }
         ensures { result ≡ section_header self.now.bytes.now number }
     {
-        header_in(self.bytes, self.table, number)
+        section_numbered(self.bytes, self.table, number)
     }
-}
-
-/// Whether the first bytes are those of ELF with 64 bits and little-endian data.
-fn is_elf(header: &Header) -> bool
-    ensures { IsTrue result ↔ IsElf header.now }
-{
-    header.ident[..7] == ELF_IDENT[..] && header.e_version == EV_CURRENT
 }
 
 /// Whether the header is that of an object for x86-64 with a table of section headers.
@@ -76,17 +57,6 @@ fn is_relocatable(header: &Header) -> bool
         && header.e_shnum < SHN_LORESERVE
         && 0 < header.e_shstrndx
         && header.e_shstrndx < header.e_shnum
-}
-
-/// The fault of the file as a whole.
-fn whole_file(kind: FaultKind) -> ObjectFault
-    ensures { result ≡ ObjectFault.At 0 0 kind }
-{
-    ObjectFault::At {
-        section: 0,
-        entry: 0,
-        kind,
-    }
 }
 
 /// The file's header. `None` exactly where the file is too short for one.
@@ -104,18 +74,18 @@ pub fn headers_of(bytes: &[u8]) -> Result<Headers<'_>, ObjectFault>
     ensures fault { IfErr result (IsFault bytes.now) }
 {
     let Some(header) = file_header(bytes) else {
-        return Err(whole_file(FaultKind::Truncated));
+        return Err(fault_at(0, 0, FaultKind::Truncated));
     };
     if !is_elf(&header) {
-        return Err(whole_file(FaultKind::NotElf));
+        return Err(fault_at(0, 0, FaultKind::NotElf));
     }
     if !is_relocatable(&header) {
-        return Err(whole_file(FaultKind::NotRelocatable));
+        return Err(fault_at(0, 0, FaultKind::NotRelocatable));
     }
     let table = header.e_shoff;
     let count = u64::from(header.e_shnum);
     if !lies_in(bytes, table, SectionHeader::SIZE * count) {
-        return Err(whole_file(FaultKind::Truncated));
+        return Err(fault_at(0, 0, FaultKind::Truncated));
     }
     Ok(Headers {
         bytes,

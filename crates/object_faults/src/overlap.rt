@@ -9,9 +9,10 @@ ghost use Rattle.object_faults.specs.Relocations.{Covers, IsReloc, width_at};
 ghost use Rattle.object_faults.specs.Tables.{AreRelocs, HasRoom};
 ghost use Rattle.object_faults.specs.Faults.{Stands, IsFirstAt, NoneBelow, Answers};
 
-use crate::fault::{FaultKind, ObjectFault};
-use crate::reloc_tests::{RelocTable, rela_in, reloc_table, width_of};
+use crate::fault::{FaultKind, ObjectFault, fault_at};
+use crate::reloc_tests::{RelocTable, rela_in, reloc_table};
 use crate::tables::Tables;
+use elf_records::relocation::width_of;
 use std::alloc::Global;
 
 /// Marks the bytes from `from` to `to`, and says whether one of them had the mark already.
@@ -83,11 +84,7 @@ fn ask_marked(tables: &Tables, marks: &mut [u32]) -> Result<(), ObjectFault>
 {
     for section in 1..tables.count {
         if let Some(entry) = overlap_in(tables, section, marks) {
-            return Err(ObjectFault::At {
-                section,
-                entry,
-                kind: FaultKind::RelocOverlap,
-            });
+            return Err(fault_at(section, entry, FaultKind::RelocOverlap));
         }
     }
     Ok(())

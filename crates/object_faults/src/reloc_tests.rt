@@ -8,13 +8,12 @@ ghost use Rattle.object_faults.specs.Tables.{AreRelocs};
 ghost use Rattle.object_faults.specs.Faults.{Stands, IsUnplaced};
 
 use crate::class::{SectionClass, kept_class};
-use crate::relocation::RelocationKind;
 use crate::symbol_tests::is_dropped;
 use crate::tables::Tables;
-use elf_records::relocation::R_X86_64_NONE;
+use elf_records::relocation::{R_X86_64_NONE, width_of};
 use elf_records::section_header::SHT_RELA;
 use elf_records::symbol::SHN_ABS;
-use elf_records::{Rela, read_rela};
+use elf_records::{Rela, RelocationKind, rela_numbered};
 
 /// A section of relocations whose target linking keeps.
 #[derive(Clone, Copy)]
@@ -56,10 +55,7 @@ pub fn rela_in(tables: &Tables, section: u64, relocs: &RelocTable, entry: u64) -
     requires entry { entry < relocs.now.count }
     ensures { result ≡ entry_of tables.now.bytes.now section entry }
 {
-    match read_rela(tables.bytes, relocs.at + Rela::SIZE * entry) {
-        Some(rela) => rela,
-        None => unreachable!(),
-    }
+    rela_numbered(tables.bytes, relocs.at, entry)
 }
 
 /// Whether this is no symbol, or one that has no place in the image.
@@ -96,16 +92,6 @@ pub fn reloc_kind(tables: &Tables, section: u64, relocs: &RelocTable, entry: u64
     match RelocationKind::numbered(rela_in(tables, section, relocs, entry).kind()) {
         Some(kind) => kind.is_of_code() && !relocs.is_code,
         None => true,
-    }
-}
-
-/// How many bytes the field of a relocation of this type has.
-pub fn width_of(number: u32) -> u64
-    ensures { result ≡ width_of (relocation_kind number) }
-{
-    match RelocationKind::numbered(number) {
-        Some(kind) => kind.width(),
-        None => 0,
     }
 }
 

@@ -6,7 +6,7 @@ ghost use Rattle.object_faults.specs.Kinds.{of_section, of_symbol, of_reloc};
 ghost use Rattle.object_faults.specs.Tables.{AreRelocs};
 ghost use Rattle.object_faults.specs.Faults.{Stands, number, NoneBelow, Answers, IsFirstAt, IsSymbol};
 
-use crate::fault::ObjectFault;
+use crate::fault::{ObjectFault, fault_at};
 use crate::kinds::{RelocFault, SectionFault, SymbolFault};
 use crate::reloc_tests::{RelocTable, reloc_kind, reloc_range, reloc_symbol, reloc_table};
 use crate::section_tests::{section_align, section_kind, section_name, too_large};
@@ -33,11 +33,7 @@ pub fn ask_sections(fault: SectionFault, tables: &Tables) -> Result<(), ObjectFa
 {
     for section in 1..tables.count {
         if section_stands(fault, tables, section) {
-            return Err(ObjectFault::At {
-                section,
-                entry: 0,
-                kind: fault.kind(),
-            });
+            return Err(fault_at(section, 0, fault.kind()));
         }
     }
     Ok(())
@@ -79,11 +75,7 @@ pub fn ask_symbols(fault: SymbolFault, tables: &Tables) -> Result<(), ObjectFaul
         return Ok(());
     }
     match first_symbol(fault, tables) {
-        Some(entry) => Err(ObjectFault::At {
-            section,
-            entry,
-            kind: fault.kind(),
-        }),
+        Some(entry) => Err(fault_at(section, entry, fault.kind())),
         None => Ok(()),
     }
 }
@@ -128,11 +120,7 @@ pub fn ask_relocs(fault: RelocFault, tables: &Tables) -> Result<(), ObjectFault>
 {
     for section in 1..tables.count {
         if let Some(entry) = first_reloc(fault, tables, section) {
-            return Err(ObjectFault::At {
-                section,
-                entry,
-                kind: fault.kind(),
-            });
+            return Err(fault_at(section, entry, fault.kind()));
         }
     }
     Ok(())

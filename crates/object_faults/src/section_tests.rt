@@ -4,21 +4,18 @@ ghost use Rattle.std.specs.Prelude.{◌<◌, ◌↔◌, IsTrue};
 ghost use Rattle.object_faults.specs.declared.fault.FaultKind.TheVariants.{SectionName, SectionKind, SectionAlign};
 ghost use Rattle.object_faults.specs.declared.fault.FaultKind.TheVariants.{TooLarge};
 ghost use Rattle.object_faults.specs.Parts.{IsSection, IsStrings};
-ghost use Rattle.object_faults.specs.Classes.{IsAlignment};
 ghost use Rattle.object_faults.specs.Names.{Ends};
 ghost use Rattle.object_faults.specs.Faults.{Stands, IsRefused};
 
 use crate::class::{class_of, kept_class};
 use crate::tables::Tables;
+use elf_records::alignment::is_alignment;
 use elf_records::section_header::{
     SHF_ALLOC, SHF_TLS, SHT_GROUP, SHT_REL, SHT_RELA, SHT_STRTAB, SHT_SYMTAB, SHT_SYMTAB_SHNDX,
 };
 use elf_records::{Rela, SectionHeader, SymbolEntry};
 
-/// The greatest alignment that a section which linking keeps may ask for.
-const ALIGNMENT_LIMIT: u64 = 4_096;
-
-/// The most bytes of such a section.
+/// The most bytes of a section which linking keeps.
 const SIZE_LIMIT: u64 = 1 << 20;
 
 /// The most entries of a table.
@@ -68,14 +65,6 @@ pub fn section_kind(tables: &Tables, section: u64) -> bool
     is_refused(&tables.section(section))
 }
 
-/// Whether a section may ask for this alignment: a power of two up to 4,096, or 0.
-#[tactic(auto, using(crate::proofs::Alignments::alignment_of, crate::proofs::Alignments::is_alignment_small, crate::proofs::Alignments::is_alignment_bits))]
-fn is_alignment(alignment: u64) -> bool
-    ensures { IsTrue result ↔ IsAlignment alignment }
-{
-    alignment == 0 || alignment <= ALIGNMENT_LIMIT && alignment.is_power_of_two()
-}
-
 /// A kept section asks for an alignment that is none.
 #[tactic(auto, unfolding(crate::specs::Faults::Stands))]
 pub fn section_align(tables: &Tables, section: u64) -> bool
@@ -83,7 +72,7 @@ pub fn section_align(tables: &Tables, section: u64) -> bool
     ensures { IsTrue result ↔ Stands SectionAlign tables.now.bytes.now section 0 }
 {
     let header = tables.section(section);
-    kept_class(&header).is_some() && !is_alignment(header.addralign)
+    kept_class(&header).is_some() && header.addralign != 0 && !is_alignment(header.addralign)
 }
 
 /// A kept section or a table is larger than linking takes.

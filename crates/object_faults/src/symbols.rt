@@ -5,7 +5,7 @@ ghost use Rattle.object_faults.specs.declared.fault.FaultKind.TheVariants.{Symbo
 ghost use Rattle.object_faults.specs.Parts.{IsTable, IsStrings};
 ghost use Rattle.object_faults.specs.Faults.{Stands, IsBadTable, IsFirstAt, NoneBelow, Answers};
 
-use crate::fault::{FaultKind, ObjectFault};
+use crate::fault::{FaultKind, ObjectFault, fault_at};
 use crate::symbol_tests::symbol_order;
 use crate::tables::Tables;
 use elf_records::SymbolEntry;
@@ -84,25 +84,13 @@ pub fn ask_symbol_table(tables: &Tables) -> Result<(), ObjectFault>
         return Ok(());
     }
     if is_bad_table(tables, section) {
-        return Err(ObjectFault::At {
-            section,
-            entry: 0,
-            kind,
-        });
+        return Err(fault_at(section, 0, kind));
     }
     if let Some(entry) = first_misplaced(tables) {
-        return Err(ObjectFault::At {
-            section,
-            entry,
-            kind,
-        });
+        return Err(fault_at(section, entry, kind));
     }
     match second_table(tables) {
-        Some(section) => Err(ObjectFault::At {
-            section,
-            entry: 0,
-            kind,
-        }),
+        Some(section) => Err(fault_at(section, 0, kind)),
         None => Ok(()),
     }
 }

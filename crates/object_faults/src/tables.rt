@@ -10,12 +10,12 @@ ghost use Rattle.object_faults.specs.Tables.{AreSymbols};
 ghost use Rattle.object_faults.specs.Faults.{IsFault, IsFirstAt, HasPartPastEnd, Answers};
 
 use crate::class::kept_class;
-use crate::fault::{FaultKind, ObjectFault};
-use crate::headers::{Headers, header_in, headers_of, lies_in};
-use crate::names::names_end;
+use crate::fault::{FaultKind, ObjectFault, fault_at};
+use crate::headers::{Headers, headers_of, lies_in};
 use crate::symbols::Symbols;
-use elf_records::section_header::{SHT_NOBITS, SHT_NULL, SHT_STRTAB, SHT_SYMTAB};
-use elf_records::{SectionHeader, SymbolEntry, read_symbol};
+use elf_records::section_header::{SHT_STRTAB, SHT_SYMTAB, has_bytes};
+use elf_records::strings::names_end;
+use elf_records::{SectionHeader, SymbolEntry, section_numbered, symbol_numbered};
 
 /// The sections of an object: the table of headers and the bytes of each section lie in the file.
 #[derive(Clone, Copy)]
@@ -41,13 +41,6 @@ pub struct Tables<'a> {
         (section_header bytes.now s).offset + (section_header bytes.now s).size ≤ length bytes.now },
     pub ghost names_end_is: { IsStrings bytes.now names → IsEndOfNames bytes.now names names_end },
     pub ghost symbols_are: { AreSymbols bytes.now symbols },
-}
-
-/// Whether the file holds bytes of the section.
-pub fn has_bytes(header: &SectionHeader) -> bool
-    ensures { IsTrue result ↔ HasBytes header.now }
-{
-    header.kind != SHT_NULL && header.kind != SHT_NOBITS
 }
 
 /// Whether the bytes of a section pass the end of the file.
@@ -129,11 +122,7 @@ pub fn tables_of(bytes: &[u8]) -> Result<Tables<'_>, ObjectFault>
 {
     let headers = headers_of(bytes)?;
     if let Some(section) = first_past_end(&headers) {
-        return Err(ObjectFault::At {
-            section,
-            entry: 0,
-            kind: FaultKind::Truncated,
-        });
+        return Err(fault_at(section, 0, FaultKind::Truncated));
     }
     Ok(Tables {
         bytes,
@@ -152,7 +141,7 @@ impl Tables<'_> {
         requires { number < self.now.count }
         ensures { result ≡ section_header self.now.bytes.now number }
     {
-        header_in(self.bytes, self.table, number)
+        section_numbered(self.bytes, self.table, number)
     }
 
     /// Whether there is such a section, and it is not the reserved one.
@@ -190,9 +179,6 @@ impl Tables<'_> {
         requires { number < symbol_count self.now.bytes.now }
         ensures { result ≡ symbol_entry self.now.bytes.now number }
     {
-        match read_symbol(self.bytes, self.symbols.at + SymbolEntry::SIZE * number) {
-            Some(symbol) => symbol,
-            None => unreachable!(),
-        }
+        symbol_numbered(self.bytes, self.symbols.at, number)
     }
 }

@@ -7,7 +7,7 @@ ghost use Rattle.object_faults.specs.Tables.{AreTargets, AreTargetsBelow};
 ghost use Rattle.object_faults.specs.Faults.{Stands, IsFirstAt, IsSecond, NoneBelow, Answers};
 
 use crate::class::kept_class;
-use crate::fault::{FaultKind, ObjectFault};
+use crate::fault::{FaultKind, ObjectFault, fault_at};
 use crate::tables::Tables;
 use elf_records::Rela;
 use elf_records::section_header::{SHT_NOBITS, SHT_RELA, SHT_SYMTAB};
@@ -104,11 +104,7 @@ pub fn ask_targets(alloc: Global, tables: &Tables) -> Result<Vec<u32>, ObjectFau
 {
     let mut found = vec![in alloc; 0; tables.count as usize]?;
     match first_mistargeted(tables, &mut found) {
-        Some(section) => Err(ObjectFault::At {
-            section,
-            entry: 0,
-            kind: FaultKind::RelocTarget,
-        }),
+        Some(section) => Err(fault_at(section, 0, FaultKind::RelocTarget)),
         None => Ok(found),
     }
 }

@@ -2,7 +2,7 @@
 -- psABI, "Thread-Local Storage"), and the field that they leave to be written.
 use Rattle.std.specs.Prelude.{ℕ, pos, negsuc, ◌+◌, ◌*◌, ◌%◌, ◌==◌, List, [], ◌∷◌, length, Option, Some, None, nat_lt}
 use Rattle.std.specs.Prelude.{if◌then◌else◌}
-use Rattle.object_faults.specs.declared.relocation.RelocationKind.TheVariants.{GotTpOff, TpOff32}
+use Rattle.elf_records.specs.declared.relocation.RelocationKind.TheVariants.{GotTpOff, TpOff32}
 use Rattle.sequence_match.specs.declared.forms.Form.{Form}
 use Rattle.sequence_match.specs.declared.forms.Form.TheVariants.{Gd, Ld, IeMov, IeAdd, GdInd, LdInd, DescLea, DescCall}
 use Rattle.sequence_match.specs.Forms.{row}

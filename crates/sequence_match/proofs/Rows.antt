@@ -1,8 +1,8 @@
 -- What holds of every row of the table.
 use Rattle.std.proofs.Common.{◌≡◌, ◌+◌, ◌<◌, ◌≤◌, ℕ, length, Option, Some, None, IfSome, refl, arith}
 use Rattle.elf_object.specs.Relocations.{field_width}
-use Rattle.object_faults.specs.declared.relocation.RelocationKind.{RelocationKind}
-use Rattle.object_faults.specs.declared.relocation.RelocationKind.TheVariants.{Pc32, Plt32, GotPcRel, TlsGd, TlsLd, GotTpOff, GotPc32TlsDesc, TlsDescCall, GotPcRelX, RexGotPcRelX}
+use Rattle.elf_records.specs.declared.relocation.RelocationKind.{RelocationKind}
+use Rattle.elf_records.specs.declared.relocation.RelocationKind.TheVariants.{Pc32, Plt32, GotPcRel, TlsGd, TlsLd, GotTpOff, GotPc32TlsDesc, TlsDescCall, GotPcRelX, RexGotPcRelX}
 use Rattle.sequence_match.specs.declared.forms.Form.{Form}
 use Rattle.sequence_match.specs.declared.forms.Form.TheVariants.{Gd, Ld, IeMov, IeAdd, GdInd, LdInd, DescLea, DescCall}
 use Rattle.sequence_match.specs.declared.forms.Call.{Call}

@@ -9,8 +9,8 @@ use Rattle.object_faults.specs.declared.class.SectionClass.{SectionClass}
 use Rattle.object_faults.specs.declared.fault.FaultKind.TheVariants.{RelocTarget, RelocOverlap}
 use Rattle.elf_records.specs.Records.{rela_kind}
 use Rattle.elf_object.specs.declared.relocation.Relocation.{Relocation}
-use Rattle.object_faults.specs.declared.relocation.RelocationKind.{RelocationKind}
-use Rattle.object_faults.specs.declared.relocation.RelocationKind.TheVariants.{Nothing}
+use Rattle.elf_records.specs.declared.relocation.RelocationKind.{RelocationKind}
+use Rattle.elf_records.specs.declared.relocation.RelocationKind.TheVariants.{Nothing}
 use Rattle.elf_object.specs.Classes.{kept_class, IsKeptSection}
 use Rattle.elf_object.specs.Faults.{Stands, IsObject}
 use Rattle.elf_object.specs.FirstLaws.{first_least}

@@ -2,8 +2,8 @@
 use Rattle.std.specs.Prelude.{◌≡◌, ◌+◌, ◌<◌, ◌≤◌, ◌==◌, ◌^◌, ℕ, Bool, false, List, length, Option, Some}
 use Rattle.std.specs.Prelude.{None, IsTrue, IfSome}
 use Rattle.std.specs.Prelude.{slice_index_or, if◌then◌else◌}
-use Rattle.object_faults.specs.declared.relocation.RelocationKind.{RelocationKind}
-use Rattle.object_faults.specs.declared.relocation.RelocationKind.TheVariants.{TlsDescCall}
+use Rattle.elf_records.specs.declared.relocation.RelocationKind.{RelocationKind}
+use Rattle.elf_records.specs.declared.relocation.RelocationKind.TheVariants.{TlsDescCall}
 use Rattle.elf_object.specs.declared.relocation.Relocation.{Relocation}
 use Rattle.elf_object.specs.Faults.{IsFirstAt}
 use Rattle.elf_object.specs.Relocations.{field_width}

@@ -7,9 +7,9 @@ use Rattle.object_faults.specs.declared.fault.FaultKind.{FaultKind}
 use Rattle.object_faults.specs.declared.fault.FaultKind.TheVariants.{Sequence, StrayCall}
 use Rattle.object_faults.specs.declared.fault.ObjectFault.{ObjectFault}
 use Rattle.object_faults.specs.declared.fault.ObjectFault.TheVariants.{OutOfMemory, At}
-use Rattle.object_faults.specs.declared.relocation.RelocationKind.{RelocationKind}
-use Rattle.object_faults.specs.declared.relocation.RelocationKind.TheVariants.{Nothing, TlsGd, TlsLd, GotTpOff}
-use Rattle.object_faults.specs.declared.relocation.RelocationKind.TheVariants.{GotPc32TlsDesc, TlsDescCall}
+use Rattle.elf_records.specs.declared.relocation.RelocationKind.{RelocationKind}
+use Rattle.elf_records.specs.declared.relocation.RelocationKind.TheVariants.{Nothing, TlsGd, TlsLd, GotTpOff}
+use Rattle.elf_records.specs.declared.relocation.RelocationKind.TheVariants.{GotPc32TlsDesc, TlsDescCall}
 use Rattle.elf_object.specs.declared.relocation.Relocation.{Relocation}
 use Rattle.elf_object.specs.declared.symbol.SymbolPlace.TheVariants.{Undefined}
 use Rattle.elf_object.specs.Parts.{symbol_count}

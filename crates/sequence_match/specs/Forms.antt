@@ -2,10 +2,10 @@
 -- "Thread-Local Storage"): the bytes of each form, and the relocations that stand in them.
 use Rattle.std.specs.Prelude.{◌≡◌, ◌+◌, ◌/◌, ◌%◌, ◌==◌, ◌||◌, ◌&&◌, ℕ, ℤ, negsuc, Bool, true, List, [], ◌∷◌}
 use Rattle.std.specs.Prelude.{Option, Some, None, nat_lt, slice_index, if◌then◌else◌}
-use Rattle.object_faults.specs.declared.relocation.RelocationKind.{RelocationKind}
-use Rattle.object_faults.specs.declared.relocation.RelocationKind.TheVariants.{TlsGd, TlsLd, GotTpOff, GotPc32TlsDesc}
-use Rattle.object_faults.specs.declared.relocation.RelocationKind.TheVariants.{TlsDescCall, Plt32, Pc32, GotPcRel}
-use Rattle.object_faults.specs.declared.relocation.RelocationKind.TheVariants.{GotPcRelX, RexGotPcRelX}
+use Rattle.elf_records.specs.declared.relocation.RelocationKind.{RelocationKind}
+use Rattle.elf_records.specs.declared.relocation.RelocationKind.TheVariants.{TlsGd, TlsLd, GotTpOff, GotPc32TlsDesc}
+use Rattle.elf_records.specs.declared.relocation.RelocationKind.TheVariants.{TlsDescCall, Plt32, Pc32, GotPcRel}
+use Rattle.elf_records.specs.declared.relocation.RelocationKind.TheVariants.{GotPcRelX, RexGotPcRelX}
 use Rattle.sequence_match.specs.declared.forms.Form.{Form}
 use Rattle.sequence_match.specs.declared.forms.Form.TheVariants.{Gd, Ld, IeMov, IeAdd, GdInd, LdInd, DescLea, DescCall}
 use Rattle.sequence_match.specs.declared.forms.Cell.{Cell}

@@ -1,7 +1,7 @@
 -- Each instruction of the sequences, read from its own bytes alone, and then with any bytes behind it.
 use Rattle.std.proofs.Common.{◌≡◌, ℕ, ◌+◌, ◌*◌, ◌<◌, ◌≤◌, List, [], ◌∷◌, ◌++◌, length, take, Option, Some, None, refl, sym, subst, arith}
 use Rattle.std.proofs.lemmas.List.{take_all, drop_at}
-use Rattle.amd64_subset.specs.declared.register.Register.TheVariants.{Rax, Rdi}
+use Rattle.amd64_words.specs.declared.register.Register.TheVariants.{Rax, Rdi}
 use Rattle.amd64_subset.specs.declared.instr.Width.TheVariants.{Quad}
 use Rattle.amd64_subset.specs.declared.instr.Target.TheVariants.{Relative}
 use Rattle.amd64_subset.specs.declared.instr.Operation.TheVariants.{LoadAddress, Call, Nop}

@@ -1,8 +1,8 @@
 -- The instructions of each sequence, a row a form and choice ("ELF Handling For Thread-Local Storage", sections 4.1 and
 -- 5; psABI, "Thread-Local Storage"): of those that a compiler wrote, and of those that stand in their place.
 use Rattle.std.specs.Prelude.{ℕ, ◌%◌, ◌==◌, true, false, List, [], ◌∷◌, Some, None, if◌then◌else◌}
-use Rattle.amd64_subset.specs.declared.register.Register.{Register}
-use Rattle.amd64_subset.specs.declared.register.Register.TheVariants.{Rax, Rdi}
+use Rattle.amd64_words.specs.declared.register.Register.{Register}
+use Rattle.amd64_words.specs.declared.register.Register.TheVariants.{Rax, Rdi}
 use Rattle.amd64_subset.specs.declared.operand.Base.TheVariants as base
 use Rattle.amd64_subset.specs.declared.operand.Memory.{Memory}
 use Rattle.amd64_subset.specs.declared.operand.Operand.TheVariants as operand

@@ -1,7 +1,7 @@
 -- Where one memory is the image of another, a machine does over the image what it does over the memory.
 use Rattle.std.proofs.Common.{◌≡◌, ℕ, zero, suc, ◌-◌, ◌%◌, ◌^◌, Bool, true, false, List, [], ◌∷◌, Option, Some, None, Result, Ok, Err, refl, ap}
 use Rattle.std.specs.Prelude.{if◌then◌else◌}
-use Rattle.amd64_subset.specs.declared.register.Register.{Register}
+use Rattle.amd64_words.specs.declared.register.Register.{Register}
 use Rattle.amd64_subset.specs.declared.instr.Width.{Width}
 use Rattle.amd64_subset.specs.declared.instr.Width.TheVariants.{Long, Quad}
 use Rattle.amd64_subset.specs.declared.instr.Arithmetic.{Arithmetic}

@@ -7,7 +7,7 @@ use Rattle.std.proofs.lemmas.Bool.Decides.{nat_tests}
 use Rattle.std.proofs.lemmas.List.{get_or_past}
 use Rattle.std.proofs.lemmas.Slice.Eq.{bytes_eq-Decides}
 use Rattle.elf_object.specs.declared.symbol.SymbolBinding.TheVariants.{Global, Weak}
-use Rattle.object_faults.specs.declared.relocation.RelocationKind.{RelocationKind}
+use Rattle.elf_records.specs.declared.relocation.RelocationKind.{RelocationKind}
 use Rattle.tls_symbols.specs.declared.binding.Binding.{Binding}
 use Rattle.tls_symbols.specs.declared.binding.Binding.TheVariants.{Runtime}
 use Rattle.tls_symbols.specs.declared.symbols.SymbolRef.{SymbolRef}

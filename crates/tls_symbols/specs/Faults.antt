@@ -2,10 +2,10 @@
 use Rattle.std.specs.Prelude.{◌≡◌, ◌<◌, ◌⊎◌, ◌&&◌, ◌||◌, ℕ, Bool, true, false, not, List, [], Option, Some, None}
 use Rattle.std.specs.Prelude.{is_none, length, slice_get, IsSomeAnd}
 use Rattle.std.specs.Str.{bytes_eq}
-use Rattle.object_faults.specs.declared.relocation.RelocationKind.{RelocationKind}
-use Rattle.object_faults.specs.declared.relocation.RelocationKind.TheVariants.{Nothing, TlsGd, TlsLd, DtpOff32}
-use Rattle.object_faults.specs.declared.relocation.RelocationKind.TheVariants.{GotTpOff}
-use Rattle.object_faults.specs.declared.relocation.RelocationKind.TheVariants.{TpOff32, GotPc32TlsDesc, TlsDescCall}
+use Rattle.elf_records.specs.declared.relocation.RelocationKind.{RelocationKind}
+use Rattle.elf_records.specs.declared.relocation.RelocationKind.TheVariants.{Nothing, TlsGd, TlsLd, DtpOff32}
+use Rattle.elf_records.specs.declared.relocation.RelocationKind.TheVariants.{GotTpOff}
+use Rattle.elf_records.specs.declared.relocation.RelocationKind.TheVariants.{TpOff32, GotPc32TlsDesc, TlsDescCall}
 use Rattle.elf_object.specs.declared.relocation.Relocation.{Relocation}
 use Rattle.elf_object.specs.declared.symbol.SymbolBinding.TheVariants.{Local, Global}
 use Rattle.elf_object.specs.Lent.{relocations, relocation_target, symbol_binding, symbol_name, symbol_place}

@@ -1,6 +1,6 @@
 -- What is known of the names of an image, and what it tells by their numbers.
 use Rattle.std.specs.Prelude.{◌==◌, ℕ, Option, Some, None, map, if◌then◌else◌}
-use Rattle.object_faults.specs.declared.relocation.RelocationKind.{RelocationKind}
+use Rattle.elf_records.specs.declared.relocation.RelocationKind.{RelocationKind}
 use Rattle.tls_symbols.specs.declared.binding.Binding.{Binding}
 use Rattle.tls_symbols.specs.declared.binding.Binding.TheVariants.{Runtime}
 use Rattle.tls_symbols.specs.declared.image_names.ImageNames.{ImageNames}

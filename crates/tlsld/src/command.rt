@@ -49,11 +49,7 @@ pub fn answer<S: Store>(alloc: Global, task: &Task, store: &mut S) -> Answer
 }
 
 /// What a command puts where nothing is wrong.
-fn output<S: Store>(
-    alloc: Global,
-    task: &Task,
-    store: &mut S,
-) -> Result<Vec<u8>, CommandFault>
+fn output<S: Store>(alloc: Global, task: &Task, store: &mut S) -> Result<Vec<u8>, CommandFault>
     ensures files { S.files store.new ≡ S.files store.old }
     ensures cause { StoreCounts (S.faults store.old) (S.faults store.new) result }
     ensures says { IfSome (S.files store.old) (λ fs. Comes (λ text. text.items) (TaskSays fs task.now) result) }
@@ -98,7 +94,7 @@ fn listing_of(alloc: Global, image: &Image) -> Result<Vec<u8>, AllocError>
     ensures { IfOk result (λ text. text.items ≡ shown image.now) }
 {
     let mut text = Vec::new(alloc);
-    push_shown(alloc, image, &mut text)?;
+    push_shown(image, &mut text)?;
     Ok(text)
 }
 

@@ -22,9 +22,15 @@ pub enum InputRefusal {
     /// The path does not take this job yet.
     JobNotYet,
     /// The object of this name.
-    Object { name: String, reason: Reason },
+    Object {
+        name: String,
+        reason: Reason,
+    },
     /// The image, at an offset in its file.
-    Image { offset: u64, kind: image_file::FaultKind },
+    Image {
+        offset: u64,
+        kind: image_file::FaultKind,
+    },
 }
 
 /// Why an object is refused.

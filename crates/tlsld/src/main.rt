@@ -11,10 +11,11 @@
 //! A wrong byte there gives one thread another thread's data, and no test of the program shows it at once. So what
 //! this program says of its input is a contract: the clauses of `tlsld` and `tlsld_plain`, in `top`.
 //!
-//! A command is read from top to bottom in `command`: the job is fetched and read, then its object, then the object is
-//! linked, then a thread runs the call, then the transcript is written. Each step may end the command; what it ends
-//! with is a `CommandFault`, and what is said of it a `Reply`, which reaches the sink in one piece (`reply`). Which
-//! jobs and objects are taken is said by `not_yet`; `small_run` links the object and runs the call.
+//! A command is read from top to bottom in `command`. For `run` the job is fetched and read, then its object, then the
+//! object is linked, then a thread runs the call, then the transcript is written; for `show` the file is fetched, read
+//! as an image, and what it says is written. Each step may end the command; what it ends with is a `CommandFault`, and
+//! what is said of it a `Reply`, which reaches the sink in one piece (`reply`). Which jobs and objects are taken is
+//! said by `not_yet`; `small_run` links the object and runs the call.
 #![tactic(auto)]
 
 mod command;

@@ -1,5 +1,6 @@
 //! Whole commands over a store and a sink in memory: the words, the files, the output and the status.
 
+mod images;
 mod objects;
 
 use crate::tlsld;
@@ -93,6 +94,29 @@ fn runs_or_refuses_objects(rt: HostRuntime) -> Result<(), Fail> {
     for (object, status, text) in objects::rows(alloc)? {
         let store = store_of(alloc, JOB, object.as_slice())?;
         let (ended, put) = ends(&rt, alloc, &["run", "job"], store, MemorySink::new(alloc))?;
+        assert_eq!(rt; ended, status);
+        assert_eq!(rt; put.as_slice(), text);
+    }
+    Ok(())
+}
+
+#[test]
+fn shows_images(rt: HostRuntime) -> Result<(), Fail> {
+    let alloc = rt.alloc();
+    let rows: [(Vec<u8>, u8, &[u8]); 3] = [
+        (
+            images::module(alloc)?,
+            0,
+            b"kind module\npart r 0000000000000000 137\n",
+        ),
+        (vec![in alloc; 0u8; 63]?, 8, b"image 63 Truncated\n"),
+        // an object is no image
+        (reader(alloc, 0)?, 8, b"image 16 Header\n"),
+    ];
+    for (image, status, text) in rows {
+        let mut store = MemoryStore::new(alloc);
+        store.add("app", image.as_slice())?;
+        let (ended, put) = ends(&rt, alloc, &["show", "app"], store, MemorySink::new(alloc))?;
         assert_eq!(rt; ended, status);
         assert_eq!(rt; put.as_slice(), text);
     }

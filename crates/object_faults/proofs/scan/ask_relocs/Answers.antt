@@ -14,7 +14,7 @@ loop-section-preserved c =
 
 pub returns-in-Some : goal.returns-in-Some
 returns-in-Some c =
-    rw c.kind.ensures (first_of (of_reloc c.args.fault) c.args.tables.now.bytes.now c.loop-section.section c.in-Some.entry c.requires
+    rw (c.fault_at.ensures, c.kind.ensures) (first_of (of_reloc c.args.fault) c.args.tables.now.bytes.now c.loop-section.section c.in-Some.entry c.requires
     c.in-Some.ensures.0 c.loop-section.invariant c.in-Some.ensures.1)
 
 pub returns : goal.returns

@@ -19,7 +19,7 @@ loop-section-preserved c =
 
 pub returns-then-section_stands : goal.returns-then-section_stands
 returns-then-section_stands c =
-    rw c.kind.ensures (first_of (of_section c.args.fault) c.args.tables.now.bytes.now c.loop-section.section 0 c.requires
+    rw (c.fault_at.ensures, c.kind.ensures) (first_of (of_section c.args.fault) c.args.tables.now.bytes.now c.loop-section.section 0 c.requires
     (c.section_stands.ensures.0 c.if-section_stands.true) c.loop-section.invariant (λ f h w. omega arith))
 
 pub returns : goal.returns

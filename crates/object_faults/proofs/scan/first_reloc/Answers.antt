@@ -1,5 +1,4 @@
 use Rattle.std.proofs.Common.{arith}
-use Rattle.object_faults.specs.Kinds.{of_reloc}
 use Rattle.object_faults.proofs.Order.{at_reloc}
 use Rattle.object_faults.proofs.scan.first_reloc.Goals as goal
 

@@ -19,22 +19,25 @@ returns-then-is_bad_table c =
     let b = c.args.tables.now.bytes.now in
     let t = c.args.tables.now.symbols.table in
     let same = c.args.tables.now.symbols_are.table_is in
-    bad_table b t same c.requires (is_table_of b t same (omega arith)) (c.is_bad_table.ensures.0 c.if-is_bad_table.true)
+    rw c.fault_at.ensures
+    (bad_table b t same c.requires (is_table_of b t same (omega arith)) (c.is_bad_table.ensures.0 c.if-is_bad_table.true))
 
 pub returns-in-Some : goal.returns-in-Some
 returns-in-Some c =
     let b = c.args.tables.now.bytes.now in
     let t = c.args.tables.now.symbols.table in
     let fine : IsBadTable b t → ⊥ = λ bad. let wrong = c.if-is_bad_table.ensures.1 bad in cc in
-    bad_symbol b t c.in-Some.entry c.args.tables.now.symbols_are.table_is c.requires fine c.in-Some.ensures.0.1 c.in-Some.ensures.1
+    rw c.fault_at-in-Some.ensures
+    (bad_symbol b t c.in-Some.entry c.args.tables.now.symbols_are.table_is c.requires fine c.in-Some.ensures.0.1 c.in-Some.ensures.1)
 
 pub returns-in-Some-second_table : goal.returns-in-Some-second_table
 returns-in-Some-second_table c =
     let b = c.args.tables.now.bytes.now in
     let t = c.args.tables.now.symbols.table in
     let fine : IsBadTable b t → ⊥ = λ bad. let wrong = c.if-is_bad_table.ensures.1 bad in cc in
-    second_table b t c.in-Some-second_table.section c.args.tables.now.symbols_are.table_is c.requires fine c.in_default.ensures
-    c.in-Some-second_table.ensures.0 c.in-Some-second_table.ensures.1
+    rw c.fault_at-in-Some-second_table.ensures
+    (second_table b t c.in-Some-second_table.section c.args.tables.now.symbols_are.table_is c.requires fine c.in_default.ensures
+    c.in-Some-second_table.ensures.0 c.in-Some-second_table.ensures.1)
 
 pub returns-in-None : goal.returns-in-None
 returns-in-None c =

@@ -8,12 +8,12 @@ pub returns-in-Some-clause-answers : goal.returns-in-Some-clause-answers
 returns-in-Some-clause-answers c =
     let b = c.args.tables.now.bytes.now in
     let first = c.in-Some.ensures.first in
-    first_of RelocTarget b c.in-Some.section 0 c.requires first.0
+    rw c.fault_at.ensures (first_of RelocTarget b c.in-Some.section 0 c.requires first.0
     (λ s h e w.
     let within = at_target b s e w in
     let P : ℕ → Type 0 = λ x. Stands RelocTarget b s x in
     first.1 s h (subst P within.0 w))
-    (λ e h w. omega arith)
+    (λ e h w. omega arith))
 
 pub returns-in-None-clause-answers : goal.returns-in-None-clause-answers
 returns-in-None-clause-answers c =

@@ -1,6 +1,6 @@
 use Rattle.std.proofs.Common.{◌≡◌, ◌+◌, ℕ, pos, Option, length, get_or, sym, subst, inl, inr, arith}
 use Rattle.std.proofs.lemmas.Option.{slice_get-get_or}
-use Rattle.object_faults.specs.declared.relocation.RelocationKind.TheVariants.{Nothing}
+use Rattle.elf_records.specs.declared.relocation.RelocationKind.TheVariants.{Nothing}
 use Rattle.elf_object.specs.declared.relocation.Relocation.{Relocation}
 use Rattle.elf_object.specs.Faults.{IsFirstAt}
 use Rattle.sequence_match.specs.Code.{AreMarks, look, MarksAt}

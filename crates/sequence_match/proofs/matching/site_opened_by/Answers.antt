@@ -1,5 +1,5 @@
 use Rattle.std.proofs.Common.{subst}
-use Rattle.object_faults.specs.declared.relocation.RelocationKind.{RelocationKind}
+use Rattle.elf_records.specs.declared.relocation.RelocationKind.{RelocationKind}
 use Rattle.sequence_match.specs.declared.forms.Form.TheVariants.{Gd, Ld, IeMov, IeAdd, GdInd, LdInd, DescLea, DescCall}
 use Rattle.sequence_match.specs.Code.{IsFound}
 use Rattle.sequence_match.proofs.Opened.{IsAmong, among_none, among_of, none_of_one, none_of_two}

@@ -1,0 +1,34 @@
+use Rattle.std.proofs.Common.{◌≡◌, length, ℕ, arith}
+use Rattle.image_writer.specs.Linkable.{IsLinkable}
+use Rattle.image_tests.proofs.Surplus.{file_linkable}
+use Rattle.image_tests.proofs.Pieces.{has}
+use Rattle.image_tests.proofs.drafts.written_surplus.Goals as goal
+
+pub image_of-requires-clause-linkable : goal.image_of-requires-clause-linkable
+image_of-requires-clause-linkable c =
+    rw (
+      c.named.ensures,
+      c.named-2.ensures,
+      c.symbol.ensures,
+      c.symbol-2.ensures,
+      c.place.ensures,
+      c.place-2.ensures,
+      c.place-3.ensures,
+    ) (file_linkable c.args.file.items c.requires)
+
+pub image_of-requires-clause-ends : goal.image_of-requires-clause-ends
+image_of-requires-clause-ends c =
+    rw (c.place-3.ensures) (omega (arith, c.requires, has 8 12288 c.args.file.items (omega (arith, c.requires))))
+
+pub write-requires : goal.write-requires
+write-requires c =
+    rw (
+      c.in_ok-image.ensures,
+      c.named.ensures,
+      c.named-2.ensures,
+      c.symbol.ensures,
+      c.symbol-2.ensures,
+      c.place.ensures,
+      c.place-2.ensures,
+      c.place-3.ensures,
+    ) ((file_linkable c.args.file.items c.requires).holds_tls)

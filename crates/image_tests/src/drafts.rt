@@ -1,0 +1,149 @@
+//! Images that a linker's drafts become, and their files.
+
+ghost use Rattle.std.specs.Prelude.{◌≡◌, length};
+
+use crate::images::{SURPLUS, WRITTEN};
+use crate::reading::bytes_of;
+use image_file::{
+    FileKind, ImageRelocation, ImageSymbol, LoaderKind, PartClass, SymbolBinding, SymbolType,
+    TlsPart, Visibility,
+};
+use image_writer::{Draft, NamedSymbol, PartPlace, image_of, write};
+use std::alloc::{AllocError, Global};
+use std::test::Fail;
+
+/// A symbol that is shared.
+fn symbol(kind: SymbolType, is_defined: bool, value: u64, size: u64) -> ImageSymbol
+    ensures { result ≡ record {
+      binding = SymbolBinding.Global;
+      kind = kind;
+      visibility = Visibility.Default;
+      is_defined = is_defined;
+      value = value;
+      size = size;
+    } }
+{
+    ImageSymbol {
+        binding: SymbolBinding::Global,
+        kind,
+        visibility: Visibility::Default,
+        is_defined,
+        value,
+        size,
+    }
+}
+
+fn named<'a>(name: &'a [u8], symbol: ImageSymbol) -> NamedSymbol<'a>
+    ensures { result ≡ record { symbol = symbol; name = name.entry } }
+{
+    NamedSymbol { symbol, name }
+}
+
+fn place(class: PartClass, address: u64, size: u64) -> PartPlace
+    ensures { result ≡ record { class = class; address = address; size = size } }
+{
+    PartPlace {
+        class,
+        address,
+        size,
+    }
+}
+
+/// Writes the image `WRITTEN`, from the bytes of its parts behind a page.
+fn written_program(alloc: Global, file: Vec<u8>) -> Result<Vec<u8>, AllocError>
+    requires { length file.items ≡ 20486 }
+{
+    let draft = Draft {
+        kind: FileKind::Exe,
+        parts: &[
+            place(PartClass::Executable, 0x40_0000, 23),
+            place(PartClass::ReadOnly, 0x40_1000, 20),
+            place(PartClass::Writable, 0x40_2000, 4),
+            place(PartClass::Writable, 0x40_3000, 24),
+            place(PartClass::Executable, 0x40_4000, 6),
+        ],
+        got: Some(3),
+        tls: Some(TlsPart {
+            address: 0x40_1000,
+            initial: 20,
+            size: 20,
+            alignment: 8,
+        }),
+        symbols: &[
+            named(b"f", symbol(SymbolType::Func, true, 0x40_0000, 23)),
+            named(b"x", symbol(SymbolType::Tls, true, 8, 4)),
+            named(b"n", symbol(SymbolType::Object, true, 0x40_2000, 4)),
+            named(b"__tls_get_addr", symbol(SymbolType::NoType, false, 0, 0)),
+        ],
+        relocations: &[ImageRelocation {
+            place: 0x40_3010,
+            kind: LoaderKind::JumpSlot,
+            symbol: 4,
+            addend: 0,
+        }],
+        is_flagged: false,
+    };
+    let image = image_of(alloc, &draft, file)?;
+    let mut bytes = Vec::new(alloc);
+    write(alloc, &image, &mut bytes)?;
+    Ok(bytes)
+}
+
+/// Writes a module that asks for its thread-local data at a fixed distance, from the bytes of its parts behind a page.
+fn written_surplus(alloc: Global, file: Vec<u8>) -> Result<Vec<u8>, AllocError>
+    requires { length file.items ≡ 12296 }
+{
+    let draft = Draft {
+        kind: FileKind::Module,
+        parts: &[
+            place(PartClass::Executable, 0, 8),
+            place(PartClass::ReadOnly, 0x1000, 4),
+            place(PartClass::Writable, 0x2000, 8),
+        ],
+        got: Some(2),
+        tls: Some(TlsPart {
+            address: 0x1000,
+            initial: 4,
+            size: 8,
+            alignment: 4,
+        }),
+        symbols: &[
+            named(b"f", symbol(SymbolType::Func, true, 0, 8)),
+            named(b"v", symbol(SymbolType::Tls, true, 0, 4)),
+        ],
+        relocations: &[ImageRelocation {
+            place: 0x2000,
+            kind: LoaderKind::ThreadOffset,
+            symbol: 0,
+            addend: 0,
+        }],
+        is_flagged: true,
+    };
+    let image = image_of(alloc, &draft, file)?;
+    let mut bytes = Vec::new(alloc);
+    write(alloc, &image, &mut bytes)?;
+    Ok(bytes)
+}
+
+/// The bytes of an image's parts, but for its tables, behind a page of zeros.
+fn parts_of(alloc: Global, image: &[u8], end: usize) -> Result<Vec<u8>, Fail> {
+    let parts = image.get(4096..end).ok_or("the parts")?;
+    let mut file = vec![in alloc; 0u8; 4096]?;
+    file.extend_from_slice(parts)?;
+    Ok(file)
+}
+
+#[test]
+fn makes_the_images_of_drafts(rt: HostRuntime) -> Result<(), Fail> {
+    let want = bytes_of(rt.alloc(), WRITTEN)?;
+    let file = parts_of(rt.alloc(), want.as_slice(), 20_486)?;
+    assert_eq!(rt; file.len(), 20_486);
+    let made = written_program(rt.alloc(), file)?;
+    assert_eq!(rt; made.as_slice(), want.as_slice());
+    let want = bytes_of(rt.alloc(), SURPLUS)?;
+    let file = parts_of(rt.alloc(), want.as_slice(), 12_296)?;
+    assert_eq!(rt; file.len(), 12_296);
+    let made = written_surplus(rt.alloc(), file)?;
+    assert_eq!(rt; made.as_slice(), want.as_slice());
+    Ok(())
+}

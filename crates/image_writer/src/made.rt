@@ -1,0 +1,66 @@
+//! The image that a linker's draft becomes.
+
+ghost use Rattle.std.specs.Prelude.{◌≡◌, ◌+◌, ◌^◌, ◌<◌, ◌≤◌, ◌++◌, ◌∷◌, [], All, IfOk, length, vec_len};
+ghost use Rattle.image_file.specs.declared.part.PartClass.TheVariants.{ReadOnly};
+ghost use Rattle.image_writer.specs.Contents.{contents_of, parts_end};
+ghost use Rattle.image_writer.specs.Linkable.{IsLinkable};
+ghost use Rattle.image_writer.specs.Page.{file_offset};
+ghost use Rattle.image_writer.specs.Tables.{finished};
+ghost use Rattle.image_writer.specs.Told.{tables_place};
+
+use crate::draft::Draft;
+use crate::layout::{layout_of, next_page};
+use crate::outline::{Outline, PartPlace};
+use crate::page::{file_offset, put_page};
+use crate::put::grow;
+use crate::tables::put_tables;
+use image_file::{Image, PartClass};
+use std::alloc::{AllocError, Global};
+
+/// The parts of a draft, and behind them that of the tables.
+fn with_tables(
+    alloc: Global,
+    parts: &[PartPlace],
+    address: u64,
+    size: u64,
+) -> Result<Vec<PartPlace>, AllocError>
+    requires { length parts.now < 2 ^ 32 }
+    ensures { IfOk result (λ all. all.items ≡ parts.now ++ (tables_place address size ∷ [])) }
+{
+    let mut all = Vec::with_capacity(alloc, parts.len() + 1)?;
+    all.extend_from_slice(parts)?;
+    all.push(PartPlace {
+        class: PartClass::ReadOnly,
+        address,
+        size,
+    })?;
+    Ok(all)
+}
+
+/// The image that a draft becomes. The file has a page, which is overwritten with the headers, and then the bytes of
+/// each part at the offset of its address ([`file_offset`]), up to the end of the last part. The dynamic tables are
+/// put behind it, and the image keeps the bytes.
+pub fn image_of(alloc: Global, draft: &Draft<'_>, file: Vec<u8>) -> Result<Image, AllocError>
+    requires linkable { IsLinkable (contents_of draft.now file.items) }
+    requires ends { length file.items ≡ file_offset draft.now.kind (parts_end draft.now.kind (contents_of draft.now file.items).parts) }
+    requires inside { All (λ part. file_offset draft.now.kind part.address + part.size ≤ length file.items) draft.now.parts.now }
+    ensures { IfOk result (λ image. image ≡ finished (contents_of draft.now file.items)) }
+{
+    let layout = layout_of(draft);
+    let address = next_page(draft);
+    let parts = with_tables(alloc, draft.parts, address, layout.size())?;
+    let outline = Outline {
+        kind: draft.kind,
+        parts: parts.as_slice(),
+        array_size: layout.array_size,
+        got: draft.got,
+        tls: draft.tls,
+    };
+    let at = file_offset(draft.kind, address) as usize;
+    let mut file = file;
+    let gap = at + layout.size() as usize - file.len();
+    grow(&mut file, gap)?;
+    put_tables(draft, &layout, address, file.as_mut_slice(), at);
+    put_page(&outline, file.as_mut_slice(), 0);
+    Ok(Image::from_bytes(file))
+}
