@@ -1,6 +1,6 @@
 -- When relocations of an image are refused, and which one is told.
 use Rattle.std.specs.Prelude.{◌≡◌, ◌≢◌, ◌<◌, ℕ, List, Some, length}
-use Rattle.object_faults.specs.declared.relocation.RelocationKind.TheVariants.{Nothing}
+use Rattle.elf_records.specs.declared.relocation.RelocationKind.TheVariants.{Nothing}
 use Rattle.elf_object.specs.declared.relocation.Relocation.{Relocation}
 use Rattle.elf_object.specs.Parts.{symbol_count}
 use Rattle.link_faults.specs.declared.image_kind.ImageKind.{ImageKind}

@@ -1,10 +1,10 @@
 -- What is refused of a relocation: what no linker of static thread-local storage can fill in (psABI, "Relocation
 -- Types"; Drepper, "ELF Handling For Thread-Local Storage", section 4).
 use Rattle.std.specs.Prelude.{◌==◌, ◌&&◌, ℕ, Bool, true, false, Option, Some}
-use Rattle.object_faults.specs.declared.relocation.RelocationKind.{RelocationKind}
-use Rattle.object_faults.specs.declared.relocation.RelocationKind.TheVariants.{Absolute32, Absolute32Signed, TlsGd}
-use Rattle.object_faults.specs.declared.relocation.RelocationKind.TheVariants.{TlsLd, GotTpOff, TpOff32}
-use Rattle.object_faults.specs.declared.relocation.RelocationKind.TheVariants.{GotPc32TlsDesc}
+use Rattle.elf_records.specs.declared.relocation.RelocationKind.{RelocationKind}
+use Rattle.elf_records.specs.declared.relocation.RelocationKind.TheVariants.{Absolute32, Absolute32Signed, TlsGd}
+use Rattle.elf_records.specs.declared.relocation.RelocationKind.TheVariants.{TlsLd, GotTpOff, TpOff32}
+use Rattle.elf_records.specs.declared.relocation.RelocationKind.TheVariants.{GotPc32TlsDesc}
 use Rattle.link_faults.specs.declared.image_kind.ImageKind.{ImageKind}
 use Rattle.link_faults.specs.declared.image_kind.ImageKind.TheVariants.{Exe, Pie, Start, Late}
 use Rattle.link_faults.specs.declared.fault.LinkFaultKind.{LinkFaultKind}
