@@ -39,8 +39,8 @@ abbrev pub is_here : Option Binding → Bool
 is_here (Some (Here found)) = true
 is_here bound = false
 
--- whether a type of relocation asks for storage of the image itself, where its symbol is bound so: for the image's block
--- (TLSLD), for the descriptor of a variable in it, and in a module for a variable's pair of words or its offset
+-- whether a type of relocation asks for storage of the image itself, where its symbol is bound so: for the image's
+-- block (TLSLD), for the descriptor of a variable in it, and in a module for a variable's pair of words or its offset
 abbrev pub asks_storage : ImageKind → RelocationKind → Option Binding → Bool
 asks_storage image TlsLd bound = true
 asks_storage image TlsGd bound = is_module image && is_here bound
