@@ -6,7 +6,7 @@ use denote.Bor.{Bor}
 use Rattle.elf_records.specs.declared.symbol.SymbolEntry.{SymbolEntry}
 use Rattle.elf_records.specs.declared.program_header.Segment.{Segment}
 use Rattle.elf_records.specs.declared.relocation.Rela.{Rela}
-pub use Rattle.elf_records.specs.Strings.{text_at}
+unfoldable pub use Rattle.elf_records.specs.Strings.{text_at}
 use Rattle.elf_records.specs.Records.{rela_symbol, rela_kind, symbol_binding, symbol_kind, symbol_visibility}
 use Rattle.elf_records.specs.declared.program_header.TheConstants.{PF_X, PF_R}
 use Rattle.elf_records.specs.declared.symbol.TheConstants.{SHN_UNDEF, STB_GLOBAL, STB_WEAK, STT_NOTYPE, STT_OBJECT}
