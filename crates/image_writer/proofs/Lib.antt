@@ -10,3 +10,4 @@ pub mod Places
 pub mod Headings
 pub mod Layouts
 pub mod Laying
+pub mod Filing
