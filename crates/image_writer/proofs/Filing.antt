@@ -5,12 +5,15 @@ use Rattle.std.proofs.lemmas.List.{append-nil, drop_all, length-map, length-repl
 use Rattle.elf_records.specs.Fields.{splice, part_at}
 use Rattle.elf_records.specs.Laws.{part_again}
 use Rattle.elf_records.specs.Records.{header_bytes, segment_bytes}
-use Rattle.image_file.specs.Spelled.{Part, Spelled}
+use Rattle.image_faults.specs.Faults.{IsImage}
+use Rattle.image_file.specs.Spelled.{Part, Spelled, spelled}
 use Rattle.image_writer.specs.Files.{IsFileOf}
-use Rattle.image_writer.specs.Loadable.{IsLoadable}
+use Rattle.image_writer.specs.Loadable.{IsLoadable, HoldsTls}
 use Rattle.image_writer.specs.Outlined.{Outlined, end_of, outline_of, last_part, no_part, place_of}
 use Rattle.image_writer.specs.Page.{base_of, file_header, file_offset, page, program_headers}
 use Rattle.image_writer.specs.Written.{laid, written}
+use Rattle.image_writer.proofs.Agreement.{reads_again}
+use Rattle.image_writer.proofs.Loaded.{loadable}
 use Rattle.image_writer.proofs.Headings.{length-file_header, length-segments, program_headers-count}
 use Rattle.image_writer.proofs.Laying.{part_end, past, reach, reach-laid, laid-append, around, rise_at, parts_rise}
 
@@ -55,12 +58,80 @@ reach-end at (p ∷ (q ∷ more)) some =
 pub length-written : (s : Spelled) → IsLoadable (outline_of s)
     → length (written s) ≡ file_offset s.kind (end_of (last_part (outline_of s)))
 unfolding written
-length-written s loadable = ?
+length-written s loadable =
+    let low = base_of s.kind in
+    let count : length (map place_of s.parts) ≡ length s.parts = length-map s.parts place_of in
+    let both = length-append (page (outline_of s)) (laid low s.parts) in
+    let first = length-page (outline_of s) loadable in
+    let rises = parts_rise s loadable in
+    let come : low + length (laid low s.parts) ≡ reach low s.parts = reach-laid low s.parts rises in
+    let some : 0 < length s.parts = omega (arith, loadable.some, count) in
+    let end = reach-end low s.parts some in
+    let inside : length s.parts - 1 < length s.parts = omega arith in
+    let last : last_part (outline_of s) ≡ place_of (get_or s.parts (length s.parts - 1) past) =
+    ap (λ n. get_or (map place_of s.parts) (n - 1) no_part) count
+    ∙ get_or-map place_of s.parts (length s.parts - 1) past no_part inside in
+    let ends = ap end_of last in
+    omega (arith, both, first, come, end, ends)
+
+-- a part stands at its offset
+pub part_stands : (s : Spelled) (i : ℕ) (p : Part) → IsLoadable (outline_of s) → slice_get s.parts i ≡ Some p
+    → part_at (length p.bytes) (file_offset s.kind p.address) (written s) ≡ p.bytes
+unfolding written
+part_stands s i p loadable is =
+    let low = base_of s.kind in
+    let xs = take i s.parts in
+    let ys = drop (suc i) s.parts in
+    let before = rise_at low s.parts i p is (parts_rise s loadable) in
+    let come : low + length (laid low xs) ≡ reach low xs = reach-laid low xs before.0 in
+    let begins : reach low xs ≤ p.address = before.1 in
+    let gap : List ℕ = replicate (p.address - reach low xs) 0 in
+    let long-gap : length gap ≡ p.address - reach low xs = length-replicate (p.address - reach low xs) 0 in
+    let P = page (outline_of s) in
+    let long-page = length-page (outline_of s) loadable in
+    let L = laid low xs in
+    let R = laid (part_end p) ys in
+    let inner = length-append L gap in
+    let outer = length-append P (L ++ gap) in
+    let place : length (P ++ (L ++ gap)) ≡ file_offset s.kind p.address =
+    omega (arith, come, begins, long-gap, long-page, inner, outer) in
+    let split : P ++ laid low s.parts ≡ (P ++ (L ++ gap)) ++ (p.bytes ++ R) =
+    ap (λ qs. P ++ laid low qs) (around s.parts i p is)
+    ∙ ap (λ zs. P ++ zs) (laid-append low xs (p ∷ ys) ∙ sym (append_assoc L gap (p.bytes ++ R)))
+    ∙ sym (append_assoc P (L ++ gap) (p.bytes ++ R)) in
+    ap (part_at (length p.bytes) (file_offset s.kind p.address)) split
+    ∙ part_again (file_offset s.kind p.address) (P ++ (L ++ gap)) p.bytes R place
+
+-- what is left of a list that is written over whole
+pub over_all : (n : ℕ) (new old : List ℕ) → length new ≡ n → take n (new ++ drop (length new) old) ≡ new
+over_all n new old long = take_at new (drop (length new) old) n long
 
 -- the file of an image
 pub is_file : (s : Spelled) → IsLoadable (outline_of s) → IsFileOf (written s) s
 unfolding written
 is_file s loadable = record {
   page_is = take_at (page (outline_of s)) (laid (base_of s.kind) s.parts) 4096 (length-page (outline_of s) loadable);
-  parts_are = λ i p is. ?;
+  parts_are = λ i p is. part_stands s i p loadable is;
 }
+
+-- what is spelled can be loaded, and is read again of what is written
+pub loadable_of : (s : Spelled) (b : List ℕ) → IsImage b → s ≡ spelled b → IsLoadable (outline_of s)
+loadable_of s b image is =
+    let P = λ (t : Spelled). IsLoadable (outline_of t) in
+    subst P (sym is) (loadable b image)
+
+pub again_of : (s : Spelled) (b : List ℕ) → IsImage b → s ≡ spelled b → HoldsTls (outline_of s)
+    → IsImage (written s) × (spelled (written s) ≡ s)
+again_of s b image is holds =
+    let T = λ (t : Spelled). HoldsTls (outline_of t) in
+    let F = λ (t : Spelled). IsFileOf (written s) t in
+    let read = reads_again b (written s) image (subst T is holds) (subst F is (is_file s (loadable_of s b image is))) in
+    (read.0, read.1 ∙ sym is)
+
+-- the page, and the parts behind it
+pub length-written-parts : (s : Spelled) → IsLoadable (outline_of s)
+    → length (written s) ≡ 4096 + length (laid (base_of s.kind) s.parts)
+unfolding written
+length-written-parts s can =
+    length-append (page (outline_of s)) (laid (base_of s.kind) s.parts)
+    ∙ ap (λ n. n + length (laid (base_of s.kind) s.parts)) (length-page (outline_of s) can)
