@@ -135,3 +135,19 @@ unfolding written
 length-written-parts s can =
     length-append (page (outline_of s)) (laid (base_of s.kind) s.parts)
     ∙ ap (λ n. n + length (laid (base_of s.kind) s.parts)) (length-page (outline_of s) can)
+
+-- what is written behind other bytes, once the file was made longer by zeros
+pub written_behind : (old new grown lent put : List ℕ) (n at long : ℕ) → n ≡ length new → at ≡ length old
+    → length grown ≡ long → grown ≡ old ++ replicate n 0 → lent ≡ grown → put ≡ splice at new lent
+    → take long (put ++ drop (length put) grown) ≡ old ++ new
+written_behind old new grown lent put n at long n-is at-is long-is grew same wrote =
+    let end : put ≡ old ++ new =
+    wrote ∙ ap (λ k. splice k new lent) at-is ∙ ap (splice (length old) new) (same ∙ grew)
+    ∙ splice_end old new n (sym n-is) in
+    let padding : List ℕ = replicate n 0 in
+    let zeros : length padding ≡ n = length-replicate n 0 in
+    let more : length (old ++ padding) ≡ length old + length padding = length-append old padding in
+    let both = length-append old new in
+    let wide : length grown ≡ length (old ++ padding) = ap length grew in
+    let put-long = ap length end in
+    over_all long put grown (omega arith) ∙ end
