@@ -73,9 +73,9 @@ pub rise_of : (at : ℕ) (ps : List Part) → (0 < length ps → at ≤ (get_or 
     → ((i : ℕ) → suc i < length ps → part_end (get_or ps i past) ≤ (get_or ps (suc i) past).address) → Rise at ps
 rise_of at [] first next = tt
 rise_of at (p ∷ more) first next = (
-      first (omega arith),
-      rise_of (part_end p) more (λ some. next 0 (omega arith)) (λ i below. next (suc i) (omega arith)),
-    )
+  first (omega arith),
+  rise_of (part_end p) more (λ some. next 0 (omega arith)) (λ i below. next (suc i) (omega arith)),
+)
 
 -- a list around one of its items
 pub around : (ps : List Part) (i : ℕ) (p : Part) → slice_get ps i ≡ Some p → ps ≡ take i ps ++ (p ∷ drop (suc i) ps)
@@ -130,9 +130,9 @@ put_next_part base at ps i p bytes out new is below rise inside was wrote =
     put_next at (at + (reach base front - base)) (laid base front) (replicate (p.address - reach base front) 0 ++ p.bytes)
     bytes out new place inside was wrote
     ∙ ap (λ ys. splice at ys bytes) (
-      ap (λ ys. laid base front ++ ys) (sym one)
-      ∙ sym (laid-append base front (p ∷ []))
-      ∙ ap (laid base) (sym (up_to ps i p is below))
+    ap (λ ys. laid base front ++ ys) (sym one)
+    ∙ sym (laid-append base front (p ∷ []))
+    ∙ ap (laid base) (sym (up_to ps i p is below))
     )
 
 -- where laying comes to with one more
@@ -146,23 +146,23 @@ parts_rise s loadable =
     let count = length-map s.parts place_of in
     rise_of (base_of s.kind) s.parts
     (λ some.
-      let right = loadable.parts 0 (omega (arith, count)) in
-      let here = get_or-map place_of s.parts 0 past no_part some in
-      let above : base_of s.kind ≤ (get_or (map place_of s.parts) 0 no_part).address = right.above in
-      omega (arith, above, ap (λ p. p.address) here))
+    let right = loadable.parts 0 (omega (arith, count)) in
+    let here = get_or-map place_of s.parts 0 past no_part some in
+    let above : base_of s.kind ≤ (get_or (map place_of s.parts) 0 no_part).address = right.above in
+    omega (arith, above, ap (λ p. p.address) here))
     (λ i below.
-      let right = loadable.parts (suc i) (omega (arith, count)) in
-      let here = get_or-map place_of s.parts (suc i) past no_part below in
-      let inside : i < length s.parts = omega arith in
-      let before = get_or-map place_of s.parts i past no_part inside in
-      let behind : suc i - 1 ≡ i = omega arith in
-      let o = outline_of s in
-      let P = λ (k : ℕ). (suc i ≡ 0) ⊎ (end_of (part o k) ≤ (part o (suc i)).address) in
-      let rises : (suc i ≡ 0) ⊎ (end_of (part o i) ≤ (part o (suc i)).address) = subst P behind right.rising in
-      elim rises [
-        inl none ↦ absurd (omega arith)
-        | inr apart ↦ omega (arith, apart, ap (λ p. p.address) here, ap end_of before)
-      ])
+    let right = loadable.parts (suc i) (omega (arith, count)) in
+    let here = get_or-map place_of s.parts (suc i) past no_part below in
+    let inside : i < length s.parts = omega arith in
+    let before = get_or-map place_of s.parts i past no_part inside in
+    let behind : suc i - 1 ≡ i = omega arith in
+    let o = outline_of s in
+    let P = λ (k : ℕ). (suc i ≡ 0) ⊎ (end_of (part o k) ≤ (part o (suc i)).address) in
+    let rises : (suc i ≡ 0) ⊎ (end_of (part o i) ≤ (part o (suc i)).address) = subst P behind right.rising in
+    elim rises [
+      | inl none ↦ absurd (omega arith)
+      | inr apart ↦ omega (arith, apart, ap (λ p. p.address) here, ap end_of before)
+    ])
 
 -- a part that is lent, without the loan
 abbrev pub seen : ImagePart → Part
@@ -200,8 +200,7 @@ part_place s i p base end loadable is base-is end-is =
     get_or-map place_of s.parts i past no_part below ∙ ap place_of (get_or_from_slice_get s.parts i p past is) in
     let end-here = ap end_of here in
     let small = base_low s.kind in
-    let begins = before.1 in
-    (
+    let begins = before.1 in (
       omega (arith, come, base-is, end-is),
       omega (arith, begins, end-is),
       omega (arith, ends.1, end-here, small),

@@ -60,14 +60,13 @@ loop-number-preserved c =
     let p = seen c.in-Some.part in
     let is = sym c.part.ensures ∙ ap part_seen c.in-Some.is in
     let below = slice_get_within image.parts i p is in
-    let base = c.base_of-base.ensures ∙ ap base_of c.kind.ensures in
-    (
+    let base = c.base_of-base.ensures ∙ ap base_of c.kind.ensures in (
       put_next_part (base_of image.kind) c.args.at image.parts i p c.args.out.now c.loop-number.out c.put_part.new.out is below
-      (parts_rise image c.requires.loadable) (omega (arith, c.requires.room)) c.loop-number.invariant.0
-      (c.put_part.ensures
-      ∙ ap (λ b. splice (c.args.at + (c.loop-number.end - b)) (replicate (p.address - c.loop-number.end) 0 ++ p.bytes) c.loop-number.out) base
-      ∙ ap (λ e. splice (c.args.at + (e - base_of image.kind)) (replicate (p.address - e) 0 ++ p.bytes) c.loop-number.out)
-      c.loop-number.invariant.1),
+          (parts_rise image c.requires.loadable) (omega (arith, c.requires.room)) c.loop-number.invariant.0
+          (c.put_part.ensures
+          ∙ ap (λ b. splice (c.args.at + (c.loop-number.end - b)) (replicate (p.address - c.loop-number.end) 0 ++ p.bytes) c.loop-number.out) base
+          ∙ ap (λ e. splice (c.args.at + (e - base_of image.kind)) (replicate (p.address - e) 0 ++ p.bytes) c.loop-number.out)
+          c.loop-number.invariant.1),
       reach-next (base_of image.kind) image.parts i p is below,
     )
 
