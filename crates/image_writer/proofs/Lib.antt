@@ -11,3 +11,4 @@ pub mod Headings
 pub mod Layouts
 pub mod Laying
 pub mod Filing
+pub mod Making
