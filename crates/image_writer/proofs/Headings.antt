@@ -74,10 +74,10 @@ put_headers o at next after last bytes one two three four next-is after-is last-
     let four-is = put_next at last ((A ++ B) ++ C) D bytes three four (omega arith) inside three-is fourth in
     four-is
     ∙ ap (λ ys. splice at ys bytes) (
-      append_assoc (A ++ B) C D
-      ∙ append_assoc A B (C ++ D)
-      ∙ ap (λ ys. A ++ (B ++ ys)) (sym (flat_map-append segment_bytes tls relro))
-      ∙ sym (flat_map-append segment_bytes loads (dynamic_header o ∷ (tls ++ relro)))
+    append_assoc (A ++ B) C D
+    ∙ append_assoc A B (C ++ D)
+    ∙ ap (λ ys. A ++ (B ++ ys)) (sym (flat_map-append segment_bytes tls relro))
+    ∙ sym (flat_map-append segment_bytes loads (dynamic_header o ∷ (tls ++ relro)))
     )
 
 -- the header

@@ -1,8 +1,12 @@
 -- Parts of an image laid at their addresses.
 use Rattle.std.proofs.Common.{ℕ, zero, suc, ◌+◌, ◌-◌, ◌<◌, ◌≤◌, ◌≡◌, ◌⊎◌, inl, inr, Some, None, List, [], ◌∷◌, ◌++◌, length, map, take, drop, get_or, replicate, refl, subst, sym, ap, ◌∙◌, arith, append_assoc, length-append, add-one}
 use Rattle.std.specs.List.{slice_get}
-use Rattle.std.proofs.lemmas.List.{append-nil, length-map, length-replicate, get_or-map, take_more}
+use Rattle.std.proofs.lemmas.List.{append-nil, length-map, length-replicate, get_or-map, map-append, take_more}
 use Rattle.std.proofs.lemmas.Option.{get_or_from_slice_get}
+use Rattle.std.proofs.lemmas.Option.{slice_get_within}
+use Rattle.image_file.specs.declared.part.ImagePart.{ImagePart}
+use Rattle.image_writer.specs.declared.outline.PartPlace.{PartPlace}
+use Rattle.image_writer.proofs.Places.{base_low, part_ends}
 use Rattle.image_writer.proofs.Puts.{put_next}
 use Rattle.elf_records.specs.Fields.{splice}
 use Rattle.image_file.specs.Spelled.{Part, Spelled}
@@ -69,9 +73,9 @@ pub rise_of : (at : ℕ) (ps : List Part) → (0 < length ps → at ≤ (get_or 
     → ((i : ℕ) → suc i < length ps → part_end (get_or ps i past) ≤ (get_or ps (suc i) past).address) → Rise at ps
 rise_of at [] first next = tt
 rise_of at (p ∷ more) first next = (
-      first (omega arith),
-      rise_of (part_end p) more (λ some. next 0 (omega arith)) (λ i below. next (suc i) (omega arith)),
-    )
+  first (omega arith),
+  rise_of (part_end p) more (λ some. next 0 (omega arith)) (λ i below. next (suc i) (omega arith)),
+)
 
 -- a list around one of its items
 pub around : (ps : List Part) (i : ℕ) (p : Part) → slice_get ps i ≡ Some p → ps ≡ take i ps ++ (p ∷ drop (suc i) ps)
@@ -126,9 +130,9 @@ put_next_part base at ps i p bytes out new is below rise inside was wrote =
     put_next at (at + (reach base front - base)) (laid base front) (replicate (p.address - reach base front) 0 ++ p.bytes)
     bytes out new place inside was wrote
     ∙ ap (λ ys. splice at ys bytes) (
-      ap (λ ys. laid base front ++ ys) (sym one)
-      ∙ sym (laid-append base front (p ∷ []))
-      ∙ ap (laid base) (sym (up_to ps i p is below))
+    ap (λ ys. laid base front ++ ys) (sym one)
+    ∙ sym (laid-append base front (p ∷ []))
+    ∙ ap (laid base) (sym (up_to ps i p is below))
     )
 
 -- where laying comes to with one more
@@ -142,20 +146,63 @@ parts_rise s loadable =
     let count = length-map s.parts place_of in
     rise_of (base_of s.kind) s.parts
     (λ some.
-      let right = loadable.parts 0 (omega (arith, count)) in
-      let here = get_or-map place_of s.parts 0 past no_part some in
-      let above : base_of s.kind ≤ (get_or (map place_of s.parts) 0 no_part).address = right.above in
-      omega (arith, above, ap (λ p. p.address) here))
+    let right = loadable.parts 0 (omega (arith, count)) in
+    let here = get_or-map place_of s.parts 0 past no_part some in
+    let above : base_of s.kind ≤ (get_or (map place_of s.parts) 0 no_part).address = right.above in
+    omega (arith, above, ap (λ p. p.address) here))
     (λ i below.
-      let right = loadable.parts (suc i) (omega (arith, count)) in
-      let here = get_or-map place_of s.parts (suc i) past no_part below in
-      let inside : i < length s.parts = omega arith in
-      let before = get_or-map place_of s.parts i past no_part inside in
-      let behind : suc i - 1 ≡ i = omega arith in
-      let o = outline_of s in
-      let P = λ (k : ℕ). (suc i ≡ 0) ⊎ (end_of (part o k) ≤ (part o (suc i)).address) in
-      let rises : (suc i ≡ 0) ⊎ (end_of (part o i) ≤ (part o (suc i)).address) = subst P behind right.rising in
-      elim rises [
-        inl none ↦ absurd (omega arith)
-        | inr apart ↦ omega (arith, apart, ap (λ p. p.address) here, ap end_of before)
-      ])
+    let right = loadable.parts (suc i) (omega (arith, count)) in
+    let here = get_or-map place_of s.parts (suc i) past no_part below in
+    let inside : i < length s.parts = omega arith in
+    let before = get_or-map place_of s.parts i past no_part inside in
+    let behind : suc i - 1 ≡ i = omega arith in
+    let o = outline_of s in
+    let P = λ (k : ℕ). (suc i ≡ 0) ⊎ (end_of (part o k) ≤ (part o (suc i)).address) in
+    let rises : (suc i ≡ 0) ⊎ (end_of (part o i) ≤ (part o (suc i)).address) = subst P behind right.rising in
+    elim rises [
+      | inl none ↦ absurd (omega arith)
+      | inr apart ↦ omega (arith, apart, ap (λ p. p.address) here, ap end_of before)
+    ])
+
+-- a part that is lent, without the loan
+abbrev pub seen : ImagePart → Part
+seen lent = record { class = lent.class; address = lent.address; bytes = lent.bytes.now }
+
+-- nothing is lent past the last part alone
+pub none-past : (ps : List Part) (i : ℕ) → slice_get ps i ≡ None → length ps ≤ i
+none-past [] i is = omega arith
+none-past (p ∷ more) zero is = absurd (cc)
+none-past (p ∷ more) (suc i) is = let rest = none-past more i is in omega arith
+
+-- where the parts lie, one more
+pub placed : (ps : List Part) (i : ℕ) (p : Part) (items new : List PartPlace) (place : PartPlace) → slice_get ps i ≡ Some p
+    → i < length ps → items ≡ map place_of (take i ps) → place ≡ place_of p → new ≡ items ++ (place ∷ [])
+    → new ≡ map place_of (take (i + 1) ps)
+placed ps i p items new place is below was here pushed =
+    pushed ∙ ap (λ xs. xs ++ (place ∷ [])) was ∙ ap (λ q. map place_of (take i ps) ++ (q ∷ [])) here
+    ∙ sym (map-append place_of (take i ps) (p ∷ [])) ∙ ap (map place_of) (sym (up_to ps i p is below))
+
+-- what a part of an image that can be loaded keeps, where laying has come to it
+pub part_place : (s : Spelled) (i : ℕ) (p : Part) (base end : ℕ) → IsLoadable (outline_of s) → slice_get s.parts i ≡ Some p
+    → base ≡ base_of s.kind → end ≡ reach (base_of s.kind) (take i s.parts)
+    → (base ≤ end) × (end ≤ p.address) × (part_end p ≤ 71303168)
+    × (end - base + (p.address - end + length p.bytes) ≤ length (laid (base_of s.kind) s.parts))
+part_place s i p base end loadable is base-is end-is =
+    let low = base_of s.kind in
+    let front = take i s.parts in
+    let before = rise_at low s.parts i p is (parts_rise s loadable) in
+    let come : low + length (laid low front) ≡ reach low front = reach-laid low front before.0 in
+    let room = laid-room low s.parts i p is in
+    let below : i < length s.parts = slice_get_within s.parts i p is in
+    let count = length-map s.parts place_of in
+    let ends = part_ends (outline_of s) i loadable (omega (arith, below, count)) in
+    let here : part (outline_of s) i ≡ place_of p =
+    get_or-map place_of s.parts i past no_part below ∙ ap place_of (get_or_from_slice_get s.parts i p past is) in
+    let end-here = ap end_of here in
+    let small = base_low s.kind in
+    let begins = before.1 in (
+      omega (arith, come, base-is, end-is),
+      omega (arith, begins, end-is),
+      omega (arith, ends.1, end-here, small),
+      omega (arith, come, room, begins, base-is, end-is),
+    )

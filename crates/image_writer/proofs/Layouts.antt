@@ -139,9 +139,9 @@ put_groups P L F e at next after last bytes one two three four five next-is afte
     let all = put_next at next A (B ++ (C ++ D)) bytes one four (omega arith) in-0 first more in
     all
     ∙ ap (λ ys. splice at ys bytes) (
-      ap (λ ys. A ++ (B ++ ys)) (sym (flat_map-append dynamic_bytes F (e ∷ [])))
-      ∙ ap (λ ys. A ++ ys) (sym (flat_map-append dynamic_bytes L (F ++ (e ∷ []))))
-      ∙ sym (flat_map-append dynamic_bytes P (L ++ (F ++ (e ∷ []))))
+    ap (λ ys. A ++ (B ++ ys)) (sym (flat_map-append dynamic_bytes F (e ∷ [])))
+    ∙ ap (λ ys. A ++ ys) (sym (flat_map-append dynamic_bytes L (F ++ (e ∷ []))))
+    ∙ sym (flat_map-append dynamic_bytes P (L ++ (F ++ (e ∷ []))))
     )
 
 -- six lists of bytes put one behind the other

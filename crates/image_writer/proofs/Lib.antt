@@ -1,7 +1,7 @@
-mod SymbolRows
 pub mod Agreement
 pub mod Counted
 pub mod Decided
+pub mod Filing
 pub mod Hashes
 pub mod Headed
 pub mod HeaderBytes
@@ -18,6 +18,7 @@ pub mod Laying
 pub mod Layouts
 pub mod Linked
 pub mod Loaded
+pub mod Making
 pub mod Places
 pub mod Positive
 pub mod Puts
@@ -31,6 +32,7 @@ pub mod SameSpelled
 pub mod SameTables
 pub mod Seen
 pub mod Strings
+pub mod SymbolRows
 pub mod TableArray
 pub mod TableEntries
 pub mod TableKinds

@@ -56,7 +56,7 @@ pub places_end-last : (kind : FileKind) (places : List PartPlace) (p : PartPlace
     → slice_get places (length places - 1) ≡ Some p → places_end kind places ≡ p.address + p.size
 places_end-last kind [] p is = absurd (cc)
 places_end-last kind (q ∷ []) p is = let same : q ≡ p = cc in ap (λ r. end_of r) same
-places_end-last kind (q ∷ (r ∷ more)) p is = 
+places_end-last kind (q ∷ (r ∷ more)) p is =
     let rest : length (r ∷ more) - 1 ≡ length more = omega arith in
     let all : length (q ∷ (r ∷ more)) - 1 ≡ suc (length more) = omega arith in
     places_end-last kind (r ∷ more) p (rw rest (rw all at is))

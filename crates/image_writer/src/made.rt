@@ -4,12 +4,15 @@ ghost use Rattle.std.specs.Prelude.{◌≡◌, ◌+◌, ◌^◌, ◌<◌, ◌≤
 ghost use Rattle.image_file.specs.declared.part.PartClass.TheVariants.{ReadOnly};
 ghost use Rattle.image_writer.specs.Contents.{contents_of, parts_end};
 ghost use Rattle.image_writer.specs.Linkable.{IsLinkable};
-ghost use Rattle.image_writer.specs.Page.{file_offset};
+ghost use Rattle.image_writer.specs.Page.{file_offset, page};
 ghost use Rattle.image_writer.specs.Tables.{finished};
-ghost use Rattle.image_writer.specs.Told.{tables_place};
+ghost use Rattle.elf_records.specs.Fields.{splice};
+ghost use Rattle.image_writer.specs.Loadable.{IsLoadable, HoldsTls};
+ghost use Rattle.image_writer.specs.Outlined.{outlined};
+ghost use Rattle.image_writer.specs.Told.{tables_place, told, layout_of, next_page, tables_at, IsSymbolFitting, IsRelocationFitting};
 
 use crate::draft::Draft;
-use crate::layout::{layout_of, next_page};
+use crate::layout::{Layout, layout_of, next_page};
 use crate::outline::{Outline, PartPlace};
 use crate::page::{file_offset, put_page};
 use crate::put::grow;
@@ -37,6 +40,23 @@ fn with_tables(
     Ok(all)
 }
 
+/// Puts the tables behind the parts, and the headers over the first page.
+fn put_made(draft: &Draft<'_>, layout: &Layout, outline: &Outline<'_>, out: &mut [u8], at: usize)
+    requires layout { layout.now ≡ layout_of (told draft.now) }
+    requires small { layout.now.strings_start + layout.now.strings_size < 2 ^ 32 }
+    requires below { next_page draft.now + layout.now.strings_start < 2 ^ 64 }
+    requires room { at + (layout.now.strings_start + layout.now.strings_size) ≤ length out.old }
+    requires page { 4096 ≤ length out.old }
+    requires loadable { IsLoadable (outlined outline.now) }
+    requires tls { HoldsTls (outlined outline.now) }
+    ensures bytes { out.new ≡ splice 0 (page (outlined outline.now)) (splice at (tables_at (next_page draft.now) (told draft.now)) out.old) }
+    ensures symbols { All IsSymbolFitting draft.now.symbols.now }
+    ensures relocations { All IsRelocationFitting draft.now.relocations.now }
+{
+    put_tables(draft, layout, next_page(draft), out, at);
+    put_page(outline, out, 0);
+}
+
 /// The image that a draft becomes. The file has a page, which is overwritten with the headers, and then the bytes of
 /// each part at the offset of its address ([`file_offset`]), up to the end of the last part. The dynamic tables are
 /// put behind it, and the image keeps the bytes.
@@ -60,7 +80,6 @@ pub fn image_of(alloc: Global, draft: &Draft<'_>, file: Vec<u8>) -> Result<Image
     let mut file = file;
     let gap = at + layout.size() as usize - file.len();
     grow(&mut file, gap)?;
-    put_tables(draft, &layout, address, file.as_mut_slice(), at);
-    put_page(&outline, file.as_mut_slice(), 0);
+    put_made(draft, &layout, &outline, file.as_mut_slice(), at);
     Ok(Image::from_bytes(file))
 }

@@ -80,6 +80,42 @@ fn put_parts(image: &Image, out: &mut [u8], at: usize)
     }
 }
 
+/// What an image's headers tell of it, with the places of its parts.
+fn outline_of<'a>(image: &Image, places: &'a [PartPlace]) -> Outline<'a>
+    requires { places.now ≡ map place_of image.now.parts }
+    ensures { outlined result ≡ outline_of image.now }
+{
+    Outline {
+        kind: image.kind(),
+        parts: places,
+        array_size: image.array_size(),
+        got: image.got(),
+        tls: image.tls(),
+    }
+}
+
+/// What is written of an image is read as that very image. The call only tells a proof so.
+fn written_again(image: &Image)
+    requires { HoldsTls (outline_of image.now) }
+    ensures loadable { IsLoadable (outline_of image.now) }
+    ensures size { length (written image.now) ≡ file_offset image.now.kind (end_of (last_part (outline_of image.now))) }
+    ensures again { IsImage (written image.now) × (spelled (written image.now) ≡ image.now) }
+{
+    image_is_spelled(image);
+}
+
+/// Puts the page of headers and the parts of an image.
+fn put_image(image: &Image, outline: &Outline<'_>, out: &mut [u8], at: usize)
+    requires outline { outlined outline.now ≡ outline_of image.now }
+    requires loadable { IsLoadable (outline_of image.now) }
+    requires tls { HoldsTls (outline_of image.now) }
+    requires room { at + length (written image.now) ≤ length out.old }
+    ensures { out.new ≡ splice at (written image.now) out.old }
+{
+    put_page(outline, out, at);
+    put_parts(image, out, at + PAGE_SIZE as usize);
+}
+
 /// Appends the file of an image: a page of headers, and each part at its address. What is appended is read as that
 /// very image. Where there is no memory for all of it, nothing is.
 pub fn write(alloc: Global, image: &Image, into: &mut Vec<u8>) -> Result<(), AllocError>
@@ -88,18 +124,11 @@ pub fn write(alloc: Global, image: &Image, into: &mut Vec<u8>) -> Result<(), All
     ensures err { OnErr result (into.new.items ≡ into.old.items) }
     ensures again { IsImage (written image.now) × (spelled (written image.now) ≡ image.now) }
 {
-    image_is_spelled(image);
+    written_again(image);
     let places = places_of(alloc, image)?;
-    let outline = Outline {
-        kind: image.kind(),
-        parts: places.as_slice(),
-        array_size: image.array_size(),
-        got: image.got(),
-        tls: image.tls(),
-    };
+    let outline = outline_of(image, places.as_slice());
     let at = into.len();
     grow(into, file_size(&outline))?;
-    put_page(&outline, into.as_mut_slice(), at);
-    put_parts(image, into.as_mut_slice(), at + PAGE_SIZE as usize);
+    put_image(image, &outline, into.as_mut_slice(), at);
     Ok(())
 }

@@ -15,13 +15,12 @@ loop-number-init c = (splice_none c.args.at c.args.out.now, λ k d below. absurd
 pub loop-number-preserved : goal.loop-number-preserved
 loop-number-preserved c =
     let at = c.args.at in
-    let i = c.loop-number.number in
-    (
+    let i = c.loop-number.number in (
       put_more (λ (r : ImageRelocation). rela_bytes (relocation_entry r)) 24 at (at + 24 * i) i c.args.relocations.now _
-      c.args.out.now c.loop-number.out c.write_rela.new.bytes (λ r. length-rela_bytes (relocation_entry r))
-      c.loop-number-test.true refl (omega arith) c.loop-number.invariant.0
-      (c.write_rela.ensures.bytes
-      ∙ ap (λ e. splice (at + 24 * i) (rela_bytes e) c.loop-number.out) c.relocation_entry-entry.ensures.entry),
+          c.args.out.now c.loop-number.out c.write_rela.new.bytes (λ r. length-rela_bytes (relocation_entry r))
+          c.loop-number-test.true refl (omega arith) c.loop-number.invariant.0
+          (c.write_rela.ensures.bytes
+          ∙ ap (λ e. splice (at + 24 * i) (rela_bytes e) c.loop-number.out) c.relocation_entry-entry.ensures.entry),
       All-more IsRelocationFitting c.args.relocations.now i _ c.loop-number-test.true c.loop-number.invariant.1
-      (c.relocation_entry-entry.ensures.place, c.relocation_entry-entry.ensures.addend),
+          (c.relocation_entry-entry.ensures.place, c.relocation_entry-entry.ensures.addend),
     )

@@ -12,9 +12,9 @@ put_zeros-requires c =
 
 pub loop-symbol-init : goal.loop-symbol-init
 loop-symbol-init c = (
-      c.put_zeros.ensures ∙ ap (λ names. splice c.args.at names c.args.out.now) (sym names_of-none),
-      ap (λ names. c.args.at + length names) (sym names_of-none),
-    )
+  c.put_zeros.ensures ∙ ap (λ names. splice c.args.at names c.args.out.now) (sym names_of-none),
+  ap (λ names. c.args.at + length names) (sym names_of-none),
+)
 
 pub put_bytes-requires : goal.put_bytes-requires
 put_bytes-requires c =
@@ -46,12 +46,11 @@ loop-symbol-preserved c =
     let i = c.loop-symbol.symbol-index in
     let symbols = c.args.draft.now.symbols.now in
     let done = names_of (take i symbols) in
-    let long = names_of-longer symbols i no_symbol (length done) c.loop-symbol-test.true refl in
-    (
+    let long = names_of-longer symbols i no_symbol (length done) c.loop-symbol-test.true refl in (
       put_name at c.loop-symbol.next done (get_or symbols i no_symbol).name.now c.args.out.now c.loop-symbol.out
-      c.put_bytes.new.out c.put_zeros-in-loop-symbol.new.out c.loop-symbol.invariant.1 (omega arith)
-      c.loop-symbol.invariant.0 c.put_bytes.ensures c.put_zeros-in-loop-symbol.ensures
-      ∙ ap (λ names. splice at names c.args.out.now) (sym (names_of-next symbols i no_symbol c.loop-symbol-test.true)),
+          c.put_bytes.new.out c.put_zeros-in-loop-symbol.new.out c.loop-symbol.invariant.1 (omega arith)
+          c.loop-symbol.invariant.0 c.put_bytes.ensures c.put_zeros-in-loop-symbol.ensures
+          ∙ ap (λ names. splice at names c.args.out.now) (sym (names_of-next symbols i no_symbol c.loop-symbol-test.true)),
       omega (arith, long, c.loop-symbol.invariant.1),
     )
 

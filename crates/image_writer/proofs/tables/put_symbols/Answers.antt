@@ -13,13 +13,13 @@ use Rattle.image_writer.proofs.tables.put_symbols.Goals as goal
 
 pub loop-number-init : goal.loop-number-init
 loop-number-init c = (
-      c.write_symbol.ensures.bytes
+  c.write_symbol.ensures.bytes
       ∙ ap (λ e. splice c.args.at (symbol_bytes e) c.args.out.now) c.symbol_entry.ensures.entry
       ∙ ap (λ s. splice c.args.at (symbol_bytes (symbol_entry s 0)) c.args.out.now) c.null_symbol.ensures
       ∙ ap (λ rows. splice c.args.at rows c.args.out.now) (rows_below-start c.args.draft.now),
-      refl,
-      λ k d below. absurd (omega arith),
-    )
+  refl,
+  λ k d below. absurd (omega arith),
+)
 
 pub overflow_cast-name : goal.overflow_cast-name
 overflow_cast-name c =
@@ -43,15 +43,14 @@ overflow_add-name-in-loop-number c =
 pub loop-number-preserved : goal.loop-number-preserved
 loop-number-preserved c =
     let i = c.loop-number.number in
-    let d = c.args.draft.now in
-    (
+    let d = c.args.draft.now in (
       rows_below-put d i c.args.at c.loop-number.name c.symbol_entry-entry.result c.args.out.now c.loop-number.out
-      c.write_symbol-in-loop-number.new.bytes c.loop-number-test.true (omega arith) c.loop-number.invariant.1
-      c.symbol_entry-entry.ensures.entry c.loop-number.invariant.0 c.write_symbol-in-loop-number.ensures.bytes,
+          c.write_symbol-in-loop-number.new.bytes c.loop-number-test.true (omega arith) c.loop-number.invariant.1
+          c.symbol_entry-entry.ensures.entry c.loop-number.invariant.0 c.write_symbol-in-loop-number.ensures.bytes,
       ap (λ n. n + (length (get_or d.symbols.now i no_symbol).name.now + 1)) c.loop-number.invariant.1
-      ∙ sym (name_start-next d i c.loop-number-test.true),
+          ∙ sym (name_start-next d i c.loop-number-test.true),
       All-more IsSymbolFitting d.symbols.now i no_symbol c.loop-number-test.true c.loop-number.invariant.2
-      (c.symbol_entry-entry.ensures.value, c.symbol_entry-entry.ensures.size),
+          (c.symbol_entry-entry.ensures.value, c.symbol_entry-entry.ensures.size),
     )
 
 pub returns-clause-bytes : goal.returns-clause-bytes

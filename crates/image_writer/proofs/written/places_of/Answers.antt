@@ -1,13 +1,14 @@
-use Rattle.std.proofs.Common.{rules, ◌≡◌, ◌+◌, ◌-◌, ◌^◌, ◌<◌, ◌≤◌, ◌++◌, OnOk, OnErr, IfOk, length, map, replicate, ℕ, ◌*◌, ◌/◌, ◌%◌, Bool, true, false, nat_eq, nat_lt, List, [], ◌∷◌, slice_index_or, slice_set, bit_and, bit_or, Fits, w8, w32, w64, Bor, MutBor}
-use Rattle.elf_records.specs.Fields.{splice}
-use Rattle.image_faults.specs.Faults.{IsImage}
-use Rattle.image_file.specs.Spelled.{spelled}
-use Rattle.image_writer.specs.Loadable.{IsLoadable, HoldsTls}
-use Rattle.image_writer.specs.Outlined.{outlined, outline_of, place_of, last_part, end_of}
-use Rattle.image_writer.specs.Page.{base_of, file_offset}
-use Rattle.image_writer.specs.Written.{laid, written}
+use Rattle.std.proofs.Common.{◌≡◌, sym, ap, ◌∙◌}
+use Rattle.std.proofs.lemmas.Option.{slice_get_within}
+use Rattle.image_file.specs.Spelled.{part_seen}
+use Rattle.image_writer.proofs.Laying.{seen, placed}
 use Rattle.image_writer.proofs.written.places_of.Goals as goal
 
--- src/written.rt:35:5
 pub loop-number-preserved : goal.loop-number-preserved
-loop-number-preserved c = ?
+loop-number-preserved c =
+    let parts = c.args.image.now.parts in
+    let i = c.loop-number.number in
+    let p = seen c.in-Some.part in
+    let is = sym c.part.ensures ∙ ap part_seen c.in-Some.is in
+    placed parts i p c.loop-number.places.items c.push.new.self.items c.place_of.result is (slice_get_within parts i p is)
+    c.loop-number.invariant c.place_of.ensures (c.in_ok-push-in-Some.ensures {u = tt}).items
