@@ -29,36 +29,56 @@ fn example(alloc: Global) -> Result<Vec<u8>, AllocError> {
     object_of(alloc, &sections, &symbols)
 }
 
+/// The kind of a section; a large number where there is none.
+fn kind_of(bytes: &[u8], number: u64) -> u32 {
+    match read_section(bytes, 64 + 64 * (number % 8)) {
+        Some(section) => section.kind,
+        None => u32::MAX,
+    }
+}
+
+/// How many sections a file has, and which holds their names.
+fn counts_of(bytes: &[u8]) -> Option<(u16, u16)> {
+    let header = read_header(bytes, 0)?;
+    Some((header.e_shnum, header.e_shstrndx))
+}
+
 #[test]
 fn builds_the_headers(rt: HostRuntime) -> Result<(), Fail> {
     let bytes = example(rt.alloc())?;
-    assert_eq!(rt; bytes.len(), LENGTH);
-    let header = read_header(&bytes, 0).ok_or("there is a header")?;
-    assert_eq!(rt; (header.e_shnum, header.e_shstrndx), (8, 7));
+    assert!(rt; bytes.len() == LENGTH && counts_of(&bytes) == Some((8, 7)));
     let kinds = [0, 1, SHT_RELA, 1, 8, SHT_SYMTAB, SHT_STRTAB, SHT_STRTAB];
     for (number, kind) in kinds.iter().enumerate() {
-        let at = 64 + 64 * number as u64;
-        let section = read_section(&bytes, at).ok_or("there is a section")?;
-        assert_eq!(rt; section.kind, *kind);
+        assert!(rt; kind_of(&bytes, number as u64) == *kind);
     }
     Ok(())
+}
+
+/// Where a symbol is, and how large it is.
+fn extent_of(bytes: &[u8], at: u64) -> Option<(u16, u64)> {
+    let symbol = read_symbol(bytes, at)?;
+    Some((symbol.shndx, symbol.size))
 }
 
 #[test]
 fn builds_the_tables(rt: HostRuntime) -> Result<(), Fail> {
     let bytes = example(rt.alloc())?;
-    let relocation = read_rela(&bytes, CONTENTS + 13).ok_or("there is a relocation")?;
-    assert_eq!(rt; relocation, rela(4, R_X86_64_TPOFF32, 2, 0));
-    let x = read_symbol(&bytes, CONTENTS + 13 + 24 + 48).ok_or("there is x")?;
-    assert_eq!(rt; (x.shndx, x.size), (3, 4));
+    let relocation = rela(4, R_X86_64_TPOFF32, 2, 0);
+    assert!(rt; read_rela(&bytes, CONTENTS + 13) == Some(relocation));
+    assert!(rt; extent_of(&bytes, CONTENTS + 13 + 24 + 48) == Some((3, 4)));
     Ok(())
+}
+
+/// The header of a file of constants, after that type is changed in the draft.
+fn changed_type(alloc: Global) -> Result<Option<Header>, AllocError> {
+    let mut draft = draft_of(alloc, &[Section::constants(b"abcd")], &[])?;
+    draft.header.e_type = 3;
+    Ok(read_header(&draft.bytes(alloc)?, 0))
 }
 
 #[test]
 fn writes_a_changed_field(rt: HostRuntime) -> Result<(), Fail> {
-    let mut draft = draft_of(rt.alloc(), &[Section::constants(b"abcd")], &[])?;
-    draft.header.e_type = 3;
-    let header = read_header(&draft.bytes(rt.alloc())?, 0).ok_or("there is a header")?;
-    assert_eq!(rt; header.e_type, 3);
+    let header = changed_type(rt.alloc())?.ok_or("there is a header")?;
+    assert!(rt; header.e_type == 3);
     Ok(())
 }

@@ -1,5 +1,6 @@
 //! Jobs against the answers that the grammar gives.
 
+use crate::objects::same;
 use job_text::{Job, JobFault};
 use std::alloc::Global;
 use std::test::Fail;
@@ -97,7 +98,7 @@ fn finds_the_first_fault(rt: HostRuntime) -> Result<(), Fail> {
         let (want, job) = row.split_once(": ").ok_or("a row")?;
         let job = text_of(alloc, job)?;
         let found = fault_text(alloc, job.as_str())?;
-        assert!(rt; found.as_str() == want, "{found} in {job}");
+        same(&rt, found.as_str(), want, row);
     }
     Ok(())
 }
@@ -128,7 +129,7 @@ fn takes_65536_lines(rt: HostRuntime) -> Result<(), Fail> {
     ] {
         let job = long_job(rt.alloc(), behind)?;
         let found = fault_text(rt.alloc(), job.as_str())?;
-        assert!(rt; found.as_str() == want, "{found}");
+        same(&rt, found.as_str(), want, behind);
     }
     Ok(())
 }
@@ -171,9 +172,9 @@ fn said(alloc: Global, job: &str) -> Result<String, Fail> {
 #[test]
 fn reads_a_job(rt: HostRuntime) -> Result<(), Fail> {
     let found = said(rt.alloc(), GOOD)?;
-    assert!(rt; found.as_str() == GOOD_SAID, "{found}");
+    same(&rt, found.as_str(), GOOD_SAID, GOOD);
     // what is not said: one thread, 100,000 steps, and no order
     let found = said(rt.alloc(), "image app exe a.o\n1 open app\n")?;
-    assert!(rt; found.as_str() == LITTLE_SAID, "{found}");
+    same(&rt, found.as_str(), LITTLE_SAID, "a small job");
     Ok(())
 }

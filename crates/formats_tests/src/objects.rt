@@ -218,11 +218,16 @@ fn behind(table: &'static str, name: &str) -> Option<&'static str> {
     None
 }
 
+/// A number of a table; a word that is none is a large one.
+fn number(word: &str) -> u64 {
+    word.parse().unwrap_or(u64::MAX)
+}
+
 /// Writes a number at an offset, in so many bytes, the lowest first.
-fn put(bytes: &mut [u8], at: usize, width: usize, number: u64) -> Option<()> {
+fn put(bytes: &mut [u8], at: u64, width: u64, number: u64) -> Option<()> {
     let mut rest = number;
     for index in 0..width {
-        *bytes.get_mut(at.checked_add(index)?)? = (rest % 256) as u8;
+        *bytes.get_mut(at.checked_add(index)? as usize)? = (rest % 256) as u8;
         rest /= 256;
     }
     Some(())
@@ -230,12 +235,11 @@ fn put(bytes: &mut [u8], at: usize, width: usize, number: u64) -> Option<()> {
 
 /// Makes a change of the example, if it is one.
 fn change(bytes: &mut [u8], word: &str) -> Option<()> {
-    let (place, number) = word.split_once('=')?;
+    let (place, value) = word.split_once('=')?;
     let (record, field) = place.split_once('.')?;
     let (offset, width) = behind(FIELDS, field)?.split_once(' ')?;
-    let start: usize = behind(RECORDS, record)?.parse().ok()?;
-    let at = start.checked_add(offset.parse().ok()?)?;
-    put(bytes, at, width.parse().ok()?, number.parse().ok()?)
+    let at = number(behind(RECORDS, record)?).saturating_add(number(offset));
+    put(bytes, at, number(width), number(value))
 }
 
 /// The example after these changes.
@@ -262,12 +266,16 @@ fn answer(alloc: Global, bytes: &[u8]) -> Result<String, AllocError> {
     }
 }
 
+/// Compares an answer with the one that a case wants.
+pub(crate) fn same(rt: &impl Abort, found: &str, want: &str, line: &str) {
+    assert!(rt; found == want, "{found} in {line}");
+}
+
 /// Compares the answer of one case.
 fn check(rt: &impl Abort, alloc: Global, line: &str) -> Result<(), Fail> {
     let (want, words) = line.split_once(": ").ok_or("an answer")?;
     let bytes = changed(alloc, words)?;
-    let found = answer(alloc, bytes.as_slice())?;
-    assert!(rt; found.as_str() == want, "{found} in {line}");
+    same(rt, answer(alloc, bytes.as_slice())?.as_str(), want, line);
     Ok(())
 }
 

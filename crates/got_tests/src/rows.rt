@@ -1,94 +1,55 @@
 //! Each row of the table of entries. The relocations of a module and their addends are those that GNU ld 2.40 writes (`ld
 //! -shared`); those of a program follow from them, since a program is module 1 and knows where its block lies.
 
-use crate::words::{address, assert_row, elsewhere, held, here, imported, loaded, own, runtime};
-use got_pairs::{DynamicKind, DynamicSymbol, Entry, Need};
+use crate::words::{kind_of, need_of, push_entry, same};
+use got_pairs::entry_of;
 use link_faults::ImageKind;
+use std::alloc::{AllocError, Global};
+use std::process::Abort;
+use std::test::Fail;
 
-const ALL: [ImageKind; 4] = [
-    ImageKind::Exe,
-    ImageKind::Pie,
-    ImageKind::Start,
-    ImageKind::Late,
-];
+/// How far below the thread pointer the program's block begins: a TLS segment of 20 bytes at alignment 8 has 24.
+const BLOCK: u64 = 0x18;
 
-const PROGRAMS: [ImageKind; 2] = [ImageKind::Exe, ImageKind::Pie];
+/// Each line: the kinds of image, a need, and the entry. 8 - 0x18 = -0x10.
+const ROWS: &str = "\
+exe pie module = 1, 0;
+start late module = 0 DtpMod64 image 0, 0;
+exe pie pair:8 = 1, 8;
+start late pair:8 = 0 DtpMod64 image 0, 8;
+exe pie start late pair:x = 0 DtpMod64 x 0, 0 DtpOff64 x 0;
+exe pie start late desc:8 = 0 TlsDesc image 8, 0;
+exe pie start late desc:x = 0 TlsDesc x 0, 0;
+exe pie word:8 = fffffffffffffff0;
+start late word:8 = 0 TpOff64 image 8;
+exe pie start late word:x = 0 TpOff64 x 0;
+exe addr:108b = 108b;
+pie start late addr:108b = 108b Relative image 108b;
+exe pie start late runtime = 0 JumpSlot runtime 0;
+";
 
-const MODULES: [ImageKind; 2] = [ImageKind::Start, ImageKind::Late];
+/// The entry of a need in an image of a kind.
+fn said(alloc: Global, kind: ImageKind, need: &str) -> Result<String, AllocError> {
+    let entry = entry_of(kind, BLOCK, &need_of(need));
+    let mut text = String::new(alloc);
+    push_entry(&mut text, &entry)?;
+    Ok(text)
+}
 
-const MOVED: [ImageKind; 3] = [ImageKind::Pie, ImageKind::Start, ImageKind::Late];
-
-#[test]
-fn module_pairs(rt: HostRuntime) {
-    let need = Need::ModulePair;
-    assert_row(&rt, &PROGRAMS, &need, &Entry::Two(held(1), held(0)));
-    let id = own(DynamicKind::DtpMod64, 0);
-    assert_row(&rt, &MODULES, &need, &Entry::Two(id, held(0)));
+/// Compares the entry of a row in each of its kinds of image.
+fn check(rt: &impl Abort, alloc: Global, line: &str) -> Result<(), Fail> {
+    let (row, want) = line.split_once(" = ").ok_or("an entry")?;
+    let (kinds, need) = row.rsplit_once(' ').ok_or("a need")?;
+    for kind in kinds.split(' ') {
+        same(rt, said(alloc, kind_of(kind), need)?.as_str(), want, line);
+    }
+    Ok(())
 }
 
 #[test]
-fn pairs_of_variables(rt: HostRuntime) {
-    let need = Need::SymbolPair(here(8));
-    assert_row(&rt, &PROGRAMS, &need, &Entry::Two(held(1), held(8)));
-    let id = own(DynamicKind::DtpMod64, 0);
-    assert_row(&rt, &MODULES, &need, &Entry::Two(id, held(8)));
-    let id = imported(DynamicKind::DtpMod64);
-    let offset = imported(DynamicKind::DtpOff64);
-    assert_row(
-        &rt,
-        &ALL,
-        &Need::SymbolPair(elsewhere()),
-        &Entry::Two(id, offset),
-    );
-}
-
-#[test]
-fn descriptors(rt: HostRuntime) {
-    let word = own(DynamicKind::TlsDesc, 8);
-    assert_row(
-        &rt,
-        &ALL,
-        &Need::Descriptor(here(8)),
-        &Entry::Two(word, held(0)),
-    );
-    let word = imported(DynamicKind::TlsDesc);
-    assert_row(
-        &rt,
-        &ALL,
-        &Need::Descriptor(elsewhere()),
-        &Entry::Two(word, held(0)),
-    );
-}
-
-/// 8 - 0x18 = -0x10.
-#[test]
-fn offsets_from_the_thread_pointer(rt: HostRuntime) {
-    let need = Need::SymbolWord(here(8));
-    assert_row(
-        &rt,
-        &PROGRAMS,
-        &need,
-        &Entry::One(held(0xffff_ffff_ffff_fff0)),
-    );
-    assert_row(
-        &rt,
-        &MODULES,
-        &need,
-        &Entry::One(own(DynamicKind::TpOff64, 8)),
-    );
-    let word = imported(DynamicKind::TpOff64);
-    assert_row(&rt, &ALL, &Need::SymbolWord(elsewhere()), &Entry::One(word));
-}
-
-#[test]
-fn addresses(rt: HostRuntime) {
-    let need = address(0x108b);
-    assert_row(&rt, &[ImageKind::Exe], &need, &Entry::One(held(0x108b)));
-    let word = loaded(0x108b, DynamicKind::Relative, DynamicSymbol::Image, 0x108b);
-    assert_row(&rt, &MOVED, &need, &Entry::One(word));
-}
-
-#[test]
-fn the_run_time(rt: HostRuntime) {
-    assert_row(&rt, &ALL, &Need::RuntimeWord, &runtime());
+fn rows_of_entries(rt: HostRuntime) -> Result<(), Fail> {
+    for line in ROWS.lines() {
+        check(&rt, rt.alloc(), line)?;
+    }
+    Ok(())
 }

@@ -1,98 +1,152 @@
-//! Words, entries and needs as the tests write them.
+//! Needs, entries and tables as the tests write them.
 
-use got_pairs::{
-    DynamicKind, DynamicRelocation, DynamicSymbol, Entry, GotPlan, Name, Need, Target, Word,
-    entry_of,
-};
+use got_pairs::{DynamicSymbol, Entry, GotPlan, Name, Need, Target, Word, plan};
 use link_faults::ImageKind;
+use std::alloc::{AllocError, Global};
 use std::process::Abort;
+use std::str;
+use std::test::Fail;
 use tls_symbols::SymbolRef;
 
-/// How far below the thread pointer the program's block begins: a TLS segment of 20 bytes at alignment 8 has 24.
-pub const BLOCK: u64 = 0x18;
+/// Compares what a test finds with what it wants.
+pub(crate) fn same(rt: &impl Abort, found: &str, want: &str, at: &str) {
+    assert!(rt; found.trim_end() == want, "{found}: {at}");
+}
 
-/// The entry of a need in each of these kinds of image.
-pub(crate) fn assert_row(rt: &impl Abort, kinds: &[ImageKind], need: &Need, entry: &Entry) {
-    for kind in kinds {
-        assert_eq!(rt; &entry_of(*kind, BLOCK, need), entry);
+/// A hexadecimal number, or 0 where a word is none.
+pub(crate) fn number(word: &str) -> u64 {
+    u64::from_str_radix(word, 16).unwrap_or(0)
+}
+
+/// The kind of image of a word.
+pub(crate) fn kind_of(word: &str) -> ImageKind {
+    match word {
+        "exe" => ImageKind::Exe,
+        "pie" => ImageKind::Pie,
+        "start" => ImageKind::Start,
+        _ => ImageKind::Late,
     }
-}
-
-/// Where the entry of a need begins.
-pub(crate) fn assert_start(rt: &impl Abort, table: &GotPlan, need: &Need, start: Option<u64>) {
-    assert_eq!(rt; table.start(need), start);
-}
-
-/// What the entry of a number holds.
-pub(crate) fn assert_entry(rt: &impl Abort, table: &GotPlan, number: usize, entry: Entry) {
-    assert_eq!(rt; table.entry(number), Some(entry));
-}
-
-/// A number that the linker knows.
-pub(crate) fn held<'a>(number: u64) -> Word<'a> {
-    Word {
-        number,
-        relocation: None,
-    }
-}
-
-/// A number that the loader writes over.
-pub(crate) fn loaded<'a>(
-    number: u64,
-    kind: DynamicKind,
-    symbol: DynamicSymbol<'a>,
-    addend: u64,
-) -> Word<'a> {
-    Word {
-        number,
-        relocation: Some(DynamicRelocation {
-            kind,
-            symbol,
-            addend,
-        }),
-    }
-}
-
-/// A word that the loader writes for the image itself.
-pub(crate) fn own<'a>(kind: DynamicKind, addend: u64) -> Word<'a> {
-    loaded(0, kind, DynamicSymbol::Image, addend)
-}
-
-/// A word that the loader writes for the variable `x` of another image.
-pub(crate) fn imported<'a>(kind: DynamicKind) -> Word<'a> {
-    loaded(0, kind, DynamicSymbol::Imported(Name::new(b"x")), 0)
-}
-
-/// The entry of the run time's function.
-pub(crate) fn runtime<'a>() -> Entry<'a> {
-    Entry::One(loaded(0, DynamicKind::JumpSlot, DynamicSymbol::Runtime, 0))
 }
 
 /// A symbol of the first object.
-pub(crate) fn symbol(number: u32) -> SymbolRef {
+fn symbol(number: u32) -> SymbolRef {
     SymbolRef {
         object: 0,
         symbol: number,
     }
 }
 
-/// A variable of the image itself, symbol 2.
-pub(crate) fn here<'a>(offset: u64) -> Target<'a> {
-    Target::Here {
-        symbol: symbol(2),
-        offset,
+/// A variable of the image itself, symbol 2, by its offset, or one of another image, by its name.
+fn target_of(word: &str) -> Target<'_> {
+    match u64::from_str_radix(word, 16) {
+        Ok(offset) => Target::Here {
+            symbol: symbol(2),
+            offset,
+        },
+        Err(_) => Target::Import(Name::new(word.as_bytes())),
     }
 }
 
-/// The variable `x` of another image.
-pub(crate) fn elsewhere<'a>() -> Target<'a> {
-    Target::Import(Name::new(b"x"))
+/// The need of a word: `module`, `pair:`, `desc:` or `word:` and a variable, `addr:` and the address of a function,
+/// symbol 1, or `runtime`.
+pub(crate) fn need_of(word: &str) -> Need<'_> {
+    let (kind, of) = word.split_once(':').unwrap_or((word, ""));
+    match kind {
+        "module" => Need::ModulePair,
+        "pair" => Need::SymbolPair(target_of(of)),
+        "desc" => Need::Descriptor(target_of(of)),
+        "word" => Need::SymbolWord(target_of(of)),
+        "addr" => Need::AddressWord {
+            symbol: symbol(1),
+            place: number(of),
+        },
+        _ => Need::RuntimeWord,
+    }
 }
 
-/// The word with the address of a function, symbol 1.
-pub(crate) fn address<'a>(place: u64) -> Need<'a> {
-    Need::AddressWord {
-        symbol: symbol(1),
-        place,
+/// The name of a symbol that a loader looks up.
+fn name_of<'a>(symbol: &DynamicSymbol<'a>) -> &'a str {
+    match symbol {
+        DynamicSymbol::Image => "image",
+        DynamicSymbol::Imported(name) => str::from_utf8(name.as_bytes()).unwrap_or("?"),
+        DynamicSymbol::Runtime => "runtime",
     }
+}
+
+/// Adds a word: its number, and what a loader writes over it, if it does.
+fn push_word(text: &mut String, word: &Word) -> Result<(), AllocError> {
+    let number = word.number;
+    write!(text, "{number:x}")?;
+    if let Some(relocation) = &word.relocation {
+        let (kind, addend) = (relocation.kind, relocation.addend);
+        let name = name_of(&relocation.symbol);
+        write!(text, " {kind:?} {name} {addend:x}")?;
+    }
+    Ok(())
+}
+
+/// Adds an entry.
+pub(crate) fn push_entry(text: &mut String, entry: &Entry) -> Result<(), AllocError> {
+    match entry {
+        Entry::One(word) => push_word(text, word)?,
+        Entry::Two(first, second) => {
+            push_word(text, first)?;
+            text.push_str(", ")?;
+            push_word(text, second)?;
+        }
+    }
+    text.push_str("; ")
+}
+
+/// The needs of words, but for those that are only asked for, behind a `?`.
+fn needs_of(alloc: Global, words: &str) -> Result<Vec<Need<'_>>, AllocError> {
+    let mut needs = Vec::new(alloc);
+    for word in words.split(' ') {
+        if !word.starts_with('?') {
+            needs.push(need_of(word))?;
+        }
+    }
+    Ok(needs)
+}
+
+/// Adds where the entry of each need begins.
+fn push_starts<'a>(
+    text: &mut String,
+    table: &GotPlan<'a>,
+    words: &'a str,
+) -> Result<(), AllocError> {
+    for word in words.split(' ') {
+        match table.start(&need_of(word.trim_start_matches('?'))) {
+            Some(start) => write!(text, "{start:x} ")?,
+            None => text.push_str("- ")?,
+        }
+    }
+    Ok(())
+}
+
+/// Adds the size and the entries of a table.
+fn push_table(text: &mut String, table: &GotPlan) -> Result<(), AllocError> {
+    let size = table.size();
+    write!(text, "of {size:x}: ")?;
+    for number in 0..table.entry_count() {
+        if let Some(entry) = table.entry(number) {
+            push_entry(text, &entry)?;
+        }
+    }
+    Ok(())
+}
+
+/// The table of these needs: where the entry of each begins, the size, and the entries.
+pub(crate) fn planned(
+    alloc: Global,
+    kind: ImageKind,
+    block: u64,
+    words: &str,
+) -> Result<String, Fail> {
+    let needs = needs_of(alloc, words)?;
+    let table = plan(alloc, needs.as_slice(), kind, block)?;
+    let mut text = String::new(alloc);
+    push_starts(&mut text, &table, words)?;
+    push_table(&mut text, &table)?;
+    Ok(text)
 }

@@ -1,5 +1,6 @@
 //! Tests of what no clause says: whether the definitions say what the standard means. Places are worked out by hand.
 
+use crate::values::same;
 use elf_object::Object;
 use elf_records::section_header::{SHF_ALLOC, SHF_WRITE};
 use link_faults::{ImageKind, LinkFault};
@@ -7,7 +8,7 @@ use object_builder::{Section, object_of};
 use std::alloc::{AllocError, Global};
 use std::process::Abort;
 use std::test::Fail;
-use tls_layout::{Extent, Placement, TlsSize, place, static_offsets};
+use tls_layout::{Placement, TlsSize, place, static_offsets};
 
 /// Each line: the kind of the image; its sections, `/` between objects; after `=` the place of each, an address, `+`
 /// and an offset in the TLS segment, or `-`. Then the TLS segment: its size and alignment, and where its initial
@@ -144,20 +145,36 @@ fn kind_of(line: &str) -> Result<(ImageKind, &str), Fail> {
     }
 }
 
+/// The files of objects, with `/` between them.
+fn files_of(alloc: Global, objects: &str) -> Result<Vec<Vec<u8>>, Fail> {
+    let mut files = Vec::new(alloc);
+    for words in objects.split('/') {
+        files.push(file_of(alloc, words)?)?;
+    }
+    Ok(files)
+}
+
+/// The objects of files.
+fn objects_of<'a>(alloc: Global, files: &'a [Vec<u8>]) -> Result<Vec<Object<'a>>, Fail> {
+    let mut objects = Vec::new(alloc);
+    for file in files {
+        objects.push(Object::read(alloc, file)?)?;
+    }
+    Ok(objects)
+}
+
+/// What placing these sections answers.
+fn placed(alloc: Global, kind: ImageKind, sections: &str) -> Result<String, Fail> {
+    let files = files_of(alloc, sections)?;
+    let objects = objects_of(alloc, files.as_slice())?;
+    Ok(answer(alloc, objects.as_slice(), kind)?)
+}
+
 /// Compares the answer of one case.
-fn check(rt: &(impl Abort + AllocGlobal), line: &str) -> Result<(), Fail> {
+fn check(rt: &impl Abort, alloc: Global, line: &str) -> Result<(), Fail> {
     let (kind, rest) = kind_of(line)?;
     let (sections, want) = rest.split_once(" = ").ok_or("a case has places")?;
-    let mut files = Vec::new(rt.alloc());
-    for words in sections.split('/') {
-        files.push(file_of(rt.alloc(), words)?)?;
-    }
-    let mut objects = Vec::new(rt.alloc());
-    for file in &files {
-        objects.push(Object::read(rt.alloc(), file)?)?;
-    }
-    let found = answer(rt.alloc(), &objects, kind)?;
-    assert_eq!(rt; found.as_str(), want, "in {line}");
+    same(rt, placed(alloc, kind, sections)?.as_str(), want, line);
     Ok(())
 }
 
@@ -165,36 +182,50 @@ fn check(rt: &(impl Abort + AllocGlobal), line: &str) -> Result<(), Fail> {
 fn places_sections(rt: HostRuntime) -> Result<(), Fail> {
     for line in CASES.lines() {
         if !line.starts_with("//") {
-            check(&rt, line)?;
+            check(&rt, rt.alloc(), line)?;
         }
     }
     Ok(())
 }
 
-fn is_at(extent: Extent, start: u64, end: u64) -> bool {
-    extent.start == start && extent.end == end
+/// Where the parts of an image begin and end: code, constants, the initial image, and data.
+fn extents(placement: &Placement) -> [u64; 8] {
+    let (code, constants) = (placement.executable(), placement.read_only());
+    let (image, data) = (placement.tls_image(), placement.writable());
+    [
+        code.start,
+        code.end,
+        constants.start,
+        constants.end,
+        image.start,
+        image.end,
+        data.start,
+        data.end,
+    ]
 }
 
-/// Asks a placement for all that a case does not write.
-fn check_rest(rt: &(impl Abort + AllocGlobal), file: &[u8]) -> Result<(), Fail> {
-    let mut objects = Vec::new(rt.alloc());
-    objects.push(Object::read(rt.alloc(), file)?)?;
-    let placement = place(rt.alloc(), &objects, ImageKind::Exe)?;
-    assert!(rt; is_at(placement.executable(), 0x400000, 0x400009));
-    assert!(rt; is_at(placement.read_only(), 0x401000, 0x401002));
-    assert!(rt; is_at(placement.tls_image(), 0x402000, 0x402004));
-    assert!(rt; is_at(placement.writable(), 0x403000, 0x403008));
-    assert!(rt; placement.class(0, 0).is_none());
-    assert!(rt; placement.class(0, 1).is_some());
-    assert!(rt; placement.class(0, 6).is_none() && placement.class(1, 1).is_none());
-    assert!(rt; placement.address(0, 9).is_none() && placement.tls_offset(1, 3).is_none());
-    Ok(())
+/// Which sections have a class: of object 0 numbers 0, 1 and 6, and of object 1, which is none, number 1.
+fn classes(placement: &Placement) -> [bool; 4] {
+    [
+        placement.class(0, 0).is_some(),
+        placement.class(0, 1).is_some(),
+        placement.class(0, 6).is_some(),
+        placement.class(1, 1).is_some(),
+    ]
 }
 
 #[test]
 fn tells_the_rest(rt: HostRuntime) -> Result<(), Fail> {
-    let file = file_of(rt.alloc(), "x:9:16 r:2:1 t:4:4 w:5:8 z:3:1")?;
-    check_rest(&rt, &file)
+    let files = files_of(rt.alloc(), "x:9:16 r:2:1 t:4:4 w:5:8 z:3:1")?;
+    let objects = objects_of(rt.alloc(), files.as_slice())?;
+    let placement = place(rt.alloc(), objects.as_slice(), ImageKind::Exe)?;
+    let wanted = [
+        0x400000, 0x400009, 0x401000, 0x401002, 0x402000, 0x402004, 0x403000, 0x403008,
+    ];
+    assert!(rt; extents(&placement) == wanted);
+    assert!(rt; classes(&placement) == [false, true, false, false]);
+    assert!(rt; placement.address(0, 9).is_none() && placement.tls_offset(1, 3).is_none());
+    Ok(())
 }
 
 #[test]
@@ -215,6 +246,6 @@ fn offsets_of_startup_modules(rt: HostRuntime) -> Result<(), Fail> {
         },
     ];
     let offsets = static_offsets(rt.alloc(), &sizes)?;
-    assert_eq!(rt; offsets.as_slice(), [0x18, 0x60, 0x61].as_slice());
+    assert!(rt; offsets.as_slice() == [0x18, 0x60, 0x61].as_slice());
     Ok(())
 }

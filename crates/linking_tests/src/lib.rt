@@ -7,7 +7,6 @@
 
 #[cfg(test)]
 mod layouts;
-#[cfg(test)]
 mod limits;
 #[cfg(test)]
 mod values;

@@ -3,8 +3,6 @@
 use link_faults::EXE_BASE;
 use tls_layout::PAGE;
 
-#[test]
-fn limits_of_images(rt: HostRuntime) {
-    assert_eq!(rt; EXE_BASE, 0x40_0000);
-    assert_eq!(rt; PAGE, 4096);
-}
+const _: () = prove!(EXE_BASE == 0x40_0000);
+
+const _: () = prove!(PAGE == 4096);

@@ -5,23 +5,52 @@ ghost use Rattle.std.specs.Prelude.{◌+◌, ◌≤◌, length};
 ghost use Rattle.elf_object.specs.Relocations.{field_width};
 
 use elf_object::RelocationKind;
-use elf_records::relocation::{
-    R_X86_64_32, R_X86_64_32S, R_X86_64_64, R_X86_64_DTPOFF32, R_X86_64_GOTPC32_TLSDESC,
-    R_X86_64_GOTPCREL, R_X86_64_GOTPCRELX, R_X86_64_GOTTPOFF, R_X86_64_NONE, R_X86_64_PC32,
-    R_X86_64_PLT32, R_X86_64_REX_GOTPCRELX, R_X86_64_TLSDESC_CALL, R_X86_64_TLSGD, R_X86_64_TLSLD,
-    R_X86_64_TPOFF32,
-};
+use std::alloc::{AllocError, Global};
 use std::process::Abort;
+use std::test::Fail;
 use tls_relocs::{Field, Overflow, apply, value};
 
-const LOWEST: Option<Result<Field, Overflow>> = Some(Ok(Field::Word32(0x8000_0000)));
+/// Each line: types, with commas between them, and the letters S, A, P and G (A in decimal, the others in hexadecimal);
+/// then what is stored.
+const VALUES: &str = "\
+// S + A - P: PC32 and PLT32
+2,4 80000003 -4 0 4d = Some(Ok(Word32(2147483647)))
+2,4 80000004 -4 0 4d = Some(Err(Overflow))
+2,4 0 -4 7ffffffc 4d = Some(Ok(Word32(2147483648)))
+2,4 0 -4 7ffffffd 4d = Some(Err(Overflow))
+// G + A - P: GOTPCREL, TLSGD, TLSLD, GOTTPOFF, GOTPC32_TLSDESC, GOTPCRELX and REX_GOTPCRELX
+9,19,20,22,34,41,42 4d -4 0 80000003 = Some(Ok(Word32(2147483647)))
+9,19,20,22,34,41,42 4d -4 0 80000004 = Some(Err(Overflow))
+9,19,20,22,34,41,42 4d -4 7ffffffc 0 = Some(Ok(Word32(2147483648)))
+9,19,20,22,34,41,42 4d -4 7ffffffd 0 = Some(Err(Overflow))
+// O + A - b: DTPOFF32 and TPOFF32
+21,23 8 2147483647 4d 8 = Some(Ok(Word32(2147483647)))
+21,23 9 2147483647 4d 8 = Some(Err(Overflow))
+21,23 8 0 4d 80000008 = Some(Ok(Word32(2147483648)))
+21,23 8 0 4d 80000009 = Some(Err(Overflow))
+// S + A, signed: 32S
+11 400000 2143289343 4d 4d = Some(Ok(Word32(2147483647)))
+11 400000 2143289344 4d 4d = Some(Err(Overflow))
+11 1 -2147483649 4d 4d = Some(Ok(Word32(2147483648)))
+11 0 -2147483649 4d 4d = Some(Err(Overflow))
+// S + A, unsigned: 32
+10 fffffffe 1 4d 4d = Some(Ok(Word32(4294967295)))
+10 ffffffff 1 4d 4d = Some(Err(Overflow))
+10 1 -1 4d 4d = Some(Ok(Word32(0)))
+10 0 -1 4d 4d = Some(Err(Overflow))
+// S + A modulo 2^64: 64
+1 0 -1 4d 4d = Some(Ok(Word64(18446744073709551615)))
+1 ffffffffffffffff 2 4d 4d = Some(Ok(Word64(1)))
+// nothing: NONE and TLSDESC_CALL
+0,35 ffffffffffffffff 77 4d 4d = Some(Ok(Empty))
+// no type has this number
+3 4d 77 4d 4d = None
+";
 
-const HIGHEST: Option<Result<Field, Overflow>> = Some(Ok(Field::Word32(0x7fff_ffff)));
-
-const BEYOND: Option<Result<Field, Overflow>> = Some(Err(Overflow));
-
-/// The letters S, A, P and G, and what is stored.
-type Case = (u64, i64, u64, u64, Option<Result<Field, Overflow>>);
+/// A hexadecimal number, or 0 where a word is none.
+fn number(word: Option<&str>) -> u64 {
+    u64::from_str_radix(word.unwrap_or(""), 16).unwrap_or(0)
+}
 
 /// What a relocation of a type's number stores, if the number is a type.
 fn numbered(number: u32, s: u64, a: i64, p: u64, g: u64) -> Option<Result<Field, Overflow>> {
@@ -29,101 +58,39 @@ fn numbered(number: u32, s: u64, a: i64, p: u64, g: u64) -> Option<Result<Field,
     Some(value(kind, s, a, p, g))
 }
 
-/// Compares what relocations of a type store.
-fn check(rt: &impl Abort, number: u32, cases: &[Case]) {
-    for (s, a, p, g, stored) in cases {
-        assert_eq!(rt; numbered(number, *s, *a, *p, *g), *stored, "type {number}");
+/// What a relocation of a type stores of a line's letters.
+fn stored(alloc: Global, kind: &str, letters: &str) -> Result<String, AllocError> {
+    let mut words = letters.split(' ');
+    let s = number(words.next());
+    let a = words.next().unwrap_or("").parse().unwrap_or(0);
+    let p = number(words.next());
+    let stored = numbered(kind.parse().unwrap_or(0), s, a, p, number(words.next()));
+    format!(in alloc; "{stored:?}")
+}
+
+/// Compares what a test finds with what it wants.
+pub(crate) fn same(rt: &impl Abort, found: &str, want: &str, at: &str) {
+    assert!(rt; found == want, "{found}: {at}");
+}
+
+/// Compares what relocations of the types of a line store.
+fn check(rt: &impl Abort, alloc: Global, line: &str) -> Result<(), Fail> {
+    let (row, want) = line.split_once(" = ").ok_or("what is stored")?;
+    let (kinds, letters) = row.split_once(' ').ok_or("letters")?;
+    for kind in kinds.split(',') {
+        same(rt, stored(alloc, kind, letters)?.as_str(), want, line);
     }
+    Ok(())
 }
 
 #[test]
-fn distances_of_symbols(rt: HostRuntime) {
-    // S + A - P
-    let cases = [
-        (0x8000_0003, -4, 0, 77, HIGHEST),
-        (0x8000_0004, -4, 0, 77, BEYOND),
-        (0, -4, 0x7fff_fffc, 77, LOWEST),
-        (0, -4, 0x7fff_fffd, 77, BEYOND),
-    ];
-    for number in [R_X86_64_PC32, R_X86_64_PLT32] {
-        check(&rt, number, &cases);
+fn values_of_relocations(rt: HostRuntime) -> Result<(), Fail> {
+    for line in VALUES.lines() {
+        if !line.starts_with("//") {
+            check(&rt, rt.alloc(), line)?;
+        }
     }
-}
-
-#[test]
-fn distances_of_entries(rt: HostRuntime) {
-    // G + A - P
-    let cases = [
-        (77, -4, 0, 0x8000_0003, HIGHEST),
-        (77, -4, 0, 0x8000_0004, BEYOND),
-        (77, -4, 0x7fff_fffc, 0, LOWEST),
-        (77, -4, 0x7fff_fffd, 0, BEYOND),
-    ];
-    for number in [
-        R_X86_64_GOTPCREL,
-        R_X86_64_TLSGD,
-        R_X86_64_TLSLD,
-        R_X86_64_GOTTPOFF,
-        R_X86_64_GOTPC32_TLSDESC,
-        R_X86_64_GOTPCRELX,
-        R_X86_64_REX_GOTPCRELX,
-    ] {
-        check(&rt, number, &cases);
-    }
-}
-
-#[test]
-fn offsets(rt: HostRuntime) {
-    // O + A - b
-    let cases = [
-        (8, 0x7fff_ffff, 77, 8, HIGHEST),
-        (9, 0x7fff_ffff, 77, 8, BEYOND),
-        (8, 0, 77, 0x8000_0008, LOWEST),
-        (8, 0, 77, 0x8000_0009, BEYOND),
-    ];
-    for number in [R_X86_64_DTPOFF32, R_X86_64_TPOFF32] {
-        check(&rt, number, &cases);
-    }
-}
-
-#[test]
-fn addresses_of_four_bytes(rt: HostRuntime) {
-    // S + A, signed and unsigned
-    let signed = [
-        (0x40_0000, 0x7fbf_ffff, 77, 77, HIGHEST),
-        (0x40_0000, 0x7fc0_0000, 77, 77, BEYOND),
-        (1, -0x8000_0001, 77, 77, LOWEST),
-        (0, -0x8000_0001, 77, 77, BEYOND),
-    ];
-    let zero = Some(Ok(Field::Word32(0)));
-    let top = Some(Ok(Field::Word32(0xffff_ffff)));
-    let unsigned = [
-        (0xffff_fffe, 1, 77, 77, top),
-        (0xffff_ffff, 1, 77, 77, BEYOND),
-        (1, -1, 77, 77, zero),
-        (0, -1, 77, 77, BEYOND),
-    ];
-    check(&rt, R_X86_64_32S, &signed);
-    check(&rt, R_X86_64_32, &unsigned);
-}
-
-#[test]
-fn addresses_of_eight_bytes(rt: HostRuntime) {
-    // S + A modulo 2^64
-    let cases = [
-        (0, -1, 77, 77, Some(Ok(Field::Word64(u64::MAX)))),
-        (u64::MAX, 2, 77, 77, Some(Ok(Field::Word64(1)))),
-    ];
-    check(&rt, R_X86_64_64, &cases);
-}
-
-#[test]
-fn nothing(rt: HostRuntime) {
-    let cases = [(u64::MAX, 77, 77, 77, Some(Ok(Field::Empty)))];
-    check(&rt, R_X86_64_NONE, &cases);
-    check(&rt, R_X86_64_TLSDESC_CALL, &cases);
-    // no type has this number
-    check(&rt, 3, &[(77, 77, 77, 77, None)]);
+    Ok(())
 }
 
 /// Fills a field of code, if the value fits.
@@ -140,12 +107,12 @@ fn a_local_variable(rt: HostRuntime) {
     // mov %fs:x@tpoff, %eax, where x is the whole block of 4 bytes: 0 + 0 - 4
     let mut load = *b"\x64\x8b\x04\x25\0\0\0\0\xc3";
     fill(&mut load, 4, RelocationKind::TpOff32, 0, 0, 0x40_0004, 4);
-    assert_eq!(rt; load, *b"\x64\x8b\x04\x25\xfc\xff\xff\xff\xc3");
+    assert!(rt; load == *b"\x64\x8b\x04\x25\xfc\xff\xff\xff\xc3");
 
     // lea x@tpoff(%rax), %rax, x at 8 of a block of 0x14 bytes that begins 0x18 below the pointer: 8 - 0x18
     let mut lea = *b"\x48\x8d\x80\0\0\0\0";
     fill(&mut lea, 3, RelocationKind::TpOff32, 8, 0, 0x40_000c, 0x18);
-    assert_eq!(rt; lea, *b"\x48\x8d\x80\xf0\xff\xff\xff");
+    assert!(rt; lea == *b"\x48\x8d\x80\xf0\xff\xff\xff");
 }
 
 /// lea x@dtpoff(%rax), %rcx; movl $7, y@dtpoff(%rax), x at 8 and y at 16, from a base so far behind the block's start.
@@ -160,13 +127,9 @@ fn by_offset(base: u64) -> [u8; 17] {
 #[test]
 fn variables_of_a_module(rt: HostRuntime) {
     // from the block's start, and from the thread pointer
-    assert_eq!(rt;
-        by_offset(0),
-        *b"\x48\x8d\x88\x08\0\0\0\xc7\x80\x10\0\0\0\x07\0\0\0"
-    );
-    assert_eq!(rt;
-        by_offset(0x18),
-        *b"\x48\x8d\x88\xf0\xff\xff\xff\xc7\x80\xf8\xff\xff\xff\x07\0\0\0"
+    assert!(rt; by_offset(0) == *b"\x48\x8d\x88\x08\0\0\0\xc7\x80\x10\0\0\0\x07\0\0\0");
+    assert!(rt;
+        by_offset(0x18) == *b"\x48\x8d\x88\xf0\xff\xff\xff\xc7\x80\xf8\xff\xff\xff\x07\0\0\0"
     );
 }
 
@@ -178,17 +141,13 @@ fn a_call_of_the_run_time(rt: HostRuntime) {
     let mut code = *b"\x66\x48\x8d\x3d\0\0\0\0\x66\x66\x48\xe8\0\0\0\0\xc3";
     fill(&mut code, 4, general, 0, -4, 0x40_0004, 0x40_2000);
     fill(&mut code, 12, call, 0x40_3000, -4, 0x40_000c, 0);
-    assert_eq!(rt;
-        code,
-        *b"\x66\x48\x8d\x3d\xf8\x1f\0\0\x66\x66\x48\xe8\xf0\x2f\0\0\xc3"
-    );
+    assert!(rt; code == *b"\x66\x48\x8d\x3d\xf8\x1f\0\0\x66\x66\x48\xe8\xf0\x2f\0\0\xc3");
 }
 
 #[test]
 fn a_field_tells_its_number(rt: HostRuntime) {
     if let Ok(field) = value(RelocationKind::Pc32, 0x40_3000, -4, 0x40_000c, 0) {
-        assert_eq!(rt; field.width(), 4);
-        assert_eq!(rt; field.word(), 0x2ff0);
+        assert!(rt; field.width() == 4 && field.word() == 0x2ff0);
     }
 }
 
@@ -198,7 +157,7 @@ fn a_field_fills_its_own_bytes(rt: HostRuntime) {
     let (empty, address) = (RelocationKind::TlsDescCall, RelocationKind::Absolute64);
     let mut words = *b"\x01\x02\x03\x04\x05\x06\x07\x08\x09";
     fill(&mut words, 9, empty, 1, 1, 1, 1);
-    assert_eq!(rt; words, *b"\x01\x02\x03\x04\x05\x06\x07\x08\x09");
+    assert!(rt; words == *b"\x01\x02\x03\x04\x05\x06\x07\x08\x09");
     fill(&mut words, 1, address, 0x1_0000_0000, -2, 0, 0);
-    assert_eq!(rt; words, *b"\x01\xfe\xff\xff\xff\0\0\0\0");
+    assert!(rt; words == *b"\x01\xfe\xff\xff\xff\0\0\0\0");
 }

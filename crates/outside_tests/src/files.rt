@@ -2,7 +2,7 @@
 use crate::disk::{Fault, FaultyDisk};
 use crate::memory::fetched;
 use ports::{FetchFault, HostStore, PutFault, Store};
-use std::alloc::Global;
+use std::alloc::{AllocError, Global};
 use std::io::{Error, ErrorKind};
 use std::os::unix::fs::symlink;
 use std::rt::Files;
@@ -30,35 +30,46 @@ fn read_back<R: Files>(rt: &R, alloc: Global, name: &str) -> io::Result<Vec<u8>>
     }
 }
 
-/// Puts a file twice, and then through a link, beside a file that a put has left over, and says what it then holds and
-/// how many faults there were, with those of three calls that fail.
-fn keeps_files<R: Files>(rt: &R, alloc: Global, folder: &str) -> io::Result<(Vec<u8>, u64)> {
-    let name = format!(in alloc; "{folder}/file")?;
-    let link = format!(in alloc; "{folder}/link")?;
-    let missing = format!(in alloc; "{folder}/none")?;
-    fs::write(rt, format!(in alloc; "{folder}/file.part0")?, "left over")?;
-    symlink(rt, name.as_str(), link.as_str())?;
-    let mut store = HostStore::new(rt, alloc);
-    let _ = store.put(name.as_str(), b"an old and longer text");
-    let _ = store.put(name.as_str(), b"a text");
-    let _ = store.put(link.as_str(), b"by the link");
+/// The path of a file in a folder.
+fn path(alloc: Global, folder: &str, name: &str) -> Result<String, AllocError> {
+    format!(in alloc; "{folder}/{name}")
+}
+
+/// Lays a file that a put has left over, and a link to a file.
+fn lay<R: Files>(rt: &R, alloc: Global, folder: &str, file: &str) -> io::Result<()> {
+    fs::write(rt, path(alloc, folder, "file.part0")?.as_str(), "left over")?;
+    symlink(rt, file, path(alloc, folder, "link")?.as_str())
+}
+
+/// Puts a file twice, and then through the link to it, and makes three calls that fail.
+fn put_all<S: Store>(store: &mut S, alloc: Global, folder: &str, file: &str) -> io::Result<()> {
+    let _ = store.put(file, b"an old and longer text");
+    let _ = store.put(file, b"a text");
+    let _ = store.put(path(alloc, folder, "link")?.as_str(), b"by the link");
     let _ = store.put(folder, b"x");
-    let _ = fetched(alloc, &mut store, folder);
-    let _ = fetched(alloc, &mut store, missing.as_str());
-    Ok((read_back(rt, alloc, name.as_str())?, store.faults()))
+    let _ = fetched(alloc, store, folder);
+    let _ = fetched(alloc, store, path(alloc, folder, "none")?.as_str());
+    Ok(())
+}
+
+/// What a file then holds, and how many faults there were.
+fn keeps_files<R: Files>(rt: &R, alloc: Global, folder: &str) -> io::Result<(Vec<u8>, u64)> {
+    let file = path(alloc, folder, "file")?;
+    lay(rt, alloc, folder, file.as_str())?;
+    let mut store = HostStore::new(rt, alloc);
+    put_all(&mut store, alloc, folder, file.as_str())?;
+    Ok((read_back(rt, alloc, file.as_str())?, store.faults()))
 }
 
 #[test]
 fn a_host_store_keeps_files(rt: HostRuntime) -> Result<(), Fail> {
-    let alloc = rt.alloc();
     let temp = env::temp_dir(&rt)?;
     let id = process::id(rt.process());
-    let folder = new_folder(&rt, alloc, temp.as_path().as_str(), id, "keeps-files")?;
-    let kept = keeps_files(&rt, alloc, folder.as_str());
+    let folder = new_folder(&rt, rt.alloc(), temp.as_path().as_str(), id, "keeps-files")?;
+    let kept = keeps_files(&rt, rt.alloc(), folder.as_str());
     fs::remove_dir_all(&rt, folder.as_str())?;
     let (text, faults) = kept?;
-    assert_eq!(rt; text.as_slice(), b">by the link".as_slice());
-    assert_eq!(rt; faults, 3);
+    assert!(rt; text.as_slice() == b">by the link".as_slice() && faults == 3);
     Ok(())
 }
 
@@ -87,40 +98,39 @@ fn a_host_store_fetches_up_to_2_to_28_bytes(rt: HostRuntime) {
         (5_000, Some(ErrorKind::Other), Err(FetchFault::Failed)),
     ] {
         let fetched = fetched_length(&rt, rt.alloc(), Fault::Length(length, error));
-        assert_eq!(rt; fetched, answer, "{length} bytes");
+        assert!(rt; fetched == answer, "{length} bytes");
     }
 }
 
-/// Puts over an old file, on disks that fail in each way, and says what then stands there. The folder can only be
-/// removed where no other file is left.
-fn survives_failing_puts<R: Files>(
-    rt: &R,
-    alloc: Global,
-    folder: &str,
-) -> io::Result<(Vec<u8>, bool)> {
-    let name = format!(in alloc; "{folder}/file")?;
-    fs::write(rt, name.as_str(), "old")?;
-    let mut all_failed = true;
+/// Puts over an old file, on a disk that fails in one way, and says whether the put failed.
+fn put_fails<R: Files>(rt: &R, alloc: Global, file: &str, fault: Fault) -> bool {
+    let disk = FaultyDisk { disk: rt, fault };
+    let mut store = HostStore::new(&disk, alloc);
+    store.put(file, b"a text") == Err(PutFault::Failed) && store.faults() == 1
+}
+
+/// Puts over an old file, on disks that fail in each way, and says what then stands there, if each put failed. The
+/// folder can only be removed where no other file is left.
+fn survives_failing_puts<R: Files>(rt: &R, alloc: Global, folder: &str) -> io::Result<Vec<u8>> {
+    let file = path(alloc, folder, "file")?;
+    fs::write(rt, file.as_str(), "old")?;
     for fault in [Fault::Write, Fault::Sync, Fault::Rename] {
-        let disk = FaultyDisk { disk: rt, fault };
-        let mut store = HostStore::new(&disk, alloc);
-        let answer = store.put(name.as_str(), b"a text");
-        all_failed = all_failed && answer == Err(PutFault::Failed) && store.faults() == 1;
+        if !put_fails(rt, alloc, file.as_str(), fault) {
+            return Err(Error::from(ErrorKind::Other));
+        }
     }
-    let text = read_back(rt, alloc, name.as_str())?;
-    fs::remove_file(rt, name.as_str())?;
+    let text = read_back(rt, alloc, file.as_str())?;
+    fs::remove_file(rt, file.as_str())?;
     fs::remove_dir(rt, folder)?;
-    Ok((text, all_failed))
+    Ok(text)
 }
 
 #[test]
 fn a_put_that_fails_leaves_the_old_file_alone(rt: HostRuntime) -> Result<(), Fail> {
-    let alloc = rt.alloc();
     let temp = env::temp_dir(&rt)?;
     let id = process::id(rt.process());
-    let folder = new_folder(&rt, alloc, temp.as_path().as_str(), id, "failing-puts")?;
-    let (text, all_failed) = survives_failing_puts(&rt, alloc, folder.as_str())?;
-    assert!(rt; all_failed);
-    assert_eq!(rt; text.as_slice(), b">old".as_slice());
+    let folder = new_folder(&rt, rt.alloc(), temp.as_path().as_str(), id, "failing-puts")?;
+    let text = survives_failing_puts(&rt, rt.alloc(), folder.as_str())?;
+    assert!(rt; text.as_slice() == b">old".as_slice());
     Ok(())
 }

@@ -29,15 +29,12 @@ fn puts(store: &mut MemoryStore) -> [Result<(), PutFault>; 4] {
 fn a_memory_store_fails_where_it_is_told_to(rt: HostRuntime) -> Result<(), Fail> {
     let mut store = MemoryStore::new(rt.alloc());
     store.add("a", b"two")?;
-    assert_eq!(rt;
-        puts(&mut store),
-        [Ok(()), Ok(()), Err(PutFault::Failed), Ok(())]
-    );
+    assert!(rt; puts(&mut store) == [Ok(()), Ok(()), Err(PutFault::Failed), Ok(())]);
     for (name, text) in [("a", b">two".as_slice()), ("b", b">!!"), ("c", b">")] {
         let file = fetched(rt.alloc(), &mut store, name)?;
-        assert_eq!(rt; file.as_slice(), text);
+        assert!(rt; file.as_slice() == text, "{name}");
     }
     assert!(rt; fetched(rt.alloc(), &mut store, "d").is_err());
-    assert_eq!(rt; store.faults(), 2);
+    assert!(rt; store.faults() == 2);
     Ok(())
 }

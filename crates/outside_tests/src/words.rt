@@ -1,85 +1,80 @@
 //! The words of each kind that users write, and what they ask for.
 use command_line::{Task, WordsFault, read_words};
-use std::alloc::Global;
+use std::alloc::{AllocError, Global};
+use std::process::Abort;
 use std::test::Fail;
 
-/// A command, the file that it is about, and whether it has `--no-relax`.
-type Wanted<'a> = Option<(&'a str, &'a str, bool)>;
+/// Each line: what is asked for, and each word behind a `|`.
+const CASES: &str = "\
+run job false|run|job
+run job true|run|job|--no-relax
+run job true|run|--no-relax|job
+run - false|run|-
+run  false|run|
+run a=b c false|run|a=b c
+run job false|run|--|job
+run --no-relax false|run|--|--no-relax
+run -- false|run|--|--
+run -x true|run|--no-relax|--|-x
+run run false|run|run
+show image|show|image
+show -|show|-
+usage
+usage|
+usage|-
+usage|--
+usage|job
+usage|run
+usage|ru|job
+usage|Run|job
+usage|run|job|more
+usage|run|--no-relax
+usage|run|--no-relax|--no-relax|job
+usage|run|job|--|--no-relax
+usage|run|job|--no-rel
+usage|run|job|--no-relax=true
+usage|run|job|-n
+usage|--|run|job
+usage|--no-relax|run|job
+usage|help
+usage|help|run
+usage|--help
+usage|run|job|--help
+usage|-h
+usage|show
+usage|show|image|more
+";
 
-/// What the words ask for, or nothing where they are usage.
-fn reads_as(alloc: Global, line: &[&str], wanted: Wanted<'_>) -> Result<bool, Fail> {
-    let mut words = Vec::new(alloc);
-    for word in line {
-        words.push(String::from_str(alloc, word)?)?;
-    }
-    match read_words(alloc, words.as_slice()) {
-        Ok(Task::Run { job, no_relax }) => Ok(wanted == Some(("run", job.as_str(), no_relax))),
-        Ok(Task::Show { file }) => Ok(wanted == Some(("show", file.as_str(), false))),
-        Err(WordsFault::Usage) => Ok(wanted.is_none()),
-        Err(WordsFault::OutOfMemory) => Err(Fail::new("out of memory")),
+/// What is asked for, as a case writes it.
+fn told(alloc: Global, task: Result<Task, WordsFault>) -> Result<String, AllocError> {
+    match task {
+        Ok(Task::Run { job, no_relax }) => format!(in alloc; "run {} {no_relax}", job.as_str()),
+        Ok(Task::Show { file }) => format!(in alloc; "show {}", file.as_str()),
+        Err(fault) => format!(in alloc; "{fault}"),
     }
 }
 
-#[test]
-fn words_that_are_a_command(rt: HostRuntime) -> Result<(), Fail> {
-    let lines: [(&[&str], Wanted<'_>); 13] = [
-        (&["run", "job"], Some(("run", "job", false))),
-        (&["run", "job", "--no-relax"], Some(("run", "job", true))),
-        (&["run", "--no-relax", "job"], Some(("run", "job", true))),
-        (&["run", "-"], Some(("run", "-", false))),
-        (&["run", ""], Some(("run", "", false))),
-        (&["run", "a=b c"], Some(("run", "a=b c", false))),
-        (&["run", "--", "job"], Some(("run", "job", false))),
-        (
-            &["run", "--", "--no-relax"],
-            Some(("run", "--no-relax", false)),
-        ),
-        (&["run", "--", "--"], Some(("run", "--", false))),
-        (
-            &["run", "--no-relax", "--", "-x"],
-            Some(("run", "-x", true)),
-        ),
-        (&["run", "run"], Some(("run", "run", false))),
-        (&["show", "app"], Some(("show", "app", false))),
-        (&["show", "--", "-x"], Some(("show", "-x", false))),
-    ];
-    for (line, wanted) in lines {
-        assert!(rt; reads_as(rt.alloc(), line, wanted)?, "{line:?}");
+/// The words of a case.
+fn words_of(alloc: Global, line: &str) -> Result<Vec<String>, AllocError> {
+    let mut words = Vec::new(alloc);
+    for word in line.split('|').skip(1) {
+        words.push(String::from_str(alloc, word)?)?;
     }
+    Ok(words)
+}
+
+/// Compares what one line asks for.
+fn check(rt: &impl Abort, alloc: Global, line: &str) -> Result<(), AllocError> {
+    let words = words_of(alloc, line)?;
+    let found = told(alloc, read_words(alloc, words.as_slice()))?;
+    assert!(rt; Some(found.as_str()) == line.split('|').next(), "{line}");
     Ok(())
 }
 
 #[test]
-fn words_that_are_usage(rt: HostRuntime) -> Result<(), Fail> {
-    let lines: [&[&str]; 25] = [
-        &[],
-        &[""],
-        &["-"],
-        &["--"],
-        &["job"],
-        &["run"],
-        &["ru", "job"],
-        &["Run", "job"],
-        &["run", "job", "more"],
-        &["run", "--no-relax"],
-        &["run", "--no-relax", "--no-relax", "job"],
-        &["run", "job", "--", "--no-relax"],
-        &["run", "job", "--no-rel"],
-        &["run", "job", "--no-relax=true"],
-        &["run", "job", "-n"],
-        &["--", "run", "job"],
-        &["--no-relax", "run", "job"],
-        &["help"],
-        &["help", "run"],
-        &["--help"],
-        &["run", "job", "--help"],
-        &["-h"],
-        &["show"],
-        &["show", "app", "more"],
-        &["show", "app", "--no-relax"],
-    ];
-    for line in lines {
-        assert!(rt; reads_as(rt.alloc(), line, None)?, "{line:?}");
+fn words_ask_for_tasks(rt: HostRuntime) -> Result<(), Fail> {
+    for line in CASES.lines() {
+        check(&rt, rt.alloc(), line)?;
     }
     Ok(())
 }

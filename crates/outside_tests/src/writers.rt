@@ -53,8 +53,8 @@ fn a_host_sink_writes_all_or_fails(rt: HostRuntime) {
             at_flush,
             was_interrupted: false,
         });
-        assert_eq!(rt; sink.put(b""), Ok(()));
-        assert_eq!(rt; sink.put(b"a piece"), answer, "at room {room}");
-        assert_eq!(rt; (sink.faults(), sink.shortages()), counts);
+        assert!(rt; sink.put(b"") == Ok(()));
+        assert!(rt; sink.put(b"a piece") == answer, "at room {room}");
+        assert!(rt; (sink.faults(), sink.shortages()) == counts);
     }
 }
