@@ -40,7 +40,7 @@ fn change_one(generator: &mut Generator, bytes: &mut [u8], tables: usize) {
 }
 
 /// Changes one to three bytes.
-pub fn change(generator: &mut Generator, bytes: &mut [u8], tables: usize) {
+pub(crate) fn change(generator: &mut Generator, bytes: &mut [u8], tables: usize) {
     let count = 1 + generator.below(3);
     for _ in 0..count {
         change_one(generator, bytes, tables);

@@ -15,12 +15,12 @@ pub struct Generator {
 
 impl Generator {
     /// The start of the sequence.
-    pub fn new() -> Generator {
+    pub(crate) fn new() -> Generator {
         Generator { state: 1 }
     }
 
     /// The next number below an end. The low bits of the state repeat soon, so the high ones are taken.
-    pub fn below(&mut self, end: u64) -> u64
+    pub(crate) fn below(&mut self, end: u64) -> u64
         requires { 0 < end }
         ensures { result < end }
     {

@@ -38,7 +38,7 @@ fn take_all(image: &Image) -> Result<()> {
 }
 
 /// How reading ends. Any other end is an error.
-pub fn outcome_of(alloc: Global, bytes: &[u8]) -> Result<Outcome> {
+pub(crate) fn outcome_of(alloc: Global, bytes: &[u8]) -> Result<Outcome> {
     match read(alloc, bytes) {
         Ok(image) => {
             take_all(&image)?;

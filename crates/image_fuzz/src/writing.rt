@@ -40,7 +40,7 @@ fn written(alloc: Global, image: &Image) -> Result<Option<Vec<u8>>> {
 }
 
 /// Checks that the writer makes these bytes of an image.
-pub fn check_written(alloc: Global, image: &Image, bytes: &[u8]) -> Result<()> {
+pub(crate) fn check_written(alloc: Global, image: &Image, bytes: &[u8]) -> Result<()> {
     let made = written(alloc, image)?;
     let is_same = made.is_some_and(|made| made.as_slice() == bytes);
     ensure!(is_same, "the writer makes other bytes");
@@ -48,7 +48,7 @@ pub fn check_written(alloc: Global, image: &Image, bytes: &[u8]) -> Result<()> {
 }
 
 /// Checks that what the writer makes of an image, if it may, is read, and written as the same bytes.
-pub fn check_again(alloc: Global, image: &Image) -> Result<()> {
+pub(crate) fn check_again(alloc: Global, image: &Image) -> Result<()> {
     match written(alloc, image)? {
         None => Ok(()),
         Some(bytes) => {
