@@ -2,6 +2,7 @@ pub mod Agreement
 pub mod Counted
 pub mod Decided
 pub mod Filing
+pub mod Finishing
 pub mod Hashes
 pub mod Headed
 pub mod HeaderBytes

@@ -64,7 +64,7 @@ tables_right c loadable =
     loadable.parts (length c.parts) (omega (arith, count))
 
 -- no image begins above 4 MiB
-base_low : (kind : FileKind) → base_of kind ≤ 4194304
+pub base_low : (kind : FileKind) → base_of kind ≤ 4194304
 base_low Exe = omega arith
 base_low Pie = omega arith
 base_low Module = omega arith
