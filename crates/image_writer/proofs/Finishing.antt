@@ -2,7 +2,7 @@
 use Rattle.std.proofs.Common.{ℕ, zero, suc, ◌+◌, ◌-◌, ◌*◌, ◌^◌, ◌%◌, ◌<◌, ◌≤◌, ◌≡◌, All, Some, None, Option, List, [], ◌∷◌, ◌++◌, length, map, take, drop, get_or, replicate, refl, subst, sym, ap, ◌∙◌, arith, add-one, length-append}
 use Rattle.std.specs.Int.{next_multiple_of}
 use Rattle.std.specs.List.{slice_get}
-use Rattle.std.proofs.lemmas.List.{get_or_append_left, get_or_default, get_or-map, get_or_push, length-drop, length-map, length_push, length-take-le, map-append, take_at}
+use Rattle.std.proofs.lemmas.List.{get_or_append_left, get_or_default, get_or-map, get_or_push, length-map, length_push, length-replicate, map-append, take_at}
 use Rattle.elf_records.specs.Fields.{part_at, splice}
 use Rattle.elf_records.specs.Laws.{part_at-append, part_at-splice, part_at-splice_before, part_at-splice_after, length-splice}
 use Rattle.image_faults.specs.declared.places.FileKind.{FileKind}
@@ -17,7 +17,7 @@ use Rattle.image_writer.specs.declared.outline.PartPlace.{PartPlace}
 use Rattle.image_writer.specs.Contents.{Contents, contents_of, null_symbol, part_in, parts_end, symbol, tables_address}
 use Rattle.image_writer.specs.Files.{IsFileOf}
 use Rattle.image_writer.specs.Linkable.{IsLinkable}
-use Rattle.image_writer.specs.Loadable.{IsLoadable, IsRightPart, one_if_some}
+use Rattle.image_writer.specs.Loadable.{HoldsTls, IsLoadable, IsRightPart}
 use Rattle.image_writer.specs.Outlined.{Outlined, end_of, no_part, outline_of, part, place_of}
 use Rattle.image_writer.specs.Page.{base_of, file_offset, page}
 use Rattle.image_writer.specs.Tables.{array_size, finished, symbol_total, tables, tables_part}
@@ -274,3 +274,66 @@ length-made d file Z at inside linkable bounds at-is room =
     let inner : length (splice at T (file ++ Z)) ≡ length (file ++ Z) = length-splice at T (file ++ Z) (omega arith) in
     let above : 4096 ≤ at = omega (arith, bounds.above, at-is) in
     length-splice 0 (page (outline_told d)) (splice at T (file ++ Z)) (omega arith) ∙ inner
+
+-- numbers that fit, of what is made
+pub record IsSmall (d : Draft) (l : Layout) (file : List ℕ) : Type 0 where
+  pub size : l.strings_start + l.strings_size ≡ tables_size (told d)
+  pub bounds : IsBounded d file
+
+pub small : (d : Draft) (l : Layout) (file : List ℕ) → AreInside d file → IsLinkable (contents_of d file)
+    → length file ≡ file_offset d.kind (parts_end d.kind (contents_of d file).parts) → l ≡ layout_of (told d) → IsSmall d l file
+small d l file inside linkable ends laid = record {
+  size = (layout_facts d l laid).size_is;
+  bounds = bounded d file inside linkable ends;
+}
+
+-- the outline that code holds can be loaded
+pub loadable_held : (d : Draft) (file : List ℕ) (o : Outlined) → AreInside d file → IsLinkable (contents_of d file)
+    → o ≡ outline_told d → IsLoadable o
+loadable_held d file o inside linkable is = subst IsLoadable (sym is) (loadable_told d file inside linkable)
+
+pub tls_held : (d : Draft) (file : List ℕ) (o : Outlined) → AreInside d file → IsLinkable (contents_of d file)
+    → o ≡ outline_told d → HoldsTls o
+tls_held d file o inside linkable is = subst HoldsTls (outline-is d file inside ∙ sym is) linkable.holds_tls
+
+-- the file has room for the tables, once it was made longer by zeros
+pub room_made : (d : Draft) (l : Layout) (file grown lent : List ℕ) (address at size long : ℕ) → IsSmall d l file
+    → address ≡ next_page d → at ≡ file_offset d.kind address → size ≡ l.strings_start + l.strings_size → long ≡ length file
+    → grown ≡ file ++ replicate (at + size - long) 0 → lent ≡ grown
+    → (at ≡ next_page d + 4096 - base_of d.kind) × (4096 ≤ length lent) × (length (file ++ replicate (at + size - long) 0) ≡ at + tables_size (told d))
+room_made d l file grown lent address at size long small address-is at-is size-is long-is grew same =
+    let bounds = small.bounds in
+    let place : at ≡ next_page d + 4096 - base_of d.kind = at-is ∙ ap (file_offset d.kind) address-is in
+    let told-size : size ≡ tables_size (told d) = size-is ∙ small.size in
+    let zeros : List ℕ = replicate (at + size - long) 0 in
+    let count : length zeros ≡ at + size - long = length-replicate (at + size - long) 0 in
+    let both : length (file ++ zeros) ≡ length file + length zeros = length-append file zeros in
+    let wide : length lent ≡ length (file ++ zeros) = ap length (same ∙ grew) in
+    let above : base_of d.kind ≤ next_page d = bounds.above in
+    let ends : length file ≤ at = subst (λ n. length file ≤ n) (sym place) bounds.ends in
+    let all : length (file ++ zeros) ≡ at + tables_size (told d) = omega (arith, count, both, ends, long-is, told-size) in
+    let page : 4096 ≤ at = omega (arith, above, place) in
+    (place, omega (arith, wide, all, page), all)
+
+-- the image that code makes
+pub image_held : (d : Draft) (l : Layout) (o : Outlined) (file grown lent put : List ℕ) (address at size long wide : ℕ)
+    → AreInside d file → IsLinkable (contents_of d file) → IsSmall d l file
+    → address ≡ next_page d → at ≡ file_offset d.kind address → size ≡ l.strings_start + l.strings_size → long ≡ length file
+    → grown ≡ file ++ replicate (at + size - long) 0 → lent ≡ grown → o ≡ outline_told d
+    → put ≡ splice 0 (page o) (splice at (tables_at (next_page d) (told d)) lent)
+    → All IsSymbolFitting d.symbols.now → All IsRelocationFitting d.relocations.now → length grown ≡ wide
+    → IsImage (take wide (put ++ drop (length put) grown))
+    × (spelled (take wide (put ++ drop (length put) grown)) ≡ finished (contents_of d file))
+image_held d l o file grown lent put address at size long wide inside linkable small address-is at-is size-is long-is grew
+    same held wrote symbols relocations wide-is =
+    let zeros : List ℕ = replicate (at + size - long) 0 in
+    let room = room_made d l file grown lent address at size long small address-is at-is size-is long-is grew same in
+    let all : length (file ++ zeros) ≡ at + tables_size (told d) = room.2 in
+    let put-is : put ≡ splice 0 (page (outline_told d)) (splice at (tables_at (next_page d) (told d)) (file ++ zeros)) =
+    wrote ∙ ap (λ p. splice 0 (page p) (splice at (tables_at (next_page d) (told d)) lent)) held
+    ∙ ap (λ ys. splice 0 (page (outline_told d)) (splice at (tables_at (next_page d) (told d)) ys)) (same ∙ grew) in
+    let end : length put ≡ wide =
+    ap length put-is ∙ length-made d file zeros at inside linkable small.bounds room.0 (omega arith) ∙ sym (ap length grew) ∙ wide-is in
+    let made = take wide (put ++ drop (length put) grown) in
+    image_made d file zeros made at inside linkable small.bounds room.0 (omega arith) symbols relocations
+    (over_all wide put grown end ∙ put-is)

@@ -1,67 +1,107 @@
-use Rattle.std.proofs.Common.{rules, ◌≡◌, ◌+◌, ◌^◌, ◌<◌, ◌≤◌, ◌++◌, ◌∷◌, [], All, IfOk, length, vec_len, ℕ, ◌-◌, ◌*◌, ◌/◌, ◌%◌, Bool, true, false, nat_eq, nat_lt, List, slice_index_or, slice_set, bit_and, bit_or, Fits, w8, w32, w64, Bor, MutBor}
-use Rattle.image_file.specs.declared.part.PartClass.TheVariants.{ReadOnly}
-use Rattle.image_writer.specs.Contents.{contents_of, parts_end}
-use Rattle.image_writer.specs.Linkable.{IsLinkable}
-use Rattle.image_writer.specs.Page.{file_offset, page}
-use Rattle.image_writer.specs.Tables.{finished}
-use Rattle.elf_records.specs.Fields.{splice}
-use Rattle.image_writer.specs.Loadable.{IsLoadable, HoldsTls}
-use Rattle.image_writer.specs.Outlined.{outlined}
-use Rattle.image_writer.specs.Told.{tables_place, told, layout_of, next_page, tables_at, IsSymbolFitting, IsRelocationFitting}
+use Rattle.std.proofs.Common.{rules, ◌≡◌, ◌+◌, ◌-◌, ◌<◌, ◌≤◌, ◌++◌, ◌∷◌, [], ℕ, length, ap, sym, ◌∙◌, arith}
+use Rattle.image_writer.specs.Outlined.{Outlined}
+use Rattle.image_writer.specs.Told.{tables_place}
+use Rattle.image_writer.proofs.Finishing.{bounded, small, room_made, outline_held, loadable_held, tls_held, image_held}
+use Rattle.image_writer.proofs.Layouts.{layout_facts}
 use Rattle.image_writer.proofs.made.image_of.Goals as goal
 
--- src/made.rt:69:18
 pub layout_of-layout-requires : goal.layout_of-layout-requires
-layout_of-layout-requires c = ?
+layout_of-layout-requires c =
+    let b = bounded c.args.draft.now c.args.file.items c.requires.inside c.requires.linkable c.requires.ends in
+    omega (arith, b.low, b.above, b.below)
 
--- src/made.rt:70:9
 pub next_page-address-requires : goal.next_page-address-requires
-next_page-address-requires c = ?
+next_page-address-requires c =
+    let b = bounded c.args.draft.now c.args.file.items c.requires.inside c.requires.linkable c.requires.ends in
+    omega (arith, b.low, b.above, b.below)
 
--- src/made.rt:71:58
 pub size-requires : goal.size-requires
-size-requires c = ?
+size-requires c =
+    let s = small c.args.draft.now c.layout_of-layout.result c.args.file.items c.requires.inside c.requires.linkable
+    c.requires.ends c.layout_of-layout.ensures in
+    omega (arith, s.size, s.bounds.low, s.bounds.above, s.bounds.below)
 
--- src/made.rt:71:17
 pub with_tables-requires : goal.with_tables-requires
-with_tables-requires c = ?
+with_tables-requires c =
+    let b = bounded c.args.draft.now c.args.file.items c.requires.inside c.requires.linkable c.requires.ends in
+    omega (arith, b.few)
 
--- src/made.rt:79:14
 pub file_offset-at-requires-clause-above : goal.file_offset-at-requires-clause-above
-file_offset-at-requires-clause-above c = ?
+file_offset-at-requires-clause-above c =
+    let b = bounded c.args.draft.now c.args.file.items c.requires.inside c.requires.linkable c.requires.ends in
+    omega (arith, b.above, c.next_page-address.ensures)
 
--- src/made.rt:79:14
 pub file_offset-at-requires-clause-below : goal.file_offset-at-requires-clause-below
-file_offset-at-requires-clause-below c = ?
+file_offset-at-requires-clause-below c =
+    let b = bounded c.args.draft.now c.args.file.items c.requires.inside c.requires.linkable c.requires.ends in
+    omega (arith, b.low, b.above, b.below, c.next_page-address.ensures)
 
--- src/made.rt:81:15
 pub overflow_add-gap : goal.overflow_add-gap
-overflow_add-gap c = ?
+overflow_add-gap c =
+    let s = small c.args.draft.now c.layout_of-layout.result c.args.file.items c.requires.inside c.requires.linkable
+    c.requires.ends c.layout_of-layout.ensures in
+    omega (arith, s.size, s.bounds.low, s.bounds.above, s.bounds.below, c.next_page-address.ensures,
+    c.file_offset-at.ensures, c.size-2.ensures)
 
--- src/made.rt:81:15
 pub overflow_sub-gap : goal.overflow_sub-gap
-overflow_sub-gap c = ?
+overflow_sub-gap c =
+    let b = bounded c.args.draft.now c.args.file.items c.requires.inside c.requires.linkable c.requires.ends in
+    omega (arith, b.ends, c.next_page-address.ensures, c.file_offset-at.ensures, c.len.ensures ∙ c.args.file.ok.0)
 
--- src/made.rt:83:5
 pub put_made-requires-clause-small : goal.put_made-requires-clause-small
-put_made-requires-clause-small c = ?
+put_made-requires-clause-small c =
+    let s = small c.args.draft.now c.layout_of-layout.result c.args.file.items c.requires.inside c.requires.linkable
+    c.requires.ends c.layout_of-layout.ensures in
+    omega (arith, s.size, s.bounds.low, s.bounds.above, s.bounds.below)
 
--- src/made.rt:83:5
 pub put_made-requires-clause-page : goal.put_made-requires-clause-page
-put_made-requires-clause-page c = ?
+put_made-requires-clause-page c =
+    let s = small c.args.draft.now c.layout_of-layout.result c.args.file.items c.requires.inside c.requires.linkable
+    c.requires.ends c.layout_of-layout.ensures in
+    (room_made c.args.draft.now c.layout_of-layout.result c.args.file.items c.grow.new.file.items c.as_mut_slice.result.now
+    c.next_page-address.result c.file_offset-at.result c.size-2.result c.len.result s c.next_page-address.ensures
+    c.file_offset-at.ensures c.size-2.ensures (c.len.ensures ∙ c.args.file.ok.0) (c.in_ok-grow.ensures {u = tt}).ok
+    c.as_mut_slice.ensures.value).1
 
--- src/made.rt:83:5
 pub put_made-requires-clause-loadable : goal.put_made-requires-clause-loadable
-put_made-requires-clause-loadable c = ?
+put_made-requires-clause-loadable c =
+    let held = outline_held c.args.draft.now c.layout_of-layout.result c.as_slice.result.now c.next_page-address.result
+    c.size.result c.layout_of-layout.ensures c.next_page-address.ensures c.size.ensures
+    (c.as_slice.ensures.value ∙ c.in_ok-parts.ensures) in
+    loadable_held c.args.draft.now c.args.file.items _ c.requires.inside c.requires.linkable held
 
--- src/made.rt:83:5
 pub put_made-requires-clause-tls : goal.put_made-requires-clause-tls
-put_made-requires-clause-tls c = ?
+put_made-requires-clause-tls c =
+    let held = outline_held c.args.draft.now c.layout_of-layout.result c.as_slice.result.now c.next_page-address.result
+    c.size.result c.layout_of-layout.ensures c.next_page-address.ensures c.size.ensures
+    (c.as_slice.ensures.value ∙ c.in_ok-parts.ensures) in
+    tls_held c.args.draft.now c.args.file.items _ c.requires.inside c.requires.linkable held
 
--- src/made.rt:84:8
 pub from_bytes-requires : goal.from_bytes-requires
-from_bytes-requires c = ?
+from_bytes-requires c =
+    let s = small c.args.draft.now c.layout_of-layout.result c.args.file.items c.requires.inside c.requires.linkable
+    c.requires.ends c.layout_of-layout.ensures in
+    let held = outline_held c.args.draft.now c.layout_of-layout.result c.as_slice.result.now c.next_page-address.result
+    c.size.result c.layout_of-layout.ensures c.next_page-address.ensures c.size.ensures
+    (c.as_slice.ensures.value ∙ c.in_ok-parts.ensures) in
+    (image_held c.args.draft.now c.layout_of-layout.result _ c.args.file.items c.grow.new.file.items
+    c.as_mut_slice.result.now c.put_made.new.out c.next_page-address.result c.file_offset-at.result c.size-2.result
+    c.len.result c.grow.new.file.len c.requires.inside c.requires.linkable s c.next_page-address.ensures
+    c.file_offset-at.ensures c.size-2.ensures (c.len.ensures ∙ c.args.file.ok.0) (c.in_ok-grow.ensures {u = tt}).ok
+    c.as_mut_slice.ensures.value held c.put_made.ensures.bytes c.put_made.ensures.symbols
+    c.put_made.ensures.relocations (sym c.grow.new.file.ok.0)).0
 
--- src/made.rt:63:1
 pub returns : goal.returns
-returns c = ?
+returns c =
+    let s = small c.args.draft.now c.layout_of-layout.result c.args.file.items c.requires.inside c.requires.linkable
+    c.requires.ends c.layout_of-layout.ensures in
+    let held = outline_held c.args.draft.now c.layout_of-layout.result c.as_slice.result.now c.next_page-address.result
+    c.size.result c.layout_of-layout.ensures c.next_page-address.ensures c.size.ensures
+    (c.as_slice.ensures.value ∙ c.in_ok-parts.ensures) in
+    c.from_bytes.ensures ∙
+    (image_held c.args.draft.now c.layout_of-layout.result _ c.args.file.items c.grow.new.file.items
+    c.as_mut_slice.result.now c.put_made.new.out c.next_page-address.result c.file_offset-at.result c.size-2.result
+    c.len.result c.grow.new.file.len c.requires.inside c.requires.linkable s c.next_page-address.ensures
+    c.file_offset-at.ensures c.size-2.ensures (c.len.ensures ∙ c.args.file.ok.0) (c.in_ok-grow.ensures {u = tt}).ok
+    c.as_mut_slice.ensures.value held c.put_made.ensures.bytes c.put_made.ensures.symbols
+    c.put_made.ensures.relocations (sym c.grow.new.file.ok.0)).1
