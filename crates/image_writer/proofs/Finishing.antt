@@ -1,5 +1,5 @@
 -- What the draft of linkable contents keeps, and that the file made of it is one of the finished contents.
-use Rattle.std.proofs.Common.{ℕ, zero, suc, ◌+◌, ◌-◌, ◌*◌, ◌^◌, ◌%◌, ◌<◌, ◌≤◌, ◌≡◌, All, Some, None, Option, List, [], ◌∷◌, ◌++◌, length, map, take, drop, get_or, replicate, refl, subst, sym, ap, ◌∙◌, arith, add-one, length-append}
+use Rattle.std.proofs.Common.{ℕ, zero, suc, ◌+◌, ◌-◌, ◌<◌, ◌≤◌, ◌≡◌, All, Some, List, [], ◌∷◌, ◌++◌, length, map, take, drop, get_or, replicate, refl, subst, sym, ap, ◌∙◌, arith, length-append}
 use Rattle.std.specs.Int.{next_multiple_of}
 use Rattle.std.specs.List.{slice_get}
 use Rattle.std.proofs.lemmas.List.{get_or_append_left, get_or_default, get_or-map, get_or_push, length-map, length_push, length-replicate, map-append, take_at}
@@ -7,20 +7,18 @@ use Rattle.elf_records.specs.Fields.{part_at, splice}
 use Rattle.elf_records.specs.Laws.{part_at-append, part_at-splice, part_at-splice_before, part_at-splice_after, length-splice}
 use Rattle.image_faults.specs.declared.places.FileKind.{FileKind}
 use Rattle.image_faults.specs.Faults.{IsImage}
-use Rattle.image_file.specs.declared.part.TlsPart.{TlsPart}
-use Rattle.image_file.specs.declared.relocation.ImageRelocation.{ImageRelocation}
 use Rattle.image_file.specs.declared.symbol.ImageSymbol.{ImageSymbol}
-use Rattle.image_file.specs.Spelled.{Part, Spelled, spelled}
+use Rattle.image_file.specs.Spelled.{Part, spelled}
 use Rattle.image_writer.specs.declared.draft.Draft.{Draft}
 use Rattle.image_writer.specs.declared.layout.Layout.{Layout}
 use Rattle.image_writer.specs.declared.outline.PartPlace.{PartPlace}
-use Rattle.image_writer.specs.Contents.{Contents, contents_of, null_symbol, part_in, parts_end, symbol, tables_address}
+use Rattle.image_writer.specs.Contents.{contents_of, null_symbol, part_in, parts_end, symbol, tables_address}
 use Rattle.image_writer.specs.Files.{IsFileOf}
 use Rattle.image_writer.specs.Linkable.{IsLinkable}
 use Rattle.image_writer.specs.Loadable.{HoldsTls, IsLoadable, IsRightPart}
 use Rattle.image_writer.specs.Outlined.{Outlined, end_of, no_part, outline_of, part, place_of}
 use Rattle.image_writer.specs.Page.{base_of, file_offset, page}
-use Rattle.image_writer.specs.Tables.{array_size, finished, symbol_total, tables, tables_part}
+use Rattle.image_writer.specs.Tables.{array_size, finished, tables, tables_part}
 use Rattle.image_writer.specs.Told.{told, places_end, next_page, layout_of, tables_at, tables_size, tables_place, IsSymbolFitting, IsRelocationFitting}
 use Rattle.image_writer.proofs.Filing.{length-page, over_all}
 use Rattle.image_writer.proofs.Layouts.{layout_facts}
@@ -28,7 +26,6 @@ use Rattle.image_writer.proofs.Linked.{AreFitting, stands_for}
 use Rattle.image_writer.specs.declared.draft.NamedSymbol.{NamedSymbol}
 use Rattle.image_writer.proofs.Making.{length-tables_at, part_in-size, parts_end-in, places-in, tables-is, tables-told}
 use Rattle.image_writer.proofs.Strings.{no_symbol}
-use Rattle.image_writer.proofs.SymbolRows.{symbol-told}
 use Rattle.image_writer.proofs.TableOutline.{base_low}
 
 -- the bytes of each part lie inside the file

@@ -1,5 +1,5 @@
 -- Where the dynamic tables lie, how many bytes each has, and what putting them one behind the other leaves.
-use Rattle.std.proofs.Common.{ℕ, ◌+◌, ◌-◌, ◌*◌, ◌≤◌, ◌≡◌, Bool, true, false, List, [], ◌∷◌, ◌++◌, length, map, replicate, refl, subst, sym, ap, ◌∙◌, arith, append_assoc, length-append}
+use Rattle.std.proofs.Common.{ℕ, ◌+◌, ◌-◌, ◌*◌, ◌≤◌, ◌≡◌, Bool, true, false, List, [], ◌∷◌, ◌++◌, length, replicate, refl, subst, sym, ap, ◌∙◌, arith, length-append}
 use Rattle.std.specs.Prelude.{◌||◌, if◌then◌else◌}
 use Rattle.std.specs.Int.{next_multiple_of}
 use Rattle.std.specs.List.{flat_map}
@@ -16,7 +16,7 @@ use Rattle.image_writer.specs.declared.draft.NamedSymbol.{NamedSymbol}
 use Rattle.image_writer.specs.declared.draft.Draft.{Draft}
 use Rattle.image_writer.specs.declared.layout.Layout.{Layout}
 use Rattle.image_writer.specs.Contents.{Contents}
-use Rattle.image_writer.specs.Tables.{array_size, hash_size, symbols_start, relocations_start, strings_start, strings, is_pie}
+use Rattle.image_writer.specs.Tables.{array_size, hash_size, symbols_start, relocations_start, strings, is_pie}
 use Rattle.elf_records.specs.declared.dynamic.TheConstants.{DT_NULL}
 use Rattle.image_writer.specs.Tables.{array_entry, flags_entries, has_relocations, hash_words, relocation_entry, symbol_rows, symbol_total}
 use Rattle.image_writer.specs.Told.{told, layout_of, tables_size, place_entries, leading_entries, array_at, tables_at}

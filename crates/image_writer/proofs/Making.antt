@@ -1,22 +1,17 @@
 -- What a draft whose contents can be linked keeps, and the file that it becomes.
-use Rattle.std.proofs.Common.{ℕ, zero, suc, ◌+◌, ◌-◌, ◌*◌, ◌<◌, ◌≤◌, ◌≡◌, true, false, All, Some, None, List, [], ◌∷◌, ◌++◌, length, map, take, drop, get_or, replicate, refl, subst, sym, ap, ◌∙◌, arith, append_assoc, length-append}
-use Rattle.std.specs.Int.{next_multiple_of}
-use Rattle.std.specs.List.{flat_map, slice_get}
-use Rattle.std.proofs.lemmas.List.{length-map, length-replicate, length-take-le, length-drop, take_at}
-use Rattle.elf_records.specs.Fields.{bytes_of, part_at, splice}
-use Rattle.elf_records.specs.Laws.{part_at-append, part_at-splice, part_at-splice_before, part_at-splice_after, length-splice}
+use Rattle.std.proofs.Common.{ℕ, suc, ◌+◌, ◌-◌, ◌*◌, ◌≤◌, ◌≡◌, true, false, All, List, [], ◌∷◌, ◌++◌, length, map, drop, replicate, refl, ap, ◌∙◌, arith, length-append}
+use Rattle.std.specs.List.{flat_map}
+use Rattle.std.proofs.lemmas.List.{length-replicate, length-take-le, length-drop}
+use Rattle.elf_records.specs.Fields.{bytes_of, part_at}
 use Rattle.elf_records.specs.Records.{dynamic_bytes, symbol_bytes, rela_bytes}
 use Rattle.image_faults.specs.declared.places.FileKind.{FileKind}
-use Rattle.image_file.specs.Spelled.{Part, Spelled}
 use Rattle.image_writer.specs.declared.draft.Draft.{Draft}
 use Rattle.image_writer.specs.declared.outline.PartPlace.{PartPlace}
 use Rattle.image_writer.specs.Contents.{Contents, contents_of, part_in, parts_end, tables_address}
-use Rattle.image_writer.specs.Linkable.{IsLinkable}
-use Rattle.image_writer.specs.Loadable.{IsLoadable}
-use Rattle.image_writer.specs.Outlined.{Outlined, end_of, outline_of, place_of}
-use Rattle.image_writer.specs.Page.{base_of, file_offset}
+use Rattle.image_writer.specs.Outlined.{place_of}
+use Rattle.image_writer.specs.Page.{file_offset}
 use Rattle.image_writer.specs.Tables as tables
-use Rattle.image_writer.specs.Told.{told, places_end, next_page, layout_of, tables_at, tables_size, array_at, place_entries, leading_entries, tables_place}
+use Rattle.image_writer.specs.Told.{told, places_end, layout_of, tables_at, tables_size, array_at, place_entries, leading_entries}
 use Rattle.image_writer.proofs.Layouts as layouts
 
 -- a part inside a file has the size that its place says

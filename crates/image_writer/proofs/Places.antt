@@ -1,5 +1,5 @@
 -- What the outline of an image keeps of its addresses.
-use Rattle.std.proofs.Common.{ℕ, zero, suc, Bool, true, false, Some, None, ◌∷◌, [], ◌+◌, ◌-◌, ◌^◌, ◌<◌, ◌≤◌, ◌≡◌, List, length, get_or, refl, sym, ap, subst, ◌∙◌, arith}
+use Rattle.std.proofs.Common.{ℕ, zero, suc, Bool, true, false, Some, ◌∷◌, [], ◌+◌, ◌-◌, ◌<◌, ◌≤◌, ◌≡◌, List, length, get_or, ap, subst, arith}
 use Rattle.std.proofs.lemmas.List.{get_or_default}
 use Rattle.std.specs.List.{slice_get}
 use Rattle.std.specs.Prelude.{if◌then◌else◌}
@@ -8,7 +8,7 @@ use Rattle.image_faults.specs.declared.places.FileKind.{FileKind}
 use Rattle.image_faults.specs.declared.places.FileKind.TheVariants.{Exe, Pie, Module}
 use Rattle.image_writer.specs.declared.outline.PartPlace.{PartPlace}
 use Rattle.image_writer.specs.Headers.{IsNear}
-use Rattle.image_writer.specs.Loadable.{IsLoadable, IsRightPart, is_written}
+use Rattle.image_writer.specs.Loadable.{IsLoadable, is_written}
 use Rattle.image_writer.specs.Outlined.{Outlined, end_of, no_part, part}
 use Rattle.image_writer.specs.Page.{base_of}
 use Rattle.image_writer.specs.Told.{places_end}

@@ -11,7 +11,7 @@ use Rattle.image_faults.specs.declared.places.FileKind.{FileKind}
 use Rattle.image_faults.specs.declared.places.FileKind.TheVariants.{Exe, Pie, Module}
 use Rattle.image_faults.specs.Parts.{header, segment, loads, base, last, has_tls, tls, tls_size}
 use Rattle.image_faults.specs.Segments.{IsClass}
-use Rattle.image_faults.specs.Array.{array_size, has_tag, flags_entry}
+use Rattle.image_faults.specs.Array.{has_tag, flags_entry}
 use Rattle.image_faults.specs.Places.{file_kind}
 use Rattle.image_faults.specs.Faults.{IsImage}
 use Rattle.image_file.specs.declared.part.TlsPart.{TlsPart}

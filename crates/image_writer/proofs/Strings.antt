@@ -1,6 +1,6 @@
 -- The names of symbols, each with a zero byte behind it.
 use Rattle.std.proofs.Common.{ℕ, ◌+◌, ◌<◌, ◌≤◌, ◌≡◌, List, [], ◌∷◌, ◌++◌, length, map, take, get_or, refl, sym, ap, ◌∙◌, arith, append_assoc, length-append, add-one, zero, suc}
-use Rattle.std.specs.List.{flat_map, sum_by}
+use Rattle.std.specs.List.{flat_map}
 use Rattle.std.proofs.lemmas.List.Folds.{length-flat_map-take}
 use Rattle.image_writer.specs.declared.draft.NamedSymbol.{NamedSymbol}
 use Rattle.image_writer.specs.declared.draft.Draft.{Draft}

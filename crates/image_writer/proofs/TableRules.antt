@@ -21,7 +21,7 @@ use Rattle.image_faults.specs.Relocations.{HoldsField, IsBehindLast, NamesRight,
 use Rattle.image_file.specs.declared.relocation.ImageRelocation.{ImageRelocation}
 use Rattle.image_writer.specs.Outlined.{outline_of, part}
 use Rattle.image_writer.specs.Page.{load_header}
-use Rattle.image_writer.specs.Contents.{Contents, all_names, name, symbol}
+use Rattle.image_writer.specs.Contents.{Contents, all_names, symbol}
 use Rattle.image_writer.specs.Tables.{finished, name_start, relocation_entry, strings, symbol_entry, symbol_total, type_number}
 use Rattle.image_writer.specs.Linkable.{AreRising, Holds, IsImport, IsRightRelocation, IsRightSymbol, IsRuntime}
 use Rattle.image_writer.specs.Linkable.{MayName, width}

@@ -12,7 +12,7 @@ use Rattle.image_faults.specs.declared.loader_kind.LoaderKind.TheVariants.{Threa
 use Rattle.image_faults.specs.declared.rule.TableRule.{TableRule}
 use Rattle.image_faults.specs.declared.rule.TableRule.TheVariants.{Symbol, Relocation, TlsSymbol, TlsRelocation}
 use Rattle.image_faults.specs.declared.rule.Rule.TheVariants.{Table}
-use Rattle.image_faults.specs.Parts.{has_tls, loads, segment, tls, tls_size}
+use Rattle.image_faults.specs.Parts.{has_tls, loads, segment, tls_size}
 use Rattle.image_faults.specs.Symbols as found
 use Rattle.image_faults.specs.Symbols.{IsPastTls}
 use Rattle.image_faults.specs.Relocations.{IsOutsideTls, IsOwnOutside, LacksOwnTls, rela}

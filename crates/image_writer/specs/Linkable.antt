@@ -1,5 +1,5 @@
 -- What a linker owes of the contents of an image.
-use Rattle.std.specs.Prelude.{◌≡◌, ◌≢◌, ◌+◌, ◌<◌, ◌≤◌, ◌⊎◌, ◌<ℤ◌, ◌≤ℤ◌, ℕ, ℤ, pos, true, false, List, [], ◌∷◌}
+use Rattle.std.specs.Prelude.{◌≡◌, ◌≢◌, ◌+◌, ◌<◌, ◌≤◌, ◌⊎◌, ◌≤ℤ◌, ℕ, ℤ, pos, true, false, List, [], ◌∷◌}
 use Rattle.std.specs.Prelude.{Option, Some, None, All, IsSome, length, codes}
 use Rattle.image_faults.specs.declared.places.FileKind.TheVariants as file
 use Rattle.image_faults.specs.declared.loader_kind.LoaderKind.{LoaderKind}
@@ -8,7 +8,6 @@ use Rattle.image_faults.specs.declared.loader_kind.LoaderKind.TheVariants.{Threa
 use Rattle.image_file.specs.declared.part.TlsPart.{TlsPart}
 use Rattle.image_file.specs.declared.symbol.SymbolBinding.TheVariants.{Local}
 use Rattle.image_file.specs.declared.symbol.SymbolType.TheVariants.{Tls}
-use Rattle.image_file.specs.declared.symbol.ImageSymbol.{ImageSymbol}
 use Rattle.image_file.specs.declared.relocation.ImageRelocation.{ImageRelocation}
 use Rattle.image_writer.specs.Outlined.{outline_of, end_of, part}
 use Rattle.image_writer.specs.Contents.{Contents, symbol, name}

@@ -1,6 +1,6 @@
 -- When a page of headers can say what an image is: what the parts, the GOT and the TLS segment keep (gABI, "Program
 -- Header"; "ELF Handling For Thread-Local Storage", "Program Headers").
-use Rattle.std.specs.Prelude.{◌≡◌, ◌+◌, ◌-◌, ◌*◌, ◌%◌, ◌^◌, ◌<◌, ◌≤◌, ◌⊎◌, ℕ, Bool, true, false, Option, Some, None, length}
+use Rattle.std.specs.Prelude.{◌≡◌, ◌+◌, ◌-◌, ◌%◌, ◌^◌, ◌<◌, ◌≤◌, ◌⊎◌, ℕ, Bool, true, false, Option, Some, None, length}
 use Rattle.std.specs.Prelude.{IfSome, is_some, if◌then◌else◌}
 use Rattle.image_faults.specs.Counts.{how_many, behind_last}
 use Rattle.image_faults.specs.Segments.{IsAlignment}

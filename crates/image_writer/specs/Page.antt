@@ -14,7 +14,7 @@ use Rattle.image_file.specs.declared.part.PartClass.{PartClass}
 use Rattle.image_file.specs.declared.part.PartClass.TheVariants.{Executable, ReadOnly, Writable}
 use Rattle.image_file.specs.declared.part.TlsPart.{TlsPart}
 use Rattle.image_writer.specs.declared.outline.PartPlace.{PartPlace}
-use Rattle.image_writer.specs.Outlined.{Outlined, end_of, last_part, part}
+use Rattle.image_writer.specs.Outlined.{Outlined, last_part, part}
 
 -- what may be done with a part, as the flags of a program header
 abbrev pub flags_of : PartClass → ℕ

@@ -1,4 +1,4 @@
-use Rattle.std.proofs.Common.{◌≤◌, ◌+◌, length, ap, sym, ◌∙◌, arith}
+use Rattle.std.proofs.Common.{length, ap, sym, ◌∙◌, arith}
 use Rattle.image_writer.proofs.Strings.{no_symbol, names_of-none, names_of-short, names_of-longer, names_of-all, strings-told}
 use Rattle.image_writer.proofs.layout.strings_size.Goals as goal
 

@@ -1,8 +1,5 @@
-use Rattle.std.proofs.Common.{rules, ◌≡◌, ◌+◌, ◌-◌, ◌<◌, ◌≤◌, ◌++◌, ◌∷◌, [], ℕ, length, ap, sym, ◌∙◌, arith}
-use Rattle.image_writer.specs.Outlined.{Outlined}
-use Rattle.image_writer.specs.Told.{tables_place}
+use Rattle.std.proofs.Common.{sym, ◌∙◌, arith}
 use Rattle.image_writer.proofs.Finishing.{bounded, small, room_made, outline_held, loadable_held, tls_held, image_held}
-use Rattle.image_writer.proofs.Layouts.{layout_facts}
 use Rattle.image_writer.proofs.made.image_of.Goals as goal
 
 pub layout_of-layout-requires : goal.layout_of-layout-requires
@@ -40,8 +37,16 @@ pub overflow_add-gap : goal.overflow_add-gap
 overflow_add-gap c =
     let s = small c.args.draft.now c.layout_of-layout.result c.args.file.items c.requires.inside c.requires.linkable
     c.requires.ends c.layout_of-layout.ensures in
-    omega (arith, s.size, s.bounds.low, s.bounds.above, s.bounds.below, c.next_page-address.ensures,
-    c.file_offset-at.ensures, c.size-2.ensures)
+    omega (
+      arith,
+      s.size,
+      s.bounds.low,
+      s.bounds.above,
+      s.bounds.below,
+      c.next_page-address.ensures,
+      c.file_offset-at.ensures,
+      c.size-2.ensures,
+    )
 
 pub overflow_sub-gap : goal.overflow_sub-gap
 overflow_sub-gap c =

@@ -1,4 +1,4 @@
-use Rattle.std.proofs.Common.{◌≡◌, ◌+◌, ◌*◌, ◌≤◌, length, refl, ap, ◌∙◌, arith}
+use Rattle.std.proofs.Common.{◌+◌, ◌*◌, length, refl, ap, ◌∙◌, arith}
 use Rattle.std.specs.List.{flat_map}
 use Rattle.elf_records.specs.Fields.{splice}
 use Rattle.elf_records.specs.Records.{segment_bytes}

@@ -1,4 +1,4 @@
-use Rattle.std.proofs.Common.{◌≡◌, ◌+◌, ◌*◌, ◌≤◌, length, refl, ap, ◌∙◌, arith}
+use Rattle.std.proofs.Common.{◌+◌, ◌*◌, refl, ap, ◌∙◌, arith}
 use Rattle.elf_records.specs.Fields.{splice}
 use Rattle.elf_records.specs.Records.{header_bytes}
 use Rattle.image_writer.specs.Outlined.{outlined}

@@ -1,4 +1,4 @@
-use Rattle.std.proofs.Common.{◌+◌, ◌-◌, ◌≤◌, ℕ, length, replicate, ap, ◌∙◌}
+use Rattle.std.proofs.Common.{replicate, ap, ◌∙◌}
 use Rattle.std.proofs.lemmas.List.{length-replicate}
 use Rattle.image_writer.proofs.Puts.{put_mid-part, length-part}
 use Rattle.image_writer.proofs.put.put_zeros.Goals as goal

@@ -1,4 +1,4 @@
-use Rattle.std.proofs.Common.{◌≡◌, ◌+◌, ◌*◌, ◌≤◌, List, [], ◌∷◌, ◌++◌, length, refl, sym, ap, ◌∙◌, arith}
+use Rattle.std.proofs.Common.{◌+◌, List, [], ◌∷◌, ◌++◌, length, refl, ap, ◌∙◌, arith}
 use Rattle.std.specs.Prelude.{option_to_list}
 use Rattle.std.specs.List.{flat_map}
 use Rattle.elf_records.specs.Fields.{splice}
@@ -6,7 +6,7 @@ use Rattle.elf_records.specs.Records.{dynamic_bytes}
 use Rattle.elf_records.specs.declared.dynamic.TheConstants.{DT_NULL}
 use Rattle.elf_records.specs.declared.dynamic.DynamicEntry.{DynamicEntry}
 use Rattle.image_writer.specs.declared.layout.Layout.{Layout}
-use Rattle.image_writer.specs.Tables.{array_entry, flags_entries, has_relocations, array_size, relocations_start}
+use Rattle.image_writer.specs.Tables.{array_entry, flags_entries, has_relocations}
 use Rattle.image_writer.specs.Told.{told, layout_of, place_entries, leading_entries}
 use Rattle.image_writer.proofs.Layouts as layouts
 use Rattle.image_writer.proofs.tables.put_array.Goals as goal

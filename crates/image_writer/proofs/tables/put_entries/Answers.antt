@@ -1,4 +1,4 @@
-use Rattle.std.proofs.Common.{◌+◌, ◌*◌, ◌≤◌, length, refl, arith}
+use Rattle.std.proofs.Common.{◌+◌, ◌*◌, refl, arith}
 use Rattle.elf_records.specs.Records.{dynamic_bytes}
 use Rattle.elf_records.specs.RecordLaws.{length-dynamic_bytes}
 use Rattle.image_writer.proofs.Puts.{splice_none, put_more}

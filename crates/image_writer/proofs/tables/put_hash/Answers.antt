@@ -1,4 +1,4 @@
-use Rattle.std.proofs.Common.{◌≡◌, ◌+◌, ◌≤◌, length, ap, ◌∙◌, arith}
+use Rattle.std.proofs.Common.{◌≡◌, ◌+◌, ap, ◌∙◌, arith}
 use Rattle.elf_records.specs.Fields.{bytes_of, splice}
 use Rattle.image_writer.proofs.Hashes.{words_below, words_below-all, words_below-start, words_below-put}
 use Rattle.image_writer.proofs.tables.put_hash.Goals as goal

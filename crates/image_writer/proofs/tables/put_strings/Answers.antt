@@ -1,4 +1,4 @@
-use Rattle.std.proofs.Common.{◌≡◌, ◌+◌, ◌≤◌, [], ◌∷◌, length, take, get_or, refl, sym, ap, ◌∙◌, arith}
+use Rattle.std.proofs.Common.{◌+◌, length, take, get_or, refl, sym, ap, ◌∙◌, arith}
 use Rattle.elf_records.specs.Fields.{splice}
 use Rattle.image_writer.proofs.Strings.{names_of, no_symbol, names_of-none, names_of-some, names_of-short, names_of-next}
 use Rattle.image_writer.proofs.Strings.{names_of-longer, names_of-all, strings-told, put_name}

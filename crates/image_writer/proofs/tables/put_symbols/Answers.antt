@@ -1,4 +1,4 @@
-use Rattle.std.proofs.Common.{◌≡◌, ◌+◌, ◌*◌, ◌≤◌, List, length, get_or, refl, subst, sym, ap, ◌∙◌, arith}
+use Rattle.std.proofs.Common.{◌≡◌, ◌+◌, List, length, get_or, refl, subst, sym, ap, ◌∙◌, arith}
 use Rattle.std.proofs.lemmas.List.{length-map, take_all}
 use Rattle.std.proofs.lemmas.List.Elements.{All-more}
 use Rattle.std.specs.Prelude.{All}
@@ -7,7 +7,7 @@ use Rattle.elf_records.specs.Records.{symbol_bytes}
 use Rattle.image_writer.specs.declared.draft.NamedSymbol.{NamedSymbol}
 use Rattle.image_writer.specs.Tables.{symbol_entry, symbol_total}
 use Rattle.image_writer.specs.Told.{told, IsSymbolFitting}
-use Rattle.image_writer.proofs.Strings.{no_symbol, names_of, names_of-short, name_start-is, name_start-next, strings-told}
+use Rattle.image_writer.proofs.Strings.{no_symbol, names_of-short, name_start-is, name_start-next, strings-told}
 use Rattle.image_writer.proofs.SymbolRows.{rows_below, rows_below-all, rows_below-start, rows_below-put}
 use Rattle.image_writer.proofs.tables.put_symbols.Goals as goal
 

@@ -1,4 +1,4 @@
-use Rattle.std.proofs.Common.{◌≡◌, ◌+◌, ◌-◌, ◌*◌, ◌≤◌, length, ap, arith}
+use Rattle.std.proofs.Common.{arith}
 use Rattle.image_writer.proofs.Layouts.{layout_facts, put_all}
 use Rattle.image_writer.proofs.tables.put_tables.Goals as goal
 

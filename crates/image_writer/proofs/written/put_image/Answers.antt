@@ -1,4 +1,4 @@
-use Rattle.std.proofs.Common.{◌≡◌, ◌+◌, ◌≤◌, length, refl, sym, ap, ◌∙◌, arith}
+use Rattle.std.proofs.Common.{◌+◌, sym, ap, ◌∙◌, arith}
 use Rattle.elf_records.specs.Fields.{splice}
 use Rattle.image_writer.specs.Outlined.{outline_of}
 use Rattle.image_writer.specs.Page.{base_of, page}

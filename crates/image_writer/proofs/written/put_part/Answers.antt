@@ -1,4 +1,4 @@
-use Rattle.std.proofs.Common.{◌+◌, ◌-◌, ◌≤◌, ◌≡◌, length, replicate, ap, sym, arith}
+use Rattle.std.proofs.Common.{◌+◌, ◌-◌, replicate, ap, sym, arith}
 use Rattle.std.proofs.lemmas.List.{length-replicate}
 use Rattle.image_writer.proofs.Puts.{put_next}
 use Rattle.image_writer.proofs.written.put_part.Goals as goal

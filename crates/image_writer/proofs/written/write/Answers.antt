@@ -1,5 +1,4 @@
-use Rattle.std.proofs.Common.{◌≡◌, ◌++◌, ℕ, length, replicate, sym, ap, ◌∙◌}
-use Rattle.elf_records.specs.Fields.{splice}
+use Rattle.std.proofs.Common.{◌≡◌, length, sym, ap, ◌∙◌}
 use Rattle.image_writer.specs.Outlined.{Outlined, end_of, last_part}
 use Rattle.image_writer.specs.Page.{file_offset}
 use Rattle.image_writer.specs.Written.{written}

@@ -1,10 +1,4 @@
-use Rattle.std.proofs.Common.{◌≡◌, List, ℕ, subst, sym, ap, ◌∙◌}
-use Rattle.image_faults.specs.Faults.{IsImage}
-use Rattle.image_file.specs.Spelled.{Spelled, spelled}
-use Rattle.image_writer.specs.Loadable.{IsLoadable, HoldsTls}
-use Rattle.image_writer.specs.Outlined.{outline_of}
-use Rattle.image_writer.specs.Written.{written}
-use Rattle.image_writer.proofs.Filing.{is_file, length-written, loadable_of, again_of}
+use Rattle.image_writer.proofs.Filing.{length-written, loadable_of, again_of}
 use Rattle.image_writer.proofs.written.written_again.Goals as goal
 
 pub returns-clause-loadable : goal.returns-clause-loadable
