@@ -123,7 +123,7 @@ pub(crate) fn images_of(alloc: Global, text: &str) -> Result<Vec<Vec<Vec<u8>>>, 
 }
 
 /// The objects of these files.
-fn read<'a>(alloc: Global, files: &'a [Vec<u8>]) -> Result<Vec<Object<'a>>, Fail> {
+pub(crate) fn read<'a>(alloc: Global, files: &'a [Vec<u8>]) -> Result<Vec<Object<'a>>, Fail> {
     let mut objects = Vec::new(alloc);
     for file in files {
         objects.push(Object::read(alloc, file.as_slice())?)?;
@@ -132,7 +132,10 @@ fn read<'a>(alloc: Global, files: &'a [Vec<u8>]) -> Result<Vec<Object<'a>>, Fail
 }
 
 /// What images of these objects export, one after the other.
-fn exports_of<'a>(alloc: Global, images: &'a [Vec<Vec<u8>>]) -> Result<Vec<Exports<'a>>, Fail> {
+pub(crate) fn exports_of<'a>(
+    alloc: Global,
+    images: &'a [Vec<Vec<u8>>],
+) -> Result<Vec<Exports<'a>>, Fail> {
     let mut startup = Vec::new(alloc);
     for image in images {
         let objects = read(alloc, image.as_slice())?;

@@ -2,18 +2,39 @@
 
 ghost use Rattle.std.specs.Prelude.{◌≡◌};
 
-use crate::images::{exports_of, function, object, read, undefined, variable};
+use crate::images::{exports_of, files_of, images_of, read};
 use elf_object::Object;
-use elf_records::relocation::{
-    R_X86_64_32, R_X86_64_32S, R_X86_64_GOTPC32_TLSDESC as DESCRIPTOR, R_X86_64_GOTTPOFF as OFFSET,
-    R_X86_64_NONE, R_X86_64_TLSGD, R_X86_64_TLSLD, R_X86_64_TPOFF32,
-};
 use link_faults::ImageKind::{Exe, Late, Pie, Start};
 use link_faults::{ImageKind, LinkFault};
 use link_refusals::{ask_kind, ask_tls, has_few_relocations, relocation_count};
 use std::alloc::Global;
 use std::test::Fail;
 use tls_symbols::{Bindings, resolve};
+
+/// Each line: the kind of the image, the size of its storage, what is said, and the object, whose symbols are a
+/// variable, a function and a variable of the program. Its relocations are in section 3: 0 is NONE, 10 is 32, 11 is
+/// 32S, 19 is TLSGD, 20 is TLSLD, 22 is GOTTPOFF, 23 is TPOFF32, and 34 is GOTPC32_TLSDESC.
+const CASES: &str = "\
+// an offset from the thread pointer, and addresses in 32 bits; the former is told, though it stands behind
+late|8|LocalExecInModule at object Some(0) section 3 entry 2|v:x f:f u:y 0@0 11@2 23@1 10@2
+pie|8|NarrowInModule at object Some(0) section 3 entry 1|v:x f:f u:y 0@0 11@2 23@1 10@2
+exe|8|4 fit|v:x f:f u:y 0@0 11@2 23@1 10@2
+// storage of the image's own, where it has none; what the program exports needs none
+start|0|NoTls at object Some(0) section 3 entry 3|v:x f:f u:y 19@3 22@3 34@3 22@1 34@1 20@1
+exe|0|NoTls at object Some(0) section 3 entry 4|v:x f:f u:y 19@3 22@3 34@3 22@1 34@1 20@1
+start|1|6 fit|v:x f:f u:y 19@3 22@3 34@3 22@1 34@1 20@1
+pie|0|NoTls at object Some(0) section 3 entry 0|v:x f:f u:y 20@1
+";
+
+/// The kind of a word.
+fn kind_of(word: &str) -> ImageKind {
+    match word {
+        "exe" => Exe,
+        "pie" => Pie,
+        "start" => Start,
+        _ => Late,
+    }
+}
 
 /// Asks both.
 fn asked(
@@ -28,15 +49,12 @@ fn asked(
     ask_tls(objects, bindings, kind, size)
 }
 
-/// What is said of an object with these relocations, of pairs of a type and a symbol: 1 is a variable, 2 a function and
-/// 3 a variable of the program. The relocations are in section 3.
-fn said(alloc: Global, uses: &[(u32, u32)], kind: ImageKind, size: u64) -> Result<String, Fail> {
-    let symbols = [variable(b"x"), function(b"f"), undefined(b"y")];
-    let files = vec![in alloc; object(alloc, &symbols, uses)?]?;
-    let program = vec![in alloc; object(alloc, &[variable(b"y")], &[])?]?;
-    let images = vec![in alloc; program]?;
-    let objects = read(alloc, &files)?;
-    let startup = exports_of(alloc, &images)?;
+/// What is said of an image of this object, of this kind and with so much storage.
+fn said(alloc: Global, words: &str, kind: ImageKind, size: u64) -> Result<String, Fail> {
+    let files = files_of(alloc, words)?;
+    let program = images_of(alloc, "|v:y")?;
+    let objects = read(alloc, files.as_slice())?;
+    let startup = exports_of(alloc, program.as_slice())?;
     if startup.len() > 100 {
         return Ok(String::new(alloc));
     }
@@ -47,45 +65,22 @@ fn said(alloc: Global, uses: &[(u32, u32)], kind: ImageKind, size: u64) -> Resul
     }
 }
 
+/// Whether what is said of a case is what its line wants.
+fn holds(alloc: Global, line: &str) -> Result<bool, Fail> {
+    let (kind, rest) = line.split_once('|').ok_or("a kind")?;
+    let (size, rest) = rest.split_once('|').ok_or("a size")?;
+    let (want, words) = rest.split_once('|').ok_or("an answer")?;
+    let found = said(alloc, words, kind_of(kind), size.parse()?)?;
+    Ok(found.as_str() == want)
+}
+
 #[test]
 fn refusals(rt: HostRuntime) -> Result<(), Fail> {
-    let alloc = rt.alloc();
-    // An offset from the thread pointer, and addresses in 32 bits; the former is told, though it stands behind.
-    let uses = [
-        (R_X86_64_NONE, 0),
-        (R_X86_64_32S, 2),
-        (R_X86_64_TPOFF32, 1),
-        (R_X86_64_32, 2),
-    ];
-    let late = said(alloc, &uses, Late, 8)?;
-    assert_eq!(rt;
-        late.as_str(),
-        "LocalExecInModule at object Some(0) section 3 entry 2"
-    );
-    let pie = said(alloc, &uses, Pie, 8)?;
-    assert_eq!(rt;
-        pie.as_str(),
-        "NarrowInModule at object Some(0) section 3 entry 1"
-    );
-    assert_eq!(rt; said(alloc, &uses, Exe, 8)?.as_str(), "4 fit");
-    // Storage of the image's own, where it has none. What the program exports needs none.
-    let own = [
-        (R_X86_64_TLSGD, 3),
-        (OFFSET, 3),
-        (DESCRIPTOR, 3),
-        (OFFSET, 1),
-        (DESCRIPTOR, 1),
-        (R_X86_64_TLSLD, 1),
-    ];
-    let start = said(alloc, &own, Start, 0)?;
-    assert_eq!(rt; start.as_str(), "NoTls at object Some(0) section 3 entry 3");
-    assert_eq!(rt;
-        said(alloc, &own, Exe, 0)?.as_str(),
-        "NoTls at object Some(0) section 3 entry 4"
-    );
-    assert_eq!(rt; said(alloc, &own, Start, 1)?.as_str(), "6 fit");
-    let block = said(alloc, &[(R_X86_64_TLSLD, 1)], Pie, 0)?;
-    assert_eq!(rt; block.as_str(), "NoTls at object Some(0) section 3 entry 0");
-    assert_eq!(rt; has_few_relocations(&[]), true);
+    for line in CASES.lines() {
+        if !line.starts_with("//") {
+            assert!(rt; holds(rt.alloc(), line)?, "{line}");
+        }
+    }
+    assert!(rt; has_few_relocations(&[]));
     Ok(())
 }
