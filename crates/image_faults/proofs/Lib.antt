@@ -1,4 +1,3 @@
-pub mod Alignments
 pub mod HeaderTable
 pub mod Counts
 pub mod File

@@ -7,6 +7,7 @@ use Rattle.elf_records.specs.declared.program_header.TheConstants.{PT_DYNAMIC, P
 use Rattle.image_faults.specs.Counts.{how_many}
 use Rattle.image_faults.specs.Parts.{count, segment, base, loads, last, is_writable, behind_last_writable, has_relro}
 use Rattle.image_faults.specs.Parts.{relro_place}
+pub use Rattle.elf_records.specs.Alignments.{IsAlignment}
 
 -- the program headers, or the bytes of a segment, pass the end of the file
 abbrev pub HasSegmentPastEnd : List ℕ → ℕ → Type 0
@@ -60,10 +61,6 @@ abbrev pub HoldsInitialImage : List ℕ → Segment → ℕ → Type 0
 HoldsInitialImage b s i =
     (i + 1 < loads b) × ((segment b i).flags ≡ PF_R) × ((segment b i).vaddr ≡ s.vaddr)
     × ((segment b i).filesz ≡ s.filesz)
-
--- an alignment of thread-local data
-abbrev pub IsAlignment : ℕ → Type 0
-IsAlignment n = (k : ℕ) × (k ≤ 12) × (n ≡ 2 ^ k)
 
 -- what the TLS segment says
 abbrev pub IsRightTls : List ℕ → Segment → Type 0

@@ -5,7 +5,7 @@ ghost use Rattle.image_faults.specs.Parts.{count as header_count, loads as loads
 ghost use Rattle.image_faults.specs.Parts.{has_tls as has_tls_of, tls_size as tls_size_of};
 ghost use Rattle.image_faults.specs.Parts.{relro_place as relro_place_of};
 ghost use Rattle.image_faults.specs.Array.{array_size as array_size_of};
-ghost use Rattle.image_faults.specs.Segments.{IsRightDynamic, HoldsInitialImage, IsAlignment, IsRightTls};
+ghost use Rattle.image_faults.specs.Segments.{IsRightDynamic, HoldsInitialImage, IsRightTls};
 ghost use Rattle.image_faults.specs.Segments.{IsRightRelro, IsRightRest};
 ghost use Rattle.image_faults.specs.Faults.{IsFirstAt, IsFirst, IsFault, KeepsBelow, Answers};
 
@@ -15,14 +15,12 @@ use crate::headers::Headers;
 use crate::loads::{first_wrong_load, is_placed};
 use crate::rule::Rule;
 use crate::searches::{behind_last_writable, load_count};
+use elf_records::alignment::is_alignment;
 use elf_records::program_header::{PF_R, PT_DYNAMIC, PT_GNU_RELRO, PT_TLS};
 use elf_records::{Header, Segment};
 
 /// The most bytes of an image's block of each thread.
 const TLS_LIMIT: u64 = 1 << 20;
-
-/// The greatest alignment of such a block.
-const ALIGNMENT_LIMIT: u64 = 4_096;
 
 /// An image whose program headers say what they are to say.
 #[derive(Clone, Copy)]
@@ -63,14 +61,6 @@ fn is_right_dynamic(headers: &Headers, loads: u64) -> bool
         && is_placed(headers, &dynamic)
         && dynamic.vaddr == last.vaddr
         && dynamic.filesz <= last.filesz
-}
-
-/// Whether this is an alignment of thread-local data: a power of two up to 4,096.
-#[tactic(auto, using(crate::proofs::Alignments::alignment_of, crate::proofs::Alignments::alignment_small, crate::proofs::Alignments::alignment_bits))]
-fn is_alignment(alignment: u64) -> bool
-    ensures { IsTrue result ↔ IsAlignment alignment }
-{
-    alignment <= ALIGNMENT_LIMIT && alignment.is_power_of_two()
 }
 
 /// Whether a LOAD holds the initial image of a TLS segment.
