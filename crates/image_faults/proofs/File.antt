@@ -1,7 +1,7 @@
 -- The rules of the file as a whole: its length, its identification, where its segments lie.
 use Rattle.std.proofs.Common.{◌≡◌, ◌<◌, ◌≤◌, ℕ, List, length, refl, sym, subst, arith}
 use Rattle.elf_records.specs.declared.file_header.Header.{Header}
-use Rattle.image_faults.specs.declared.rule.Rule.TheVariants.{Length, Ident, Extent, Segment}
+use Rattle.image_rules.specs.declared.rule.Rule.TheVariants.{Length, Ident, Extent, Segment}
 use Rattle.image_faults.specs.Parts.{header}
 use Rattle.image_faults.specs.Fields.{IsWrongIdent}
 use Rattle.image_faults.specs.Segments.{PassesEnd, IsWrongSegment}

@@ -2,7 +2,7 @@
 use Rattle.std.proofs.Common.{◌≡◌, ◌+◌, ◌^◌, ◌<◌, ◌≤◌, ℕ, List, Bool, true, false, refl, sym, subst, inl, inr, arith, ◌==◌, ◌&&◌, nat_lt, if◌then◌else◌}
 use Rattle.std.proofs.lemmas.Bool.Decides.{nat_tests}
 use Rattle.std.proofs.lemmas.Bool.{cases_lt}
-use Rattle.image_faults.specs.declared.rule.Rule.TheVariants.{Segment}
+use Rattle.image_rules.specs.declared.rule.Rule.TheVariants.{Segment}
 use Rattle.image_faults.specs.Parts.{count, loads, segment, has_tls, tls_size}
 use Rattle.image_faults.specs.Segments.{IsRightLoad, IsRightDynamic, IsRightRest}
 use Rattle.image_faults.specs.Faults.{KeepsBelow, IsFirst}

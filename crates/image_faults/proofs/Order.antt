@@ -1,17 +1,17 @@
 -- The order of the rules: what is asked in turn, rule after rule, finds the first fault.
 use Rattle.std.proofs.Common.{◌≡◌, ◌+◌, ◌<◌, ◌≤◌, ◌⊎◌, ◌∙◌, ℕ, List, [], ◌∷◌, get_or, inl, inr, refl, sym, ap, subst, arith}
-use Rattle.image_faults.specs.declared.rule.Rule.{Rule}
-use Rattle.image_faults.specs.declared.rule.Rule.TheVariants.{Length, Ident, Field, Extent, Segment, Entry, Table}
-use Rattle.image_faults.specs.declared.rule.FieldRule.{FieldRule}
-use Rattle.image_faults.specs.declared.rule.FieldRule.TheVariants.{FileType, Machine, Version, TableOffset, EntrySize, Count}
-use Rattle.image_faults.specs.declared.rule.EntryRule.{EntryRule}
-use Rattle.image_faults.specs.declared.rule.EntryRule.TheVariants.{Hash, Strings, Symbols, StringsSize, SymbolSize, Relocations, RelocationsSize, RelocationSize, Flags, End}
-use Rattle.image_faults.specs.declared.rule.TableRule.{TableRule}
-use Rattle.image_faults.specs.declared.rule.TableRule.TheVariants.{Symbol, Relocation, TlsSymbol, TlsRelocation}
+use Rattle.image_rules.specs.declared.rule.Rule.{Rule}
+use Rattle.image_rules.specs.declared.rule.Rule.TheVariants.{Length, Ident, Field, Extent, Segment, Entry, Table}
+use Rattle.image_rules.specs.declared.rule.FieldRule.{FieldRule}
+use Rattle.image_rules.specs.declared.rule.FieldRule.TheVariants.{FileType, Machine, Version, TableOffset, EntrySize, Count}
+use Rattle.image_rules.specs.declared.rule.EntryRule.{EntryRule}
+use Rattle.image_rules.specs.declared.rule.EntryRule.TheVariants.{Hash, Strings, Symbols, StringsSize, SymbolSize, Relocations, RelocationsSize, RelocationSize, Flags, End}
+use Rattle.image_rules.specs.declared.rule.TableRule.{TableRule}
+use Rattle.image_rules.specs.declared.rule.TableRule.TheVariants.{Symbol, Relocation, TlsSymbol, TlsRelocation}
 use Rattle.image_faults.specs.Parts.{header}
 use Rattle.image_faults.specs.Fields.{IsRightField}
 use Rattle.image_faults.specs.Array.{IsRightEntry, entry_place}
-use Rattle.image_faults.specs.Rules.{number}
+use Rattle.image_rules.specs.Rules.{number}
 use Rattle.image_faults.specs.Faults.{Breaks, BreaksTable, Keeps, KeepsBelow, IsImage, IsFirst, table_count}
 
 -- the rules in their order

@@ -9,10 +9,10 @@ use Rattle.elf_records.specs.declared.file_header.TheConstants.{ET_DYN}
 use Rattle.elf_records.specs.declared.dynamic.TheConstants.{DT_NULL, DT_HASH, DT_STRTAB, DT_SYMTAB, DT_RELA, DT_RELASZ}
 use Rattle.elf_records.specs.declared.dynamic.TheConstants.{DT_RELAENT, DT_STRSZ, DT_SYMENT, DT_FLAGS, DT_FLAGS_1}
 use Rattle.elf_records.specs.declared.dynamic.TheConstants.{DF_STATIC_TLS, DF_1_PIE}
-use Rattle.image_faults.specs.declared.rule.EntryRule.{EntryRule}
-use Rattle.image_faults.specs.declared.rule.EntryRule.TheVariants.{Hash, Strings, Symbols, StringsSize, SymbolSize}
-use Rattle.image_faults.specs.declared.rule.EntryRule.TheVariants.{Relocations, RelocationsSize, RelocationSize, Flags}
-use Rattle.image_faults.specs.declared.rule.EntryRule.TheVariants.{End}
+use Rattle.image_rules.specs.declared.rule.EntryRule.{EntryRule}
+use Rattle.image_rules.specs.declared.rule.EntryRule.TheVariants.{Hash, Strings, Symbols, StringsSize, SymbolSize}
+use Rattle.image_rules.specs.declared.rule.EntryRule.TheVariants.{Relocations, RelocationsSize, RelocationSize, Flags}
+use Rattle.image_rules.specs.declared.rule.EntryRule.TheVariants.{End}
 use Rattle.image_faults.specs.Parts.{header, segment, loads, last}
 
 -- how many bytes the array has

@@ -1,13 +1,13 @@
 -- When bytes stand for an image: what each rule says, and which fault is the first.
 use Rattle.std.specs.Prelude.{◌≡◌, ◌+◌, ◌*◌, ◌<◌, ℕ, List, Option, Some, None, Result, Ok, Err, length}
-use Rattle.image_faults.specs.declared.fault.FaultKind.{FaultKind}
-use Rattle.image_faults.specs.declared.fault.ImageFault.{ImageFault}
-use Rattle.image_faults.specs.declared.fault.ImageFault.TheVariants.{OutOfMemory, At}
-use Rattle.image_faults.specs.declared.rule.Rule.{Rule}
-use Rattle.image_faults.specs.declared.rule.Rule.TheVariants.{Length, Ident, Field, Extent, Segment, Entry, Table}
-use Rattle.image_faults.specs.declared.rule.TableRule.{TableRule}
-use Rattle.image_faults.specs.declared.rule.TableRule.TheVariants.{Symbol, Relocation, TlsSymbol, TlsRelocation}
-use Rattle.image_faults.specs.Rules.{number, kind_of}
+use Rattle.image_rules.specs.declared.fault.FaultKind.{FaultKind}
+use Rattle.image_rules.specs.declared.fault.ImageFault.{ImageFault}
+use Rattle.image_rules.specs.declared.fault.ImageFault.TheVariants.{OutOfMemory, At}
+use Rattle.image_rules.specs.declared.rule.Rule.{Rule}
+use Rattle.image_rules.specs.declared.rule.Rule.TheVariants.{Length, Ident, Field, Extent, Segment, Entry, Table}
+use Rattle.image_rules.specs.declared.rule.TableRule.{TableRule}
+use Rattle.image_rules.specs.declared.rule.TableRule.TheVariants.{Symbol, Relocation, TlsSymbol, TlsRelocation}
+use Rattle.image_rules.specs.Rules.{number, kind_of}
 use Rattle.image_faults.specs.Parts.{header, last}
 use Rattle.image_faults.specs.Fields.{IsWrongIdent, IsRightField, field_offset}
 use Rattle.image_faults.specs.Segments.{PassesEnd, IsWrongSegment}

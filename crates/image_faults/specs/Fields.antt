@@ -2,9 +2,9 @@
 use Rattle.std.specs.Prelude.{◌≡◌, ◌≢◌, ◌<◌, ◌≤◌, ◌⊎◌, ℕ, slice_index}
 use Rattle.elf_records.specs.declared.file_header.Header.{Header}
 use Rattle.elf_records.specs.declared.file_header.TheConstants.{ELF_IDENT, ET_EXEC, ET_DYN, EM_X86_64, EV_CURRENT}
-use Rattle.image_faults.specs.declared.rule.FieldRule.{FieldRule}
-use Rattle.image_faults.specs.declared.rule.FieldRule.TheVariants.{FileType, Machine, Version, TableOffset, EntrySize}
-use Rattle.image_faults.specs.declared.rule.FieldRule.TheVariants.{Count}
+use Rattle.image_rules.specs.declared.rule.FieldRule.{FieldRule}
+use Rattle.image_rules.specs.declared.rule.FieldRule.TheVariants.{FileType, Machine, Version, TableOffset, EntrySize}
+use Rattle.image_rules.specs.declared.rule.FieldRule.TheVariants.{Count}
 
 -- byte k of the file differs from what every ELF file for x86-64 begins with
 abbrev pub IsWrongIdent : Header → ℕ → Type 0

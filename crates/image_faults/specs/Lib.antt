@@ -1,12 +1,12 @@
 pub mod Array
 pub mod Counts
-pub mod FaultNames
 pub mod Faults
 pub mod Fields
 pub mod Names
 pub mod Parts
 pub mod Places
 pub mod Relocations
-pub mod Rules
 pub mod Segments
 pub mod Symbols
+pub use Rattle.image_rules.specs.FaultNames
+pub use Rattle.image_rules.specs.Rules

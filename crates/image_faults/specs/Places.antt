@@ -1,16 +1,16 @@
 -- What a read keeps of an image: numbers found once, so that each later look is quick.
 use Rattle.std.specs.Prelude.{◌≡◌, ◌+◌, ◌-◌, ◌*◌, ◌^◌, ◌<◌, ◌≤◌, ◌==◌, ℕ, Bool, List, Option, Some, None, length}
 use Rattle.std.specs.Prelude.{◌&&◌, nat_lt, if◌then◌else◌}
-use Rattle.image_faults.specs.declared.places.Places.{Places}
+use Rattle.image_rules.specs.declared.places.Places.{Places}
 use Rattle.elf_records.specs.declared.file_header.TheConstants.{ET_DYN}
 use Rattle.elf_records.specs.declared.dynamic.TheConstants.{DT_FLAGS, DT_FLAGS_1}
-use Rattle.image_faults.specs.declared.places.FileKind.{FileKind}
-use Rattle.image_faults.specs.declared.places.FileKind.TheVariants.{Exe, Pie, Module}
+use Rattle.image_rules.specs.declared.places.FileKind.{FileKind}
+use Rattle.image_rules.specs.declared.places.FileKind.TheVariants.{Exe, Pie, Module}
 use Rattle.image_faults.specs.Parts.{header, count, segment, loads, has_tls, tls_size, has_relro, behind_last_writable}
 use Rattle.image_faults.specs.Array.{has_tag, flags_entry}
 use Rattle.image_faults.specs.Array.{strings_place, strings_size, symbols_place, symbol_count, relocations_place}
 use Rattle.image_faults.specs.Array.{relocation_count, IsRightEntry}
-use Rattle.image_faults.specs.declared.rule.EntryRule.TheVariants.{Hash, Strings, Symbols, Relocations}
+use Rattle.image_rules.specs.declared.rule.EntryRule.TheVariants.{Hash, Strings, Symbols, Relocations}
 use Rattle.image_faults.specs.Names.{IsNamesEnd}
 
 -- what the file says that the image is: by its type, and by whether it has FLAGS_1

@@ -1,17 +1,16 @@
 //! The dynamic array: where an image's tables lie.
 
 ghost use Rattle.std.specs.Prelude.{◌≡◌, ◌+◌, ◌-◌, ◌*◌, ◌^◌, ◌<◌, ◌≤◌, ◌↔◌, IsTrue};
-ghost use Rattle.image_faults.specs.declared.rule.EntryRule.TheVariants.{Hash, Strings, Symbols, Relocations};
-ghost use Rattle.image_faults.specs.declared.rule.EntryRule.TheVariants.{RelocationsSize};
+ghost use Rattle.image_rules.specs.declared.rule.EntryRule.TheVariants.{Hash, Strings, Symbols, Relocations};
+ghost use Rattle.image_rules.specs.declared.rule.EntryRule.TheVariants.{RelocationsSize};
 ghost use Rattle.image_faults.specs.Array.{entry as entry_of, place as place_of, HasTag, HoldsTable};
 ghost use Rattle.image_faults.specs.Array.{has_tag, IsRightEntry};
 ghost use Rattle.image_faults.specs.Array.{symbol_count as count_of_symbols, strings_size as size_of_strings};
 ghost use Rattle.image_faults.specs.Array.{relocations_size as size_of_relocations, flags_entry as entry_of_flags};
 ghost use Rattle.image_faults.specs.Array.{entry_place as place_of_entry, IsFlagged, IsProgram};
 ghost use Rattle.image_faults.specs.Parts.{last as last_of};
-ghost use Rattle.image_faults.specs.Rules.{entry_number};
+ghost use Rattle.image_rules.specs.Rules.{entry_number};
 
-use crate::rule::EntryRule;
 use crate::segments::Segments;
 use crate::words::word_at;
 use elf_records::dynamic::{
@@ -19,6 +18,7 @@ use elf_records::dynamic::{
     DT_RELASZ, DT_STRSZ, DT_STRTAB, DT_SYMENT, DT_SYMTAB,
 };
 use elf_records::{DynamicEntry, Rela, SymbolEntry, read_dynamic};
+use image_rules::EntryRule;
 
 /// What the address of each table is a multiple of, from the start of its LOAD.
 const TABLE_ALIGNMENT: u64 = 8;

@@ -1,19 +1,18 @@
 //! All rules, asked in their order.
 
 ghost use Rattle.std.specs.Prelude.{◌≡◌, ◌+◌, ◌*◌, ◌<◌, ◌≤◌, ◌↔◌, IsTrue, IfOk, IfErr, length};
-ghost use Rattle.image_faults.specs.Rules.{table_number};
+ghost use Rattle.image_rules.specs.Rules.{table_number};
 ghost use Rattle.image_faults.specs.Faults.{BreaksTable, KeepsBelow, Answers, IsImage, IsFault, IsFirstAt};
 ghost use Rattle.image_faults.specs.Faults.{table_count as count_of_table, table_place as place_of_table};
 
-use crate::fault::ImageFault;
 use crate::found::fault_at;
 use crate::headers::headers_of;
 use crate::relocation_tests::{is_own_outside, is_right_relocation};
-use crate::rule::{Rule, TableRule};
 use crate::segments::segments_of;
 use crate::symbol_tests::{is_past_tls, is_right_symbol};
 use crate::tables::{Tables, tables_of};
 use elf_records::SymbolEntry;
+use image_rules::{ImageFault, Rule, TableRule};
 
 /// How many entries a table has.
 fn table_count(rule: TableRule, tables: &Tables) -> u64

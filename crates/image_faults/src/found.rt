@@ -3,8 +3,7 @@
 ghost use Rattle.std.specs.Prelude.{◌≡◌};
 ghost use Rattle.image_faults.specs.Faults.{IsFirst, IsFault, offset_of};
 
-use crate::fault::ImageFault;
-use crate::rule::Rule;
+use image_rules::{ImageFault, Rule};
 
 /// The fault where `entry` is the first to break the rule, and all earlier rules are kept. `offset` is where it is
 /// told; the bytes and the entry are what the clauses speak of.

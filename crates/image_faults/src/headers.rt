@@ -1,18 +1,17 @@
 //! The file's header and the program headers: that they lie in the file, and say what it is.
 
 ghost use Rattle.std.specs.Prelude.{◌≡◌, ◌+◌, ◌*◌, ◌<◌, ◌≤◌, ◌↔◌, ℕ, length, IsTrue, MatchOption, IfOk};
-ghost use Rattle.image_faults.specs.declared.rule.Rule.TheVariants.{Field};
-ghost use Rattle.image_faults.specs.Rules.{field_number};
+ghost use Rattle.image_rules.specs.declared.rule.Rule.TheVariants.{Field};
+ghost use Rattle.image_rules.specs.Rules.{field_number};
 ghost use Rattle.image_faults.specs.Parts.{header, base as base_of, segment as segment_header};
 ghost use Rattle.image_faults.specs.Fields.{IsWrongIdent, IsRightField, field_offset};
 ghost use Rattle.image_faults.specs.Segments.{HasSegmentPastEnd, PassesEnd};
 ghost use Rattle.image_faults.specs.Faults.{IsFirstAt, KeepsBelow, Answers};
 
-use crate::fault::ImageFault;
 use crate::found::fault_at;
-use crate::rule::{FieldRule, Rule};
 use elf_records::file_header::{ELF_IDENT, EM_X86_64, ET_DYN, ET_EXEC, EV_CURRENT};
 use elf_records::{Header, Segment, fits, read_header, read_segment};
+use image_rules::{FieldRule, ImageFault, Rule};
 
 /// The most program headers that an image has.
 const SEGMENT_LIMIT: u16 = 10;

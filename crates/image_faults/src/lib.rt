@@ -32,14 +32,11 @@
 
 mod array;
 mod checked;
-mod fault;
 mod found;
 mod headers;
 mod loader_kind;
 mod loads;
-mod places;
 mod relocation_tests;
-mod rule;
 mod searches;
 mod segments;
 mod symbol_tests;
@@ -47,11 +44,11 @@ mod tables;
 mod words;
 
 pub use checked::fault_free;
-pub use fault::{FaultKind, ImageFault};
 pub use headers::Headers;
+pub use image_rules::{
+    EntryRule, FaultKind, FieldRule, FileKind, ImageFault, Places, Rule, TableRule,
+};
 pub use loader_kind::LoaderKind;
-pub use places::{FileKind, Places};
-pub use rule::{EntryRule, FieldRule, Rule, TableRule};
 pub use segments::Segments;
 pub use symbol_tests::TLS_GET_ADDR;
 pub use tables::Tables;

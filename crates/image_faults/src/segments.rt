@@ -9,15 +9,14 @@ ghost use Rattle.image_faults.specs.Segments.{IsRightDynamic, HoldsInitialImage,
 ghost use Rattle.image_faults.specs.Segments.{IsRightRelro, IsRightRest};
 ghost use Rattle.image_faults.specs.Faults.{IsFirstAt, IsFirst, IsFault, KeepsBelow, Answers};
 
-use crate::fault::ImageFault;
 use crate::found::fault_at;
 use crate::headers::Headers;
 use crate::loads::{first_wrong_load, is_placed};
-use crate::rule::Rule;
 use crate::searches::{behind_last_writable, load_count};
 use elf_records::alignment::is_alignment;
 use elf_records::program_header::{PF_R, PT_DYNAMIC, PT_GNU_RELRO, PT_TLS};
 use elf_records::{Header, Segment};
+use image_rules::{ImageFault, Rule};
 
 /// The most bytes of an image's block of each thread.
 const TLS_LIMIT: u64 = 1 << 20;

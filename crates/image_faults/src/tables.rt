@@ -1,9 +1,9 @@
 //! The tables that the dynamic array leads to.
 
 ghost use Rattle.std.specs.Prelude.{◌≡◌, ◌+◌, ◌*◌, ◌<◌, ◌≤◌, ◌↔◌, ℕ, Some, IsTrue, IfOk, length};
-ghost use Rattle.image_faults.specs.declared.rule.EntryRule.TheVariants.{Hash};
+ghost use Rattle.image_rules.specs.declared.rule.EntryRule.TheVariants.{Hash};
 ghost use Rattle.image_faults.specs.Array.{IsRightEntry};
-ghost use Rattle.image_faults.specs.Rules.{entry_number};
+ghost use Rattle.image_rules.specs.Rules.{entry_number};
 ghost use Rattle.image_faults.specs.Places.{ArePlaces, AreRightTables, AreRelocationsAt, file_kind, got};
 ghost use Rattle.image_faults.specs.Parts.{count as count_of, loads as loads_of, segment as segment_header};
 ghost use Rattle.image_faults.specs.Parts.{tls as tls_of};
@@ -11,15 +11,13 @@ ghost use Rattle.image_faults.specs.Symbols.{symbol as symbol_entry};
 ghost use Rattle.image_faults.specs.Relocations.{rela as rela_entry};
 ghost use Rattle.image_faults.specs.Faults.{KeepsBelow, Answers};
 
-use crate::fault::ImageFault;
 use crate::found::fault_at;
-use crate::places::{FileKind, Places};
-use crate::rule::{EntryRule, Rule};
 use crate::searches::{behind_last_writable, has_relro};
 use crate::segments::Segments;
 use elf_records::dynamic::{DT_FLAGS, DT_FLAGS_1};
 use elf_records::strings::names_end;
 use elf_records::{Header, Rela, Segment, SymbolEntry, read_rela, read_segment, read_symbol};
+use image_rules::{EntryRule, FileKind, ImageFault, Places, Rule};
 
 /// The bytes of an image, and where its tables lie in them.
 #[derive(Clone, Copy)]

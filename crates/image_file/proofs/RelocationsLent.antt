@@ -4,8 +4,8 @@ use Rattle.std.specs.List.{slice_get}
 use Rattle.std.proofs.lemmas.Bool.{cases_lt}
 use Rattle.std.proofs.lemmas.Option.{slice_get_within}
 use Rattle.elf_records.specs.Records.{rela_symbol}
-use Rattle.image_faults.specs.declared.rule.Rule.TheVariants.{Table}
-use Rattle.image_faults.specs.declared.rule.TableRule.TheVariants.{Relocation}
+use Rattle.image_rules.specs.declared.rule.Rule.TheVariants.{Table}
+use Rattle.image_rules.specs.declared.rule.TableRule.TheVariants.{Relocation}
 use Rattle.image_faults.specs.Array.{symbol_count, relocation_count}
 use Rattle.image_faults.specs.Relocations.{rela}
 use Rattle.image_faults.specs.Faults.{IsImage, Breaks, BreaksTable}

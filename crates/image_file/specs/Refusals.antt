@@ -1,7 +1,7 @@
 -- What a refusal to read says of the bytes.
 use Rattle.std.specs.Prelude.{ℕ, List}
-use Rattle.image_faults.specs.declared.fault.ImageFault.{ImageFault}
-use Rattle.image_faults.specs.declared.fault.ImageFault.TheVariants.{OutOfMemory, At}
+use Rattle.image_rules.specs.declared.fault.ImageFault.{ImageFault}
+use Rattle.image_rules.specs.declared.fault.ImageFault.TheVariants.{OutOfMemory, At}
 use Rattle.image_faults.specs.Faults.{IsFirstFault}
 
 -- the first fault, or, of want of memory, nothing

@@ -12,7 +12,7 @@ use Rattle.elf_records.specs.declared.program_header.TheConstants.{PF_X, PF_R}
 use Rattle.elf_records.specs.declared.symbol.TheConstants.{SHN_UNDEF, STB_GLOBAL, STB_WEAK, STT_NOTYPE, STT_OBJECT}
 use Rattle.elf_records.specs.declared.symbol.TheConstants.{STT_FUNC, STT_SECTION, STT_FILE, STV_DEFAULT, STV_INTERNAL}
 use Rattle.elf_records.specs.declared.symbol.TheConstants.{STV_HIDDEN}
-use Rattle.image_faults.specs.declared.places.FileKind.{FileKind}
+use Rattle.image_rules.specs.declared.places.FileKind.{FileKind}
 use Rattle.image_faults.specs.declared.loader_kind.LoaderKind.TheVariants.{Relative}
 use Rattle.image_faults.specs.Parts.{segment, loads, tls}
 use Rattle.image_faults.specs.Array.{array_size, symbol_count, relocation_count, strings_place, strings_size}

@@ -6,7 +6,7 @@ use Rattle.elf_records.specs.Fields.{bytes_of, part_at}
 use Rattle.elf_records.specs.Fields as fields
 use Rattle.std.proofs.lemmas.List.Elements.{All-cons}
 use Rattle.elf_records.specs.Records.{dynamic_bytes, symbol_bytes, rela_bytes}
-use Rattle.image_faults.specs.declared.places.FileKind.TheVariants.{Module}
+use Rattle.image_rules.specs.declared.places.FileKind.TheVariants.{Module}
 use Rattle.image_faults.specs.declared.loader_kind.LoaderKind.TheVariants.{ThreadOffset}
 use Rattle.image_faults.specs.Counts.{how_many, behind_last}
 use Rattle.image_file.specs.declared.part.PartClass.TheVariants.{Executable, ReadOnly, Writable}

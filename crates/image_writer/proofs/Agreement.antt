@@ -1,13 +1,13 @@
 -- A file of an image that was read stands for that very image.
 use Rattle.std.proofs.Common.{◌≡◌, ◌+◌, ◌<◌, ℕ, List, arith}
-use Rattle.image_faults.specs.declared.rule.Rule.{Rule}
-use Rattle.image_faults.specs.declared.rule.Rule.TheVariants.{Length, Ident, Field, Extent, Segment, Entry, Table}
-use Rattle.image_faults.specs.declared.rule.FieldRule.{FieldRule}
-use Rattle.image_faults.specs.declared.rule.FieldRule.TheVariants.{FileType, Machine, Version, TableOffset, EntrySize, Count}
-use Rattle.image_faults.specs.declared.rule.EntryRule.TheVariants.{Hash, Strings, Symbols, Relocations}
-use Rattle.image_faults.specs.declared.rule.TableRule.TheVariants.{Symbol, Relocation, TlsSymbol, TlsRelocation}
+use Rattle.image_rules.specs.declared.rule.Rule.{Rule}
+use Rattle.image_rules.specs.declared.rule.Rule.TheVariants.{Length, Ident, Field, Extent, Segment, Entry, Table}
+use Rattle.image_rules.specs.declared.rule.FieldRule.{FieldRule}
+use Rattle.image_rules.specs.declared.rule.FieldRule.TheVariants.{FileType, Machine, Version, TableOffset, EntrySize, Count}
+use Rattle.image_rules.specs.declared.rule.EntryRule.TheVariants.{Hash, Strings, Symbols, Relocations}
+use Rattle.image_rules.specs.declared.rule.TableRule.TheVariants.{Symbol, Relocation, TlsSymbol, TlsRelocation}
 use Rattle.image_faults.specs.Array.{symbol_count, relocation_count}
-use Rattle.image_faults.specs.Rules.{field_number}
+use Rattle.image_rules.specs.Rules.{field_number}
 use Rattle.image_faults.specs.Faults.{Breaks, BreaksTable, Keeps, KeepsBelow, IsImage}
 use Rattle.image_file.specs.Spelled.{spelled}
 use Rattle.image_writer.specs.Outlined.{outline_of}

@@ -5,7 +5,7 @@ use Rattle.std.specs.List.{slice_get}
 use Rattle.std.proofs.lemmas.List.{get_or_append_left, get_or_default, get_or-map, get_or_push, length-map, length_push, length-replicate, map-append, take_at}
 use Rattle.elf_records.specs.Fields.{part_at, splice}
 use Rattle.elf_records.specs.Laws.{part_at-append, part_at-splice, part_at-splice_before, part_at-splice_after, length-splice}
-use Rattle.image_faults.specs.declared.places.FileKind.{FileKind}
+use Rattle.image_rules.specs.declared.places.FileKind.{FileKind}
 use Rattle.image_faults.specs.Faults.{IsImage}
 use Rattle.image_file.specs.declared.symbol.ImageSymbol.{ImageSymbol}
 use Rattle.image_file.specs.Spelled.{Part, spelled}

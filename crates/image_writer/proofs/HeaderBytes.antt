@@ -9,8 +9,8 @@ use Rattle.elf_records.specs.Fields.{part_at}
 use Rattle.elf_records.specs.Laws.{part_at-take}
 use Rattle.elf_records.specs.Records.{FitsSegment, FitsHeader, header_at, segment_at, header_bytes, segment_bytes}
 use Rattle.elf_records.specs.RecordLaws.{header_at-own, header_again, segment_at-own, segment_again, length-header_bytes, length-segment_bytes}
-use Rattle.image_faults.specs.declared.places.FileKind.{FileKind}
-use Rattle.image_faults.specs.declared.places.FileKind.TheVariants.{Exe, Pie, Module}
+use Rattle.image_rules.specs.declared.places.FileKind.{FileKind}
+use Rattle.image_rules.specs.declared.places.FileKind.TheVariants.{Exe, Pie, Module}
 use Rattle.image_faults.specs.Parts.{header, segment}
 use Rattle.image_writer.specs.Outlined.{Outlined}
 use Rattle.image_writer.specs.Page.{file_header, type_of, program_headers, page}

@@ -5,8 +5,8 @@ use Rattle.std.proofs.lemmas.Bool.Decides.{nat_tests}
 use Rattle.elf_records.specs.declared.program_header.Segment.{Segment}
 use Rattle.elf_records.specs.declared.program_header.TheConstants.{PT_LOAD, PT_DYNAMIC, PT_TLS, PT_GNU_RELRO, PF_R, PF_W}
 use Rattle.elf_records.specs.declared.file_header.TheConstants.{ET_EXEC}
-use Rattle.image_faults.specs.declared.places.FileKind.{FileKind}
-use Rattle.image_faults.specs.declared.places.FileKind.TheVariants.{Exe, Pie, Module}
+use Rattle.image_rules.specs.declared.places.FileKind.{FileKind}
+use Rattle.image_rules.specs.declared.places.FileKind.TheVariants.{Exe, Pie, Module}
 use Rattle.image_faults.specs.Counts.{how_many, behind_last}
 use Rattle.image_faults.specs.Parts.{count, segment, base, loads, is_load, has_tls, tls, has_relro, is_relro, relro_place}
 use Rattle.image_faults.specs.Parts.{is_writable as is_writable_header, behind_last_writable}

@@ -3,7 +3,7 @@ use Rattle.std.proofs.Common.{◌≡◌, ◌≢◌, ◌+◌, ◌-◌, ◌^◌, �
 use Rattle.std.proofs.lemmas.Bool.{cases_eq}
 use Rattle.elf_records.specs.declared.program_header.Segment.{Segment}
 use Rattle.elf_records.specs.declared.program_header.TheConstants.{PF_X, PF_R, PF_W}
-use Rattle.image_faults.specs.declared.places.FileKind.{FileKind}
+use Rattle.image_rules.specs.declared.places.FileKind.{FileKind}
 use Rattle.image_faults.specs.Parts.{segment, base, last}
 use Rattle.image_faults.specs.Segments.{IsPlaced, IsInRange, IsOfFewWritten, IsLastConstant, IsRightLoad, IsRightDynamic}
 use Rattle.image_file.specs.declared.part.PartClass.{PartClass}

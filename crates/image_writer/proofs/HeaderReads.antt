@@ -2,8 +2,8 @@
 use Rattle.std.proofs.Common.{◌≡◌, ◌+◌, ◌-◌, ◌^◌, ◌<◌, ◌≤◌, ℕ, List, Option, Some, IfSome, length, take, refl, ap, subst, ◌∙◌, arith}
 use Rattle.std.proofs.lemmas.Nat.{pow_below}
 use Rattle.elf_records.specs.Records.{FitsSegment}
-use Rattle.image_faults.specs.declared.places.FileKind.{FileKind}
-use Rattle.image_faults.specs.declared.places.FileKind.TheVariants.{Exe, Pie, Module}
+use Rattle.image_rules.specs.declared.places.FileKind.{FileKind}
+use Rattle.image_rules.specs.declared.places.FileKind.TheVariants.{Exe, Pie, Module}
 use Rattle.image_faults.specs.Parts.{header, count, segment}
 use Rattle.image_faults.specs.Segments.{IsAlignment}
 use Rattle.image_file.specs.declared.part.PartClass.{PartClass}

@@ -2,7 +2,7 @@
 use Rattle.std.proofs.Common.{◌≡◌, ◌+◌, ◌<◌, ℕ, suc, List, ◌∷◌, ◌++◌, Option, Some, None, length, map, slice_index_or, refl, ◌∙◌, arith, length-append}
 use Rattle.std.proofs.lemmas.List.{length-map, get_or-map, get_or_append_left, get_or_at, get_or-append-add}
 use Rattle.elf_records.specs.declared.program_header.Segment.{Segment}
-use Rattle.image_faults.specs.declared.places.FileKind.{FileKind}
+use Rattle.image_rules.specs.declared.places.FileKind.{FileKind}
 use Rattle.image_file.specs.declared.part.TlsPart.{TlsPart}
 use Rattle.image_writer.specs.Outlined.{Outlined, part, no_part}
 use Rattle.image_writer.specs.Loadable.{one_if_some}

@@ -9,7 +9,7 @@ use Rattle.elf_records.specs.Fields.{splice}
 use Rattle.elf_records.specs.Records.{header_bytes, segment_bytes}
 use Rattle.elf_records.specs.RecordLaws.{length-header_bytes, length-segment_bytes}
 use Rattle.elf_records.specs.declared.program_header.Segment.{Segment}
-use Rattle.image_faults.specs.declared.places.FileKind.{FileKind}
+use Rattle.image_rules.specs.declared.places.FileKind.{FileKind}
 use Rattle.image_file.specs.declared.part.TlsPart.{TlsPart}
 use Rattle.image_writer.specs.Headers.{header_of, loads_bytes}
 use Rattle.image_writer.specs.Loadable.{one_if_some}

@@ -9,8 +9,8 @@ use Rattle.elf_records.specs.Fields.{bytes_of, splice}
 use Rattle.elf_records.specs.Records.{dynamic_bytes, symbol_bytes, rela_bytes}
 use Rattle.elf_records.specs.RecordLaws.{length-dynamic_bytes, length-rela_bytes}
 use Rattle.elf_records.specs.declared.dynamic.DynamicEntry.{DynamicEntry}
-use Rattle.image_faults.specs.declared.places.FileKind.{FileKind}
-use Rattle.image_faults.specs.declared.places.FileKind.TheVariants.{Exe, Pie, Module}
+use Rattle.image_rules.specs.declared.places.FileKind.{FileKind}
+use Rattle.image_rules.specs.declared.places.FileKind.TheVariants.{Exe, Pie, Module}
 use Rattle.image_file.specs.declared.relocation.ImageRelocation.{ImageRelocation}
 use Rattle.image_writer.specs.declared.draft.NamedSymbol.{NamedSymbol}
 use Rattle.image_writer.specs.declared.draft.Draft.{Draft}

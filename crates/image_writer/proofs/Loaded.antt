@@ -6,7 +6,7 @@ use Rattle.std.proofs.lemmas.Bool.Decides.{nat_tests}
 use Rattle.std.proofs.lemmas.Option.{cond_some}
 use Rattle.elf_records.specs.declared.program_header.Segment.{Segment}
 use Rattle.elf_records.specs.declared.program_header.TheConstants.{PT_LOAD, PT_DYNAMIC, PT_TLS, PT_GNU_RELRO, PF_X, PF_R, PF_W}
-use Rattle.image_faults.specs.declared.rule.FieldRule.TheVariants.{Count}
+use Rattle.image_rules.specs.declared.rule.FieldRule.TheVariants.{Count}
 use Rattle.image_faults.specs.Counts.{how_many, behind_last}
 use Rattle.image_faults.specs.Parts.{count, segment, loads, tls, has_tls, has_relro, is_load, is_relro, relro_place, behind_last_writable}
 use Rattle.image_faults.specs.Parts.{is_writable as is_writable_header}

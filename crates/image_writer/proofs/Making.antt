@@ -4,7 +4,7 @@ use Rattle.std.specs.List.{flat_map}
 use Rattle.std.proofs.lemmas.List.{length-replicate, length-take-le, length-drop}
 use Rattle.elf_records.specs.Fields.{bytes_of, part_at}
 use Rattle.elf_records.specs.Records.{dynamic_bytes, symbol_bytes, rela_bytes}
-use Rattle.image_faults.specs.declared.places.FileKind.{FileKind}
+use Rattle.image_rules.specs.declared.places.FileKind.{FileKind}
 use Rattle.image_writer.specs.declared.draft.Draft.{Draft}
 use Rattle.image_writer.specs.declared.outline.PartPlace.{PartPlace}
 use Rattle.image_writer.specs.Contents.{Contents, contents_of, part_in, parts_end, tables_address}

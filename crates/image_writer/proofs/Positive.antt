@@ -1,11 +1,11 @@
 -- What an image keeps, said of each place: the rules say only that nothing breaks them.
 use Rattle.std.proofs.Common.{◌≡◌, ◌+◌, ◌*◌, ◌^◌, ◌<◌, ◌≤◌, ℕ, List, length, inl, inr, refl, arith}
 use Rattle.elf_records.specs.declared.program_header.Segment.{Segment as Header}
-use Rattle.image_faults.specs.declared.rule.Rule.TheVariants.{Length, Field, Extent, Segment, Entry}
-use Rattle.image_faults.specs.declared.rule.FieldRule.{FieldRule}
-use Rattle.image_faults.specs.declared.rule.FieldRule.TheVariants.{FileType, Machine, Version, TableOffset, EntrySize, Count}
-use Rattle.image_faults.specs.declared.rule.EntryRule.{EntryRule}
-use Rattle.image_faults.specs.declared.rule.EntryRule.TheVariants.{Hash, Strings, Symbols, StringsSize, SymbolSize, Relocations, RelocationsSize, RelocationSize, Flags, End}
+use Rattle.image_rules.specs.declared.rule.Rule.TheVariants.{Length, Field, Extent, Segment, Entry}
+use Rattle.image_rules.specs.declared.rule.FieldRule.{FieldRule}
+use Rattle.image_rules.specs.declared.rule.FieldRule.TheVariants.{FileType, Machine, Version, TableOffset, EntrySize, Count}
+use Rattle.image_rules.specs.declared.rule.EntryRule.{EntryRule}
+use Rattle.image_rules.specs.declared.rule.EntryRule.TheVariants.{Hash, Strings, Symbols, StringsSize, SymbolSize, Relocations, RelocationsSize, RelocationSize, Flags, End}
 use Rattle.image_faults.specs.Parts.{header, count, segment, loads}
 use Rattle.image_faults.specs.Fields.{IsRightField}
 use Rattle.image_faults.specs.Segments.{IsRightLoad, IsRightDynamic, HoldsInitialImage, IsAlignment, IsRightTls, IsRightRelro, IsRightRest}

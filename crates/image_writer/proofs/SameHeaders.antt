@@ -6,9 +6,9 @@ use Rattle.elf_records.specs.declared.file_header.TheConstants.{ET_EXEC, ET_DYN}
 use Rattle.elf_records.specs.declared.dynamic.TheConstants.{DT_FLAGS_1}
 use Rattle.elf_records.specs.declared.file_header.Header.{Header}
 use Rattle.elf_records.specs.declared.program_header.Segment.{Segment}
-use Rattle.image_faults.specs.declared.rule.FieldRule.TheVariants.{FileType}
-use Rattle.image_faults.specs.declared.places.FileKind.{FileKind}
-use Rattle.image_faults.specs.declared.places.FileKind.TheVariants.{Exe, Pie, Module}
+use Rattle.image_rules.specs.declared.rule.FieldRule.TheVariants.{FileType}
+use Rattle.image_rules.specs.declared.places.FileKind.{FileKind}
+use Rattle.image_rules.specs.declared.places.FileKind.TheVariants.{Exe, Pie, Module}
 use Rattle.image_faults.specs.Parts.{header, segment, loads, base, last, has_tls, tls, tls_size}
 use Rattle.image_faults.specs.Segments.{IsClass}
 use Rattle.image_faults.specs.Array.{has_tag, flags_entry}

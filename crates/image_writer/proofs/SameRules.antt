@@ -10,9 +10,9 @@ use Rattle.elf_records.specs.declared.relocation.Rela.{Rela}
 use Rattle.elf_records.specs.declared.dynamic.TheConstants.{DT_NULL, DT_HASH, DT_STRTAB, DT_SYMTAB, DT_RELA, DT_RELASZ, DT_RELAENT, DT_STRSZ}
 use Rattle.elf_records.specs.declared.dynamic.TheConstants.{DT_SYMENT, DT_FLAGS, DT_FLAGS_1}
 use Rattle.elf_records.specs.declared.symbol.TheConstants.{SHN_UNDEF, STB_GLOBAL, STB_WEAK, STT_COMMON, STT_TLS}
-use Rattle.image_faults.specs.declared.rule.EntryRule.{EntryRule}
-use Rattle.image_faults.specs.declared.rule.EntryRule.TheVariants.{Hash, Strings, Symbols, StringsSize, SymbolSize, Relocations, RelocationsSize}
-use Rattle.image_faults.specs.declared.rule.EntryRule.TheVariants.{RelocationSize, Flags, End}
+use Rattle.image_rules.specs.declared.rule.EntryRule.{EntryRule}
+use Rattle.image_rules.specs.declared.rule.EntryRule.TheVariants.{Hash, Strings, Symbols, StringsSize, SymbolSize, Relocations, RelocationsSize}
+use Rattle.image_rules.specs.declared.rule.EntryRule.TheVariants.{RelocationSize, Flags, End}
 use Rattle.image_faults.specs.declared.loader_kind.LoaderKind.{LoaderKind}
 use Rattle.image_faults.specs.declared.loader_kind.LoaderKind.TheVariants.{JumpSlot, Relative, Module, ModuleOffset, ThreadOffset, Descriptor}
 use Rattle.image_faults.specs.declared.symbol_tests.TheConstants.{TLS_GET_ADDR}

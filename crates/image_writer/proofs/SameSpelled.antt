@@ -2,8 +2,8 @@
 use Rattle.std.proofs.Common.{◌≡◌, ◌+◌, ◌<◌, ◌∙◌, ℕ, List, Bool, Option, refl, sym, ap, ◌==◌, if◌then◌else◌, slice_range}
 use Rattle.elf_records.specs.declared.file_header.TheConstants.{ET_DYN}
 use Rattle.elf_records.specs.declared.dynamic.TheConstants.{DT_FLAGS, DT_FLAGS_1}
-use Rattle.image_faults.specs.declared.places.FileKind.{FileKind}
-use Rattle.image_faults.specs.declared.places.FileKind.TheVariants.{Exe, Pie, Module}
+use Rattle.image_rules.specs.declared.places.FileKind.{FileKind}
+use Rattle.image_rules.specs.declared.places.FileKind.TheVariants.{Exe, Pie, Module}
 use Rattle.image_faults.specs.Parts.{header, segment, loads, tls}
 use Rattle.image_faults.specs.Array.{array_size, has_tag, flags_entry, symbol_count, relocation_count}
 use Rattle.image_faults.specs.Places.{file_kind, is_flagged, got}

@@ -6,7 +6,7 @@ use Rattle.std.proofs.lemmas.Bool.Decides.{nat_tests}
 use Rattle.elf_records.specs.Fields.{number_at, part_at}
 use Rattle.elf_records.specs.Records.{symbol_at, rela_at}
 use Rattle.elf_records.specs.declared.dynamic.TheConstants.{DT_RELA, DT_RELASZ}
-use Rattle.image_faults.specs.declared.rule.EntryRule.TheVariants.{Hash, Strings, Symbols, Relocations}
+use Rattle.image_rules.specs.declared.rule.EntryRule.TheVariants.{Hash, Strings, Symbols, Relocations}
 use Rattle.image_faults.specs.Parts.{last}
 use Rattle.image_faults.specs.Array.{array_size, entry, HasTag, has_tag, place, HoldsTable, IsRightEntry, hash_place, bucket_count, symbol_count}
 use Rattle.image_faults.specs.Array.{strings_place, strings_size, symbols_place, has_relocations, relocations_size, relocations_place}

@@ -3,8 +3,8 @@ use Rattle.std.proofs.Common.{◌≡◌, ◌+◌, ◌<◌, ◌≤◌, ◌⊎◌,
 use Rattle.std.proofs.lemmas.List.{length-map}
 use Rattle.std.proofs.lemmas.Option.{get_or_from_slice_get, slice_get-map}
 use Rattle.std.specs.List.{slice_range}
-use Rattle.image_faults.specs.declared.rule.FieldRule.TheVariants.{FileType}
-use Rattle.image_faults.specs.declared.places.FileKind.TheVariants.{Exe, Pie, Module}
+use Rattle.image_rules.specs.declared.rule.FieldRule.TheVariants.{FileType}
+use Rattle.image_rules.specs.declared.places.FileKind.TheVariants.{Exe, Pie, Module}
 use Rattle.image_faults.specs.Parts.{header, segment, loads, base, tls}
 use Rattle.elf_records.specs.declared.dynamic.TheConstants.{DT_FLAGS_1}
 use Rattle.image_faults.specs.Array.{array_size, has_tag, flags_entry}

@@ -6,8 +6,8 @@ use Rattle.elf_records.specs.Records.{FitsDynamicEntry}
 use Rattle.elf_records.specs.declared.dynamic.TheConstants.{DT_NULL, DT_HASH, DT_STRTAB, DT_SYMTAB, DT_RELA, DT_RELASZ}
 use Rattle.elf_records.specs.declared.dynamic.TheConstants.{DT_RELAENT, DT_STRSZ, DT_SYMENT, DT_FLAGS, DT_FLAGS_1}
 use Rattle.elf_records.specs.declared.dynamic.TheConstants.{DF_STATIC_TLS, DF_1_PIE}
-use Rattle.image_faults.specs.declared.places.FileKind.{FileKind}
-use Rattle.image_faults.specs.declared.places.FileKind.TheVariants.{Exe, Pie, Module}
+use Rattle.image_rules.specs.declared.places.FileKind.{FileKind}
+use Rattle.image_rules.specs.declared.places.FileKind.TheVariants.{Exe, Pie, Module}
 use Rattle.image_writer.specs.Contents.{Contents, tables_address}
 use Rattle.image_writer.specs.Tables.{array, array_entry, array_size, flags_entries, has_relocations, hash_size, relocation_entries}
 use Rattle.image_writer.specs.Tables.{relocations_start, strings, strings_start, symbols_start, tables}

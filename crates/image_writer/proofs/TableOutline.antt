@@ -5,8 +5,8 @@ use Rattle.std.proofs.lemmas.List.{get_or-map, get_or_append_left, get_or_push, 
 use Rattle.std.proofs.lemmas.Option.{slice_get-get_or}
 use Rattle.elf_records.specs.Fields.{part_at}
 use Rattle.elf_records.specs.declared.program_header.Segment.{Segment}
-use Rattle.image_faults.specs.declared.places.FileKind.{FileKind}
-use Rattle.image_faults.specs.declared.places.FileKind.TheVariants.{Exe, Pie, Module}
+use Rattle.image_rules.specs.declared.places.FileKind.{FileKind}
+use Rattle.image_rules.specs.declared.places.FileKind.TheVariants.{Exe, Pie, Module}
 use Rattle.image_faults.specs.Parts.{header, last, loads, segment}
 use Rattle.image_file.specs.Spelled.{Part}
 use Rattle.image_writer.specs.Outlined.{end_of, last_part, no_part, outline_of, part, place_of}

@@ -9,9 +9,9 @@ use Rattle.elf_records.specs.declared.symbol.SymbolEntry.{SymbolEntry}
 use Rattle.image_faults.specs.declared.loader_kind.LoaderKind.{LoaderKind}
 use Rattle.image_faults.specs.declared.loader_kind.LoaderKind.TheVariants.{JumpSlot, Relative, Module, ModuleOffset}
 use Rattle.image_faults.specs.declared.loader_kind.LoaderKind.TheVariants.{ThreadOffset, Descriptor}
-use Rattle.image_faults.specs.declared.rule.TableRule.{TableRule}
-use Rattle.image_faults.specs.declared.rule.TableRule.TheVariants.{Symbol, Relocation, TlsSymbol, TlsRelocation}
-use Rattle.image_faults.specs.declared.rule.Rule.TheVariants.{Table}
+use Rattle.image_rules.specs.declared.rule.TableRule.{TableRule}
+use Rattle.image_rules.specs.declared.rule.TableRule.TheVariants.{Symbol, Relocation, TlsSymbol, TlsRelocation}
+use Rattle.image_rules.specs.declared.rule.Rule.TheVariants.{Table}
 use Rattle.image_faults.specs.Parts.{has_tls, loads, segment, tls_size}
 use Rattle.image_faults.specs.Symbols as found
 use Rattle.image_faults.specs.Symbols.{IsPastTls}

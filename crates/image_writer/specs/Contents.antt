@@ -1,7 +1,7 @@
 -- What a linker knows of an image before its dynamic tables are laid, and the image that it becomes.
 use Rattle.std.specs.Prelude.{◌+◌, ℕ, Bool, false, List, [], ◌∷◌, Option, length, map, slice_index_or}
 use Rattle.std.specs.Int.{next_multiple_of}
-use Rattle.image_faults.specs.declared.places.FileKind.{FileKind}
+use Rattle.image_rules.specs.declared.places.FileKind.{FileKind}
 use Rattle.image_file.specs.declared.part.TlsPart.{TlsPart}
 use Rattle.image_file.specs.declared.symbol.ImageSymbol.{ImageSymbol}
 use Rattle.image_file.specs.declared.symbol.SymbolBinding.TheVariants.{Local}

@@ -4,7 +4,7 @@ use Rattle.std.specs.List.{flat_map}
 use Rattle.elf_records.specs.declared.file_header.Header.{Header}
 use Rattle.elf_records.specs.Records.{segment_bytes}
 use Rattle.elf_records.specs.declared.file_header.TheConstants.{ELF_IDENT, EM_X86_64, EV_CURRENT}
-use Rattle.image_faults.specs.declared.places.FileKind.{FileKind}
+use Rattle.image_rules.specs.declared.places.FileKind.{FileKind}
 use Rattle.image_writer.specs.Outlined.{Outlined}
 use Rattle.image_writer.specs.Page.{base_of, load_header, type_of}
 

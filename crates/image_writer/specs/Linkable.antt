@@ -1,7 +1,7 @@
 -- What a linker owes of the contents of an image.
 use Rattle.std.specs.Prelude.{◌≡◌, ◌≢◌, ◌+◌, ◌<◌, ◌≤◌, ◌⊎◌, ◌≤ℤ◌, ℕ, ℤ, pos, true, false, List, [], ◌∷◌}
 use Rattle.std.specs.Prelude.{Option, Some, None, All, IsSome, length, codes}
-use Rattle.image_faults.specs.declared.places.FileKind.TheVariants as file
+use Rattle.image_rules.specs.declared.places.FileKind.TheVariants as file
 use Rattle.image_faults.specs.declared.loader_kind.LoaderKind.{LoaderKind}
 use Rattle.image_faults.specs.declared.loader_kind.LoaderKind.TheVariants.{JumpSlot, Relative, Module, ModuleOffset}
 use Rattle.image_faults.specs.declared.loader_kind.LoaderKind.TheVariants.{ThreadOffset, Descriptor}

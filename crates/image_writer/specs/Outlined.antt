@@ -1,6 +1,6 @@
 -- What a page of headers says of an image: what it is, where its parts lie, and which of them is the GOT.
 use Rattle.std.specs.Prelude.{◌+◌, ◌-◌, ℕ, List, Option, length, map, slice_index_or}
-use Rattle.image_faults.specs.declared.places.FileKind.{FileKind}
+use Rattle.image_rules.specs.declared.places.FileKind.{FileKind}
 use Rattle.image_file.specs.declared.part.PartClass.TheVariants.{ReadOnly}
 use Rattle.image_file.specs.declared.part.TlsPart.{TlsPart}
 use Rattle.image_file.specs.Spelled.{Part, Spelled}

@@ -19,8 +19,8 @@ use Rattle.elf_records.specs.declared.symbol.TheConstants.{STV_DEFAULT, STV_INTE
 use Rattle.elf_records.specs.declared.relocation.TheConstants.{R_X86_64_JUMP_SLOT, R_X86_64_RELATIVE}
 use Rattle.elf_records.specs.declared.relocation.TheConstants.{R_X86_64_DTPMOD64, R_X86_64_DTPOFF64, R_X86_64_TPOFF64}
 use Rattle.elf_records.specs.declared.relocation.TheConstants.{R_X86_64_TLSDESC}
-use Rattle.image_faults.specs.declared.places.FileKind.{FileKind}
-use Rattle.image_faults.specs.declared.places.FileKind.TheVariants.{Exe, Pie, Module}
+use Rattle.image_rules.specs.declared.places.FileKind.{FileKind}
+use Rattle.image_rules.specs.declared.places.FileKind.TheVariants.{Exe, Pie, Module}
 use Rattle.image_faults.specs.declared.loader_kind.LoaderKind.{LoaderKind}
 use Rattle.image_faults.specs.declared.loader_kind.LoaderKind.TheVariants as loader
 use Rattle.image_file.specs.declared.part.PartClass.TheVariants.{ReadOnly}

@@ -8,7 +8,7 @@ use Rattle.elf_records.specs.declared.dynamic.TheConstants.{DT_HASH, DT_STRTAB, 
 use Rattle.elf_records.specs.declared.dynamic.TheConstants.{DT_RELAENT, DT_STRSZ, DT_SYMENT, DT_NULL}
 use Rattle.elf_records.specs.Fields.{bytes_of}
 use Rattle.elf_records.specs.Records.{dynamic_bytes, symbol_bytes, rela_bytes}
-use Rattle.image_faults.specs.declared.places.FileKind.{FileKind}
+use Rattle.image_rules.specs.declared.places.FileKind.{FileKind}
 use Rattle.image_file.specs.declared.part.PartClass.TheVariants.{ReadOnly}
 use Rattle.image_file.specs.declared.relocation.ImageRelocation.{ImageRelocation}
 use Rattle.image_writer.specs.declared.outline.PartPlace.{PartPlace}

@@ -1,8 +1,8 @@
 -- What `show FILE` says of the bytes of its file: the image that they spell, or where they are none.
 use Rattle.std.specs.Prelude.{◌≡◌, ◌⊎◌, ◌++◌, ℕ, List, codes}
 use Rattle.std.specs.Fmt.{decimal}
-use Rattle.image_faults.specs.declared.fault.FaultKind.{FaultKind}
-use Rattle.image_faults.specs.FaultNames.{kind_name}
+use Rattle.image_rules.specs.declared.fault.FaultKind.{FaultKind}
+use Rattle.image_rules.specs.FaultNames.{kind_name}
 use Rattle.image_faults.specs.Faults.{IsImage, IsFirstFault}
 use Rattle.image_file.specs.Spelled.{spelled}
 use Rattle.image_text.specs.Shown.{shown}

@@ -1,18 +1,18 @@
 -- The order of the rules, and the kind of fault where one is broken.
 use Rattle.std.specs.Prelude.{◌+◌, ℕ}
-use Rattle.image_faults.specs.declared.fault.FaultKind.{FaultKind}
-use Rattle.image_faults.specs.declared.fault.FaultKind.TheVariants as kind
-use Rattle.image_faults.specs.declared.rule.Rule.{Rule}
-use Rattle.image_faults.specs.declared.rule.Rule.TheVariants.{Length, Ident, Field, Extent, Segment, Entry, Table}
-use Rattle.image_faults.specs.declared.rule.FieldRule.{FieldRule}
-use Rattle.image_faults.specs.declared.rule.FieldRule.TheVariants.{FileType, Machine, Version, TableOffset, EntrySize}
-use Rattle.image_faults.specs.declared.rule.FieldRule.TheVariants.{Count}
-use Rattle.image_faults.specs.declared.rule.EntryRule.{EntryRule}
-use Rattle.image_faults.specs.declared.rule.EntryRule.TheVariants.{Hash, Strings, Symbols, StringsSize, SymbolSize}
-use Rattle.image_faults.specs.declared.rule.EntryRule.TheVariants.{Relocations, RelocationsSize, RelocationSize, Flags}
-use Rattle.image_faults.specs.declared.rule.EntryRule.TheVariants.{End}
-use Rattle.image_faults.specs.declared.rule.TableRule.{TableRule}
-use Rattle.image_faults.specs.declared.rule.TableRule.TheVariants.{Symbol, Relocation, TlsSymbol, TlsRelocation}
+use Rattle.image_rules.specs.declared.fault.FaultKind.{FaultKind}
+use Rattle.image_rules.specs.declared.fault.FaultKind.TheVariants as kind
+use Rattle.image_rules.specs.declared.rule.Rule.{Rule}
+use Rattle.image_rules.specs.declared.rule.Rule.TheVariants.{Length, Ident, Field, Extent, Segment, Entry, Table}
+use Rattle.image_rules.specs.declared.rule.FieldRule.{FieldRule}
+use Rattle.image_rules.specs.declared.rule.FieldRule.TheVariants.{FileType, Machine, Version, TableOffset, EntrySize}
+use Rattle.image_rules.specs.declared.rule.FieldRule.TheVariants.{Count}
+use Rattle.image_rules.specs.declared.rule.EntryRule.{EntryRule}
+use Rattle.image_rules.specs.declared.rule.EntryRule.TheVariants.{Hash, Strings, Symbols, StringsSize, SymbolSize}
+use Rattle.image_rules.specs.declared.rule.EntryRule.TheVariants.{Relocations, RelocationsSize, RelocationSize, Flags}
+use Rattle.image_rules.specs.declared.rule.EntryRule.TheVariants.{End}
+use Rattle.image_rules.specs.declared.rule.TableRule.{TableRule}
+use Rattle.image_rules.specs.declared.rule.TableRule.TheVariants.{Symbol, Relocation, TlsSymbol, TlsRelocation}
 
 -- the fields in the order of the file
 abbrev pub field_number : FieldRule → ℕ

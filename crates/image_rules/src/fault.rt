@@ -1,8 +1,8 @@
 //! What may be wrong with an image, and where in the file.
 
 ghost use Rattle.std.specs.Prelude.{◌≡◌, Some, codes};
-ghost use Rattle.image_faults.specs.declared.fault.ImageFault.TheVariants.{OutOfMemory};
-ghost use Rattle.image_faults.specs.FaultNames.{kind_name};
+ghost use Rattle.image_rules.specs.declared.fault.ImageFault.TheVariants.{OutOfMemory};
+ghost use Rattle.image_rules.specs.FaultNames.{kind_name};
 
 use std::alloc::AllocError;
 use std::fmt;

@@ -1,7 +1,7 @@
 //! The rules that an image keeps, in the order in which they are asked.
 
 ghost use Rattle.std.specs.Prelude.{◌≡◌};
-ghost use Rattle.image_faults.specs.Rules.{kind_of};
+ghost use Rattle.image_rules.specs.Rules.{kind_of};
 
 use crate::fault::FaultKind;
 

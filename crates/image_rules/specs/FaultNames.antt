@@ -1,8 +1,8 @@
 -- The kinds of fault as they are printed.
 use Rattle.std.specs.Prelude.{ℕ, List, codes}
-use Rattle.image_faults.specs.declared.fault.FaultKind.{FaultKind}
-use Rattle.image_faults.specs.declared.fault.FaultKind.TheVariants.{Truncated, Header, Segment, Dynamic, Relocation}
-use Rattle.image_faults.specs.declared.fault.FaultKind.TheVariants.{TlsPlace}
+use Rattle.image_rules.specs.declared.fault.FaultKind.{FaultKind}
+use Rattle.image_rules.specs.declared.fault.FaultKind.TheVariants.{Truncated, Header, Segment, Dynamic, Relocation}
+use Rattle.image_rules.specs.declared.fault.FaultKind.TheVariants.{TlsPlace}
 
 abbrev pub kind_name : FaultKind → List ℕ
 kind_name Truncated = codes "Truncated"
