@@ -28,7 +28,7 @@ use Rattle.job_meaning.specs.Owner.{owner_at}
 use Rattle.job_meaning.specs.Reading.{completed, hindrance, read_step, reaches_linker, meaning_step}
 use Rattle.job_meaning.specs.Running.{meaning}
 use Rattle.module_table.specs.declared.events.Event.{Event}
-use Rattle.link_core.specs.Parts.{Image}
+use Rattle.local_exec.specs.Parts.{Image}
 use Rattle.thread_blocks.specs.MachineTurns.{CallLine, call_said, zeros}
 use Rattle.thread_blocks.specs.Spaces.{space_accesses}
 use Rattle.thread_blocks.specs.Turns.{Said, Stopped}

@@ -12,8 +12,8 @@ use Rattle.job_meaning.specs.declared.values.Byte.{Byte}
 use Rattle.job_meaning.specs.declared.values.Byte.TheVariants.{Value}
 use Rattle.job_meaning.specs.Marked.{code_byte}
 use Rattle.job_meaning.specs.Same.{SameByte}
-use Rattle.link_core.specs.Parts.{Image, image_of}
-use Rattle.link_core.proofs.Meant.{images_meant}
+use Rattle.local_exec.specs.Parts.{Image, image_of}
+use Rattle.local_exec.proofs.Meant.{images_meant}
 use Rattle.tls_layout.specs.Sections.{layout_of}
 use Rattle.tls_relocs.specs.Laid.{Placed}
 use Rattle.thread_blocks.specs.MachineTurns.{zeros}

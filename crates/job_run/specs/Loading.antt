@@ -4,8 +4,8 @@ use Rattle.std.specs.List.{All}
 use Rattle.guest_machine.specs.Ranges.{Range}
 use Rattle.job_meaning.specs.declared.values.Byte.{Byte}
 use Rattle.job_meaning.specs.declared.values.Byte.TheVariants.{Value}
-use Rattle.link_core.specs.Meant.{meant_image}
-use Rattle.link_core.specs.Parts.{Image}
+use Rattle.local_exec.specs.Meant.{meant_image}
+use Rattle.local_exec.specs.Parts.{Image}
 use Rattle.tls_layout.specs.Sections.{Layout}
 use Rattle.tls_relocs.specs.Laid.{Placed}
 use Rattle.thread_blocks.specs.MachineTurns.{Loaded, pointer_of, zeros}

@@ -2,8 +2,8 @@
 use Rattle.std.specs.Prelude.{◌≡◌, ℕ, List, [], Option, Some}
 use Rattle.job_meaning.specs.declared.values.Byte.{Byte}
 use Rattle.module_table.specs.declared.events.Event.{Event}
-use Rattle.link_core.specs.Laws.{AreLinked}
-use Rattle.link_core.specs.Parts.{image_of}
+use Rattle.local_exec.specs.Laws.{AreLinked}
+use Rattle.local_exec.specs.Parts.{image_of}
 use Rattle.link_faults.specs.declared.image_kind.ImageKind.{ImageKind}
 use Rattle.tls_layout.specs.Sections.{layout_of}
 use Rattle.thread_blocks.specs.MachineTurns.{Loaded, CallLine, call_said}

@@ -8,7 +8,7 @@
 //! stub or a table, a program can read those bytes, or jump into them.
 //!
 //! **The meaning's.** Run the calls over the bytes of the objects' own sections, each at its place, with
-//! marked values (`job_meaning`). What stands at an address is said by `link_core`'s `specs/Meant`: the
+//! marked values (`job_meaning`). What stands at an address is said by `local_exec`'s `specs/Meant`: the
 //! byte of the section that stands there, in a relocation's field the byte of the value that the psABI's
 //! table gives, and between sections zero; nothing of it is taken from a linked image. Some places are the
 //! linker's own and no program's: the room behind the last section, up to the end of the image, and the
@@ -30,7 +30,7 @@
 //!   line, the numbers of events that its looks saw included, and the histories are the same;
 //! - `threads_mean_their_own`: what a thread means in an order it means alone.
 //!
-//! The first is a law of the link alone, with no thread in it, and rests on `link_core`'s
+//! The first is a law of the link alone, with no thread in it, and rests on `local_exec`'s
 //! `images_are_meant`: a wrong field in an image fails there.
 //!
 //! Where a line is unclean the laws promise nothing of the whole job, and they could not: what a program

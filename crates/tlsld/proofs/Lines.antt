@@ -11,15 +11,15 @@ use Rattle.module_table.specs.declared.events.Event.{Event}
 use Rattle.transcript_text.specs.declared.outcomes.Outcome.{Outcome}
 use Rattle.transcript_text.specs.declared.outcomes.Outcome.TheVariants.{Refused}
 use Rattle.transcript_text.specs.declared.outcomes.LineRefusal.TheVariants.{Symbol}
-use Rattle.link_core.specs.Entries.{entry_of}
-use Rattle.link_core.specs.Parts.{Image, image_of}
+use Rattle.local_exec.specs.Entries.{entry_of}
+use Rattle.local_exec.specs.Parts.{Image, image_of}
 use Rattle.tlsld.specs.SmallJobs.{Small}
 use Rattle.thread_blocks.specs.declared.call.Call.{Call}
 use Rattle.thread_blocks.specs.declared.parts.Executable.{Executable}
 use Rattle.thread_blocks.specs.MachineTurns.{Loaded, CallLine, call_said, machine_turns, shown}
 use Rattle.thread_blocks.specs.Parts.{loaded_of, IsCallOutcome}
 use Rattle.tlsld.specs.Executables.{IsExecutable}
-use Rattle.link_core.specs.Taken.{object_is_taken}
+use Rattle.local_exec.specs.Taken.{object_is_taken}
 use Rattle.link_faults.specs.declared.image_kind.ImageKind.TheVariants.{Exe}
 use Rattle.tlsld.specs.SmallObjects.{is_small_object, names_are_small, all_new, global_names, symbols, relocation_count}
 use Rattle.elf_object.specs.Parts.{symbol_count}

@@ -1,6 +1,6 @@
 -- A linked image as a thread sees it.
 use Rattle.std.specs.Prelude.{◌≡◌, ◌<◌, ℕ, All}
-use Rattle.link_core.specs.Parts.{Image}
+use Rattle.local_exec.specs.Parts.{Image}
 use Rattle.tls_relocs.specs.Laid.{Placed}
 use Rattle.link_faults.specs.declared.part.Part.{Part}
 use Rattle.thread_blocks.specs.declared.parts.Executable.{Executable}

@@ -3,8 +3,8 @@ use Rattle.std.specs.Prelude.{◌^◌, ◌&&◌, ℕ, Bool, List, [], ◌∷◌,
 use Rattle.job_run.specs.Loading.{machine_loaded, meaning_loaded}
 use Rattle.job_run.specs.Meaning.{meant_said}
 use Rattle.module_table.specs.declared.events.Event.{Event}
-use Rattle.link_core.specs.Entries.{entry_of}
-use Rattle.link_core.specs.Parts.{Image, image_of}
+use Rattle.local_exec.specs.Entries.{entry_of}
+use Rattle.local_exec.specs.Parts.{Image, image_of}
 use Rattle.link_faults.specs.declared.image_kind.ImageKind.TheVariants.{Exe}
 use Rattle.tlsld.specs.SmallJobs.{Small}
 use Rattle.tlsld.specs.SmallObjects.{is_small_object}

@@ -8,7 +8,7 @@ use Rattle.elf_object.specs.Faults.{IsObject, IsFault, IsFirstAt}
 use Rattle.elf_object.specs.Object.{IsWritable}
 use Rattle.job_run.specs.Loading.{machine_loaded, HasBytes}
 use Rattle.module_table.specs.declared.events.Event.{Event}
-use Rattle.link_core.specs.Parts.{Image}
+use Rattle.local_exec.specs.Parts.{Image}
 use Rattle.tls_layout.specs.Sections.{Layout}
 use Rattle.job_run.specs.Worlds.{AreClean}
 use Rattle.transcript_text.specs.declared.outcomes.Outcome.{Outcome}

@@ -7,7 +7,7 @@ use Rattle.elf_object.specs.Lent.{symbol_name, symbol_binding, relocations}
 use Rattle.elf_object.specs.Object.{section_count}
 use Rattle.elf_object.specs.Parts.{symbol_count}
 use Rattle.tls_symbols.specs.Definitions.{same_binding}
-use Rattle.link_core.specs.Taken.{object_is_taken}
+use Rattle.local_exec.specs.Taken.{object_is_taken}
 
 -- the function of the run time, which no object defines
 abbrev pub get_address : List ℕ

@@ -22,7 +22,7 @@
 //! - No two of its GLOBAL symbols have the same name. WEAK names may come again, since the first of them is meant.
 //! - None is `__tls_get_addr`, the run time's function (Drepper, "ELF Handling For Thread-Local Storage", section
 //!   4.1).
-//! - The sections that linking keeps have at most 2^19 relocations, and `link_core` takes each: an `R_X86_64_TPOFF32`
+//! - The sections that linking keeps have at most 2^19 relocations, and `local_exec` takes each: an `R_X86_64_TPOFF32`
 //!   of the object's own GLOBAL variable, with an addend of at most 2^20 either way (psABI AMD64, "Relocation
 //!   Types").
 //!

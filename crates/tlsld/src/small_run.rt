@@ -7,7 +7,7 @@
 //! bytes   the object is read; the first fault, if it has one, is the answer      elf_object
 //! object  it must be of those that are taken                                     not_yet
 //! places  where its sections go, as an executable                                tls_layout
-//! image   its sections' bytes, with their fields written                         link_core
+//! image   its sections' bytes, with their fields written                         local_exec
 //! call    thread 1 gets a block of its own and calls the function                thread_blocks
 //! ```
 //!

@@ -6,7 +6,7 @@ ghost use Rattle.tlsld.specs.SmallObjects.{has_small_name, is_small_object, name
 
 use elf_object::{Object, SymbolBinding};
 use indexmap::IndexSet;
-use link_core::takes;
+use local_exec::takes;
 use std::alloc::{AllocError, Global};
 
 /// The most symbols that are taken, the reserved one included.

@@ -2,7 +2,7 @@
 ghost use Rattle.std.specs.Prelude.{◌≡◌, ◌<◌, ℕ, All};
 ghost use Rattle.tlsld.specs.Executables.{IsExecutable};
 
-use link_core::Linked;
+use local_exec::Linked;
 use link_faults::Part;
 use thread_blocks::{BlockImage, Executable};
 

@@ -12,7 +12,7 @@ use super::refusal::ObjectRefusal;
 use crate::not_yet::{SmallJob, is_small_object};
 use elf_object::Object;
 use job_run::laws::{call_means, images_are_linked};
-use link_core::{Linked, entry_place, link};
+use local_exec::{Linked, entry_place, link};
 use link_faults::{ImageKind, LinkFault};
 use std::alloc::Global;
 use thread_blocks::{Call, run_call};
