@@ -4,7 +4,7 @@ ghost use Rattle.std.specs.Prelude.{◌≡◌, ◌<◌, ℕ, [], IfOk, OnOk, len
 ghost use Rattle.std.specs.List.{All};
 ghost use Rattle.elf_object.specs.Parts.{symbol_count};
 ghost use Rattle.tls_symbols.specs.Bindings.{object_at};
-ghost use Rattle.dynamic_symbols.specs.Names.{imported_in, imports, is_import};
+ghost use Rattle.dynamic_symbols.specs.Names.{first_of, imported_in, imports, is_import};
 ghost use Rattle.dynamic_symbols.specs.Walks.{HaveSymbols, with_names};
 
 use elf_object::{Object, Relocation};
@@ -13,20 +13,26 @@ use sequence_match::Site;
 use std::alloc::{AllocError, Global};
 use tls_symbols::{Binding, Bindings};
 
+/// A relocation of the type of a site's first one that names the site's symbol. What the symbol is bound to depends on
+/// nothing else of it.
+pub fn first_of(site: &Site) -> Relocation
+    ensures { result ≡ first_of site.now }
+{
+    Relocation {
+        offset: 0,
+        kind: site.form.row().first,
+        symbol: site.symbol,
+        addend: 0,
+    }
+}
+
 /// Whether a startup image defines what a site of an object uses.
 fn is_import(bindings: &Bindings, index: usize, site: &Site) -> bool
     requires object { index < length bindings.now.objects }
     requires symbol { site.now.symbol < symbol_count (object_at bindings.now.objects index) }
     ensures { result ≡ is_import bindings.now.objects bindings.now.startup index site.now }
 {
-    // Its first relocation; what the symbol is bound to depends on the type and the symbol alone.
-    let first = Relocation {
-        offset: 0,
-        kind: site.form.row().first,
-        symbol: site.symbol,
-        addend: 0,
-    };
-    matches!(bindings.binding(index, &first), Some(Binding::Startup(_)))
+    matches!(bindings.binding(index, &first_of(site)), Some(Binding::Startup(_)))
 }
 
 /// Adds the names that an object's sites import.
@@ -54,23 +60,23 @@ fn add_imported<'a>(
 
 /// The names that an image of these objects takes from startup images: each that the sequences of an object use and
 /// that is bound to a startup image. `sites` has the sequences of each object. The names stand in the order of their
-/// first sites. The only error is want of memory.
+/// first sites, each found by hash. The only error is want of memory.
 pub fn imports<'a>(
     alloc: Global,
     objects: &[Object<'a>],
     bindings: &Bindings,
     sites: &[Vec<Site>],
-) -> Result<Vec<&'a [u8]>, AllocError>
+) -> Result<IndexSet<&'a [u8]>, AllocError>
     requires objects { objects.now ≡ bindings.now.objects }
     requires each { length sites.now ≡ length objects.now }
     requires symbols { (o : ℕ) → o < length objects.now
         → HaveSymbols (object_at objects.now o) (slice_index_or (map (λ own. own.items) sites.now) o []) }
-    ensures { IfOk result (λ names. map (λ name. name.now) names.items
+    ensures { IfOk result (λ names. map (λ name. name.now) names.keys
         ≡ imports objects.now bindings.now.startup (map (λ own. own.items) sites.now)) }
 {
     let mut names = IndexSet::new(alloc);
     for (index, own) in sites.iter().enumerate() {
         add_imported(bindings, index, &objects[index], own, &mut names)?;
     }
-    Vec::from_slice(alloc, names.as_slice())
+    Ok(names)
 }

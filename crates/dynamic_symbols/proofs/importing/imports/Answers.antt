@@ -33,12 +33,6 @@ loop-index-preserved c =
     ∙ walk_from objects startup seen sites i own (drop_here sites i own c.index-sites-index.is c.loop-index-test.true)
     ∙ c.loop-index.invariant
 
--- what a copy of lent names has
-copied : {E : Type 0} (made : Result (Vec (Bor (List ℕ))) E) (lent : List (Bor (List ℕ))) (names : List (List ℕ)) → IfOk made (λ v. v.items ≡ lent)
-    → map (λ name. name.now) lent ≡ names → IfOk made (λ v. map (λ name. name.now) v.items ≡ names)
-copied (Ok v) lent names is known = ap (map (λ name. name.now)) is ∙ known
-copied (Err e) lent names is known = tt
-
 pub returns : goal.returns
 unfolding imports
 returns c =
@@ -46,10 +40,7 @@ returns c =
     let startup = c.args.bindings.now.startup in
     let sites = c.args.sites.now in
     let listed = map (λ own. own.items) sites in
-    let known =
-    ap (map (λ name. name.now)) c.as_slice.ensures.keys
-    ∙ ended_from objects startup (map (λ name. name.now) c.loop-index.names.keys) sites c.loop-index.index c.loop-index-test.false
+    ended_from objects startup (map (λ name. name.now) c.loop-index.names.keys) sites c.loop-index.index c.loop-index-test.false
     ∙ c.loop-index.invariant
     ∙ added (imported_from objects startup 0 listed)
-    ∙ ap (λ os. distinct (imported_from os startup 0 listed)) (sym c.requires.objects) in
-    copied c.from_slice.result c.as_slice.result.now (imports c.args.objects.now startup listed) c.from_slice.ensures.items known
+    ∙ ap (λ os. distinct (imported_from os startup 0 listed)) (sym c.requires.objects)

@@ -1,0 +1,205 @@
+-- The symbols and the relocations by which a loader ties an image to others (gABI, "Symbol Table", "Relocation";
+-- psABI, "Relocation Types").
+use Rattle.std.specs.Prelude.{◌+◌, ◌-◌, ◌*◌, ◌^◌, ◌&&◌, ◌++◌, ℕ, ℤ, pos, ◌+ℤ◌, Bool, true, false, List, [], ◌∷◌, length}
+use Rattle.std.specs.Prelude.{Option, Some, None, codes, map, unwrap_or, if◌then◌else◌}
+use Rattle.std.specs.Int.{w64, cast_signed}
+use Rattle.std.specs.List.{flat_map, list_any, position_from, range_with_len}
+use Rattle.std.specs.Str.{bytes_eq}
+use Rattle.elf_records.specs.declared.relocation.RelocationKind.{RelocationKind}
+use Rattle.elf_records.specs.declared.relocation.RelocationKind.TheVariants.{Absolute64}
+use Rattle.elf_object.specs.declared.relocation.Relocation.{Relocation}
+use Rattle.elf_object.specs.declared.symbol.SymbolBinding.{SymbolBinding}
+use Rattle.elf_object.specs.declared.symbol.SymbolBinding.TheVariants as of_object
+use Rattle.elf_object.specs.declared.symbol.SymbolType.{SymbolType}
+use Rattle.elf_object.specs.declared.symbol.SymbolType.TheVariants as type_in_object
+use Rattle.elf_object.specs.declared.symbol.Visibility.{Visibility}
+use Rattle.elf_object.specs.declared.symbol.Visibility.TheVariants as seen_in_object
+use Rattle.elf_object.specs.Lent.{relocations, symbol_binding, symbol_size, symbol_type, symbol_visibility}
+use Rattle.elf_object.specs.Object.{section_count}
+use Rattle.dynamic_symbols.specs.Names.{defined_symbols, imports as imports_of, name_of}
+use Rattle.got_pairs.specs.declared.entry.DynamicKind.{DynamicKind}
+use Rattle.got_pairs.specs.declared.entry.DynamicKind.TheVariants as dynamic
+use Rattle.got_pairs.specs.declared.entry.DynamicRelocation.{DynamicRelocation}
+use Rattle.got_pairs.specs.declared.entry.DynamicSymbol.{DynamicSymbol}
+use Rattle.got_pairs.specs.declared.entry.DynamicSymbol.TheVariants.{Image, Imported, Runtime}
+use Rattle.got_pairs.specs.declared.entry.Entry.{Entry}
+use Rattle.got_pairs.specs.declared.entry.Entry.TheVariants.{One, Two}
+use Rattle.got_pairs.specs.declared.need.Need.{Need}
+use Rattle.got_pairs.specs.declared.entry.Word.{Word}
+use Rattle.got_pairs.specs.Entries.{entry_of}
+use Rattle.got_pairs.specs.Plans.{starts_from}
+use Rattle.image_faults.specs.declared.loader_kind.LoaderKind.{LoaderKind}
+use Rattle.image_faults.specs.declared.loader_kind.LoaderKind.TheVariants as loader
+use Rattle.image_file.specs.declared.relocation.ImageRelocation.{ImageRelocation}
+use Rattle.image_file.specs.declared.symbol.ImageSymbol.{ImageSymbol}
+use Rattle.image_file.specs.declared.symbol.SymbolBinding as binding_in_image
+use Rattle.image_file.specs.declared.symbol.SymbolBinding.TheVariants as of_image
+use Rattle.image_file.specs.declared.symbol.SymbolType as type_of_image
+use Rattle.image_file.specs.declared.symbol.SymbolType.TheVariants as type_in_image
+use Rattle.image_file.specs.declared.symbol.Visibility as visibility_of_image
+use Rattle.image_file.specs.declared.symbol.Visibility.TheVariants as seen_in_image
+use Rattle.link_refusals.specs.Refused.{is_module, is_moved}
+use Rattle.sequence_match.specs.declared.forms.Form.{Form}
+use Rattle.sequence_match.specs.declared.forms.Form.TheVariants.{IeMov, IeAdd}
+use Rattle.sequence_match.specs.declared.places.Site.{Site}
+use Rattle.tls_relocs.specs.Values.{modulo}
+use Rattle.tls_symbols.specs.declared.symbols.SymbolRef.{SymbolRef}
+use Rattle.tls_symbols.specs.Bindings.{get_address, is_tls_symbol}
+use Rattle.link_core.specs.Linking.{Linking, address, binding, block_offset, object, offset, place}
+use Rattle.link_core.specs.Needs.{entries, got_start, uses_runtime}
+use Rattle.link_core.specs.Sorting.{sorted_by}
+use Rattle.link_core.specs.Values.{own_number}
+
+-- ** symbols
+
+-- what an object says of a symbol, as an image does
+abbrev pub binding_shown : SymbolBinding → binding_in_image.SymbolBinding
+binding_shown of_object.Local = of_image.Local
+binding_shown of_object.Global = of_image.Global
+binding_shown of_object.Weak = of_image.Weak
+
+abbrev pub visibility_shown : Visibility → visibility_of_image.Visibility
+visibility_shown seen_in_object.Default = seen_in_image.Default
+visibility_shown seen_in_object.Internal = seen_in_image.Internal
+visibility_shown seen_in_object.Hidden = seen_in_image.Hidden
+visibility_shown seen_in_object.Protected = seen_in_image.Protected
+
+abbrev pub type_shown : SymbolType → type_of_image.SymbolType
+type_shown type_in_object.NoType = type_in_image.NoType
+type_shown type_in_object.Object = type_in_image.Object
+type_shown type_in_object.Func = type_in_image.Func
+type_shown type_in_object.Section = type_in_image.Section
+type_shown type_in_object.File = type_in_image.File
+type_shown type_in_object.Tls = type_in_image.Tls
+
+-- a symbol of the image: a thread-local one is told by its offset in the TLS segment, whatever type its object says
+unfoldable pub defined : Linking → SymbolRef → ImageSymbol
+defined l found =
+    let b = object l found.object in
+    record {
+      binding = binding_shown (symbol_binding b found.symbol);
+      kind = (if is_tls_symbol b found.symbol then type_in_image.Tls else type_shown (symbol_type b found.symbol));
+      visibility = visibility_shown (symbol_visibility b found.symbol);
+      is_defined = true;
+      value = (if is_tls_symbol b found.symbol then offset l found else address l found);
+      size = symbol_size b found.symbol;
+    }
+
+-- a symbol of another image
+abbrev pub foreign : type_of_image.SymbolType → ImageSymbol
+foreign kind = record {
+  binding = of_image.Global;
+  kind = kind;
+  visibility = seen_in_image.Default;
+  is_defined = false;
+  value = 0;
+  size = 0;
+}
+
+abbrev pub own_symbols : Linking → List SymbolRef
+own_symbols l = defined_symbols l.objects
+
+abbrev pub imports : Linking → List (List ℕ)
+imports l = imports_of l.objects l.startup l.sites
+
+-- the function of the run time, where it is called through its word
+abbrev pub runtime_symbols : Bool → List ImageSymbol
+runtime_symbols uses = if uses then foreign type_in_image.NoType ∷ [] else []
+
+abbrev pub runtime_names : Bool → List (List ℕ)
+runtime_names uses = if uses then get_address ∷ [] else []
+
+-- the symbols from number 1 on, and their names: those of the image, the imports, the function of the run time
+unfoldable pub symbols : Linking → List ImageSymbol
+symbols l =
+    map (defined l) (own_symbols l)
+    ++ (map (λ (name : List ℕ). foreign type_in_image.Tls) (imports l) ++ runtime_symbols (uses_runtime l))
+
+unfoldable pub names : Linking → List (List ℕ)
+names l = map (name_of l.objects) (own_symbols l) ++ (imports l ++ runtime_names (uses_runtime l))
+
+-- the number of the symbol that a word of the table names
+abbrev pub number_of : Linking → DynamicSymbol → ℕ
+number_of l Image = 0
+number_of l (Imported name) =
+    1 + (length (own_symbols l) + unwrap_or (position_from (bytes_eq name) 0 (imports l)) 0)
+number_of l Runtime = 1 + (length (own_symbols l) + length (imports l))
+
+-- ** relocations of the table
+
+abbrev pub loader_kind : DynamicKind → LoaderKind
+loader_kind dynamic.JumpSlot = loader.JumpSlot
+loader_kind dynamic.Relative = loader.Relative
+loader_kind dynamic.DtpMod64 = loader.Module
+loader_kind dynamic.DtpOff64 = loader.ModuleOffset
+loader_kind dynamic.TpOff64 = loader.ThreadOffset
+loader_kind dynamic.TlsDesc = loader.Descriptor
+
+abbrev pub relocation_of : Linking → ℕ → DynamicRelocation → ImageRelocation
+relocation_of l place d = record {
+  place = place;
+  kind = loader_kind d.kind;
+  symbol = number_of l d.symbol;
+  addend = cast_signed w64 d.addend;
+}
+
+-- that of a word at an address
+abbrev pub word_relocations : Linking → ℕ → Option DynamicRelocation → List ImageRelocation
+word_relocations l place None = []
+word_relocations l place (Some d) = relocation_of l place d ∷ []
+
+abbrev pub entry_relocations : Linking → ℕ → Entry → List ImageRelocation
+entry_relocations l place (One v) = word_relocations l place v.relocation
+entry_relocations l place (Two v w) =
+    word_relocations l place v.relocation ++ word_relocations l (place + 8) w.relocation
+
+abbrev pub need_relocations : Linking → Need × ℕ → List ImageRelocation
+need_relocations l entry = entry_relocations l entry.1 (entry_of l.kind (block_offset l) entry.0)
+
+unfoldable pub got_relocations : Linking → List ImageRelocation
+got_relocations l = flat_map (need_relocations l) (starts_from (got_start l) (entries l))
+
+-- ** relocations of fields: addresses of 8 bytes, in an image that may lie anywhere
+
+abbrev pub is_absolute : RelocationKind → Bool
+is_absolute Absolute64 = true
+is_absolute kind = false
+
+abbrev pub relative : ℕ → ℤ → ImageRelocation
+relative place addend = record { place = place; kind = loader.Relative; symbol = 0; addend = addend }
+
+-- S + A, as 64 bits hold it
+abbrev pub sum_of : Linking → ℕ → Relocation → ℤ
+sum_of l o r = cast_signed w64 (modulo (2 ^ 64) (pos (own_number l r.kind (binding l o r)) +ℤ r.addend))
+
+abbrev pub field_relocations : Linking → ℕ → ℕ → Relocation → List ImageRelocation
+field_relocations l o t r =
+    if is_absolute r.kind then relative (place l o t r.offset) (sum_of l o r) ∷ [] else []
+
+abbrev pub section_relocations : Linking → ℕ → List ℕ → ℕ → List ImageRelocation
+section_relocations l o b t = flat_map (field_relocations l o t) (relocations b t)
+
+unfoldable pub object_relocations : Linking → ℕ → List ℕ → List ImageRelocation
+object_relocations l o b = flat_map (section_relocations l o b) (range_with_len 0 (section_count b))
+
+abbrev pub object_relocations_from : Linking → ℕ → List (List ℕ) → List ImageRelocation
+object_relocations_from l o [] = []
+object_relocations_from l o (b ∷ more) = object_relocations l o b ++ object_relocations_from l (o + 1) more
+
+unfoldable pub relatives : Linking → List ImageRelocation
+relatives l =
+    if is_moved l.kind then sorted_by (λ r. r.place) (object_relocations_from l 0 l.objects) else []
+
+-- all relocations by their places: the table lies behind all sections
+unfoldable pub image_relocations : Linking → List ImageRelocation
+image_relocations l = relatives l ++ got_relocations l
+
+-- ** the flag of a module that reaches thread-local data at a fixed distance from the thread pointer
+
+abbrev pub is_initial : Form → Bool
+is_initial IeMov = true
+is_initial IeAdd = true
+is_initial form = false
+
+unfoldable pub is_flagged : Linking → Bool
+is_flagged l = is_module l.kind && list_any (λ own. list_any (λ (site : Site). is_initial site.form) own) l.sites
