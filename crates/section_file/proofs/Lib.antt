@@ -1,0 +1,5 @@
+pub mod Bounds
+pub mod Chains
+pub mod Kept
+pub mod Laid
+pub mod Rising
