@@ -1,5 +1,5 @@
 -- What a section has in memory.
-use Rattle.std.proofs.Common.{◌≡◌, ◌+◌, ◌-◌, ◌<◌, ◌≤◌, ◌==◌, ◌&&◌, ◌∙◌, ℕ, not, Bool, true, false, List, [], ◌++◌, length, slice_range, nat_lt, Option, Some, None, if◌then◌else◌, refl, sym, ap, arith, length-append, length-take, length-drop}
+use Rattle.std.proofs.Common.{◌≡◌, ◌+◌, ◌-◌, ◌<◌, ◌≤◌, ◌==◌, ◌&&◌, ◌∙◌, ℕ, not, Bool, true, false, List, [], ◌++◌, length, slice_range, drop, nat_lt, Option, Some, None, if◌then◌else◌, refl, sym, ap, arith, length-append, length-take, length-drop}
 use Rattle.std.proofs.lemmas.List.{length-replicate}
 use Rattle.object_faults.specs.declared.class.SectionClass.{SectionClass}
 use Rattle.object_faults.specs.declared.class.SectionClass.TheVariants.{Executable, ReadOnly, Tls, Writable}
@@ -25,7 +25,8 @@ no_longer b s = short_if (is_section b s) _ b (section b s).offset (section b s)
 pub long_as_memory : (b : List ℕ) (s : ℕ) → length (memory_bytes b s) ≡ section_size b s
 long_as_memory b s =
     let short = no_longer b s in
-    omega (arith, length-append (section_bytes b s) (zeros (section_size b s - length (section_bytes b s))), length-replicate (section_size b s - length (section_bytes b s)) 0)
+    let pad : length (zeros (section_size b s - length (section_bytes b s))) ≡ section_size b s - length (section_bytes b s) = length-replicate (section_size b s - length (section_bytes b s)) 0 in
+    omega (arith, length-append (section_bytes b s) (zeros (section_size b s - length (section_bytes b s))))
 
 -- a section that programs write has bytes
 written : (t : Bool) (class : Option SectionClass) (n : ℕ) (initial : Bool) → (if t then kept_of class n else None) ≡ Some (Writable initial) → 0 < (if t then n else 0)

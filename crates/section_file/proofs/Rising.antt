@@ -123,10 +123,10 @@ module _ (kind : ImageKind) (objects : List (List ℕ)) (class : SectionClass) (
   abbrev p : Layout
   p = layout_of kind objects
 
-  first : ℕ
+  pub first : ℕ
   first = sum (take o p.counts)
 
-  position_is : (s : ℕ) → s < section_count b → position p.counts o s ≡ Some (first + s)
+  pub position_is : (s : ℕ) → s < section_count b → position p.counts o s ≡ Some (first + s)
   unfolding position section_counts first
   position_is s below =
       let count : slice_index p.counts o ≡ section_count b = get_or-map section_count objects o [] 0 within ∙ ap section_count here in
@@ -136,7 +136,7 @@ module _ (kind : ImageKind) (objects : List (List ℕ)) (class : SectionClass) (
   unfolding section_named
   named_is s below = rw (position_is s below) refl
 
-  section_is : (s : ℕ) → s < section_count b → IsSectionOf b s (section_at p.sections (first + s))
+  pub section_is : (s : ℕ) → s < section_count b → IsSectionOf b s (section_at p.sections (first + s))
   section_is s below = subst (λ (x : Section). IsSectionOf b s x) (named_is s below) (subst (λ (c : List ℕ). IsSectionOf c s (section_named p o s)) here (finds_sections kind objects o s within))
 
   -- where a section of the class stands
