@@ -1,13 +1,10 @@
 -- A page of zeros with the sections laid down behind it is the file.
-use Rattle.std.proofs.Common.{◌≡◌, ◌∙◌, ◌+◌, ℕ, List, [], ◌++◌, length, refl, sym, ap, subst, append-nil, arith, length-append}
-use Rattle.std.proofs.lemmas.List.{length-replicate}
+use Rattle.std.proofs.Common.{◌≡◌, ◌∙◌, ℕ, List, [], ◌++◌, length, sym, ap, subst, append-nil}
 use Rattle.object_faults.specs.declared.class.SectionClass.TheVariants.{Executable, ReadOnly, Tls, Writable}
-use Rattle.object_faults.specs.declared.class.SectionClass.{SectionClass}
 use Rattle.std.specs.Prelude.{true, false}
 use Rattle.link_faults.specs.declared.image_kind.ImageKind.{ImageKind}
 use Rattle.tls_layout.specs.Sections.{Layout, layout_of}
-use Rattle.tls_relocs.specs.Laid.{Placed, Rising, laid, zeros, end_of}
-use Rattle.tls_relocs.specs.LaidLaws.{length-laid}
+use Rattle.tls_relocs.specs.Laid.{Placed, Rising, laid, zeros}
 use Rattle.section_file.specs.Files.{placed, placed_class, sections_file}
 use Rattle.section_file.specs.Laying.{with_sections}
 use Rattle.section_file.proofs.Laid.{sections_append, laid_behind}

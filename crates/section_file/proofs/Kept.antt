@@ -1,5 +1,5 @@
 -- What a section has in memory.
-use Rattle.std.proofs.Common.{◌≡◌, ◌+◌, ◌-◌, ◌<◌, ◌≤◌, ◌==◌, ◌&&◌, ◌∙◌, ℕ, not, Bool, true, false, List, [], ◌++◌, length, slice_range, drop, nat_lt, Option, Some, None, if◌then◌else◌, refl, sym, ap, arith, length-append, length-take, length-drop}
+use Rattle.std.proofs.Common.{◌≡◌, ◌+◌, ◌-◌, ◌<◌, ◌≤◌, ◌&&◌, ℕ, Bool, true, false, List, [], length, slice_range, drop, Option, Some, None, if◌then◌else◌, arith, length-append, length-take}
 use Rattle.std.proofs.lemmas.List.{length-replicate}
 use Rattle.object_faults.specs.declared.class.SectionClass.{SectionClass}
 use Rattle.object_faults.specs.declared.class.SectionClass.TheVariants.{Executable, ReadOnly, Tls, Writable}

@@ -1,11 +1,11 @@
 -- What a reader finds in the file.
-use Rattle.std.proofs.Common.{◌≡◌, ◌+◌, ◌-◌, ◌<◌, ◌≤◌, ◌∙◌, ℕ, List, ◌++◌, length, Some, refl, sym, ap, subst, arith, length-append}
+use Rattle.std.proofs.Common.{◌≡◌, ◌<◌, ◌≤◌, ◌∙◌, ℕ, List, length, Some, sym, ap, subst, arith, length-append}
 use Rattle.std.specs.Prelude.{slice_get}
 use Rattle.std.proofs.lemmas.List.{length-replicate}
 use Rattle.link_faults.specs.declared.image_kind.ImageKind.{ImageKind}
-use Rattle.tls_layout.specs.Sections.{Layout, layout_of}
+use Rattle.tls_layout.specs.Sections.{layout_of}
 use Rattle.tls_relocs.specs.Elements.{slice_get-append, slice_get-append_behind, slice_get-replicate}
-use Rattle.tls_relocs.specs.Laid.{Placed, Rising, laid, zeros, end_of, unit_at}
+use Rattle.tls_relocs.specs.Laid.{Rising, laid, zeros, end_of, unit_at}
 use Rattle.tls_relocs.specs.LaidLaws.{laid_bytes, length-laid}
 use Rattle.section_file.specs.Files.{placed, sections_file}
 use Rattle.section_file.proofs.Filed.{Pages, page_of}

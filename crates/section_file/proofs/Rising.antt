@@ -1,20 +1,20 @@
 -- The sections of a file rise, and end where their classes do.
-use Rattle.std.proofs.Common.{◌≡◌, ◌+◌, ◌-◌, ◌<◌, ◌≤◌, ◌∙◌, ◌&&◌, ℕ, zero, suc, Bool, true, false, List, [], ◌∷◌, ◌++◌, length, take, drop, slice_index_or, Option, Some, None, IsSome, inl, inr, refl, sym, ap, subst, arith}
-use Rattle.std.specs.Prelude.{sum, unwrap_or, slice_index, nat_lt, if◌then◌else◌}
+use Rattle.std.proofs.Common.{◌≡◌, ◌+◌, ◌<◌, ◌≤◌, ◌∙◌, ℕ, zero, suc, Bool, true, false, List, [], ◌∷◌, length, take, drop, slice_index_or, Option, Some, IsSome, inl, inr, refl, sym, ap, subst, arith}
+use Rattle.std.specs.Prelude.{sum, unwrap_or, slice_index}
 use Rattle.std.specs.List.{flat_map, range_with_len}
 use Rattle.std.proofs.Math.Seq.{drop-cons}
 use Rattle.std.proofs.lemmas.Bool.{cases_lt, lt-ltb, le-ltb}
 use Rattle.std.proofs.Math.ListN.{drop_of_length-le}
-use Rattle.std.proofs.lemmas.List.{append-nil, get_or-map, take_all, length-drop, length-map}
+use Rattle.std.proofs.lemmas.List.{get_or-map, take_all, length-drop, length-map}
 use Rattle.std.proofs.lemmas.List.Sums.{sum_by_more}
 use Rattle.object_faults.specs.declared.class.SectionClass.{SectionClass}
 use Rattle.object_faults.specs.declared.class.SectionClass.TheVariants.{Executable, ReadOnly, Tls, Writable}
-use Rattle.elf_object.specs.Lent.{section_class, section_size, section_bytes}
+use Rattle.elf_object.specs.Lent.{section_class, section_size}
 use Rattle.elf_object.specs.Object.{section_count}
 use Rattle.link_faults.specs.declared.image_kind.ImageKind.{ImageKind}
 use Rattle.link_faults.specs.ImageKinds.{base_of}
 use Rattle.tls_layout.specs.declared.sections.Section.{Section}
-use Rattle.tls_layout.specs.Laws.{extent_for, IsSectionOf}
+use Rattle.tls_layout.specs.Laws.{IsSectionOf}
 use Rattle.tls_layout.specs.Places.{end_of as class_end, place_in, address_of, address_at, address_by, section_named}
 use Rattle.tls_layout.specs.Sections.{Layout, layout_of, section_at, section_counts, all_sections, position, is_class, is_in, dropped}
 use Rattle.tls_layout.proofs.Ends.{end_of-more, end_of-all, end_of-none, end_of-rises}
@@ -23,9 +23,8 @@ use Rattle.tls_layout.proofs.LawsOfSections.{finds_sections}
 use Rattle.tls_layout.proofs.Listed.{length-all_sections}
 use Rattle.tls_layout.proofs.Rounds.{round_up-above}
 use Rattle.tls_layout.proofs.Together.{Ascend, ascend, Rise, rise}
-use Rattle.tls_relocs.specs.Laid.{Placed, Rising, end_of}
-use Rattle.section_file.specs.Files.{offset_of, memory_bytes, placed_section, placed_object, placed_from, placed_class, end_mark}
-use Rattle.section_file.proofs.Chains.{Lies, lies-append, end_of-append, rising-append}
+use Rattle.section_file.specs.Files.{offset_of, placed_section, placed_object, placed_from}
+use Rattle.section_file.proofs.Chains.{Lies, lies-append}
 use Rattle.section_file.proofs.Kept.{long_as_memory, written_some}
 
 -- ** classes

@@ -1,5 +1,5 @@
 -- Which sections stand in the file, and what lies in none.
-use Rattle.std.proofs.Common.{◌≡◌, ◌+◌, ◌-◌, ◌<◌, ◌≤◌, ◌⊎◌, ◌∙◌, ℕ, zero, suc, Bool, true, false, List, [], ◌∷◌, ◌++◌, length, drop, slice_index, slice_index_or, Option, Some, None, inl, inr, refl, sym, ap, subst, arith}
+use Rattle.std.proofs.Common.{◌≡◌, ◌+◌, ◌-◌, ◌<◌, ◌≤◌, ◌⊎◌, ◌∙◌, ℕ, zero, suc, Bool, true, false, List, [], ◌∷◌, length, drop, slice_index, slice_index_or, Some, inl, inr, refl, sym, ap, subst, arith}
 use Rattle.std.specs.Prelude.{nat_lt, unwrap_or, slice_get, if◌then◌else◌}
 use Rattle.std.specs.List.{flat_map, range_with_len}
 use Rattle.std.proofs.lemmas.Bool.{cases_lt, lt-ltb, le-ltb}
@@ -11,7 +11,6 @@ use Rattle.object_faults.specs.declared.class.SectionClass.TheVariants.{Executab
 use Rattle.elf_object.specs.Lent.{section_class, section_size, section_bytes}
 use Rattle.elf_object.specs.Object.{section_count}
 use Rattle.link_faults.specs.declared.image_kind.ImageKind.{ImageKind}
-use Rattle.link_faults.specs.ImageKinds.{base_of}
 use Rattle.tls_layout.specs.declared.extent.Extent.{Extent}
 use Rattle.tls_layout.specs.Laws.{extent_for}
 use Rattle.tls_layout.specs.Places.{address_of, address_at, place_in}
@@ -22,7 +21,7 @@ use Rattle.tls_relocs.specs.Elements.{slice_get-append, slice_get-append_behind,
 use Rattle.tls_relocs.specs.Laid.{Placed, zeros}
 use Rattle.section_file.specs.Files.{offset_of, memory_bytes, placed, placed_class, placed_section, placed_object, placed_from, end_mark}
 use Rattle.section_file.specs.Laws.{StandsAt, IsOutside}
-use Rattle.section_file.proofs.Kept.{long_as_memory, no_longer}
+use Rattle.section_file.proofs.Kept.{long_as_memory}
 use Rattle.section_file.proofs.Found.{Among, among_one, among_front, among_back, Clear, clear_none, clear_one, clear-append}
 use Rattle.section_file.proofs.Rising.{address_some, dropped_is, start, first}
 

@@ -1,13 +1,10 @@
 -- What the file of sections holds, offset by offset.
-use Rattle.std.proofs.Common.{◌≡◌, ◌+◌, ◌-◌, ◌<◌, ◌≤◌, ◌∙◌, ℕ, List, [], length, slice_index_or, Some, inl, inr, refl, sym, ap, subst, arith}
+use Rattle.std.proofs.Common.{◌≡◌, ◌+◌, ◌-◌, ◌∙◌, ℕ, List, [], slice_index_or, inl, inr, ap, arith}
 use Rattle.std.specs.Prelude.{slice_get, unwrap_or}
 use Rattle.std.proofs.lemmas.Bool.{cases_lt}
-use Rattle.elf_object.specs.Lent.{section_size, section_bytes}
 use Rattle.link_faults.specs.declared.image_kind.ImageKind.{ImageKind}
-use Rattle.tls_layout.specs.Places.{address_of}
-use Rattle.tls_layout.specs.Sections.{Layout, layout_of}
-use Rattle.tls_relocs.specs.Laid.{Placed}
-use Rattle.section_file.specs.Files.{offset_of, placed, memory_bytes, sections_file}
+use Rattle.tls_layout.specs.Sections.{layout_of}
+use Rattle.section_file.specs.Files.{offset_of, placed, memory_bytes}
 use Rattle.section_file.specs.Laws.{FilesEnd, SectionsFit, SectionsStand, GapsAreZero, StandsAt}
 use Rattle.section_file.proofs.Kept.{long_as_memory}
 use Rattle.section_file.proofs.Pages.{file_len, file_page, file_unit}

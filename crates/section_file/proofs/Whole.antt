@@ -1,5 +1,5 @@
 -- The whole file rises, and ends where the last class does that has bytes.
-use Rattle.std.proofs.Common.{◌≡◌, ◌+◌, ◌-◌, ◌<◌, ◌≤◌, ◌∙◌, ℕ, Bool, true, false, List, [], ◌∷◌, ◌++◌, length, inl, inr, refl, sym, ap, subst, append_assoc, arith}
+use Rattle.std.proofs.Common.{◌≡◌, ◌+◌, ◌-◌, ◌<◌, ◌≤◌, ◌∙◌, ℕ, Bool, true, false, List, [], ◌∷◌, ◌++◌, inl, inr, refl, sym, ap, subst, append_assoc, arith}
 use Rattle.std.specs.Prelude.{nat_lt, if◌then◌else◌}
 use Rattle.std.proofs.lemmas.Bool.{cases_lt, lt-ltb, le-ltb}
 use Rattle.std.proofs.lemmas.List.{append-nil}
@@ -8,16 +8,15 @@ use Rattle.object_faults.specs.declared.class.SectionClass.TheVariants.{Executab
 use Rattle.link_faults.specs.declared.image_kind.ImageKind.{ImageKind}
 use Rattle.link_faults.specs.ImageKinds.{base_of}
 use Rattle.tls_layout.specs.declared.extent.Extent.{Extent}
-use Rattle.tls_layout.specs.Laws.{extent_for}
-use Rattle.tls_layout.specs.Places.{executable, read_only, tls_image, initial_data, zero_data, writable}
+use Rattle.tls_layout.specs.Places.{executable, read_only, tls_image, initial_data, zero_data}
 use Rattle.tls_layout.specs.Sections.{Layout, layout_of}
 use Rattle.tls_layout.proofs.LawsOfPlaces.{group, has_address}
 use Rattle.tls_layout.proofs.Together.{Ascend, ascend, Rise, rise}
 use Rattle.tls_relocs.specs.Laid.{Placed, Rising, end_of}
-use Rattle.section_file.specs.Files.{offset_of, placed, placed_class, placed_from, end_mark, classes}
+use Rattle.section_file.specs.Files.{offset_of, placed, placed_class, placed_from}
 use Rattle.section_file.specs.Laws.{end_or, sections_end}
-use Rattle.section_file.proofs.Chains.{Lies, Follows, follows, end_of-above, end_of-append, rising-append, rising-below}
-use Rattle.section_file.proofs.Rising.{is_writable, class_lies, start, end, start_is, end_is, from_base}
+use Rattle.section_file.proofs.Chains.{Lies, follows, end_of-append, rising-append}
+use Rattle.section_file.proofs.Rising.{is_writable, class_lies, start, end, start_is, end_is}
 
 -- ** a class with the mark at its end
 

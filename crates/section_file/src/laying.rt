@@ -31,7 +31,7 @@ fn push(file: &mut Vec<u8>, offset: u64, bytes: &[u8], zeros: usize) -> Result<(
     requires few { zeros ≤ 2 ^ 20 }
     ensures { OnOk result
         (file.new.items ≡ with_section file.old.items
-            (record { place = offset; bytes = bytes.now ++ zeros_of zeros })) }
+        (record { place = offset; bytes = bytes.now ++ zeros_of zeros })) }
 {
     let gap = (offset as usize).saturating_sub(file.len());
     file.resize(file.len() + gap, 0)?;
@@ -207,10 +207,34 @@ pub fn lay_sections(
     ensures { IfOk result (λ file. file.items ≡ sections_file placement.now objects.now) }
 {
     let mut file = first_page(alloc, placement, kind)?;
-    push_class(placement, kind, SectionClass::Executable, objects, &mut file)?;
+    push_class(
+        placement,
+        kind,
+        SectionClass::Executable,
+        objects,
+        &mut file,
+    )?;
     push_class(placement, kind, SectionClass::ReadOnly, objects, &mut file)?;
-    push_class(placement, kind, SectionClass::Tls { initial: true }, objects, &mut file)?;
-    push_class(placement, kind, SectionClass::Writable { initial: true }, objects, &mut file)?;
-    push_class(placement, kind, SectionClass::Writable { initial: false }, objects, &mut file)?;
+    push_class(
+        placement,
+        kind,
+        SectionClass::Tls { initial: true },
+        objects,
+        &mut file,
+    )?;
+    push_class(
+        placement,
+        kind,
+        SectionClass::Writable { initial: true },
+        objects,
+        &mut file,
+    )?;
+    push_class(
+        placement,
+        kind,
+        SectionClass::Writable { initial: false },
+        objects,
+        &mut file,
+    )?;
     Ok(file)
 }

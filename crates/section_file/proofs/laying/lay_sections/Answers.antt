@@ -1,6 +1,5 @@
 use Rattle.std.proofs.Common.{◌≡◌, ◌∙◌, true, false, sym, ap, subst}
-use Rattle.object_faults.specs.declared.class.SectionClass.TheVariants.{Executable, ReadOnly, Tls, Writable}
-use Rattle.tls_layout.specs.Sections.{layout_of}
+use Rattle.object_faults.specs.declared.class.SectionClass.TheVariants.{ReadOnly, Tls, Writable}
 use Rattle.section_file.specs.Files.{placed, placed_class, sections_file}
 use Rattle.section_file.specs.Laying.{with_sections}
 use Rattle.section_file.proofs.Filed.{classes_laid, all_laid}
