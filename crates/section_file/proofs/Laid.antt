@@ -32,6 +32,8 @@ pub sections_end : (p : Layout) (class : SectionClass) (o : ℕ) (b : List ℕ) 
     → with_sections file (flat_map (placed_section p class o b) (range_with_len a (n - a))) ≡ file
 sections_end p class o b file a n h = rw (range_none a n h) refl
 
+pub ruleset one_by_one = (sections_step, sections_end)
+
 -- the sections of an object, and then those of the objects behind it
 pub objects_step : (p : Layout) (class : SectionClass) (o : ℕ) (b : List ℕ) (more : List (List ℕ)) (file : List ℕ)
     → with_sections (with_sections file (placed_object p class o b)) (placed_from p class (o + 1) more) ≡ with_sections file (placed_from p class o (b ∷ more))

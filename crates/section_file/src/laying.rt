@@ -3,8 +3,8 @@
 ghost use Rattle.std.specs.Prelude.{◌≡◌, ◌+◌, ◌-◌, ◌<◌, ◌≤◌, ◌^◌, ◌++◌, OnOk, IfOk, length, unwrap_or};
 ghost use Rattle.elf_object.specs.Object.{section_count};
 ghost use Rattle.link_faults.specs.ImageKinds.{base_of};
-ghost use Rattle.section_file.specs.Files.{end_mark, offset_of as file_offset, placed_class, placed_from, placed_object};
-ghost use Rattle.section_file.specs.Files.{placed_section, sections_file};
+ghost use Rattle.section_file.specs.Files.{end_mark, offset_of as file_offset, placed_class, placed_from};
+ghost use Rattle.section_file.specs.Files.{placed_object, placed_section, sections_file};
 ghost use Rattle.section_file.specs.Laying.{with_section, with_sections};
 ghost use Rattle.tls_layout.specs.Laws.{extent_for};
 ghost use Rattle.tls_layout.specs.Places.{address_of, IsLawful};
@@ -54,7 +54,7 @@ fn is_of(class: SectionClass, kept: Option<SectionClass>) -> bool
     }
 }
 
-/// Where a section stands in the file. One without an address is never asked for.
+/// Where a section stands in the file. One without an address is never asked for: its answer is that of address 0.
 #[tactic(auto, using(crate::proofs::Bounds::address_bounds))]
 fn section_offset(placement: &Placement, kind: ImageKind, number: usize, section: u32) -> u64
     requires kind { placement.now.kind ≡ kind }
@@ -98,7 +98,7 @@ fn push_section(
 }
 
 /// Lays down the sections of an object that are of the class.
-#[tactic(auto, using(crate::proofs::Laid::sections_step, crate::proofs::Laid::sections_end), unfolding(crate::specs::Files::placed_object))]
+#[tactic(auto, using(crate::proofs::Laid::one_by_one), unfolding(crate::specs::Files::placed_object))]
 fn push_object(
     placement: &Placement,
     kind: ImageKind,
