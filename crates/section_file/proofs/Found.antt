@@ -3,6 +3,7 @@ use Rattle.std.proofs.Common.{◌≡◌, ◌+◌, ◌-◌, ◌<◌, ◌≤◌, �
 use Rattle.std.specs.Prelude.{slice_get}
 use Rattle.std.proofs.lemmas.Bool.{lt-ltb, le-ltb}
 use Rattle.tls_relocs.specs.Laid.{Placed, Rising, end_of, unit_at}
+use Rattle.section_file.proofs.Chains.{end_of-above}
 
 -- a section is one of some
 pub Among : Placed → List Placed → Type 0
@@ -29,18 +30,11 @@ pub record LiesWithin (at : ℕ) (xs : List Placed) (x : Placed) : Type 0 where
   pub above : at ≤ x.place
   pub below : x.place + length x.bytes ≤ end_of at xs
 
-end_above : (at : ℕ) (xs : List Placed) → Rising at xs → at ≤ end_of at xs
-end_above at [] rising = omega arith
-end_above at (x ∷ xs) rising =
-    let rises : at ≤ x.place = rising.0 in
-    let more = end_above (x.place + length x.bytes) xs rising.1 in
-    omega arith
-
 pub lies_within : (at : ℕ) (xs : List Placed) (x : Placed) → Rising at xs → Among x xs → LiesWithin at xs x
 unfolding Among
 lies_within at [] x rising h = absurd h
 lies_within at (y ∷ ys) x rising (inl e) =
-    let more = end_above (y.place + length y.bytes) ys rising.1 in
+    let more = end_of-above (y.place + length y.bytes) ys rising.1 in
     subst (λ z. LiesWithin at (y ∷ ys) z) (sym e) (record { above = rising.0; below = more })
 lies_within at (y ∷ ys) x rising (inr h) =
     let rises : at ≤ y.place = rising.0 in

@@ -16,6 +16,17 @@ use link_faults::ImageKind;
 use std::alloc::{AllocError, Global};
 use tls_layout::{Extent, PAGE, Placement};
 
+/// The classes that have addresses, in the order of these.
+const CODE: SectionClass = SectionClass::Executable;
+
+const CONSTANTS: SectionClass = SectionClass::ReadOnly;
+
+const INITIAL_TLS: SectionClass = SectionClass::Tls { initial: true };
+
+const INITIAL_DATA: SectionClass = SectionClass::Writable { initial: true };
+
+const ZERO_DATA: SectionClass = SectionClass::Writable { initial: false };
+
 /// Where the byte of an address stands in the file, whose first page is that of the headers.
 pub fn offset_of(kind: ImageKind, address: u64) -> u64
     requires from_base { base_of kind ≤ address + 4096 }
@@ -207,34 +218,10 @@ pub fn lay_sections(
     ensures { IfOk result (λ file. file.items ≡ sections_file placement.now objects.now) }
 {
     let mut file = first_page(alloc, placement, kind)?;
-    push_class(
-        placement,
-        kind,
-        SectionClass::Executable,
-        objects,
-        &mut file,
-    )?;
-    push_class(placement, kind, SectionClass::ReadOnly, objects, &mut file)?;
-    push_class(
-        placement,
-        kind,
-        SectionClass::Tls { initial: true },
-        objects,
-        &mut file,
-    )?;
-    push_class(
-        placement,
-        kind,
-        SectionClass::Writable { initial: true },
-        objects,
-        &mut file,
-    )?;
-    push_class(
-        placement,
-        kind,
-        SectionClass::Writable { initial: false },
-        objects,
-        &mut file,
-    )?;
+    push_class(placement, kind, CODE, objects, &mut file)?;
+    push_class(placement, kind, CONSTANTS, objects, &mut file)?;
+    push_class(placement, kind, INITIAL_TLS, objects, &mut file)?;
+    push_class(placement, kind, INITIAL_DATA, objects, &mut file)?;
+    push_class(placement, kind, ZERO_DATA, objects, &mut file)?;
     Ok(file)
 }
