@@ -1,5 +1,5 @@
 -- What the file of sections holds, offset by offset, in words that know nothing of how it is laid.
-use Rattle.std.specs.Prelude.{◌≡◌, ◌≢◌, ◌+◌, ◌<◌, ◌≤◌, ◌⊎◌, ℕ, true, List, Option, Some, length, slice_get, slice_index_or}
+use Rattle.std.specs.Prelude.{◌≡◌, ◌+◌, ◌<◌, ◌≤◌, ◌⊎◌, ℕ, true, List, [], Some, length, slice_get, slice_index_or}
 use Rattle.std.specs.Prelude.{nat_lt, if◌then◌else◌}
 use Rattle.std.specs.List.{All}
 use Rattle.object_faults.specs.declared.class.SectionClass.TheVariants.{Executable, ReadOnly, Tls, Writable}
@@ -21,7 +21,8 @@ end_or extent rest = if nat_lt extent.start extent.end then extent.end else rest
 unfoldable pub sections_end : Layout → ℕ
 sections_end p =
     end_or (extent_for (Writable true) p)
-    (end_or (extent_for (Tls true) p) (end_or (extent_for ReadOnly p) (end_or (extent_for Executable p) (base_of p.kind))))
+    (end_or (extent_for (Tls true) p)
+    (end_or (extent_for ReadOnly p) (end_or (extent_for Executable p) (base_of p.kind))))
 
 -- objects that a layout within the limits places
 pub record AreLaid (kind : ImageKind) (objects : List (List ℕ)) : Type 0 where

@@ -1,5 +1,5 @@
 -- Laying sections down one behind another.
-use Rattle.std.specs.Prelude.{◌+◌, ◌-◌, ℕ, List, [], ◌∷◌, ◌++◌, length}
+use Rattle.std.specs.Prelude.{◌-◌, ℕ, List, [], ◌∷◌, ◌++◌, length}
 use Rattle.tls_relocs.specs.Laid.{Placed, zeros}
 
 -- the file so far with one more section

@@ -1,26 +1,227 @@
 //! Laying sections down, class by class.
 
-ghost use Rattle.std.specs.Prelude.{◌≡◌, ◌<◌, ◌≤◌, ◌^◌, ◌∷◌, [], All, IfOk, OnOk, length};
+ghost use Rattle.std.specs.Prelude.{◌≡◌, ◌+◌, ◌-◌, ◌<◌, ◌≤◌, ◌^◌, ◌++◌, OnOk, IfOk, length, unwrap_or};
 ghost use Rattle.elf_object.specs.Object.{section_count};
-ghost use Rattle.section_file.specs.Files.{end_mark, offset_of, placed_class, placed_from, placed_object, placed_section, sections_file};
+ghost use Rattle.link_faults.specs.ImageKinds.{base_of};
+ghost use Rattle.section_file.specs.Files.{end_mark, offset_of as file_offset, placed_class, placed_from};
+ghost use Rattle.section_file.specs.Files.{placed_object, placed_section, sections_file};
 ghost use Rattle.section_file.specs.Laying.{with_section, with_sections};
+ghost use Rattle.tls_layout.specs.Laws.{extent_for};
+ghost use Rattle.tls_layout.specs.Places.{address_of, IsLawful};
 ghost use Rattle.tls_layout.specs.Sections.{is_class, layout_of};
+ghost use Rattle.tls_relocs.specs.Laid.{zeros as zeros_of};
 
-use elf_object::{Object, SectionClass, SectionPart};
+use elf_object::{Object, SectionClass};
 use link_faults::ImageKind;
 use std::alloc::{AllocError, Global};
 use tls_layout::{Extent, PAGE, Placement};
 
-/// Where the byte of an address stands in the file.
-fn offset_of(kind: ImageKind, address: u64) -> u64 {
+/// The classes that have addresses, in the order of these.
+const CODE: SectionClass = SectionClass::Executable;
+
+const CONSTANTS: SectionClass = SectionClass::ReadOnly;
+
+const INITIAL_TLS: SectionClass = SectionClass::Tls { initial: true };
+
+const INITIAL_DATA: SectionClass = SectionClass::Writable { initial: true };
+
+const ZERO_DATA: SectionClass = SectionClass::Writable { initial: false };
+
+/// Where the byte of an address stands in the file, whose first page is that of the headers.
+pub fn offset_of(kind: ImageKind, address: u64) -> u64
+    requires from_base { base_of kind ≤ address + 4096 }
+    requires fits { address + 4096 < 2 ^ 64 }
+    ensures { result ≡ address + 4096 - base_of kind }
+{
     address + PAGE - kind.base()
 }
 
-/// Lays bytes down at an offset, behind zeros from where the file ends.
-fn push(file: &mut Vec<u8>, offset: u64, bytes: &[u8], zeros: usize) -> Result<(), AllocError> {
+/// Lays bytes down at an offset, behind zeros from where the file ends, and zeros behind them.
+fn push(file: &mut Vec<u8>, offset: u64, bytes: &[u8], zeros: usize) -> Result<(), AllocError>
+    requires near { offset ≤ 2 ^ 26 }
+    requires few { zeros ≤ 2 ^ 20 }
+    ensures { OnOk result
+        (file.new.items ≡ with_section file.old.items
+        (record { place = offset; bytes = bytes.now ++ zeros_of zeros })) }
+{
     let gap = (offset as usize).saturating_sub(file.len());
     file.resize(file.len() + gap, 0)?;
     file.extend_from_slice(bytes)?;
-    file.resize(file.len() + zeros, 0)?;
+    file.resize(file.len() + zeros, 0)
+}
+
+/// Whether a section is of a class.
+fn is_of(class: SectionClass, kept: Option<SectionClass>) -> bool
+    ensures { result ≡ is_class class kept }
+{
+    match (class, kept) {
+        (SectionClass::Executable, Some(SectionClass::Executable)) => true,
+        (SectionClass::ReadOnly, Some(SectionClass::ReadOnly)) => true,
+        (SectionClass::Tls { initial }, Some(SectionClass::Tls { initial: other })) => initial
+            == other,
+        (SectionClass::Writable { initial }, Some(SectionClass::Writable { initial: other })) =>
+            initial == other,
+        _ => false,
+    }
+}
+
+/// Where a section stands in the file. One without an address is never asked for: its answer is that of address 0.
+#[tactic(auto, using(crate::proofs::Bounds::address_bounds))]
+fn section_offset(placement: &Placement, kind: ImageKind, number: usize, section: u32) -> u64
+    requires kind { placement.now.kind ≡ kind }
+    ensures offset { result ≡ file_offset placement.now (unwrap_or (address_of placement.now number section) 0) }
+    ensures near { result ≤ 2 ^ 26 }
+{
+    match placement.address(number, section) {
+        Some(address) => offset_of(kind, address),
+        None => PAGE.saturating_sub(kind.base()),
+    }
+}
+
+/// Lays down a section of an object, if it is of the class and has bytes.
+fn push_section(
+    placement: &Placement,
+    kind: ImageKind,
+    class: SectionClass,
+    number: usize,
+    object: &Object,
+    section: u32,
+    file: &mut Vec<u8>,
+) -> Result<(), AllocError>
+    requires there { section < section_count object.now }
+    requires kind { placement.now.kind ≡ kind }
+    ensures { OnOk result (file.new.items
+        ≡ with_sections file.old.items (placed_section placement.now class number object.now section)) }
+{
+    let Some(part) = object.section(section) else {
+        return Ok(());
+    };
+    if !is_of(class, part.class) || part.size == 0 {
+        return Ok(());
+    }
+    let zeros = part.size as usize - part.bytes.len();
+    push(
+        file,
+        section_offset(placement, kind, number, section),
+        part.bytes,
+        zeros,
+    )
+}
+
+/// Lays down the sections of an object that are of the class.
+#[tactic(auto, using(crate::proofs::Laid::one_by_one), unfolding(crate::specs::Files::placed_object))]
+fn push_object(
+    placement: &Placement,
+    kind: ImageKind,
+    class: SectionClass,
+    number: usize,
+    object: &Object,
+    file: &mut Vec<u8>,
+) -> Result<(), AllocError>
+    requires kind { placement.now.kind ≡ kind }
+    ensures { OnOk result (file.new.items
+        ≡ with_sections file.old.items (placed_object placement.now class number object.now)) }
+{
+    for section in 0..object.section_count() {
+        push_section(placement, kind, class, number, object, section, file)?;
+    }
     Ok(())
+}
+
+/// Lays down the sections of objects that are of the class.
+fn push_objects(
+    placement: &Placement,
+    kind: ImageKind,
+    class: SectionClass,
+    objects: &[Object],
+    file: &mut Vec<u8>,
+) -> Result<(), AllocError>
+    requires kind { placement.now.kind ≡ kind }
+    ensures { OnOk result (file.new.items
+        ≡ with_sections file.old.items (placed_from placement.now class 0 objects.now)) }
+{
+    for (number, object) in objects.iter().enumerate() {
+        push_object(placement, kind, class, number, object, file)?;
+    }
+    Ok(())
+}
+
+/// Where the sections of a class lie.
+fn extent_of(placement: &Placement, class: SectionClass) -> Extent
+    ensures extent { result ≡ extent_for class placement.now }
+    ensures lawful { IsLawful placement.now }
+{
+    match class {
+        SectionClass::Executable => placement.executable(),
+        SectionClass::ReadOnly => placement.read_only(),
+        SectionClass::Tls { .. } => placement.tls_image(),
+        SectionClass::Writable { .. } => placement.writable(),
+    }
+}
+
+/// Fills the file up to where a class ends. Its last section may have no bytes, and its alignment moves the end; but
+/// a section that programs write always has some.
+fn push_end(
+    placement: &Placement,
+    kind: ImageKind,
+    class: SectionClass,
+    file: &mut Vec<u8>,
+) -> Result<(), AllocError>
+    requires kind { placement.now.kind ≡ kind }
+    ensures { OnOk result (file.new.items ≡ with_sections file.old.items (end_mark placement.now class)) }
+{
+    let extent = extent_of(placement, class);
+    match class {
+        SectionClass::Writable { .. } => Ok(()),
+        _ if extent.start < extent.end => push(file, offset_of(kind, extent.end), &[], 0),
+        _ => Ok(()),
+    }
+}
+
+/// Lays down a class.
+#[tactic(auto, using(crate::proofs::Laid::sections_append))]
+fn push_class(
+    placement: &Placement,
+    kind: ImageKind,
+    class: SectionClass,
+    objects: &[Object],
+    file: &mut Vec<u8>,
+) -> Result<(), AllocError>
+    requires kind { placement.now.kind ≡ kind }
+    ensures { OnOk result (file.new.items
+        ≡ with_sections file.old.items (placed_class placement.now objects.now class)) }
+{
+    push_objects(placement, kind, class, objects, file)?;
+    push_end(placement, kind, class, file)
+}
+
+/// The first page, where headers will stand, with memory for the whole file.
+#[tactic(auto, using(crate::proofs::Bounds::room_above))]
+fn first_page(alloc: Global, placement: &Placement, kind: ImageKind) -> Result<Vec<u8>, AllocError>
+    requires kind { placement.now.kind ≡ kind }
+    ensures len { IfOk result (λ file. length file.items ≡ 4096) }
+    ensures zeros { IfOk result (λ file. file.items ≡ zeros_of (length file.items)) }
+{
+    let mut file = Vec::with_capacity(alloc, offset_of(kind, placement.room()) as usize)?;
+    file.resize(PAGE as usize, 0)?;
+    Ok(file)
+}
+
+/// The file of the sections of objects: a page of zeros, where headers will stand, and each section at its place.
+pub fn lay_sections(
+    alloc: Global,
+    placement: &Placement,
+    kind: ImageKind,
+    objects: &[Object],
+) -> Result<Vec<u8>, AllocError>
+    requires { placement.now ≡ layout_of kind objects.now }
+    ensures { IfOk result (λ file. file.items ≡ sections_file placement.now objects.now) }
+{
+    let mut file = first_page(alloc, placement, kind)?;
+    push_class(placement, kind, CODE, objects, &mut file)?;
+    push_class(placement, kind, CONSTANTS, objects, &mut file)?;
+    push_class(placement, kind, INITIAL_TLS, objects, &mut file)?;
+    push_class(placement, kind, INITIAL_DATA, objects, &mut file)?;
+    push_class(placement, kind, ZERO_DATA, objects, &mut file)?;
+    Ok(file)
 }

@@ -1,0 +1,11 @@
+pub mod Bounds
+pub mod Chains
+pub mod Filed
+pub mod Found
+pub mod Kept
+pub mod Laid
+pub mod Pages
+pub mod Rising
+pub mod Standing
+pub mod Told
+pub mod Whole
