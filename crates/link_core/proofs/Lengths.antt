@@ -1,0 +1,40 @@
+-- The file ends where the last part does, and all that is written lies in it.
+use Rattle.std.proofs.Common.{◌≡◌, ◌+◌, ◌<◌, ◌≤◌, ℕ, List, length, true}
+use Rattle.std.specs.List.{All, Contains}
+use Rattle.elf_object.specs.declared.relocation.Relocation.{Relocation}
+use Rattle.elf_object.specs.Lent.{relocations}
+use Rattle.elf_object.specs.Relocations.{field_width}
+use Rattle.image_writer.specs.Contents.{parts_end}
+use Rattle.image_writer.specs.Page.{file_offset}
+use Rattle.section_file.specs.Files.{offset_of}
+use Rattle.sequence_match.specs.declared.places.Site.{Site}
+use Rattle.link_core.specs.Linking.{Linking, layout, object, place, sites_at}
+use Rattle.link_core.specs.Bytes.{file, raw_file}
+use Rattle.link_core.specs.Faults.{FitsLimits, IsGiven}
+use Rattle.link_core.specs.Images.{contents, file_kind, places}
+
+-- a field that has bytes lies in the file
+pub field_inside : (l : Linking) (o t : ℕ) (r : Relocation) → IsGiven l → FitsLimits l → o < length l.objects
+    → Contains (relocations (object l o) t) r → 0 < field_width r.kind
+    → offset_of (layout l) (place l o t r.offset) + field_width r.kind ≤ length (raw_file l)
+field_inside l o t r given limits there is wide = ?
+
+-- a sequence does
+pub site_inside : (l : Linking) (o : ℕ) (site : Site) → IsGiven l → FitsLimits l → o < length l.objects
+    → Contains (sites_at l o) site
+    → offset_of (layout l) (place l o site.section site.start) + site.len ≤ length (raw_file l)
+site_inside l o site given limits there is = ?
+
+-- nothing that is written changes its length
+pub file_keeps : (l : Linking) → IsGiven l → FitsLimits l → length (file l) ≡ length (raw_file l)
+file_keeps l given limits = ?
+
+-- it ends where the last part does
+pub file_ends : (l : Linking) → IsGiven l → FitsLimits l
+    → length (file l) ≡ file_offset (file_kind l.kind) (parts_end (file_kind l.kind) (contents l).parts)
+file_ends l given limits = ?
+
+-- each part lies in it
+pub places_inside : (l : Linking) → IsGiven l → FitsLimits l
+    → All (λ part. file_offset (file_kind l.kind) part.address + part.size ≤ length (file l)) (places l)
+places_inside l given limits = ?
