@@ -4,5 +4,7 @@ pub mod Lengths
 pub mod Linkable
 pub mod Loads
 pub mod Relatives
+pub mod RelativesApart
+pub mod RelativesTables
 pub mod Symbols
 pub mod SortingLaws
