@@ -5,6 +5,7 @@ pub mod Linkable
 pub mod Loads
 pub mod Relatives
 pub mod RelativesApart
+pub mod RelativesFields
 pub mod RelativesTables
 pub mod Symbols
 pub mod SortingLaws
