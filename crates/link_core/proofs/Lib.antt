@@ -6,6 +6,7 @@ pub mod Loads
 pub mod Relatives
 pub mod RelativesApart
 pub mod RelativesFields
+pub mod RelativesParts
 pub mod RelativesTables
 pub mod Symbols
 pub mod SortingLaws
