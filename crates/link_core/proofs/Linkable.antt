@@ -1,5 +1,5 @@
 -- What is made of objects that link can be laid into a file.
-use Rattle.std.proofs.Common.{◌≡◌, ◌&&◌, ◌++◌, Bool, true, false, refl}
+use Rattle.std.proofs.Common.{◌≡◌, ◌&&◌, Bool, true, refl}
 use Rattle.std.proofs.lemmas.List.Elements.{All-append}
 use Rattle.image_rules.specs.declared.places.FileKind.TheVariants.{Module}
 use Rattle.image_writer.specs.Linkable.{IsLinkable, IsRightRelocation}

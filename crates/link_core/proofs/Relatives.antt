@@ -1,10 +1,10 @@
 -- The relocations of fields are as a loader wants them.
-use Rattle.std.proofs.Common.{◌≡◌, ◌+◌, ◌<◌, ◌≤◌, ℕ, Bool, true, false, List, [], length, refl, arith}
+use Rattle.std.proofs.Common.{◌+◌, ◌≤◌, Bool, true, false, [], refl, arith}
 use Rattle.std.specs.Prelude.{if◌then◌else◌}
 use Rattle.std.specs.List.{All}
 use Rattle.std.proofs.lemmas.List.Elements.{All-nil, All-weaker}
 use Rattle.image_file.specs.declared.relocation.ImageRelocation.{ImageRelocation}
-use Rattle.image_writer.specs.Linkable.{AreRising, IsRightRelocation, Holds, HasOwnTls, MayName, width}
+use Rattle.image_writer.specs.Linkable.{AreRising, IsRightRelocation, width}
 use Rattle.link_refusals.specs.Refused.{is_moved}
 use Rattle.tls_layout.specs.Laws.{LiesAt, extent_for}
 use Rattle.tls_layout.specs.Places.{section_named}
@@ -12,12 +12,12 @@ use Rattle.tls_layout.proofs.LawsOfPlaces.{lie_in_classes}
 use Rattle.link_core.specs.Linking.{Linking, layout}
 use Rattle.link_core.specs.Needs.{got_start}
 use Rattle.link_core.specs.Dynamic.{image_relocations, got_relocations, object_relocations_from, relatives}
-use Rattle.link_core.specs.Faults.{FitsLimits, IsGiven, IsSound}
+use Rattle.link_core.specs.Faults.{FitsLimits, IsGiven}
 use Rattle.link_core.specs.Images.{contents}
 use Rattle.link_core.specs.Sorting.{sorted_by}
 use Rattle.link_core.proofs.GotRelocations.{got_above, rising_got}
 use Rattle.link_core.proofs.RelativesApart.{IsRelative, all_sorted, rising_append, rising_from, sorted_rise, width_of}
-use Rattle.link_core.proofs.RelativesFields.{IsField, InSection, all_from, apart_from}
+use Rattle.link_core.proofs.RelativesFields.{IsField, all_from, apart_from}
 use Rattle.link_core.proofs.RelativesParts.{class_part, held_in}
 
 -- each is the relocation of a field
@@ -28,7 +28,8 @@ are_fields l given = of_test (is_moved l.kind)
     of_test : (t : Bool) → All (IsField l 0)
         (if t then sorted_by (λ r. r.place) (object_relocations_from l 0 l.objects) else [])
     of_test true =
-        all_sorted (λ r. r.place) (IsField l 0) (object_relocations_from l 0 l.objects) (all_from l given 0 l.objects refl)
+        all_sorted (λ r. r.place) (IsField l 0) (object_relocations_from l 0 l.objects)
+        (all_from l given 0 l.objects refl)
     of_test false = All-nil (IsField l 0)
 
 relative : (l : Linking) (r : ImageRelocation) → IsField l 0 r → IsRelative r
@@ -38,7 +39,8 @@ relative l r is = is.lies.kind_is
 lies_at : (l : Linking) → FitsLimits l → (r : ImageRelocation) → (is : IsField l 0 r)
     → LiesAt (layout l) is.lies.class (section_named (layout l) is.object is.section) is.lies.address
 lies_at l limits r is =
-    lie_in_classes (layout l) limits.lawful is.object is.section is.lies.address is.lies.class is.lies.class_is is.lies.at
+    let x = is.lies in
+    lie_in_classes (layout l) limits.lawful is.object is.section x.address x.class x.class_is x.at
 
 right_field : (l : Linking) → IsGiven l → FitsLimits l → (r : ImageRelocation) → IsField l 0 r
     → IsRightRelocation (contents l) r

@@ -4,7 +4,7 @@ use Rattle.std.proofs.Common.{inl, inr, refl, arith}
 use Rattle.std.specs.Prelude.{nat_le, if◌then◌else◌}
 use Rattle.std.specs.List.{All, flat_map, range_with_len}
 use Rattle.std.proofs.lemmas.Bool.Decides.{nat_tests}
-use Rattle.std.proofs.lemmas.List.Elements.{All-nil, All-cons, All-head, All-tail, All-append, All-weaker}
+use Rattle.std.proofs.lemmas.List.Elements.{All-cons, All-head, All-tail, All-append, All-weaker}
 use Rattle.dynamic_symbols.proofs.Lists.{all_flat_range}
 use Rattle.image_faults.specs.declared.loader_kind.LoaderKind.TheVariants.{Relative}
 use Rattle.image_file.specs.declared.relocation.ImageRelocation.{ImageRelocation}
@@ -15,6 +15,7 @@ use Rattle.link_core.specs.Sorting.{inserted, sorted_by}
 abbrev pub IsApart : ImageRelocation → ImageRelocation → Type 0
 IsApart x y = (x.place + 8 ≤ y.place) ⊎ (y.place + 8 ≤ x.place)
 
+-- each is apart from all others
 abbrev pub AreApart : List ImageRelocation → Type 0
 AreApart [] = Unit {0}
 AreApart (x ∷ more) = All (IsApart x) more × AreApart more
@@ -73,21 +74,24 @@ sorted_rise (x ∷ more) apart =
 
 -- ** as a loader wants them
 
--- a relocation of 8 bytes
+-- a relocation of a field
 abbrev pub IsRelative : ImageRelocation → Type 0
 IsRelative r = r.kind ≡ Relative
 
+-- it writes 8 bytes
 pub width_of : (r : ImageRelocation) → IsRelative r → width r.kind ≡ 8
 width_of r relative = rw relative refl
 
+-- those that lie behind each other rise
 pub rising_from : (n : ℕ) (xs : List ImageRelocation) → All IsRelative xs → RiseFrom n xs → AreRising xs
 rising_from n [] all rises = tt
 rising_from n (x ∷ []) all rises = tt
-rising_from n (x ∷ (y ∷ more)) all rises =
-    (rw (width_of x (All-head IsRelative x (y ∷ more) all)) rises.1.0,
-    rising_from (x.place + 8) (y ∷ more) (All-tail IsRelative x (y ∷ more) all) rises.1)
+rising_from n (x ∷ (y ∷ more)) all rises = (
+  rw (width_of x (All-head IsRelative x (y ∷ more) all)) rises.1.0,
+  rising_from (x.place + 8) (y ∷ more) (All-tail IsRelative x (y ∷ more) all) rises.1,
+)
 
--- and others behind them
+-- so do those that end at a place, and others from there on
 pub rising_append : (n : ℕ) (xs ys : List ImageRelocation) → AreRising xs → AreRising ys
     → All (λ x. x.place + width x.kind ≤ n) xs → All (λ y. n ≤ y.place) ys → AreRising (xs ++ ys)
 rising_append n [] ys first next low high = next
@@ -97,19 +101,22 @@ rising_append n (x ∷ []) (y ∷ more) first next low high =
     let back : n ≤ y.place = All-head (λ z. n ≤ z.place) y more high in
     (omega arith, next)
 rising_append n (x ∷ (z ∷ more)) ys first next low high =
-    (first.0, rising_append n (z ∷ more) ys first.1 next (All-tail (λ w. w.place + width w.kind ≤ n) x (z ∷ more) low) high)
+    let rest = All-tail (λ w. w.place + width w.kind ≤ n) x (z ∷ more) low in
+    (first.0, rising_append n (z ∷ more) ys first.1 next rest high)
 
 -- ** lists that are joined
 
+-- two lists whose elements are apart from each other
 pub apart_append : (xs ys : List ImageRelocation) → AreApart xs → AreApart ys → All (λ x. All (IsApart x) ys) xs
     → AreApart (xs ++ ys)
 apart_append [] ys first next far = next
 apart_append (x ∷ more) ys first next far =
-    let F : ImageRelocation → Type 0 = λ z. All (IsApart z) ys in
-    (All-append (IsApart x) more ys first.0 (All-head F x more far),
-    apart_append more ys first.1 next (All-tail F x more far))
+    let F : ImageRelocation → Type 0 = λ z. All (IsApart z) ys in (
+      All-append (IsApart x) more ys first.0 (All-head F x more far),
+      apart_append more ys first.1 next (All-tail F x more far),
+    )
 
--- those that numbers give which rise, where those of one number are apart and so are those of two
+-- the lists of the numbers from a on: those of one number are apart, and so are those of two
 module _ (P : ℕ → ImageRelocation → Type 0) (f : ℕ → List ImageRelocation)
     (far : (j k : ℕ) (x y : ImageRelocation) → j < k → P j x → P k y → IsApart x y) where
   pub apart_range : (a n : ℕ) → ((k : ℕ) → All (P k) (f k)) → ((k : ℕ) → AreApart (f k))
@@ -119,7 +126,9 @@ module _ (P : ℕ → ImageRelocation → Type 0) (f : ℕ → List ImageRelocat
       let more = flat_map f (range_with_len (a + 1) n) in
       let Q : ImageRelocation → Type 0 = λ y. (k : ℕ) × (a < k) × P k y in
       let later : All Q more =
-      all_flat_range Q f (a + 1) n (λ k low high. All-weaker (P k) Q (λ y h. (k, omega (arith, low), h)) (f k) (own k)) in
+      all_flat_range Q f (a + 1) n (λ k low high.
+      All-weaker (P k) Q (λ y h. (k, omega (arith, low), h)) (f k) (own k)) in
       apart_append (f a) more (apart a) (apart_range (a + 1) n own apart)
       (All-weaker (P a) (λ x. All (IsApart x) more)
-      (λ x here. All-weaker Q (IsApart x) (λ y there. far a there.0 x y there.1 here there.2) more later) (f a) (own a))
+      (λ x here. All-weaker Q (IsApart x) (λ y there. far a there.0 x y there.1 here there.2) more later)
+      (f a) (own a))

@@ -1,6 +1,6 @@
 -- The relocations of fields: each lies in a section that has an address, and they share no byte.
-use Rattle.std.proofs.Common.{◌≡◌, ◌+◌, ◌<◌, ◌≤◌, ◌⊎◌, ℕ, zero, suc, Bool, true, false, List, [], ◌∷◌, ◌++◌, length}
-use Rattle.std.proofs.Common.{drop, get_or, Option, Some, None, IsSome, inl, inr, refl, sym, subst, arith, ◌∙◌, ap}
+use Rattle.std.proofs.Common.{◌≡◌, ◌+◌, ◌<◌, ◌≤◌, ◌⊎◌, ℕ, Bool, true, false, List, [], ◌∷◌, length}
+use Rattle.std.proofs.Common.{drop, get_or, Option, Some, None, IsSome, inl, inr, refl, subst, arith, ◌∙◌, ap}
 use Rattle.std.specs.Prelude.{if◌then◌else◌, unwrap_or}
 use Rattle.std.specs.List.{All, flat_map}
 use Rattle.std.proofs.lemmas.List.Elements.{All-nil, All-cons, All-head, All-tail, All-append, All-weaker}
@@ -11,7 +11,7 @@ use Rattle.elf_object.specs.declared.relocation.Relocation.{Relocation}
 use Rattle.elf_object.specs.Faults.{IsObject}
 use Rattle.elf_object.specs.Lawful.{IsLawful}
 use Rattle.elf_object.specs.LawsOfRelocations.{lawful}
-use Rattle.elf_object.specs.Lent.{section_class, section_size, relocations}
+use Rattle.elf_object.specs.Lent.{relocations}
 use Rattle.elf_object.specs.Object.{section_count}
 use Rattle.elf_object.specs.Relocations.{field_width}
 use Rattle.dynamic_symbols.proofs.Lists.{all_flat_range}
@@ -20,7 +20,6 @@ use Rattle.image_file.specs.declared.relocation.ImageRelocation.{ImageRelocation
 use Rattle.link_refusals.proofs.Objects.{dropped_is}
 use Rattle.sequence_match.specs.Code.{AreApart as ShareNoByte}
 use Rattle.sequence_match.proofs.Sections.{fields_apart}
-use Rattle.tls_layout.specs.Laws.{IsSectionOf}
 use Rattle.tls_layout.specs.Places.{address_of, class_of, section_named}
 use Rattle.tls_layout.proofs.LawsOfPlaces.{addresses_apart, have_addresses}
 use Rattle.tls_layout.proofs.LawsOfSections.{finds_sections}
@@ -88,6 +87,7 @@ all_field l o t r P here = of_test (is_absolute r.kind) refl
     of_test true e = all_one P (relative (place l o t r.offset) (sum_of l o r)) (here e)
     of_test false e = All-nil P
 
+-- there is one at most
 apart_field : (l : Linking) (o t : ℕ) (r : Relocation) → AreApart (field_relocations l o t r)
 apart_field l o t r = of_test (is_absolute r.kind)
   where
@@ -98,6 +98,7 @@ apart_field l o t r = of_test (is_absolute r.kind)
 -- ** one section
 
 module _ (l : Linking) (o t : ℕ) where
+  -- of two relocations of the section
   far_fields : (x y : Relocation) → FieldsApart x y → is_absolute x.kind ≡ true
       → All (IsApart (relative (place l o t x.offset) (sum_of l o x))) (field_relocations l o t y)
   far_fields x y apart first =
@@ -109,6 +110,7 @@ module _ (l : Linking) (o t : ℕ) where
       moved n a b (inl h) = inl (omega arith)
       moved n a b (inr h) = inr (omega arith)
 
+  -- of all
   apart_section : (xs : List Relocation) → ShareNoByte xs → AreApart (flat_map (field_relocations l o t) xs)
   apart_section [] never = tt
   apart_section (x ∷ more) never =
@@ -124,6 +126,7 @@ module _ (l : Linking) (given : IsGiven l) (o : ℕ) (within : o < length l.obje
   is_object : IsObject (object l o)
   is_object = given.are_objects o [] within
 
+  -- an address of 8 bytes lies where its section does
   in_section : (t : ℕ) (r : Relocation) → IsPlaced (object l o) t → IsLawful (object l o) t r
       → is_absolute r.kind ≡ true → InSection l o t (relative (place l o t r.offset) (sum_of l o r))
   in_section t r placed law absolute =
@@ -145,12 +148,14 @@ module _ (l : Linking) (given : IsGiven l) (o : ℕ) (within : o < length l.obje
         symbol_is = refl;
       }
 
+  -- so do all of the section
   all_section : (t : ℕ) → All (InSection l o t) (section_relocations l o (object l o) t)
   all_section t =
       all_flat (InSection l o t) (field_relocations l o t) (relocations (object l o) t) (λ k d below.
       let r = get_or (relocations (object l o) t) k d in
       all_field l o t r (InSection l o t)
-      (in_section t r (placed_section (object l o) is_object t (omega arith)) (lawful (object l o) is_object t k d below)))
+      (in_section t r (placed_section (object l o) is_object t (omega arith))
+      (lawful (object l o) is_object t k d below)))
 
   -- ** one object
 
@@ -181,8 +186,9 @@ pub record IsField (l : Linking) (o : ℕ) (r : ImageRelocation) : Type 0 where
   pub lies : InSection l object section r
 
 module _ (l : Linking) (given : IsGiven l) where
-  later : (o : ℕ) (r : ImageRelocation) → IsField l (o + 1) r → IsField l o r
-  later o r is = record {
+  -- a field of a later object is one of those from object o on
+  from_next : (o : ℕ) (r : ImageRelocation) → IsField l (o + 1) r → IsField l o r
+  from_next o r is = record {
     object = is.object;
     section = is.section;
     from = omega (arith, is.from);
@@ -190,32 +196,42 @@ module _ (l : Linking) (given : IsGiven l) where
     lies = is.lies;
   }
 
+  -- those of object o
   all_own : (o : ℕ) → o < length l.objects → All (IsField l o) (object_relocations l o (object l o))
   all_own o within =
       All-weaker (λ x. (t : ℕ) × InSection l o t x) (IsField l o)
       (λ x here. record { object = o; section = here.0; from = omega arith; within = within; lies = here.1 })
       (object_relocations l o (object l o)) (all_object l given o within)
 
-  pub all_from : (o : ℕ) (bs : List (List ℕ)) → drop o l.objects ≡ bs → All (IsField l o) (object_relocations_from l o bs)
+  -- those of object o and the later ones
+  pub all_from : (o : ℕ) (bs : List (List ℕ)) → drop o l.objects ≡ bs
+      → All (IsField l o) (object_relocations_from l o bs)
   all_from o [] rest = All-nil (IsField l o)
   all_from o (b ∷ more) rest =
       let is = dropped_is l.objects o [] b more rest in
       All-append (IsField l o) (object_relocations l o b) (object_relocations_from l (o + 1) more)
       (subst (λ c. All (IsField l o) (object_relocations l o c)) is.here (all_own o is.within))
-      (All-weaker (IsField l (o + 1)) (IsField l o) (later o) (object_relocations_from l (o + 1) more)
+      (All-weaker (IsField l (o + 1)) (IsField l o) (from_next o) (object_relocations_from l (o + 1) more)
       (all_from (o + 1) more is.rest))
 
+  -- those of an object share no byte with those of the later ones
+  far_objects : (o : ℕ) → o < length l.objects → (xs : List ImageRelocation) → All (IsField l (o + 1)) xs
+      → All (λ x. All (IsApart x) xs) (object_relocations l o (object l o))
+  far_objects o within xs all =
+      All-weaker (λ x. (t : ℕ) × InSection l o t x) (λ x. All (IsApart x) xs)
+      (λ x here. All-weaker (IsField l (o + 1)) (IsApart x)
+      (λ y there. sections_far l o here.0 there.object there.section x y here.1 there.lies
+      (λ same. omega (arith, same.0, there.from))) xs all)
+      (object_relocations l o (object l o)) (all_object l given o within)
+
+  -- they share no byte
   pub apart_from : (o : ℕ) (bs : List (List ℕ)) → drop o l.objects ≡ bs → AreApart (object_relocations_from l o bs)
   apart_from o [] rest = tt
   apart_from o (b ∷ more) rest =
       let is = dropped_is l.objects o [] b more rest in
-      apart_append (object_relocations l o b) (object_relocations_from l (o + 1) more)
+      let later = object_relocations_from l (o + 1) more in
+      apart_append (object_relocations l o b) later
       (subst (λ c. AreApart (object_relocations l o c)) is.here (apart_object l given o is.within))
       (apart_from (o + 1) more is.rest)
-      (subst (λ c. All (λ x. All (IsApart x) (object_relocations_from l (o + 1) more)) (object_relocations l o c)) is.here
-      (All-weaker (λ x. (t : ℕ) × InSection l o t x) (λ x. All (IsApart x) (object_relocations_from l (o + 1) more))
-      (λ x here. All-weaker (IsField l (o + 1)) (IsApart x)
-      (λ y there. sections_far l o here.0 there.object there.section x y here.1 there.lies
-      (λ same. omega (arith, same.0, there.from)))
-      (object_relocations_from l (o + 1) more) (all_from (o + 1) more is.rest))
-      (object_relocations l o (object l o)) (all_object l given o is.within)))
+      (subst (λ c. All (λ x. All (IsApart x) later) (object_relocations l o c)) is.here
+      (far_objects o is.within later (all_from (o + 1) more is.rest)))

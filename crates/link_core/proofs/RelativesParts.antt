@@ -1,8 +1,8 @@
 -- What lies in a class of sections lies in a part of the image.
-use Rattle.std.proofs.Common.{◌≡◌, ◌+◌, ◌-◌, ◌<◌, ◌≤◌, ◌∙◌, ℕ, Bool, true, false, List, [], ◌∷◌, ◌++◌, length, get_or, map}
-use Rattle.std.proofs.Common.{refl, sym, ap, subst, arith, length-append}
+use Rattle.std.proofs.Common.{◌≡◌, ◌+◌, ◌-◌, ◌<◌, ◌≤◌, ◌∙◌, ℕ, Bool, true, false, List, [], ◌∷◌, ◌++◌, length}
+use Rattle.std.proofs.Common.{get_or, map, refl, sym, ap, subst, arith, length-append}
 use Rattle.std.specs.Prelude.{nat_lt, if◌then◌else◌}
-use Rattle.std.specs.List.{All, Contains}
+use Rattle.std.specs.List.{Contains}
 use Rattle.std.proofs.lemmas.Bool.Decides.{nat_tests}
 use Rattle.std.proofs.lemmas.List.{get_or-map, get_or_append_left, get_or_default, length-map}
 use Rattle.std.proofs.lemmas.List.Elements.{Contains-append_left, Contains-append_right}
@@ -131,7 +131,8 @@ held_in l given limits extent is r low high =
     let below = is.listed.1 in
     let there : part (outline_of (finished (contents l))) i ≡ is.place = place_is l given limits i below ∙ found in
     let F : PartPlace → Type 0 = λ p. (p.address ≤ r.place) × (r.place + width r.kind ≤ end_of p) in
-    let both : F (part (outline_of (finished (contents l))) i) = subst F (sym there) (omega (arith, is.begins), omega (arith, is.ends)) in
+    let both : F (part (outline_of (finished (contents l))) i) =
+    subst F (sym there) (omega (arith, is.begins), omega (arith, is.ends)) in
     (i, (omega (arith, length-map (places l) (part_in (file_kind l.kind) (file l))), both.0, both.1))
   where
     found : get_or (places l) is.listed.0 no_part ≡ is.place

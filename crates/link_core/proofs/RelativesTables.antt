@@ -1,8 +1,8 @@
 -- The relocations of one section: no two 8-byte fields share a byte, and a section that has any has an address.
-use Rattle.std.proofs.Common.{◌≡◌, ◌≢◌, ◌+◌, ◌*◌, ◌<◌, ◌≤◌, ◌⊎◌, ◌∙◌, ℕ, zero, suc, Bool, true, false, List, [], ◌∷◌}
-use Rattle.std.proofs.Common.{length, get_or, Option, Some, None, IsSome, inl, inr, refl, sym, ap, subst, arith}
+use Rattle.std.proofs.Common.{◌≡◌, ◌≢◌, ◌+◌, ◌<◌, ◌≤◌, ◌⊎◌, ◌∙◌, ℕ, zero, suc, Bool, true, false, List, [], ◌∷◌}
+use Rattle.std.proofs.Common.{length, get_or, Option, Some, None, IsSome, inl, inr, refl, sym, subst, arith}
 use Rattle.std.specs.Prelude.{nat_lt, if◌then◌else◌}
-use Rattle.std.specs.List.{All, slice_get}
+use Rattle.std.specs.List.{All}
 use Rattle.std.proofs.lemmas.Bool.{cases_lt}
 use Rattle.std.proofs.lemmas.Bool.Decides.{nat_tests}
 use Rattle.std.proofs.lemmas.List.Elements.{All-from_get_or}
@@ -19,9 +19,8 @@ use Rattle.elf_object.specs.LawsOfParts.{class_of_section}
 use Rattle.elf_object.specs.LawsOfSections.{class_holds}
 use Rattle.elf_object.specs.Lent.{section_class, kept_relocation_table, relocations, relocations_in, relocations_from}
 use Rattle.elf_object.specs.Parts.{section, entry_count, IsRela}
-use Rattle.elf_object.specs.Relocations.{field_width}
 use Rattle.sequence_match.specs.Code.{AreApart}
-use Rattle.sequence_match.specs.Sites.{Covers, IsEntry}
+use Rattle.sequence_match.specs.Sites.{Covers}
 
 -- ** the fields
 
@@ -32,24 +31,28 @@ IsApart x y = x.kind ≡ Absolute64 → y.kind ≡ Absolute64 → (x.offset + 8 
 wide : (x : Relocation) (k : ℕ) → x.kind ≡ Absolute64 → x.offset ≤ k → k < x.offset + 8 → Covers x k
 wide x k absolute low high = (low, rw absolute high)
 
+first_byte : (x : Relocation) → x.kind ≡ Absolute64 → Covers x x.offset
+first_byte x absolute = wide x x.offset absolute (omega arith) (omega arith)
+
 apart : (x y : Relocation) → ((k : ℕ) → Covers x k → Covers y k → ⊥) → IsApart x y
 apart x y never of_x of_y = elim (cases_lt y.offset (x.offset + 8)) [
   | inr behind ↦ inl behind
   | inl less ↦ elim (cases_lt x.offset (y.offset + 8)) [
     | inr behind ↦ inr behind
     | inl more ↦ elim (cases_lt x.offset y.offset) [
-      | inl first ↦ absurd (never y.offset (wide x y.offset of_x (omega arith) less) (wide y y.offset of_y (omega arith) (omega arith)))
-      | inr next ↦ absurd (never x.offset (wide x x.offset of_x (omega arith) (omega arith)) (wide y x.offset of_y next more))
+      | inl first ↦ absurd (never y.offset (wide x y.offset of_x (omega arith) less) (first_byte y of_y))
+      | inr next ↦ absurd (never x.offset (first_byte x of_x) (wide y x.offset of_y next more))
     ]
   ]
 ]
 
--- of the first and each other one, and of the others
+-- the first shares no byte with another
 pub apart_first : (x : Relocation) (more : List Relocation) → AreApart (x ∷ more) → All (IsApart x) more
 apart_first x more never = All-from_get_or (IsApart x) more x (λ i below.
     apart x (get_or more i x) (λ k first next.
     never 0 (suc i) k x (get_or more i x) refl (slice_get-get_or more i x below) (omega arith) first next))
 
+-- the others share no byte either
 pub apart_rest : (x : Relocation) (more : List Relocation) → AreApart (x ∷ more) → AreApart more
 apart_rest x more never e f k y z first next less covers again =
     never (suc e) (suc f) k y z first next (omega arith) covers again
@@ -84,8 +87,8 @@ is_placed b object t kept bits = of_class (kept_class (section b t)) refl kept.1
       other = λ zero. bits ((class_holds (section b t) class is).1 (rw zero refl));
     }
 
-of_table : (b : List ℕ) → IsObject b → (r : ℕ) → IsRela b r → IsKeptSection b (section b r).info → (section b r).size ≢ 0
-    → IsPlaced b (section b r).info
+of_table : (b : List ℕ) → IsObject b → (r : ℕ) → IsRela b r → IsKeptSection b (section b r).info
+    → (section b r).size ≢ 0 → IsPlaced b (section b r).info
 unfolding Stands
 of_table b object r rela kept some = is_placed b object (section b r).info kept (λ empty.
     object RelocTarget r 0 (refl, rela, inr (kept, inr (inr (inr (inl (empty, some)))))))
