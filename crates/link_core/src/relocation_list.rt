@@ -185,7 +185,8 @@ fn found_fields(alloc: Global, plan: &Plan) -> Result<Vec<ImageRelocation>, Allo
     ensures { IfOk result (λ all. all.items ≡ object_relocations_from plan.now 0 plan.now.objects) }
 {
     let mut all = Vec::new(alloc);
-    for object in 0..plan.inputs.objects.len() {
+    let inputs = plan.inputs;
+    for object in 0..inputs.objects.len() {
         push_object(plan, object, &mut all)?;
     }
     Ok(all)
@@ -196,7 +197,8 @@ pub fn relatives(alloc: Global, plan: &Plan) -> Result<Vec<ImageRelocation>, All
     ensures { IfOk result (λ all. all.items ≡ relatives plan.now) }
 {
     let mut all = Vec::new(alloc);
-    if plan.inputs.kind != ImageKind::Exe {
+    let inputs = plan.inputs;
+    if inputs.kind != ImageKind::Exe {
         all = found_fields(alloc, plan)?;
         all.sort_by_key(|relocation| relocation.place)?;
     }
