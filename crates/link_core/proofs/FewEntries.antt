@@ -1,0 +1,118 @@
+-- The entries of a table are no more than the needs, the run time's word aside.
+use Rattle.std.proofs.Common.{◌≡◌, ◌+◌, ◌*◌, ◌≤◌, ◌&&◌, ℕ, Bool, true, false, cond, not, List, [], ◌∷◌, ◌++◌, Option, None, Some, filter, length, if◌then◌else◌, refl, arith}
+use Rattle.std.specs.List.{flat_map}
+use Rattle.std.proofs.lemmas.List.{length-append}
+use Rattle.got_pairs.specs.declared.need.Group.TheVariants as group
+use Rattle.got_pairs.specs.declared.need.Need.{Need}
+use Rattle.got_pairs.specs.declared.need.Need.TheVariants.{ModulePair, SymbolPair, Descriptor, SymbolWord}
+use Rattle.got_pairs.specs.declared.need.Need.TheVariants.{AddressWord, RuntimeWord}
+use Rattle.got_pairs.specs.Needs.{by_group, distinct, entries, of_group, same_need, total_size}
+
+-- how many are not the run time's word
+abbrev pub others : List Need → ℕ
+others xs = length (filter (λ y. not (same_need RuntimeWord y)) xs)
+
+pub others-append : (xs ys : List Need) → others (xs ++ ys) ≡ others xs + others ys
+others-append [] ys = omega arith
+others-append (x ∷ xs) ys =
+    elim (not (same_need RuntimeWord x)) as (λ b. length (cond b (x ∷ filter (λ y. not (same_need RuntimeWord y)) (xs ++ ys)) (filter (λ y. not (same_need RuntimeWord y)) (xs ++ ys)))
+    ≡ length (cond b (x ∷ filter (λ y. not (same_need RuntimeWord y)) xs) (filter (λ y. not (same_need RuntimeWord y)) xs)) + others ys) [
+      | true ↦ omega (arith, others-append xs ys)
+      | false ↦ omega (arith, others-append xs ys)
+    ]
+
+pub others-le : (xs : List Need) → others xs ≤ length xs
+others-le [] = omega arith
+others-le (ModulePair ∷ xs) = omega (arith, others-le xs)
+others-le (SymbolPair x ∷ xs) = omega (arith, others-le xs)
+others-le (Descriptor x ∷ xs) = omega (arith, others-le xs)
+others-le (SymbolWord x ∷ xs) = omega (arith, others-le xs)
+others-le (AddressWord s p ∷ xs) = omega (arith, others-le xs)
+others-le (RuntimeWord ∷ xs) = omega (arith, others-le xs)
+
+-- ** each once
+
+length-filter-le : (p : Need → Bool) (xs : List Need) → length (filter p xs) ≤ length xs
+length-filter-le p [] = omega arith
+length-filter-le p (x ∷ xs) =
+    elim (p x) as (λ b. length (cond b (x ∷ filter p xs) (filter p xs)) ≤ length (x ∷ xs)) [
+      | true ↦ omega (arith, length-filter-le p xs)
+      | false ↦ omega (arith, length-filter-le p xs)
+    ]
+
+others-filter : (p : Need → Bool) (xs : List Need) → others (filter p xs) ≤ others xs
+others-filter p [] = omega arith
+others-filter p (x ∷ xs) =
+    elim (p x) as (λ b. others (cond b (x ∷ filter p xs) (filter p xs)) ≤ others (x ∷ xs)) [
+      | true ↦ omega (arith, others-append (x ∷ []) (filter p xs), others-append (x ∷ []) xs, others-filter p xs)
+      | false ↦ omega (arith, others-append (x ∷ []) xs, others-filter p xs)
+    ]
+
+others-distinct : (xs : List Need) → others (distinct xs) ≤ others xs
+others-distinct [] = omega arith
+others-distinct (x ∷ xs) =
+    let rest = filter (λ y. not (same_need x y)) (distinct xs) in
+    omega (arith, others-append (x ∷ []) rest, others-append (x ∷ []) xs, others-filter (λ y. not (same_need x y)) (distinct xs), others-distinct xs)
+
+one_more : (x : Need) (xs : List Need) → others (x ∷ []) ≡ 1 → length (distinct xs) ≤ others xs + 1 → length (distinct (x ∷ xs)) ≤ others (x ∷ xs) + 1
+one_more x xs one h = omega (arith, one, h, others-append (x ∷ []) xs, length-filter-le (λ y. not (same_need x y)) (distinct xs))
+
+length-distinct : (xs : List Need) → length (distinct xs) ≤ others xs + 1
+length-distinct [] = omega arith
+length-distinct (ModulePair ∷ xs) = one_more ModulePair xs refl (length-distinct xs)
+length-distinct (SymbolPair x ∷ xs) = one_more (SymbolPair x) xs refl (length-distinct xs)
+length-distinct (Descriptor x ∷ xs) = one_more (Descriptor x) xs refl (length-distinct xs)
+length-distinct (SymbolWord x ∷ xs) = one_more (SymbolWord x) xs refl (length-distinct xs)
+length-distinct (AddressWord s p ∷ xs) = one_more (AddressWord s p) xs refl (length-distinct xs)
+length-distinct (RuntimeWord ∷ xs) = omega (arith, others-distinct xs)
+
+-- ** group by group
+
+unfoldable six : List Need → ℕ
+six xs =
+    others (of_group group.ModulePair xs) + others (of_group group.SymbolPairs xs) + others (of_group group.Descriptors xs)
+    + others (of_group group.SymbolWords xs) + others (of_group group.AddressWords xs) + others (of_group group.RuntimeWord xs)
+
+six-others : (xs : List Need) → six xs ≡ others xs
+unfolding six
+six-others [] = omega arith
+six-others (ModulePair ∷ xs) = omega (arith, six-others xs)
+six-others (SymbolPair x ∷ xs) = omega (arith, six-others xs)
+six-others (Descriptor x ∷ xs) = omega (arith, six-others xs)
+six-others (SymbolWord x ∷ xs) = omega (arith, six-others xs)
+six-others (AddressWord s p ∷ xs) = omega (arith, six-others xs)
+six-others (RuntimeWord ∷ xs) = omega (arith, six-others xs)
+
+others-by_group : (xs : List Need) → others (by_group xs) ≡ six xs
+unfolding six
+others-by_group xs =
+    let a = of_group group.ModulePair xs in
+    let b = of_group group.SymbolPairs xs in
+    let c = of_group group.Descriptors xs in
+    let d = of_group group.SymbolWords xs in
+    let e = of_group group.AddressWords xs in
+    let f = of_group group.RuntimeWord xs in
+    omega (
+      arith,
+      others-append a (b ++ (c ++ (d ++ (e ++ (f ++ []))))),
+      others-append b (c ++ (d ++ (e ++ (f ++ [])))),
+      others-append c (d ++ (e ++ (f ++ []))),
+      others-append d (e ++ (f ++ [])),
+      others-append e (f ++ []),
+      others-append f [],
+    )
+
+-- ** the table
+
+pub length-entries : (needs : List Need) → length (entries needs) ≤ others needs + 1
+unfolding entries
+length-entries needs = omega (arith, length-distinct (by_group needs), others-by_group needs, six-others needs)
+
+pub total_size-le : (xs : List Need) → total_size xs ≤ 16 * length xs
+total_size-le [] = omega arith
+total_size-le (ModulePair ∷ xs) = omega (arith, total_size-le xs)
+total_size-le (SymbolPair x ∷ xs) = omega (arith, total_size-le xs)
+total_size-le (Descriptor x ∷ xs) = omega (arith, total_size-le xs)
+total_size-le (SymbolWord x ∷ xs) = omega (arith, total_size-le xs)
+total_size-le (AddressWord s p ∷ xs) = omega (arith, total_size-le xs)
+total_size-le (RuntimeWord ∷ xs) = omega (arith, total_size-le xs)
