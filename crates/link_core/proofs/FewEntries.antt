@@ -1,26 +1,31 @@
 -- The entries of a table are no more than the needs, the run time's word aside.
-use Rattle.std.proofs.Common.{◌≡◌, ◌+◌, ◌*◌, ◌≤◌, ◌&&◌, ℕ, Bool, true, false, cond, not, List, [], ◌∷◌, ◌++◌, Option, None, Some, filter, length, if◌then◌else◌, refl, arith}
-use Rattle.std.specs.List.{flat_map}
-use Rattle.std.proofs.lemmas.List.{length-append}
+use Rattle.std.proofs.Common.{◌≡◌, ◌+◌, ◌*◌, ◌≤◌, ℕ, Bool, true, false, cond, not, List, [], ◌∷◌, ◌++◌, filter, length}
+use Rattle.std.proofs.Common.{refl, arith}
 use Rattle.got_pairs.specs.declared.need.Group.TheVariants as group
 use Rattle.got_pairs.specs.declared.need.Need.{Need}
 use Rattle.got_pairs.specs.declared.need.Need.TheVariants.{ModulePair, SymbolPair, Descriptor, SymbolWord}
 use Rattle.got_pairs.specs.declared.need.Need.TheVariants.{AddressWord, RuntimeWord}
 use Rattle.got_pairs.specs.Needs.{by_group, distinct, entries, of_group, same_need, total_size}
 
--- how many are not the run time's word
-abbrev pub others : List Need → ℕ
-others xs = length (filter (λ y. not (same_need RuntimeWord y)) xs)
+-- those that are not the run time's word, and how many they are
+abbrev not_runtime : List Need → List Need
+not_runtime xs = filter (λ y. not (same_need RuntimeWord y)) xs
 
+abbrev pub others : List Need → ℕ
+others xs = length (not_runtime xs)
+
+-- in two lists are those of the first and those of the second
 pub others-append : (xs ys : List Need) → others (xs ++ ys) ≡ others xs + others ys
 others-append [] ys = omega arith
 others-append (x ∷ xs) ys =
-    elim (not (same_need RuntimeWord x)) as (λ b. length (cond b (x ∷ filter (λ y. not (same_need RuntimeWord y)) (xs ++ ys)) (filter (λ y. not (same_need RuntimeWord y)) (xs ++ ys)))
-    ≡ length (cond b (x ∷ filter (λ y. not (same_need RuntimeWord y)) xs) (filter (λ y. not (same_need RuntimeWord y)) xs)) + others ys) [
+    elim (not (same_need RuntimeWord x)) as (λ b.
+    length (cond b (x ∷ not_runtime (xs ++ ys)) (not_runtime (xs ++ ys)))
+    ≡ length (cond b (x ∷ not_runtime xs) (not_runtime xs)) + others ys) [
       | true ↦ omega (arith, others-append xs ys)
       | false ↦ omega (arith, others-append xs ys)
     ]
 
+-- they are no more than all
 pub others-le : (xs : List Need) → others xs ≤ length xs
 others-le [] = omega arith
 others-le (ModulePair ∷ xs) = omega (arith, others-le xs)
@@ -52,11 +57,15 @@ others-distinct : (xs : List Need) → others (distinct xs) ≤ others xs
 others-distinct [] = omega arith
 others-distinct (x ∷ xs) =
     let rest = filter (λ y. not (same_need x y)) (distinct xs) in
-    omega (arith, others-append (x ∷ []) rest, others-append (x ∷ []) xs, others-filter (λ y. not (same_need x y)) (distinct xs), others-distinct xs)
+    let fewer = others-filter (λ y. not (same_need x y)) (distinct xs) in
+    omega (arith, others-append (x ∷ []) rest, others-append (x ∷ []) xs, fewer, others-distinct xs)
 
-one_more : (x : Need) (xs : List Need) → others (x ∷ []) ≡ 1 → length (distinct xs) ≤ others xs + 1 → length (distinct (x ∷ xs)) ≤ others (x ∷ xs) + 1
-one_more x xs one h = omega (arith, one, h, others-append (x ∷ []) xs, length-filter-le (λ y. not (same_need x y)) (distinct xs))
+one_more : (x : Need) (xs : List Need) → others (x ∷ []) ≡ 1 → length (distinct xs) ≤ others xs + 1
+    → length (distinct (x ∷ xs)) ≤ others (x ∷ xs) + 1
+one_more x xs one h =
+    omega (arith, one, h, others-append (x ∷ []) xs, length-filter-le (λ y. not (same_need x y)) (distinct xs))
 
+-- of these needs each stands once, and the run time's word once more
 length-distinct : (xs : List Need) → length (distinct xs) ≤ others xs + 1
 length-distinct [] = omega arith
 length-distinct (ModulePair ∷ xs) = one_more ModulePair xs refl (length-distinct xs)
@@ -68,10 +77,12 @@ length-distinct (RuntimeWord ∷ xs) = omega (arith, others-distinct xs)
 
 -- ** group by group
 
+-- counted group by group
 unfoldable six : List Need → ℕ
 six xs =
-    others (of_group group.ModulePair xs) + others (of_group group.SymbolPairs xs) + others (of_group group.Descriptors xs)
-    + others (of_group group.SymbolWords xs) + others (of_group group.AddressWords xs) + others (of_group group.RuntimeWord xs)
+    others (of_group group.ModulePair xs) + others (of_group group.SymbolPairs xs)
+    + others (of_group group.Descriptors xs) + others (of_group group.SymbolWords xs)
+    + others (of_group group.AddressWords xs) + others (of_group group.RuntimeWord xs)
 
 six-others : (xs : List Need) → six xs ≡ others xs
 unfolding six
@@ -104,10 +115,12 @@ others-by_group xs =
 
 -- ** the table
 
+-- an entry for each need, and one for the run time's word
 pub length-entries : (needs : List Need) → length (entries needs) ≤ others needs + 1
 unfolding entries
 length-entries needs = omega (arith, length-distinct (by_group needs), others-by_group needs, six-others needs)
 
+-- an entry has at most two words
 pub total_size-le : (xs : List Need) → total_size xs ≤ 16 * length xs
 total_size-le [] = omega arith
 total_size-le (ModulePair ∷ xs) = omega (arith, total_size-le xs)
