@@ -1,4 +1,7 @@
 pub mod Few
+pub mod FewEntries
+pub mod FewLists
+pub mod FewSites
 pub mod GotRelocations
 pub mod Lengths
 pub mod Linkable
@@ -8,5 +11,5 @@ pub mod RelativesApart
 pub mod RelativesFields
 pub mod RelativesParts
 pub mod RelativesTables
-pub mod Symbols
 pub mod SortingLaws
+pub mod Symbols
