@@ -5,6 +5,7 @@ pub mod FewSites
 pub mod GotRelocations
 pub mod Lengths
 pub mod Linkable
+pub mod ListedFields
 pub mod Loads
 pub mod Relatives
 pub mod RelativesApart
