@@ -4,6 +4,8 @@ pub mod FewLists
 pub mod FewSites
 pub mod GotRelocations
 pub mod Lengths
+pub mod LinkFaults
+pub mod LinkLists
 pub mod Linkable
 pub mod ListedFields
 pub mod Loads

@@ -1,11 +1,12 @@
 //! Linking objects.
 
-ghost use Rattle.std.specs.Prelude.{◌≡◌, ◌-◌, ◌<◌, ◌^◌, ℕ, [], IfErr, IfOk, OnOk, length, map, slice_index_or};
+ghost use Rattle.std.specs.Prelude.{◌≡◌, ◌-◌, ◌<◌, ◌^◌, ℕ, [], None, IfErr, IfOk, OnOk, length, map, slice_index_or};
+ghost use Rattle.dynamic_symbols.specs.Walks.{HaveSymbols};
 ghost use Rattle.sequence_match.specs.Faults.{AreSites};
 ghost use Rattle.tls_symbols.specs.Bindings.{object_at};
 ghost use Rattle.link_core.specs.Faults.{IsLinkFault, IsSound, Links};
 ghost use Rattle.link_core.specs.Images.{choices_from, choices_in, image_of as image_of_link, linked_of};
-ghost use Rattle.link_core.specs.Linking.{link_of, sites_at};
+ghost use Rattle.link_core.specs.Linking.{link_of};
 ghost use Rattle.link_core.specs.Overflows.{IsOverflowFault, NoOverflow};
 ghost use Rattle.tls_layout.specs.Rounding.{round_up};
 ghost use Rattle.tls_layout.specs.Places.{tls_alignment, tls_size};
@@ -43,7 +44,9 @@ fn block_offset(alloc: Global, placement: &Placement) -> Result<u64, AllocError>
 }
 
 /// The image as a whole is too large.
-fn too_large() -> LinkFault {
+fn too_large() -> LinkFault
+    ensures { result ≡ LinkFault.At LinkFaultKind.ImageTooLarge None 0 0 }
+{
     LinkFault::At {
         kind: LinkFaultKind::ImageTooLarge,
         object: None,
@@ -69,12 +72,13 @@ fn inputs_of<'l, 's, 'a>(
     ensures sound { OnOk result (IsSound (link_of objects.now sites.now kind startup.now relax)) }
     ensures fault { IfErr result (IsLinkFault (link_of objects.now sites.now kind startup.now relax)) }
 {
+    let few = has_few_relocations(objects);
     let bindings = resolve(alloc, objects, startup)?;
     ask_kind(objects, kind)?;
     let placement = place(alloc, objects, kind)?;
     let own = defined_symbols(alloc, objects, &bindings)?;
     let imports = imports(alloc, objects, &bindings, sites)?;
-    if !has_few_relocations(objects) || !names_fit(objects, own.as_slice(), imports.as_slice()) {
+    if !few || !names_fit(objects, own.as_slice(), imports.as_slice()) {
         return Err(too_large());
     }
     ask_tls(objects, &bindings, kind, placement.tls_size())?;
@@ -126,7 +130,7 @@ fn own_choices(
     own: &[Site],
 ) -> Result<Vec<Choice>, AllocError>
     requires object { object < length inputs.now.objects }
-    requires own { own.now ≡ sites_at inputs.now object }
+    requires symbols { HaveSymbols (object_at inputs.now.objects object) own.now }
     ensures { IfOk result (λ choices. choices.items ≡ choices_in inputs.now object own.now) }
 {
     let mut choices = Vec::with_capacity(alloc, own.len())?;
