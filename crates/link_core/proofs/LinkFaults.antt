@@ -46,9 +46,9 @@ module _ (l : Linking) (resolved : AreResolved l.objects l.startup) where
     -- that of sections which are too large
     pub layout_fault : (told : LinkFault) → IsLayoutFault (layout l) told → IsLinkFault l told
     layout_fault OutOfMemory is = tt
-    layout_fault (At fault.TlsTooLarge object s e) is = (resolved, (is.0, is.1, is.2), fits, is.3)
+    layout_fault (At fault.TlsTooLarge object s e) is = (resolved, ((is.0, is.1, is.2), fits, is.3))
     layout_fault (At fault.ImageTooLarge object s e) is =
-        (resolved, (is.0, is.1, is.2), fits, is.3.0, inl is.3.1)
+        (resolved, ((is.0, is.1, is.2), fits, is.3.0, inl is.3.1))
     layout_fault (At fault.Undefined object s e) is = absurd is.3
     layout_fault (At fault.Duplicate object s e) is = absurd is.3
     layout_fault (At fault.NotTls object s e) is = absurd is.3
@@ -60,13 +60,13 @@ module _ (l : Linking) (resolved : AreResolved l.objects l.startup) where
     -- that of too many relocations or names
     pub limit_fault : tls_size (layout l).sections ≤ 2 ^ 20 → IsCrowded l ⊎ IsWordy l
         → IsLinkFault l (At fault.ImageTooLarge None 0 0)
-    limit_fault small large = (resolved, (refl, refl, refl), fits, small, inr large)
+    limit_fault small large = (resolved, ((refl, refl, refl), fits, small, inr large))
 
     -- that of storage that the image does not have
     pub storage_fault : FitsLimits l → (told : LinkFault)
         → IsStorageFault l.objects l.startup l.kind (tls_size (layout l).sections) told → IsLinkFault l told
     storage_fault limits OutOfMemory is = tt
-    storage_fault limits (At fault.NoTls object s e) is = (resolved, fits, limits, is)
+    storage_fault limits (At fault.NoTls object s e) is = (resolved, (fits, limits, is))
     storage_fault limits (At fault.Undefined object s e) is = absurd is
     storage_fault limits (At fault.Duplicate object s e) is = absurd is
     storage_fault limits (At fault.NotTls object s e) is = absurd is
@@ -88,7 +88,7 @@ exceeds size limit fits not_so test = elim (cases_lt limit size) [
 -- that of a field
 pub overflow_fault : (l : Linking) → IsSound l → (told : LinkFault) → IsOverflowFault l told → IsLinkFault l told
 overflow_fault l sound OutOfMemory is = tt
-overflow_fault l sound (At fault.Overflow (Some o) s e) is = (sound.resolved, sound, is.0, is.1)
+overflow_fault l sound (At fault.Overflow (Some o) s e) is = (sound.resolved, (sound, is.0, is.1))
 overflow_fault l sound (At fault.Overflow None s e) is = absurd is
 overflow_fault l sound (At fault.Undefined object s e) is = absurd is
 overflow_fault l sound (At fault.Duplicate object s e) is = absurd is

@@ -1,15 +1,18 @@
 -- The sites and the choices of objects, one by one.
 use Rattle.std.proofs.Common.{◌≡◌, ◌∙◌, ◌+◌, ◌<◌, ◌≤◌, ◌++◌, ℕ, zero, suc, List, [], ◌∷◌, length, drop, get_or, map}
-use Rattle.std.proofs.Common.{refl, sym, ap, subst, arith, add-one, append_assoc, drop-cons, drop_of_length-le}
+use Rattle.std.proofs.Common.{Bor, refl, sym, ap, subst, arith, add-one, append_assoc, drop-cons, drop_of_length-le}
 use Rattle.std.proofs.lemmas.List.{append-nil, length-map, map-append}
 use Rattle.std.specs.Global.{Vec}
 use Rattle.elf_object.specs.Faults.{IsObject}
+use Rattle.dynamic_symbols.specs.Names.{imports as imports_of, name_size}
 use Rattle.dynamic_symbols.proofs.Adding.{own_sites}
 use Rattle.dynamic_symbols.proofs.OfSites.{sites_symbols}
 use Rattle.dynamic_symbols.specs.Walks.{HaveSymbols}
 use Rattle.relax_sites.specs.declared.choices.Choice.{Choice}
 use Rattle.sequence_match.specs.declared.places.Site.{Site}
+use Rattle.tls_symbols.specs.declared.symbols.SymbolRef.{SymbolRef}
 use Rattle.link_core.specs.Linking.{Linking, object, sites_at}
+use Rattle.link_core.specs.Dynamic.{imports, own_symbols}
 use Rattle.link_core.specs.Faults.{IsGiven}
 use Rattle.link_core.specs.Images.{choices_from, choices_in}
 
@@ -22,7 +25,7 @@ have_symbols l given o there =
 pub sites_within : (shown : List (List Site)) (held : List (Vec Site)) (o : ℕ) → map (λ v. v.items) held ≡ shown
     → o < length held → o < length shown
 sites_within shown held o same below =
-    let long : length shown ≡ length held = ap length (sym same) ∙ length-map held in
+    let long : length shown ≡ length held = ap length (sym same) ∙ length-map held (λ (v : Vec Site). v.items) in
     omega arith
 
 pub own_is : (shown : List (List Site)) (held : List (Vec Site)) (o : ℕ) (own : Vec Site)
@@ -54,3 +57,19 @@ pub choices_end : (l : Linking) (o : ℕ) (xs : List (List Site)) (now whole : L
     → now ++ choices_from l o (drop o xs) ≡ whole → now ≡ whole
 choices_end l o xs now whole past kept =
     sym (append-nil now) ∙ (ap (λ ys. now ++ choices_from l o ys) (sym (drop_of_length-le xs past)) ∙ kept)
+
+-- ** names
+
+-- the names as code holds them
+pub names_are : (l : Linking) (startup : List (List (List ℕ))) (slice keys : List (Bor (List ℕ))) → slice ≡ keys
+    → map (λ name. name.now) keys ≡ imports_of l.objects startup l.sites → startup ≡ l.startup
+    → map (λ name. name.now) slice ≡ imports l
+names_are l startup slice keys same are beside =
+    ap (map (λ (name : Bor (List ℕ)). name.now)) same
+    ∙ (are ∙ ap (λ names. imports_of l.objects names l.sites) beside)
+
+-- how much room they take
+pub size_is : (l : Linking) (own : List SymbolRef) (names : List (List ℕ)) → own ≡ own_symbols l → names ≡ imports l
+    → name_size l.objects own names ≡ name_size l.objects (own_symbols l) (imports l)
+size_is l own names own_are names_are =
+    ap (λ xs. name_size l.objects xs names) own_are ∙ ap (λ ys. name_size l.objects (own_symbols l) ys) names_are

@@ -1,13 +1,21 @@
-use Rattle.std.proofs.Common.{◌≡◌, ◌∙◌, ◌<◌, ◌≤◌, ◌^◌, ◌-◌, ◌⊎◌, length, inl, inr, sym, ap, subst, arith}
-use Rattle.std.specs.List.{All}
-use Rattle.elf_object.specs.Faults.{IsObject}
+use Rattle.std.proofs.Common.{◌∙◌, ◌<◌, ◌≤◌, ◌^◌, ◌-◌, ◌⊎◌, length, map, inl, inr, sym, ap, subst, rules, arith}
+use Rattle.std.proofs.lemmas.Grind.{common_steps}
+use Rattle.std.proofs.lemmas.List.{length-map}
+use Rattle.std.specs.Global.{Vec}
+use Rattle.dynamic_symbols.specs.Names.{name_size}
 use Rattle.dynamic_symbols.proofs.OfSites.{sites_symbols}
-use Rattle.link_faults.specs.declared.fault.LinkFault.{LinkFault}
+use Rattle.link_refusals.specs.Counts.{relocation_count}
+use Rattle.sequence_match.specs.declared.places.Site.{Site}
+use Rattle.tls_layout.specs.Places.{tls_alignment, tls_size, IsLawful}
+use Rattle.tls_layout.specs.Rounding.{round_up}
 use Rattle.tls_layout.specs.Sections.{Layout}
-use Rattle.link_core.specs.Linking.{link_of, block_offset}
-use Rattle.link_core.specs.Faults.{IsCrowded, IsLinkFault, IsWordy}
+use Rattle.link_core.specs.Linking.{link_of, block_offset, layout}
+use Rattle.link_core.specs.Faults.{FitsLimits, IsCrowded, IsLinkFault, IsWordy}
 use Rattle.link_core.proofs.LinkFaults.{exceeds, limit_fault, storage_fault}
+use Rattle.link_core.proofs.LinkLists.{names_are, size_is}
 use Rattle.link_core.proofs.linking.inputs_of.Goals as goal
+use Rattle.link_core.proofs.linking.inputs_of.Goals.{then-not-few-via-then-not-few}
+use Rattle.link_core.proofs.linking.inputs_of.Goals.{then-not-few-via-else-not-few+then-not-names_fit}
 
 pub imports-requires-clause-symbols : goal.imports-requires-clause-symbols
 imports-requires-clause-symbols c = λ o there.
@@ -16,27 +24,61 @@ imports-requires-clause-symbols c = λ o there.
 pub returns-then-not-few-clause-fault : goal.returns-then-not-few-clause-fault
 returns-then-not-few-clause-fault c =
     let l = link_of c.args.objects.now c.args.sites.now c.args.kind c.args.startup.now c.args.relax in
-    let large : IsCrowded l ⊎ IsWordy l = ? in
+    let lawful : IsLawful (layout l) = subst IsLawful c.in_ok-placement.ensures.places c.in_ok-placement.ensures.lawful in
+    let large : IsCrowded l ⊎ IsWordy l =
+    elim c.then-not-few.branch [
+      | then-not-few-via-then-not-few w ↦
+          inl (exceeds (relocation_count l.objects) (2 ^ 19) c.has_few_relocations-few.result w.if-not-few.true
+          c.has_few_relocations-few.ensures.few)
+      | then-not-few-via-else-not-few+then-not-names_fit w ↦
+          inr (subst (λ n. 2 ^ 22 < n)
+          (size_is l w.as_slice.result.now (map (λ name. name.now) w.as_slice-else-not-few.result.now)
+          (w.as_slice.ensures.value ∙ c.in_ok-own.ensures.symbols)
+          (names_are l c.in_ok-bindings.bindings.startup w.as_slice-else-not-few.result.now c.in_ok-imports.imports.keys
+          w.as_slice-else-not-few.ensures.keys c.in_ok-imports.ensures c.in_ok-bindings.ensures.startup))
+          (exceeds _ (2 ^ 22) w.names_fit.result w.if-not-names_fit.true w.names_fit.ensures))
+    ] in
     subst (IsLinkFault l) (sym c.too_large.ensures)
-    (limit_fault l c.in_ok-bindings.ensures.resolved ? ? large)
+    (limit_fault l c.in_ok-bindings.ensures.resolved c.in_ok-ask_kind.ensures lawful.small_tls large)
 
 pub returns-in_err-ask_tls-clause-fault : goal.returns-in_err-ask_tls-clause-fault
-returns-in_err-ask_tls-clause-fault c = ?
+returns-in_err-ask_tls-clause-fault c =
+    let l = link_of c.args.objects.now c.args.sites.now c.args.kind c.args.startup.now c.args.relax in
+    let lawful : IsLawful (layout l) = subst IsLawful c.in_ok-placement.ensures.places c.in_ok-placement.ensures.lawful in
+    let limits : FitsLimits l = record {
+      lawful = lawful;
+      few = c.has_few_relocations-few.ensures.few.0 c.if-not-few.false;
+      short =
+          subst (λ n. n ≤ 2 ^ 22)
+          (size_is l c.as_slice.result.now (map (λ name. name.now) c.as_slice-else-not-few.result.now)
+          (c.as_slice.ensures.value ∙ c.in_ok-own.ensures.symbols)
+          (names_are l c.in_ok-bindings.bindings.startup c.as_slice-else-not-few.result.now c.in_ok-imports.imports.keys
+          c.as_slice-else-not-few.ensures.keys c.in_ok-imports.ensures c.in_ok-bindings.ensures.startup))
+          (c.names_fit.ensures.0 c.if-not-names_fit.false);
+    } in
+    let given = storage_fault l c.in_ok-bindings.ensures.resolved c.in_ok-ask_kind.ensures limits in
+    let told = c.in_err-ask_tls.ensures in
+    let residual = c.from_residual-in_err-ask_tls.ensures in
+    let was = c.in_err-ask_tls.was in
+    let is = c.in_err-ask_tls.is in
+    ?
 
 pub invariant_of-result : goal.invariant_of-result
 unfolding block_offset
 invariant_of-result c = record {
   given = record {
-    few_startup = ?;
+    few_startup = subst (λ names. length names < 2 ^ 32 - 1) (sym c.in_ok-bindings.ensures.startup) c.requires.few;
     are_objects = c.has_few_relocations-few.ensures.objects;
-    each = ?;
+    each = length-map c.args.sites.now (λ (own : Vec Site). own.items) ∙ c.requires.each;
     are_sites = c.requires.sites;
   };
   objects_are = c.in_ok-bindings.ensures.objects;
   placed = c.in_ok-placement.ensures.places;
   lawful = c.in_ok-placement.ensures.lawful;
-  distance_is = ?;
+  distance_is =
+      c.in_ok-block_offset.ensures
+      ∙ ap (λ (p : Layout). round_up (tls_size p.sections) (tls_alignment p.sections)) c.in_ok-placement.ensures.places;
   own_are = c.in_ok-own.ensures.symbols;
   within = c.in_ok-own.ensures.within;
-  imports_are = ?;
+  imports_are = c.in_ok-imports.ensures;
 }
