@@ -1,6 +1,6 @@
 -- What each step of linking tells is a fault of the link.
 use Rattle.std.proofs.Common.{◌≡◌, ◌<◌, ◌≤◌, ◌^◌, ◌⊎◌, ◌↔◌, ℕ, Bool, true, false, IsTrue, Some, None}
-use Rattle.std.proofs.Common.{inl, inr, refl, arith}
+use Rattle.std.proofs.Common.{List, inl, inr, refl, subst, arith}
 use Rattle.std.proofs.lemmas.Bool.{cases_lt}
 use Rattle.link_faults.specs.declared.fault.LinkFault.{LinkFault}
 use Rattle.link_faults.specs.declared.fault.LinkFault.TheVariants.{OutOfMemory, At}
@@ -75,6 +75,17 @@ module _ (l : Linking) (resolved : AreResolved l.objects l.startup) where
     storage_fault limits (At fault.NarrowInModule object s e) is = absurd is
     storage_fault limits (At fault.TlsTooLarge object s e) is = absurd is
     storage_fault limits (At fault.ImageTooLarge object s e) is = absurd is
+
+-- it is asked of the same objects
+pub same_storage : (l : Linking) (objects : List (List ℕ)) (startup : List (List (List ℕ))) (size : ℕ)
+    → objects ≡ l.objects → startup ≡ l.startup → size ≡ tls_size (layout l).sections → (told : LinkFault)
+    → IsStorageFault objects startup l.kind size told
+    → IsStorageFault l.objects l.startup l.kind (tls_size (layout l).sections) told
+same_storage l objects startup size first beside room told is =
+    let size = tls_size (layout l).sections in
+    subst (λ xs. IsStorageFault xs l.startup l.kind size told) first
+    (subst (λ s. IsStorageFault objects s l.kind size told) beside
+    (subst (λ n. IsStorageFault objects startup l.kind n told) room is))
 
 -- ** limits
 

@@ -1,6 +1,7 @@
 use Rattle.std.proofs.Common.{◌∙◌, ◌<◌, ◌≤◌, ◌^◌, ◌-◌, ◌⊎◌, length, map, inl, inr, sym, ap, subst, rules, arith}
 use Rattle.std.proofs.lemmas.Grind.{common_steps}
 use Rattle.std.proofs.lemmas.List.{length-map}
+use Rattle.std.proofs.lemmas.Result.{err_from_is_err_and}
 use Rattle.std.specs.Global.{Vec}
 use Rattle.dynamic_symbols.specs.Names.{name_size}
 use Rattle.dynamic_symbols.proofs.OfSites.{sites_symbols}
@@ -11,7 +12,7 @@ use Rattle.tls_layout.specs.Rounding.{round_up}
 use Rattle.tls_layout.specs.Sections.{Layout}
 use Rattle.link_core.specs.Linking.{link_of, block_offset, layout}
 use Rattle.link_core.specs.Faults.{FitsLimits, IsCrowded, IsLinkFault, IsWordy}
-use Rattle.link_core.proofs.LinkFaults.{exceeds, limit_fault, storage_fault}
+use Rattle.link_core.proofs.LinkFaults.{exceeds, limit_fault, same_storage, storage_fault}
 use Rattle.link_core.proofs.LinkLists.{names_are, size_is}
 use Rattle.link_core.proofs.linking.inputs_of.Goals as goal
 use Rattle.link_core.proofs.linking.inputs_of.Goals.{then-not-few-via-then-not-few}
@@ -56,12 +57,14 @@ returns-in_err-ask_tls-clause-fault c =
           c.as_slice-else-not-few.ensures.keys c.in_ok-imports.ensures c.in_ok-bindings.ensures.startup))
           (c.names_fit.ensures.0 c.if-not-names_fit.false);
     } in
-    let given = storage_fault l c.in_ok-bindings.ensures.resolved c.in_ok-ask_kind.ensures limits in
-    let told = c.in_err-ask_tls.ensures in
-    let residual = c.from_residual-in_err-ask_tls.ensures in
-    let was = c.in_err-ask_tls.was in
-    let is = c.in_err-ask_tls.is in
-    ?
+    let residual = c.from_residual-in_err-ask_tls in
+    let p = err_from_is_err_and residual.result residual.ensures.1 in
+    rw (p.1, p.2)
+    (storage_fault l c.in_ok-bindings.ensures.resolved c.in_ok-ask_kind.ensures limits _
+    (same_storage l c.in_ok-bindings.bindings.objects c.in_ok-bindings.bindings.startup c.tls_size.result
+    c.in_ok-bindings.ensures.objects c.in_ok-bindings.ensures.startup
+    (c.tls_size.ensures.size ∙ ap (λ (p : Layout). tls_size p.sections) c.in_ok-placement.ensures.places) _
+    c.in_err-ask_tls.ensures))
 
 pub invariant_of-result : goal.invariant_of-result
 unfolding block_offset
