@@ -4,5 +4,7 @@ pub mod Lengths
 pub mod Linkable
 pub mod Loads
 pub mod Relatives
-pub mod Symbols
 pub mod SortingLaws
+pub mod Symbols
+pub mod SymbolsInside
+pub mod SymbolsNames
