@@ -46,19 +46,19 @@ impl<'i, 'l, 's, 'a> Model for Plan<'i, 'l, 's, 'a> {
     ghost use Rattle.std.specs.Prelude.{◌≡◌};
     ghost use Rattle.link_core.specs.Linking.{Linking};
     ghost use Rattle.link_core.specs.Faults.{FitsLimits, IsGiven};
-    ghost use Rattle.link_core.specs.Needs.{got_start, has_stub, stub_start, table};
-    ghost use Rattle.link_core.specs.Values.{counts_from_thread_pointer, is_rewriting};
+    ghost use Rattle.link_core.specs.Needs.{got_start as table_place, has_stub as needs_stub, stub_start as stub_place, table};
+    ghost use Rattle.link_core.specs.Values.{counts_from_thread_pointer as counts_so, is_rewriting as rewrites};
 
     ghost Value = { Linking };
 
     ghost view = { λ plan. plan.inputs.now };
 
     ghost invariant = { λ plan. (plan.got ≡ table plan.inputs.now)
-      × (plan.got_start ≡ got_start plan.inputs.now)
-      × (plan.stub_start ≡ stub_start plan.inputs.now)
-      × (plan.has_stub ≡ has_stub plan.inputs.now)
-      × (plan.is_rewriting ≡ is_rewriting plan.inputs.now)
-      × (plan.counts_from_thread_pointer ≡ counts_from_thread_pointer plan.inputs.now)
+      × (plan.got_start ≡ table_place plan.inputs.now)
+      × (plan.stub_start ≡ stub_place plan.inputs.now)
+      × (plan.has_stub ≡ needs_stub plan.inputs.now)
+      × (plan.is_rewriting ≡ rewrites plan.inputs.now)
+      × (plan.counts_from_thread_pointer ≡ counts_so plan.inputs.now)
       × IsGiven plan.inputs.now × FitsLimits plan.inputs.now };
 }
 
