@@ -1,3 +1,4 @@
+pub mod DraftLemmas
 pub mod Few
 pub mod GotRelocations
 pub mod Lengths
