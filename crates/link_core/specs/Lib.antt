@@ -3,6 +3,7 @@ pub mod Dynamic
 pub mod Faults
 pub mod Images
 pub mod Linking
+pub mod Named
 pub mod Needs
 pub mod Overflows
 pub mod Sorting
