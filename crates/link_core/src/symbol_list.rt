@@ -1,13 +1,13 @@
 //! The symbols of an image: those that it defines, those that it imports, and the function of the run time.
 
-ghost use Rattle.std.specs.Prelude.{◌≡◌, ◌++◌, IfOk, OnOk, map, if◌then◌else◌};
+ghost use Rattle.std.specs.Prelude.{◌≡◌, ◌++◌, ℕ, List, IfOk, OnOk, map, if◌then◌else◌};
 ghost use Rattle.std.specs.List.{All};
 ghost use Rattle.tls_symbols.specs.Bindings.{is_tls_place};
 ghost use Rattle.tls_symbols.specs.Definitions.{IsWithin};
 ghost use Rattle.dynamic_symbols.specs.Names.{name_of};
 ghost use Rattle.image_file.specs.declared.symbol.SymbolType.TheVariants as type_in_image;
-ghost use Rattle.link_core.specs.Dynamic.{binding_shown, defined, foreign, names, symbols, type_shown};
-ghost use Rattle.link_core.specs.Dynamic.{visibility_shown};
+ghost use Rattle.link_core.specs.Dynamic.{binding_shown, defined, foreign, names, runtime_names, runtime_symbols};
+ghost use Rattle.link_core.specs.Dynamic.{symbols, type_shown, visibility_shown};
 ghost use Rattle.link_core.specs.Linking.{address, offset};
 ghost use Rattle.link_core.specs.Named.{names_in, symbols_in};
 
@@ -143,12 +143,7 @@ pub fn symbols<'a>(alloc: Global, plan: &Plan<'_, '_, '_, 'a>) -> Result<Vec<Nam
     let mut all = Vec::new(alloc);
     push_own(inputs, inputs.own.as_slice(), &mut all)?;
     push_imports(inputs.imports.as_slice(), &mut all)?;
-    if plan.got.start(&Need::RuntimeWord).is_some() {
-        all.push(NamedSymbol {
-            symbol: foreign(SymbolType::NoType),
-            name: GET_ADDRESS,
-        })?;
-    }
+    push_runtime(plan.got.start(&Need::RuntimeWord).is_some(), &mut all)?;
     Ok(all)
 }
 
@@ -176,13 +171,28 @@ fn push_own<'a>(
 /// Adds the imports of these names.
 fn push_imports<'a>(names: &[&'a [u8]], all: &mut Vec<NamedSymbol<'a>>) -> Result<(), AllocError>
     ensures symbols { OnOk result (symbols_in all.new.items
-        ≡ symbols_in all.old.items ++ map (λ name. foreign type_in_image.Tls) names.now) }
+        ≡ symbols_in all.old.items
+        ++ map (λ (name : List ℕ). foreign type_in_image.Tls) (map (λ name. name.now) names.now)) }
     ensures names { OnOk result (names_in all.new.items ≡ names_in all.old.items ++ map (λ name. name.now) names.now) }
 {
     for name in names {
         all.push(NamedSymbol {
             symbol: foreign(SymbolType::Tls),
             name: *name,
+        })?;
+    }
+    Ok(())
+}
+
+/// Adds the function of the run time, where it is called through its word.
+fn push_runtime(is_used: bool, all: &mut Vec<NamedSymbol>) -> Result<(), AllocError>
+    ensures symbols { OnOk result (symbols_in all.new.items ≡ symbols_in all.old.items ++ runtime_symbols is_used) }
+    ensures names { OnOk result (names_in all.new.items ≡ names_in all.old.items ++ runtime_names is_used) }
+{
+    if is_used {
+        all.push(NamedSymbol {
+            symbol: foreign(SymbolType::NoType),
+            name: GET_ADDRESS,
         })?;
     }
     Ok(())
