@@ -9,6 +9,7 @@ pub mod RelativesApart
 pub mod RelativesFields
 pub mod RelativesParts
 pub mod RelativesTables
+pub mod RelocationListLemmas
 pub mod SortingLaws
 pub mod Symbols
 pub mod SymbolsInside
