@@ -5,7 +5,8 @@ ghost use Rattle.std.specs.List.{list_any};
 ghost use Rattle.sequence_match.specs.declared.places.Site.{Site};
 ghost use Rattle.link_core.specs.Dynamic.{is_flagged, is_initial};
 ghost use Rattle.link_core.specs.Linking.{layout};
-ghost use Rattle.link_core.specs.Images.{file_kind, filled, got_number, got_places, section_places, stub_places, tls_part};
+ghost use Rattle.link_core.specs.Images.{file_kind, filled, got_number, got_places, section_places};
+ghost use Rattle.link_core.specs.Images.{stub_places, tls_part};
 
 use crate::inputs::Inputs;
 use crate::plan::Plan;
@@ -108,7 +109,8 @@ pub fn tls_part(placement: &Placement) -> Option<TlsPart>
 fn has_initial(own: &[Site]) -> bool
     ensures { result ≡ list_any (λ (site : Site). is_initial site.form) own.now }
 {
-    own.iter().any(|site| matches!(site.form, Form::IeMov | Form::IeAdd))
+    own.iter()
+        .any(|site| matches!(site.form, Form::IeMov | Form::IeAdd))
 }
 
 /// Whether one of these objects does.

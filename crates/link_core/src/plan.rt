@@ -46,7 +46,8 @@ impl<'i, 'l, 's, 'a> Model for Plan<'i, 'l, 's, 'a> {
     ghost use Rattle.std.specs.Prelude.{◌≡◌};
     ghost use Rattle.link_core.specs.Linking.{Linking};
     ghost use Rattle.link_core.specs.Faults.{FitsLimits, IsGiven};
-    ghost use Rattle.link_core.specs.Needs.{got_start as table_place, has_stub as needs_stub, stub_start as stub_place, table};
+    ghost use Rattle.link_core.specs.Needs.{got_start as table_place, has_stub as needs_stub};
+    ghost use Rattle.link_core.specs.Needs.{stub_start as stub_place, table};
     ghost use Rattle.link_core.specs.Values.{counts_from_thread_pointer as counts_so, is_rewriting as rewrites};
 
     ghost Value = { Linking };

@@ -1,17 +1,19 @@
 //! The relocations of an image, by which a loader fills in what linking can't know.
 
-ghost use Rattle.std.specs.Prelude.{◌≡◌, ◌+◌, ◌*◌, ◌<◌, ◌≤◌, ◌^◌, ◌++◌, IfOk, OnOk, length, unwrap_or};
+ghost use Rattle.std.specs.Prelude.{◌≡◌, ◌+◌, ◌*◌, ◌<◌, ◌≤◌, ◌^◌, ◌++◌, IfOk, OnOk, length, option_map, slice_get};
+ghost use Rattle.std.specs.Prelude.{unwrap_or};
 ghost use Rattle.std.specs.List.{Contains, position_from};
 ghost use Rattle.std.specs.Str.{bytes_eq};
 ghost use Rattle.elf_object.specs.Lent.{relocations};
-ghost use Rattle.got_pairs.specs.Entries.{words};
+ghost use Rattle.got_pairs.specs.Entries.{entry_of, words};
 ghost use Rattle.tls_layout.specs.Places.{address_of};
 ghost use Rattle.tls_symbols.specs.Bindings.{object_at};
 ghost use Rattle.link_core.specs.Dynamic.{entry_relocations, field_relocations, got_relocations, imports, loader_kind};
 ghost use Rattle.link_core.specs.Dynamic.{number_of, own_symbols};
 ghost use Rattle.link_core.specs.Dynamic.{object_relocations, object_relocations_from, relatives, relocation_of};
 ghost use Rattle.link_core.specs.Dynamic.{section_relocations, word_relocations};
-ghost use Rattle.link_core.specs.Linking.{layout};
+ghost use Rattle.link_core.specs.Linking.{block_offset, layout};
+ghost use Rattle.link_core.specs.Needs.{entries, got_size, got_start};
 
 use crate::inputs::Inputs;
 use crate::plan::Plan;
@@ -120,16 +122,41 @@ impl<'i, 'l, 's, 'a> Plan<'i, 'l, 's, 'a> {
         }
     }
 
+    /// Where the table begins.
+    #[tactic(auto, using(crate::proofs::RelocationListLemmas::table_low))]
+    fn table_start(&self) -> u64
+        ensures start { result ≡ got_start self.now }
+        ensures low { got_start self.now + got_size self.now ≤ 2 ^ 26 }
+    {
+        self.got_start
+    }
+
+    /// How many entries it has.
+    fn entry_count(&self) -> usize
+        ensures { result ≡ length (entries self.now) }
+    {
+        self.got.entry_count()
+    }
+
+    /// What an entry holds, by its number.
+    fn entry(&self, number: usize) -> Option<Entry<'a>>
+        ensures { result
+            ≡ option_map (entry_of self.now.kind (block_offset self.now)) (slice_get (entries self.now) number) }
+    {
+        self.got.entry(number)
+    }
+
     /// Adds those of the table.
     pub fn push_got(&self, all: &mut Vec<ImageRelocation>) -> Result<(), AllocError>
         ensures { OnOk result (all.new.items ≡ all.old.items ++ got_relocations self.now) }
     {
-        let mut place = self.got_start;
-        for number in 0..self.got.entry_count() {
-            if let Some(entry) = self.got.entry(number) {
-                self.push_entry(place, &entry, all)?;
-                place += size_of(&entry);
-            }
+        let mut place = self.table_start();
+        for number in 0..self.entry_count() {
+            let Some(entry) = self.entry(number) else {
+                return Ok(());
+            };
+            self.push_entry(place, &entry, all)?;
+            place += size_of(&entry);
         }
         Ok(())
     }

@@ -135,7 +135,10 @@ fn defined(inputs: &Inputs, found: SymbolRef) -> ImageSymbol
 /// All symbols from number 1 on, with their names: those that the image defines, the imports, and the function of the
 /// run time where it is called through its word.
 #[tactic(auto, unfolding(crate::specs::Dynamic::symbols, crate::specs::Dynamic::names))]
-pub fn symbols<'a>(alloc: Global, plan: &Plan<'_, '_, '_, 'a>) -> Result<Vec<NamedSymbol<'a>>, AllocError>
+pub fn symbols<'a>(
+    alloc: Global,
+    plan: &Plan<'_, '_, '_, 'a>,
+) -> Result<Vec<NamedSymbol<'a>>, AllocError>
     ensures symbols { IfOk result (λ all. symbols_in all.items ≡ symbols plan.now) }
     ensures names { IfOk result (λ all. names_in all.items ≡ names plan.now) }
 {
@@ -162,7 +165,9 @@ fn push_own<'a>(
     for found in own {
         all.push(NamedSymbol {
             symbol: defined(inputs, *found),
-            name: inputs.object(found.object as usize).symbol_name(found.symbol),
+            name: inputs
+                .object(found.object as usize)
+                .symbol_name(found.symbol),
         })?;
     }
     Ok(())
