@@ -3,6 +3,8 @@ pub mod GotRelocations
 pub mod Lengths
 pub mod Linkable
 pub mod Loads
+pub mod LoadsChains
+pub mod LoadsCounts
 pub mod Relatives
 pub mod Symbols
 pub mod SortingLaws
