@@ -5,6 +5,7 @@ pub mod Linkable
 pub mod Loads
 pub mod LoadsChains
 pub mod LoadsCounts
+pub mod LoadsParts
 pub mod Relatives
 pub mod Symbols
 pub mod SortingLaws
