@@ -6,6 +6,8 @@ pub mod Loads
 pub mod LoadsChains
 pub mod LoadsCounts
 pub mod LoadsParts
+pub mod LoadsPlaces
+pub mod LoadsTables
 pub mod Relatives
 pub mod Symbols
 pub mod SortingLaws
