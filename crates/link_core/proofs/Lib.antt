@@ -8,6 +8,7 @@ pub mod LoadsCounts
 pub mod LoadsParts
 pub mod LoadsPlaces
 pub mod LoadsTables
+pub mod LoadsTls
 pub mod Relatives
 pub mod Symbols
 pub mod SortingLaws
