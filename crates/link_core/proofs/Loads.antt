@@ -1,28 +1,27 @@
 -- A page of headers can say what the image is.
-use Rattle.std.proofs.Common.{◌≡◌, ◌+◌, ◌-◌, ◌*◌, ◌%◌, ◌^◌, ◌<◌, ◌≤◌, ◌==◌, ◌∙◌, ℕ, Bool, true, false, List, [], ◌∷◌, ◌++◌}
-use Rattle.std.proofs.Common.{Option, Some, None, length, get_or, map, refl, sym, ap, subst, arith, inl, inr, length-append, append_assoc}
+use Rattle.std.proofs.Common.{◌≡◌, ◌+◌, ◌-◌, ◌*◌, ◌%◌, ◌^◌, ◌<◌, ◌≤◌, ◌==◌, ◌∙◌, ℕ, Bool, true, false, List, [], ◌∷◌}
+use Rattle.std.proofs.Common.{◌++◌}
+use Rattle.std.proofs.Common.{Option, Some, None, length, get_or, map, refl, sym, ap, subst, arith, length-append}
+use Rattle.std.proofs.Common.{append_assoc}
 use Rattle.std.specs.Prelude.{if◌then◌else◌, is_some}
 use Rattle.std.specs.Int.{next_multiple_of}
 use Rattle.std.specs.List.{All}
 use Rattle.std.specs.Option.{IfSome}
-use Rattle.std.proofs.lemmas.Bool.{cases_lt}
-use Rattle.std.proofs.lemmas.Bool.Decides.{nat_tests}
 use Rattle.std.proofs.lemmas.List.{get_or_push, length_push, map-append}
 use Rattle.std.proofs.lemmas.List.Elements.{All-cons, All-head, All-nil, All-tail}
 use Rattle.std.proofs.lemmas.Option.{same_Some, none-some}
-use Rattle.image_faults.specs.Counts.{how_many, behind_last}
+use Rattle.image_faults.specs.Counts.{behind_last}
 use Rattle.image_file.specs.declared.part.PartClass.TheVariants.{Executable, ReadOnly, Writable}
-use Rattle.image_file.specs.declared.part.TlsPart.{TlsPart}
 use Rattle.image_rules.specs.declared.places.FileKind.{FileKind}
 use Rattle.image_writer.specs.declared.outline.PartPlace.{PartPlace}
-use Rattle.image_writer.specs.Contents.{parts_end, part_in, tables_address}
+use Rattle.image_writer.specs.Contents.{part_in, tables_address}
 use Rattle.image_writer.specs.Outlined.{Outlined, end_of, last_part, no_part, outline_of, place_of}
-use Rattle.image_writer.specs.Loadable.{IsLoadable, HoldsTls, is_writable, is_written, one_if_some}
+use Rattle.image_writer.specs.Loadable.{IsLoadable, HoldsTls, is_writable, one_if_some}
 use Rattle.image_writer.specs.Page.{base_of as page_base, file_offset}
 use Rattle.image_writer.specs.Tables.{array_size, finished, tables, tables_part}
 use Rattle.image_writer.proofs.SameBytes.{part_length}
 use Rattle.link_faults.specs.ImageKinds.{base_of}
-use Rattle.tls_layout.specs.Places.{tls_image, tls_size, IsLawful}
+use Rattle.tls_layout.specs.Places.{tls_size}
 use Rattle.tls_layout.specs.Rounding.{page_up, round_up}
 use Rattle.tls_layout.proofs.LawsOfPlaces.{page_multiple}
 use Rattle.tls_layout.proofs.Together.{page_up-above}
@@ -30,13 +29,15 @@ use Rattle.link_core.specs.Linking.{Linking, layout}
 use Rattle.link_core.specs.Needs.{got_size, got_start, has_stub, stub_start}
 use Rattle.link_core.specs.Bytes.{file}
 use Rattle.link_core.specs.Faults.{FitsLimits, IsGiven}
-use Rattle.link_core.specs.Images.{contents, file_kind, got_number, got_places, places, section_places, stub_places, tls_part}
+use Rattle.link_core.specs.Images.{contents, file_kind, got_number, got_places, places, section_places, stub_places}
+use Rattle.link_core.specs.Images.{tls_part}
 use Rattle.link_core.proofs.Few.{few}
 use Rattle.link_core.proofs.Lengths.{places_inside}
-use Rattle.link_core.proofs.LoadsChains.{Chain, IsGood, last_end, chain-append, chain_right, chain_rises, parts_end-is}
+use Rattle.link_core.proofs.LoadsChains.{Chain, last_end, chain-append, chain_right, chain_rises, parts_end-is}
 use Rattle.link_core.proofs.LoadsCounts.{last_written, many_written, one_if, written, written-append}
 use Rattle.link_core.proofs.LoadsParts.{on_page, page_near}
-use Rattle.link_core.proofs.LoadsPlaces.{begins_well, image_before, places_lie, sections_few, sections_written, stub_few, stub_unwritten}
+use Rattle.link_core.proofs.LoadsPlaces.{begins_well, image_before, places_lie, sections_few, sections_written}
+use Rattle.link_core.proofs.LoadsPlaces.{stub_few, stub_unwritten}
 use Rattle.link_core.proofs.LoadsTables.{array_inside, array_some, tables_short}
 use Rattle.link_core.proofs.LoadsTls.{outline, right_tls, same_base, segment}
 
@@ -51,7 +52,8 @@ placed kind bytes (p ∷ xs) inside =
     let lies = λ (q : PartPlace). file_offset kind q.address + q.size ≤ length bytes in
     let here = part_length p.size (file_offset kind p.address) bytes (All-head lies p xs inside) in
     let rest = placed kind bytes xs (All-tail lies p xs inside) in
-    ap (λ n. record { class = p.class; address = p.address; size = n } ∷ map place_of (map (part_in kind bytes) xs)) here
+    ap (λ n. record { class = p.class; address = p.address; size = n } ∷ map place_of (map (part_in kind bytes) xs))
+    here
     ∙ ap (λ ys. p ∷ ys) rest
 
 -- the parts of the contents lie where they are said to
@@ -69,7 +71,8 @@ unfolding finished contents
 outline_is l given limits =
     let tail = tables_part (contents l) ∷ [] in
     let parts : map place_of ((contents l).parts ++ tail) ≡ places l ++ (tables_place l ∷ []) =
-    map-append place_of (contents l).parts tail ∙ ap (λ xs. xs ++ (tables_place l ∷ [])) (contents_placed l given limits) in
+    map-append place_of (contents l).parts tail
+    ∙ ap (λ xs. xs ++ (tables_place l ∷ [])) (contents_placed l given limits) in
     ap (λ xs. record {
       kind = file_kind l.kind;
       parts = xs;
@@ -86,7 +89,8 @@ tables_begin : (l : Linking) → IsGiven l → FitsLimits l
 unfolding contents page_up round_up
 tables_begin l given limits =
     let end = parts_end-is (file_kind l.kind) (contents l).parts in
-    let same : last_end (page_base (file_kind l.kind)) (map place_of (contents l).parts) ≡ last_end (base_of l.kind) (places l) =
+    let same : last_end (page_base (file_kind l.kind)) (map place_of (contents l).parts)
+    ≡ last_end (base_of l.kind) (places l) =
     ap (λ n. last_end n (map place_of (contents l).parts)) (same_base l.kind)
     ∙ ap (last_end (base_of l.kind)) (contents_placed l given limits) in
     ap (λ n. next_multiple_of n 4096) (end ∙ same)
@@ -132,7 +136,7 @@ whole_chain l given limits =
         below = omega (arith, t.address, t.short, lies.ends, begins.below);
       },
       omega (arith, t.address),
-      tt
+      tt,
     )
 
 -- ** what a page of headers asks
@@ -158,7 +162,8 @@ got_counts l = of_test (got_size l == 0)
   where
     of_test : (t : Bool)
         → (length (if t then [] else got_part l ∷ []) ≤ 1)
-        × (1 + written (if t then [] else got_part l ∷ []) ≤ (if is_some (if t then None else Some (length (section_places (layout l)))) then 2 else 1))
+        × (1 + written (if t then [] else got_part l ∷ [])
+        ≤ (if is_some (if t then None else Some (length (section_places (layout l)))) then 2 else 1))
     of_test true = (omega arith, omega arith)
     of_test false = (omega arith, omega arith)
 
@@ -189,7 +194,8 @@ places_written l =
     let second = written-append (got_places l) (stub_places l) in
     let sections = sections_written (layout l) in
     let stub = stub_unwritten l in
-    let sum : written (section_places (layout l) ++ (got_places l ++ stub_places l)) ≤ 1 + written (got_places l) = omega arith in
+    let sum : written (section_places (layout l) ++ (got_places l ++ stub_places l)) ≤ 1 + written (got_places l) =
+    omega arith in
     omega (arith, sum, counts.1)
 
 -- no part behind the table is written
@@ -215,12 +221,16 @@ unfolding got_number places
 got_last l tables g constant is = of_test (got_size l == 0) is
   where
     of_test : (t : Bool) → (if t then None else Some (length (section_places (layout l)))) ≡ Some g
-        → written_end ((section_places (layout l) ++ ((if t then [] else got_part l ∷ []) ++ stub_places l)) ++ (tables ∷ [])) ≡ g + 1
+        → written_end
+        ((section_places (layout l) ++ ((if t then [] else got_part l ∷ []) ++ stub_places l)) ++ (tables ∷ []))
+        ≡ g + 1
     of_test true is = absurd (none-some g is)
     of_test false is =
         let same = same_Some (length (section_places (layout l))) g is in
         ap written_end (append_assoc (section_places (layout l)) (got_part l ∷ stub_places l) (tables ∷ []))
-        ∙ (last_written (section_places (layout l)) (got_part l) (stub_places l ++ (tables ∷ [])) refl (stub_constant l tables constant) ∙ ap (λ n. n + 1) same)
+        ∙ (last_written (section_places (layout l)) (got_part l) (stub_places l ++ (tables ∷ [])) refl
+        (stub_constant l tables constant)
+        ∙ ap (λ n. n + 1) same)
 
 -- the outline with the tables behind all parts
 abbrev whole : Linking → Outlined
@@ -239,10 +249,10 @@ whole_loadable l given limits =
       few = omega (arith, places_few l, one_some (tls_part (layout l)), one_some (got_number l));
       parts = λ i below. chain_right (whole l) i chained below;
       few_written = (let same = many_written (places l ++ (tables_place l ∷ [])) in
-      let sum = written-append (places l) (tables_place l ∷ []) in
-      let none : one_if (is_writable (tables_place l).class) ≡ 0 = ap (λ c. one_if (is_writable c)) t.constant in
-      let front = places_written l in
-      omega (arith, same, sum, none, front));
+          let sum = written-append (places l) (tables_place l ∷ []) in
+          let none : one_if (is_writable (tables_place l).class) ≡ 0 = ap (λ c. one_if (is_writable c)) t.constant in
+          let front = places_written l in
+          omega (arith, same, sum, none, front));
       got_is = λ g is. got_last l (tables_place l) g t.constant is;
       last_constant = ap (λ (p : PartPlace). p.class) last ∙ t.constant;
       array_in = omega (arith, t.array, ap (λ (p : PartPlace). p.size) last);

@@ -1,5 +1,5 @@
 -- Parts one behind another.
-use Rattle.std.proofs.Common.{◌≡◌, ◌+◌, ◌-◌, ◌%◌, ◌^◌, ◌<◌, ◌≤◌, ◌⊎◌, ◌∙◌, ℕ, zero, suc, List, [], ◌∷◌, ◌++◌, length}
+use Rattle.std.proofs.Common.{◌≡◌, ◌+◌, ◌-◌, ◌%◌, ◌^◌, ◌<◌, ◌≤◌, ◌⊎◌, ℕ, zero, suc, List, [], ◌∷◌, ◌++◌, length}
 use Rattle.std.proofs.Common.{get_or, map, refl, arith, inl, inr}
 use Rattle.image_rules.specs.declared.places.FileKind.{FileKind}
 use Rattle.image_file.specs.Spelled.{Part}
@@ -60,12 +60,13 @@ pub lies-append : (base at mid next : ℕ) (xs ys : List PartPlace) → Lies bas
 lies-append base at mid next xs ys front back = record {
   chain = chain-append base at xs ys front.chain (chain_lower base (last_end at xs) mid ys front.ends back.chain);
   ends = (let whole = last_end-append at xs ys in
-  let low = last_end_lower (last_end at xs) mid ys front.ends in
-  let ends = back.ends in
-  omega arith);
+      let low = last_end_lower (last_end at xs) mid ys front.ends in
+      let ends = back.ends in
+      omega arith);
 }
 
-pub lies_longer : (base at next late : ℕ) (xs : List PartPlace) → Lies base at xs next → next ≤ late → Lies base at xs late
+pub lies_longer : (base at next late : ℕ) (xs : List PartPlace) → Lies base at xs next → next ≤ late
+    → Lies base at xs late
 lies_longer base at next late xs lies le = record { chain = lies.chain; ends = omega (arith, lies.ends) }
 
 pub lies_none : (base at next : ℕ) → at ≤ next → Lies base at [] next
@@ -111,7 +112,8 @@ chain_right o i chain below =
         inr (rw before behind)
 
 -- the parts of contents end where the last one does
-pub parts_end-is : (kind : FileKind) (parts : List Part) → parts_end kind parts ≡ last_end (base_of kind) (map place_of parts)
+pub parts_end-is : (kind : FileKind) (parts : List Part)
+    → parts_end kind parts ≡ last_end (base_of kind) (map place_of parts)
 parts_end-is kind [] = refl
 parts_end-is kind (p ∷ []) = refl
 parts_end-is kind (p ∷ (q ∷ more)) = parts_end-is kind (q ∷ more)

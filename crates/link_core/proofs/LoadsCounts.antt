@@ -1,8 +1,8 @@
 -- How many parts are written, and the last of these.
-use Rattle.std.proofs.Common.{◌≡◌, ◌+◌, ◌-◌, ◌<◌, ◌≤◌, ◌∙◌, ℕ, zero, suc, Bool, true, false, List, [], ◌∷◌, ◌++◌, length}
+use Rattle.std.proofs.Common.{◌≡◌, ◌+◌, ◌-◌, ◌<◌, ◌∙◌, ℕ, zero, suc, Bool, true, false, List, [], ◌∷◌, ◌++◌, length}
 use Rattle.std.proofs.Common.{get_or, refl, ap, arith, inl, inr, if◌then◌else◌}
 use Rattle.std.proofs.lemmas.Bool.{cases_lt}
-use Rattle.std.proofs.lemmas.List.{get_or_append_left, get_or-append_right, get_or_at}
+use Rattle.std.proofs.lemmas.List.{get_or-append_right, get_or_at}
 use Rattle.std.specs.List.{All}
 use Rattle.image_faults.specs.Counts.{how_many, behind_last}
 use Rattle.image_writer.specs.declared.outline.PartPlace.{PartPlace}
@@ -68,12 +68,13 @@ pub last_written : (front : List PartPlace) (p : PartPlace) (back : List PartPla
     ≡ length front + 1
 last_written front p back here none =
     let all : length (front ++ (p ∷ back)) ≡ length front + (1 + length back) = length_is front in
-    last_is (λ i. is_writable (get_or (front ++ (p ∷ back)) i no_part).class) (length front) (length (front ++ (p ∷ back)))
+    last_is (λ i. is_writable (get_or (front ++ (p ∷ back)) i no_part).class) (length front)
+    (length (front ++ (p ∷ back)))
     (omega arith)
     (rw (get_or_at front p back no_part (length front) refl) here)
     (λ i above under.
-      (let moved = get_or-append_right front (p ∷ back) (length front) i no_part refl (omega arith) in
-      rw moved (behind (i - length front) (omega arith) (omega arith))))
+    (let moved = get_or-append_right front (p ∷ back) (length front) i no_part refl (omega arith) in
+    rw moved (behind (i - length front) (omega arith) (omega arith))))
   where
     length_is : (xs : List PartPlace) → length (xs ++ (p ∷ back)) ≡ length xs + (1 + length back)
     length_is [] = omega arith

@@ -1,32 +1,25 @@
 -- The parts of an image lie one behind another, and which of them are written.
-use Rattle.std.proofs.Common.{◌≡◌, ◌+◌, ◌-◌, ◌*◌, ◌%◌, ◌^◌, ◌<◌, ◌≤◌, ◌==◌, ◌∙◌, ℕ, Bool, true, false, List, [], ◌∷◌, ◌++◌}
-use Rattle.std.proofs.Common.{length, refl, sym, ap, arith, inl, inr, length-append}
+use Rattle.std.proofs.Common.{◌≡◌, ◌+◌, ◌-◌, ◌*◌, ◌%◌, ◌^◌, ◌<◌, ◌≤◌, ◌∙◌, ℕ, Bool, true, false, [], ◌∷◌, ◌++◌}
+use Rattle.std.proofs.Common.{length, refl, ap, arith, inl, inr}
 use Rattle.std.specs.Prelude.{nat_lt, if◌then◌else◌}
-use Rattle.std.specs.List.{All}
 use Rattle.std.proofs.lemmas.Bool.{cases_lt, lt-ltb, le-ltb}
-use Rattle.std.proofs.lemmas.Bool.Decides.{nat_tests}
 use Rattle.object_faults.specs.declared.class.SectionClass.TheVariants as class
 use Rattle.image_file.specs.declared.part.PartClass.{PartClass}
 use Rattle.image_file.specs.declared.part.PartClass.TheVariants.{Executable, ReadOnly, Writable}
 use Rattle.image_writer.specs.declared.outline.PartPlace.{PartPlace}
 use Rattle.image_writer.specs.Loadable.{is_writable}
-use Rattle.image_writer.specs.Outlined.{end_of}
-use Rattle.link_faults.specs.declared.image_kind.ImageKind.{ImageKind}
-use Rattle.link_faults.specs.declared.image_kind.ImageKind.TheVariants.{Exe, Pie, Start, Late}
 use Rattle.link_faults.specs.ImageKinds.{base_of}
 use Rattle.tls_layout.specs.declared.extent.Extent.{Extent}
-use Rattle.tls_layout.specs.Laws.{ClassesFollow}
 use Rattle.tls_layout.specs.Places.{executable, read_only, room, span, tls_image, writable, zero_data, IsLawful}
 use Rattle.tls_layout.specs.Rounding.{page_up, round_up, IsMultiple}
 use Rattle.tls_layout.specs.Sections.{Layout}
 use Rattle.tls_layout.proofs.LawsOfPlaces.{classes_follow, page_multiple}
-use Rattle.tls_layout.proofs.Together.{page_up-above, page_up-least, page_limit, ascend, rise}
-use Rattle.link_core.specs.Linking.{Linking, layout}
-use Rattle.link_core.specs.Needs.{got_size, got_start, has_stub, stub_start}
-use Rattle.link_core.specs.Images.{filled, section_places, got_places, stub_places, places}
-use Rattle.link_core.proofs.LoadsChains.{Lies, IsGood, last_end, last_end-append, chain_rises, chain_lower, lies-append, lies_longer}
-use Rattle.link_core.proofs.LoadsChains.{lies_none, lies_one}
-use Rattle.link_core.proofs.LoadsCounts.{one_if, written, written-append}
+use Rattle.tls_layout.proofs.Together.{page_up-above, page_up-least, ascend, rise}
+use Rattle.link_core.specs.Images.{filled, section_places}
+use Rattle.link_core.proofs.LoadsChains.{Lies, last_end, last_end-append, chain_rises, chain_lower, lies-append}
+use Rattle.link_core.proofs.LoadsChains.{lies_longer}
+use Rattle.link_core.proofs.LoadsChains.{lies_none}
+use Rattle.link_core.proofs.LoadsCounts.{one_if, written}
 
 -- ** pages
 
@@ -62,7 +55,7 @@ filled_lies class base at x behind up page above below = elim (cases_lt x.start 
     chain = (
       record { filled = omega arith; paged = page; above = above; below = omega arith },
       behind,
-      tt
+      tt,
     );
     ends = omega arith;
   })
@@ -96,7 +89,9 @@ pub filled_few : (class : PartClass) (x : Extent) → length (filled class x) �
 filled_few class x = of_test (nat_lt x.start x.end)
   where
     of_test : (t : Bool)
-        → length {A = PartPlace} (if t then record { class = class; address = x.start; size = x.end - x.start } ∷ [] else []) ≤ 1
+        → length {A = PartPlace}
+        (if t then record { class = class; address = x.start; size = x.end - x.start } ∷ [] else [])
+        ≤ 1
     of_test true = omega arith
     of_test false = omega arith
 
@@ -192,9 +187,11 @@ image_early p lawful =
     let rest = filled ReadOnly image ++ filled Writable (writable p.kind p.sections) in
     let middle = last_end code.end second in
     let whole : last_end base (first ++ (second ++ rest)) ≡ last_end middle rest =
-    last_end-append base first (second ++ rest) ∙ (ap (λ n. last_end n (second ++ rest)) (front_end p) ∙ last_end-append code.end second rest) in
+    last_end-append base first (second ++ rest)
+    ∙ (ap (λ n. last_end n (second ++ rest)) (front_end p) ∙ last_end-append code.end second rest) in
     let near = image_near p in
     let before = filled_before ReadOnly code.end image.start constants f.second (f.rise class.ReadOnly) f.third in
-    let up = chain_rises base middle rest (chain_lower base middle image.start rest before (back_lies p lawful).chain) in
+    let lies = back_lies p lawful in
+    let up = chain_rises base middle rest (chain_lower base middle image.start rest before lies.chain) in
     let page = page_rises middle (last_end middle rest) up in
     rw whole (omega arith)

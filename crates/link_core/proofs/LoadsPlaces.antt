@@ -1,13 +1,11 @@
 -- The table and the stub lie behind the sections, and how many parts there are.
-use Rattle.std.proofs.Common.{◌≡◌, ◌+◌, ◌-◌, ◌*◌, ◌^◌, ◌<◌, ◌≤◌, ◌==◌, ◌∙◌, ℕ, Bool, true, false, List, [], ◌∷◌, ◌++◌}
-use Rattle.std.proofs.Common.{length, refl, sym, ap, arith, inl, inr, length-append}
+use Rattle.std.proofs.Common.{◌≡◌, ◌+◌, ◌-◌, ◌*◌, ◌^◌, ◌<◌, ◌≤◌, ◌==◌, ℕ, Bool, true, false, [], ◌∷◌, ◌++◌}
+use Rattle.std.proofs.Common.{length, refl, arith, inl, inr, length-append}
 use Rattle.std.specs.Prelude.{if◌then◌else◌}
 use Rattle.std.proofs.lemmas.Bool.{cases_lt}
 use Rattle.std.proofs.lemmas.Bool.Decides.{nat_tests}
 use Rattle.image_file.specs.declared.part.PartClass.TheVariants.{Executable, ReadOnly, Writable}
 use Rattle.image_writer.specs.declared.outline.PartPlace.{PartPlace}
-use Rattle.image_writer.specs.Outlined.{end_of}
-use Rattle.link_faults.specs.declared.image_kind.ImageKind.{ImageKind}
 use Rattle.link_faults.specs.ImageKinds.{base_of}
 use Rattle.tls_layout.specs.Places.{executable, read_only, room, span, tls_image, writable, zero_data, IsLawful}
 use Rattle.tls_layout.specs.Rounding.{page_up}
@@ -17,10 +15,11 @@ use Rattle.tls_layout.proofs.Together.{page_up-above, page_limit, ascend, rise}
 use Rattle.link_core.specs.Linking.{Linking, layout}
 use Rattle.link_core.specs.Needs.{got_size, got_start, has_stub, stub_start}
 use Rattle.link_core.specs.Images.{filled, section_places, got_places, stub_places, places}
-use Rattle.link_core.proofs.LoadsChains.{Lies, last_end, last_end-append, chain_rises, chain_lower, lies-append, lies_longer}
+use Rattle.link_core.proofs.LoadsChains.{Lies, last_end, last_end-append, chain_rises, chain_lower, lies-append}
 use Rattle.link_core.proofs.LoadsChains.{lies_none, lies_one}
 use Rattle.link_core.proofs.LoadsCounts.{written, written-append}
-use Rattle.link_core.proofs.LoadsParts.{on_page, page_near, page_rises, sections_lie, image_early, filled_few, filled_written}
+use Rattle.link_core.proofs.LoadsParts.{on_page, page_near, page_rises, sections_lie, image_early, filled_few}
+use Rattle.link_core.proofs.LoadsParts.{filled_written}
 
 -- ** where the table and the stub lie
 
@@ -64,11 +63,12 @@ got_lies l lawful small =
             below = omega (arith, begins.below);
           },
           omega arith,
-          tt
+          tt,
         );
         ends = up;
       })
-      | inr none ↦ rw (none_is (got_size l) none) (lies_none (base_of l.kind) (got_start l) (stub_start l) (omega arith))
+      | inr none ↦
+          rw (none_is (got_size l) none) (lies_none (base_of l.kind) (got_start l) (stub_start l) (omega arith))
     ]
 
 stub_lies : (l : Linking) → IsLawful (layout l) → got_size l ≤ 16 * (2 ^ 19 + 1)
@@ -118,7 +118,8 @@ image_before l lawful small =
     let back = lies-append base (got_start l) (stub_start l) (stub_start l + 6) (got_places l) (stub_places l)
     (got_lies l lawful small) (stub_lies l lawful small) in
     let up = chain_rises base middle rest (chain_lower base middle (got_start l) rest lies.ends back.chain) in
-    let whole : last_end base (section_places p ++ rest) ≡ last_end middle rest = last_end-append base (section_places p) rest in
+    let whole : last_end base (section_places p ++ rest) ≡ last_end middle rest =
+    last_end-append base (section_places p) rest in
     let early = image_early p lawful in
     let page = page_rises middle (last_end middle rest) up in
     rw whole (omega arith)
@@ -166,7 +167,9 @@ pub stub_few : (l : Linking) → length (stub_places l) ≤ 1
 stub_few l = of_test (has_stub l)
   where
     of_test : (t : Bool)
-        → length {A = PartPlace} (if t then record { class = Executable; address = stub_start l; size = 6 } ∷ [] else []) ≤ 1
+        → length {A = PartPlace}
+        (if t then record { class = Executable; address = stub_start l; size = 6 } ∷ [] else [])
+        ≤ 1
     of_test true = omega arith
     of_test false = omega arith
 

@@ -1,19 +1,16 @@
 -- How many bytes the dynamic tables of an image have.
 use Rattle.std.proofs.Common.{◌≡◌, ◌+◌, ◌-◌, ◌*◌, ◌^◌, ◌<◌, ◌≤◌, ◌||◌, ◌∙◌, ℕ, Bool, true, false, List, [], ◌∷◌, ◌++◌}
-use Rattle.std.proofs.Common.{length, map, refl, sym, ap, arith, length-append, if◌then◌else◌}
+use Rattle.std.proofs.Common.{length, map, refl, arith, length-append, if◌then◌else◌}
 use Rattle.std.specs.Prelude.{sum_by}
 use Rattle.std.specs.List.{flat_map}
 use Rattle.std.proofs.lemmas.List.{length-map}
-use Rattle.std.proofs.lemmas.List.Concat.{flat_map-append, length-flat_map}
-use Rattle.std.proofs.lemmas.List.Sums.{sum_by-append, sum_by-cons}
+use Rattle.std.proofs.lemmas.List.Sums.{sum_by-cons}
 use Rattle.dynamic_symbols.specs.Names.{name_of, name_size, size_of}
-use Rattle.image_file.specs.declared.symbol.ImageSymbol.{ImageSymbol}
 use Rattle.image_file.specs.declared.symbol.SymbolType.TheVariants as type_in_image
-use Rattle.image_writer.specs.Contents.{Contents, all_names}
-use Rattle.image_writer.specs.Tables.{array_size, has_relocations, hash_size, is_pie, name_bytes, strings, strings_start, symbol_total}
-use Rattle.image_writer.specs.Tables.{symbols_start, tables}
+use Rattle.image_writer.specs.Contents.{Contents}
+use Rattle.image_writer.specs.Tables.{array_size, has_relocations, is_pie, name_bytes, strings}
+use Rattle.image_writer.specs.Tables.{tables}
 use Rattle.image_writer.proofs.TableSizes.{tables_long}
-use Rattle.tls_symbols.specs.Bindings.{get_address}
 use Rattle.tls_symbols.specs.declared.symbols.SymbolRef.{SymbolRef}
 use Rattle.link_core.specs.Linking.{Linking}
 use Rattle.link_core.specs.Needs.{uses_runtime}

@@ -1,7 +1,7 @@
 -- The TLS segment of an image is as a page of headers wants it.
-use Rattle.std.proofs.Common.{◌≡◌, ◌+◌, ◌-◌, ◌*◌, ◌%◌, ◌^◌, ◌<◌, ◌≤◌, ◌==◌, ◌⊎◌, ◌∙◌, ℕ, Bool, true, false, List, [], ◌∷◌, ◌++◌}
-use Rattle.std.proofs.Common.{Option, Some, None, length, get_or, refl, sym, ap, arith, inl, inr, length-append, mul_assoc}
-use Rattle.std.specs.Prelude.{fold, if◌then◌else◌, nat_lt}
+use Rattle.std.proofs.Common.{◌≡◌, ◌+◌, ◌-◌, ◌*◌, ◌%◌, ◌<◌, ◌==◌, ◌∙◌, ℕ, Bool, true, false, List, [], ◌∷◌, ◌++◌}
+use Rattle.std.proofs.Common.{Some, None, length, get_or, refl, ap, arith, inl, inr, length-append, mul_assoc}
+use Rattle.std.specs.Prelude.{fold, if◌then◌else◌}
 use Rattle.std.specs.List.{All}
 use Rattle.std.specs.Option.{IfSome}
 use Rattle.std.proofs.Math.Nat.{mul-mod_right}
@@ -13,7 +13,6 @@ use Rattle.elf_object.specs.Lawful.{IsPower}
 use Rattle.object_faults.specs.declared.class.SectionClass.TheVariants as class
 use Rattle.image_file.specs.declared.part.PartClass.TheVariants.{Executable, ReadOnly, Writable}
 use Rattle.image_file.specs.declared.part.TlsPart.{TlsPart}
-use Rattle.image_rules.specs.declared.places.FileKind.{FileKind}
 use Rattle.image_writer.specs.declared.outline.PartPlace.{PartPlace}
 use Rattle.image_writer.specs.Loadable.{HoldsInitial, IsRightTlsPart}
 use Rattle.image_writer.specs.Outlined.{Outlined, no_part}
@@ -23,7 +22,8 @@ use Rattle.link_faults.specs.declared.image_kind.ImageKind.TheVariants.{Exe, Pie
 use Rattle.link_faults.specs.ImageKinds.{base_of}
 use Rattle.tls_layout.specs.declared.extent.Extent.{Extent}
 use Rattle.tls_layout.specs.declared.sections.Section.{Section}
-use Rattle.tls_layout.specs.Places.{executable, greatest_alignment, initial_tls, next_alignment, read_only, tls_alignment}
+use Rattle.tls_layout.specs.Places.{executable, greatest_alignment, initial_tls, next_alignment, read_only}
+use Rattle.tls_layout.specs.Places.{tls_alignment}
 use Rattle.tls_layout.specs.Places.{tls_image, tls_size, writable, IsLawful}
 use Rattle.tls_layout.specs.Rounding.{IsMultiple}
 use Rattle.tls_layout.specs.Sections.{Layout, IsOrdinary}
@@ -32,7 +32,8 @@ use Rattle.tls_layout.proofs.LawsOfTls.{front_of_segment}
 use Rattle.tls_layout.proofs.Rounds.{power_divides}
 use Rattle.tls_layout.proofs.Together.{ascend, power_more, rise}
 use Rattle.link_core.specs.Linking.{Linking, layout}
-use Rattle.link_core.specs.Images.{file_kind, filled, got_number, got_places, places, section_places, stub_places, tls_part}
+use Rattle.link_core.specs.Images.{file_kind, filled, got_number, got_places, places, section_places, stub_places}
+use Rattle.link_core.specs.Images.{tls_part}
 
 -- an image of either sort begins at the same address
 pub same_base : (kind : ImageKind) → page_base (file_kind kind) ≡ base_of kind
@@ -79,7 +80,8 @@ found_behind : (front more : List PartPlace) (x : Extent) → x.start < x.end
 found_behind front more x some =
     let here : length front ≡ length front + 0 = omega arith in
     let moved = get_or-append-add front (filled ReadOnly x ++ more) 0 no_part in
-    ap (λ n. get_or (front ++ (filled ReadOnly x ++ more)) n no_part) here ∙ (moved ∙ rw (lt-ltb x.start x.end some) refl)
+    ap (λ n. get_or (front ++ (filled ReadOnly x ++ more)) n no_part) here
+    ∙ (moved ∙ rw (lt-ltb x.start x.end some) refl)
 
 -- the initial image is one of the sections' parts
 record IsFound (p : Layout) : Type 0 where
@@ -110,7 +112,7 @@ image_found p some =
         length-append (filled ReadOnly image) back,
       );
       is = get_or-append-add first (second ++ (filled ReadOnly image ++ back)) (length second) no_part
-      ∙ found_behind second back image some;
+          ∙ found_behind second back image some;
     }
 
 -- ** an outline of the parts, with the tables behind them
@@ -153,15 +155,14 @@ initial_held l tables size lawful some =
       size = (tls_image p.kind p.sections).end - (tls_image p.kind p.sections).start;
     } =
     get_or_append_left (section_places p ++ rest) (tables ∷ []) no_part found.number (omega arith)
-    ∙ (get_or_append_left (section_places p) rest no_part found.number inside ∙ found.is) in
-    (
+    ∙ (get_or_append_left (section_places p) rest no_part found.number inside ∙ found.is) in (
       found.number,
       (
         omega arith,
         ap (λ (x : PartPlace). x.class) part,
         ap (λ (x : PartPlace). x.address) part,
-        ap (λ (x : PartPlace). x.size) part ∙ omega arith
-      )
+        ap (λ (x : PartPlace). x.size) part ∙ omega arith,
+      ),
     )
 
 right_segment : (l : Linking) (tables : PartPlace) (size : ℕ) → IsLawful (layout l) → 0 < tls_size (layout l).sections
@@ -179,7 +180,7 @@ right_segment l tables size lawful some =
       small = lawful.small_tls;
       alignment = power;
       aligned = page_aligned (tls_image p.kind p.sections).start (tls_alignment p.sections)
-      (f.pages (class.Tls true)) power;
+          (f.pages (class.Tls true)) power;
       held = elim (cases_lt 0 (initial_tls p.sections).end) [
         | inl there ↦ inr (initial_held l tables size lawful there)
         | inr none ↦ inl (omega arith)
