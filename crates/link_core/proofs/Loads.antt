@@ -65,6 +65,7 @@ contents_placed l given limits = placed (file_kind l.kind) (file l) (places l) (
 abbrev tables_place : Linking → PartPlace
 tables_place l = place_of (tables_part (contents l))
 
+-- the outline of the image is that of its parts and the tables
 outline_is : (l : Linking) → IsGiven l → FitsLimits l
     → outline_of (finished (contents l)) ≡ outline l (tables_place l) (array_size (contents l))
 unfolding finished contents
@@ -103,6 +104,7 @@ record IsTabled (l : Linking) : Type 0 where
   filled : 0 < (tables_place l).size
   short : (tables_place l).size ≤ 2 ^ 25 + 1000
 
+-- the tables are as they are said to be
 tabled : (l : Linking) → IsGiven l → FitsLimits l → IsTabled l
 unfolding tables_part contents
 tabled l given limits = record {
@@ -141,15 +143,19 @@ whole_chain l given limits =
 
 -- ** what a page of headers asks
 
+-- the part of the table
 abbrev got_part : Linking → PartPlace
 got_part l = record { class = Writable; address = got_start l; size = got_size l }
 
+-- the part of the stub
 abbrev stub_part : Linking → PartPlace
 stub_part l = record { class = Executable; address = stub_start l; size = 6 }
 
+-- a part is not written
 abbrev IsConstant : PartPlace → Type 0
 IsConstant p = is_writable p.class ≡ false
 
+-- there is one at most
 one_some : {X : Type 0} (x : Option X) → one_if_some x ≤ 1
 one_some None = omega arith
 one_some (Some x) = omega arith
@@ -173,6 +179,7 @@ last_behind xs p =
     let more = length_push xs p in
     get_or_push xs p no_part (length (xs ++ (p ∷ [])) - 1) (omega arith)
 
+-- there are six parts at most, the tables not counted
 places_few : (l : Linking) → length (places l) ≤ 6
 unfolding places
 places_few l =
@@ -186,6 +193,7 @@ places_few l =
       stub_few l,
     )
 
+-- two of them are written where there is a table, else one at most
 places_written : (l : Linking) → written (places l) ≤ (if is_some (got_number l) then 2 else 1)
 unfolding places
 places_written l =
@@ -236,6 +244,7 @@ got_last l tables g constant is = of_test (got_size l == 0) is
 abbrev whole : Linking → Outlined
 whole l = outline l (tables_place l) (array_size (contents l))
 
+-- the outline can be told
 whole_loadable : (l : Linking) → IsGiven l → FitsLimits l → IsLoadable (whole l)
 whole_loadable l given limits =
     let t = tabled l given limits in
@@ -259,9 +268,11 @@ whole_loadable l given limits =
       tls_is = right_tls l (tables_place l) (array_size (contents l)) limits.lawful;
     }
 
+-- a page of headers can say what the image is
 pub loadable : (l : Linking) → IsGiven l → FitsLimits l → IsLoadable (outline_of (finished (contents l)))
 loadable l given limits = subst (λ o. IsLoadable o) (sym (outline_is l given limits)) (whole_loadable l given limits)
 
+-- its TLS segment begins before the tables end
 whole_holds_tls : (l : Linking) → IsGiven l → FitsLimits l → HoldsTls (whole l)
 unfolding tls_part
 whole_holds_tls l given limits = of_test (tls_size (layout l).sections == 0)
@@ -278,5 +289,6 @@ whole_holds_tls l given limits = of_test (tls_size (layout l).sections == 0)
     of_test true = tt
     of_test false = before
 
+-- the TLS segment of the image begins no further than the last part ends
 pub holds_tls : (l : Linking) → IsGiven l → FitsLimits l → HoldsTls (outline_of (finished (contents l)))
 holds_tls l given limits = subst (λ o. HoldsTls o) (sym (outline_is l given limits)) (whole_holds_tls l given limits)

@@ -31,6 +31,7 @@ pub record Lies (base at : ℕ) (xs : List PartPlace) (next : ℕ) : Type 0 wher
   pub chain : Chain base at xs
   pub ends : last_end at xs ≤ next
 
+-- parts behind others
 pub chain-append : (base at : ℕ) (xs ys : List PartPlace) → Chain base at xs → Chain base (last_end at xs) ys
     → Chain base at (xs ++ ys)
 chain-append base at [] ys front back = back
@@ -42,19 +43,23 @@ pub chain_lower : (base low at : ℕ) (xs : List PartPlace) → low ≤ at → C
 chain_lower base low at [] le chain = tt
 chain_lower base low at (p ∷ xs) le chain = let front = chain.1 in (chain.0, omega arith, chain.2)
 
+-- they never go back
 pub chain_rises : (base at : ℕ) (xs : List PartPlace) → Chain base at xs → at ≤ last_end at xs
 chain_rises base at [] chain = omega arith
 chain_rises base at (p ∷ xs) chain =
     let front = chain.1 in let rest = chain_rises base (end_of p) xs chain.2 in omega arith
 
+-- parts behind others end where these do
 pub last_end-append : (at : ℕ) (xs ys : List PartPlace) → last_end at (xs ++ ys) ≡ last_end (last_end at xs) ys
 last_end-append at [] ys = refl
 last_end-append at (p ∷ xs) ys = last_end-append (end_of p) xs ys
 
+-- from a lower place on they end no higher
 pub last_end_lower : (low at : ℕ) (xs : List PartPlace) → low ≤ at → last_end low xs ≤ last_end at xs
 last_end_lower low at [] le = le
 last_end_lower low at (p ∷ xs) le = omega arith
 
+-- parts behind others lie between the outer places
 pub lies-append : (base at mid next : ℕ) (xs ys : List PartPlace) → Lies base at xs mid → Lies base mid ys next
     → Lies base at (xs ++ ys) next
 lies-append base at mid next xs ys front back = record {
@@ -65,13 +70,16 @@ lies-append base at mid next xs ys front back = record {
       omega arith);
 }
 
+-- and below a higher place
 pub lies_longer : (base at next late : ℕ) (xs : List PartPlace) → Lies base at xs next → next ≤ late
     → Lies base at xs late
 lies_longer base at next late xs lies le = record { chain = lies.chain; ends = omega (arith, lies.ends) }
 
+-- no parts lie anywhere
 pub lies_none : (base at next : ℕ) → at ≤ next → Lies base at [] next
 lies_none base at next le = record { chain = tt; ends = le }
 
+-- one part lies where it begins and ends
 pub lies_one : (base at : ℕ) (p : PartPlace) → IsGood base p → at ≤ p.address → Lies base at (p ∷ []) (end_of p)
 lies_one base at p good le = record { chain = (good, le, tt); ends = omega arith }
 

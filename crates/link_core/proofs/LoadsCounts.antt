@@ -9,6 +9,7 @@ use Rattle.image_writer.specs.declared.outline.PartPlace.{PartPlace}
 use Rattle.image_writer.specs.Loadable.{is_writable}
 use Rattle.image_writer.specs.Outlined.{no_part}
 
+-- one where a test passes
 abbrev pub one_if : Bool → ℕ
 one_if true = 1
 one_if false = 0
@@ -18,6 +19,7 @@ abbrev pub written : List PartPlace → ℕ
 written [] = 0
 written (p ∷ more) = one_if (is_writable p.class) + written more
 
+-- those of two lists
 pub written-append : (xs ys : List PartPlace) → written (xs ++ ys) ≡ written xs + written ys
 written-append [] ys = omega arith
 written-append (p ∷ xs) ys = let rest = written-append xs ys in omega arith
@@ -38,6 +40,7 @@ many_front p (suc n) = of_test (p (suc n)) (many_front p n)
     of_test true e = omega arith
     of_test false e = e
 
+-- so many numbers of parts pass
 pub many_written : (xs : List PartPlace)
     → how_many (λ i. is_writable (get_or xs i no_part).class) (length xs) ≡ written xs
 unfolding how_many

@@ -27,10 +27,12 @@ use Rattle.link_core.proofs.LoadsCounts.{one_if, written}
 pub on_page : (n : ℕ) → IsMultiple n 4096 → n % 4096 ≡ 0
 on_page n page = rw page.1 (omega arith)
 
+-- the next page is near
 pub page_near : (n : ℕ) → page_up n < n + 4096
 unfolding page_up round_up
 page_near n = omega arith
 
+-- a later place has no earlier page
 pub page_rises : (n m : ℕ) → n ≤ m → page_up n ≤ page_up m
 page_rises n m le =
     let page = page_multiple m in
@@ -38,6 +40,7 @@ page_rises n m le =
     let low = page_up-least n page.0 (omega (arith, page.1)) in
     omega (arith, page.1)
 
+-- a page begins at itself
 pub page_again : (n : ℕ) → page_up (page_up n) ≡ page_up n
 page_again n =
     let page = page_multiple n in
@@ -66,9 +69,11 @@ filled_lies class base at x behind up page above below = elim (cases_lt x.start 
 pub filled_end : (class : PartClass) (at : ℕ) (x : Extent) → x.start < x.end → last_end at (filled class x) ≡ x.end
 filled_end class at x some = rw (lt-ltb x.start x.end some) (omega arith)
 
+-- a class without bytes ends nothing
 pub filled_none : (class : PartClass) (at : ℕ) (x : Extent) → x.end ≤ x.start → last_end at (filled class x) ≡ at
 filled_none class at x none = rw (le-ltb x.start x.end none) refl
 
+-- a class ends before the next one
 pub filled_before : (class : PartClass) (at next : ℕ) (x : Extent) → at ≤ x.start → x.start ≤ x.end → x.end ≤ next
     → last_end at (filled class x) ≤ next
 filled_before class at next x behind up below = elim (cases_lt x.start x.end) [
@@ -76,6 +81,7 @@ filled_before class at next x behind up below = elim (cases_lt x.start x.end) [
   | inr none ↦ rw (filled_none class at x none) (omega arith)
 ]
 
+-- a class is one part at most: how many are written
 pub filled_written : (class : PartClass) (x : Extent) → written (filled class x) ≤ one_if (is_writable class)
 filled_written class x = of_test (nat_lt x.start x.end)
   where
@@ -85,6 +91,7 @@ filled_written class x = of_test (nat_lt x.start x.end)
     of_test true = omega arith
     of_test false = omega arith
 
+-- and how many there are
 pub filled_few : (class : PartClass) (x : Extent) → length (filled class x) ≤ 1
 filled_few class x = of_test (nat_lt x.start x.end)
   where

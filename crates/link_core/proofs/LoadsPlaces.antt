@@ -28,6 +28,7 @@ pub record BeginsWell (l : Linking) : Type 0 where
   pub above : base_of l.kind ≤ got_start l
   pub below : got_start l ≤ base_of l.kind + 2 ^ 24
 
+-- where it begins, the sections end within their limit
 pub begins_well : (l : Linking) → IsLawful (layout l) → BeginsWell l
 unfolding room
 begins_well l lawful =
@@ -41,12 +42,15 @@ begins_well l lawful =
       below = page_limit l.kind (zero_data p.kind p.sections).end (omega arith);
     }
 
+-- a number is zero or is not
 none_is : (n : ℕ) → n ≤ 0 → (n == 0) ≡ true
 none_is n h = grind (arith, nat_tests)
 
+-- one above zero is not
 some_is : (n : ℕ) → 0 < n → (n == 0) ≡ false
 some_is n h = grind (arith, nat_tests)
 
+-- the table lies between its start and the page of the stub
 got_lies : (l : Linking) → IsLawful (layout l) → got_size l ≤ 16 * (2 ^ 19 + 1)
     → Lies (base_of l.kind) (got_start l) (got_places l) (stub_start l)
 got_lies l lawful small =
@@ -71,6 +75,7 @@ got_lies l lawful small =
           rw (none_is (got_size l) none) (lies_none (base_of l.kind) (got_start l) (stub_start l) (omega arith))
     ]
 
+-- the stub lies on that page
 stub_lies : (l : Linking) → IsLawful (layout l) → got_size l ≤ 16 * (2 ^ 19 + 1)
     → Lies (base_of l.kind) (stub_start l) (stub_places l) (stub_start l + 6)
 stub_lies l lawful small = of_test (has_stub l)
@@ -126,6 +131,7 @@ image_before l lawful small =
 
 -- ** how many there are
 
+-- the sections are four parts at most
 pub sections_few : (p : Layout) → length (section_places p) ≤ 4
 unfolding section_places
 sections_few p =
@@ -163,6 +169,7 @@ sections_written p =
       filled_written Writable (writable p.kind p.sections),
     )
 
+-- the stub is one part at most
 pub stub_few : (l : Linking) → length (stub_places l) ≤ 1
 stub_few l = of_test (has_stub l)
   where
@@ -173,6 +180,7 @@ stub_few l = of_test (has_stub l)
     of_test true = omega arith
     of_test false = omega arith
 
+-- which is not written
 pub stub_unwritten : (l : Linking) → written (stub_places l) ≡ 0
 stub_unwritten l = of_test (has_stub l)
   where

@@ -26,10 +26,12 @@ abbrev pub length_of : List (List ℕ) → ℕ
 length_of [] = 0
 length_of (name ∷ more) = length name + 1 + length_of more
 
+-- those of two lists
 length_of-append : (xs ys : List (List ℕ)) → length_of (xs ++ ys) ≡ length_of xs + length_of ys
 length_of-append [] ys = omega arith
 length_of-append (name ∷ xs) ys = let rest = length_of-append xs ys in omega arith
 
+-- they are so many
 length_of-is : (xs : List (List ℕ)) → length (flat_map name_bytes xs) ≡ length_of xs
 length_of-is [] = refl
 length_of-is (name ∷ xs) =
@@ -41,6 +43,7 @@ size_is : (xs : List (List ℕ)) → 24 * length xs + length_of xs ≡ sum_by si
 size_is [] = refl
 size_is (name ∷ xs) = let rest = size_is xs in rw sum_by-cons (omega arith)
 
+-- so do those of the own symbols
 size_of_own : (objects : List (List ℕ)) (own : List SymbolRef)
     → 24 * length own + length_of (map (name_of objects) own) ≡ sum_by (λ found. size_of (name_of objects found)) own
 size_of_own objects [] = refl
@@ -53,10 +56,12 @@ runtime_short : (t : Bool) → length_of (runtime_names t) ≤ 15
 runtime_short true = omega arith
 runtime_short false = omega arith
 
+-- it is one symbol at most
 runtime_one : (t : Bool) → length (runtime_symbols t) ≤ 1
 runtime_one true = omega arith
 runtime_one false = omega arith
 
+-- symbols and names of an image within the limits
 pub symbols_short : (l : Linking) → FitsLimits l → 24 * length (symbols l) + length_of (names l) ≤ 2 ^ 22 + 39
 unfolding symbols names name_size
 symbols_short l limits =
@@ -80,6 +85,7 @@ symbols_short l limits =
 
 -- ** all tables
 
+-- the dynamic array has ten entries at most
 pub array_short : (c : Contents) → array_size c ≤ 160
 array_short c = of_tests (has_relocations c) (c.is_flagged || is_pie c.kind)
   where
@@ -93,13 +99,16 @@ array_short c = of_tests (has_relocations c) (c.is_flagged || is_pie c.kind)
 pub array_inside : (c : Contents) → array_size c ≤ length (tables c)
 array_inside c = omega (arith, tables_long c)
 
+-- it is never empty
 pub array_some : (c : Contents) → 0 < array_size c
 array_some c = omega arith
 
+-- the names of the image, that of the reserved symbol with them
 strings_short : (l : Linking) → length (strings (contents l)) ≡ 1 + length_of (names l)
 unfolding strings contents
 strings_short l = length_of-is ([] ∷ names l) ∙ omega arith
 
+-- the tables of an image within the limits
 pub tables_short : (l : Linking) → FitsLimits l → length (image_relocations l) ≤ 2 * (2 ^ 19 + 1)
     → length (tables (contents l)) ≤ 2 ^ 25 + 1000
 unfolding contents

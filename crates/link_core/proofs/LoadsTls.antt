@@ -94,6 +94,7 @@ record IsFound (p : Layout) : Type 0 where
         size = (tls_image p.kind p.sections).end - (tls_image p.kind p.sections).start;
       }
 
+-- it is found where it has bytes
 image_found : (p : Layout) → (tls_image p.kind p.sections).start < (tls_image p.kind p.sections).end → IsFound p
 unfolding section_places
 image_found p some =
@@ -117,6 +118,7 @@ image_found p some =
 
 -- ** an outline of the parts, with the tables behind them
 
+-- what a page of headers says of the image
 abbrev pub outline : Linking → PartPlace → ℕ → Outlined
 outline l tables size = record {
   kind = file_kind l.kind;
@@ -135,6 +137,7 @@ segment p = record {
   alignment = tls_alignment p.sections;
 }
 
+-- a part holds the initial image
 initial_held : (l : Linking) (tables : PartPlace) (size : ℕ) → IsLawful (layout l)
     → 0 < (initial_tls (layout l).sections).end
     → (i : ℕ) × HoldsInitial (outline l tables size) (segment (layout l)) i
@@ -165,6 +168,7 @@ initial_held l tables size lawful some =
       ),
     )
 
+-- the segment is as it ought to be
 right_segment : (l : Linking) (tables : PartPlace) (size : ℕ) → IsLawful (layout l) → 0 < tls_size (layout l).sections
     → IsRightTlsPart (outline l tables size) (segment (layout l))
 right_segment l tables size lawful some =
@@ -187,6 +191,7 @@ right_segment l tables size lawful some =
       ];
     }
 
+-- where there is one
 pub right_tls : (l : Linking) (tables : PartPlace) (size : ℕ) → IsLawful (layout l)
     → IfSome (tls_part (layout l)) (IsRightTlsPart (outline l tables size))
 unfolding tls_part
