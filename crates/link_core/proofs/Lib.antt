@@ -2,6 +2,7 @@ pub mod Few
 pub mod GotRelocations
 pub mod GotRelocationsRows
 pub mod GotRelocationsShown
+pub mod GotRelocationsSites
 pub mod Lengths
 pub mod Linkable
 pub mod Loads
