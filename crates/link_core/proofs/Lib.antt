@@ -1,5 +1,6 @@
 pub mod Few
 pub mod GotRelocations
+pub mod GotRelocationsNeeds
 pub mod GotRelocationsRows
 pub mod GotRelocationsShown
 pub mod GotRelocationsSites
@@ -7,5 +8,5 @@ pub mod Lengths
 pub mod Linkable
 pub mod Loads
 pub mod Relatives
-pub mod Symbols
 pub mod SortingLaws
+pub mod Symbols
