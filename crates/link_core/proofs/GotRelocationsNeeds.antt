@@ -285,7 +285,7 @@ word_starts at (x ∷ ks) (suc k) d h is = by (same_need RuntimeWord x) (word_st
     by false rest = rest
 
 -- an entry suits its image, and the run time's word says that its function is used
-pub IsEntry : Linking → Need → Type 0
+unfoldable pub IsEntry : Linking → Need → Type 0
 IsEntry l need = Suits l l.kind need × (need ≡ RuntimeWord → uses_runtime l ≡ true)
 
 pub are_entries : (l : Linking) → IsGiven l → IsSound l → All (IsEntry l) (entries l)

@@ -1,5 +1,6 @@
 pub mod Few
 pub mod GotRelocations
+pub mod GotRelocationsNamed
 pub mod GotRelocationsNeeds
 pub mod GotRelocationsRows
 pub mod GotRelocationsShown
