@@ -1,6 +1,7 @@
 -- The relocations of the table are as a loader wants them.
-use Rattle.std.proofs.Common.{◌≡◌, ◌∙◌, ◌+◌, ◌<◌, ◌≤◌, ◌==◌, ℕ, zero, suc, Bool, true, false, List, [], ◌∷◌, ◌++◌, length, map, refl, sym, ap, subst, arith}
-use Rattle.std.specs.Prelude.{slice_index_or, if◌then◌else◌}
+use Rattle.std.proofs.Common.{◌≡◌, ◌∙◌, ◌+◌, ◌<◌, ◌≤◌, ◌==◌, ℕ, false, [], ◌∷◌, ◌++◌, length, map, refl, ap, subst}
+use Rattle.std.proofs.Common.{arith}
+use Rattle.std.specs.Prelude.{slice_index_or}
 use Rattle.std.specs.List.{All}
 use Rattle.std.proofs.lemmas.Bool.Decides.{nat_tests}
 use Rattle.std.proofs.lemmas.List.{get_or-append-add, get_or-map, get_or_append_left, length-append, length-map}
@@ -8,11 +9,10 @@ use Rattle.image_faults.specs.declared.loader_kind.LoaderKind.{LoaderKind}
 use Rattle.image_faults.specs.declared.loader_kind.LoaderKind.TheVariants as loader
 use Rattle.image_file.specs.declared.part.PartClass.TheVariants.{Writable}
 use Rattle.image_file.specs.declared.relocation.ImageRelocation.{ImageRelocation}
-use Rattle.image_file.specs.Spelled.{Part}
 use Rattle.image_writer.specs.declared.outline.PartPlace.{PartPlace}
 use Rattle.image_writer.specs.Contents.{part_in}
 use Rattle.image_writer.specs.Linkable.{width, AreRising, Holds, IsRightRelocation}
-use Rattle.image_writer.specs.Outlined.{end_of, no_part, outline_of, part, place_of}
+use Rattle.image_writer.specs.Outlined.{no_part, outline_of, part, place_of}
 use Rattle.image_writer.specs.Page.{file_offset}
 use Rattle.image_writer.specs.Tables.{finished, tables_part}
 use Rattle.image_writer.proofs.SameBytes.{part_length}
@@ -21,7 +21,7 @@ use Rattle.link_core.specs.Needs.{entries, got_size, got_start}
 use Rattle.link_core.specs.Bytes.{file}
 use Rattle.link_core.specs.Dynamic.{got_relocations}
 use Rattle.link_core.specs.Faults.{FitsLimits, IsGiven, IsSound}
-use Rattle.link_core.specs.Images.{contents, file_kind, got_places, places, section_places, stub_places}
+use Rattle.link_core.specs.Images.{contents, file_kind, places, section_places, stub_places}
 use Rattle.link_core.proofs.GotRelocationsNamed.{rows_named, IsNamed}
 use Rattle.link_core.proofs.GotRelocationsNeeds.{are_entries, IsEntry}
 use Rattle.link_core.proofs.GotRelocationsRows.{all_rows, got_lies, got_rises, LiesBetween}

@@ -1,12 +1,12 @@
 -- A relocation of the table names what it may, and has the storage that it asks for.
-use Rattle.std.proofs.Common.{◌≡◌, ◌≢◌, ◌+◌, ◌<◌, ◌≤◌, ◌^◌, ◌==◌, ℕ, Bool, true, false, List, [], ◌∷◌, ◌++◌, length, IsSome, inl, inr, refl, sym, ap, subst, arith}
+use Rattle.std.proofs.Common.{◌≡◌, ◌+◌, ◌<◌, ◌≤◌, ◌^◌, ◌==◌, ℕ, true, false, List, [], ◌∷◌, length, IsSome, inl, inr}
+use Rattle.std.proofs.Common.{refl, arith}
 use Rattle.std.specs.Prelude.{ℤ, pos, ◌≤ℤ◌}
 use Rattle.std.specs.Int.{w64, cast_signed}
 use Rattle.std.specs.List.{All}
 use Rattle.std.proofs.lemmas.Bool.Decides.{nat_tests}
 use Rattle.std.proofs.lemmas.Int.{ints}
 use Rattle.std.proofs.lemmas.List.Elements.{All-cons, All-nil}
-use Rattle.image_faults.specs.declared.loader_kind.LoaderKind.TheVariants as loader
 use Rattle.image_file.specs.declared.relocation.ImageRelocation.{ImageRelocation}
 use Rattle.image_writer.specs.Linkable.{HasOwnTls, MayName, tls_size}
 use Rattle.link_faults.specs.declared.image_kind.ImageKind.{ImageKind}
@@ -21,7 +21,8 @@ use Rattle.got_pairs.specs.declared.need.Target.TheVariants.{Here, Import}
 use Rattle.got_pairs.specs.Entries.{entry_of}
 use Rattle.link_core.specs.Linking.{Linking, block_offset}
 use Rattle.link_core.specs.Needs.{uses_runtime}
-use Rattle.link_core.specs.Dynamic.{entry_relocations, imports, loader_kind, need_relocations, number_of, relocation_of, symbols}
+use Rattle.link_core.specs.Dynamic.{entry_relocations, imports, loader_kind, need_relocations, number_of, relocation_of}
+use Rattle.link_core.specs.Dynamic.{symbols}
 use Rattle.link_core.specs.Images.{contents, tls_part}
 use Rattle.link_core.proofs.GotRelocationsNeeds.{IsEntry, Suits}
 use Rattle.link_core.proofs.GotRelocationsShown.{import_in, is_import, is_runtime, runtime_in}

@@ -1,9 +1,10 @@
 -- What a loader may rely on of the entries of the table.
-use Rattle.std.proofs.Common.{◌≡◌, ◌∙◌, ◌+◌, ◌<◌, ◌≤◌, ◌⊎◌, ◌&&◌, ℕ, zero, suc, Bool, true, false, not, List, [], ◌∷◌, ◌++◌, length, filter, Option, Some, None, inl, inr, refl, sym, ap, subst, arith}
+use Rattle.std.proofs.Common.{◌≡◌, ◌∙◌, ◌+◌, ◌<◌, ◌≤◌, ◌⊎◌, ◌&&◌, ℕ, zero, suc, Bool, true, false, not, List, [], ◌∷◌}
+use Rattle.std.proofs.Common.{length, filter, Option, Some, None, inl, inr, refl, sym, ap, subst, arith}
 use Rattle.std.specs.Prelude.{is_some, option_and_then, option_map, slice_index_or, if◌then◌else◌}
 use Rattle.std.specs.List.{All, Contains, flat_map, range_with_len}
-use Rattle.std.proofs.lemmas.List.Elements.{All-append, All-cons, All-contains, All-contains_itself, All-filter, All-head, All-nil, All-tail}
-use Rattle.std.proofs.lemmas.Option.{none-some}
+use Rattle.std.proofs.lemmas.List.Elements.{All-append, All-cons, All-contains, All-contains_itself, All-filter}
+use Rattle.std.proofs.lemmas.List.Elements.{All-head, All-nil, All-tail}
 use Rattle.elf_records.specs.declared.relocation.RelocationKind.{RelocationKind}
 use Rattle.elf_records.specs.declared.relocation.RelocationKind.TheVariants.{TlsGd, GotTpOff, GotPc32TlsDesc, TpOff32}
 use Rattle.elf_object.specs.declared.relocation.Relocation.{Relocation}
@@ -20,7 +21,8 @@ use Rattle.link_faults.specs.declared.image_kind.ImageKind.{ImageKind}
 use Rattle.tls_symbols.specs.declared.binding.Binding.{Binding}
 use Rattle.tls_symbols.specs.declared.binding.Binding.TheVariants.{Here, Startup, Runtime}
 use Rattle.tls_symbols.specs.declared.symbols.SymbolRef.{SymbolRef}
-use Rattle.tls_symbols.specs.Bindings.{binding_of, first_export, get_address, here_or, may_import, object_at, of_startup}
+use Rattle.tls_symbols.specs.Bindings.{binding_of, first_export, get_address, here_or, may_import, object_at}
+use Rattle.tls_symbols.specs.Bindings.{of_startup}
 use Rattle.tls_symbols.specs.Definitions.{definition_of, same_binding}
 use Rattle.std.specs.Str.{bytes_eq}
 use Rattle.dynamic_symbols.specs.Names.{first_of, is_startup}
@@ -31,14 +33,17 @@ use Rattle.got_pairs.specs.declared.need.Need.TheVariants.{ModulePair, SymbolPai
 use Rattle.got_pairs.specs.declared.need.Need.TheVariants.{AddressWord, RuntimeWord}
 use Rattle.got_pairs.specs.declared.need.Target.{Target}
 use Rattle.got_pairs.specs.declared.need.Target.TheVariants as target
-use Rattle.got_pairs.specs.Needs.{by_group, distinct, entries as entries_of, group_of, groups, of_group, same_group, same_need, size_of, start_from}
+use Rattle.got_pairs.specs.Needs.{by_group, distinct, entries as entries_of, group_of, groups, of_group, same_group}
+use Rattle.got_pairs.specs.Needs.{same_need, size_of, start_from}
 use Rattle.link_refusals.specs.Refused.{asks_storage, is_module}
 use Rattle.relax_sites.specs.declared.choices.Choice.{Choice}
-use Rattle.relax_sites.specs.declared.choices.Choice.TheVariants.{Keep, GdLe, GdIe, LdLe, IeLe, DescLe, DescIe}
+use Rattle.relax_sites.specs.declared.choices.Choice.TheVariants.{Keep, GdLe, GdIe, IeLe, DescLe, DescIe}
 use Rattle.relax_sites.specs.declared.rows.NewField.{NewField}
 use Rattle.relax_sites.specs.Rows.{new_field}
 use Rattle.link_core.specs.Linking.{Linking, address, binding, choice, object, offset, sites_at}
-use Rattle.link_core.specs.Needs.{address_needs, as_list, calls, entries, is_kept, need_by, needs, new_relocation, object_needs, object_needs_from, own_word, reaching, relocation_need, section_needs, site_needs, site_needs_from, target_by, address_fields, uses_runtime}
+use Rattle.link_core.specs.Needs.{address_needs, as_list, calls, entries, is_kept, need_by, needs, new_relocation}
+use Rattle.link_core.specs.Needs.{object_needs, object_needs_from, own_word, reaching, relocation_need, section_needs}
+use Rattle.link_core.specs.Needs.{site_needs, site_needs_from, target_by, address_fields, uses_runtime}
 use Rattle.link_core.specs.Dynamic.{imports}
 use Rattle.link_core.specs.Faults.{IsGiven, IsSound}
 use Rattle.link_core.proofs.GotRelocationsSites.{known, segment, IsKnown}

@@ -1,6 +1,7 @@
 -- The symbols that relocations of the table name.
-use Rattle.std.proofs.Common.{◌≡◌, ◌≢◌, ◌∙◌, ◌+◌, ◌<◌, ◌≤◌, ℕ, zero, suc, Bool, true, false, List, [], ◌∷◌, ◌++◌, length, map, Option, Some, None, refl, sym, ap, arith}
-use Rattle.std.specs.Prelude.{codes, cond, slice_index_or, unwrap_or}
+use Rattle.std.proofs.Common.{◌≡◌, ◌∙◌, ◌+◌, ◌<◌, ◌≤◌, ℕ, suc, Bool, true, false, List, [], ◌∷◌, ◌++◌, length, map}
+use Rattle.std.proofs.Common.{Option, Some, None, refl, sym, ap, arith}
+use Rattle.std.specs.Prelude.{cond, slice_index_or, unwrap_or}
 use Rattle.std.specs.List.{position_from}
 use Rattle.std.specs.Str.{bytes_eq}
 use Rattle.std.proofs.lemmas.List.{get_or-append-add, get_or_append_left, get_or-map, length-append, length-map}
@@ -12,7 +13,8 @@ use Rattle.dynamic_symbols.specs.Names.{name_of}
 use Rattle.tls_symbols.specs.Bindings.{get_address}
 use Rattle.link_core.specs.Linking.{Linking}
 use Rattle.link_core.specs.Needs.{uses_runtime}
-use Rattle.link_core.specs.Dynamic.{defined, foreign, imports, names, number_of, own_symbols, runtime_names, runtime_symbols, symbols}
+use Rattle.link_core.specs.Dynamic.{defined, foreign, imports, names, number_of, own_symbols, runtime_names}
+use Rattle.link_core.specs.Dynamic.{runtime_symbols, symbols}
 use Rattle.link_core.specs.Images.{contents}
 
 -- the element behind the first ones of a list that are made of others

@@ -1,6 +1,7 @@
 -- What the loader may rely on of a sequence's variable: its name is imported, or it lies in the segment.
-use Rattle.std.proofs.Common.{◌≡◌, ◌≢◌, ◌∙◌, ◌+◌, ◌<◌, ◌≤◌, ◌==◌, ◌&&◌, ℕ, zero, suc, Bool, true, false, not, List, [], ◌∷◌, ◌++◌, length, Option, Some, None, IsSome, inl, inr, refl, sym, ap, subst, arith}
-use Rattle.std.specs.Prelude.{IsSomeAnd, nat_lt, slice_get, slice_index_or, unwrap_or, if◌then◌else◌}
+use Rattle.std.proofs.Common.{◌≡◌, ◌∙◌, ◌+◌, ◌<◌, ◌≤◌, ◌==◌, ◌&&◌, ℕ, zero, suc, Bool, true, false, not, List, [], ◌∷◌}
+use Rattle.std.proofs.Common.{length, Option, Some, None, IsSome, inl, inr, refl, sym, ap, subst, arith}
+use Rattle.std.specs.Prelude.{IsSomeAnd, slice_get, slice_index_or, unwrap_or}
 use Rattle.std.specs.List.{Contains, flat_map}
 use Rattle.std.specs.Option.{IfSome}
 use Rattle.std.proofs.lemmas.Bool.{cases_lt}
@@ -8,15 +9,14 @@ use Rattle.std.proofs.lemmas.Bool.Decides.{nat_tests}
 use Rattle.std.proofs.lemmas.List.{length-append}
 use Rattle.object_faults.specs.declared.class.SectionClass.{SectionClass}
 use Rattle.object_faults.specs.declared.class.SectionClass.TheVariants.{Tls, Executable, ReadOnly, Writable}
-use Rattle.elf_records.specs.declared.relocation.RelocationKind.{RelocationKind}
 use Rattle.elf_object.specs.declared.relocation.Relocation.{Relocation}
 use Rattle.elf_object.specs.declared.symbol.SymbolPlace.{SymbolPlace}
 use Rattle.elf_object.specs.declared.symbol.SymbolPlace.TheVariants.{Undefined, Absolute, InSection}
-use Rattle.elf_object.specs.Faults.{IsObject}
 use Rattle.elf_object.specs.Firsts.{nonzero}
 use Rattle.elf_object.specs.Laws.{table_of_kept}
 use Rattle.elf_object.specs.LawsOfParts.{placed}
-use Rattle.elf_object.specs.Lent.{kept_relocation_table, relocation_target, relocations, relocations_in, section_class, section_size, symbol_name, symbol_place, symbol_size, symbol_value}
+use Rattle.elf_object.specs.Lent.{kept_relocation_table, relocation_target, relocations, relocations_in, section_class}
+use Rattle.elf_object.specs.Lent.{symbol_place, symbol_value}
 use Rattle.elf_object.specs.Object.{section_count}
 use Rattle.elf_object.specs.Parts.{symbol_count}
 use Rattle.sequence_match.specs.declared.forms.Form.{Form}
@@ -26,21 +26,21 @@ use Rattle.sequence_match.specs.Faults.{IsSite}
 use Rattle.sequence_match.specs.Forms.{row}
 use Rattle.sequence_match.proofs.Sections.{target_of_table}
 use Rattle.link_faults.specs.declared.fault.LinkFaultKind.TheVariants.{NotTls}
-use Rattle.tls_layout.specs.Laws.{IsSectionOf}
-use Rattle.tls_layout.specs.Places.{class_of, section_named, tls_offset_of, tls_size, IsLawful}
-use Rattle.tls_layout.specs.Sections.{Layout}
+use Rattle.tls_layout.specs.Places.{tls_offset_of, tls_size, IsLawful}
 use Rattle.tls_layout.proofs.LawsOfSections.{finds_sections}
 use Rattle.tls_layout.proofs.LawsOfTls.{have_offsets, lie_in_segment}
 use Rattle.tls_symbols.specs.declared.binding.Binding.{Binding}
 use Rattle.tls_symbols.specs.declared.binding.Binding.TheVariants.{Here}
 use Rattle.tls_symbols.specs.declared.symbols.SymbolRef.{SymbolRef}
-use Rattle.tls_symbols.specs.Bindings.{binding_of, is_tls_class, is_tls_place, is_tls_symbol, object_at, IsBindingWithin}
+use Rattle.tls_symbols.specs.Bindings.{is_tls_class, is_tls_place, is_tls_symbol, IsBindingWithin}
 use Rattle.tls_symbols.specs.Definitions.{IsWithin}
-use Rattle.tls_symbols.specs.Faults.{differ, held_in, held_for, is_faulty, is_mismatched, is_tls_kind, names_symbol, AreResolved, Stands}
+use Rattle.tls_symbols.specs.Faults.{differ, held_in, held_for, is_faulty, is_mismatched, is_tls_kind, names_symbol}
+use Rattle.tls_symbols.specs.Faults.{Stands}
 use Rattle.tls_symbols.proofs.Within.{binding_within}
-use Rattle.dynamic_symbols.specs.Names.{distinct, first_of, imported_at, imported_from, imported_in, imports as imports_of, is_import}
+use Rattle.dynamic_symbols.specs.Names.{distinct, first_of, imported_at, imported_from, imported_in}
+use Rattle.dynamic_symbols.specs.Names.{imports as imports_of, is_import}
 use Rattle.dynamic_symbols.proofs.Foreign.{bindings_by_use}
-use Rattle.link_refusals.specs.Faults.{by_storage, FitsStorage}
+use Rattle.link_refusals.specs.Faults.{by_storage}
 use Rattle.link_refusals.specs.Refused.{asks_storage}
 use Rattle.link_core.specs.Linking.{Linking, binding, layout, object, offset, offset_in, sites_at}
 use Rattle.link_core.specs.Dynamic.{imports}
@@ -220,8 +220,12 @@ module _ (l : Linking) (sound : IsSound l) (o : ℕ) (there : o < length l.objec
       by true e =
           let charged : by_storage l.objects l.startup l.kind (segment l) o x ≡ true =
           ap (λ t. t && asks_storage l.kind x.kind (binding l o x)) e ∙ asks in
-          absurd (sound.storage.nowhere o h.table h.entry (there, h.above, h.below,
-          passes (object l o) x (by_storage l.objects l.startup l.kind (segment l) o) h charged))
+          absurd (sound.storage.nowhere o h.table h.entry (
+            there,
+            h.above,
+            h.below,
+            passes (object l o) x (by_storage l.objects l.startup l.kind (segment l) o) h charged,
+          ))
 
   -- what a relocation of a thread-local type names is thread-local
   tls_known : (x : Relocation) → IsHeld (object l o) x → names_symbol x.kind ≡ true → is_tls_kind x.kind ≡ true
@@ -239,8 +243,12 @@ module _ (l : Linking) (sound : IsSound l) (o : ℕ) (there : o < length l.objec
       by : (t : Bool) → is_tls_symbol (object l found.object) found.symbol ≡ t → is_tls_symbol (object l found.object) found.symbol ≡ true
       by true e = e
       by false e =
-          absurd (sound.resolved NotTls (omega arith) o h.table h.entry (there, h.above, h.below,
-          passes (object l o) x (is_faulty NotTls l.objects l.startup o) h (mismatched e)))
+          absurd (sound.resolved NotTls (omega arith) o h.table h.entry (
+            there,
+            h.above,
+            h.below,
+            passes (object l o) x (is_faulty NotTls l.objects l.startup o) h (mismatched e),
+          ))
 
 within_of : (objects : List (List ℕ)) (bound : Option Binding) (found : SymbolRef) → bound ≡ Some (Here found)
     → IfSome bound (IsBindingWithin objects) → IsWithin objects found
