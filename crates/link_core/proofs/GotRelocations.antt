@@ -47,7 +47,9 @@ module _ (l : Linking) (some : 0 < got_size l) where
 
   index_below : got_index l < length (places l)
   unfolding got_index
-  index_below = omega (arith, ap length places_are, length-append (section_places (layout l)) (got_place l ∷ stub_places l))
+  index_below =
+      let parts = length-append (section_places (layout l)) (got_place l ∷ stub_places l) in
+      omega (arith, ap length places_are, parts)
 
   index_place : slice_index_or (places l) (got_index l) no_part ≡ got_place l
   unfolding got_index
@@ -58,13 +60,15 @@ module _ (l : Linking) (some : 0 < got_size l) where
       ∙ get_or-append-add (section_places (layout l)) (got_place l ∷ stub_places l) 0 no_part
 
   -- the bytes of the part, and where it lies
-  part_is : part (outline_of (finished (contents l))) (got_index l) ≡ place_of (part_in (file_kind l.kind) (file l) (got_place l))
+  part_is : part (outline_of (finished (contents l))) (got_index l)
+      ≡ place_of (part_in (file_kind l.kind) (file l) (got_place l))
   unfolding contents finished
   part_is =
       let kind = file_kind l.kind in
       let last = tables_part (contents l) in
       let made = map (part_in kind (file l)) (places l) in
-      let below : got_index l < length made = omega (arith, index_below, length-map (places l) (part_in kind (file l))) in
+      let below : got_index l < length made =
+      omega (arith, index_below, length-map (places l) (part_in kind (file l))) in
       let within : got_index l < length (made ++ (last ∷ [])) = omega (arith, below, length-append made (last ∷ [])) in
       get_or-map place_of (made ++ (last ∷ [])) (got_index l) last no_part within
       ∙ ap place_of (get_or_append_left made (last ∷ []) last (got_index l) below

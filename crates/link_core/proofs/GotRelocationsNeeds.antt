@@ -73,16 +73,17 @@ module _ (l : Linking) where
   one need suits = All-cons S need [] suits (All-nil S)
 
   -- what is made of a variable
-  made : (f : Target → Need) (asks : Bool) → ((x : Target) → TargetSuits l asks x → S (f x)) → (o e : ℕ) (bound : Option Binding)
+  made : (f : Target → Need) (asks : Bool) → ((x : Target) → TargetSuits l asks x → S (f x))
+      → (o e : ℕ) (bound : Option Binding)
       → ((found : SymbolRef) → bound ≡ Some (Here found) → asks ≡ true → (0 < segment l) × (offset l found ≤ segment l))
       → (is_startup bound ≡ true → 0 < length (imports l))
       → All S (as_list (option_map f (target_by l o e bound)))
   made f asks suits o e None here import = All-nil S
   made f asks suits o e (Some Runtime) here import = All-nil S
   made f asks suits o e (Some (Startup image)) here import =
-      one (f (target.Import (symbol_name (object l o) e))) (suits (target.Import (symbol_name (object l o) e)) (import refl))
+      let x = target.Import (symbol_name (object l o) e) in one (f x) (suits x (import refl))
   made f asks suits o e (Some (Here found)) here import =
-      one (f (target.Here found (offset l found))) (suits (target.Here found (offset l found)) (here found refl))
+      let x = target.Here found (offset l found) in one (f x) (suits x (here found refl))
 
   module _ (o : ℕ) (e : ℕ) (bound : Option Binding)
       (inside : (found : SymbolRef) → bound ≡ Some (Here found) → offset l found ≤ segment l)
@@ -90,10 +91,14 @@ module _ (l : Linking) where
     both_true : (s t : Bool) → s ≡ true → t ≡ true → (s && t) ≡ true
     both_true s t p q = rw (p, q) refl
 
-    pair : (asks_storage l.kind TlsGd bound ≡ true → 0 < segment l) → All S (as_list (option_map SymbolPair (target_by l o e bound)))
+    pair : (asks_storage l.kind TlsGd bound ≡ true → 0 < segment l)
+        → All S (as_list (option_map SymbolPair (target_by l o e bound)))
     pair stored =
+        let asked : (found : SymbolRef) → bound ≡ Some (Here found) → is_module l.kind ≡ true
+        → asks_storage l.kind TlsGd bound ≡ true = λ found is asks.
+        ap (asks_storage l.kind TlsGd) is ∙ both_true (is_module l.kind) true asks refl in
         made SymbolPair (is_module l.kind) (λ x suits. suits) o e bound
-        (λ found is asks. (stored (ap (asks_storage l.kind TlsGd) is ∙ both_true (is_module l.kind) true asks refl), inside found is)) import
+        (λ found is asks. (stored (asked found is asks), inside found is)) import
 
     descriptor : (asks_storage l.kind GotPc32TlsDesc bound ≡ true → 0 < segment l)
         → All S (as_list (option_map Descriptor (target_by l o e bound)))
@@ -103,7 +108,8 @@ module _ (l : Linking) where
 
     -- an offset's word is asked for by its own type, and in the place of a pair and of a descriptor
     offset_word : (kind : RelocationKind) → (kind ≡ TlsGd) ⊎ ((kind ≡ GotTpOff) ⊎ (kind ≡ GotPc32TlsDesc))
-        → (asks_storage l.kind kind bound ≡ true → 0 < segment l) → All S (as_list (option_map SymbolWord (target_by l o e bound)))
+        → (asks_storage l.kind kind bound ≡ true → 0 < segment l)
+        → All S (as_list (option_map SymbolWord (target_by l o e bound)))
     offset_word kind which stored =
         made SymbolWord (is_module l.kind) (λ x suits. suits) o e bound
         (λ found is asks. (stored (asked found is asks which), inside found is)) import
@@ -111,10 +117,13 @@ module _ (l : Linking) where
         asked : (found : SymbolRef) → bound ≡ Some (Here found) → is_module l.kind ≡ true
             → (kind ≡ TlsGd) ⊎ ((kind ≡ GotTpOff) ⊎ (kind ≡ GotPc32TlsDesc)) → asks_storage l.kind kind bound ≡ true
         asked found is asks (inl k) =
-            ap (λ t. asks_storage l.kind t bound) k ∙ ap (asks_storage l.kind TlsGd) is ∙ both_true (is_module l.kind) true asks refl
+            ap (λ t. asks_storage l.kind t bound) k
+            ∙ ap (asks_storage l.kind TlsGd) is ∙ both_true (is_module l.kind) true asks refl
         asked found is asks (inr (inl k)) =
-            ap (λ t. asks_storage l.kind t bound) k ∙ ap (asks_storage l.kind GotTpOff) is ∙ both_true (is_module l.kind) true asks refl
-        asked found is asks (inr (inr k)) = ap (λ t. asks_storage l.kind t bound) k ∙ ap (asks_storage l.kind GotPc32TlsDesc) is
+            ap (λ t. asks_storage l.kind t bound) k
+            ∙ ap (asks_storage l.kind GotTpOff) is ∙ both_true (is_module l.kind) true asks refl
+        asked found is asks (inr (inr k)) =
+            ap (λ t. asks_storage l.kind t bound) k ∙ ap (asks_storage l.kind GotPc32TlsDesc) is
 
     -- of a sequence that is kept
     kept : (form : Form) → (asks_storage l.kind (row form).first bound ≡ true → 0 < segment l)
@@ -173,16 +182,22 @@ module _ (l : Linking) (o : ℕ) (site : Site) (is : IsKnown l o site) where
       let P : RelocationKind → Type 0 = λ kind.
       All (S l) (as_list (need_by l o site.symbol (binding l o (new_relocation site f)) kind)) in
       let Q : Option Binding → Type 0 = λ bound. All (S l) (as_list (need_by l o site.symbol bound GotTpOff)) in
-      subst P (sym h.0) (subst Q (same h.1) (offset_word l o site.symbol (binding l o (first_of site)) is.inside is.imported
-      (row site.form).first (which h.1) is.stored))
+      let bound = binding l o (first_of site) in
+      let word = offset_word l o site.symbol bound is.inside is.imported (row site.form).first (which h.1) is.stored in
+      subst P (sym h.0) (subst Q (same h.1) word)
     where
       same : ((row site.form).first ≡ TlsGd) ⊎ ((row site.form).first ≡ GotPc32TlsDesc)
           → binding l o (first_of site) ≡ binding l o (new_relocation site f)
-      same (inl e) = bound_alike l.objects l.startup o (first_of site) (new_relocation site f) (ap may_import e ∙ sym (ap may_import h.0)) refl
-      same (inr e) = bound_alike l.objects l.startup o (first_of site) (new_relocation site f) (ap may_import e ∙ sym (ap may_import h.0)) refl
+      same (inl e) =
+          bound_alike l.objects l.startup o (first_of site) (new_relocation site f)
+          (ap may_import e ∙ sym (ap may_import h.0)) refl
+      same (inr e) =
+          bound_alike l.objects l.startup o (first_of site) (new_relocation site f)
+          (ap may_import e ∙ sym (ap may_import h.0)) refl
 
       which : ((row site.form).first ≡ TlsGd) ⊎ ((row site.form).first ≡ GotPc32TlsDesc)
-          → ((row site.form).first ≡ TlsGd) ⊎ (((row site.form).first ≡ GotTpOff) ⊎ ((row site.form).first ≡ GotPc32TlsDesc))
+          → ((row site.form).first ≡ TlsGd)
+          ⊎ (((row site.form).first ≡ GotTpOff) ⊎ ((row site.form).first ≡ GotPc32TlsDesc))
       which (inl e) = inl e
       which (inr e) = inr (inr e)
 
@@ -282,7 +297,8 @@ word_starts : (at : ℕ) (ks : List Need) (k : ℕ) (d : Need) → k < length ks
 word_starts at [] k d h is = absurd (omega arith)
 word_starts at (x ∷ ks) zero d h is =
     let same : same_need RuntimeWord x ≡ true = ap (same_need RuntimeWord) is in rw same refl
-word_starts at (x ∷ ks) (suc k) d h is = by (same_need RuntimeWord x) (word_starts (at + size_of x) ks k d (omega arith) is)
+word_starts at (x ∷ ks) (suc k) d h is =
+    by (same_need RuntimeWord x) (word_starts (at + size_of x) ks k d (omega arith) is)
   where
     by : (t : Bool) → is_some (start_from (at + size_of x) ks RuntimeWord) ≡ true
         → is_some (if t then Some at else start_from (at + size_of x) ks RuntimeWord) ≡ true

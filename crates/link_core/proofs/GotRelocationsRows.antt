@@ -28,13 +28,14 @@ Chained at [] stop = at ≤ stop
 Chained at (r ∷ rs) stop = (at ≤ r.place) × Chained (r.place + width r.kind) rs stop
 
 -- they may begin earlier
-chain_from : (at from : ℕ) (rs : List ImageRelocation) (stop : ℕ) → at ≤ from → Chained from rs stop → Chained at rs stop
+chain_from : (at from : ℕ) (rs : List ImageRelocation) (stop : ℕ) → at ≤ from → Chained from rs stop
+    → Chained at rs stop
 unfolding Chained
 chain_from at from [] stop less h = omega (arith, less, h)
 chain_from at from (r ∷ rs) stop less h = (omega (arith, less, h.0), h.1)
 
-chain-append : (at : ℕ) (rs : List ImageRelocation) (mid : ℕ) (more : List ImageRelocation) (stop : ℕ) → Chained at rs mid
-    → Chained mid more stop → Chained at (rs ++ more) stop
+chain-append : (at : ℕ) (rs : List ImageRelocation) (mid : ℕ) (more : List ImageRelocation) (stop : ℕ)
+    → Chained at rs mid → Chained mid more stop → Chained at (rs ++ more) stop
 unfolding Chained
 chain-append at [] mid more stop first next = chain_from at mid more stop first next
 chain-append at (r ∷ rs) mid more stop first next =
@@ -67,7 +68,8 @@ chain_lies at [] stop h = All-nil (LiesBetween at stop)
 chain_lies at (r ∷ rs) stop h =
     All-cons (LiesBetween at stop) r rs
     (record { above = h.0; below = chain_ends (r.place + width r.kind) rs stop h.1 })
-    (between_from at (r.place + width r.kind) stop rs (omega (arith, h.0)) (chain_lies (r.place + width r.kind) rs stop h.1))
+    (between_from at (r.place + width r.kind) stop rs (omega (arith, h.0))
+    (chain_lies (r.place + width r.kind) rs stop h.1))
 
 -- ** those of an entry lie in it
 

@@ -23,7 +23,8 @@ past_made : {X Y : Type 0} (f : X → Y) (xs : List X) (ys : List Y) (n : ℕ) (
 past_made f xs ys n d =
     ap (λ m. slice_index_or (map f xs ++ ys) (m + n) d) (sym (length-map xs f)) ∙ get_or-append-add (map f xs) ys n d
 
-behind_first : {X : Type 0} (x : X) (xs : List X) (m : ℕ) (d : X) → slice_index_or (x ∷ xs) (1 + m) d ≡ slice_index_or xs m d
+behind_first : {X : Type 0} (x : X) (xs : List X) (m : ℕ) (d : X)
+    → slice_index_or (x ∷ xs) (1 + m) d ≡ slice_index_or xs m d
 behind_first x xs m d = let next : 1 + m ≡ suc m = omega arith in ap (λ n. slice_index_or (x ∷ xs) n d) next
 
 module _ (l : Linking) where
@@ -43,10 +44,11 @@ module _ (l : Linking) where
   symbol_total =
       let own = map (defined l) (own_symbols l) in
       let foreigners = map (λ (name : List ℕ). foreign Tls) (imports l) in
-      length-append own (foreigners ++ runtime_symbols (uses_runtime l))
-      ∙ ap (λ n. n + length (foreigners ++ runtime_symbols (uses_runtime l))) (length-map (own_symbols l) (defined l))
-      ∙ ap (λ n. length (own_symbols l) + n) (length-append foreigners (runtime_symbols (uses_runtime l))
-      ∙ ap (λ n. n + length (runtime_symbols (uses_runtime l))) (length-map (imports l) (λ (name : List ℕ). foreign Tls)))
+      let last = runtime_symbols (uses_runtime l) in
+      length-append own (foreigners ++ last)
+      ∙ ap (λ n. n + length (foreigners ++ last)) (length-map (own_symbols l) (defined l))
+      ∙ ap (λ n. length (own_symbols l) + n) (length-append foreigners last
+      ∙ ap (λ n. n + length last) (length-map (imports l) (λ (name : List ℕ). foreign Tls)))
 
   -- ** imports
 
@@ -54,13 +56,15 @@ module _ (l : Linking) where
   unfolding symbols
   import_shown p below =
       let foreigners = map (λ (name : List ℕ). foreign Tls) (imports l) in
-      let inside : p < length foreigners = omega (arith, below, length-map (imports l) (λ (name : List ℕ). foreign Tls)) in
+      let inside : p < length foreigners =
+      omega (arith, below, length-map (imports l) (λ (name : List ℕ). foreign Tls)) in
       shown (length (own_symbols l) + p)
       ∙ past_made (defined l) (own_symbols l) (foreigners ++ runtime_symbols (uses_runtime l)) p null_symbol
       ∙ get_or_append_left foreigners (runtime_symbols (uses_runtime l)) null_symbol p inside
       ∙ get_or-map (λ (name : List ℕ). foreign Tls) (imports l) p [] null_symbol below
 
-  found_below : (test : List ℕ → Bool) (i : ℕ) (xs : List (List ℕ)) (e : ℕ) → position_from test i xs ≡ Some e → e < i + length xs
+  found_below : (test : List ℕ → Bool) (i : ℕ) (xs : List (List ℕ)) (e : ℕ)
+      → position_from test i xs ≡ Some e → e < i + length xs
   found_below test i [] e is = absurd (cc)
   found_below test i (x ∷ xs) e is = by_test (test x) (λ h. found_below test (i + 1) xs e h) is
     where
@@ -96,7 +100,8 @@ module _ (l : Linking) where
       let foreigners = map (λ (name : List ℕ). foreign Tls) (imports l) in
       let first : length (imports l) ≡ length (imports l) + 0 = omega arith in
       shown (length (own_symbols l) + length (imports l))
-      ∙ past_made (defined l) (own_symbols l) (foreigners ++ runtime_symbols (uses_runtime l)) (length (imports l)) null_symbol
+      ∙ past_made (defined l) (own_symbols l) (foreigners ++ runtime_symbols (uses_runtime l)) (length (imports l))
+      null_symbol
       ∙ ap (λ n. slice_index_or (foreigners ++ runtime_symbols (uses_runtime l)) n null_symbol) first
       ∙ past_made (λ (name : List ℕ). foreign Tls) (imports l) (runtime_symbols (uses_runtime l)) 0 null_symbol
       ∙ ap (λ t. slice_index_or (runtime_symbols t) 0 null_symbol) uses
@@ -106,7 +111,8 @@ module _ (l : Linking) where
   runtime_named uses =
       let first : length (imports l) ≡ length (imports l) + 0 = omega arith in
       name_shown (length (own_symbols l) + length (imports l))
-      ∙ past_made (name_of l.objects) (own_symbols l) (imports l ++ runtime_names (uses_runtime l)) (length (imports l)) []
+      ∙ past_made (name_of l.objects) (own_symbols l) (imports l ++ runtime_names (uses_runtime l)) (length (imports l))
+      []
       ∙ ap (λ n. slice_index_or (imports l ++ runtime_names (uses_runtime l)) n []) first
       ∙ get_or-append-add (imports l) (runtime_names (uses_runtime l)) 0 []
       ∙ ap (λ t. slice_index_or (runtime_names t) 0 []) uses

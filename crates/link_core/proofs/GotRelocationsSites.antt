@@ -117,7 +117,8 @@ module _ (l : Linking) (given : IsGiven l) (lawful : IsLawful (layout l)) where
   in_section : (found : SymbolRef) → IsWithin l.objects found → (s : ℕ)
       → symbol_place (object l found.object) found.symbol ≡ InSection s
       → is_tls_class (section_class (object l found.object) s) ≡ true
-      → unwrap_or (tls_offset_of (layout l) found.object s) 0 + symbol_value (object l found.object) found.symbol ≤ segment l
+      → unwrap_or (tls_offset_of (layout l) found.object s) 0 + symbol_value (object l found.object) found.symbol
+      ≤ segment l
   in_section found within s at is =
       let b = object l found.object in
       let class = class_is (section_class b s) is in
@@ -146,8 +147,8 @@ module _ (l : Linking) (given : IsGiven l) (lawful : IsLawful (layout l)) where
 
 -- ** imports
 
-some_flat : (f : Site → List (List ℕ)) (ys : List Site) (k : ℕ) (site : Site) → k < length ys → slice_index_or ys k site ≡ site
-    → 0 < length (f site) → 0 < length (flat_map f ys)
+some_flat : (f : Site → List (List ℕ)) (ys : List Site) (k : ℕ) (site : Site) → k < length ys
+    → slice_index_or ys k site ≡ site → 0 < length (f site) → 0 < length (flat_map f ys)
 some_flat f [] k site h is some = absurd (omega arith)
 some_flat f (y ∷ ys) zero site h is some =
     let here : length (f site) ≡ length (f y) = ap (λ x. length (f x)) (sym is) in
@@ -160,7 +161,8 @@ some_distinct [] h = absurd (omega arith)
 some_distinct (x ∷ xs) h = omega arith
 
 module _ (objects : List (List ℕ)) (startup : List (List (List ℕ))) where
-  one_name : (o : ℕ) (site : Site) → is_import objects startup o site ≡ true → 0 < length (imported_at objects startup o site)
+  one_name : (o : ℕ) (site : Site) → is_import objects startup o site ≡ true
+      → 0 < length (imported_at objects startup o site)
   one_name o site is = rw is (omega arith)
 
   some_from : (n : ℕ) (sites : List (List Site)) (o : ℕ) (site : Site) → o < length sites
@@ -172,11 +174,14 @@ module _ (objects : List (List ℕ)) (startup : List (List (List ℕ))) where
       let at : n + 0 ≡ n = omega arith in
       let here = some_flat (imported_at objects startup n) own there.0 site there.1 there.2
       (one_name n site (ap (λ m. is_import objects startup m site) (sym at) ∙ is)) in
-      omega (arith, length-append (imported_in objects startup n own) (imported_from objects startup (n + 1) more), here)
+      let both = length-append (imported_in objects startup n own) (imported_from objects startup (n + 1) more) in
+      omega (arith, both, here)
   some_from n (own ∷ more) (suc o) site h there is =
       let at : n + 1 + o ≡ n + suc o = omega arith in
-      let rest = some_from (n + 1) more o site (omega arith) there (ap (λ m. is_import objects startup m site) at ∙ is) in
-      omega (arith, length-append (imported_in objects startup n own) (imported_from objects startup (n + 1) more), rest)
+      let here = ap (λ m. is_import objects startup m site) at ∙ is in
+      let rest = some_from (n + 1) more o site (omega arith) there here in
+      let both = length-append (imported_in objects startup n own) (imported_from objects startup (n + 1) more) in
+      omega (arith, both, rest)
 
 pub has_import : (l : Linking) (o : ℕ) (site : Site) → o < length l.sites → Contains (sites_at l o) site
     → is_import l.objects l.startup o site ≡ true → 0 < length (imports l)
@@ -209,7 +214,8 @@ first_is_tls DescCall = (refl, refl)
 
 module _ (l : Linking) (sound : IsSound l) (o : ℕ) (there : o < length l.objects) where
   -- a segment that is asked for has bytes
-  storage_known : (x : Relocation) → IsHeld (object l o) x → asks_storage l.kind x.kind (binding l o x) ≡ true → 0 < segment l
+  storage_known : (x : Relocation) → IsHeld (object l o) x → asks_storage l.kind x.kind (binding l o x) ≡ true
+      → 0 < segment l
   storage_known x h asks = by (segment l == 0) refl
     where
       above : (n : ℕ) → (n == 0) ≡ false → 0 < n
@@ -229,18 +235,21 @@ module _ (l : Linking) (sound : IsSound l) (o : ℕ) (there : o < length l.objec
 
   -- what a relocation of a thread-local type names is thread-local
   tls_known : (x : Relocation) → IsHeld (object l o) x → names_symbol x.kind ≡ true → is_tls_kind x.kind ≡ true
-      → (found : SymbolRef) → binding l o x ≡ Some (Here found) → is_tls_symbol (object l found.object) found.symbol ≡ true
+      → (found : SymbolRef) → binding l o x ≡ Some (Here found)
+      → is_tls_symbol (object l found.object) found.symbol ≡ true
   unfolding Stands
   tls_known x h names tls found is = by (is_tls_symbol (object l found.object) found.symbol) refl
     where
-      mismatched : is_tls_symbol (object l found.object) found.symbol ≡ false → is_faulty NotTls l.objects l.startup o x ≡ true
+      mismatched : is_tls_symbol (object l found.object) found.symbol ≡ false
+          → is_faulty NotTls l.objects l.startup o x ≡ true
       mismatched e =
           ap (λ t. t && is_mismatched l.objects x.kind (binding l o x)) names
           ∙ ap (is_mismatched l.objects x.kind) is
           ∙ ap (λ t. differ t (is_tls_symbol (object l found.object) found.symbol)) tls
           ∙ ap not e
 
-      by : (t : Bool) → is_tls_symbol (object l found.object) found.symbol ≡ t → is_tls_symbol (object l found.object) found.symbol ≡ true
+      by : (t : Bool) → is_tls_symbol (object l found.object) found.symbol ≡ t
+          → is_tls_symbol (object l found.object) found.symbol ≡ true
       by true e = e
       by false e =
           absurd (sound.resolved NotTls (omega arith) o h.table h.entry (
@@ -256,7 +265,8 @@ within_of objects bound found is h =
     let P : Option Binding → Type 0 = λ o. IfSome o (IsBindingWithin objects) in subst P is h
 
 pub known : (l : Linking) → IsGiven l → IsSound l → (o : ℕ) (site : Site) → o < length l.objects
-    → Contains (sites_at l o) site → IsSite (object l o) site → site.symbol < symbol_count (object l o) → IsKnown l o site
+    → Contains (sites_at l o) site → IsSite (object l o) site → site.symbol < symbol_count (object l o)
+    → IsKnown l o site
 known l given sound o site there among is symbol =
     let first = is.1.first in
     let x = first.0 in
@@ -269,8 +279,8 @@ known l given sound o site there among is symbol =
           let within = within_of l.objects (binding l o (first_of site)) found at
           (binding_within l.objects l.startup o (first_of site) there symbol) in
           offset_inside l given sound.limits.lawful found within
-          (tls_known l sound o there x h (ap names_symbol first.2.kind_is ∙ tls.0) (ap is_tls_kind first.2.kind_is ∙ tls.1)
-          found (sym bound ∙ at));
+          (tls_known l sound o there x h (ap names_symbol first.2.kind_is ∙ tls.0)
+          (ap is_tls_kind first.2.kind_is ∙ tls.1) found (sym bound ∙ at));
       stored = λ asks. storage_known l sound o there x h
           (ap (λ kind. asks_storage l.kind kind (binding l o x)) first.2.kind_is
           ∙ ap (asks_storage l.kind (row site.form).first) (sym bound) ∙ asks);
