@@ -8,6 +8,16 @@ pub mod GotRelocationsSites
 pub mod Lengths
 pub mod Linkable
 pub mod Loads
+pub mod LoadsChains
+pub mod LoadsCounts
+pub mod LoadsParts
+pub mod LoadsPlaces
+pub mod LoadsTables
+pub mod LoadsTls
 pub mod Relatives
+pub mod RelativesApart
+pub mod RelativesFields
+pub mod RelativesParts
+pub mod RelativesTables
 pub mod SortingLaws
 pub mod Symbols

@@ -15,8 +15,11 @@ use Rattle.link_refusals.specs.Faults.{FitsKind, FitsStorage, IsKindFault, IsSto
 use Rattle.sequence_match.specs.declared.places.Site.{Site}
 use Rattle.sequence_match.specs.Faults.{AreSites, Nowhere as NoFault}
 use Rattle.tls_layout.specs.Places.{span, tls_size, IsLawful}
+use Rattle.tls_symbols.specs.declared.symbols.SymbolRef.{SymbolRef}
+use Rattle.tls_symbols.specs.Definitions.{IsWithin}
 use Rattle.tls_symbols.specs.Faults.{held_in, AreResolved, Earlier, IsFirst}
-use Rattle.link_core.specs.Linking.{Linking, layout, object, sites_at}
+use Rattle.tls_layout.specs.Sections.{Layout}
+use Rattle.link_core.specs.Linking.{Linking, block_offset, layout, object, sites_at}
 use Rattle.link_core.specs.Dynamic.{imports, own_symbols}
 use Rattle.link_core.specs.Values.{field, is_replaced}
 
@@ -97,3 +100,18 @@ IsLinkFault l (At fault.Undefined (Some o) s e) = IsFirst l.objects l.startup fa
 IsLinkFault l (At fault.Duplicate (Some o) s e) = IsFirst l.objects l.startup fault.Duplicate o s e
 IsLinkFault l (At fault.NotTls (Some o) s e) = IsFirst l.objects l.startup fault.NotTls o s e
 IsLinkFault l told = AreResolved l.objects l.startup × IsLaterFault l told
+
+-- ** what the linker keeps
+
+-- these belong to the link: the objects of its bindings, where sections go, the distance of the program's block, the
+-- symbols that it defines and the names that it imports
+pub record AreInputs (l : Linking) (objects : List (List ℕ)) (p : Layout) (distance : ℕ)
+    (own : List SymbolRef) (names : List (List ℕ)) : Type 0 where
+  pub given : IsGiven l
+  pub objects_are : objects ≡ l.objects
+  pub placed : p ≡ layout l
+  pub lawful : IsLawful p
+  pub distance_is : distance ≡ block_offset l
+  pub own_are : own ≡ own_symbols l
+  pub within : All (IsWithin l.objects) own
+  pub imports_are : names ≡ imports l

@@ -15,7 +15,9 @@ use Rattle.link_faults.specs.declared.image_kind.ImageKind.TheVariants.{Exe, Pie
 use Rattle.tls_layout.specs.declared.extent.Extent.{Extent}
 use Rattle.tls_layout.specs.Places.{executable, read_only, tls_image, writable, initial_tls, tls_size, tls_alignment}
 use Rattle.tls_layout.specs.Sections.{Layout}
-use Rattle.link_core.specs.Linking.{Linking, layout}
+use Rattle.relax_sites.specs.declared.choices.Choice.{Choice}
+use Rattle.sequence_match.specs.declared.places.Site.{Site}
+use Rattle.link_core.specs.Linking.{Linking, choice, layout}
 use Rattle.link_core.specs.Needs.{got_size, got_start, has_stub, stub_start}
 use Rattle.link_core.specs.Bytes.{file}
 use Rattle.link_core.specs.Dynamic.{image_relocations, is_flagged, names, symbols}
@@ -83,3 +85,21 @@ contents l = record {
 -- with its dynamic tables
 unfoldable pub image_of : Linking → Spelled
 image_of l = finished (contents l)
+
+-- ** what linking gives
+
+-- which sequence stands in the place of each site of object o
+abbrev pub choices_in : Linking → ℕ → List Site → List Choice
+choices_in l o own = map (choice l o) own
+
+abbrev pub choices_from : Linking → ℕ → List (List Site) → List (List Choice)
+choices_from l o [] = []
+choices_from l o (own ∷ more) = choices_in l o own ∷ choices_from l (o + 1) more
+
+-- the image, and the choices of all objects
+pub record LinkedImage : Type 0 where
+  pub image : Spelled
+  pub choices : List (List Choice)
+
+unfoldable pub linked_of : Linking → LinkedImage
+linked_of l = record { image = image_of l; choices = choices_from l 0 l.sites }

@@ -4,5 +4,7 @@ pub mod Faults
 pub mod Images
 pub mod Linking
 pub mod Needs
+pub mod Overflows
 pub mod Sorting
+pub mod Usable
 pub mod Values

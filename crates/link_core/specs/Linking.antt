@@ -1,6 +1,7 @@
 -- All that decides an image: what it is linked as, its objects with their sequences, what the startup images export,
 -- and whether sequences may be rewritten.
-use Rattle.std.specs.Prelude.{◌+◌, ℕ, Bool, List, [], ◌∷◌, Option, Some, None, slice_index_or, unwrap_or}
+use Rattle.std.specs.Prelude.{◌+◌, ℕ, Bool, List, [], ◌∷◌, Option, Some, None, map, slice_index_or, unwrap_or}
+use Rattle.std.specs.Global.{Vec}
 use Rattle.elf_object.specs.declared.relocation.Relocation.{Relocation}
 use Rattle.elf_object.specs.declared.symbol.SymbolPlace.{SymbolPlace}
 use Rattle.elf_object.specs.declared.symbol.SymbolPlace.TheVariants.{InSection}
@@ -27,6 +28,16 @@ pub record Linking : Type 0 where
   -- the sequences of each object
   pub sites : List (List Site)
   pub relax : Bool
+
+-- that of objects and their sites, as code holds them
+abbrev pub link_of : List (List ℕ) → List (Vec Site) → ImageKind → List (List (List ℕ)) → Bool → Linking
+link_of objects sites kind startup relax = record {
+  kind = kind;
+  objects = objects;
+  startup = startup;
+  sites = map (λ own. own.items) sites;
+  relax = relax;
+}
 
 abbrev pub object : Linking → ℕ → List ℕ
 object l o = object_at l.objects o

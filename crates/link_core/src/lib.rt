@@ -1,6 +1,16 @@
 //! The image of objects.
 #![tactic(auto)]
 
-ghost use Rattle.link_core.specs.Linking.{Linking};
+mod draft;
+mod file;
+mod inputs;
+mod linked;
+mod linking;
+mod needs;
+mod plan;
+mod relocation_list;
+mod symbol_list;
+mod writing;
 
-pub fn nothing() {}
+pub use linking::link;
+pub use linked::Linked;

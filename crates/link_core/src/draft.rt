@@ -1,0 +1,116 @@
+//! The parts of an image, and the image that they make.
+
+ghost use Rattle.std.specs.Prelude.{◌≡◌, ◌<◌, ◌++◌, IfOk, OnOk, length};
+ghost use Rattle.std.specs.List.{list_any};
+ghost use Rattle.sequence_match.specs.declared.places.Site.{Site};
+ghost use Rattle.link_core.specs.Dynamic.{is_flagged, is_initial};
+ghost use Rattle.link_core.specs.Linking.{layout};
+ghost use Rattle.link_core.specs.Images.{file_kind, filled, got_number, got_places, section_places, stub_places, tls_part};
+
+use crate::inputs::Inputs;
+use crate::plan::Plan;
+use image_file::{FileKind, PartClass, TlsPart};
+use image_writer::PartPlace;
+use link_faults::ImageKind;
+use sequence_match::{Form, Site};
+use std::alloc::{AllocError, Global};
+use tls_layout::{Extent, Placement};
+
+/// How many bytes the stub has.
+const STUB_SIZE: u64 = 6;
+
+/// What the file of an image says that it is.
+pub fn file_kind(kind: ImageKind) -> FileKind
+    ensures { result ≡ file_kind kind }
+{
+    match kind {
+        ImageKind::Exe => FileKind::Exe,
+        ImageKind::Pie => FileKind::Pie,
+        ImageKind::Start | ImageKind::Late => FileKind::Module,
+    }
+}
+
+/// Adds the part of a class of sections, if it has bytes.
+fn push_extent(
+    class: PartClass,
+    extent: Extent,
+    places: &mut Vec<PartPlace>,
+) -> Result<(), AllocError>
+    ensures { OnOk result (places.new.items ≡ places.old.items ++ filled class extent) }
+{
+    if extent.start < extent.end {
+        places.push(PartPlace {
+            class,
+            address: extent.start,
+            size: extent.end - extent.start,
+        })?;
+    }
+    Ok(())
+}
+
+/// The parts of the sections, in the order of their addresses.
+pub fn section_places(alloc: Global, placement: &Placement) -> Result<Vec<PartPlace>, AllocError>
+    ensures { IfOk result (λ places. places.items ≡ section_places placement.now) }
+{
+    let mut places = Vec::with_capacity(alloc, 8)?;
+    push_extent(PartClass::Executable, placement.executable(), &mut places)?;
+    push_extent(PartClass::ReadOnly, placement.read_only(), &mut places)?;
+    push_extent(PartClass::ReadOnly, placement.tls_image(), &mut places)?;
+    push_extent(PartClass::Writable, placement.writable(), &mut places)?;
+    Ok(places)
+}
+
+/// Adds those of the table and of the stub. Answers the number of the table's part, if there is one.
+pub fn push_made(plan: &Plan, places: &mut Vec<PartPlace>) -> Result<Option<u64>, AllocError>
+    requires sections { places.old.items ≡ section_places (layout plan.now) }
+    ensures places { OnOk result
+        (places.new.items ≡ places.old.items ++ (got_places plan.now ++ stub_places plan.now)) }
+    ensures number { IfOk result (λ number. number ≡ got_number plan.now) }
+{
+    let mut got = None;
+    if plan.got.size() != 0 {
+        got = Some(places.len() as u64);
+        places.push(PartPlace {
+            class: PartClass::Writable,
+            address: plan.got_start,
+            size: plan.got.size(),
+        })?;
+    }
+    if plan.has_stub {
+        places.push(PartPlace {
+            class: PartClass::Executable,
+            address: plan.stub_start,
+            size: STUB_SIZE,
+        })?;
+    }
+    Ok(got)
+}
+
+/// The TLS segment, if it has bytes.
+pub fn tls_part(placement: &Placement) -> Option<TlsPart>
+    ensures { result ≡ tls_part placement.now }
+{
+    if placement.tls_size() == 0 {
+        return None;
+    }
+    Some(TlsPart {
+        address: placement.tls_image().start,
+        initial: placement.initial_size(),
+        size: placement.tls_size(),
+        alignment: placement.tls_alignment(),
+    })
+}
+
+/// Whether an object has initial executable code.
+fn has_initial(own: &[Site]) -> bool
+    ensures { result ≡ list_any (λ (site : Site). is_initial site.form) own.now }
+{
+    own.iter().any(|site| matches!(site.form, Form::IeMov | Form::IeAdd))
+}
+
+/// Whether the image is a module that reaches thread-local data at a fixed distance from the thread pointer.
+pub fn is_flagged(inputs: &Inputs) -> bool
+    ensures { result ≡ is_flagged inputs.now }
+{
+    inputs.kind.is_module() && inputs.sites.iter().any(|own| has_initial(own.as_slice()))
+}

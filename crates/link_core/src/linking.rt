@@ -1,0 +1,176 @@
+//! Linking objects.
+
+ghost use Rattle.std.specs.Prelude.{◌≡◌, ◌-◌, ◌<◌, ◌^◌, ℕ, [], IfErr, IfOk, OnOk, length, map, slice_index_or};
+ghost use Rattle.sequence_match.specs.Faults.{AreSites};
+ghost use Rattle.tls_symbols.specs.Bindings.{object_at};
+ghost use Rattle.link_core.specs.Faults.{IsLinkFault, IsSound, Links};
+ghost use Rattle.link_core.specs.Images.{choices_from, choices_in, image_of as image_of_link, linked_of};
+ghost use Rattle.link_core.specs.Linking.{link_of, sites_at};
+ghost use Rattle.link_core.specs.Overflows.{IsOverflowFault, NoOverflow};
+ghost use Rattle.tls_layout.specs.Rounding.{round_up};
+ghost use Rattle.tls_layout.specs.Places.{tls_alignment, tls_size};
+
+use crate::draft::{file_kind, is_flagged, push_made, section_places, tls_part};
+use crate::file::file_of;
+use crate::inputs::Inputs;
+use crate::linked::Linked;
+use crate::plan::{Plan, plan_of};
+use crate::relocation_list::relatives;
+use crate::symbol_list::symbols;
+use dynamic_symbols::{defined_symbols, imports, names_fit};
+use elf_object::Object;
+use image_file::Image;
+use image_writer::{Draft, image_of};
+use link_faults::{ImageKind, LinkFault, LinkFaultKind};
+use link_refusals::{ask_kind, ask_tls, has_few_relocations};
+use relax_sites::Choice;
+use sequence_match::Site;
+use std::alloc::{AllocError, Global};
+use tls_layout::{Placement, TlsSize, place, static_offsets};
+use tls_symbols::{Exports, resolve};
+
+/// How far below the thread pointer the block of a program begins.
+fn block_offset(alloc: Global, placement: &Placement) -> Result<u64, AllocError>
+    ensures { IfOk result (λ offset. offset
+        ≡ round_up (tls_size placement.now.sections) (tls_alignment placement.now.sections)) }
+{
+    let segment = TlsSize {
+        size: placement.tls_size(),
+        alignment: placement.tls_alignment(),
+    };
+    let offsets = static_offsets(alloc, &[segment])?;
+    Ok(offsets[0])
+}
+
+/// The image as a whole is too large.
+fn too_large() -> LinkFault {
+    LinkFault::At {
+        kind: LinkFaultKind::ImageTooLarge,
+        object: None,
+        section: 0,
+        entry: 0,
+    }
+}
+
+/// What the linker knows of an image before it fills in fields, or the first fault of another kind than `Overflow`.
+fn inputs_of<'l, 's, 'a>(
+    alloc: Global,
+    objects: &'l [Object<'a>],
+    sites: &'l [Vec<Site>],
+    kind: ImageKind,
+    startup: &'s [Exports<'a>],
+    relax: bool,
+) -> Result<Inputs<'l, 's, 'a>, LinkFault>
+    requires few { length startup.now < 2 ^ 32 - 1 }
+    requires each { length sites.now ≡ length objects.now }
+    requires sites { (o : ℕ) → o < length objects.now
+        → AreSites (object_at objects.now o) (slice_index_or (map (λ own. own.items) sites.now) o []) }
+    ensures inputs { IfOk result (λ inputs. inputs ≡ link_of objects.now sites.now kind startup.now relax) }
+    ensures sound { OnOk result (IsSound (link_of objects.now sites.now kind startup.now relax)) }
+    ensures fault { IfErr result (IsLinkFault (link_of objects.now sites.now kind startup.now relax)) }
+{
+    let bindings = resolve(alloc, objects, startup)?;
+    ask_kind(objects, kind)?;
+    let placement = place(alloc, objects, kind)?;
+    let own = defined_symbols(alloc, objects, &bindings)?;
+    let imports = imports(alloc, objects, &bindings, sites)?;
+    if !has_few_relocations(objects) || !names_fit(objects, own.as_slice(), imports.as_slice()) {
+        return Err(too_large());
+    }
+    ask_tls(objects, &bindings, kind, placement.tls_size())?;
+    let block_offset = block_offset(alloc, &placement)?;
+    Ok(Inputs {
+        kind,
+        relax,
+        objects,
+        sites,
+        bindings,
+        placement,
+        block_offset,
+        own,
+        imports,
+    })
+}
+
+/// The image of a link that no earlier fault stands in, or the first field that does not hold its value.
+fn image(alloc: Global, plan: &Plan) -> Result<Image, LinkFault>
+    requires { IsSound plan.now }
+    ensures image { IfOk result (λ image. image ≡ image_of_link plan.now) }
+    ensures fits { OnOk result (NoOverflow plan.now) }
+    ensures overflow { IfErr result (IsOverflowFault plan.now) }
+{
+    let inputs = plan.inputs;
+    let file = file_of(alloc, plan)?;
+    let mut places = section_places(alloc, &inputs.placement)?;
+    let got = push_made(plan, &mut places)?;
+    let symbols = symbols(alloc, plan)?;
+    let mut relocations = relatives(alloc, plan)?;
+    plan.push_got(&mut relocations)?;
+    let draft = Draft {
+        kind: file_kind(inputs.kind),
+        parts: places.as_slice(),
+        got,
+        tls: tls_part(&inputs.placement),
+        symbols: symbols.as_slice(),
+        relocations: relocations.as_slice(),
+        is_flagged: is_flagged(inputs),
+    };
+    Ok(image_of(alloc, &draft, file)?)
+}
+
+/// Which sequence stands in the place of each of an object's sites.
+fn own_choices(
+    alloc: Global,
+    inputs: &Inputs,
+    object: usize,
+    own: &[Site],
+) -> Result<Vec<Choice>, AllocError>
+    requires object { object < length inputs.now.objects }
+    requires own { own.now ≡ sites_at inputs.now object }
+    ensures { IfOk result (λ choices. choices.items ≡ choices_in inputs.now object own.now) }
+{
+    let mut choices = Vec::with_capacity(alloc, own.len())?;
+    for site in own {
+        choices.push(inputs.choice(object, site))?;
+    }
+    Ok(choices)
+}
+
+/// Which sequence stands in the place of each site.
+fn choices(alloc: Global, inputs: &Inputs) -> Result<Vec<Vec<Choice>>, AllocError>
+    ensures { IfOk result (λ all. map (λ own. own.items) all.items ≡ choices_from inputs.now 0 inputs.now.sites) }
+{
+    let mut all = Vec::with_capacity(alloc, inputs.sites.len())?;
+    for (object, own) in inputs.sites.iter().enumerate() {
+        all.push(own_choices(alloc, inputs, object, own.as_slice())?)?;
+    }
+    Ok(all)
+}
+
+/// Links objects into an image of this kind, beside startup images that export these names: of all of them in image
+/// order, the image's own included where it is one. `sites` has the sequences of each object, and `relax` says whether
+/// they may be rewritten. Answers the first fault: the kinds in their order, `Overflow` last, and within a kind the
+/// first object, section and entry.
+pub fn link<'a>(
+    alloc: Global,
+    objects: &[Object<'a>],
+    sites: &[Vec<Site>],
+    kind: ImageKind,
+    startup: &[Exports<'a>],
+    relax: bool,
+) -> Result<Linked, LinkFault>
+    requires few { length startup.now < 2 ^ 32 - 1 }
+    requires each { length sites.now ≡ length objects.now }
+    requires sites { (o : ℕ) → o < length objects.now
+        → AreSites (object_at objects.now o) (slice_index_or (map (λ own. own.items) sites.now) o []) }
+    ensures linked { IfOk result (λ linked.
+        linked ≡ linked_of (link_of objects.now sites.now kind startup.now relax)) }
+    ensures links { OnOk result (Links (link_of objects.now sites.now kind startup.now relax)) }
+    ensures fault { IfErr result (IsLinkFault (link_of objects.now sites.now kind startup.now relax)) }
+{
+    let inputs = inputs_of(alloc, objects, sites, kind, startup, relax)?;
+    let plan = plan_of(alloc, &inputs)?;
+    let image = image(alloc, &plan)?;
+    let choices = choices(alloc, &inputs)?;
+    Ok(Linked { image, choices })
+}

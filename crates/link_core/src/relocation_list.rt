@@ -1,0 +1,204 @@
+//! The relocations of an image, by which a loader fills in what linking can't know.
+
+ghost use Rattle.std.specs.Prelude.{◌≡◌, ◌+◌, ◌*◌, ◌<◌, ◌^◌, ◌++◌, IfOk, OnOk, length, unwrap_or};
+ghost use Rattle.std.specs.List.{Contains};
+ghost use Rattle.elf_object.specs.Lent.{relocations};
+ghost use Rattle.got_pairs.specs.Entries.{words};
+ghost use Rattle.tls_layout.specs.Places.{address_of};
+ghost use Rattle.tls_symbols.specs.Bindings.{object_at};
+ghost use Rattle.link_core.specs.Dynamic.{entry_relocations, field_relocations, got_relocations, loader_kind, number_of};
+ghost use Rattle.link_core.specs.Dynamic.{object_relocations, object_relocations_from, relatives, relocation_of};
+ghost use Rattle.link_core.specs.Dynamic.{section_relocations, word_relocations};
+ghost use Rattle.link_core.specs.Linking.{layout};
+
+use crate::plan::Plan;
+use elf_object::{Relocation, RelocationKind};
+use got_pairs::{DynamicKind, DynamicRelocation, DynamicSymbol, Entry, Word};
+use image_file::{ImageRelocation, LoaderKind};
+use link_faults::ImageKind;
+use std::alloc::{AllocError, Global};
+
+/// What a loader writes for a word of the table.
+fn loader_kind(kind: DynamicKind) -> LoaderKind
+    ensures { result ≡ loader_kind kind }
+{
+    match kind {
+        DynamicKind::JumpSlot => LoaderKind::JumpSlot,
+        DynamicKind::Relative => LoaderKind::Relative,
+        DynamicKind::DtpMod64 => LoaderKind::Module,
+        DynamicKind::DtpOff64 => LoaderKind::ModuleOffset,
+        DynamicKind::TpOff64 => LoaderKind::ThreadOffset,
+        DynamicKind::TlsDesc => LoaderKind::Descriptor,
+    }
+}
+
+impl<'i, 'l, 's, 'a> Plan<'i, 'l, 's, 'a> {
+    /// The number of the symbol that a word of the table names.
+    fn number_of(&self, symbol: &DynamicSymbol) -> u32
+        ensures { result ≡ number_of self.now symbol.now }
+    {
+        let own = self.inputs.own.len();
+        let imports = &self.inputs.imports;
+        match symbol {
+            DynamicSymbol::Image => 0,
+            DynamicSymbol::Imported(name) => {
+                let at = imports.get_index_of(name.as_bytes()).unwrap_or(0);
+                (1 + own + at) as u32
+            }
+            DynamicSymbol::Runtime => (1 + own + imports.len()) as u32,
+        }
+    }
+
+    /// The relocation of a word at an address.
+    fn relocation_of(&self, place: u64, relocation: &DynamicRelocation) -> ImageRelocation
+        ensures { result ≡ relocation_of self.now place relocation.now }
+    {
+        ImageRelocation {
+            place,
+            kind: loader_kind(relocation.kind),
+            symbol: self.number_of(&relocation.symbol),
+            addend: relocation.addend.cast_signed(),
+        }
+    }
+
+    /// Adds that of a word at an address, if it has one.
+    fn push_word(
+        &self,
+        place: u64,
+        word: &Word,
+        all: &mut Vec<ImageRelocation>,
+    ) -> Result<(), AllocError>
+        ensures { OnOk result
+            (all.new.items ≡ all.old.items ++ word_relocations self.now place word.now.relocation) }
+    {
+        if let Some(relocation) = &word.relocation {
+            all.push(self.relocation_of(place, relocation))?;
+        }
+        Ok(())
+    }
+
+    /// Adds those of an entry at an address.
+    fn push_entry(
+        &self,
+        place: u64,
+        entry: &Entry,
+        all: &mut Vec<ImageRelocation>,
+    ) -> Result<(), AllocError>
+        requires { place < 2 ^ 32 }
+        ensures { OnOk result (all.new.items ≡ all.old.items ++ entry_relocations self.now place entry.now) }
+    {
+        match entry {
+            Entry::One(word) => self.push_word(place, word, all),
+            Entry::Two(first, second) => {
+                self.push_word(place, first, all)?;
+                self.push_word(place + 8, second, all)
+            }
+        }
+    }
+
+    /// Adds those of the table.
+    pub fn push_got(&self, all: &mut Vec<ImageRelocation>) -> Result<(), AllocError>
+        ensures { OnOk result (all.new.items ≡ all.old.items ++ got_relocations self.now) }
+    {
+        let mut place = self.got_start;
+        for number in 0..self.got.entry_count() {
+            if let Some(entry) = self.got.entry(number) {
+                self.push_entry(place, &entry, all)?;
+                place += size_of(&entry);
+            }
+        }
+        Ok(())
+    }
+}
+
+/// How many bytes an entry has.
+fn size_of(entry: &Entry) -> u64
+    ensures { result ≡ 8 * length (words entry.now) }
+{
+    match entry {
+        Entry::One(_) => 8,
+        Entry::Two(_, _) => 16,
+    }
+}
+
+/// Adds that of a field of 8 bytes with an address, of a section that begins at this address.
+fn push_field(
+    plan: &Plan,
+    object: usize,
+    section: u32,
+    address: u64,
+    relocation: &Relocation,
+    all: &mut Vec<ImageRelocation>,
+) -> Result<(), AllocError>
+    requires object { object < length plan.now.objects }
+    requires own { Contains (relocations (object_at plan.now.objects object) section) relocation.now }
+    requires address { address ≡ unwrap_or (address_of (layout plan.now) object section) 0 }
+    ensures { OnOk result
+        (all.new.items ≡ all.old.items ++ field_relocations plan.now object section relocation.now) }
+{
+    if relocation.kind != RelocationKind::Absolute64 {
+        return Ok(());
+    }
+    let bound = plan.inputs.binding(object, relocation);
+    let place = plan.own_number(relocation.kind, bound);
+    all.push(ImageRelocation {
+        place: address + relocation.offset,
+        kind: LoaderKind::Relative,
+        symbol: 0,
+        addend: place.wrapping_add_signed(relocation.addend).cast_signed(),
+    })?;
+    Ok(())
+}
+
+/// Adds those of a section's fields.
+fn push_section(
+    plan: &Plan,
+    object: usize,
+    section: u32,
+    all: &mut Vec<ImageRelocation>,
+) -> Result<(), AllocError>
+    requires { object < length plan.now.objects }
+    ensures { OnOk result (all.new.items
+        ≡ all.old.items ++ section_relocations plan.now object (object_at plan.now.objects object) section) }
+{
+    let address = plan.inputs.section_address(object, section);
+    for relocation in plan.inputs.object(object).relocs(section) {
+        push_field(plan, object, section, address, &relocation, all)?;
+    }
+    Ok(())
+}
+
+/// Adds those of an object's fields.
+fn push_object(plan: &Plan, object: usize, all: &mut Vec<ImageRelocation>) -> Result<(), AllocError>
+    requires { object < length plan.now.objects }
+    ensures { OnOk result (all.new.items
+        ≡ all.old.items ++ object_relocations plan.now object (object_at plan.now.objects object)) }
+{
+    for section in 0..plan.inputs.object(object).section_count() {
+        push_section(plan, object, section, all)?;
+    }
+    Ok(())
+}
+
+/// Those of all fields, in the order of the file.
+fn found_fields(alloc: Global, plan: &Plan) -> Result<Vec<ImageRelocation>, AllocError>
+    ensures { IfOk result (λ all. all.items ≡ object_relocations_from plan.now 0 plan.now.objects) }
+{
+    let mut all = Vec::new(alloc);
+    for object in 0..plan.inputs.objects.len() {
+        push_object(plan, object, &mut all)?;
+    }
+    Ok(all)
+}
+
+/// The relocations of fields with addresses by their places, in an image that may lie anywhere.
+pub fn relatives(alloc: Global, plan: &Plan) -> Result<Vec<ImageRelocation>, AllocError>
+    ensures { IfOk result (λ all. all.items ≡ relatives plan.now) }
+{
+    let mut all = Vec::new(alloc);
+    if plan.inputs.kind != ImageKind::Exe {
+        all = found_fields(alloc, plan)?;
+        all.sort_by_key(|relocation| relocation.place)?;
+    }
+    Ok(all)
+}

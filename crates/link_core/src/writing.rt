@@ -1,0 +1,193 @@
+//! The fields of relocations, and the sequences in the place of rewritten ones, written in the file.
+
+ghost use Rattle.std.specs.Prelude.{◌≡◌, ◌<◌, IfErr, OnErr, OnOk, Some, fold, length, unwrap_or};
+ghost use Rattle.std.specs.List.{Contains};
+ghost use Rattle.elf_object.specs.Lent.{relocations};
+ghost use Rattle.elf_object.specs.Object.{section_count};
+ghost use Rattle.tls_layout.specs.Places.{address_of};
+ghost use Rattle.tls_symbols.specs.Bindings.{object_at};
+ghost use Rattle.link_core.specs.Bytes.{raw_file, with_field, with_fields, with_fields_from, with_new_field, with_site, with_sites_from, with_table};
+ghost use Rattle.link_core.specs.Linking.{choice, layout, sites_at};
+ghost use Rattle.link_core.specs.Overflows.{IsFilled, IsFirstOverflow, IsFirstOverflowIn, IsFirstOverflowOf, IsOverflow};
+ghost use Rattle.link_core.specs.Overflows.{NoOverflow, NoOverflowIn, NoOverflowOf};
+ghost use Rattle.link_faults.specs.declared.fault.LinkFault.TheVariants.{At};
+ghost use Rattle.link_faults.specs.declared.fault.LinkFaultKind.TheVariants.{Overflow};
+ghost use Rattle.relax_sites.specs.Rows.{new_field as new_field_of};
+
+use crate::needs::new_relocation;
+use crate::plan::Plan;
+use elf_object::{Object, Relocation, RelocationKind};
+use link_faults::{LinkFault, LinkFaultKind};
+use relax_sites::{NewField, new_field, rewrite};
+use section_file::offset_of;
+use sequence_match::Site;
+use tls_relocs::{Field, Overflow, apply};
+
+/// Writes the field of a relocation of a section that begins at this address, if it has one.
+fn write_field(
+    plan: &Plan,
+    object: usize,
+    section: u32,
+    address: u64,
+    relocation: &Relocation,
+    file: &mut [u8],
+) -> Result<(), Overflow>
+    requires object { object < length plan.now.objects }
+    requires own { Contains (relocations (object_at plan.now.objects object) section) relocation.now }
+    requires address { address ≡ unwrap_or (address_of (layout plan.now) object section) 0 }
+    requires filled { length file.old ≡ length (raw_file plan.now) }
+    ensures written { OnOk result (file.new ≡ with_field plan.now object section file.old relocation.now) }
+    ensures filled { length file.new ≡ length (raw_file plan.now) }
+    ensures fits { OnOk result (IsFilled plan.now object section relocation.now) }
+    ensures overflow { OnErr result (IsOverflow plan.now object section relocation.now) }
+{
+    if relocation.kind == RelocationKind::Nothing {
+        return Ok(());
+    }
+    let bound = plan.inputs.binding(object, relocation);
+    if plan.is_replaced(bound, relocation.kind) {
+        return Ok(());
+    }
+    let place = address + relocation.offset;
+    let field = plan.field(object, place, relocation, bound)?;
+    if field != Field::Empty {
+        apply(field, file, offset_of(plan.inputs.kind, place) as usize);
+    }
+    Ok(())
+}
+
+/// A field of this object, section and entry does not hold its value.
+fn overflow(object: usize, section: u32, entry: u64) -> LinkFault
+    ensures { result ≡ At Overflow (Some object) section entry }
+{
+    LinkFault::At {
+        kind: LinkFaultKind::Overflow,
+        object: Some(object as u64),
+        section: u64::from(section),
+        entry,
+    }
+}
+
+/// Writes the fields of the relocations that a section holds.
+fn write_table(plan: &Plan, number: usize, table: u32, file: &mut [u8]) -> Result<(), LinkFault>
+    requires object { number < length plan.now.objects }
+    requires table { (0 < table) × (table < section_count (object_at plan.now.objects number)) }
+    requires filled { length file.old ≡ length (raw_file plan.now) }
+    ensures written { OnOk result
+        (file.new ≡ with_table plan.now number (object_at plan.now.objects number) file.old table) }
+    ensures filled { length file.new ≡ length (raw_file plan.now) }
+    ensures fits { OnOk result (NoOverflowIn plan.now number table) }
+    ensures overflow { IfErr result (IsFirstOverflowIn plan.now number table) }
+{
+    let object = plan.inputs.object(number);
+    let Some(section) = object.relocation_target(table) else {
+        return Ok(());
+    };
+    let address = plan.inputs.section_address(number, section);
+    let mut entry = 0;
+    for relocation in object.relocs(section) {
+        if write_field(plan, number, section, address, &relocation, file).is_err() {
+            return Err(overflow(number, table, entry));
+        }
+        entry += 1;
+    }
+    Ok(())
+}
+
+/// Writes the fields of an object's relocations.
+fn write_object(plan: &Plan, number: usize, file: &mut [u8]) -> Result<(), LinkFault>
+    requires object { number < length plan.now.objects }
+    requires filled { length file.old ≡ length (raw_file plan.now) }
+    ensures written { OnOk result
+        (file.new ≡ with_fields plan.now number (object_at plan.now.objects number) file.old) }
+    ensures filled { length file.new ≡ length (raw_file plan.now) }
+    ensures fits { OnOk result (NoOverflowOf plan.now number) }
+    ensures overflow { IfErr result (IsFirstOverflowOf plan.now number) }
+{
+    for table in 1..plan.inputs.object(number).section_count() {
+        write_table(plan, number, table, file)?;
+    }
+    Ok(())
+}
+
+/// Writes the fields of all relocations, or answers the first that does not hold its value.
+pub fn write_fields(plan: &Plan, file: &mut [u8]) -> Result<(), LinkFault>
+    requires filled { length file.old ≡ length (raw_file plan.now) }
+    ensures written { OnOk result (file.new ≡ with_fields_from plan.now 0 plan.now.objects file.old) }
+    ensures filled { length file.new ≡ length (raw_file plan.now) }
+    ensures fits { OnOk result (NoOverflow plan.now) }
+    ensures overflow { IfErr result (IsFirstOverflow plan.now) }
+{
+    for number in 0..plan.inputs.objects.len() {
+        write_object(plan, number, file)?;
+    }
+    Ok(())
+}
+
+/// Writes the field of a sequence in a site's place. The section begins at this address.
+fn write_new_field(
+    plan: &Plan,
+    object: usize,
+    address: u64,
+    site: &Site,
+    field: &NewField,
+    file: &mut [u8],
+)
+    requires object { object < length plan.now.objects }
+    requires own { Contains (sites_at plan.now object) site.now }
+    requires field { new_field_of site.now.form (choice plan.now object site.now) ≡ Some field.now }
+    requires address { address ≡ unwrap_or (address_of (layout plan.now) object site.now.section) 0 }
+    requires filled { length file.old ≡ length (raw_file plan.now) }
+    ensures written { file.new ≡ with_new_field plan.now object site.now (Some field.now) file.old }
+    ensures filled { length file.new ≡ length (raw_file plan.now) }
+{
+    let relocation = new_relocation(site, field);
+    let place = address + relocation.offset;
+    let bound = plan.inputs.binding(object, &relocation);
+    // Distances inside an image fit.
+    if let Ok(value) = plan.field(object, place, &relocation, bound) {
+        apply(value, file, offset_of(plan.inputs.kind, place) as usize);
+    }
+}
+
+/// Writes the sequence in a site's place.
+fn write_site(plan: &Plan, object: usize, site: &Site, file: &mut [u8])
+    requires object { object < length plan.now.objects }
+    requires own { Contains (sites_at plan.now object) site.now }
+    requires filled { length file.old ≡ length (raw_file plan.now) }
+    ensures written { file.new ≡ with_site plan.now object file.old site.now }
+    ensures filled { length file.new ≡ length (raw_file plan.now) }
+{
+    let choice = plan.inputs.choice(object, site);
+    let address = plan.inputs.section_address(object, site.section);
+    let mut placed = *site;
+    placed.start = offset_of(plan.inputs.kind, address + site.start);
+    rewrite(file, &placed, choice);
+    if let Some(field) = new_field(site.form, choice) {
+        write_new_field(plan, object, address, site, &field, file);
+    }
+}
+
+/// Writes the sequences in the place of an object's sites.
+fn write_own_sites(plan: &Plan, object: usize, own: &[Site], file: &mut [u8])
+    requires object { object < length plan.now.objects }
+    requires own { own.now ≡ sites_at plan.now object }
+    requires filled { length file.old ≡ length (raw_file plan.now) }
+    ensures written { file.new ≡ fold (with_site plan.now object) file.old own.now }
+    ensures filled { length file.new ≡ length (raw_file plan.now) }
+{
+    for site in own {
+        write_site(plan, object, site, file);
+    }
+}
+
+/// Writes the sequences in the place of all sites.
+pub fn write_sites(plan: &Plan, file: &mut [u8])
+    requires filled { length file.old ≡ length (raw_file plan.now) }
+    ensures written { file.new ≡ with_sites_from plan.now 0 plan.now.sites file.old }
+    ensures filled { length file.new ≡ length (raw_file plan.now) }
+{
+    for (object, own) in plan.inputs.sites.iter().enumerate() {
+        write_own_sites(plan, object, own.as_slice(), file);
+    }
+}
