@@ -1,5 +1,10 @@
 pub mod Few
 pub mod GotRelocations
+pub mod GotRelocationsNamed
+pub mod GotRelocationsNeeds
+pub mod GotRelocationsRows
+pub mod GotRelocationsShown
+pub mod GotRelocationsSites
 pub mod Lengths
 pub mod Linkable
 pub mod Loads
@@ -14,5 +19,5 @@ pub mod RelativesApart
 pub mod RelativesFields
 pub mod RelativesParts
 pub mod RelativesTables
-pub mod Symbols
 pub mod SortingLaws
+pub mod Symbols
