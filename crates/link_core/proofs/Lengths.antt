@@ -1,29 +1,52 @@
 -- The file ends where the last part does, and all that is written lies in it.
-use Rattle.std.proofs.Common.{◌≡◌, ◌+◌, ◌<◌, ◌≤◌, ℕ, List, length, true}
+use Rattle.std.proofs.Common.{◌≡◌, ◌+◌, ◌<◌, ◌≤◌, ℕ, List, length, true, arith}
 use Rattle.std.specs.List.{All, Contains}
+use Rattle.std.proofs.lemmas.List.Elements.{All-contains}
+use Rattle.object_faults.specs.declared.class.SectionClass.TheVariants.{Executable}
 use Rattle.elf_object.specs.declared.relocation.Relocation.{Relocation}
 use Rattle.elf_object.specs.Lent.{relocations}
+use Rattle.elf_object.specs.Lawful.{IsLawful}
+use Rattle.elf_object.specs.LawsOfRelocations.{lawful as relocations_lawful}
 use Rattle.elf_object.specs.Relocations.{field_width}
 use Rattle.image_writer.specs.Contents.{parts_end}
 use Rattle.image_writer.specs.Page.{file_offset}
 use Rattle.section_file.specs.Files.{offset_of}
 use Rattle.sequence_match.specs.declared.places.Site.{Site}
+use Rattle.sequence_match.specs.Faults.{IsSite}
 use Rattle.link_core.specs.Linking.{Linking, layout, object, place, sites_at}
 use Rattle.link_core.specs.Bytes.{file, raw_file}
 use Rattle.link_core.specs.Faults.{FitsLimits, IsGiven}
 use Rattle.link_core.specs.Images.{contents, file_kind, places}
+use Rattle.link_core.proofs.LengthsInside.{form_some, is_code, is_object, is_relocated, raw_longer, section_inside}
 
 -- a field that has bytes lies in the file
 pub field_inside : (l : Linking) (o t : ℕ) (r : Relocation) → IsGiven l → FitsLimits l → o < length l.objects
     → Contains (relocations (object l o) t) r → 0 < field_width r.kind
     → offset_of (layout l) (place l o t r.offset) + field_width r.kind ≤ length (raw_file l)
-field_inside l o t r given limits there is wide = ?
+field_inside l o t r given limits there is wide =
+    let b = object l o in
+    let whole = is_object l o given there in
+    let lawful = All-contains (IsLawful b t) (relocations b t) r (relocations_lawful b whole t) is in
+    let found = is_relocated b whole t r is in
+    let inside = lawful.inside in
+    let section = section_inside l o t found.class given limits there found.class_is found.has_address (omega arith) in
+    omega (arith, section, inside, raw_longer l)
 
 -- a sequence does
 pub site_inside : (l : Linking) (o : ℕ) (site : Site) → IsGiven l → FitsLimits l → o < length l.objects
     → Contains (sites_at l o) site
     → offset_of (layout l) (place l o site.section site.start) + site.len ≤ length (raw_file l)
-site_inside l o site given limits there is = ?
+site_inside l o site given limits there is =
+    let b = object l o in
+    let whole = is_object l o given there in
+    let own = All-contains (IsSite b) (sites_at l o) site (given.are_sites o there).only is in
+    let spelled = own.1.spelled.inside in
+    let len = own.1.len_is in
+    let some = form_some site.form in
+    let code = is_code b whole site.section (omega arith) in
+    let size = code.size_is in
+    let section = section_inside l o site.section Executable given limits there code.class_is (λ h. cc) (omega arith) in
+    omega (arith, section, raw_longer l)
 
 -- nothing that is written changes its length
 pub file_keeps : (l : Linking) → IsGiven l → FitsLimits l → length (file l) ≡ length (raw_file l)

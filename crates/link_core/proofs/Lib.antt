@@ -1,6 +1,7 @@
 pub mod Few
 pub mod GotRelocations
 pub mod Lengths
+pub mod LengthsInside
 pub mod Linkable
 pub mod Loads
 pub mod Relatives
