@@ -1,5 +1,5 @@
 -- The file ends where the last part does, and all that is written lies in it.
-use Rattle.std.proofs.Common.{◌≡◌, ◌+◌, ◌<◌, ◌≤◌, ℕ, List, length, true, arith}
+use Rattle.std.proofs.Common.{◌≡◌, ◌+◌, ◌<◌, ◌≤◌, ℕ, List, length, true, refl, subst, arith}
 use Rattle.std.specs.List.{All, Contains}
 use Rattle.std.proofs.lemmas.List.Elements.{All-contains}
 use Rattle.object_faults.specs.declared.class.SectionClass.TheVariants.{Executable}
@@ -14,10 +14,11 @@ use Rattle.section_file.specs.Files.{offset_of}
 use Rattle.sequence_match.specs.declared.places.Site.{Site}
 use Rattle.sequence_match.specs.Faults.{IsSite}
 use Rattle.link_core.specs.Linking.{Linking, layout, object, place, sites_at}
-use Rattle.link_core.specs.Bytes.{file, raw_file}
+use Rattle.link_core.specs.Bytes.{file, raw_file, with_fields_from}
 use Rattle.link_core.specs.Faults.{FitsLimits, IsGiven}
 use Rattle.link_core.specs.Images.{contents, file_kind, places}
 use Rattle.link_core.proofs.LengthsInside.{form_some, is_code, is_object, is_relocated, raw_longer, section_inside}
+use Rattle.link_core.proofs.LengthsKept.{FieldsFit, SiteFits, objects_keep, sites_keep}
 
 -- a field that has bytes lies in the file
 pub field_inside : (l : Linking) (o t : ℕ) (r : Relocation) → IsGiven l → FitsLimits l → o < length l.objects
@@ -50,7 +51,28 @@ site_inside l o site given limits there is =
 
 -- nothing that is written changes its length
 pub file_keeps : (l : Linking) → IsGiven l → FitsLimits l → length (file l) ≡ length (raw_file l)
-file_keeps l given limits = ?
+unfolding file
+file_keeps l given limits =
+    let n = length (raw_file l) in
+    sites_keep l n 0 l.sites (with_fields_from l 0 l.objects (raw_file l)) sites
+    (objects_keep l n 0 l.objects (raw_file l) fields refl)
+  where
+    from_zero : (k : ℕ) → k ≡ 0 + k
+    from_zero k = omega arith
+
+    fields : (k : ℕ) → k < length l.objects → FieldsFit l (length (raw_file l)) (0 + k) (object l k)
+    fields k below = subst (λ i. FieldsFit l (length (raw_file l)) i (object l k)) (from_zero k)
+        (λ t r has wide. field_inside l k t r given limits below has wide)
+
+    sites : (k : ℕ) → k < length l.sites → (site : Site) → Contains (sites_at l k) site
+        → SiteFits l (length (raw_file l)) (0 + k) site
+    sites k below site has =
+        let there : k < length l.objects = omega (arith, given.each) in
+        let own = All-contains (IsSite (object l k)) (sites_at l k) site (given.are_sites k there).only has in
+        subst (λ i. SiteFits l (length (raw_file l)) i site) (from_zero k) (record {
+          inside = site_inside l k site given limits there has;
+          whole = own.1.len_is;
+        })
 
 -- it ends where the last part does
 pub file_ends : (l : Linking) → IsGiven l → FitsLimits l

@@ -2,6 +2,7 @@ pub mod Few
 pub mod GotRelocations
 pub mod Lengths
 pub mod LengthsInside
+pub mod LengthsKept
 pub mod Linkable
 pub mod Loads
 pub mod Relatives
