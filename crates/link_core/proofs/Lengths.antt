@@ -1,5 +1,5 @@
 -- The file ends where the last part does, and all that is written lies in it.
-use Rattle.std.proofs.Common.{◌≡◌, ◌+◌, ◌<◌, ◌≤◌, ℕ, List, length, true, refl, subst, arith}
+use Rattle.std.proofs.Common.{◌≡◌, ◌+◌, ◌<◌, ◌≤◌, ℕ, List, length, true, refl, ap, subst, ◌∙◌, arith}
 use Rattle.std.specs.List.{All, Contains}
 use Rattle.std.proofs.lemmas.List.Elements.{All-contains}
 use Rattle.object_faults.specs.declared.class.SectionClass.TheVariants.{Executable}
@@ -10,6 +10,8 @@ use Rattle.elf_object.specs.LawsOfRelocations.{lawful as relocations_lawful}
 use Rattle.elf_object.specs.Relocations.{field_width}
 use Rattle.image_writer.specs.Contents.{parts_end}
 use Rattle.image_writer.specs.Page.{file_offset}
+use Rattle.image_writer.proofs.Making.{parts_end-in}
+use Rattle.link_faults.specs.ImageKinds.{base_of}
 use Rattle.section_file.specs.Files.{offset_of}
 use Rattle.sequence_match.specs.declared.places.Site.{Site}
 use Rattle.sequence_match.specs.Faults.{IsSite}
@@ -18,6 +20,8 @@ use Rattle.link_core.specs.Bytes.{file, raw_file, with_fields_from}
 use Rattle.link_core.specs.Faults.{FitsLimits, IsGiven}
 use Rattle.link_core.specs.Images.{contents, file_kind, places}
 use Rattle.link_core.proofs.LengthsInside.{form_some, is_code, is_object, is_relocated, raw_longer, section_inside}
+use Rattle.link_core.proofs.LengthsPlaces.{all_follow, end_from, last_end, lie_between, places_end-is, same_base}
+use Rattle.link_core.proofs.LengthsRaw.{raw_length}
 use Rattle.link_core.proofs.LengthsKept.{FieldsFit, SiteFits, objects_keep, sites_keep}
 
 -- a field that has bytes lies in the file
@@ -74,12 +78,27 @@ file_keeps l given limits =
           whole = own.1.len_is;
         })
 
--- it ends where the last part does
-pub file_ends : (l : Linking) → IsGiven l → FitsLimits l
-    → length (file l) ≡ file_offset (file_kind l.kind) (parts_end (file_kind l.kind) (contents l).parts)
-file_ends l given limits = ?
+-- the file ends where the parts do
+file_length : (l : Linking) → IsGiven l → FitsLimits l → length (file l) ≡ offset_of (layout l) (last_end l)
+file_length l given limits = file_keeps l given limits ∙ raw_length l given limits
 
 -- each part lies in it
 pub places_inside : (l : Linking) → IsGiven l → FitsLimits l
     → All (λ part. file_offset (file_kind l.kind) part.address + part.size ≤ length (file l)) (places l)
-places_inside l given limits = ?
+places_inside l given limits k d below =
+    let f = all_follow l in
+    let lies = lie_between (base_of l.kind) (places l) f.follow k d below in
+    omega (arith, lies.0, lies.1, f.ends, file_length l given limits, same_base l.kind)
+
+-- it ends where the last part does
+pub file_ends : (l : Linking) → IsGiven l → FitsLimits l
+    → length (file l) ≡ file_offset (file_kind l.kind) (parts_end (file_kind l.kind) (contents l).parts)
+unfolding contents
+file_ends l given limits =
+    let kind = file_kind l.kind in
+    let parts = parts_end-in kind (file l) (places l) (places_inside l given limits) in
+    let last = places_end-is kind (places l) in
+    let base = same_base l.kind in
+    let end = (all_follow l).ends in
+    let start = ap (λ n. end_from n (places l)) base in
+    omega (arith, file_length l given limits, parts ∙ last ∙ start ∙ end, base)

@@ -3,6 +3,8 @@ pub mod GotRelocations
 pub mod Lengths
 pub mod LengthsInside
 pub mod LengthsKept
+pub mod LengthsPlaces
+pub mod LengthsRaw
 pub mod Linkable
 pub mod Loads
 pub mod Relatives
