@@ -1,5 +1,6 @@
 -- A section whose fields are filled lies in the file of sections, and that file is the front of the whole.
-use Rattle.std.proofs.Common.{◌≡◌, ◌≢◌, ◌+◌, ◌-◌, ◌*◌, ◌/◌, ◌<◌, ◌≤◌, ◌∙◌, ◌++◌, ℕ, zero, suc, Bool, true, false, List, [], ◌∷◌, Option, Some, None, length, inl, inr, refl, sym, ap, subst, arith, length-append}
+use Rattle.std.proofs.Common.{◌≡◌, ◌≢◌, ◌+◌, ◌-◌, ◌*◌, ◌<◌, ◌≤◌, ◌∙◌, ℕ, zero, suc, Bool, true, false, List, []}
+use Rattle.std.proofs.Common.{Option, Some, None, length, inl, inr, refl, sym, ap, subst, arith, length-append}
 use Rattle.std.specs.Prelude.{IsSome, map, nat_lt, unwrap_or, if◌then◌else◌, ◌==◌}
 use Rattle.std.specs.List.{Contains, range_with_len}
 use Rattle.std.proofs.lemmas.Bool.Decides.{nat_tests}
@@ -12,14 +13,15 @@ use Rattle.elf_object.specs.Faults.{IsObject, Stands}
 use Rattle.elf_object.specs.Laws.{table_of_kept}
 use Rattle.elf_object.specs.LawsOfParts.{class_of_section}
 use Rattle.elf_object.specs.LawsOfSections.{class_holds, kept_as}
-use Rattle.elf_object.specs.Lent.{kept_relocation_table, relocation_at, relocations, relocations_from, relocations_in, section_bytes, section_class, section_size}
+use Rattle.elf_object.specs.Lent.{kept_relocation_table, relocation_at, relocations, relocations_from, relocations_in}
+use Rattle.elf_object.specs.Lent.{section_bytes, section_class, section_size}
 use Rattle.elf_object.specs.Parts.{section, entry_count}
 use Rattle.sequence_match.specs.declared.forms.Form.{Form}
-use Rattle.sequence_match.specs.declared.forms.Form.TheVariants.{Gd, Ld, IeMov, IeAdd, GdInd, LdInd, DescLea, DescCall}
+use Rattle.sequence_match.specs.declared.forms.Form.TheVariants.{Gd, Ld, IeMov, IeAdd, GdInd, LdInd, DescLea}
+use Rattle.sequence_match.specs.declared.forms.Form.TheVariants.{DescCall}
 use Rattle.sequence_match.specs.Faults.{bytes_of_code, code_of}
 use Rattle.sequence_match.specs.Forms.{row}
-use Rattle.tls_layout.specs.Places.{address_of, section_named}
-use Rattle.tls_layout.specs.Sections.{Layout, layout_of}
+use Rattle.tls_layout.specs.Places.{address_of}
 use Rattle.tls_layout.proofs.LawsOfPlaces.{have_addresses}
 use Rattle.tls_layout.proofs.LawsOfSections.{finds_sections}
 use Rattle.section_file.specs.Files.{offset_of, sections_file}

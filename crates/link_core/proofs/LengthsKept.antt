@@ -1,13 +1,15 @@
 -- Fields and sequences that lie in a file leave it as long as it was.
-use Rattle.std.proofs.Common.{◌≡◌, ◌≢◌, ◌+◌, ◌-◌, ◌<◌, ◌≤◌, ◌∙◌, ◌++◌, ◌&&◌, ℕ, ℤ, zero, suc, Bool, true, false, List, [], ◌∷◌, Option, Some, None, take, drop, length, refl, sym, ap, subst, arith, length-append, length-drop}
+use Rattle.std.proofs.Common.{◌≡◌, ◌≢◌, ◌+◌, ◌-◌, ◌<◌, ◌≤◌, ◌∙◌, ℕ, ℤ, suc, Bool, true, false, List, [], ◌∷◌, Option}
+use Rattle.std.proofs.Common.{Some, None, length, refl, ap, subst, arith}
 use Rattle.std.specs.Prelude.{pos, ◌+ℤ◌, ◌-ℤ◌, fold, slice_index_or, unwrap_or, if◌then◌else◌}
 use Rattle.std.specs.List.{Contains, range_with_len}
 use Rattle.std.proofs.lemmas.Bool.Decides.{nat_tests}
-use Rattle.std.proofs.lemmas.List.{length-take-le, take-append-drop}
+use Rattle.std.proofs.lemmas.List.{take-append-drop}
 use Rattle.elf_records.specs.declared.relocation.RelocationKind.{RelocationKind}
 use Rattle.elf_records.specs.declared.relocation.RelocationKind.TheVariants.{Nothing, Absolute64, Pc32, Plt32}
 use Rattle.elf_records.specs.declared.relocation.RelocationKind.TheVariants.{GotPcRel, Absolute32, Absolute32Signed}
-use Rattle.elf_records.specs.declared.relocation.RelocationKind.TheVariants.{TlsGd, TlsLd, DtpOff32, GotTpOff, TpOff32}
+use Rattle.elf_records.specs.declared.relocation.RelocationKind.TheVariants.{TlsGd, TlsLd, DtpOff32, GotTpOff}
+use Rattle.elf_records.specs.declared.relocation.RelocationKind.TheVariants.{TpOff32}
 use Rattle.elf_records.specs.declared.relocation.RelocationKind.TheVariants.{GotPc32TlsDesc, TlsDescCall, GotPcRelX}
 use Rattle.elf_records.specs.declared.relocation.RelocationKind.TheVariants.{RexGotPcRelX}
 use Rattle.elf_records.specs.Fields.{splice}
@@ -17,22 +19,23 @@ use Rattle.elf_object.specs.declared.relocation.Relocation.{Relocation}
 use Rattle.elf_object.specs.Lent.{relocation_target, relocations}
 use Rattle.elf_object.specs.Object.{section_count}
 use Rattle.tls_relocs.specs.declared.fields.Field.{Field}
-use Rattle.tls_relocs.specs.declared.fields.Field.TheVariants.{Empty, Word32, Word64}
+use Rattle.tls_relocs.specs.declared.fields.Field.TheVariants.{Empty}
 use Rattle.tls_relocs.specs.Fields.{field_bytes}
-use Rattle.tls_relocs.specs.Values.{fits_signed, fits_unsigned, signed_field, stored_field, unsigned_field, word32, wrapped_field}
+use Rattle.tls_relocs.specs.Values.{fits_signed, fits_unsigned, signed_field, stored_field, unsigned_field, word32}
+use Rattle.tls_relocs.specs.Values.{wrapped_field}
 use Rattle.section_file.specs.Files.{offset_of}
 use Rattle.object_faults.specs.Firsts.{nonzero}
 use Rattle.tls_symbols.specs.Faults.{held_for, held_in}
 use Rattle.dynamic_symbols.specs.Names.{first_of}
 use Rattle.relax_sites.specs.declared.choices.Choice.{Choice}
-use Rattle.relax_sites.specs.declared.choices.Choice.TheVariants.{Keep, GdLe, GdIe, LdLe, IeLe, DescLe, DescIe}
+use Rattle.relax_sites.specs.declared.choices.Choice.TheVariants.{Keep, GdLe, GdIe, IeLe, DescLe, DescIe}
 use Rattle.relax_sites.specs.declared.rows.NewField.{NewField}
 use Rattle.relax_sites.specs.Choices.{IsChoiceOf}
 use Rattle.relax_sites.specs.Rewriting.{rewritten}
 use Rattle.relax_sites.specs.Rows.{form_length, new_field}
 use Rattle.relax_sites.proofs.Tables.{field_end, own_choice, stays}
 use Rattle.sequence_match.specs.declared.forms.Form.{Form}
-use Rattle.sequence_match.specs.declared.forms.Form.TheVariants.{Gd, Ld, IeMov, IeAdd, GdInd, LdInd, DescLea, DescCall}
+use Rattle.sequence_match.specs.declared.forms.Form.TheVariants.{Gd, IeMov, IeAdd, GdInd, DescLea}
 use Rattle.sequence_match.specs.declared.places.Site.{Site}
 use Rattle.tls_symbols.specs.declared.binding.Binding.{Binding}
 use Rattle.link_core.specs.Linking.{Linking, binding, choice, chosen, layout, place}

@@ -1,18 +1,14 @@
 -- The file of all parts ends where the last part does, before and after its fields are filled.
-use Rattle.std.proofs.Common.{◌≡◌, ◌+◌, ◌-◌, ◌*◌, ◌^◌, ◌<◌, ◌≤◌, ◌∙◌, ◌++◌, ℕ, zero, suc, ℤ, Bool, true, false, List, [], ◌∷◌, Option, Some, None, FitsSigned, IsSome, length, refl, sym, ap, subst, arith, length-append}
+use Rattle.std.proofs.Common.{◌≡◌, ◌+◌, ◌-◌, ◌*◌, ◌^◌, ◌<◌, ◌≤◌, ◌∙◌, ◌++◌, ℕ, zero, suc, ℤ, Bool, true, false, List}
+use Rattle.std.proofs.Common.{[], ◌∷◌, Option, Some, None, FitsSigned, IsSome, length, refl, ap, arith, length-append}
 use Rattle.std.specs.Prelude.{pos, negsuc, neg_ℤ, nat_lt, cond, ◌+ℤ◌, ◌-ℤ◌, ◌==◌, if◌then◌else◌, unwrap_or}
 use Rattle.std.specs.Int.{w32}
 use Rattle.std.specs.Int.Signed.{mag}
 use Rattle.std.specs.List.{flat_map}
 use Rattle.std.specs.Option.{IfSome}
-use Rattle.std.proofs.lemmas.Bool.{cases_lt}
-use Rattle.std.proofs.lemmas.Int.{ints}
 use Rattle.std.proofs.lemmas.List.{length-replicate}
 use Rattle.elf_records.specs.Fields.{bytes_of}
 use Rattle.elf_records.specs.Laws.{length-bytes_of}
-use Rattle.elf_records.specs.declared.relocation.RelocationKind.TheVariants.{GotPcRel}
-use Rattle.got_pairs.specs.declared.entry.Entry.{Entry}
-use Rattle.got_pairs.specs.declared.entry.Entry.TheVariants.{One, Two}
 use Rattle.got_pairs.specs.declared.entry.Word.{Word}
 use Rattle.got_pairs.specs.declared.need.Need.{Need}
 use Rattle.got_pairs.specs.declared.need.Need.TheVariants.{ModulePair, SymbolPair, Descriptor, SymbolWord}
@@ -26,21 +22,19 @@ use Rattle.link_faults.specs.declared.image_kind.ImageKind.TheVariants.{Exe, Pie
 use Rattle.link_faults.specs.ImageKinds.{base_of}
 use Rattle.section_file.specs.Files.{offset_of, sections_file}
 use Rattle.section_file.specs.Laws.{sections_end}
-use Rattle.section_file.specs.Laying.{with_section}
 use Rattle.section_file.proofs.Told.{files_end}
-use Rattle.tls_layout.specs.Places.{room, span, zero_data}
-use Rattle.tls_layout.specs.Rounding.{page_up, round_up}
+use Rattle.tls_layout.specs.Places.{room, zero_data}
+use Rattle.tls_layout.specs.Rounding.{page_up}
 use Rattle.tls_layout.proofs.Rounds.{round_up-near}
 use Rattle.tls_layout.proofs.Together.{page_limit, page_up-above}
-use Rattle.tls_relocs.specs.declared.fields.Field.{Field}
-use Rattle.tls_relocs.specs.declared.fields.Field.TheVariants.{Empty, Word32}
+use Rattle.tls_relocs.specs.declared.fields.Field.TheVariants.{Empty}
 use Rattle.tls_relocs.specs.Fields.{field_bytes}
 use Rattle.tls_relocs.specs.Laid.{zeros}
 use Rattle.tls_relocs.specs.ValueLaws.{signed_fits}
 use Rattle.tls_relocs.specs.Values.{fits_signed, signed_field, word32}
 use Rattle.link_core.specs.Linking.{Linking, block_offset, layout}
 use Rattle.link_core.specs.Needs.{entries, entry_by, got_size, got_start, has_stub, need_address, stub_start}
-use Rattle.link_core.specs.Bytes.{got_bytes, need_bytes, raw_file, stub_bytes, with_got, with_part, with_stub}
+use Rattle.link_core.specs.Bytes.{got_bytes, need_bytes, raw_file, stub_bytes, with_got, with_part}
 use Rattle.link_core.specs.Faults.{FitsLimits, IsGiven}
 use Rattle.link_core.proofs.Few.{few}
 use Rattle.link_core.proofs.LengthsInside.{are_laid}
