@@ -100,6 +100,9 @@ is_relocated b object t x has =
     let known = class_of_section b t table.0.0 in
     of_class (kept_class (section b t)) refl known table.0.1
   where
+    is_kept : IsKeptSection b t
+    is_kept = (table_of_kept b t (table_some b (kept_relocation_table b t) x has).0).0
+
     empty : IsKeptSection b t → kept_class (section b t) ≡ Some (Tls false) → ⊥
     empty kept e =
         let r = kept_relocation_table b t in
@@ -117,7 +120,7 @@ is_relocated b object t x has =
     of_class (Some class) e is some = record {
       class = class;
       class_is = is;
-      has_address = λ none. empty (table_of_kept b t (table_some b (kept_relocation_table b t) x has).0).0 (e ∙ ap Some none);
+      has_address = λ none. empty is_kept (e ∙ ap Some none);
     }
 
 -- such a section of object o lies in the file
@@ -129,7 +132,8 @@ section_inside l o t class given limits there is other some =
     of_address (address_of (layout l) o t) refl (have_addresses (layout l) o t class (found ∙ is) other)
   where
     of_address : (address : Option ℕ) → address_of (layout l) o t ≡ address → IsSome address
-        → offset_of (layout l) (unwrap_or address 0 + 0) + section_size (object l o) t ≤ length (sections_file (layout l) l.objects)
+        → offset_of (layout l) (unwrap_or address 0 + 0) + section_size (object l o) t
+        ≤ length (sections_file (layout l) l.objects)
     of_address None e has = absurd (cc)
     of_address (Some address) e has =
         omega (arith, sections_fit l.kind l.objects o t address (are_laid l given limits) (there, e) some)
@@ -150,7 +154,8 @@ is_code b object t some = of_class (section_class b t) refl some
     of_class None e some = absurd (omega arith)
     of_class (Some Executable) e some = record {
       class_is = e;
-      size_is = sym (kept_as b object t Executable e).filled ∙ ap (λ c. length (bytes_of_code c (section_bytes b t))) (sym e);
+      size_is = sym (kept_as b object t Executable e).filled
+          ∙ ap (λ c. length (bytes_of_code c (section_bytes b t))) (sym e);
     }
     of_class (Some ReadOnly) e some = absurd (omega arith)
     of_class (Some (Tls initial)) e some = absurd (omega arith)

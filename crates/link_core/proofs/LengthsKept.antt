@@ -63,7 +63,8 @@ unsigned_at_most z = four_at_most (fits_unsigned z) z
 wrapped_at_most : (z : ℤ) → IsAtMost 8 (wrapped_field z)
 wrapped_at_most z = omega (arith, length-bytes_of)
 
-pub field_at_most : (kind : RelocationKind) (s : ℕ) (a : ℤ) (p g : ℕ) → IsAtMost (field_width kind) (stored_field kind s a p g)
+pub field_at_most : (kind : RelocationKind) (s : ℕ) (a : ℤ) (p g : ℕ)
+    → IsAtMost (field_width kind) (stored_field kind s a p g)
 field_at_most Nothing s a p g = omega arith
 field_at_most Absolute64 s a p g = wrapped_at_most (pos s +ℤ a)
 field_at_most Pc32 s a p g = signed_at_most ((pos s +ℤ a) -ℤ pos p)
@@ -102,7 +103,8 @@ pub fold_keeps : {X : Type 0} (f : List ℕ → X → List ℕ) (n : ℕ) (xs : 
     → length file ≡ n → length (fold f file xs) ≡ n
 fold_keeps f n [] file each is = is
 fold_keeps f n (x ∷ xs) file each is =
-    fold_keeps f n xs (f file x) (λ y has. each y (suc has.0, omega arith, has.2)) (each x (0, omega arith, refl) file is)
+    fold_keeps f n xs (f file x) (λ y has. each y (suc has.0, omega arith, has.2))
+    (each x (0, omega arith, refl) file is)
 
 -- ** the parts of the linking, of which each leaves n bytes
 
@@ -137,7 +139,8 @@ module _ (l : Linking) (n : ℕ) where
       → length now ≡ n → length (fold (with_field l o t) now (held_for b s)) ≡ n
   held_keeps o b t None now fit e is = is
   held_keeps o b t (Some s) now fit e is =
-      fold_keeps (with_field l o t) n (relocations b s) now (λ r has file long. field_keeps o t r file (inside r has) long) is
+      fold_keeps (with_field l o t) n (relocations b s) now
+      (λ r has file long. field_keeps o t r file (inside r has) long) is
     where
       same : (t s : ℕ) → Some s ≡ nonzero t → s ≡ t
       same t s e = grind (arith, nat_tests)
@@ -149,12 +152,14 @@ module _ (l : Linking) (n : ℕ) where
   table_keeps : (o : ℕ) (b : List ℕ) (s : ℕ) (now : List ℕ) → FieldsFit o b
       → length now ≡ n → length (with_table l o b now s) ≡ n
   unfolding held_in
-  table_keeps o b s now fit is = held_keeps o b (relocation_target b s) (nonzero (relocation_target b s)) now fit refl is
+  table_keeps o b s now fit is =
+      held_keeps o b (relocation_target b s) (nonzero (relocation_target b s)) now fit refl is
 
   object_keeps : (o : ℕ) (b now : List ℕ) → FieldsFit o b → length now ≡ n → length (with_fields l o b now) ≡ n
   unfolding with_fields
   object_keeps o b now fit is =
-      fold_keeps (with_table l o b) n (range_with_len 1 (section_count b - 1)) now (λ s has file long. table_keeps o b s file fit long) is
+      fold_keeps (with_table l o b) n (range_with_len 1 (section_count b - 1)) now
+      (λ s has file long. table_keeps o b s file fit long) is
 
   pub objects_keep : (o : ℕ) (bs : List (List ℕ)) (now : List ℕ)
       → ((k : ℕ) → k < length bs → FieldsFit (o + k) (slice_index_or bs k []))
@@ -168,7 +173,8 @@ module _ (l : Linking) (n : ℕ) where
       first = omega arith
 
       next : (k : ℕ) → FieldsFit (o + suc k) (slice_index_or bs k []) → FieldsFit (o + 1 + k) (slice_index_or bs k [])
-      next k h = let same : o + suc k ≡ o + 1 + k = omega arith in subst (λ i. FieldsFit i (slice_index_or bs k [])) same h
+      next k h =
+          let same : o + suc k ≡ o + 1 + k = omega arith in subst (λ i. FieldsFit i (slice_index_or bs k [])) same h
 
   -- ** sequences
 
@@ -213,15 +219,18 @@ module _ (l : Linking) (n : ℕ) where
       let width = new_width site.form choice f e in
       let inside = fits.inside in
       let whole = fits.whole in
-      field_at_keeps o site.section (site.start + f.at) (field_width f.kind) (field l o site.section (new_relocation site f)) now
+      field_at_keeps o site.section (site.start + f.at) (field_width f.kind)
+      (field l o site.section (new_relocation site f)) now
       (field_at_most f.kind _ f.addend _ _) (λ some. omega arith) is
 
-  site_keeps : (o : ℕ) (site : Site) (now : List ℕ) → SiteFits o site → length now ≡ n → length (with_site l o now site) ≡ n
+  site_keeps : (o : ℕ) (site : Site) (now : List ℕ) → SiteFits o site → length now ≡ n
+      → length (with_site l o now site) ≡ n
   unfolding with_site choice
   site_keeps o site now fits is =
       let inside = fits.inside in
       field_of_site_keeps o site (choice l o site) (new_field site.form (choice l o site)) _ fits refl
-      (rewritten_keeps (in_file l o site) (choice l o site) now (own (binding l o (first_of site))) (omega arith) fits.whole ∙ is)
+      (rewritten_keeps (in_file l o site) (choice l o site) now (own (binding l o (first_of site))) (omega arith)
+      fits.whole ∙ is)
     where
       own : (bound : Option Binding) → chosen l site.form bound ≢ Keep → IsChoiceOf site.form (chosen l site.form bound)
       own None changes = absurd (changes refl)
@@ -232,8 +241,10 @@ module _ (l : Linking) (n : ℕ) where
       → length now ≡ n → length (with_sites_from l o sites now) ≡ n
   sites_keep o [] now fit is = is
   sites_keep o (own ∷ more) now fit is =
-      sites_keep (o + 1) more (fold (with_site l o) now own) (λ k below site has. next k site (fit (suc k) (omega arith) site has))
-      (fold_keeps (with_site l o) n own now (λ site has file long. site_keeps o site file (first site (fit 0 (omega arith) site has)) long) is)
+      sites_keep (o + 1) more (fold (with_site l o) now own)
+      (λ k below site has. next k site (fit (suc k) (omega arith) site has))
+      (fold_keeps (with_site l o) n own now
+      (λ site has file long. site_keeps o site file (first site (fit 0 (omega arith) site has)) long) is)
     where
       first : (site : Site) → SiteFits (o + 0) site → SiteFits o site
       first site h = let same : o + 0 ≡ o = omega arith in subst (λ i. SiteFits i site) same h

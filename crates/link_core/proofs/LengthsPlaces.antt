@@ -36,9 +36,14 @@ abbrev pub Follow : ℕ → List PartPlace → Type 0
 Follow from [] = Unit {0}
 Follow from (p ∷ more) = (from ≤ p.address) × Follow (p.address + p.size) more
 
-pub follow-append : (from : ℕ) (ps qs : List PartPlace) → Follow from ps → Follow (end_from from ps) qs → Follow from (ps ++ qs)
+pub follow-append : (from : ℕ) (ps qs : List PartPlace) → Follow from ps → Follow (end_from from ps) qs
+    → Follow from (ps ++ qs)
 follow-append from [] qs front back = back
 follow-append from (p ∷ ps) qs front back = (front.0, follow-append (p.address + p.size) ps qs front.1 back)
+
+pub follow-at : (from end : ℕ) (ps qs : List PartPlace) → Follow from ps → end_from from ps ≡ end → Follow end qs
+    → Follow from (ps ++ qs)
+follow-at from end ps qs front e back = follow-append from ps qs front (subst (λ n. Follow n qs) (sym e) back)
 
 pub end_from-append : (from : ℕ) (ps qs : List PartPlace) → end_from from (ps ++ qs) ≡ end_from (end_from from ps) qs
 end_from-append from [] qs = refl
@@ -76,7 +81,8 @@ filled_end class x from = elim (cases_lt x.start x.end) [
 filled_follows : (class : PartClass) (x : Extent) (from : ℕ) → from ≤ x.start → Follow from (filled class x)
 filled_follows class x from low = of_test (nat_lt x.start x.end)
   where
-    of_test : (t : Bool) → Follow from (if t then record { class = class; address = x.start; size = x.end - x.start } ∷ [] else [])
+    of_test : (t : Bool) → Follow from
+        (if t then record { class = class; address = x.start; size = x.end - x.start } ∷ [] else [])
     of_test true = (low, tt)
     of_test false = tt
 
@@ -123,10 +129,11 @@ are_parts p =
     let n3 = filled_end ReadOnly x3 e2 in
     let n4 = filled_end Writable x4 e3 in
     let s4 : Follow e3 d4 = filled_follows Writable x4 e3 t4 in
-    let s3 : Follow e2 (d3 ++ d4) = follow-append e2 d3 d4 (filled_follows ReadOnly x3 e2 t3) (subst (λ n. Follow n d4) (sym n3) s4) in
-    let s2 : Follow e1 (d2 ++ (d3 ++ d4)) = follow-append e1 d2 (d3 ++ d4) (filled_follows ReadOnly x2 e1 t2) (subst (λ n. Follow n (d3 ++ d4)) (sym n2) s3) in
+    let s3 : Follow e2 (d3 ++ d4) = follow-at e2 e3 d3 d4 (filled_follows ReadOnly x3 e2 t3) n3 s4 in
+    let s2 : Follow e1 (d2 ++ (d3 ++ d4)) = follow-at e1 e2 d2 (d3 ++ d4) (filled_follows ReadOnly x2 e1 t2) n2 s3 in
+    let s1 : Follow base d1 = filled_follows Executable x1 base (omega (arith, f.first)) in
     record {
-      follow = follow-append base d1 (d2 ++ (d3 ++ d4)) (filled_follows Executable x1 base (omega (arith, f.first))) (subst (λ n. Follow n (d2 ++ (d3 ++ d4))) (sym n1) s2);
+      follow = follow-at base e1 d1 (d2 ++ (d3 ++ d4)) s1 n1 s2;
       ends = end_from-append base d1 (d2 ++ (d3 ++ d4)) ∙ ap (λ n. end_from n (d2 ++ (d3 ++ d4))) n1
           ∙ end_from-append e1 d2 (d3 ++ d4) ∙ ap (λ n. end_from n (d3 ++ d4)) n2
           ∙ end_from-append e2 d3 d4 ∙ ap (λ n. end_from n d4) n3
@@ -179,9 +186,9 @@ all_follow l =
     let g = got (got_size l == 0) s.before in
     let t = stub (has_stub l) (got_end-before l) in
     let rest : Follow (sections_end (layout l)) (got_places l ++ stub_places l) =
-    follow-append (sections_end (layout l)) (got_places l) (stub_places l) g.0 (subst (λ n. Follow n (stub_places l)) (sym g.1) t.0) in
+    follow-at (sections_end (layout l)) (got_end l) (got_places l) (stub_places l) g.0 g.1 t.0 in
     record {
-      follow = follow-append base x (got_places l ++ stub_places l) s.follow (subst (λ n. Follow n (got_places l ++ stub_places l)) (sym s.ends) rest);
+      follow = follow-at base (sections_end (layout l)) x (got_places l ++ stub_places l) s.follow s.ends rest;
       ends = end_from-append base x (got_places l ++ stub_places l)
           ∙ ap (λ n. end_from n (got_places l ++ stub_places l)) s.ends
           ∙ end_from-append (sections_end (layout l)) (got_places l) (stub_places l)
@@ -189,16 +196,22 @@ all_follow l =
           ∙ t.1;
     }
   where
+    got_place : PartPlace
+    got_place = record { class = Writable; address = got_start l; size = got_size l }
+
+    stub_place : PartPlace
+    stub_place = record { class = Executable; address = stub_start l; size = 6 }
+
     got : (test : Bool) → sections_end (layout l) ≤ got_start l
-        → Follow (sections_end (layout l)) (if test then [] else record { class = Writable; address = got_start l; size = got_size l } ∷ [])
-        × (end_from (sections_end (layout l)) (if test then [] else record { class = Writable; address = got_start l; size = got_size l } ∷ [])
+        → Follow (sections_end (layout l)) (if test then [] else got_place ∷ [])
+        × (end_from (sections_end (layout l)) (if test then [] else got_place ∷ [])
         ≡ (if test then sections_end (layout l) else got_start l + got_size l))
     got true before = (tt, refl)
     got false before = ((before, tt), refl)
 
     stub : (test : Bool) → got_end l ≤ stub_start l
-        → Follow (got_end l) (if test then record { class = Executable; address = stub_start l; size = 6 } ∷ [] else [])
-        × (end_from (got_end l) (if test then record { class = Executable; address = stub_start l; size = 6 } ∷ [] else [])
+        → Follow (got_end l) (if test then stub_place ∷ [] else [])
+        × (end_from (got_end l) (if test then stub_place ∷ [] else [])
         ≡ (if test then stub_start l + 6 else got_end l))
     stub true before = ((before, tt), refl)
     stub false before = (tt, refl)

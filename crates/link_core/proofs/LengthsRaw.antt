@@ -34,7 +34,7 @@ use Rattle.tls_relocs.specs.ValueLaws.{signed_fits}
 use Rattle.tls_relocs.specs.Values.{fits_signed, signed_field, word32}
 use Rattle.link_core.specs.Linking.{Linking, block_offset, layout}
 use Rattle.link_core.specs.Needs.{entries, entry_by, got_size, got_start, has_stub, need_address, stub_start}
-use Rattle.link_core.specs.Bytes.{got_bytes, need_bytes, raw_file, stub_bytes, with_got, with_part}
+use Rattle.link_core.specs.Bytes.{got_bytes, need_bytes, raw_file, stub_bytes, with_got, with_part, with_stub}
 use Rattle.link_core.specs.Faults.{FitsLimits, IsGiven}
 use Rattle.link_core.proofs.Few.{few}
 use Rattle.link_core.proofs.LengthsInside.{are_laid}
@@ -78,12 +78,18 @@ word_count Late block (AddressWord s p) = refl
 word_count kind block RuntimeWord = refl
 
 need_length : (l : Linking) (need : Need) → length (need_bytes l need) ≡ size_of need
-need_length l need = words_length (words (entry_of l.kind (block_offset l) need)) ∙ word_count l.kind (block_offset l) need
+need_length l need =
+    words_length (words (entry_of l.kind (block_offset l) need)) ∙ word_count l.kind (block_offset l) need
 
 needs_length : (l : Linking) (needs : List Need) → length (flat_map (need_bytes l) needs) ≡ total_size needs
 needs_length l [] = refl
 needs_length l (need ∷ more) =
-    omega (arith, length-append (need_bytes l need) (flat_map (need_bytes l) more), need_length l need, needs_length l more)
+    omega (
+      arith,
+      length-append (need_bytes l need) (flat_map (need_bytes l) more),
+      need_length l need,
+      needs_length l more,
+    )
 
 got_length : (l : Linking) → length (got_bytes l) ≡ got_size l
 unfolding got_bytes
@@ -142,7 +148,8 @@ page_near n = round_up-near n 4096 (omega arith)
 
 pub stub_small : (l : Linking) → IsGiven l → FitsLimits l → stub_start l + 2 < 2 ^ 29
 stub_small l given limits =
-    omega (arith, room_small l limits, base_small l.kind, page_near (got_start l + got_size l), (few l given limits).got)
+    let near = page_near (got_start l + got_size l) in
+    omega (arith, room_small l limits, base_small l.kind, near, (few l given limits).got)
 
 -- the word that it jumps through lies before it
 word_before : (l : Linking) → need_address l (Some RuntimeWord) ≤ stub_start l
@@ -151,8 +158,8 @@ word_before l =
     let page = page_up-above (got_start l + got_size l) in
     of_start (start_of (entries l) RuntimeWord) inside page
   where
-    of_start : (at : Option ℕ) → IfSome at (λ s. s + 8 ≤ total_size (entries l)) → got_start l + got_size l ≤ stub_start l
-        → entry_by l at ≤ stub_start l
+    of_start : (at : Option ℕ) → IfSome at (λ s. s + 8 ≤ total_size (entries l))
+        → got_start l + got_size l ≤ stub_start l → entry_by l at ≤ stub_start l
     of_start None inside page = omega arith
     of_start (Some at) inside page = omega arith
 
@@ -168,7 +175,8 @@ stub_length l given limits =
 
 -- a part at an address behind a file ends it
 part_length : (l : Linking) (end address : ℕ) (bytes file : List ℕ) → length file ≡ offset_of (layout l) end
-    → end ≤ address → base_of l.kind ≤ address → length (with_part l address bytes file) ≡ offset_of (layout l) (address + length bytes)
+    → end ≤ address → base_of l.kind ≤ address
+    → length (with_part l address bytes file) ≡ offset_of (layout l) (address + length bytes)
 part_length l end address bytes file is behind above =
     omega (
       arith,
@@ -177,34 +185,36 @@ part_length l end address bytes file is behind above =
       length-replicate {A = ℕ} (offset_of (layout l) address - length file) 0,
     )
 
--- the file of sections and the table
-front_length : (l : Linking) → IsGiven l → FitsLimits l
-    → length (with_got l (sections_file (layout l) l.objects)) ≡ offset_of (layout l) (got_end l)
-front_length l given limits = of_test (got_size l == 0)
+-- with the table
+with_got_length : (l : Linking) (file : List ℕ) → length file ≡ offset_of (layout l) (sections_end (layout l))
+    → length (with_got l file) ≡ offset_of (layout l) (got_end l)
+with_got_length l file is = of_test (got_size l == 0)
   where
-    sections : List ℕ
-    sections = sections_file (layout l) l.objects
-
-    of_test : (t : Bool) → length (if t then sections_file (layout l) l.objects else with_part l (got_start l) (got_bytes l) (sections_file (layout l) l.objects))
+    of_test : (t : Bool) → length (if t then file else with_part l (got_start l) (got_bytes l) file)
         ≡ offset_of (layout l) (if t then sections_end (layout l) else got_start l + got_size l)
-    of_test true = files_end l.kind l.objects (are_laid l given limits)
+    of_test true = is
     of_test false =
-        part_length l (sections_end (layout l)) (got_start l) (got_bytes l) (sections_file (layout l) l.objects)
-        (files_end l.kind l.objects (are_laid l given limits)) (got_start-after l) (base_before l)
+        part_length l (sections_end (layout l)) (got_start l) (got_bytes l) file is (got_start-after l) (base_before l)
         ∙ ap (λ n. offset_of (layout l) (got_start l + n)) (got_length l)
+
+-- with the stub
+with_stub_length : (l : Linking) (file : List ℕ) → IsGiven l → FitsLimits l
+    → length file ≡ offset_of (layout l) (got_end l) → length (with_stub l file) ≡ offset_of (layout l) (last_end l)
+with_stub_length l file given limits is = of_test (has_stub l)
+  where
+    above : base_of l.kind ≤ stub_start l
+    above = omega (arith, base_before l, page_up-above (got_start l + got_size l))
+
+    of_test : (t : Bool) → length (if t then with_part l (stub_start l) (stub_bytes l) file else file)
+        ≡ offset_of (layout l) (if t then stub_start l + 6 else got_end l)
+    of_test true =
+        part_length l (got_end l) (stub_start l) (stub_bytes l) file is (got_end-before l) above
+        ∙ ap (λ n. offset_of (layout l) (stub_start l + n)) (stub_length l given limits)
+    of_test false = is
 
 pub raw_length : (l : Linking) → IsGiven l → FitsLimits l → length (raw_file l) ≡ offset_of (layout l) (last_end l)
 unfolding raw_file
-raw_length l given limits = of_test (has_stub l)
-  where
-    front : List ℕ
-    front = with_got l (sections_file (layout l) l.objects)
-
-    of_test : (t : Bool)
-        → length (if t then with_part l (stub_start l) (stub_bytes l) (with_got l (sections_file (layout l) l.objects)) else with_got l (sections_file (layout l) l.objects))
-        ≡ offset_of (layout l) (if t then stub_start l + 6 else got_end l)
-    of_test true =
-        part_length l (got_end l) (stub_start l) (stub_bytes l) (with_got l (sections_file (layout l) l.objects))
-        (front_length l given limits) (got_end-before l) (omega (arith, base_before l, page_up-above (got_start l + got_size l)))
-        ∙ ap (λ n. offset_of (layout l) (stub_start l + n)) (stub_length l given limits)
-    of_test false = front_length l given limits
+raw_length l given limits =
+    let sections = sections_file (layout l) l.objects in
+    with_stub_length l (with_got l sections) given limits
+    (with_got_length l sections (files_end l.kind l.objects (are_laid l given limits)))
