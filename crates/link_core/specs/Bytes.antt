@@ -41,7 +41,7 @@ unfoldable pub stub_bytes : Linking → List ℕ
 stub_bytes l =
     0xff ∷ 0x25
     ∷ field_bytes (unwrap_or (stored_field GotPcRel 0 (negsuc 3) (stub_start l + 2) (need_address l (Some RuntimeWord)))
-    Empty)
+        Empty)
 
 -- bytes at an address, behind zeros
 abbrev pub with_part : Linking → ℕ → List ℕ → List ℕ → List ℕ
