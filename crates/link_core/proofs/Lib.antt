@@ -6,6 +6,10 @@ pub mod GotRelocationsRows
 pub mod GotRelocationsShown
 pub mod GotRelocationsSites
 pub mod Lengths
+pub mod LengthsInside
+pub mod LengthsKept
+pub mod LengthsPlaces
+pub mod LengthsRaw
 pub mod Linkable
 pub mod Loads
 pub mod LoadsChains
