@@ -1,4 +1,7 @@
 pub mod Few
+pub mod FewEntries
+pub mod FewLists
+pub mod FewSites
 pub mod GotRelocations
 pub mod GotRelocationsNamed
 pub mod GotRelocationsNeeds
