@@ -6,3 +6,4 @@ pub mod Loads
 pub mod Relatives
 pub mod Symbols
 pub mod SortingLaws
+pub mod UsableSites

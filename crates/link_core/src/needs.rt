@@ -7,7 +7,7 @@ ghost use Rattle.elf_object.specs.Parts.{symbol_count};
 ghost use Rattle.tls_symbols.specs.Bindings.{IsBindingWithin, object_at};
 ghost use Rattle.link_core.specs.Linking.{binding, choice};
 ghost use Rattle.link_core.specs.Needs.{address_fields, address_need, address_needs, calls, calls_stub, is_address_kind};
-ghost use Rattle.link_core.specs.Needs.{need_by, needs, object_needs, object_needs_from, own_word, reaching, relocation_need};
+ghost use Rattle.link_core.specs.Needs.{need_by, needs, new_relocation, object_needs, object_needs_from, own_word, reaching, relocation_need};
 ghost use Rattle.link_core.specs.Needs.{section_needs, site_needs, site_needs_from, target_by};
 ghost use Rattle.link_core.specs.Usable.{IsUsable};
 
