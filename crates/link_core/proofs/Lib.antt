@@ -4,6 +4,10 @@ pub mod Lengths
 pub mod Linkable
 pub mod Loads
 pub mod Relatives
+pub mod RelativesApart
+pub mod RelativesFields
+pub mod RelativesParts
+pub mod RelativesTables
 pub mod Symbols
 pub mod SortingLaws
 pub mod UsableSites
