@@ -1,5 +1,6 @@
 pub mod Few
 pub mod GotRelocations
+pub mod InputsLemmas
 pub mod Lengths
 pub mod Linkable
 pub mod Loads

@@ -15,10 +15,9 @@ ghost use Rattle.link_core.specs.Usable.{IsUsable};
 ghost use Rattle.link_core.specs.Values.{counts_from_thread_pointer, field, goes, is_local, is_replaced, is_rewriting, is_runtime, other_number, own_number};
 
 use crate::inputs::Inputs;
-use crate::needs::calls_stub;
+use crate::needs::{calls_stub, is_kept};
 use elf_object::{Relocation, RelocationKind};
 use got_pairs::{GotPlan, Need, plan};
-use relax_sites::Choice;
 use sequence_match::{Form, Site};
 use std::alloc::{AllocError, Global};
 use std::marker::Model;
@@ -84,11 +83,21 @@ impl<'l, 's, 'a> Inputs<'l, 's, 'a> {
         !self.kind.is_module() && self.relax
     }
 
+    #[tactic(auto, unfolding(crate::specs::Values::counts_from_thread_pointer))]
     /// Whether local dynamic code is rewritten, so that offsets count from the thread pointer.
     fn counts_from_thread_pointer(&self) -> bool
         ensures { result ≡ counts_from_thread_pointer self.now }
     {
         self.is_rewriting() && self.sites.iter().any(|own| has_local(own.as_slice()))
+    }
+
+    /// Whether a site calls the stub.
+    fn is_stub_call(&self, object: usize, site: &Site) -> bool
+        requires object { object < length self.now.objects }
+        requires site { IsUsable (object_at self.now.objects object) site.now }
+        ensures { result ≡ is_stub_call self.now object site.now }
+    {
+        is_kept(self.choice(object, site)) && calls_stub(site.form)
     }
 
     /// Whether an object calls the stub.
@@ -98,7 +107,7 @@ impl<'l, 's, 'a> Inputs<'l, 's, 'a> {
         ensures { result ≡ list_any (is_stub_call self.now object) own.now }
     {
         for site in own {
-            if calls_stub(site.form) && self.choice(object, site) == Choice::Keep {
+            if self.is_stub_call(object, site) {
                 return true;
             }
         }
