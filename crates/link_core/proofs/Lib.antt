@@ -4,6 +4,12 @@ pub mod InputsLemmas
 pub mod Lengths
 pub mod Linkable
 pub mod Loads
+pub mod LoadsChains
+pub mod LoadsCounts
+pub mod LoadsParts
+pub mod LoadsPlaces
+pub mod LoadsTables
+pub mod LoadsTls
 pub mod Relatives
 pub mod RelativesApart
 pub mod RelativesFields
