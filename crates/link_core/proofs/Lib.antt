@@ -10,6 +10,7 @@ pub mod LoadsParts
 pub mod LoadsPlaces
 pub mod LoadsTables
 pub mod LoadsTls
+pub mod NeedsLemmas
 pub mod Relatives
 pub mod RelativesApart
 pub mod RelativesFields

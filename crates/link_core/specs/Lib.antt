@@ -5,6 +5,7 @@ pub mod Images
 pub mod Linking
 pub mod Needs
 pub mod Overflows
+pub mod Plans
 pub mod Sorting
 pub mod Usable
 pub mod Values

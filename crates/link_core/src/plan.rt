@@ -1,6 +1,6 @@
 //! Where the global offset table and the stub of an image lie, and what the field of each relocation holds.
 
-ghost use Rattle.std.specs.Prelude.{◌≡◌, ◌+◌, ◌<◌, ◌≤◌, ◌^◌, IfOk, IfSome, length};
+ghost use Rattle.std.specs.Prelude.{◌≡◌, ◌+◌, ◌<◌, ◌≤◌, ◌^◌, ◌&&◌, ℕ, IfOk, IfSome, length};
 ghost use Rattle.std.specs.List.{All, list_any};
 ghost use Rattle.std.specs.Result.{result_ok};
 ghost use Rattle.elf_object.specs.Parts.{symbol_count};
@@ -42,23 +42,16 @@ pub struct Plan<'i, 'l, 's, 'a> {
 }
 
 impl<'i, 'l, 's, 'a> Model for Plan<'i, 'l, 's, 'a> {
-    ghost use Rattle.std.specs.Prelude.{◌≡◌};
     ghost use Rattle.link_core.specs.Linking.{Linking};
-    ghost use Rattle.link_core.specs.Faults.{FitsLimits, IsGiven};
-    ghost use Rattle.link_core.specs.Needs.{got_start, has_stub, stub_start, table};
-    ghost use Rattle.link_core.specs.Values.{counts_from_thread_pointer, is_rewriting};
+    ghost use Rattle.link_core.specs.Plans.{IsPlan};
 
     ghost Value = { Linking };
 
     ghost view = { λ plan. plan.inputs.now };
 
-    ghost invariant = { λ plan. (plan.got ≡ table plan.inputs.now)
-      × (plan.got_start ≡ got_start plan.inputs.now)
-      × (plan.stub_start ≡ stub_start plan.inputs.now)
-      × (plan.has_stub ≡ has_stub plan.inputs.now)
-      × (plan.is_rewriting ≡ is_rewriting plan.inputs.now)
-      × (plan.counts_from_thread_pointer ≡ counts_from_thread_pointer plan.inputs.now)
-      × IsGiven plan.inputs.now × FitsLimits plan.inputs.now };
+    ghost invariant = { λ plan. IsPlan
+      plan.inputs.now plan.got plan.got_start plan.stub_start plan.has_stub plan.is_rewriting
+      plan.counts_from_thread_pointer };
 }
 
 /// Whether a form is of local dynamic code.

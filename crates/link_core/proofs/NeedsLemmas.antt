@@ -1,0 +1,97 @@
+-- Walks that add what code needs, or look for a call of the stub: what is left of them.
+use Rattle.std.proofs.Common.{◌≡◌, ◌+◌, ◌-◌, ◌<◌, ◌≤◌, ◌∙◌, ◌||◌, ℕ, Bool, true, false, List, [], ◌∷◌, ◌++◌, drop, length, map, refl, sym, ap, append_assoc, append-nil}
+use Rattle.std.specs.Global.{Vec}
+use Rattle.std.specs.Prelude.{if◌then◌else◌}
+use Rattle.std.specs.List.{flat_map, list_any, range_with_len}
+use Rattle.std.proofs.Math.ListN.{drop_of_length-le}
+use Rattle.got_pairs.specs.declared.need.Need.{Need}
+use Rattle.sequence_match.specs.declared.places.Site.{Site}
+use Rattle.tls_symbols.proofs.Search.{range_first, range_none}
+use Rattle.link_core.specs.Linking.{Linking}
+use Rattle.link_core.specs.Needs.{any_stub_call, is_stub_call, object_needs, object_needs_from, site_needs, site_needs_from}
+
+-- ** elements of a list
+
+module _ {X A : Type 0} (f : X → List A) (seen : List A) (xs : List X) (i : ℕ) where
+  pub walked : (x : X) → drop i xs ≡ x ∷ drop (i + 1) xs
+      → (seen ++ f x) ++ flat_map f (drop (i + 1) xs) ≡ seen ++ flat_map f (drop i xs)
+  walked x here =
+      append_assoc seen (f x) (flat_map f (drop (i + 1) xs)) ∙ ap (λ ys. seen ++ flat_map f ys) (sym here)
+
+  pub walked_all : length xs ≤ i → seen ≡ seen ++ flat_map f (drop i xs)
+  walked_all past =
+      sym (ap (λ ys. seen ++ flat_map f ys) (drop_of_length-le xs past) ∙ append-nil seen)
+
+-- ** numbers below an end
+
+module _ {A : Type 0} (f : ℕ → List A) (seen : List A) (a n : ℕ) where
+  pub counted : a < n
+      → (seen ++ f a) ++ flat_map f (range_with_len (a + 1) (n - (a + 1))) ≡ seen ++ flat_map f (range_with_len a (n - a))
+  counted below =
+      append_assoc seen (f a) (flat_map f (range_with_len (a + 1) (n - (a + 1))))
+      ∙ ap (λ ys. seen ++ flat_map f ys) (sym (range_first a n below))
+
+  pub counted_all : n ≤ a → seen ≡ seen ++ flat_map f (range_with_len a (n - a))
+  counted_all past = sym (ap (λ ys. seen ++ flat_map f ys) (range_none a n past) ∙ append-nil seen)
+
+-- ** objects, and the sites of each
+
+module _ (l : Linking) (seen : List Need) (sites : List (Vec Site)) (i : ℕ) where
+  pub sites_walked : (own : Vec Site) → drop i sites ≡ own ∷ drop (i + 1) sites
+      → (seen ++ flat_map (site_needs l i) own.items) ++ site_needs_from l (i + 1) (map (λ v. v.items) (drop (i + 1) sites))
+      ≡ seen ++ site_needs_from l i (map (λ v. v.items) (drop i sites))
+  sites_walked own here =
+      append_assoc seen (flat_map (site_needs l i) own.items)
+      (site_needs_from l (i + 1) (map (λ v. v.items) (drop (i + 1) sites)))
+      ∙ ap (λ vs. seen ++ site_needs_from l i (map (λ v. v.items) vs)) (sym here)
+
+  pub sites_walked_all : length sites ≤ i → seen ≡ seen ++ site_needs_from l i (map (λ v. v.items) (drop i sites))
+  sites_walked_all past =
+      sym (ap (λ vs. seen ++ site_needs_from l i (map (λ v. v.items) vs)) (drop_of_length-le sites past)
+      ∙ append-nil seen)
+
+module _ (l : Linking) (seen : List Need) (objects : List (List ℕ)) (i : ℕ) where
+  pub objects_walked : (b : List ℕ) → drop i objects ≡ b ∷ drop (i + 1) objects
+      → (seen ++ object_needs l i b) ++ object_needs_from l (i + 1) (drop (i + 1) objects)
+      ≡ seen ++ object_needs_from l i (drop i objects)
+  objects_walked b here =
+      append_assoc seen (object_needs l i b) (object_needs_from l (i + 1) (drop (i + 1) objects))
+      ∙ ap (λ bs. seen ++ object_needs_from l i bs) (sym here)
+
+  pub objects_walked_all : length objects ≤ i → seen ≡ seen ++ object_needs_from l i (drop i objects)
+  objects_walked_all past =
+      sym (ap (λ bs. seen ++ object_needs_from l i bs) (drop_of_length-le objects past) ∙ append-nil seen)
+
+-- ** calls of the stub
+
+module _ {X : Type 0} (test : X → Bool) (xs : List X) (i : ℕ) where
+  -- one is found, one is not, and none is left
+  pub any_here : (x : X) → drop i xs ≡ x ∷ drop (i + 1) xs → test x ≡ true → list_any test (drop i xs) ≡ true
+  any_here x here is = ap (list_any test) here ∙ ap (λ b. b || list_any test (drop (i + 1) xs)) is
+
+  pub any_later : (x : X) → drop i xs ≡ x ∷ drop (i + 1) xs → test x ≡ false
+      → list_any test (drop (i + 1) xs) ≡ list_any test (drop i xs)
+  any_later x here is = sym (ap (list_any test) here ∙ ap (λ b. b || list_any test (drop (i + 1) xs)) is)
+
+  pub any_none : length xs ≤ i → list_any test (drop i xs) ≡ false
+  any_none past = ap (list_any test) (drop_of_length-le xs past)
+
+module _ (l : Linking) (sites : List (Vec Site)) (i : ℕ) where
+  abbrev calls_from : ℕ → List (Vec Site) → Bool
+  calls_from o vs = any_stub_call l o (map (λ v. v.items) vs)
+
+  pub stub_here : (own : Vec Site) → drop i sites ≡ own ∷ drop (i + 1) sites
+      → list_any (is_stub_call l i) own.items ≡ true → calls_from i (drop i sites) ≡ true
+  stub_here own here is =
+      ap (calls_from i) here
+      ∙ ap (λ b. if b then true else calls_from (i + 1) (drop (i + 1) sites)) is
+
+  pub stub_later : (own : Vec Site) → drop i sites ≡ own ∷ drop (i + 1) sites
+      → list_any (is_stub_call l i) own.items ≡ false
+      → calls_from (i + 1) (drop (i + 1) sites) ≡ calls_from i (drop i sites)
+  stub_later own here is =
+      sym (ap (calls_from i) here
+      ∙ ap (λ b. if b then true else calls_from (i + 1) (drop (i + 1) sites)) is)
+
+  pub stub_none : length sites ≤ i → calls_from i (drop i sites) ≡ false
+  stub_none past = ap (calls_from i) (drop_of_length-le sites past)
