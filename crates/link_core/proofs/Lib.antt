@@ -11,6 +11,7 @@ pub mod LoadsPlaces
 pub mod LoadsTables
 pub mod LoadsTls
 pub mod NeedsLemmas
+pub mod PlanLemmas
 pub mod Relatives
 pub mod RelativesApart
 pub mod RelativesFields

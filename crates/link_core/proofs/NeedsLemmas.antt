@@ -1,6 +1,5 @@
 -- Walks that add what code needs, or look for a call of the stub: what is left of them.
-use Rattle.std.proofs.Common.{◌≡◌, ◌+◌, ◌-◌, ◌<◌, ◌≤◌, ◌∙◌, ◌||◌, ℕ, Bool, true, false, List, [], ◌∷◌, ◌++◌, drop, length, map, refl, sym, ap, append_assoc, append-nil}
-use Rattle.std.specs.Global.{Vec}
+use Rattle.std.proofs.Common.{◌≡◌, ◌+◌, ◌-◌, ◌<◌, ◌≤◌, ◌∙◌, ◌||◌, ℕ, Bool, true, false, List, [], ◌∷◌, ◌++◌, drop, length, refl, sym, ap, append_assoc, append-nil}
 use Rattle.std.specs.Prelude.{if◌then◌else◌}
 use Rattle.std.specs.List.{flat_map, list_any, range_with_len}
 use Rattle.std.proofs.Math.ListN.{drop_of_length-le}
@@ -36,19 +35,17 @@ module _ {A : Type 0} (f : ℕ → List A) (seen : List A) (a n : ℕ) where
 
 -- ** objects, and the sites of each
 
-module _ (l : Linking) (seen : List Need) (sites : List (Vec Site)) (i : ℕ) where
-  pub sites_walked : (own : Vec Site) → drop i sites ≡ own ∷ drop (i + 1) sites
-      → (seen ++ flat_map (site_needs l i) own.items) ++ site_needs_from l (i + 1) (map (λ v. v.items) (drop (i + 1) sites))
-      ≡ seen ++ site_needs_from l i (map (λ v. v.items) (drop i sites))
+module _ (l : Linking) (seen : List Need) (sites : List (List Site)) (i : ℕ) where
+  pub sites_walked : (own : List Site) → drop i sites ≡ own ∷ drop (i + 1) sites
+      → (seen ++ flat_map (site_needs l i) own) ++ site_needs_from l (i + 1) (drop (i + 1) sites)
+      ≡ seen ++ site_needs_from l i (drop i sites)
   sites_walked own here =
-      append_assoc seen (flat_map (site_needs l i) own.items)
-      (site_needs_from l (i + 1) (map (λ v. v.items) (drop (i + 1) sites)))
-      ∙ ap (λ vs. seen ++ site_needs_from l i (map (λ v. v.items) vs)) (sym here)
+      append_assoc seen (flat_map (site_needs l i) own) (site_needs_from l (i + 1) (drop (i + 1) sites))
+      ∙ ap (λ vs. seen ++ site_needs_from l i vs) (sym here)
 
-  pub sites_walked_all : length sites ≤ i → seen ≡ seen ++ site_needs_from l i (map (λ v. v.items) (drop i sites))
+  pub sites_walked_all : length sites ≤ i → seen ≡ seen ++ site_needs_from l i (drop i sites)
   sites_walked_all past =
-      sym (ap (λ vs. seen ++ site_needs_from l i (map (λ v. v.items) vs)) (drop_of_length-le sites past)
-      ∙ append-nil seen)
+      sym (ap (λ vs. seen ++ site_needs_from l i vs) (drop_of_length-le sites past) ∙ append-nil seen)
 
 module _ (l : Linking) (seen : List Need) (objects : List (List ℕ)) (i : ℕ) where
   pub objects_walked : (b : List ℕ) → drop i objects ≡ b ∷ drop (i + 1) objects
@@ -76,22 +73,19 @@ module _ {X : Type 0} (test : X → Bool) (xs : List X) (i : ℕ) where
   pub any_none : length xs ≤ i → list_any test (drop i xs) ≡ false
   any_none past = ap (list_any test) (drop_of_length-le xs past)
 
-module _ (l : Linking) (sites : List (Vec Site)) (i : ℕ) where
-  abbrev calls_from : ℕ → List (Vec Site) → Bool
-  calls_from o vs = any_stub_call l o (map (λ v. v.items) vs)
-
-  pub stub_here : (own : Vec Site) → drop i sites ≡ own ∷ drop (i + 1) sites
-      → list_any (is_stub_call l i) own.items ≡ true → calls_from i (drop i sites) ≡ true
+module _ (l : Linking) (sites : List (List Site)) (i : ℕ) where
+  pub stub_here : (own : List Site) → drop i sites ≡ own ∷ drop (i + 1) sites
+      → list_any (is_stub_call l i) own ≡ true → any_stub_call l i (drop i sites) ≡ true
   stub_here own here is =
-      ap (calls_from i) here
-      ∙ ap (λ b. if b then true else calls_from (i + 1) (drop (i + 1) sites)) is
+      ap (any_stub_call l i) here
+      ∙ ap (λ b. if b then true else any_stub_call l (i + 1) (drop (i + 1) sites)) is
 
-  pub stub_later : (own : Vec Site) → drop i sites ≡ own ∷ drop (i + 1) sites
-      → list_any (is_stub_call l i) own.items ≡ false
-      → calls_from (i + 1) (drop (i + 1) sites) ≡ calls_from i (drop i sites)
+  pub stub_later : (own : List Site) → drop i sites ≡ own ∷ drop (i + 1) sites
+      → list_any (is_stub_call l i) own ≡ false
+      → any_stub_call l (i + 1) (drop (i + 1) sites) ≡ any_stub_call l i (drop i sites)
   stub_later own here is =
-      sym (ap (calls_from i) here
-      ∙ ap (λ b. if b then true else calls_from (i + 1) (drop (i + 1) sites)) is)
+      sym (ap (any_stub_call l i) here
+      ∙ ap (λ b. if b then true else any_stub_call l (i + 1) (drop (i + 1) sites)) is)
 
-  pub stub_none : length sites ≤ i → calls_from i (drop i sites) ≡ false
-  stub_none past = ap (calls_from i) (drop_of_length-le sites past)
+  pub stub_none : length sites ≤ i → any_stub_call l i (drop i sites) ≡ false
+  stub_none past = ap (any_stub_call l i) (drop_of_length-le sites past)

@@ -54,7 +54,7 @@ fn word_of_call<'a>(form: Form, choice: Choice) -> Option<Need<'a>>
 
 /// Adds a need, if there is one.
 fn push_some<'a>(need: Option<Need<'a>>, needs: &mut Vec<Need<'a>>) -> Result<(), AllocError>
-    ensures { OnOk result (needs.new.items ≡ needs.old.items ++ as_list {X = Need} need) }
+    ensures { OnOk result (needs.new.items ≡ needs.old.items ++ as_list need.entry) }
 {
     if let Some(need) = need {
         needs.push(need)?;
@@ -197,7 +197,6 @@ impl<'l, 's, 'a> Inputs<'l, 's, 'a> {
     }
 
     /// Adds what the sites of an object need.
-    #[tactic(auto, using(crate::proofs::NeedsLemmas::walked))]
     fn push_own_sites(&self, object: usize, own: &[Site], needs: &mut Vec<Need<'a>>) -> Result<(), AllocError>
         requires object { object < length self.now.objects }
         requires sites { All (IsUsable (object_at self.now.objects object)) own.now }

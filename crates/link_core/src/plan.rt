@@ -68,6 +68,13 @@ fn has_local(own: &[Site]) -> bool
     own.iter().any(|site| is_local(site.form))
 }
 
+/// Whether any has.
+fn any_local(sites: &[Vec<Site>]) -> bool
+    ensures { result ≡ list_any (λ own. list_any (λ (site : Site). is_local site.form) own.items) sites.now }
+{
+    sites.iter().any(|own| has_local(own.as_slice()))
+}
+
 impl<'l, 's, 'a> Inputs<'l, 's, 'a> {
     /// Whether sequences are rewritten: in a program, where it is asked for.
     pub fn is_rewriting(&self) -> bool
@@ -76,12 +83,12 @@ impl<'l, 's, 'a> Inputs<'l, 's, 'a> {
         !self.kind.is_module() && self.relax
     }
 
-    #[tactic(auto, unfolding(crate::specs::Values::counts_from_thread_pointer))]
     /// Whether local dynamic code is rewritten, so that offsets count from the thread pointer.
+    #[tactic(auto, unfolding(crate::specs::Values::counts_from_thread_pointer))]
     fn counts_from_thread_pointer(&self) -> bool
         ensures { result ≡ counts_from_thread_pointer self.now }
     {
-        self.is_rewriting() && self.sites.iter().any(|own| has_local(own.as_slice()))
+        self.is_rewriting() && any_local(self.sites)
     }
 
     /// Whether a site calls the stub.
@@ -162,7 +169,7 @@ fn goes(bound: Option<Binding>, kind: RelocationKind) -> bool
 impl<'i, 'l, 's, 'a> Plan<'i, 'l, 's, 'a> {
     /// The address of the entry of a need; 0 where there is none.
     pub fn need_address(&self, need: Option<Need<'a>>) -> u64
-        ensures { result ≡ need_address self.now need }
+        ensures { result ≡ need_address self.now need.entry }
     {
         let Some(need) = need else {
             return 0;
@@ -203,10 +210,11 @@ impl<'i, 'l, 's, 'a> Plan<'i, 'l, 's, 'a> {
         requires within { IfSome bound (IsBindingWithin self.now.objects) }
         ensures { result ≡ other_number self.now object relocation.now relocation.now.kind }
     {
+        let inputs = self.inputs;
         match relocation.kind {
             RelocationKind::DtpOff32 if !self.counts_from_thread_pointer => 0,
-            RelocationKind::DtpOff32 | RelocationKind::TpOff32 => self.inputs.block_offset,
-            kind => self.need_address(self.inputs.need(object, relocation.symbol, bound, kind)),
+            RelocationKind::DtpOff32 | RelocationKind::TpOff32 => inputs.block_offset,
+            kind => self.need_address(inputs.need(object, relocation.symbol, bound, kind)),
         }
     }
 

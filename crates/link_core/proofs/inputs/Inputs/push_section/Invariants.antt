@@ -5,5 +5,5 @@ use Rattle.link_core.proofs.inputs.Inputs.push_section.Given as goal
 
 abbrev pub invariant-loop-relocation : goal.invariant-loop-relocation
 invariant-loop-relocation l =
-    l.needs.items ++ flat_map (address_needs l.self l.object) (drop l.relocation-index l.fields.items)
-    ≡ l.fn.needs.items ++ flat_map (address_needs l.self l.object) l.fields.items
+    l.needs.items ++ flat_map (address_needs l.self l.object) (drop l.relocation-index l.relocation-items)
+    ≡ l.fn.needs.items ++ flat_map (address_needs l.self l.object) l.relocation-items
