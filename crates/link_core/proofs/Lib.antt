@@ -1,7 +1,19 @@
 pub mod Few
+pub mod FewEntries
+pub mod FewLists
+pub mod FewSites
 pub mod GotRelocations
+pub mod GotRelocationsNamed
+pub mod GotRelocationsNeeds
+pub mod GotRelocationsRows
+pub mod GotRelocationsShown
+pub mod GotRelocationsSites
 pub mod InputsLemmas
 pub mod Lengths
+pub mod LengthsInside
+pub mod LengthsKept
+pub mod LengthsPlaces
+pub mod LengthsRaw
 pub mod Linkable
 pub mod Loads
 pub mod LoadsChains
@@ -17,6 +29,6 @@ pub mod RelativesApart
 pub mod RelativesFields
 pub mod RelativesParts
 pub mod RelativesTables
-pub mod Symbols
 pub mod SortingLaws
+pub mod Symbols
 pub mod UsableSites
