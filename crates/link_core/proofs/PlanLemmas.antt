@@ -1,15 +1,25 @@
 -- The sites of each object are usable, and what the plan of a table is.
-use Rattle.std.proofs.Common.{◌≡◌, ◌<◌, ◌≤◌, ◌+◌, ◌∙◌, ◌&&◌, ◌||◌, ℕ, Bool, true, List, [], ◌∷◌, drop, length, map, refl, sym, ap, subst, arith}
+use Rattle.std.proofs.Common.{◌≡◌, ◌≢◌, ◌^◌, ◌<◌, ◌≤◌, ◌+◌, ◌∙◌, ◌&&◌, ◌||◌, ℕ, Bool, true, List, [], ◌∷◌, drop, length, map, refl, sym, ap, subst, arith}
 use Rattle.std.proofs.lemmas.List.{length-map}
 use Rattle.std.specs.Global.{Vec}
 use Rattle.std.specs.Prelude.{slice_index_or}
 use Rattle.std.specs.List.{All, list_any}
+use Rattle.elf_records.specs.declared.relocation.RelocationKind.{RelocationKind}
+use Rattle.elf_records.specs.declared.relocation.RelocationKind.TheVariants.{DtpOff32, TpOff32}
+use Rattle.elf_object.specs.declared.relocation.Relocation.{Relocation}
+use Rattle.got_pairs.specs.Needs.{total_size}
+use Rattle.got_pairs.specs.Plans.{Table}
+use Rattle.section_file.proofs.Bounds.{base_small}
 use Rattle.sequence_match.specs.declared.places.Site.{Site}
+use Rattle.tls_layout.specs.Places.{room, zero_data}
+use Rattle.tls_layout.proofs.Together.{page_limit}
 use Rattle.dynamic_symbols.proofs.Adding.{drop_at, own_sites}
-use Rattle.link_core.specs.Linking.{Linking, object, sites_at}
-use Rattle.link_core.specs.Faults.{IsGiven}
+use Rattle.link_core.specs.Linking.{Linking, layout, object, sites_at}
+use Rattle.link_core.specs.Faults.{FitsLimits, IsGiven}
 use Rattle.link_core.specs.Usable.{IsUsable}
-use Rattle.link_core.specs.Values.{counts_from_thread_pointer, is_local, is_rewriting}
+use Rattle.link_core.specs.Values.{counts_from_thread_pointer, is_local, is_rewriting, other_number}
+use Rattle.link_core.specs.Needs.{got_size, got_start, need_address, relocation_need, table}
+use Rattle.link_core.proofs.Few.{few}
 use Rattle.link_core.proofs.UsableSites.{usable}
 
 -- a test of what is made of each
@@ -28,7 +38,7 @@ counts_then l any rewriting is =
 -- the sites that code holds
 module _ (l : Linking) (sites : List (Vec Site)) (are : map (λ own. own.items) sites ≡ l.sites) where
   same_length : length sites ≡ length l.sites
-  same_length = sym (length-map (λ own. own.items) sites) ∙ ap length are
+  same_length = sym (length-map sites (λ own. own.items)) ∙ ap length are
 
   pub none_left : (o : ℕ) → length sites ≤ o → length l.sites ≤ o
   none_left o past = omega (arith, same_length)
@@ -48,3 +58,32 @@ module _ (l : Linking) (sites : List (Vec Site)) (are : map (λ own. own.items) 
 
     pub own_usable : IsGiven l → All (IsUsable (object l o)) own.items
     own_usable given = subst (All (IsUsable (object l o))) own_are (usable l o given (own_there given))
+
+-- ** the table
+
+room_small : (l : Linking) → FitsLimits l → got_start l ≤ 2 ^ 22 + 2 ^ 24
+unfolding room
+room_small l limits =
+    let p = layout l in
+    let span = limits.lawful.small_span in
+    let low = base_small p.kind in
+    let page = page_limit p.kind (zero_data p.kind p.sections).end (omega arith) in
+    omega arith
+
+-- the table ends at a small address
+pub table_small : (l : Linking) → IsGiven l → FitsLimits l → got_start l + got_size l ≤ 2 ^ 25
+table_small l given limits = omega (arith, room_small l limits, (few l given limits).got)
+
+-- so does each entry
+pub entry_small : (l : Linking) (got : Table) (start at size : ℕ) → IsGiven l → FitsLimits l → got ≡ table l
+    → start ≡ got_start l → at + size ≤ total_size got.entries → start + at ≤ 2 ^ 25
+entry_small l got start at size given limits is begins inside =
+    let same : total_size got.entries ≡ got_size l = ap (λ (t : Table). total_size t.entries) is in
+    omega (arith, table_small l given limits, same, begins, inside)
+
+-- what is neither of the two offsets reaches an entry
+pub other_default : (l : Linking) (o : ℕ) (r : Relocation) (kind : RelocationKind) → kind ≢ DtpOff32 → kind ≢ TpOff32
+    → need_address l (relocation_need l o r) ≡ other_number l o r kind
+other_default l o r DtpOff32 first second = absurd (first refl)
+other_default l o r TpOff32 first second = absurd (second refl)
+other_default l o r kind first second = refl

@@ -1,7 +1,9 @@
 //! What code needs of the global offset table.
 
-ghost use Rattle.std.specs.Prelude.{◌≡◌, ◌+◌, ◌<◌, ◌≤◌, ◌^◌, ◌++◌, ◌&&◌, [], ◌∷◌, IfOk, IfSome, OnOk, length, option_and_then, if◌then◌else◌};
+ghost use Rattle.std.specs.Prelude.{◌≡◌, ◌+◌, ◌<◌, ◌≤◌, ◌^◌, ◌++◌, ◌&&◌, [], ◌∷◌, IfOk, IfSome, OnOk, filter, length, option_and_then, if◌then◌else◌};
 ghost use Rattle.std.specs.List.{All, flat_map};
+ghost use Rattle.elf_object.specs.Lawful.{IsLawful};
+ghost use Rattle.elf_object.specs.Lent.{relocations};
 ghost use Rattle.elf_object.specs.Object.{section_count};
 ghost use Rattle.elf_object.specs.Parts.{symbol_count};
 ghost use Rattle.tls_symbols.specs.Bindings.{IsBindingWithin, object_at};
@@ -298,14 +300,15 @@ impl<'l, 's, 'a> Inputs<'l, 's, 'a> {
 }
 
 /// The address fields of a section, in the order of the file.
-fn found_fields(alloc: Global, object: &Object, section: u32) -> Result<Vec<Relocation>, AllocError> {
-    let mut fields = Vec::new(alloc);
-    for relocation in object.relocs(section) {
-        if is_address_kind(relocation.kind) {
-            fields.push(relocation)?;
-        }
-    }
-    Ok(fields)
+fn found_fields(alloc: Global, object: &Object, section: u32) -> Result<Vec<Relocation>, AllocError>
+    ensures fields { IfOk result (λ fields.
+        fields.items ≡ filter (λ (r : Relocation). is_address_kind r.kind) (relocations object.now section)) }
+    ensures lawful { All (IsLawful object.now section) (relocations object.now section) }
+{
+    object
+        .relocs(section)
+        .filter(|relocation| is_address_kind(relocation.kind))
+        .collect(alloc)
 }
 
 /// The address fields of a section, by their places.

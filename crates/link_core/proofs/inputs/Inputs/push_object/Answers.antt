@@ -8,7 +8,13 @@ use Rattle.link_core.proofs.inputs.Inputs.push_object.Goals as goal
 
 pub loop-section-init : goal.loop-section-init
 unfolding object_needs
-loop-section-init c = refl
+loop-section-init c =
+    let l = c.args.self.now in
+    let o = c.args.object in
+    let b = object_at l.objects o in
+    let n = section_count b in
+    let all : n - 0 ≡ n = omega arith in
+    ap (λ m. c.args.needs.now.items ++ flat_map (section_needs l o b) (range_with_len 0 m)) all
 
 pub loop-section-preserved : goal.loop-section-preserved
 loop-section-preserved c =
