@@ -1,13 +1,19 @@
 -- Walks that add what code needs, or look for a call of the stub: what is left of them.
-use Rattle.std.proofs.Common.{◌≡◌, ◌+◌, ◌-◌, ◌<◌, ◌≤◌, ◌∙◌, ◌||◌, ℕ, Bool, true, false, List, [], ◌∷◌, ◌++◌, drop, length, refl, sym, ap, append_assoc, append-nil}
-use Rattle.std.specs.Prelude.{if◌then◌else◌}
-use Rattle.std.specs.List.{flat_map, list_any, range_with_len}
+use Rattle.std.proofs.Common.{◌≡◌, ◌≢◌, ◌+◌, ◌-◌, ◌<◌, ◌≤◌, ◌∙◌, ◌||◌, ℕ, Bool, true, false, List, [], ◌∷◌, ◌++◌, drop, filter, length, refl, sym, ap, append_assoc, append-nil}
+use Rattle.std.specs.Prelude.{slice_index_or, if◌then◌else◌}
+use Rattle.std.specs.List.{All, flat_map, list_any, range_with_len}
 use Rattle.std.proofs.Math.ListN.{drop_of_length-le}
+use Rattle.std.proofs.lemmas.List.Elements.{All-filter, filter_passes}
+use Rattle.elf_records.specs.declared.relocation.RelocationKind.{RelocationKind}
+use Rattle.elf_records.specs.declared.relocation.RelocationKind.TheVariants.{Nothing}
+use Rattle.elf_object.specs.declared.relocation.Relocation.{Relocation}
+use Rattle.elf_object.specs.Lawful.{IsLawful}
+use Rattle.elf_object.specs.Parts.{symbol_count}
 use Rattle.got_pairs.specs.declared.need.Need.{Need}
 use Rattle.sequence_match.specs.declared.places.Site.{Site}
 use Rattle.tls_symbols.proofs.Search.{range_first, range_none}
 use Rattle.link_core.specs.Linking.{Linking}
-use Rattle.link_core.specs.Needs.{any_stub_call, is_stub_call, object_needs, object_needs_from, site_needs, site_needs_from}
+use Rattle.link_core.specs.Needs.{any_stub_call, is_address_kind, is_stub_call, object_needs, object_needs_from, site_needs, site_needs_from}
 
 -- ** elements of a list
 
@@ -89,3 +95,19 @@ module _ (l : Linking) (sites : List (List Site)) (i : ℕ) where
 
   pub stub_none : length sites ≤ i → any_stub_call l i (drop i sites) ≡ false
   stub_none past = ap (any_stub_call l i) (drop_of_length-le sites past)
+
+-- ** address fields
+
+-- what is none of these types is of some type
+some_type : (kind : RelocationKind) → is_address_kind kind ≡ true → kind ≢ Nothing
+some_type Nothing is = λ _. absurd (cc)
+some_type kind is = λ nothing. absurd (cc)
+
+-- their symbols are the object's
+pub fields_symbols : (b : List ℕ) (t : ℕ) (xs : List Relocation) → All (IsLawful b t) xs
+    → All (λ r. r.symbol < symbol_count b) (filter (λ (r : Relocation). is_address_kind r.kind) xs)
+fields_symbols b t xs lawful = λ k d h.
+    let test : Relocation → Bool = λ r. is_address_kind r.kind in
+    let r = slice_index_or (filter test xs) k d in
+    let law : IsLawful b t r = All-filter test (IsLawful b t) xs lawful k d h in
+    (law.symbol (some_type r.kind (filter_passes test xs k d h))).1

@@ -7,18 +7,20 @@ use Rattle.std.specs.List.{All, list_any}
 use Rattle.elf_records.specs.declared.relocation.RelocationKind.{RelocationKind}
 use Rattle.elf_records.specs.declared.relocation.RelocationKind.TheVariants.{DtpOff32, TpOff32}
 use Rattle.elf_object.specs.declared.relocation.Relocation.{Relocation}
-use Rattle.got_pairs.specs.Needs.{total_size}
+use Rattle.got_pairs.specs.declared.need.Need.{Need}
+use Rattle.got_pairs.specs.Needs.{entries as entries_of, total_size}
 use Rattle.got_pairs.specs.Plans.{Table}
+use Rattle.link_faults.specs.declared.image_kind.ImageKind.{ImageKind}
 use Rattle.section_file.proofs.Bounds.{base_small}
 use Rattle.sequence_match.specs.declared.places.Site.{Site}
 use Rattle.tls_layout.specs.Places.{room, zero_data}
 use Rattle.tls_layout.proofs.Together.{page_limit}
 use Rattle.dynamic_symbols.proofs.Adding.{drop_at, own_sites}
-use Rattle.link_core.specs.Linking.{Linking, layout, object, sites_at}
+use Rattle.link_core.specs.Linking.{Linking, block_offset, layout, object, sites_at}
 use Rattle.link_core.specs.Faults.{FitsLimits, IsGiven}
 use Rattle.link_core.specs.Usable.{IsUsable}
 use Rattle.link_core.specs.Values.{counts_from_thread_pointer, is_local, is_rewriting, other_number}
-use Rattle.link_core.specs.Needs.{got_size, got_start, need_address, relocation_need, table}
+use Rattle.link_core.specs.Needs.{entries, got_size, got_start, needs, need_address, relocation_need, table}
 use Rattle.link_core.proofs.Few.{few}
 use Rattle.link_core.proofs.UsableSites.{usable}
 
@@ -87,3 +89,20 @@ pub other_default : (l : Linking) (o : ℕ) (r : Relocation) (kind : RelocationK
 other_default l o r DtpOff32 first second = absurd (first refl)
 other_default l o r TpOff32 first second = absurd (second refl)
 other_default l o r kind first second = refl
+
+-- a table that is laid out from the needs of a link is its own
+module _ (l : Linking) (found : List Need) (got : Table) (start : ℕ) (needs_are : found ≡ needs l) where
+  pub plan_is : (kind : ImageKind) (distance : ℕ) → kind ≡ l.kind → distance ≡ block_offset l
+      → got ≡ record { kind = kind; block_offset = distance; entries = entries_of found } → got ≡ table l
+  unfolding entries
+  plan_is kind distance of_kind below is =
+      let laid : ImageKind → ℕ → List Need → Table =
+          λ k d ns. record { kind = k; block_offset = d; entries = entries_of ns } in
+      is ∙ ap (λ k. laid k distance found) of_kind ∙ ap (λ d. laid l.kind d found) below
+      ∙ ap (laid l.kind (block_offset l)) needs_are
+
+  -- and it ends where that of the link does
+  pub ends_at : (size : ℕ) → got ≡ table l → start ≡ got_start l → size ≡ total_size got.entries
+      → start + size ≡ got_start l + got_size l
+  ends_at size is begins of_size =
+      ap (λ n. n + size) begins ∙ ap (λ n. got_start l + n) (of_size ∙ ap (λ (t : Table). total_size t.entries) is)
