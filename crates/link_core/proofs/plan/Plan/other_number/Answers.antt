@@ -1,5 +1,4 @@
-use Rattle.std.proofs.Common.{◌∙◌, sym, ap}
-use Rattle.link_core.specs.Linking.{binding}
+use Rattle.std.proofs.Common.{◌∙◌, ap}
 use Rattle.link_core.specs.Needs.{need_address, need_by, relocation_need}
 use Rattle.link_core.proofs.PlanLemmas.{other_default}
 use Rattle.link_core.proofs.plan.Plan.other_number.Goals as goal
@@ -13,7 +12,6 @@ returns-in_default c =
     c.need_address.ensures
     ∙ ap (need_address l) (
     c.need.ensures
-    ∙ ap (λ m. need_by m o r.symbol c.args.bound c.in_default.kind) c.self.view_is
-    ∙ ap (λ bound. need_by l o r.symbol bound c.in_default.kind) c.requires.bound
-    ∙ ap (need_by l o r.symbol (binding l o r)) (sym c.in_default.kind-is))
+    ∙ ap (λ m. need_by m o r.symbol c.args.bound r.kind) c.self.view_is
+    ∙ ap (λ bound. need_by l o r.symbol bound r.kind) c.requires.bound)
     ∙ other_default l o r r.kind c.in_default.not-DtpOff32 c.in_default.not-TpOff32
