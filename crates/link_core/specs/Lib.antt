@@ -2,7 +2,9 @@ pub mod Bytes
 pub mod Dynamic
 pub mod Faults
 pub mod Images
+pub mod Laws
 pub mod Linking
+pub mod Meant
 pub mod Needs
 pub mod Overflows
 pub mod Plans

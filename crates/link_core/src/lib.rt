@@ -4,6 +4,7 @@
 mod draft;
 mod file;
 mod inputs;
+pub mod laws;
 mod linked;
 mod linking;
 mod needs;
