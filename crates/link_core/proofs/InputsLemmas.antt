@@ -1,18 +1,17 @@
 -- Sections that have a place are kept, and what lies in them is small.
-use Rattle.std.proofs.Common.{◌≡◌, ◌+◌, ◌<◌, ◌≤◌, ◌^◌, ℕ, List, length, Option, Some, None, refl, sym, ap, subst, ◌∙◌, arith}
-use Rattle.std.specs.Prelude.{IsSome, unwrap_or}
+use Rattle.std.proofs.Common.{◌≡◌, ◌<◌, ◌≤◌, ◌^◌, ℕ, List, length, Option, Some, None, refl, sym, ap, subst, ◌∙◌, arith}
+use Rattle.std.specs.Prelude.{IsSome}
 use Rattle.object_faults.specs.declared.class.SectionClass.{SectionClass}
-use Rattle.object_faults.specs.declared.class.SectionClass.TheVariants.{Executable, ReadOnly, Tls, Writable}
 use Rattle.elf_object.specs.declared.part.SymbolPart.{SymbolPart}
 use Rattle.elf_object.specs.declared.symbol.SymbolPlace.TheVariants.{InSection}
 use Rattle.elf_object.specs.Faults.{IsObject}
 use Rattle.elf_object.specs.Lawful.{IsPlaced}
 use Rattle.elf_object.specs.LawsOfSections.{kept_as}
-use Rattle.elf_object.specs.Lent.{section_class, section_size, symbol_place, symbol_size, symbol_value, IsSymbolPart}
+use Rattle.elf_object.specs.Lent.{section_class, symbol_place, symbol_value, IsSymbolPart}
 use Rattle.link_faults.specs.declared.image_kind.ImageKind.{ImageKind}
 use Rattle.section_file.proofs.Bounds.{address_bounds}
 use Rattle.tls_layout.specs.declared.sections.Section.{Section}
-use Rattle.tls_layout.specs.Places.{address_at, address_of, class_of, offset_at, offset_by, section_named, tls_offset_of, IsLawful}
+use Rattle.tls_layout.specs.Places.{address_at, address_of, class_of, offset_at, offset_by, tls_offset_of, IsLawful}
 use Rattle.tls_layout.specs.Sections.{section_at, Layout, layout_of}
 use Rattle.tls_layout.proofs.LawsOfPlaces.{found_at, placed}
 use Rattle.tls_layout.proofs.LawsOfSections.{finds_sections}

@@ -1,5 +1,6 @@
 -- Walks that add what code needs, or look for a call of the stub: what is left of them.
-use Rattle.std.proofs.Common.{◌≡◌, ◌≢◌, ◌+◌, ◌-◌, ◌<◌, ◌≤◌, ◌∙◌, ◌||◌, ℕ, Bool, true, false, List, [], ◌∷◌, ◌++◌, drop, filter, length, refl, sym, ap, append_assoc, append-nil}
+use Rattle.std.proofs.Common.{◌≡◌, ◌≢◌, ◌+◌, ◌-◌, ◌<◌, ◌≤◌, ◌∙◌, ◌||◌, ℕ, Bool, true, false, List, ◌∷◌, ◌++◌, drop}
+use Rattle.std.proofs.Common.{filter, length, sym, ap, append_assoc, append-nil}
 use Rattle.std.specs.Prelude.{slice_index_or, if◌then◌else◌}
 use Rattle.std.specs.List.{All, flat_map, list_any, range_with_len}
 use Rattle.std.proofs.Math.ListN.{drop_of_length-le}
@@ -13,7 +14,8 @@ use Rattle.got_pairs.specs.declared.need.Need.{Need}
 use Rattle.sequence_match.specs.declared.places.Site.{Site}
 use Rattle.tls_symbols.proofs.Search.{range_first, range_none}
 use Rattle.link_core.specs.Linking.{Linking}
-use Rattle.link_core.specs.Needs.{any_stub_call, is_address_kind, is_stub_call, object_needs, object_needs_from, site_needs, site_needs_from}
+use Rattle.link_core.specs.Needs.{any_stub_call, is_address_kind, is_stub_call, object_needs, object_needs_from}
+use Rattle.link_core.specs.Needs.{site_needs, site_needs_from}
 
 -- ** elements of a list
 
@@ -31,7 +33,8 @@ module _ {X A : Type 0} (f : X → List A) (seen : List A) (xs : List X) (i : �
 
 module _ {A : Type 0} (f : ℕ → List A) (seen : List A) (a n : ℕ) where
   pub counted : a < n
-      → (seen ++ f a) ++ flat_map f (range_with_len (a + 1) (n - (a + 1))) ≡ seen ++ flat_map f (range_with_len a (n - a))
+      → (seen ++ f a) ++ flat_map f (range_with_len (a + 1) (n - (a + 1)))
+      ≡ seen ++ flat_map f (range_with_len a (n - a))
   counted below =
       append_assoc seen (f a) (flat_map f (range_with_len (a + 1) (n - (a + 1))))
       ∙ ap (λ ys. seen ++ flat_map f ys) (sym (range_first a n below))

@@ -1,5 +1,6 @@
 -- The sites of each object are usable, and what the plan of a table is.
-use Rattle.std.proofs.Common.{◌≡◌, ◌≢◌, ◌^◌, ◌<◌, ◌≤◌, ◌+◌, ◌∙◌, ◌&&◌, ◌||◌, ℕ, Bool, true, List, [], ◌∷◌, drop, length, map, refl, sym, ap, subst, arith}
+use Rattle.std.proofs.Common.{◌≡◌, ◌≢◌, ◌^◌, ◌<◌, ◌≤◌, ◌+◌, ◌∙◌, ◌&&◌, ◌||◌, ℕ, Bool, true, List, [], ◌∷◌, drop}
+use Rattle.std.proofs.Common.{length, map, refl, sym, ap, subst, arith}
 use Rattle.std.proofs.lemmas.List.{length-map}
 use Rattle.std.specs.Global.{Vec}
 use Rattle.std.specs.Prelude.{slice_index_or}
@@ -97,7 +98,7 @@ module _ (l : Linking) (found : List Need) (got : Table) (start : ℕ) (needs_ar
   unfolding entries
   plan_is kind distance of_kind below is =
       let laid : ImageKind → ℕ → List Need → Table =
-          λ k d ns. record { kind = k; block_offset = d; entries = entries_of ns } in
+      λ k d ns. record { kind = k; block_offset = d; entries = entries_of ns } in
       is ∙ ap (λ k. laid k distance found) of_kind ∙ ap (λ d. laid l.kind d found) below
       ∙ ap (laid l.kind (block_offset l)) needs_are
 

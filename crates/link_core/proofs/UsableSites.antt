@@ -1,19 +1,18 @@
 -- What is asked of one site holds of all sites of a link's objects.
-use Rattle.std.proofs.Common.{◌≡◌, ◌+◌, ◌/◌, ◌%◌, ◌*◌, ◌<◌, ◌≤◌, ◌^◌, ◌&&◌, ◌||◌, ◌==◌, ℕ, Bool, true, false, List, [], length, Option, Some, refl, sym, ap, subst, arith}
-use Rattle.std.proofs.lemmas.Grind.{common_steps}
+use Rattle.std.proofs.Common.{◌≡◌, ◌%◌, ◌<◌, ◌≤◌, ◌^◌, ◌&&◌, ◌==◌, ℕ, List, [], length, Option, Some, refl, arith}
 use Rattle.std.proofs.lemmas.Bool.Decides.{nat_tests}
 use Rattle.std.specs.List.{All}
-use Rattle.std.specs.Prelude.{IsTrue, nat_lt, slice_index, slice_index_or, if◌then◌else◌}
+use Rattle.std.specs.Prelude.{IsTrue, nat_lt, slice_index_or}
 use Rattle.object_faults.specs.declared.class.SectionClass.{SectionClass}
 use Rattle.object_faults.specs.declared.class.SectionClass.TheVariants.{Executable}
 use Rattle.elf_object.specs.Faults.{IsObject}
 use Rattle.elf_object.specs.LawsOfSections.{kept_as}
-use Rattle.elf_object.specs.Lent.{relocations, section_bytes, section_class, section_size}
+use Rattle.elf_object.specs.Lent.{section_bytes, section_class, section_size}
 use Rattle.sequence_match.specs.declared.forms.Form.{Form}
-use Rattle.sequence_match.specs.declared.forms.Form.TheVariants.{Gd, Ld, IeMov, IeAdd, GdInd, LdInd, DescLea, DescCall}
+use Rattle.sequence_match.specs.declared.forms.Form.TheVariants.{IeMov, IeAdd}
 use Rattle.sequence_match.specs.declared.forms.Cell.TheVariants.{ModRm}
 use Rattle.sequence_match.specs.declared.places.Site.{Site}
-use Rattle.sequence_match.specs.Faults.{bytes_of_code, code_of, AreSites, IsGetter, IsSite}
+use Rattle.sequence_match.specs.Faults.{bytes_of_code, code_of, AreSites, IsSite}
 use Rattle.sequence_match.specs.Forms.{register, register_of, row}
 use Rattle.sequence_match.specs.Sites.{IsSpelled}
 use Rattle.dynamic_symbols.proofs.OfSites.{sites_symbols}
@@ -62,4 +61,5 @@ usable_site b sites object are = λ k d h.
     }
 
 pub usable : (l : Linking) (o : ℕ) → IsGiven l → o < length l.objects → All (IsUsable (object l o)) (sites_at l o)
-usable l o given there = usable_site (object l o) (sites_at l o) (given.are_objects o [] there) (given.are_sites o there)
+usable l o given there =
+    usable_site (object l o) (sites_at l o) (given.are_objects o [] there) (given.are_sites o there)

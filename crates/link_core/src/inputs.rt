@@ -53,15 +53,15 @@ impl<'l, 's, 'a> Model for Inputs<'l, 's, 'a> {
     } };
 
     ghost invariant = { λ inputs. AreInputs
-      (record {
-        kind = inputs.kind;
-        objects = inputs.objects.now;
-        startup = inputs.bindings.startup;
-        sites = map (λ own. own.items) inputs.sites.now;
-        relax = inputs.relax;
-      })
-      inputs.bindings.objects inputs.placement inputs.block_offset
-      inputs.own.items (map (λ name. name.now) inputs.imports.keys) };
+        (record {
+          kind = inputs.kind;
+          objects = inputs.objects.now;
+          startup = inputs.bindings.startup;
+          sites = map (λ own. own.items) inputs.sites.now;
+          relax = inputs.relax;
+        })
+        inputs.bindings.objects inputs.placement inputs.block_offset
+        inputs.own.items (map (λ name. name.now) inputs.imports.keys) };
 }
 
 impl<'l, 's, 'a> Inputs<'l, 's, 'a> {

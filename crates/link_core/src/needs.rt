@@ -1,15 +1,17 @@
 //! What code needs of the global offset table.
 
-ghost use Rattle.std.specs.Prelude.{◌≡◌, ◌+◌, ◌<◌, ◌≤◌, ◌^◌, ◌++◌, ◌&&◌, [], ◌∷◌, IfOk, IfSome, OnOk, filter, length, option_and_then, if◌then◌else◌};
+ghost use Rattle.std.specs.Prelude.{◌≡◌, ◌+◌, ◌<◌, ◌≤◌, ◌^◌, ◌++◌, ◌&&◌, [], ◌∷◌, IfOk, IfSome, OnOk, filter, length};
+ghost use Rattle.std.specs.Prelude.{option_and_then, if◌then◌else◌};
 ghost use Rattle.std.specs.List.{All, flat_map};
 ghost use Rattle.elf_object.specs.Lawful.{IsLawful};
 ghost use Rattle.elf_object.specs.Lent.{relocations};
-ghost use Rattle.elf_object.specs.Object.{section_count};
 ghost use Rattle.elf_object.specs.Parts.{symbol_count};
 ghost use Rattle.tls_symbols.specs.Bindings.{IsBindingWithin, object_at};
-ghost use Rattle.link_core.specs.Linking.{binding, choice};
-ghost use Rattle.link_core.specs.Needs.{address_fields, address_need, address_needs, as_list, calls, calls_stub, is_address_kind};
-ghost use Rattle.link_core.specs.Needs.{is_kept, need_by, needs, new_relocation, object_needs, object_needs_from, own_word, reaching, relocation_need};
+ghost use Rattle.link_core.specs.Linking.{choice};
+ghost use Rattle.link_core.specs.Needs.{address_fields, address_need, address_needs, as_list, calls, calls_stub};
+ghost use Rattle.link_core.specs.Needs.{is_address_kind};
+ghost use Rattle.link_core.specs.Needs.{is_kept, need_by, needs, new_relocation, object_needs, object_needs_from};
+ghost use Rattle.link_core.specs.Needs.{own_word, reaching, relocation_need};
 ghost use Rattle.link_core.specs.Needs.{section_needs, site_needs, site_needs_from, target_by};
 ghost use Rattle.link_core.specs.Usable.{IsUsable};
 
@@ -163,9 +165,8 @@ impl<'l, 's, 'a> Inputs<'l, 's, 'a> {
                 Some(target) => Some(Need::Descriptor(target)),
                 None => None,
             },
-            RelocationKind::GotPcRel
-            | RelocationKind::GotPcRelX
-            | RelocationKind::RexGotPcRelX => self.address_need(bound),
+            RelocationKind::GotPcRel | RelocationKind::GotPcRelX | RelocationKind::RexGotPcRelX =>
+                self.address_need(bound),
             _ => None,
         }
     }
@@ -188,7 +189,12 @@ impl<'l, 's, 'a> Inputs<'l, 's, 'a> {
 
     /// Adds what a site needs.
     #[tactic(auto, unfolding(crate::specs::Needs::site_needs))]
-    fn push_site(&self, object: usize, site: &Site, needs: &mut Vec<Need<'a>>) -> Result<(), AllocError>
+    fn push_site(
+        &self,
+        object: usize,
+        site: &Site,
+        needs: &mut Vec<Need<'a>>,
+    ) -> Result<(), AllocError>
         requires object { object < length self.now.objects }
         requires site { IsUsable (object_at self.now.objects object) site.now }
         ensures { OnOk result (needs.new.items ≡ needs.old.items ++ site_needs self.now object site.now) }
@@ -199,7 +205,12 @@ impl<'l, 's, 'a> Inputs<'l, 's, 'a> {
     }
 
     /// Adds what the sites of an object need.
-    fn push_own_sites(&self, object: usize, own: &[Site], needs: &mut Vec<Need<'a>>) -> Result<(), AllocError>
+    fn push_own_sites(
+        &self,
+        object: usize,
+        own: &[Site],
+        needs: &mut Vec<Need<'a>>,
+    ) -> Result<(), AllocError>
         requires object { object < length self.now.objects }
         requires sites { All (IsUsable (object_at self.now.objects object)) own.now }
         ensures { OnOk result
@@ -237,7 +248,12 @@ impl<'l, 's, 'a> Inputs<'l, 's, 'a> {
     }
 
     /// Adds what an address field needs.
-    fn push_field(&self, object: usize, relocation: &Relocation, needs: &mut Vec<Need<'a>>) -> Result<(), AllocError>
+    fn push_field(
+        &self,
+        object: usize,
+        relocation: &Relocation,
+        needs: &mut Vec<Need<'a>>,
+    ) -> Result<(), AllocError>
         requires object { object < length self.now.objects }
         requires symbol { relocation.now.symbol < symbol_count (object_at self.now.objects object) }
         ensures { OnOk result (needs.new.items ≡ needs.old.items ++ address_needs self.now object relocation.now) }
@@ -266,7 +282,12 @@ impl<'l, 's, 'a> Inputs<'l, 's, 'a> {
     }
 
     /// Adds what the address fields of an object need.
-    fn push_object(&self, alloc: Global, object: usize, needs: &mut Vec<Need<'a>>) -> Result<(), AllocError>
+    fn push_object(
+        &self,
+        alloc: Global,
+        object: usize,
+        needs: &mut Vec<Need<'a>>,
+    ) -> Result<(), AllocError>
         requires { object < length self.now.objects }
         ensures { OnOk result (needs.new.items
             ≡ needs.old.items ++ object_needs self.now object (object_at self.now.objects object)) }
@@ -312,7 +333,11 @@ fn found_fields(alloc: Global, object: &Object, section: u32) -> Result<Vec<Relo
 }
 
 /// The address fields of a section, by their places.
-fn address_fields(alloc: Global, object: &Object, section: u32) -> Result<Vec<Relocation>, AllocError>
+fn address_fields(
+    alloc: Global,
+    object: &Object,
+    section: u32,
+) -> Result<Vec<Relocation>, AllocError>
     ensures fields { IfOk result (λ fields. fields.items ≡ address_fields object.now section) }
     ensures symbols { IfOk result (λ fields. All (λ r. r.symbol < symbol_count object.now) fields.items) }
 {

@@ -1,18 +1,18 @@
 //! Where the global offset table and the stub of an image lie, and what the field of each relocation holds.
 
-ghost use Rattle.std.specs.Prelude.{◌≡◌, ◌+◌, ◌<◌, ◌≤◌, ◌^◌, ◌&&◌, ℕ, IfOk, IfSome, length};
+ghost use Rattle.std.specs.Prelude.{◌≡◌, ◌<◌, ◌&&◌, ℕ, IfOk, IfSome, length};
 ghost use Rattle.std.specs.List.{All, list_any};
 ghost use Rattle.std.specs.Result.{result_ok};
 ghost use Rattle.elf_object.specs.Parts.{symbol_count};
 ghost use Rattle.elf_object.specs.Relocations.{field_width};
-ghost use Rattle.link_refusals.specs.Refused.{is_here, is_module};
 ghost use Rattle.tls_relocs.specs.Fields.{width_of};
 ghost use Rattle.tls_symbols.specs.Bindings.{IsBindingWithin, object_at};
 ghost use Rattle.link_core.specs.Faults.{FitsLimits};
 ghost use Rattle.link_core.specs.Linking.{binding, place as place_of};
-ghost use Rattle.link_core.specs.Needs.{any_stub_call, got_size, got_start, has_stub, is_stub_call, need_address, relocation_need, stub_start, uses_runtime};
+ghost use Rattle.link_core.specs.Needs.{has_stub, is_stub_call, need_address};
 ghost use Rattle.link_core.specs.Usable.{IsUsable};
-ghost use Rattle.link_core.specs.Values.{counts_from_thread_pointer, field, goes, is_local, is_replaced, is_rewriting, is_runtime, other_number, own_number};
+ghost use Rattle.link_core.specs.Values.{counts_from_thread_pointer, field, goes, is_local, is_rewriting};
+ghost use Rattle.link_core.specs.Values.{other_number, own_number};
 
 use crate::inputs::Inputs;
 use crate::needs::{calls_stub, is_kept};
@@ -50,8 +50,8 @@ impl<'i, 'l, 's, 'a> Model for Plan<'i, 'l, 's, 'a> {
     ghost view = { λ plan. plan.inputs.now };
 
     ghost invariant = { λ plan. IsPlan
-      plan.inputs.now plan.got plan.got_start plan.stub_start plan.has_stub plan.is_rewriting
-      plan.counts_from_thread_pointer };
+        plan.inputs.now plan.got plan.got_start plan.stub_start plan.has_stub plan.is_rewriting
+        plan.counts_from_thread_pointer };
 }
 
 /// Whether a form is of local dynamic code.
@@ -68,7 +68,7 @@ fn has_local(own: &[Site]) -> bool
     own.iter().any(|site| is_local(site.form))
 }
 
-/// Whether any has.
+/// Whether any object has local dynamic code.
 fn any_local(sites: &[Vec<Site>]) -> bool
     ensures { result ≡ list_any (λ own. list_any (λ (site : Site). is_local site.form) own.items) sites.now }
 {

@@ -1,10 +1,9 @@
-use Rattle.std.proofs.Common.{◌<◌, ◌∙◌, List, ap, filter, rules, subst, sym}
+use Rattle.std.proofs.Common.{◌<◌, ◌∙◌, List, ap, rules, subst, sym}
 use Rattle.std.specs.List.{All}
 use Rattle.std.proofs.lemmas.List.Sorted.{All-permutation}
 use Rattle.elf_object.specs.declared.relocation.Relocation.{Relocation}
 use Rattle.elf_object.specs.Lent.{relocations}
 use Rattle.elf_object.specs.Parts.{symbol_count}
-use Rattle.link_core.specs.Needs.{address_fields, is_address_kind}
 use Rattle.link_core.specs.Sorting.{sorted_by}
 use Rattle.link_core.proofs.NeedsLemmas.{fields_symbols}
 use Rattle.link_core.proofs.SortingLaws.{sorted_by_key}

@@ -21,7 +21,7 @@ returns-then-calls_stub_in c =
     let i = c.loop-object.object in
     let own = c.own-item.result in
     let left = own_left l c.self.inside.sites.now (ap (λ l. l.sites) c.self.view_is) i own c.own-item.is
-        c.loop-object-test.true in
+    c.loop-object-test.true in
     sym (stub_here l l.sites i own.items left (ap (list_any (is_stub_call l i)) (sym c.as_slice.ensures.value)
     ∙ sym c.calls_stub_in.ensures ∙ c.if-calls_stub_in.true))
     ∙ c.loop-object.invariant
@@ -32,7 +32,7 @@ loop-object-preserved c =
     let i = c.loop-object.object in
     let own = c.own-item.result in
     let left = own_left l c.self.inside.sites.now (ap (λ l. l.sites) c.self.view_is) i own c.own-item.is
-        c.loop-object-test.true in
+    c.loop-object-test.true in
     stub_later l l.sites i own.items left (ap (list_any (is_stub_call l i)) (sym c.as_slice.ensures.value)
     ∙ sym c.calls_stub_in.ensures ∙ c.if-calls_stub_in.false)
     ∙ c.loop-object.invariant
@@ -42,5 +42,5 @@ unfolding has_stub
 returns c =
     let l = c.args.self.now in
     let none = none_left l c.self.inside.sites.now (ap (λ l. l.sites) c.self.view_is) c.loop-object.object
-        c.loop-object-test.false in
+    c.loop-object-test.false in
     sym (stub_none l l.sites c.loop-object.object none) ∙ c.loop-object.invariant

@@ -1,4 +1,4 @@
-use Rattle.std.proofs.Common.{◌≡◌, ◌<◌, ◌≤◌, ◌∙◌, ◌+◌, ◌-◌, ◌++◌, ℕ, List, refl, sym, ap, subst, arith}
+use Rattle.std.proofs.Common.{◌≡◌, ◌<◌, ◌≤◌, ◌∙◌, ◌+◌, ◌-◌, ◌++◌, ap, arith}
 use Rattle.std.specs.List.{flat_map, range_with_len}
 use Rattle.elf_object.specs.Object.{section_count}
 use Rattle.tls_symbols.specs.Bindings.{object_at}
@@ -23,7 +23,8 @@ loop-section-preserved c =
     let b = object_at l.objects o in
     let t = c.loop-section.section in
     let n = section_count b in
-    let end : c.section_count-section-end.result ≡ n = c.section_count-section-end.ensures.count ∙ ap section_count c.object.ensures in
+    let end : c.section_count-section-end.result ≡ n =
+    c.section_count-section-end.ensures.count ∙ ap section_count c.object.ensures in
     let below : t < n = omega (arith, end, c.loop-section-test.true) in
     ap (λ xs. xs ++ flat_map (section_needs l o b) (range_with_len (t + 1) (n - (t + 1)))) c.in_ok-push_section.ensures
     ∙ counted (section_needs l o b) c.loop-section.needs.items t n below
@@ -36,6 +37,7 @@ returns c =
     let b = object_at l.objects o in
     let t = c.loop-section.section in
     let n = section_count b in
-    let end : c.section_count-section-end.result ≡ n = c.section_count-section-end.ensures.count ∙ ap section_count c.object.ensures in
+    let end : c.section_count-section-end.result ≡ n =
+    c.section_count-section-end.ensures.count ∙ ap section_count c.object.ensures in
     let past : n ≤ t = omega (arith, end, c.loop-section-test.false) in
     counted_all (section_needs l o b) c.loop-section.needs.items t n past ∙ c.loop-section.invariant

@@ -22,7 +22,7 @@ loop-object-preserved c =
     let seen = c.loop-object.needs.items in
     let rest = site_needs_from l (i + 1) (drop (i + 1) l.sites) in
     let left = own_left l c.self.inside.sites.now (ap (λ l. l.sites) c.self.view_is) i own c.own-item.is
-        c.loop-object-test.true in
+    c.loop-object-test.true in
     ap (λ xs. xs ++ rest) c.in_ok-push_own_sites.ensures
     ∙ ap (λ ys. (seen ++ flat_map (site_needs l i) ys) ++ rest) c.as_slice.ensures.value
     ∙ sites_walked l seen l.sites i own.items left
@@ -32,5 +32,5 @@ pub returns : goal.returns
 returns c =
     let l = c.args.self.now in
     let none = none_left l c.self.inside.sites.now (ap (λ l. l.sites) c.self.view_is) c.loop-object.object
-        c.loop-object-test.false in
+    c.loop-object-test.false in
     sites_walked_all l c.loop-object.needs.items l.sites c.loop-object.object none ∙ c.loop-object.invariant

@@ -1,4 +1,4 @@
-use Rattle.std.proofs.Common.{◌≡◌, ◌++◌, drop, map}
+use Rattle.std.proofs.Common.{◌≡◌, ◌++◌, drop}
 use Rattle.link_core.specs.Needs.{site_needs_from}
 use Rattle.link_core.proofs.inputs.Inputs.push_sites.Given as goal
 

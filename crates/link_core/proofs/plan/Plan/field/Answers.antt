@@ -2,7 +2,7 @@ use Rattle.std.proofs.Common.{◌∙◌, ap, rules, w64, FitsSigned}
 use Rattle.std.proofs.Math.Facts.{to_z-of_z}
 use Rattle.tls_relocs.specs.Values.{stored_field}
 use Rattle.link_core.specs.Linking.{binding, place as place_of}
-use Rattle.link_core.specs.Values.{field, other_number, own_number}
+use Rattle.link_core.specs.Values.{field, own_number}
 use Rattle.link_core.proofs.plan.Plan.field.Goals as goal
 
 pub returns-clause-field : goal.returns-clause-field

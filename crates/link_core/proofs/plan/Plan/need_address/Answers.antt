@@ -7,5 +7,8 @@ pub overflow_add-result : goal.overflow_add-result
 overflow_add-result c =
     let plan = c.self.inside in
     let kept = c.self.invariant in
-    omega (arith, entry_small plan.inputs.now plan.got plan.got_start c.in-Some-start.at (size_of c.in-Some.need)
-    kept.given kept.limits kept.got_is kept.start_is c.in-Some-start.ensures.within)
+    omega (
+      arith,
+      entry_small plan.inputs.now plan.got plan.got_start c.in-Some-start.at (size_of c.in-Some.need)
+          kept.given kept.limits kept.got_is kept.start_is c.in-Some-start.ensures.within,
+    )
