@@ -9,6 +9,7 @@ pub mod GotRelocationsNeeds
 pub mod GotRelocationsRows
 pub mod GotRelocationsShown
 pub mod GotRelocationsSites
+pub mod InputsLemmas
 pub mod Lengths
 pub mod LengthsInside
 pub mod LengthsKept
@@ -22,6 +23,8 @@ pub mod LoadsParts
 pub mod LoadsPlaces
 pub mod LoadsTables
 pub mod LoadsTls
+pub mod NeedsLemmas
+pub mod PlanLemmas
 pub mod Relatives
 pub mod RelativesApart
 pub mod RelativesFields
@@ -32,3 +35,4 @@ pub mod SortingLaws
 pub mod Symbols
 pub mod SymbolsInside
 pub mod SymbolsNames
+pub mod UsableSites

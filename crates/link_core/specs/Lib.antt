@@ -8,6 +8,7 @@ pub mod Meant
 pub mod Named
 pub mod Needs
 pub mod Overflows
+pub mod Plans
 pub mod Sorting
 pub mod Usable
 pub mod Values
