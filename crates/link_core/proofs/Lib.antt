@@ -35,4 +35,9 @@ pub mod SortingLaws
 pub mod Symbols
 pub mod SymbolsInside
 pub mod SymbolsNames
+pub mod Together
+pub mod TogetherFound
+pub mod TogetherNames
+pub mod TogetherRows
+pub mod TogetherSites
 pub mod UsableSites
