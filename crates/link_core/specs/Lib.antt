@@ -2,9 +2,13 @@ pub mod Bytes
 pub mod Dynamic
 pub mod Faults
 pub mod Images
+pub mod Laws
 pub mod Linking
+pub mod Meant
+pub mod Named
 pub mod Needs
 pub mod Overflows
+pub mod Plans
 pub mod Sorting
 pub mod Usable
 pub mod Values

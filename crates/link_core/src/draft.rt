@@ -5,7 +5,8 @@ ghost use Rattle.std.specs.List.{list_any};
 ghost use Rattle.sequence_match.specs.declared.places.Site.{Site};
 ghost use Rattle.link_core.specs.Dynamic.{is_flagged, is_initial};
 ghost use Rattle.link_core.specs.Linking.{layout};
-ghost use Rattle.link_core.specs.Images.{file_kind, filled, got_number, got_places, section_places, stub_places, tls_part};
+ghost use Rattle.link_core.specs.Images.{file_kind, filled, got_number, got_places, section_places};
+ghost use Rattle.link_core.specs.Images.{stub_places, tls_part};
 
 use crate::inputs::Inputs;
 use crate::plan::Plan;
@@ -49,6 +50,7 @@ fn push_extent(
 }
 
 /// The parts of the sections, in the order of their addresses.
+#[tactic(auto, unfolding(crate::specs::Images::section_places))]
 pub fn section_places(alloc: Global, placement: &Placement) -> Result<Vec<PartPlace>, AllocError>
     ensures { IfOk result (λ places. places.items ≡ section_places placement.now) }
 {
@@ -61,6 +63,7 @@ pub fn section_places(alloc: Global, placement: &Placement) -> Result<Vec<PartPl
 }
 
 /// Adds those of the table and of the stub. Answers the number of the table's part, if there is one.
+#[tactic(auto, unfolding(crate::specs::Images::got_number))]
 pub fn push_made(plan: &Plan, places: &mut Vec<PartPlace>) -> Result<Option<u64>, AllocError>
     requires sections { places.old.items ≡ section_places (layout plan.now) }
     ensures places { OnOk result
@@ -87,6 +90,7 @@ pub fn push_made(plan: &Plan, places: &mut Vec<PartPlace>) -> Result<Option<u64>
 }
 
 /// The TLS segment, if it has bytes.
+#[tactic(auto, unfolding(crate::specs::Images::tls_part))]
 pub fn tls_part(placement: &Placement) -> Option<TlsPart>
     ensures { result ≡ tls_part placement.now }
 {
@@ -101,16 +105,25 @@ pub fn tls_part(placement: &Placement) -> Option<TlsPart>
     })
 }
 
-/// Whether an object has initial executable code.
+/// Whether an object has code that reaches variables at a fixed distance from the thread pointer.
 fn has_initial(own: &[Site]) -> bool
     ensures { result ≡ list_any (λ (site : Site). is_initial site.form) own.now }
 {
-    own.iter().any(|site| matches!(site.form, Form::IeMov | Form::IeAdd))
+    own.iter()
+        .any(|site| matches!(site.form, Form::IeMov | Form::IeAdd))
+}
+
+/// Whether one of these objects does.
+fn any_initial(sites: &[Vec<Site>]) -> bool
+    ensures { result ≡ list_any (λ own. list_any (λ (site : Site). is_initial site.form) own.items) sites.now }
+{
+    sites.iter().any(|own| has_initial(own.as_slice()))
 }
 
 /// Whether the image is a module that reaches thread-local data at a fixed distance from the thread pointer.
+#[tactic(auto, using(crate::proofs::DraftLemmas::any_seen), unfolding(crate::specs::Dynamic::is_flagged))]
 pub fn is_flagged(inputs: &Inputs) -> bool
     ensures { result ≡ is_flagged inputs.now }
 {
-    inputs.kind.is_module() && inputs.sites.iter().any(|own| has_initial(own.as_slice()))
+    inputs.kind.is_module() && any_initial(inputs.sites)
 }

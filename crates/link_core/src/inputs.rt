@@ -1,9 +1,9 @@
 //! What a link is given, and what each symbol and each sequence of it is.
 
-ghost use Rattle.std.specs.Prelude.{◌≡◌, ◌<◌, ◌≤◌, ◌^◌, ℕ, IfSome, length, unwrap_or};
+ghost use Rattle.std.specs.Prelude.{◌≡◌, ◌<◌, ◌≤◌, ◌^◌, ℕ, IfSome, IsSome, length, unwrap_or};
 ghost use Rattle.elf_object.specs.Parts.{symbol_count};
 ghost use Rattle.relax_sites.specs.Choices.{IsChoiceOf};
-ghost use Rattle.tls_layout.specs.Places.{address_of};
+ghost use Rattle.tls_layout.specs.Places.{address_of, tls_offset_of};
 ghost use Rattle.tls_symbols.specs.Bindings.{IsBindingWithin, object_at};
 ghost use Rattle.tls_symbols.specs.Definitions.{IsWithin};
 ghost use Rattle.link_core.specs.Linking.{address, address_in, binding, choice, layout, offset, offset_in};
@@ -53,15 +53,15 @@ impl<'l, 's, 'a> Model for Inputs<'l, 's, 'a> {
     } };
 
     ghost invariant = { λ inputs. AreInputs
-      (record {
-        kind = inputs.kind;
-        objects = inputs.objects.now;
-        startup = inputs.bindings.startup;
-        sites = map (λ own. own.items) inputs.sites.now;
-        relax = inputs.relax;
-      })
-      inputs.bindings.objects inputs.placement inputs.block_offset
-      inputs.own.items (map (λ name. name.now) inputs.imports.keys) };
+        (record {
+          kind = inputs.kind;
+          objects = inputs.objects.now;
+          startup = inputs.bindings.startup;
+          sites = map (λ own. own.items) inputs.sites.now;
+          relax = inputs.relax;
+        })
+        inputs.bindings.objects inputs.placement inputs.block_offset
+        inputs.own.items (map (λ name. name.now) inputs.imports.keys) };
 }
 
 impl<'l, 's, 'a> Inputs<'l, 's, 'a> {
@@ -70,7 +70,8 @@ impl<'l, 's, 'a> Inputs<'l, 's, 'a> {
         requires { number < length self.now.objects }
         ensures { result.now ≡ object_at self.now.objects number }
     {
-        &self.objects[number]
+        let objects = self.objects;
+        &objects[number]
     }
 
     /// What the symbol is bound to that a relocation of an object names.
@@ -98,6 +99,7 @@ impl<'l, 's, 'a> Inputs<'l, 's, 'a> {
     }
 
     /// Where a section of an object begins; 0 where it has no address.
+    #[tactic(auto, using(crate::proofs::InputsLemmas::address_small))]
     pub fn section_address(&self, object: usize, section: u32) -> u64
         ensures address { result ≡ unwrap_or (address_of (layout self.now) object section) 0 }
         ensures small { result ≤ 2 ^ 25 }
@@ -135,7 +137,10 @@ impl<'l, 's, 'a> Inputs<'l, 's, 'a> {
     }
 
     /// The address so far behind the start of a section; the value alone where it has no address.
+    #[tactic(auto, using(crate::proofs::InputsLemmas::address_small))]
     fn address_in(&self, object: usize, place: SymbolPlace, value: u64) -> u64
+        requires small { (section : ℕ) → place ≡ SymbolPlace.InSection section
+            → IsSome (address_of (layout self.now) object section) → value ≤ 2 ^ 20 }
         ensures { result ≡ address_in (layout self.now) object place value }
     {
         let SymbolPlace::InSection(section) = place else {
@@ -148,7 +153,10 @@ impl<'l, 's, 'a> Inputs<'l, 's, 'a> {
     }
 
     /// The offset so far behind the start of a section; the value alone where it has no offset.
+    #[tactic(auto, using(crate::proofs::InputsLemmas::offset_small))]
     fn offset_in(&self, object: usize, place: SymbolPlace, value: u64) -> u64
+        requires small { (section : ℕ) → place ≡ SymbolPlace.InSection section
+            → IsSome (tls_offset_of (layout self.now) object section) → value ≤ 2 ^ 20 }
         ensures { result ≡ offset_in (layout self.now) object place value }
     {
         let SymbolPlace::InSection(section) = place else {

@@ -1,9 +1,57 @@
-//! The image of objects.
+//! The image of objects: linking, for every kind of image.
+//!
+//! A compiler leaves two things open. It does not know where a symbol will lie, so it leaves a *field*, and says in a
+//! *relocation* what belongs there. And it does not know whether a thread-local variable will be the program's own or
+//! another module's, so it writes the longest *sequence* that finds it, in bytes that a linker may know again. This
+//! crate joins what the crates below it know of both:
+//!
+//! ```text
+//! names      what each relocation's symbol is bound to                       tls_symbols
+//! refusals   what the image's kind and its storage refuse                    link_refusals
+//! places     where each section goes, in memory and in the TLS segment       tls_layout
+//! choices    which sequence stands in the place of each                      relax_sites
+//! needs      what code needs of the global offset table, and its entries     got_pairs
+//! file       sections at their places, the table, the stub                   section_file, here
+//! fields     the value of each relocation, written                           tls_relocs, here
+//! tables     symbols and relocations for a loader                            dynamic_symbols, image_writer
+//! ```
+//!
+//! **The rule of bytes** (`specs/Bytes`): each byte of a section stands at its place, changed only in the fields of its
+//! relocations and in the sequences that are rewritten; behind the sections stand the table and the stub, behind these
+//! the dynamic tables; gaps are zero, and there is nothing else. `specs/Meant` says the same of each byte in words that
+//! know nothing of a writer, and `laws::bytes_are_meant` that they agree.
+//!
+//! **The rule of faults** (`specs/Faults`): of all that may be wrong the first is told: Undefined, Duplicate, NotTls,
+//! LocalExecInModule, NarrowInModule, TlsTooLarge, ImageTooLarge, NoTls, and Overflow last, since it needs every place;
+//! of each kind the first object, section and entry.
+//!
+//! For example, b.o has `f`, which asks for the address of its own variable `x`, eight bytes into `.tdata`, by the
+//! general dynamic sequence. Linked as a program, and linked as one whose sequences are kept:
+//!
+//! ```text
+//! 400000  64 48 8b 04 25 00 00 00 00    mov %fs:0, %rax               the thread pointer
+//!         48 8d 80 f0 ff ff ff          lea -16(%rax), %rax           x lies 16 below it
+//!         c3                            ret
+//!
+//! 400000  66 48 8d 3d f8 1f 00 00       lea 0x402000(%rip), %rdi      x's pair in the table
+//!         66 66 48 e8 f0 2f 00 00       call 0x403000                 the stub
+//!         c3                            ret
+//! 401000  00 .. 2a 00 00 00 ..          the initial image
+//! 402000  01 00 .. 08 00 .. 00 00 ..    module 1, offset 8; the word of __tls_get_addr, which the loader fills
+//! 403000  ff 25 0a f0 ff ff             jmp *0x402010(%rip)
+//! ```
+//!
+//! Names are compared by hash, each section is copied once, and each relocation is looked at by a fixed number of
+//! walks: time is linear in objects, symbols, relocations and bytes.
+//!
+//! The rules are those of "ELF Handling For Thread-Local Storage" (Drepper), of the psABI ("Thread-Local Storage",
+//! "Relocation Types") and of the gABI ("Program Loading and Dynamic Linking").
 #![tactic(auto)]
 
 mod draft;
 mod file;
 mod inputs;
+pub mod laws;
 mod linked;
 mod linking;
 mod needs;

@@ -1,13 +1,17 @@
 //! What code needs of the global offset table.
 
-ghost use Rattle.std.specs.Prelude.{◌≡◌, ◌+◌, ◌<◌, ◌≤◌, ◌^◌, ◌++◌, IfOk, IfSome, OnOk, length};
+ghost use Rattle.std.specs.Prelude.{◌≡◌, ◌+◌, ◌<◌, ◌≤◌, ◌^◌, ◌++◌, ◌&&◌, [], ◌∷◌, IfOk, IfSome, OnOk, filter, length};
+ghost use Rattle.std.specs.Prelude.{option_and_then, if◌then◌else◌};
 ghost use Rattle.std.specs.List.{All, flat_map};
-ghost use Rattle.elf_object.specs.Object.{section_count};
+ghost use Rattle.elf_object.specs.Lawful.{IsLawful};
+ghost use Rattle.elf_object.specs.Lent.{relocations};
 ghost use Rattle.elf_object.specs.Parts.{symbol_count};
 ghost use Rattle.tls_symbols.specs.Bindings.{IsBindingWithin, object_at};
-ghost use Rattle.link_core.specs.Linking.{binding, choice};
-ghost use Rattle.link_core.specs.Needs.{address_fields, address_need, address_needs, calls, calls_stub, is_address_kind};
-ghost use Rattle.link_core.specs.Needs.{need_by, needs, object_needs, object_needs_from, own_word, reaching, relocation_need};
+ghost use Rattle.link_core.specs.Linking.{choice};
+ghost use Rattle.link_core.specs.Needs.{address_fields, address_need, address_needs, as_list, calls, calls_stub};
+ghost use Rattle.link_core.specs.Needs.{is_address_kind};
+ghost use Rattle.link_core.specs.Needs.{is_kept, need_by, needs, new_relocation, object_needs, object_needs_from};
+ghost use Rattle.link_core.specs.Needs.{own_word, reaching, relocation_need};
 ghost use Rattle.link_core.specs.Needs.{section_needs, site_needs, site_needs_from, target_by};
 ghost use Rattle.link_core.specs.Usable.{IsUsable};
 
@@ -32,6 +36,34 @@ pub fn calls_stub(form: Form) -> bool
     ensures { result ≡ calls_stub form }
 {
     matches!(form, Form::Gd | Form::Ld)
+}
+
+/// Whether a sequence stays as it is.
+pub fn is_kept(choice: Choice) -> bool
+    ensures { result ≡ is_kept choice }
+{
+    matches!(choice, Choice::Keep)
+}
+
+/// The run time's word, where a sequence stays that calls it.
+fn word_of_call<'a>(form: Form, choice: Choice) -> Option<Need<'a>>
+    ensures { as_list result ≡ (if is_kept choice && calls form then Need.RuntimeWord ∷ [] else []) }
+{
+    if is_kept(choice) && calls(form) {
+        Some(Need::RuntimeWord)
+    } else {
+        None
+    }
+}
+
+/// Adds a need, if there is one.
+fn push_some<'a>(need: Option<Need<'a>>, needs: &mut Vec<Need<'a>>) -> Result<(), AllocError>
+    ensures { OnOk result (needs.new.items ≡ needs.old.items ++ as_list need.entry) }
+{
+    if let Some(need) = need {
+        needs.push(need)?;
+    }
+    Ok(())
 }
 
 /// Whether the field of a relocation of this type reaches a word with an address.
@@ -133,34 +165,52 @@ impl<'l, 's, 'a> Inputs<'l, 's, 'a> {
                 Some(target) => Some(Need::Descriptor(target)),
                 None => None,
             },
-            RelocationKind::GotPcRel
-            | RelocationKind::GotPcRelX
-            | RelocationKind::RexGotPcRelX => self.address_need(bound),
+            RelocationKind::GotPcRel | RelocationKind::GotPcRelX | RelocationKind::RexGotPcRelX =>
+                self.address_need(bound),
             _ => None,
         }
     }
 
+    /// The entry that a site reaches in whose place this sequence stands.
+    #[tactic(auto, unfolding(crate::specs::Needs::relocation_need))]
+    fn reached(&self, object: usize, site: &Site, choice: Choice) -> Option<Need<'a>>
+        requires object { object < length self.now.objects }
+        requires site { IsUsable (object_at self.now.objects object) site.now }
+        ensures { result ≡ option_and_then (relocation_need self.now object) (reaching site.now choice) }
+    {
+        match reaching(site, choice) {
+            Some(relocation) => {
+                let bound = self.binding(object, &relocation);
+                self.need(object, relocation.symbol, bound, relocation.kind)
+            }
+            None => None,
+        }
+    }
+
     /// Adds what a site needs.
-    fn push_site(&self, object: usize, site: &Site, needs: &mut Vec<Need<'a>>) -> Result<(), AllocError>
+    #[tactic(auto, unfolding(crate::specs::Needs::site_needs))]
+    fn push_site(
+        &self,
+        object: usize,
+        site: &Site,
+        needs: &mut Vec<Need<'a>>,
+    ) -> Result<(), AllocError>
         requires object { object < length self.now.objects }
         requires site { IsUsable (object_at self.now.objects object) site.now }
         ensures { OnOk result (needs.new.items ≡ needs.old.items ++ site_needs self.now object site.now) }
     {
         let choice = self.choice(object, site);
-        if let Some(relocation) = reaching(site, choice) {
-            let bound = self.binding(object, &relocation);
-            if let Some(need) = self.need(object, relocation.symbol, bound, relocation.kind) {
-                needs.push(need)?;
-            }
-        }
-        if choice == Choice::Keep && calls(site.form) {
-            needs.push(Need::RuntimeWord)?;
-        }
-        Ok(())
+        push_some(self.reached(object, site, choice), needs)?;
+        push_some(word_of_call(site.form, choice), needs)
     }
 
     /// Adds what the sites of an object need.
-    fn push_own_sites(&self, object: usize, own: &[Site], needs: &mut Vec<Need<'a>>) -> Result<(), AllocError>
+    fn push_own_sites(
+        &self,
+        object: usize,
+        own: &[Site],
+        needs: &mut Vec<Need<'a>>,
+    ) -> Result<(), AllocError>
         requires object { object < length self.now.objects }
         requires sites { All (IsUsable (object_at self.now.objects object)) own.now }
         ensures { OnOk result
@@ -183,19 +233,33 @@ impl<'l, 's, 'a> Inputs<'l, 's, 'a> {
         Ok(())
     }
 
+    /// What an address field needs, whose symbol is bound so.
+    fn own_word(&self, bound: Option<Binding>) -> Option<Need<'a>>
+        requires { IfSome bound (IsBindingWithin self.now.objects) }
+        ensures { as_list result ≡ own_word self.now bound }
+    {
+        match bound {
+            Some(Binding::Here(found)) => Some(Need::AddressWord {
+                symbol: found,
+                place: self.address(found),
+            }),
+            _ => None,
+        }
+    }
+
     /// Adds what an address field needs.
-    fn push_field(&self, object: usize, relocation: &Relocation, needs: &mut Vec<Need<'a>>) -> Result<(), AllocError>
+    fn push_field(
+        &self,
+        object: usize,
+        relocation: &Relocation,
+        needs: &mut Vec<Need<'a>>,
+    ) -> Result<(), AllocError>
         requires object { object < length self.now.objects }
         requires symbol { relocation.now.symbol < symbol_count (object_at self.now.objects object) }
         ensures { OnOk result (needs.new.items ≡ needs.old.items ++ address_needs self.now object relocation.now) }
     {
-        if let Some(Binding::Here(found)) = self.binding(object, relocation) {
-            needs.push(Need::AddressWord {
-                symbol: found,
-                place: self.address(found),
-            })?;
-        }
-        Ok(())
+        let bound = self.binding(object, relocation);
+        push_some(self.own_word(bound), needs)
     }
 
     /// Adds what the address fields of a section need.
@@ -218,7 +282,12 @@ impl<'l, 's, 'a> Inputs<'l, 's, 'a> {
     }
 
     /// Adds what the address fields of an object need.
-    fn push_object(&self, alloc: Global, object: usize, needs: &mut Vec<Need<'a>>) -> Result<(), AllocError>
+    fn push_object(
+        &self,
+        alloc: Global,
+        object: usize,
+        needs: &mut Vec<Need<'a>>,
+    ) -> Result<(), AllocError>
         requires { object < length self.now.objects }
         ensures { OnOk result (needs.new.items
             ≡ needs.old.items ++ object_needs self.now object (object_at self.now.objects object)) }
@@ -252,18 +321,23 @@ impl<'l, 's, 'a> Inputs<'l, 's, 'a> {
 }
 
 /// The address fields of a section, in the order of the file.
-fn found_fields(alloc: Global, object: &Object, section: u32) -> Result<Vec<Relocation>, AllocError> {
-    let mut fields = Vec::new(alloc);
-    for relocation in object.relocs(section) {
-        if is_address_kind(relocation.kind) {
-            fields.push(relocation)?;
-        }
-    }
-    Ok(fields)
+fn found_fields(alloc: Global, object: &Object, section: u32) -> Result<Vec<Relocation>, AllocError>
+    ensures fields { IfOk result (λ fields.
+        fields.items ≡ filter (λ (r : Relocation). is_address_kind r.kind) (relocations object.now section)) }
+    ensures lawful { All (IsLawful object.now section) (relocations object.now section) }
+{
+    object
+        .relocs(section)
+        .filter(|relocation| is_address_kind(relocation.kind))
+        .collect(alloc)
 }
 
 /// The address fields of a section, by their places.
-fn address_fields(alloc: Global, object: &Object, section: u32) -> Result<Vec<Relocation>, AllocError>
+fn address_fields(
+    alloc: Global,
+    object: &Object,
+    section: u32,
+) -> Result<Vec<Relocation>, AllocError>
     ensures fields { IfOk result (λ fields. fields.items ≡ address_fields object.now section) }
     ensures symbols { IfOk result (λ fields. All (λ r. r.symbol < symbol_count object.now) fields.items) }
 {

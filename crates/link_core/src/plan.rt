@@ -1,24 +1,23 @@
 //! Where the global offset table and the stub of an image lie, and what the field of each relocation holds.
 
-ghost use Rattle.std.specs.Prelude.{◌≡◌, ◌+◌, ◌<◌, ◌≤◌, ◌^◌, IfOk, IfSome, length};
-ghost use Rattle.std.specs.List.{list_any};
+ghost use Rattle.std.specs.Prelude.{◌≡◌, ◌<◌, ◌&&◌, ℕ, IfOk, IfSome, length};
+ghost use Rattle.std.specs.List.{All, list_any};
 ghost use Rattle.std.specs.Result.{result_ok};
 ghost use Rattle.elf_object.specs.Parts.{symbol_count};
 ghost use Rattle.elf_object.specs.Relocations.{field_width};
-ghost use Rattle.link_refusals.specs.Refused.{is_here, is_module};
 ghost use Rattle.tls_relocs.specs.Fields.{width_of};
 ghost use Rattle.tls_symbols.specs.Bindings.{IsBindingWithin, object_at};
 ghost use Rattle.link_core.specs.Faults.{FitsLimits};
 ghost use Rattle.link_core.specs.Linking.{binding, place as place_of};
-ghost use Rattle.link_core.specs.Needs.{any_stub_call, got_size, got_start, has_stub, is_stub_call, need_address, relocation_need, stub_start, uses_runtime};
+ghost use Rattle.link_core.specs.Needs.{has_stub, is_stub_call, need_address};
 ghost use Rattle.link_core.specs.Usable.{IsUsable};
-ghost use Rattle.link_core.specs.Values.{counts_from_thread_pointer, field, goes, is_local, is_replaced, is_rewriting, is_runtime, other_number, own_number};
+ghost use Rattle.link_core.specs.Values.{counts_from_thread_pointer, field, goes, is_local, is_rewriting};
+ghost use Rattle.link_core.specs.Values.{other_number, own_number};
 
 use crate::inputs::Inputs;
-use crate::needs::calls_stub;
+use crate::needs::{calls_stub, is_kept};
 use elf_object::{Relocation, RelocationKind};
 use got_pairs::{GotPlan, Need, plan};
-use relax_sites::Choice;
 use sequence_match::{Form, Site};
 use std::alloc::{AllocError, Global};
 use std::marker::Model;
@@ -43,23 +42,16 @@ pub struct Plan<'i, 'l, 's, 'a> {
 }
 
 impl<'i, 'l, 's, 'a> Model for Plan<'i, 'l, 's, 'a> {
-    ghost use Rattle.std.specs.Prelude.{◌≡◌};
     ghost use Rattle.link_core.specs.Linking.{Linking};
-    ghost use Rattle.link_core.specs.Faults.{FitsLimits, IsGiven};
-    ghost use Rattle.link_core.specs.Needs.{got_start as table_place, has_stub as needs_stub, stub_start as stub_place, table};
-    ghost use Rattle.link_core.specs.Values.{counts_from_thread_pointer as counts_so, is_rewriting as rewrites};
+    ghost use Rattle.link_core.specs.Plans.{IsPlan};
 
     ghost Value = { Linking };
 
     ghost view = { λ plan. plan.inputs.now };
 
-    ghost invariant = { λ plan. (plan.got ≡ table plan.inputs.now)
-      × (plan.got_start ≡ table_place plan.inputs.now)
-      × (plan.stub_start ≡ stub_place plan.inputs.now)
-      × (plan.has_stub ≡ needs_stub plan.inputs.now)
-      × (plan.is_rewriting ≡ rewrites plan.inputs.now)
-      × (plan.counts_from_thread_pointer ≡ counts_so plan.inputs.now)
-      × IsGiven plan.inputs.now × FitsLimits plan.inputs.now };
+    ghost invariant = { λ plan. IsPlan
+        plan.inputs.now plan.got plan.got_start plan.stub_start plan.has_stub plan.is_rewriting
+        plan.counts_from_thread_pointer };
 }
 
 /// Whether a form is of local dynamic code.
@@ -76,6 +68,13 @@ fn has_local(own: &[Site]) -> bool
     own.iter().any(|site| is_local(site.form))
 }
 
+/// Whether any object has local dynamic code.
+fn any_local(sites: &[Vec<Site>]) -> bool
+    ensures { result ≡ list_any (λ own. list_any (λ (site : Site). is_local site.form) own.items) sites.now }
+{
+    sites.iter().any(|own| has_local(own.as_slice()))
+}
+
 impl<'l, 's, 'a> Inputs<'l, 's, 'a> {
     /// Whether sequences are rewritten: in a program, where it is asked for.
     pub fn is_rewriting(&self) -> bool
@@ -85,10 +84,20 @@ impl<'l, 's, 'a> Inputs<'l, 's, 'a> {
     }
 
     /// Whether local dynamic code is rewritten, so that offsets count from the thread pointer.
+    #[tactic(auto, unfolding(crate::specs::Values::counts_from_thread_pointer))]
     fn counts_from_thread_pointer(&self) -> bool
         ensures { result ≡ counts_from_thread_pointer self.now }
     {
-        self.is_rewriting() && self.sites.iter().any(|own| has_local(own.as_slice()))
+        self.is_rewriting() && any_local(self.sites)
+    }
+
+    /// Whether a site calls the stub.
+    fn is_stub_call(&self, object: usize, site: &Site) -> bool
+        requires object { object < length self.now.objects }
+        requires site { IsUsable (object_at self.now.objects object) site.now }
+        ensures { result ≡ is_stub_call self.now object site.now }
+    {
+        is_kept(self.choice(object, site)) && calls_stub(site.form)
     }
 
     /// Whether an object calls the stub.
@@ -98,7 +107,7 @@ impl<'l, 's, 'a> Inputs<'l, 's, 'a> {
         ensures { result ≡ list_any (is_stub_call self.now object) own.now }
     {
         for site in own {
-            if calls_stub(site.form) && self.choice(object, site) == Choice::Keep {
+            if self.is_stub_call(object, site) {
                 return true;
             }
         }
@@ -160,7 +169,7 @@ fn goes(bound: Option<Binding>, kind: RelocationKind) -> bool
 impl<'i, 'l, 's, 'a> Plan<'i, 'l, 's, 'a> {
     /// The address of the entry of a need; 0 where there is none.
     pub fn need_address(&self, need: Option<Need<'a>>) -> u64
-        ensures { result ≡ need_address self.now need }
+        ensures { result ≡ need_address self.now need.entry }
     {
         let Some(need) = need else {
             return 0;
@@ -201,10 +210,11 @@ impl<'i, 'l, 's, 'a> Plan<'i, 'l, 's, 'a> {
         requires within { IfSome bound (IsBindingWithin self.now.objects) }
         ensures { result ≡ other_number self.now object relocation.now relocation.now.kind }
     {
+        let inputs = self.inputs;
         match relocation.kind {
             RelocationKind::DtpOff32 if !self.counts_from_thread_pointer => 0,
-            RelocationKind::DtpOff32 | RelocationKind::TpOff32 => self.inputs.block_offset,
-            kind => self.need_address(self.inputs.need(object, relocation.symbol, bound, kind)),
+            RelocationKind::DtpOff32 | RelocationKind::TpOff32 => inputs.block_offset,
+            kind => self.need_address(inputs.need(object, relocation.symbol, bound, kind)),
         }
     }
 

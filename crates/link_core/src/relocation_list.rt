@@ -1,18 +1,22 @@
 //! The relocations of an image, by which a loader fills in what linking can't know.
 
-ghost use Rattle.std.specs.Prelude.{◌≡◌, ◌+◌, ◌*◌, ◌<◌, ◌≤◌, ◌^◌, ◌++◌, IfOk, OnOk, length, unwrap_or};
-ghost use Rattle.std.specs.List.{Contains};
+ghost use Rattle.std.specs.Prelude.{◌≡◌, ◌+◌, ◌*◌, ◌<◌, ◌≤◌, ◌^◌, ◌++◌, IfOk, OnOk, length, option_map, slice_get};
+ghost use Rattle.std.specs.Prelude.{unwrap_or};
+ghost use Rattle.std.specs.List.{Contains, position_from};
+ghost use Rattle.std.specs.Str.{bytes_eq};
 ghost use Rattle.elf_object.specs.Lent.{relocations};
-ghost use Rattle.got_pairs.specs.Entries.{words};
+ghost use Rattle.got_pairs.specs.Entries.{entry_of, words};
 ghost use Rattle.link_refusals.specs.Refused.{is_moved};
 ghost use Rattle.tls_layout.specs.Places.{address_of};
 ghost use Rattle.tls_symbols.specs.Bindings.{object_at};
-ghost use Rattle.link_core.specs.Dynamic.{entry_relocations, field_relocations, got_relocations};
-ghost use Rattle.link_core.specs.Dynamic.{is_absolute, loader_kind, number_of};
+ghost use Rattle.link_core.specs.Dynamic.{entry_relocations, field_relocations, got_relocations, imports, loader_kind};
+ghost use Rattle.link_core.specs.Dynamic.{is_absolute, number_of, own_symbols};
 ghost use Rattle.link_core.specs.Dynamic.{object_relocations, object_relocations_from, relatives, relocation_of};
 ghost use Rattle.link_core.specs.Dynamic.{section_relocations, word_relocations};
-ghost use Rattle.link_core.specs.Linking.{layout};
+ghost use Rattle.link_core.specs.Linking.{block_offset, layout};
+ghost use Rattle.link_core.specs.Needs.{entries, got_size, got_start};
 
+use crate::inputs::Inputs;
 use crate::plan::Plan;
 use elf_object::{Relocation, RelocationKind};
 use got_pairs::{DynamicKind, DynamicRelocation, DynamicSymbol, Entry, Word};
@@ -34,20 +38,41 @@ fn loader_kind(kind: DynamicKind) -> LoaderKind
     }
 }
 
+/// How many symbols the image defines.
+fn own_count(inputs: &Inputs) -> usize
+    ensures { result ≡ length (own_symbols inputs.now) }
+{
+    inputs.own.len()
+}
+
+/// How many names it imports.
+fn import_count(inputs: &Inputs) -> usize
+    ensures { result ≡ length (imports inputs.now) }
+{
+    inputs.imports.len()
+}
+
+/// The number of an import among the imports; 0 where there is no such import.
+fn import_number(inputs: &Inputs, name: &[u8]) -> usize
+    ensures number { result ≡ unwrap_or (position_from (bytes_eq name.now) 0 (imports inputs.now)) 0 }
+    ensures small { result ≤ length (imports inputs.now) }
+{
+    inputs.imports.get_index_of(name).unwrap_or(0)
+}
+
 impl<'i, 'l, 's, 'a> Plan<'i, 'l, 's, 'a> {
     /// The number of the symbol that a word of the table names.
+    #[tactic(auto, using(crate::proofs::RelocationListLemmas::few_symbols))]
     fn number_of(&self, symbol: &DynamicSymbol) -> u32
         ensures { result ≡ number_of self.now symbol.now }
     {
-        let own = self.inputs.own.len();
-        let imports = &self.inputs.imports;
+        let own = own_count(self.inputs);
         match symbol {
             DynamicSymbol::Image => 0,
             DynamicSymbol::Imported(name) => {
-                let at = imports.get_index_of(name.as_bytes()).unwrap_or(0);
-                (1 + own + at) as u32
+                (1 + own + import_number(self.inputs, name.as_bytes())) as u32
             }
-            DynamicSymbol::Runtime => (1 + own + imports.len()) as u32,
+            DynamicSymbol::Runtime => (1 + own + import_count(self.inputs)) as u32,
         }
     }
 
@@ -98,16 +123,41 @@ impl<'i, 'l, 's, 'a> Plan<'i, 'l, 's, 'a> {
         }
     }
 
+    /// Where the table begins.
+    #[tactic(auto, using(crate::proofs::RelocationListLemmas::table_low))]
+    fn table_start(&self) -> u64
+        ensures start { result ≡ got_start self.now }
+        ensures low { got_start self.now + got_size self.now ≤ 2 ^ 26 }
+    {
+        self.got_start
+    }
+
+    /// How many entries it has.
+    fn entry_count(&self) -> usize
+        ensures { result ≡ length (entries self.now) }
+    {
+        self.got.entry_count()
+    }
+
+    /// What an entry holds, by its number.
+    fn entry(&self, number: usize) -> Option<Entry<'a>>
+        ensures { result
+            ≡ option_map (entry_of self.now.kind (block_offset self.now)) (slice_get (entries self.now) number) }
+    {
+        self.got.entry(number)
+    }
+
     /// Adds those of the table.
     pub fn push_got(&self, all: &mut Vec<ImageRelocation>) -> Result<(), AllocError>
         ensures { OnOk result (all.new.items ≡ all.old.items ++ got_relocations self.now) }
     {
-        let mut place = self.got_start;
-        for number in 0..self.got.entry_count() {
-            if let Some(entry) = self.got.entry(number) {
-                self.push_entry(place, &entry, all)?;
-                place += size_of(&entry);
-            }
+        let mut place = self.table_start();
+        for number in 0..self.entry_count() {
+            let Some(entry) = self.entry(number) else {
+                return Ok(());
+            };
+            self.push_entry(place, &entry, all)?;
+            place += size_of(&entry);
         }
         Ok(())
     }

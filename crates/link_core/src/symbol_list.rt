@@ -1,16 +1,19 @@
 //! The symbols of an image: those that it defines, those that it imports, and the function of the run time.
 
-ghost use Rattle.std.specs.Prelude.{◌≡◌, ◌++◌, ℕ, List, IfOk, OnOk, map};
+ghost use Rattle.std.specs.Prelude.{◌≡◌, ◌++◌, ℕ, List, IfOk, OnOk, map, if◌then◌else◌};
+ghost use Rattle.std.specs.List.{All};
+ghost use Rattle.tls_symbols.specs.Bindings.{is_tls_place};
 ghost use Rattle.tls_symbols.specs.Definitions.{IsWithin};
 ghost use Rattle.dynamic_symbols.specs.Names.{name_of};
 ghost use Rattle.image_file.specs.declared.symbol.SymbolType.TheVariants as type_in_image;
-ghost use Rattle.image_writer.specs.declared.draft.NamedSymbol.{NamedSymbol};
-ghost use Rattle.link_core.specs.Dynamic.{binding_shown, defined, foreign, imports, names, own_symbols};
+ghost use Rattle.link_core.specs.Dynamic.{binding_shown, defined, foreign, names, runtime_names, runtime_symbols};
 ghost use Rattle.link_core.specs.Dynamic.{symbols, type_shown, visibility_shown};
+ghost use Rattle.link_core.specs.Linking.{address, offset};
+ghost use Rattle.link_core.specs.Named.{names_in, symbols_in};
 
 use crate::inputs::Inputs;
 use crate::plan::Plan;
-use elf_object::SymbolPlace;
+use elf_object::{Object, SectionClass, SymbolPlace};
 use got_pairs::Need;
 use image_file::{ImageSymbol, SymbolBinding, SymbolType, Visibility};
 use image_writer::NamedSymbol;
@@ -71,83 +74,130 @@ fn foreign(kind: SymbolType) -> ImageSymbol
     }
 }
 
-/// A symbol of the image. A thread-local one is told by its offset in the TLS segment, whatever type its object says.
+/// Whether what is defined at a place is thread-local.
+#[tactic(auto, using(tls_symbols::proofs::Sections::past_class))]
+fn is_tls_place(object: &Object, place: SymbolPlace) -> bool
+    ensures { result ≡ is_tls_place object.now place }
+{
+    match place {
+        SymbolPlace::InSection(section) => match object.section(section) {
+            Some(part) => matches!(part.class, Some(SectionClass::Tls { .. })),
+            None => false,
+        },
+        _ => false,
+    }
+}
+
+/// What a symbol of the image stands for: a thread-local one for a variable, whatever type its object says.
+fn kind_of(is_thread_local: bool, kind: elf_object::SymbolType) -> SymbolType
+    ensures { result ≡ (if is_thread_local then type_in_image.Tls else type_shown kind) }
+{
+    if is_thread_local {
+        SymbolType::Tls
+    } else {
+        type_shown(kind)
+    }
+}
+
+/// Its value: a thread-local one has its offset in the TLS segment.
+fn value_of(inputs: &Inputs, is_thread_local: bool, found: SymbolRef) -> u64
+    requires { IsWithin inputs.now.objects found }
+    ensures { result ≡ (if is_thread_local then offset inputs.now found else address inputs.now found) }
+{
+    if is_thread_local {
+        inputs.offset(found)
+    } else {
+        inputs.address(found)
+    }
+}
+
+/// A symbol of the image.
+#[tactic(auto, unfolding(crate::specs::Dynamic::defined))]
 fn defined(inputs: &Inputs, found: SymbolRef) -> ImageSymbol
     requires { IsWithin inputs.now.objects found }
     ensures { result ≡ defined inputs.now found }
 {
-    let Some(part) = inputs.object(found.object as usize).symbol(found.symbol) else {
+    let object = inputs.object(found.object as usize);
+    let Some(part) = object.symbol(found.symbol) else {
         return foreign(SymbolType::NoType);
     };
-    let is_thread_local = match part.place {
-        SymbolPlace::InSection(section) => {
-            inputs.placement.tls_offset(found.object as usize, section).is_some()
-        }
-        _ => false,
-    };
-    let (kind, value) = if is_thread_local {
-        (SymbolType::Tls, inputs.offset(found))
-    } else {
-        (type_shown(part.kind), inputs.address(found))
-    };
+    let is_thread_local = is_tls_place(object, part.place);
     ImageSymbol {
         binding: binding_shown(part.binding),
-        kind,
+        kind: kind_of(is_thread_local, part.kind),
         visibility: visibility_shown(part.visibility),
         is_defined: true,
-        value,
+        value: value_of(inputs, is_thread_local, found),
         size: part.size,
     }
 }
 
 /// All symbols from number 1 on, with their names: those that the image defines, the imports, and the function of the
 /// run time where it is called through its word.
-pub fn symbols<'a>(alloc: Global, plan: &Plan<'_, '_, '_, 'a>) -> Result<Vec<NamedSymbol<'a>>, AllocError>
-    ensures symbols { IfOk result (λ all. map (λ (s : NamedSymbol). s.symbol) all.items ≡ symbols plan.now) }
-    ensures names { IfOk result (λ all. map (λ (s : NamedSymbol). s.name.now) all.items ≡ names plan.now) }
+#[tactic(auto, unfolding(crate::specs::Dynamic::symbols, crate::specs::Dynamic::names))]
+pub fn symbols<'a>(
+    alloc: Global,
+    plan: &Plan<'_, '_, '_, 'a>,
+) -> Result<Vec<NamedSymbol<'a>>, AllocError>
+    ensures symbols { IfOk result (λ all. symbols_in all.items ≡ symbols plan.now) }
+    ensures names { IfOk result (λ all. names_in all.items ≡ names plan.now) }
 {
     let inputs = plan.inputs;
     let mut all = Vec::new(alloc);
-    push_own(inputs, &mut all)?;
-    push_imports(inputs, &mut all)?;
-    if plan.got.start(&Need::RuntimeWord).is_some() {
-        all.push(NamedSymbol {
-            symbol: foreign(SymbolType::NoType),
-            name: GET_ADDRESS,
-        })?;
-    }
+    push_own(inputs, inputs.own.as_slice(), &mut all)?;
+    push_imports(inputs.imports.as_slice(), &mut all)?;
+    push_runtime(plan.got.start(&Need::RuntimeWord).is_some(), &mut all)?;
     Ok(all)
 }
 
 /// Adds the symbols that the image defines.
-fn push_own<'a>(inputs: &Inputs<'_, '_, 'a>, all: &mut Vec<NamedSymbol<'a>>) -> Result<(), AllocError>
-    ensures symbols { OnOk result (map (λ (s : NamedSymbol). s.symbol) all.new.items
-        ≡ map (λ (s : NamedSymbol). s.symbol) all.old.items ++ map (defined inputs.now) (own_symbols inputs.now)) }
-    ensures names { OnOk result (map (λ (s : NamedSymbol). s.name.now) all.new.items
-        ≡ map (λ (s : NamedSymbol). s.name.now) all.old.items
-        ++ map (name_of inputs.now.objects) (own_symbols inputs.now)) }
+fn push_own<'a>(
+    inputs: &Inputs<'_, '_, 'a>,
+    own: &[SymbolRef],
+    all: &mut Vec<NamedSymbol<'a>>,
+) -> Result<(), AllocError>
+    requires { All (IsWithin inputs.now.objects) own.now }
+    ensures symbols { OnOk result
+        (symbols_in all.new.items ≡ symbols_in all.old.items ++ map (defined inputs.now) own.now) }
+    ensures names { OnOk result
+        (names_in all.new.items ≡ names_in all.old.items ++ map (name_of inputs.now.objects) own.now) }
 {
-    for found in &inputs.own {
+    for found in own {
         all.push(NamedSymbol {
             symbol: defined(inputs, *found),
-            name: inputs.object(found.object as usize).symbol_name(found.symbol),
+            name: inputs
+                .object(found.object as usize)
+                .symbol_name(found.symbol),
         })?;
     }
     Ok(())
 }
 
-/// Adds the imports.
-fn push_imports<'a>(inputs: &Inputs<'_, '_, 'a>, all: &mut Vec<NamedSymbol<'a>>) -> Result<(), AllocError>
-    ensures symbols { OnOk result (map (λ (s : NamedSymbol). s.symbol) all.new.items
-        ≡ map (λ (s : NamedSymbol). s.symbol) all.old.items
-        ++ map (λ (name : List ℕ). foreign type_in_image.Tls) (imports inputs.now)) }
-    ensures names { OnOk result (map (λ (s : NamedSymbol). s.name.now) all.new.items
-        ≡ map (λ (s : NamedSymbol). s.name.now) all.old.items ++ imports inputs.now) }
+/// Adds the imports of these names.
+fn push_imports<'a>(names: &[&'a [u8]], all: &mut Vec<NamedSymbol<'a>>) -> Result<(), AllocError>
+    ensures symbols { OnOk result (symbols_in all.new.items
+        ≡ symbols_in all.old.items
+        ++ map (λ (name : List ℕ). foreign type_in_image.Tls) (map (λ name. name.now) names.now)) }
+    ensures names { OnOk result (names_in all.new.items ≡ names_in all.old.items ++ map (λ name. name.now) names.now) }
 {
-    for name in inputs.imports.as_slice() {
+    for name in names {
         all.push(NamedSymbol {
             symbol: foreign(SymbolType::Tls),
             name: *name,
+        })?;
+    }
+    Ok(())
+}
+
+/// Adds the function of the run time, where it is called through its word.
+fn push_runtime(is_used: bool, all: &mut Vec<NamedSymbol>) -> Result<(), AllocError>
+    ensures symbols { OnOk result (symbols_in all.new.items ≡ symbols_in all.old.items ++ runtime_symbols is_used) }
+    ensures names { OnOk result (names_in all.new.items ≡ names_in all.old.items ++ runtime_names is_used) }
+{
+    if is_used {
+        all.push(NamedSymbol {
+            symbol: foreign(SymbolType::NoType),
+            name: GET_ADDRESS,
         })?;
     }
     Ok(())

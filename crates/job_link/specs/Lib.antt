@@ -1,0 +1,4 @@
+pub mod Given
+pub mod Linked
+pub mod Mentions
+pub mod Refusals

@@ -1,0 +1,18 @@
+-- What a refusal says of a job's objects and images; of want of memory nothing.
+use Rattle.std.specs.Prelude.{ℕ, Bool, List}
+use Rattle.job_text.specs.Jobs.{JobParts}
+use Rattle.job_link.specs.declared.linked_images.ImageRefusal.{ImageRefusal}
+use Rattle.job_link.specs.declared.linked_images.ImageRefusal.TheVariants as unlinked
+use Rattle.job_link.specs.declared.reading.ReadRefusal.{ReadRefusal}
+use Rattle.job_link.specs.declared.reading.ReadRefusal.TheVariants as unread
+use Rattle.job_link.specs.Given.{Given, IsFirstFaulty}
+use Rattle.job_link.specs.Linked.{IsFirstUnlinked}
+
+abbrev pub IsReadRefusal : (List ℕ → List ℕ) → JobParts → ReadRefusal → Type 0
+IsReadRefusal bytes job unread.OutOfMemory = Unit {0}
+IsReadRefusal bytes job (unread.At name section entry kind) = IsFirstFaulty bytes job name.now section entry kind
+
+abbrev pub IsImageRefusal : List Given → Bool → ImageRefusal → Type 0
+IsImageRefusal images relax unlinked.OutOfMemory = Unit {0}
+IsImageRefusal images relax (unlinked.At number kind object section entry) =
+    IsFirstUnlinked images relax number kind object section entry

@@ -1,0 +1,88 @@
+//! The objects of an image.
+
+ghost use Rattle.std.specs.Prelude.{◌≡◌, [], ◌∷◌, ◌++◌, IfErr, OnOk};
+ghost use Rattle.job_link.specs.Given.{IsFileFault, IsSound};
+
+use elf_object::{Object, ObjectFault};
+use link_faults::ImageKind;
+use sequence_match::{Site, sites};
+use std::alloc::{AllocError, Global};
+use std::marker::Model;
+
+/// The objects of an image of a job, each with its sequences.
+#[derive(Drop)]
+pub struct ImageObjects<'a> {
+    kind: ImageKind,
+    objects: Vec<Object<'a>>,
+    sites: Vec<Vec<Site>>,
+}
+
+impl<'a> Model for ImageObjects<'a> {
+    ghost use Rattle.std.specs.Prelude.{map};
+    ghost use Rattle.job_link.specs.Given.{Given, IsGiven};
+
+    ghost Value = { Given };
+
+    ghost view = { λ image. record {
+      kind = image.kind;
+      objects = image.objects.items;
+      sites = map (λ own. own.items) image.sites.items;
+    } };
+
+    ghost invariant = { λ image. IsGiven (record {
+      kind = image.kind;
+      objects = image.objects.items;
+      sites = map (λ own. own.items) image.sites.items;
+    }) };
+}
+
+impl<'a> ImageObjects<'a> {
+    /// No object yet.
+    pub(crate) fn new(alloc: Global, kind: ImageKind) -> Self
+        ensures { result ≡ record { kind = kind; objects = []; sites = [] } }
+    {
+        ImageObjects {
+            kind,
+            objects: Vec::new(alloc),
+            sites: Vec::new(alloc),
+        }
+    }
+
+    pub fn kind(&self) -> ImageKind
+        ensures { result ≡ self.now.kind }
+    {
+        self.kind
+    }
+
+    pub fn objects(&self) -> &[Object<'a>]
+        ensures { result.now ≡ self.now.objects }
+    {
+        self.objects.as_slice()
+    }
+
+    /// The sequences of each object.
+    pub fn sites(&self) -> &[Vec<Site>]
+        ensures { map (λ own. own.items) result.now ≡ self.now.sites }
+    {
+        self.sites.as_slice()
+    }
+
+    /// Adds the object of these bytes, or answers its first fault, those of its sequences last.
+    pub(crate) fn push(&mut self, alloc: Global, bytes: &'a [u8]) -> Result<(), ObjectFault>
+        ensures kind { self.new.kind ≡ self.old.kind }
+        ensures objects { OnOk result (self.new.objects ≡ self.old.objects ++ bytes.now ∷ []) }
+        ensures sound { OnOk result (IsSound bytes.now) }
+        ensures fault { IfErr result (IsFileFault bytes.now) }
+    {
+        let object = Object::read(alloc, bytes)?;
+        let own = sites(alloc, &object)?;
+        Ok(self.add(object, own)?)
+    }
+
+    /// Adds an object and its sequences.
+    fn add(&mut self, object: Object<'a>, own: Vec<Site>) -> Result<(), AllocError> {
+        self.objects.push(object)?;
+        self.sites.push(own)?;
+        Ok(())
+    }
+}

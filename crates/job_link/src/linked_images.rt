@@ -1,0 +1,105 @@
+//! All images of a job, linked in image order.
+
+ghost use Rattle.std.specs.Prelude.{◌≡◌, ◌≤◌, IfErr, IfOk, OnOk, length};
+ghost use Rattle.job_link.specs.Linked.{exports_of, linked_in, AllLink};
+ghost use Rattle.job_link.specs.Refusals.{IsImageRefusal};
+
+use crate::images::ImageObjects;
+use link_core::{Linked, link};
+use link_faults::{ImageKind, LinkFault, LinkFaultKind};
+use std::alloc::{AllocError, Global};
+use tls_symbols::{Exports, exports};
+
+/// Why the images of a job do not link.
+#[derive(Clone, Copy)]
+pub enum ImageRefusal {
+    OutOfMemory,
+    /// The first image that does not link, by its number in image order from 0, and its first fault.
+    At {
+        image: usize,
+        kind: LinkFaultKind,
+        object: Option<u64>,
+        section: u64,
+        entry: u64,
+    },
+}
+
+impl From<AllocError> for ImageRefusal {
+    ghost use Rattle.job_link.specs.declared.linked_images.ImageRefusal.TheVariants.{OutOfMemory};
+
+    ghost from_gives = { λ _ refusal. refusal ≡ OutOfMemory };
+
+    fn from(_error: AllocError) -> ImageRefusal {
+        ImageRefusal::OutOfMemory
+    }
+}
+
+/// What the startup images export: the program, and the modules that start with it.
+fn startup_exports<'a>(
+    alloc: Global,
+    images: &[ImageObjects<'a>],
+) -> Result<Vec<Exports<'a>>, AllocError>
+    ensures { IfOk result (λ startup. startup.items ≡ exports_of images.now) }
+{
+    let mut startup = Vec::new(alloc);
+    for image in images {
+        if image.kind() != ImageKind::Late {
+            startup.push(exports(alloc, image.objects())?)?;
+        }
+    }
+    Ok(startup)
+}
+
+/// Links an image beside startup images that export these names.
+fn link_one<'a>(
+    alloc: Global,
+    image: &ImageObjects<'a>,
+    startup: &[Exports<'a>],
+    relax: bool,
+) -> Result<Linked, LinkFault> {
+    link(
+        alloc,
+        image.objects(),
+        image.sites(),
+        image.kind(),
+        startup,
+        relax,
+    )
+}
+
+/// Links the images of a job, which stand in image order, or answers the first that does not link. `relax` says whether
+/// sequences may be rewritten.
+pub fn link_images(
+    alloc: Global,
+    images: &[ImageObjects],
+    relax: bool,
+) -> Result<Vec<Linked>, ImageRefusal>
+    requires { length images.now ≤ 64 }
+    ensures linked { IfOk result (λ all. all.items ≡ linked_in images.now relax) }
+    ensures links { OnOk result (AllLink images.now relax) }
+    ensures refused { IfErr result (IsImageRefusal images.now relax) }
+{
+    let startup = startup_exports(alloc, images)?;
+    let mut all = Vec::with_capacity(alloc, images.len())?;
+    for (number, image) in images.iter().enumerate() {
+        match link_one(alloc, image, startup.as_slice(), relax) {
+            Ok(linked) => all.push(linked)?,
+            Err(LinkFault::OutOfMemory) => return Err(ImageRefusal::OutOfMemory),
+            Err(LinkFault::At {
+                kind,
+                object,
+                section,
+                entry,
+            }) => {
+                return Err(ImageRefusal::At {
+                    image: number,
+                    kind,
+                    object,
+                    section,
+                    entry,
+                });
+            }
+        }
+    }
+    Ok(all)
+}

@@ -1,0 +1,200 @@
+-- The symbols of an image are shared, and those of thread-local storage lie in its TLS segment.
+use Rattle.std.proofs.Common.{◌≡◌, ◌≢◌, ◌+◌, ◌≤◌, ◌==◌, ℕ, Bool, true, false, List, [], ◌++◌, map}
+use Rattle.std.proofs.Common.{Option, Some, None, IsSome, unwrap_or, refl, ap, ◌∙◌, arith}
+use Rattle.std.specs.Prelude.{if◌then◌else◌}
+use Rattle.std.specs.List.{All}
+use Rattle.std.proofs.lemmas.Bool.Decides.{nat_tests}
+use Rattle.std.proofs.lemmas.List.Elements.{All-append, All-cons, All-map, All-nil, All-weaker}
+use Rattle.object_faults.specs.declared.class.SectionClass.{SectionClass}
+use Rattle.object_faults.specs.declared.class.SectionClass.TheVariants.{Executable, ReadOnly, Writable}
+use Rattle.object_faults.specs.declared.class.SectionClass.TheVariants.{Tls as ThreadLocal}
+use Rattle.elf_object.specs.declared.symbol.SymbolBinding.{SymbolBinding}
+use Rattle.elf_object.specs.declared.symbol.SymbolBinding.TheVariants as of_object
+use Rattle.elf_object.specs.declared.symbol.SymbolPlace.{SymbolPlace}
+use Rattle.elf_object.specs.declared.symbol.SymbolPlace.TheVariants.{Undefined, Absolute, InSection}
+use Rattle.elf_object.specs.declared.symbol.SymbolType.{SymbolType}
+use Rattle.elf_object.specs.declared.symbol.SymbolType.TheVariants as type_in_object
+use Rattle.elf_object.specs.Classes.{IsTls}
+use Rattle.elf_object.specs.Faults.{IsObject}
+use Rattle.elf_object.specs.Lawful.{IsPlaced, IsShared as IsSharedIn}
+use Rattle.elf_object.specs.LawsOfParts.{placed, shared}
+use Rattle.elf_object.specs.Lent.{section_class, section_size, symbol_binding, symbol_place, symbol_size, symbol_type}
+use Rattle.elf_object.specs.Lent.{symbol_value}
+use Rattle.dynamic_symbols.specs.Laws.{IsShared}
+use Rattle.dynamic_symbols.proofs.Named.{symbols_shared}
+use Rattle.image_file.specs.declared.part.TlsPart.{TlsPart}
+use Rattle.image_file.specs.declared.symbol.ImageSymbol.{ImageSymbol}
+use Rattle.image_file.specs.declared.symbol.SymbolBinding.TheVariants as of_image
+use Rattle.image_file.specs.declared.symbol.SymbolType as type_of_image
+use Rattle.image_file.specs.declared.symbol.SymbolType.TheVariants as type_in_image
+use Rattle.image_writer.specs.Linkable.{tls_size as size_of}
+use Rattle.tls_layout.specs.Places.{section_named, tls_alignment, tls_image, tls_offset_of, tls_size, initial_tls}
+use Rattle.tls_layout.specs.Sections.{Layout}
+use Rattle.tls_layout.proofs.LawsOfSections.{finds_sections}
+use Rattle.tls_layout.proofs.LawsOfTls.{have_offsets, lie_in_segment}
+use Rattle.tls_symbols.specs.Bindings.{is_tls_class, is_tls_place}
+use Rattle.tls_symbols.specs.Definitions.{is_defined, same_binding}
+use Rattle.link_core.specs.Linking.{Linking, address, layout, object, offset, offset_in}
+use Rattle.link_core.specs.Dynamic.{binding_shown, defined, foreign, imports, own_symbols, runtime_symbols, symbols}
+use Rattle.link_core.specs.Dynamic.{type_shown}
+use Rattle.link_core.specs.Faults.{FitsLimits, IsGiven}
+use Rattle.link_core.specs.Images.{tls_part}
+use Rattle.link_core.specs.Needs.{uses_runtime}
+
+-- a symbol that is shared, and lies in a TLS segment of n bytes if it is thread-local here
+pub record IsRight (n : ℕ) (s : ImageSymbol) : Type 0 where
+  pub shared : s.binding ≢ of_image.Local
+  pub inside : s.kind ≡ type_in_image.Tls → s.is_defined ≡ true → s.value ≤ n
+
+-- ** words of objects and of images
+
+not_local : (y : SymbolBinding) → same_binding of_object.Local y ≡ false → y ≢ of_object.Local
+not_local of_object.Local other = absurd (cc)
+not_local of_object.Global other = λ h. cc
+not_local of_object.Weak other = λ h. cc
+
+shown_shared : (y : SymbolBinding) → same_binding of_object.Local y ≡ false → binding_shown y ≢ of_image.Local
+shown_shared of_object.Local other = absurd (cc)
+shown_shared of_object.Global other = λ h. cc
+shown_shared of_object.Weak other = λ h. cc
+
+shown_tls : (x : SymbolType) → type_shown x ≡ type_in_image.Tls → x ≡ type_in_object.Tls
+shown_tls type_in_object.NoType h = absurd (cc)
+shown_tls type_in_object.Object h = absurd (cc)
+shown_tls type_in_object.Func h = absurd (cc)
+shown_tls type_in_object.Section h = absurd (cc)
+shown_tls type_in_object.File h = absurd (cc)
+shown_tls type_in_object.Tls h = refl
+
+class_is : (class : Option SectionClass) → is_tls_class class ≡ true
+    → (initial : Bool) × (class ≡ Some (ThreadLocal initial))
+class_is None h = absurd (cc)
+class_is (Some Executable) h = absurd (cc)
+class_is (Some ReadOnly) h = absurd (cc)
+class_is (Some (ThreadLocal initial)) h = (initial, refl)
+class_is (Some (Writable initial)) h = absurd (cc)
+
+tls_class : (class : Option SectionClass) → IsTls class → is_tls_class class ≡ true
+tls_class None h = absurd h
+tls_class (Some Executable) h = absurd h
+tls_class (Some ReadOnly) h = absurd h
+tls_class (Some (ThreadLocal initial)) h = refl
+tls_class (Some (Writable initial)) h = absurd h
+
+-- ** what the image defines
+
+module _ (l : Linking) (given : IsGiven l) (limits : FitsLimits l) (o e : ℕ)
+    (found : IsShared l.objects (record { object = o; symbol = e })) where
+  is_object : IsObject (object l o)
+  is_object = given.are_objects o [] found.within.object
+
+  is_placed : IsPlaced (object l o) e
+  is_placed = placed (object l o) is_object e found.within.symbol
+
+  is_shared : IsSharedIn (object l o) e
+  is_shared = shared (object l o) is_object e found.within.symbol
+      (not_local (symbol_binding (object l o) e) found.shared)
+
+  -- a place in a section of thread-local storage
+  in_segment : (s : ℕ) → symbol_place (object l o) e ≡ InSection s
+      → is_tls_class (section_class (object l o) s) ≡ true
+      → offset_in (layout l) o (InSection s) (symbol_value (object l o) e) ≤ tls_size (layout l).sections
+  in_segment s at tls =
+      let p = layout l in
+      let class = class_is (section_class (object l o) s) tls in
+      let seen = finds_sections l.kind l.objects o s found.within.object in
+      let some : IsSome (section_class (object l o) s) = is_shared.kept s at in
+      let fits = is_placed.inside s at some in
+      let size = seen.size_is some in
+      let has = have_offsets p o s class.0 (seen.class_is ∙ class.1) in
+      by (tls_offset_of p o s) refl has fits size
+    where
+      by : (found : Option ℕ) → tls_offset_of (layout l) o s ≡ found → IsSome found
+          → symbol_value (object l o) e + symbol_size (object l o) e ≤ section_size (object l o) s
+          → (section_named (layout l) o s).size ≡ section_size (object l o) s
+          → unwrap_or found 0 + symbol_value (object l o) e ≤ tls_size (layout l).sections
+      by None is has fits size = absurd (cc)
+      by (Some start) is has fits size =
+          let lies = (lie_in_segment (layout l) limits.lawful o s start is).inside in
+          omega (arith, lies, fits, size)
+
+  -- a symbol that an image shows as thread-local
+  shown_inside : (place : SymbolPlace) (address : ℕ) → symbol_place (object l o) e ≡ place
+      → (if is_tls_place (object l o) place then type_in_image.Tls
+      else type_shown (symbol_type (object l o) e)) ≡ type_in_image.Tls
+      → (if is_tls_place (object l o) place
+      then offset_in (layout l) o place (symbol_value (object l o) e) else address)
+      ≤ tls_size (layout l).sections
+  shown_inside Undefined address at shows = absurd (cc)
+  shown_inside Absolute address at shows = absurd (is_shared.relative at)
+  shown_inside (InSection s) address at shows = by (is_tls_class (section_class (object l o) s)) refl shows
+    where
+      by : (t : Bool) → is_tls_class (section_class (object l o) s) ≡ t
+          → (if t then type_in_image.Tls else type_shown (symbol_type (object l o) e)) ≡ type_in_image.Tls
+          → (if t then offset_in (layout l) o (InSection s) (symbol_value (object l o) e) else address)
+          ≤ tls_size (layout l).sections
+      by true is shows = in_segment s at is
+      by false is shows =
+          let typed = shown_tls (symbol_type (object l o) e) shows in
+          absurd (cc (is, tls_class (section_class (object l o) s) (is_placed.thread_local s typed at)))
+
+  defined_right : IsRight (tls_size (layout l).sections) (defined l (record { object = o; symbol = e }))
+  unfolding defined offset
+  defined_right = record {
+    shared = shown_shared (symbol_binding (object l o) e) found.shared;
+    inside = λ shows is.
+        shown_inside (symbol_place (object l o) e) (address l (record { object = o; symbol = e })) refl shows;
+  }
+
+-- ** all symbols
+
+foreign_right : (n : ℕ) (kind : type_of_image.SymbolType) → IsRight n (foreign kind)
+foreign_right n kind = record { shared = λ h. cc; inside = λ shows is. absurd (cc) }
+
+own_right : (l : Linking) → IsGiven l → FitsLimits l
+    → All (IsRight (tls_size (layout l).sections)) (map (defined l) (own_symbols l))
+own_right l given limits =
+    let n = tls_size (layout l).sections in
+    All-map (IsRight n) (defined l) (own_symbols l)
+    (All-weaker (IsShared l.objects) (λ found. IsRight n (defined l found))
+    (λ found is. defined_right l given limits found.object found.symbol is) (own_symbols l) (symbols_shared l.objects))
+
+imports_right : (n : ℕ) (names : List (List ℕ))
+    → All (IsRight n) (map (λ (name : List ℕ). foreign type_in_image.Tls) names)
+imports_right n names =
+    All-map (IsRight n) (λ (name : List ℕ). foreign type_in_image.Tls) names
+    (λ k d h. foreign_right n type_in_image.Tls)
+
+runtime_right : (n : ℕ) (uses : Bool) → All (IsRight n) (runtime_symbols uses)
+runtime_right n true =
+    All-cons (IsRight n) (foreign type_in_image.NoType) [] (foreign_right n type_in_image.NoType) (All-nil (IsRight n))
+runtime_right n false = All-nil (IsRight n)
+
+pub symbols_right : (l : Linking) → IsGiven l → FitsLimits l → All (IsRight (tls_size (layout l).sections)) (symbols l)
+unfolding symbols
+symbols_right l given limits =
+    let n = tls_size (layout l).sections in
+    let imported : List ImageSymbol = map (λ (name : List ℕ). foreign type_in_image.Tls) (imports l) in
+    let called : List ImageSymbol = runtime_symbols (uses_runtime l) in
+    All-append (IsRight n) (map (defined l) (own_symbols l)) (imported ++ called) (own_right l given limits)
+    (All-append (IsRight n) imported called (imports_right n (imports l)) (runtime_right n (uses_runtime l)))
+
+-- ** the segment
+
+-- an image tells how many bytes its TLS segment has
+pub size_told : (p : Layout) → size_of (tls_part p) ≡ tls_size p.sections
+unfolding tls_part
+size_told p = by (tls_size p.sections == 0) (tls_size p.sections) (record {
+  address = (tls_image p.kind p.sections).start;
+  initial = (initial_tls p.sections).end;
+  size = tls_size p.sections;
+  alignment = tls_alignment p.sections;
+}) refl (zero_is (tls_size p.sections))
+  where
+    zero_is : (n : ℕ) → (n == 0) ≡ true → 0 ≡ n
+    zero_is n h = grind (arith, nat_tests)
+
+    by : (t : Bool) (n : ℕ) (part : TlsPart) → part.size ≡ n → (t ≡ true → 0 ≡ n)
+        → size_of (if t then None else Some part) ≡ n
+    by true n part same none = none refl
+    by false n part same none = same

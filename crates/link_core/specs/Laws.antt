@@ -1,0 +1,77 @@
+-- What holds of every linked image.
+use Rattle.std.specs.Prelude.{◌≡◌, ◌+◌, ◌-◌, ◌*◌, ◌<◌, ◌≤◌, ◌^◌, ℕ, pos, ◌-ℤ◌, true, false, List, Some, length, slice_get}
+use Rattle.std.specs.Prelude.{slice_index_or}
+use Rattle.std.specs.Int.{w32, cast_unsigned}
+use Rattle.elf_object.specs.declared.relocation.Relocation.{Relocation}
+use Rattle.elf_object.specs.Lent.{relocations, section_size}
+use Rattle.elf_object.specs.Relocations.{field_width}
+use Rattle.elf_records.specs.Fields.{bytes_of, part_at}
+use Rattle.got_pairs.specs.declared.need.Need.{Need}
+use Rattle.got_pairs.specs.declared.need.Need.TheVariants.{RuntimeWord}
+use Rattle.got_pairs.specs.Needs.{start_of}
+use Rattle.image_writer.specs.Loadable.{HoldsTls}
+use Rattle.image_writer.specs.Outlined.{outline_of}
+use Rattle.object_faults.specs.declared.fault.FaultKind.TheVariants.{Sequence, StrayCall}
+use Rattle.section_file.specs.Files.{offset_of}
+use Rattle.sequence_match.specs.declared.places.Site.{Site}
+use Rattle.sequence_match.specs.Faults.{Nowhere}
+use Rattle.std.specs.List.{Contains}
+use Rattle.tls_layout.specs.Places.{address_of}
+use Rattle.link_core.specs.Bytes.{file, got_bytes, need_bytes, stub_bytes}
+use Rattle.link_core.specs.Faults.{IsGiven, Links}
+use Rattle.link_core.specs.Images.{image_of}
+use Rattle.link_core.specs.Linking.{Linking, choice, layout, object, place, sites_at}
+use Rattle.link_core.specs.Meant.{meant_byte}
+use Rattle.link_core.specs.Needs.{entries, got_start, has_stub, is_kept, need_address, stub_start}
+use Rattle.link_core.specs.Values.{is_replaced}
+
+-- an image can be written: its TLS segment begins no further than its last part ends
+abbrev pub ImagesHoldTls : Type 0
+ImagesHoldTls = (l : Linking) → IsGiven l → Links l → HoldsTls (outline_of (image_of l))
+
+-- each byte of a section stands at its place, as it is meant
+abbrev pub BytesAreMeant : Type 0
+BytesAreMeant = (l : Linking) (o t k address : ℕ) → IsGiven l → Links l → o < length l.objects
+    → address_of (layout l) o t ≡ Some address → k < section_size (object l o) t
+    → slice_get (file l) (offset_of (layout l) (address + k)) ≡ Some (meant_byte l o t k)
+
+-- each entry of the table stands at its place, with the numbers of its row
+abbrev pub EntriesStand : Type 0
+EntriesStand = (l : Linking) (need : Need) (at : ℕ) → IsGiven l → Links l → Contains (entries l) need
+    → start_of (entries l) need ≡ Some at
+    → part_at (length (need_bytes l need)) (offset_of (layout l) (got_start l + at)) (file l) ≡ need_bytes l need
+
+-- the stub stands at its place, and jumps through the word of the run time's function: its field holds how far that
+-- lies behind the field's end
+pub record StubStands (l : Linking) : Type 0 where
+  pub stands : part_at 6 (offset_of (layout l) (stub_start l)) (file l) ≡ stub_bytes l
+  pub jumps : part_at 4 2 (stub_bytes l)
+      ≡ bytes_of 4 (cast_unsigned w32 (pos (need_address l (Some RuntimeWord)) -ℤ pos (stub_start l + 6)))
+
+abbrev pub StubsStand : Type 0
+StubsStand = (l : Linking) → IsGiven l → Links l → has_stub l ≡ true → StubStands l
+
+-- no object has a loose relocation of a sequence, or a stray call of the run time
+abbrev pub HasNoStray : Linking → Type 0
+HasNoStray l = (o : ℕ) → o < length l.objects → Nowhere Sequence (object l o) × Nowhere StrayCall (object l o)
+
+-- byte k of section t lies in the field of a relocation, and in a site of object o
+abbrev pub IsCovered : Relocation → ℕ → Type 0
+IsCovered r k = (r.offset ≤ k) × (k < r.offset + field_width r.kind)
+
+pub record IsInSite (l : Linking) (o t k : ℕ) (site : Site) : Type 0 where
+  pub own : Contains (sites_at l o) site
+  pub section : site.section ≡ t
+  pub from : site.start ≤ k
+  pub to : k < site.start + site.len
+
+-- a relocation that has a field has it outside all rewritten sites, and one that has none lies in such a site
+pub record GoWithTheirSites (l : Linking) (o t : ℕ) (r : Relocation) : Type 0 where
+  pub outside : is_replaced l o r ≡ false → (k : ℕ) (site : Site) → IsCovered r k → IsInSite l o t k site
+      → is_kept (choice l o site) ≡ true
+  pub inside : is_replaced l o r ≡ true → (k : ℕ) → IsCovered r k
+      → (site : Site) × IsInSite l o t k site × (is_kept (choice l o site) ≡ false)
+
+abbrev pub FieldsGoWithTheirSites : Type 0
+FieldsGoWithTheirSites = (l : Linking) (o t : ℕ) (r : Relocation) → IsGiven l → Links l → HasNoStray l
+    → o < length l.objects → Contains (relocations (object l o) t) r → GoWithTheirSites l o t r
