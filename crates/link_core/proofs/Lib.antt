@@ -36,3 +36,8 @@ pub mod Symbols
 pub mod SymbolsInside
 pub mod SymbolsNames
 pub mod UsableSites
+pub mod WritingFields
+pub mod WritingParts
+pub mod WritingRoom
+pub mod WritingSites
+pub mod WritingWalks
