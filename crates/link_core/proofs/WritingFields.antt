@@ -65,7 +65,8 @@ module _ (l : Linking) (o t : ℕ) (r : Relocation) where
   unfolding field
   none_of e =
       let P : RelocationKind → Type 0 = λ k.
-      Some Empty ≡ stored_field k (own_number l k (binding l o r)) r.addend (place l o t r.offset) (other_number l o r k) in
+      Some Empty
+      ≡ stored_field k (own_number l k (binding l o r)) r.addend (place l o t r.offset) (other_number l o r k) in
       subst P (sym e) refl
 
   pub nothing_writes : (file : List ℕ) → r.kind ≡ Nothing → file ≡ with_field l o t file r

@@ -60,9 +60,9 @@ pub stub_written : (l : Linking) (file : List ℕ) (value : Option Field) → ha
 unfolding stub_bytes
 stub_written l file value some is =
     let gap = zeros (offset_of (layout l) (stub_start l) - length file) in
+    let held = stored_field GotPcRel 0 (negsuc 3) (stub_start l + 2) (need_address l (Some RuntimeWord)) in
     rw (some, is)
-    (append_assoc (file ++ gap) (0xff ∷ 0x25 ∷ [])
-    (field_bytes (unwrap_or (stored_field GotPcRel 0 (negsuc 3) (stub_start l + 2) (need_address l (Some RuntimeWord))) Empty))
+    (append_assoc (file ++ gap) (0xff ∷ 0x25 ∷ []) (field_bytes (unwrap_or held Empty))
     ∙ append_assoc file gap (stub_bytes l))
 
 pub stub_bare : (l : Linking) (file : List ℕ) → has_stub l ≡ true

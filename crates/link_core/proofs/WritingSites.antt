@@ -1,5 +1,6 @@
 -- What one sequence writes.
-use Rattle.std.proofs.Common.{◌≡◌, ◌+◌, ◌≤◌, ◌∙◌, ℕ, List, [], ◌∷◌, Option, Some, None, length, drop, fold, refl, sym, ap, arith}
+use Rattle.std.proofs.Common.{◌≡◌, ◌+◌, ◌≤◌, ◌∙◌, ℕ, List, [], ◌∷◌, Option, Some, None, length, drop, fold, refl, sym}
+use Rattle.std.proofs.Common.{ap, arith}
 use Rattle.std.specs.Prelude.{unwrap_or}
 use Rattle.std.proofs.Math.ListN.{drop_of_length-le}
 use Rattle.relax_sites.specs.declared.choices.Choice.{Choice}
@@ -22,7 +23,9 @@ module _ (l : Linking) (o : ℕ) (site : Site) (file : List ℕ) where
   -- the new field, where its value fits it; else nothing
   pub new_writes : (f : NewField) (value : Option Field)
       → value ≡ field l o site.section (new_relocation site f)
-      → patched (field_patch (offset_of (layout l) (place l o site.section (site.start + f.at))) (unwrap_or value Empty) ∷ []) file
+      → patched
+      (field_patch (offset_of (layout l) (place l o site.section (site.start + f.at))) (unwrap_or value Empty) ∷ [])
+      file
       ≡ with_new_field l o site (Some f) file
   new_writes f value is = rw is refl
 

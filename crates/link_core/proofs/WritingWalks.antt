@@ -97,7 +97,9 @@ module _ (l : Linking) (o s : ℕ) where
       this same =
           let found = ap (λ xs. slice_get xs f) held.0 ∙ ap (slice_get (relocations (object l o) t)) same ∙ at in
           let P : ℕ → Option Relocation → Type 0 = λ t x. IsSomeAnd x (λ r. IsOverflow l o t r) in
-          let here : P t (Some r) = subst (λ t. P t (Some r)) held.1 (subst (P (relocation_target (object l o) s)) found over.3) in
+          let some : P (relocation_target (object l o) s) (Some r) =
+          subst (P (relocation_target (object l o) s)) found over.3 in
+          let here : P t (Some r) = subst (λ t. P t (Some r)) held.1 some in
           filled here
 
   -- one does: it is the first

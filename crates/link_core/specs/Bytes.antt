@@ -101,7 +101,8 @@ with_new_field l o site (Some f) file =
 -- with the sequence that stands in a site's place
 unfoldable pub with_site : Linking → ℕ → List ℕ → Site → List ℕ
 with_site l o file site =
-    with_new_field l o site (new_field site.form (choice l o site)) (rewritten (in_file l o site) (choice l o site) file)
+    with_new_field l o site (new_field site.form (choice l o site))
+    (rewritten (in_file l o site) (choice l o site) file)
 
 -- with those of the objects from number o on, which have these sites
 abbrev pub with_sites_from : Linking → ℕ → List (List Site) → List ℕ → List ℕ

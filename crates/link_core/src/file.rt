@@ -6,7 +6,8 @@ ghost use Rattle.elf_records.specs.Fields.{bytes_of};
 ghost use Rattle.got_pairs.specs.Entries.{words};
 ghost use Rattle.tls_relocs.specs.Fields.{field_bytes};
 ghost use Rattle.tls_relocs.specs.Laid.{zeros};
-ghost use Rattle.link_core.specs.Bytes.{file as file_of_link, raw_file as raw_file_of, table_bytes, with_got, with_stub};
+ghost use Rattle.link_core.specs.Bytes.{file as file_of_link, raw_file as raw_file_of};
+ghost use Rattle.link_core.specs.Bytes.{table_bytes, with_got, with_stub};
 ghost use Rattle.link_core.specs.Overflows.{IsFirstOverflow, IsOverflowFault, NoOverflow};
 
 use crate::plan::Plan;

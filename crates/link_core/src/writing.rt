@@ -1,6 +1,7 @@
 //! The fields of relocations, and the sequences in the place of rewritten ones, written in the file.
 
-ghost use Rattle.std.specs.Prelude.{◌≡◌, ◌+◌, ◌^◌, ◌<◌, ◌≤◌, [], ◌∷◌, IfErr, OnErr, OnOk, Some, fold, length, unwrap_or};
+ghost use Rattle.std.specs.Prelude.{◌≡◌, ◌+◌, ◌^◌, ◌<◌, ◌≤◌, [], ◌∷◌, IfErr, OnErr, OnOk, Some};
+ghost use Rattle.std.specs.Prelude.{fold, length, unwrap_or};
 ghost use Rattle.std.specs.List.{Contains};
 ghost use Rattle.elf_object.specs.Lent.{relocation_target, relocations};
 ghost use Rattle.elf_object.specs.Object.{section_count};
@@ -11,10 +12,11 @@ ghost use Rattle.tls_layout.specs.Places.{address_of};
 ghost use Rattle.tls_relocs.specs.Fields.{field_patch, width_of};
 ghost use Rattle.tls_relocs.specs.Patches.{patched};
 ghost use Rattle.tls_symbols.specs.Bindings.{object_at};
-ghost use Rattle.link_core.specs.Bytes.{raw_file, with_field, with_fields, with_fields_from, with_new_field, with_site, with_sites_from, with_table};
+ghost use Rattle.link_core.specs.Bytes.{raw_file, with_field, with_fields, with_fields_from, with_table};
+ghost use Rattle.link_core.specs.Bytes.{with_new_field, with_site, with_sites_from};
 ghost use Rattle.link_core.specs.Linking.{choice, layout, sites_at};
-ghost use Rattle.link_core.specs.Overflows.{IsFilled, IsFirstOverflow, IsFirstOverflowIn, IsFirstOverflowOf, IsOverflow};
-ghost use Rattle.link_core.specs.Overflows.{NoOverflow, NoOverflowIn, NoOverflowOf};
+ghost use Rattle.link_core.specs.Overflows.{IsFirstOverflow, IsFirstOverflowIn, IsFirstOverflowOf};
+ghost use Rattle.link_core.specs.Overflows.{IsFilled, IsOverflow, NoOverflow, NoOverflowIn, NoOverflowOf};
 ghost use Rattle.link_core.specs.Room.{HasRoom};
 ghost use Rattle.relax_sites.specs.Rows.{new_field as new_field_of};
 

@@ -21,7 +21,8 @@ loop-number-preserved c =
       | in-Some+in_ok-push_entry w ↦
           ap (λ file. file.items ++ rest) w.file-is
           ∙ ap (λ items. items ++ rest) w.in_ok-push_entry.ensures
-          ∙ entries_step (entry_of t.kind t.block_offset) entry_bytes c.loop-number.file.items n t.entries w.in-Some.entry w.in-Some.ensures
+          ∙ entries_step (entry_of t.kind t.block_offset) entry_bytes c.loop-number.file.items n t.entries
+          w.in-Some.entry w.in-Some.ensures
           ∙ c.loop-number.invariant
       | in_default w ↦
           let none = sym w.in_default.is ∙ c.entry.ensures in

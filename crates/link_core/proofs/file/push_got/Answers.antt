@@ -30,8 +30,10 @@ returns c =
     let l = c.args.plan.now in
     let file = c.args.file.now.items in
     let got = c.plan.invariant.got_is ∙ ap table c.plan.view_is in
-    let start = c.place_in_file.ensures ∙ ap (offset_of (layout l)) (c.plan.invariant.start_is ∙ ap got_start c.plan.view_is) in
-    let some = λ (none : got_size l ≡ 0). c.if-size-eq0.false (c.size.ensures ∙ ap (λ t. total_size t.entries) got ∙ none) in
+    let begins = c.plan.invariant.start_is ∙ ap got_start c.plan.view_is in
+    let start = c.place_in_file.ensures ∙ ap (offset_of (layout l)) begins in
+    let size = c.size.ensures ∙ ap (λ t. total_size t.entries) got in
+    let some = λ (none : got_size l ≡ 0). c.if-size-eq0.false (size ∙ none) in
     on_ok_then c.push_entries.result (λ e.
     e
     ∙ ap (λ items. items ++ table_bytes c.plan.inside.got) c.in_ok-pad.ensures

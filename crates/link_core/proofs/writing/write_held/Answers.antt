@@ -16,7 +16,8 @@ returns-in-Err-clause-overflow c =
     let r = c.in-Some.relocation in
     let kept = c.loop-relocation.invariant in
     let here = first_at (relocations (object l o) t) c.next.new.self e r (sym c.in-Some.ensures.steps ∙ kept.2) in
-    let told = first_told l o s t e r c.requires.object c.requires.table c.requires.target here c.in-Err.ensures.overflow kept.5 in
+    let told = first_told l o s t e r c.requires.object c.requires.table c.requires.target here
+    c.in-Err.ensures.overflow kept.5 in
     subst (IsFirstOverflowIn l o s) (sym c.overflow.ensures) told
 
 pub loop-relocation-preserved : goal.loop-relocation-preserved

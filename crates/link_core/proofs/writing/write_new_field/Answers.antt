@@ -56,7 +56,10 @@ put-requires c =
     let site = c.args.site.now in
     let room = site_room l c.args.object site given limits c.requires.object c.requires.own in
     let fits = new_room l c.args.object site (choice l c.args.object site) c.args.field.now room c.requires.field in
-    record { room = rw (c.in-Ok.ensures.width, c.new_relocation-relocation.ensures, c.requires.address, c.requires.filled) fits }
+    record {
+      room =
+          rw (c.in-Ok.ensures.width, c.new_relocation-relocation.ensures, c.requires.address, c.requires.filled) fits;
+    }
 
 pub returns-in-Ok-clause-written : goal.returns-in-Ok-clause-written
 returns-in-Ok-clause-written c =

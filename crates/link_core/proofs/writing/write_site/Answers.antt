@@ -34,7 +34,8 @@ place_in_file-requires-clause-from_base c =
     let given = subst IsGiven c.plan.view_is c.plan.invariant.given in
     let limits = subst FitsLimits c.plan.view_is c.plan.invariant.limits in
     let room = site_room l c.args.object c.args.site.now given limits c.requires.object c.requires.own in
-    let at = c.section_address-address.ensures.address ∙ ap (λ l. unwrap_or (address_of (layout l) o site.section) 0) c.plan.view_is in
+    let at = c.section_address-address.ensures.address
+    ∙ ap (λ l. unwrap_or (address_of (layout l) o site.section) 0) c.plan.view_is in
     omega (arith, room.above, at)
 
 pub place_in_file-requires-clause-fits : goal.place_in_file-requires-clause-fits
@@ -54,7 +55,8 @@ rewrite-requires c =
     let given = subst IsGiven c.plan.view_is c.plan.invariant.given in
     let limits = subst FitsLimits c.plan.view_is c.plan.invariant.limits in
     let room = site_room l c.args.object site given limits c.requires.object c.requires.own in
-    let begins = c.section_address-address.ensures.address ∙ ap (λ l. unwrap_or (address_of (layout l) o site.section) 0) c.plan.view_is in
+    let begins = c.section_address-address.ensures.address
+    ∙ ap (λ l. unwrap_or (address_of (layout l) o site.section) 0) c.plan.view_is in
     let at = c.place_in_file.ensures ∙ ap (λ n. offset_of (layout l) (n + site.start)) begins in
     record {
       inside = omega (arith, room.inside, at, c.requires.filled);
@@ -68,20 +70,24 @@ returns-in-Some-clause-written c =
     let l = c.args.plan.now in
     let o = c.args.object in
     let site = c.args.site.now in
-    let begins = c.section_address-address.ensures.address ∙ ap (λ l. unwrap_or (address_of (layout l) o site.section) 0) c.plan.view_is in
+    let begins = c.section_address-address.ensures.address
+    ∙ ap (λ l. unwrap_or (address_of (layout l) o site.section) 0) c.plan.view_is in
     let at = c.place_in_file.ensures ∙ ap (λ n. offset_of (layout l) (n + site.start)) begins in
     let chosen = c.choice-choice.ensures.choice ∙ ap (λ l. choice l o site) c.plan.view_is in
     c.write_new_field.ensures.written
     ∙ ap (with_new_field l o site (Some c.in-Some.field)) c.rewrite.ensures
-    ∙ site_writes l o site c.args.file.now c.choice-choice.result (Some c.in-Some.field) c.place_in_file.result chosen c.in-Some.ensures at
+    ∙ site_writes l o site c.args.file.now c.choice-choice.result (Some c.in-Some.field) c.place_in_file.result chosen
+    c.in-Some.ensures at
 
 pub returns-in_default-clause-written : goal.returns-in_default-clause-written
 returns-in_default-clause-written c =
     let l = c.args.plan.now in
     let o = c.args.object in
     let site = c.args.site.now in
-    let begins = c.section_address-address.ensures.address ∙ ap (λ l. unwrap_or (address_of (layout l) o site.section) 0) c.plan.view_is in
+    let begins = c.section_address-address.ensures.address
+    ∙ ap (λ l. unwrap_or (address_of (layout l) o site.section) 0) c.plan.view_is in
     let at = c.place_in_file.ensures ∙ ap (λ n. offset_of (layout l) (n + site.start)) begins in
     let chosen = c.choice-choice.ensures.choice ∙ ap (λ l. choice l o site) c.plan.view_is in
     c.rewrite.ensures
-    ∙ site_writes l o site c.args.file.now c.choice-choice.result None c.place_in_file.result chosen c.in_default.ensures at
+    ∙ site_writes l o site c.args.file.now c.choice-choice.result None c.place_in_file.result chosen
+    c.in_default.ensures at
