@@ -44,3 +44,8 @@ pub mod TogetherNames
 pub mod TogetherRows
 pub mod TogetherSites
 pub mod UsableSites
+pub mod WritingFields
+pub mod WritingParts
+pub mod WritingRoom
+pub mod WritingSites
+pub mod WritingWalks
