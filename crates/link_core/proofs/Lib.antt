@@ -15,6 +15,7 @@ pub mod LengthsInside
 pub mod LengthsKept
 pub mod LengthsPlaces
 pub mod LengthsRaw
+pub mod LinkDrafts
 pub mod LinkFaults
 pub mod LinkLists
 pub mod Linkable
