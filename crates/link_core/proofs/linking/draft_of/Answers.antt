@@ -6,7 +6,8 @@ use Rattle.link_core.proofs.linking.draft_of.Goals as goal
 
 pub returns-clause-contents : goal.returns-clause-contents
 returns-clause-contents c =
-    drafted c.args.inputs.now _ (c.file_kind.ensures ∙ ap (λ (l : Linking). file_kind l.kind) c.inputs.view_is)
-    c.requires.parts c.requires.got
+    drafted c.args.inputs.now c.file_kind.result c.args.parts.now c.args.got c.tls_part.result c.args.symbols.now
+    c.args.relocations.now c.is_flagged.result
+    (c.file_kind.ensures ∙ ap (λ (l : Linking). file_kind l.kind) c.inputs.view_is) c.requires.parts c.requires.got
     (c.tls_part.ensures ∙ ap tls_part (c.inputs.invariant.placed ∙ ap layout c.inputs.view_is)) c.requires.symbols
     c.requires.names c.requires.relocations c.is_flagged.ensures
