@@ -2,6 +2,7 @@
 use Rattle.std.proofs.Common.{◌≡◌, ◌<◌, ◌≤◌, ◌^◌, ◌⊎◌, ◌↔◌, ℕ, Bool, true, false, IsTrue, Some, None}
 use Rattle.std.proofs.Common.{List, inl, inr, refl, subst, arith}
 use Rattle.std.proofs.lemmas.Bool.{cases_lt}
+use Rattle.std.specs.Prelude.{Result, Ok, Err, IfErr, OnOk}
 use Rattle.link_faults.specs.declared.fault.LinkFault.{LinkFault}
 use Rattle.link_faults.specs.declared.fault.LinkFault.TheVariants.{OutOfMemory, At}
 use Rattle.link_faults.specs.declared.fault.LinkFaultKind.{LinkFaultKind}
@@ -11,8 +12,8 @@ use Rattle.tls_layout.specs.Faults.{IsLayoutFault}
 use Rattle.tls_layout.specs.Places.{tls_size}
 use Rattle.tls_symbols.specs.Faults.{AreResolved, IsFault}
 use Rattle.link_core.specs.Linking.{Linking, layout}
-use Rattle.link_core.specs.Faults.{FitsLimits, IsCrowded, IsLinkFault, IsSound, IsWordy}
-use Rattle.link_core.specs.Overflows.{IsOverflowFault}
+use Rattle.link_core.specs.Faults.{FitsLimits, IsCrowded, IsLinkFault, IsSound, IsWordy, Links}
+use Rattle.link_core.specs.Overflows.{IsOverflowFault, NoOverflow}
 
 -- a name's
 pub names_fault : (l : Linking) (told : LinkFault) → IsFault l.objects l.startup told → IsLinkFault l told
@@ -109,3 +110,16 @@ overflow_fault l sound (At fault.NarrowInModule object s e) is = absurd is
 overflow_fault l sound (At fault.TlsTooLarge object s e) is = absurd is
 overflow_fault l sound (At fault.ImageTooLarge object s e) is = absurd is
 overflow_fault l sound (At fault.NoTls object s e) is = absurd is
+
+-- ** the end
+
+-- a link without it links, and a link with it tells it
+pub links_of : {A : Type 0} (l : Linking) (r : Result A LinkFault) → IsSound l → OnOk r (NoOverflow l)
+    → OnOk r (Links l)
+links_of l (Ok a) sound fits = record { sound = sound; fits = fits }
+links_of l (Err told) sound fits = tt
+
+pub fault_of : {A : Type 0} (l : Linking) (r : Result A LinkFault) → IsSound l → IfErr r (IsOverflowFault l)
+    → IfErr r (IsLinkFault l)
+fault_of l (Ok a) sound is = tt
+fault_of l (Err told) sound is = overflow_fault l sound told is

@@ -200,6 +200,20 @@ fn choices(alloc: Global, inputs: &Inputs) -> Result<Vec<Vec<Choice>>, AllocErro
     Ok(all)
 }
 
+/// What a link that no earlier fault stands in gives, or the first field that does not hold its value.
+#[tactic(auto, unfolding(crate::specs::Images::linked_of))]
+fn linked(alloc: Global, inputs: &Inputs) -> Result<Linked, LinkFault>
+    requires { IsSound inputs.now }
+    ensures linked { IfOk result (λ linked. linked ≡ linked_of inputs.now) }
+    ensures fits { OnOk result (NoOverflow inputs.now) }
+    ensures overflow { IfErr result (IsOverflowFault inputs.now) }
+{
+    let plan = plan_of(alloc, inputs)?;
+    let image = image(alloc, &plan)?;
+    let choices = choices(alloc, inputs)?;
+    Ok(Linked { image, choices })
+}
+
 /// Links objects into an image of this kind, beside startup images that export these names: of all of them in image
 /// order, the image's own included where it is one. `sites` has the sequences of each object, and `relax` says whether
 /// they may be rewritten. Answers the first fault: the kinds in their order, `Overflow` last, and within a kind the
@@ -222,8 +236,5 @@ pub fn link<'a>(
     ensures fault { IfErr result (IsLinkFault (link_of objects.now sites.now kind startup.now relax)) }
 {
     let inputs = inputs_of(alloc, objects, sites, kind, startup, relax)?;
-    let plan = plan_of(alloc, &inputs)?;
-    let image = image(alloc, &plan)?;
-    let choices = choices(alloc, &inputs)?;
-    Ok(Linked { image, choices })
+    linked(alloc, &inputs)
 }
