@@ -35,6 +35,11 @@ pub mod SortingLaws
 pub mod Symbols
 pub mod SymbolsInside
 pub mod SymbolsNames
+pub mod Together
+pub mod TogetherFound
+pub mod TogetherNames
+pub mod TogetherRows
+pub mod TogetherSites
 pub mod UsableSites
 pub mod WritingFields
 pub mod WritingParts
