@@ -19,7 +19,6 @@ use Rattle.job_text.specs.Listings.{IsListOf}
 use Rattle.job_text.proofs.MentionLemmas.{mentions_listed, number_within}
 use Rattle.job_text.specs.Jobs.{JobParts, IsAnswer, IsJob, IsLineOf, fault_or, in_image_order, job_declared, job_from, job_parts, lines_of_thread, number_of, numbered_line}
 use Rattle.job_text.specs.declared.draft.Slot.{Slot}
-use Rattle.job_text.specs.declared.draft.Slot.TheVariants.{Program, Start, Late}
 use Rattle.job_text.specs.declared.draft.Plan.{Plan}
 use Rattle.job_text.specs.declared.fault.Flaw.{Flaw}
 use Rattle.job_text.specs.declared.fault.Flaw.TheVariants as flaw

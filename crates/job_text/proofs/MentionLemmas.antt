@@ -1,10 +1,10 @@
 -- The images in the order of their lines: each of them, and each once.
-use Rattle.std.proofs.Common.{◌≡◌, ◌⊎◌, inl, inr, ℕ, ◌+◌, ◌-◌, ◌<◌, ◌≤◌, List, [], ◌∷◌, ◌++◌, Option, Some, None, length, map, get_or, refl, sym, ap, ◌∙◌, subst, arith, length-append, lit≤, Bool, true, false, leb}
+use Rattle.std.proofs.Common.{◌≡◌, ◌⊎◌, inl, inr, ℕ, ◌+◌, ◌-◌, ◌<◌, List, [], ◌∷◌, ◌++◌, Option, Some, None, length, map, get_or, refl, sym, ap, ◌∙◌, subst, arith, length-append, lit≤, Bool, true, false, leb}
 use Rattle.std.proofs.lemmas.Bool.{leb-true, leb-false}
 use Rattle.std.proofs.lemmas.List.{get_or-map, length-map}
 use Rattle.std.proofs.lemmas.List.Elements.{All-get_or, All-map, All-nil, All-push, All-weaker, Contains-append_left, Contains-get_or, Contains-push}
 use Rattle.std.proofs.lemmas.List.Quantifiers.{all_pairs_push}
-use Rattle.std.specs.List.{All, AllPairs, Contains}
+use Rattle.std.specs.List.{Contains}
 use Rattle.std.specs.Prelude.{◌≢◌}
 use Rattle.job_text.specs.Drafts.{IsSlot}
 use Rattle.job_text.specs.Images.{IsImageNumber}
@@ -20,20 +20,23 @@ listed_more : {X : Type 0} (P Q : X → Type 0) (list : List X) (new : X) → ((
 listed_more P Q list new keep is absent which h = record {
   only = All-push Q list new (All-weaker P Q keep list h.only) is;
   every = λ x q. elim (which x q) [
-      | inl old ↦ Contains-append_left list (new ∷ []) x (h.every x old)
-      | inr same ↦ subst (Contains (list ++ new ∷ [])) same (Contains-push list new)
-    ];
+    | inl old ↦ Contains-append_left list (new ∷ []) x (h.every x old)
+    | inr same ↦ subst (Contains (list ++ new ∷ [])) same (Contains-push list new)
+  ];
   once = all_pairs_push (λ a b. a ≢ b) list new h.once (λ k d l same. absent (subst P same (All-get_or P list k d l h.only)));
 }
 
--- before the first line there is no image
-pub nothing_listed : IsListOf (IsSlot None [] []) []
-nothing_listed = record { only = All-nil (IsSlot None [] []); every = none; once = λ i j d less inside. absurd (omega arith) }
+nothing : IsListOf (IsSlot None [] []) []
+nothing = record { only = All-nil (IsSlot None [] []); every = none; once = λ i j d less inside. absurd (omega arith) }
   where
     none : (slot : Slot) → IsSlot None [] [] slot → Contains [] slot
     none Program h = cc
     none (Start k) h = absurd (omega arith)
     none (Late k) h = absurd (omega arith)
+
+-- before the first line there is no image
+pub nothing_listed : (starts lates : List Image) (list : List Slot) → starts ≡ [] → lates ≡ [] → list ≡ [] → IsListOf (IsSlot None starts lates) list
+nothing_listed starts lates list s l e = rw (s, l, e) nothing
 
 -- the program is declared
 pub listed_program : (program : Option Image) (starts lates : List Image) (image : Image) (list : List Slot) → program ≡ None → IsListOf (IsSlot program starts lates) list
@@ -69,7 +72,7 @@ listed_start program starts now lates image n list e count h =
 
     which : length now ≡ length starts + 1 → (slot : Slot) → IsSlot program now lates slot → IsSlot program starts lates slot ⊎ (Start n ≡ slot)
     which more Program is = inl is
-    which more (Start k) is = elim (below_or_last k (length starts) (omega arith)) [ | inl less ↦ inl less | inr last ↦ inr (ap Start (count ∙ last)) ]
+    which more (Start k) is = elim (below_or_last k (length starts) (omega arith)) [ inl less ↦ inl less | inr last ↦ inr (ap Start (count ∙ last)) ]
     which more (Late k) is = inl is
 
 -- a late image joins
@@ -87,7 +90,7 @@ listed_late program starts lates now image n list e count h =
     which : length now ≡ length lates + 1 → (slot : Slot) → IsSlot program starts now slot → IsSlot program starts lates slot ⊎ (Late n ≡ slot)
     which more Program is = inl is
     which more (Start k) is = inl is
-    which more (Late k) is = elim (below_or_last k (length lates) (omega arith)) [ | inl less ↦ inl less | inr last ↦ inr (ap Late (count ∙ last)) ]
+    which more (Late k) is = elim (below_or_last k (length lates) (omega arith)) [ inl less ↦ inl less | inr last ↦ inr (ap Late (count ∙ last)) ]
 
 contains_map : {X Y : Type 0} (f : X → Y) (list : List X) (x : X) → Contains list x → Contains (map f list) (f x)
 contains_map f list x (k, inside, is) =

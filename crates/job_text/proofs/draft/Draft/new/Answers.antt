@@ -11,5 +11,5 @@ invariant_of-result c = record {
   slots = λ q. search rules;
   plans = search (rules, All-cons, All-nil);
   order_named = λ order e. cc;
-  mentioned = nothing_listed;
+  mentioned = nothing_listed _ _ _ (search rules) (search rules) (search rules);
 }
