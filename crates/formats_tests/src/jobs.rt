@@ -168,7 +168,9 @@ fn said(alloc: Global, job: &str) -> Result<String, Fail> {
     let (threads, fuel, order) = (job.threads(), job.fuel(), job.order());
     let (mentions, images) = (job.mentions(), job.images());
     let (first, second) = (job.lines(1), job.lines(2));
-    Ok(format!(in alloc; "{threads} {fuel} {order:?}\n{mentions:?}\n{images:?}\n{first:?}\n{second:?}\n")?)
+    Ok(format!(in alloc;
+        "{threads} {fuel} {order:?}\n{mentions:?}\n{images:?}\n{first:?}\n{second:?}\n"
+    )?)
 }
 
 #[test]
