@@ -1,6 +1,6 @@
 //! A job as far as it is read.
 
-ghost use Rattle.std.specs.Prelude.{All, ◌≡◌, ◌≤◌, ◌<◌, ◌++◌, ◌∷◌, ◌||◌, ◌&&◌, [], false, Some, is_some, IfOk};
+ghost use Rattle.std.specs.Prelude.{All, ◌≡◌, ◌≤◌, ◌<◌, ◌||◌, ◌&&◌, [], false, Some, is_some, IfOk};
 ghost use Rattle.std.specs.Prelude.{IfSome, IsTrue, OnOk, None, length, map, replicate, drop};
 ghost use Rattle.job_text.specs.Actions.{IsAction};
 ghost use Rattle.job_text.specs.Threads.{IsThread};
