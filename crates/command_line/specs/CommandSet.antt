@@ -22,8 +22,11 @@ run_app = with_rule (with_rule (new_app (codes "run")) (text_rule (codes "JOB"))
 -- link JOB IMAGE OUT [--no-relax]
 abbrev pub link_app : App
 link_app =
-    with_rule (with_rule (with_rule (with_rule (new_app (codes "link")) (text_rule (codes "JOB"))) (text_rule (codes "IMAGE")))
-    (text_rule (codes "OUT"))) no_relax_rule
+    with_rule
+    (with_rule
+    (with_rule (with_rule (new_app (codes "link")) (text_rule (codes "JOB"))) (text_rule (codes "IMAGE")))
+    (text_rule (codes "OUT")))
+    no_relax_rule
 
 -- sites JOB IMAGE
 abbrev pub sites_app : App

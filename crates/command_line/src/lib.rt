@@ -7,8 +7,8 @@
 //! | words | task |
 //! |---|---|
 //! | `run JOB [--no-relax]` | link the images of the job in the file JOB, and run its threads |
-//! | `link JOB IMAGE OUT [--no-relax]` | link the images of the job, put the image IMAGE to the file OUT, and say how long it is |
-//! | `sites JOB IMAGE` | print the code sequences of the image IMAGE, and what stands in the place of each |
+//! | `link JOB IMAGE OUT [--no-relax]` | link the images, put the one named IMAGE to the file OUT, and say how long it is |
+//! | `sites JOB IMAGE` | print the code sequences of the image named IMAGE, and what stands in the place of each |
 //! | `show FILE` | print what the image in the file FILE says |
 //!
 //! ```text
