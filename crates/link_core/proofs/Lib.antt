@@ -29,6 +29,10 @@ pub mod RelativesParts
 pub mod RelativesTables
 pub mod RelocationListLemmas
 pub mod SortingLaws
+pub mod StandingAway
+pub mod StandingPlaces
+pub mod StandingSteps
+pub mod StandingTable
 pub mod Symbols
 pub mod SymbolsInside
 pub mod SymbolsNames
