@@ -19,7 +19,7 @@ use Rattle.link_core.specs.Needs.{got_start}
 use Rattle.link_core.specs.Bytes.{file, raw_file, with_field, with_fields, with_fields_from, with_site, with_sites_from}
 use Rattle.link_core.specs.Bytes.{with_table}
 use Rattle.link_core.specs.Faults.{FitsLimits, IsGiven}
-use Rattle.link_core.proofs.StandingSteps.{Acts, after, always, fold_leaves, numbered_acts, same}
+use Rattle.link_core.proofs.StandingSteps.{Acts, after, always, fold_leaves, from_zero, numbered_acts, same}
 use Rattle.link_core.proofs.StandingPlaces.{IsAway, field_in, field_leaves, in_away, site_in, site_leaves}
 
 -- the relocations that a section holds are those of its target
@@ -65,9 +65,6 @@ module _ (l : Linking) (given : IsGiven l) (limits : FitsLimits l) (q : ℕ) whe
       (away site.section)))
 
   -- ** the whole file
-
-  from_zero : (k : ℕ) → k ≡ 0 + k
-  from_zero k = omega arith
 
   file_away : ((o t : ℕ) → IsAway l q o t) → slice_get (file l) q ≡ slice_get (raw_file l) q
   unfolding file

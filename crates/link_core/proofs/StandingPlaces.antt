@@ -9,6 +9,7 @@ use Rattle.object_faults.specs.declared.class.SectionClass.TheVariants.{Executab
 use Rattle.object_faults.specs.Firsts.{nonzero}
 use Rattle.elf_object.specs.declared.relocation.Relocation.{Relocation}
 use Rattle.elf_object.specs.Lawful.{IsLawful}
+use Rattle.elf_object.specs.Laws.{class_in_table}
 use Rattle.elf_object.specs.LawsOfRelocations.{lawful as relocations_lawful}
 use Rattle.elf_object.specs.Lent.{relocation_target, relocations, section_class, section_size}
 use Rattle.elf_object.specs.Object.{section_count}
@@ -49,6 +50,7 @@ use Rattle.link_core.proofs.StandingSteps.{Acts, after, same, splice_leaves}
 
 pub record Lies (l : Linking) (o t address : ℕ) : Type 0 where
   pub there : o < length l.objects
+  pub some : 0 < t
   pub address_is : address_of (layout l) o t ≡ Some address
   pub size_is : (section_named (layout l) o t).size ≡ section_size (object l o) t
   pub above : base_of l.kind ≤ address
@@ -69,6 +71,7 @@ module _ (l : Linking) (given : IsGiven l) (limits : FitsLimits l) where
       let size = found.size_is (rw is refl) in
       record {
         there = there;
+        some = (class_in_table (object l o) t (rw is refl)).0;
         address_is = at;
         size_is = size;
         above = lies.above;

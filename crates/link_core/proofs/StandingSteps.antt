@@ -5,8 +5,9 @@ use Rattle.std.specs.Prelude.{fold, slice_get, slice_index_or, if◌then◌else�
 use Rattle.std.specs.List.{Contains, find, list_any, range_with_len}
 use Rattle.std.proofs.lemmas.Bool.{cases_lt}
 use Rattle.std.proofs.lemmas.List.{take-append-drop}
+use Rattle.std.proofs.lemmas.Option.{slice_get-get_or}
 use Rattle.elf_records.specs.Fields.{splice}
-use Rattle.tls_relocs.specs.Elements.{slice_get-splice_after, slice_get-splice_before}
+use Rattle.tls_relocs.specs.Elements.{slice_get-splice_after, slice_get-splice_before, slice_get-splice_within}
 use Rattle.link_core.proofs.LengthsKept.{splice_keeps}
 
 -- a step over n bytes leaves as many, and changes byte q so
@@ -32,6 +33,13 @@ always n q change test step sure acts now is =
     of_test true sure byte = refl
     of_test false (inl e) byte = absurd (cc)
     of_test false (inr none) byte = sym (none byte)
+
+-- steps that make the same of every file
+pub like : (n q : ℕ) (change : Option ℕ → Option ℕ) (step other : List ℕ → List ℕ)
+    → ((now : List ℕ) → step now ≡ other now) → Acts n q change other → Acts n q change step
+like n q change step other alike acts now is =
+    let h = acts now is in
+    (ap length (alike now) ∙ h.0, ap (λ xs. slice_get xs q) (alike now) ∙ h.1)
 
 -- ** one after another
 
@@ -92,6 +100,9 @@ module _ (n q : ℕ) (change : Option ℕ → Option ℕ) (once : (byte : Option
         ∙ ap (when (list_any test (range_with_len (i + 1) (length ys))) change) first.1
         ∙ join (test i) (list_any test (range_with_len (i + 1) (length ys))) (slice_get now q),
       )
+
+pub from_zero : (k : ℕ) → k ≡ 0 + k
+from_zero k = omega arith
 
 -- ** tests
 
@@ -156,3 +167,14 @@ splice_leaves n q at (x ∷ new) inside away now is =
         slice_get-splice_before at q (x ∷ new) now (omega (arith, inside (omega arith))) before
     of_place (inr behind) =
         slice_get-splice_after at q (x ∷ new) now (omega (arith, inside (omega arith))) behind
+
+-- what is written there
+pub splice_fills : (n at k : ℕ) (new : List ℕ) → at + length new ≤ n → k < length new
+    → Acts n (at + k) (λ byte. Some (slice_index_or new k 0)) (splice at new)
+splice_fills n at k new inside below now is =
+    let low : at + length new ≤ length now = omega arith in
+    let place : at + k - at ≡ k = omega arith in (
+      splice_keeps at new now (λ some. low) ∙ is,
+      slice_get-splice_within at (at + k) new now low (omega arith) (omega arith)
+      ∙ ap (slice_get new) place ∙ slice_get-get_or new k 0 below,
+    )
