@@ -85,7 +85,7 @@ field_at_most RexGotPcRelX s a p g = signed_at_most ((pos g +ℤ a) -ℤ pos p)
 -- ** writing
 
 -- no bytes change nothing
-splice_nothing : (at : ℕ) (file : List ℕ) → splice at [] file ≡ file
+pub splice_nothing : (at : ℕ) (file : List ℕ) → splice at [] file ≡ file
 unfolding splice
 splice_nothing at file = let same : at + 0 ≡ at = omega arith in rw same (take-append-drop at file)
 

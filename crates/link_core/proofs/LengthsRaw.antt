@@ -91,7 +91,7 @@ needs_length l (need ∷ more) =
       needs_length l more,
     )
 
-pub got_length : (l : Linking) → length (got_bytes l) ≡ got_size l
+got_length : (l : Linking) → length (got_bytes l) ≡ got_size l
 unfolding got_bytes
 got_length l = needs_length l (entries l)
 

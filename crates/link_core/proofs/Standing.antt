@@ -1,5 +1,5 @@
 -- Each byte of a section stands at its place, as it is meant.
-use Rattle.std.proofs.Common.{◌≡◌, ◌+◌, ◌-◌, ◌<◌, ◌≤◌, ◌∙◌, ℕ, Bool, true, false, List, [], Option, Some, None, length, refl}
+use Rattle.std.proofs.Common.{◌≡◌, ◌+◌, ◌<◌, ◌∙◌, ℕ, Bool, true, false, List, Option, Some, None, length, refl}
 use Rattle.std.proofs.Common.{ap, arith}
 use Rattle.std.specs.Prelude.{slice_get, slice_index_or, ◌==◌, if◌then◌else◌}
 use Rattle.std.specs.List.{find}
@@ -71,6 +71,7 @@ module _ (l : Linking) (given : IsGiven l) (links : Links l) (o t k address : �
   as_meant None (Some r) own = refl
   as_meant (Some site) r own = refl
 
+  -- each byte of a section, as it is meant
   pub byte_stands : slice_get (file l) (offset_of (layout l) (address + k)) ≡ Some (meant_byte l o t k)
   unfolding file meant_byte
   byte_stands =
@@ -80,7 +81,7 @@ module _ (l : Linking) (given : IsGiven l) (links : Links l) (o t k address : �
       let fields = field_change l given links o t address k lies below r in
       let sites = site_change l given links o t address k lies below site in
       (after (length (raw_file l)) q fields sites (with_fields_from l 0 l.objects) (with_sites_from l 0 l.sites)
-      (fields_act l given links o t address k lies below) (sites_act l given links o t address k lies below) (raw_file l)
-      refl).1
+      (fields_act l given links o t address k lies below) (sites_act l given links o t address k lies below)
+      (raw_file l) refl).1
       ∙ ap (λ byte. sites (fields byte)) raw_byte
       ∙ as_meant site r (slice_index_or (section_bytes (object l o) t) k 0)

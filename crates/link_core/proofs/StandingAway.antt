@@ -1,8 +1,9 @@
 -- What is written in sections leaves every byte that lies in none, and every other section.
-use Rattle.std.proofs.Common.{◌≡◌, ◌+◌, ◌-◌, ◌<◌, ◌≤◌, ◌∙◌, ℕ, zero, suc, true, List, [], ◌∷◌, Option, Some, None, length}
-use Rattle.std.proofs.Common.{drop, take, inl, inr, refl, sym, ap, subst, arith}
-use Rattle.std.specs.Prelude.{fold, slice_get, slice_index_or, ◌==◌, if◌then◌else◌}
-use Rattle.std.specs.List.{Contains, list_any, range_with_len}
+use Rattle.std.proofs.Common.{◌≡◌, ◌+◌, ◌-◌, ◌<◌, ◌≤◌, ◌∙◌, ℕ, zero, suc, true, List, [], ◌∷◌}
+use Rattle.std.proofs.Common.{Option, Some, None, length}
+use Rattle.std.proofs.Common.{drop, take, inr, refl, sym, subst, arith}
+use Rattle.std.specs.Prelude.{fold, slice_get}
+use Rattle.std.specs.List.{Contains, range_with_len}
 use Rattle.std.proofs.lemmas.Bool.Decides.{nat_tests}
 use Rattle.std.proofs.lemmas.Option.{same_Some}
 use Rattle.object_faults.specs.Firsts.{nonzero}
@@ -11,7 +12,6 @@ use Rattle.elf_object.specs.declared.relocation.Relocation.{Relocation}
 use Rattle.elf_object.specs.Lent.{relocation_target, relocations}
 use Rattle.elf_object.specs.Object.{section_count}
 use Rattle.section_file.specs.Files.{offset_of}
-use Rattle.sequence_match.specs.declared.places.Site.{Site}
 use Rattle.tls_relocs.specs.Elements.{slice_get-drop}
 use Rattle.tls_symbols.specs.Faults.{held_for, held_in}
 use Rattle.link_core.specs.Linking.{Linking, layout, object, sites_at}
@@ -37,6 +37,7 @@ module _ (l : Linking) (given : IsGiven l) (limits : FitsLimits l) (q : ℕ) whe
   abbrev Leaves : (List ℕ → List ℕ) → Type 0
   Leaves step = Acts (length (raw_file l)) q same step
 
+  -- the fields of one table
   pub table_away : (o s : ℕ) → o < length l.objects → IsAway l q o (relocation_target (object l o) s)
       → Leaves (λ now. with_table l o (object l o) now s)
   unfolding held_in
@@ -48,6 +49,7 @@ module _ (l : Linking) (given : IsGiven l) (limits : FitsLimits l) (q : ℕ) whe
       field_leaves l given limits q o t r there own
       (in_away l given limits q o t r.offset _ (field_in l given limits o t r there own) away))
 
+  -- those of one object
   pub object_away : (o : ℕ) → o < length l.objects → ((t : ℕ) → IsAway l q o t)
       → Leaves (with_fields l o (object l o))
   unfolding with_fields
@@ -56,6 +58,7 @@ module _ (l : Linking) (given : IsGiven l) (limits : FitsLimits l) (q : ℕ) whe
       fold_leaves (length (raw_file l)) q (with_table l o b) (range_with_len 1 (section_count b - 1)) (λ s has.
       table_away o s there (away (relocation_target b s)))
 
+  -- the sequences of one object
   pub own_sites_away : (o : ℕ) → o < length l.objects → ((t : ℕ) → IsAway l q o t)
       → Leaves (λ now. fold (with_site l o) now (sites_at l o))
   own_sites_away o there away =
@@ -66,6 +69,7 @@ module _ (l : Linking) (given : IsGiven l) (limits : FitsLimits l) (q : ℕ) whe
 
   -- ** the whole file
 
+  -- all that is written
   file_away : ((o t : ℕ) → IsAway l q o t) → slice_get (file l) q ≡ slice_get (raw_file l) q
   unfolding file
   file_away away =
@@ -95,6 +99,7 @@ same_take (suc n) (x ∷ xs) (y ∷ ys) agree =
     let rest = same_take n xs ys (λ k below. agree (suc k) (omega arith)) in
     cc
 
+-- the table and what lies behind it stay as they were laid
 pub table_stays : (l : Linking) → IsGiven l → FitsLimits l → (n at : ℕ) → offset_of (layout l) (got_start l) ≤ at
     → part_at n at (file l) ≡ part_at n at (raw_file l)
 unfolding part_at

@@ -1,8 +1,9 @@
 -- What the fields of relocations make of a byte of a section.
-use Rattle.std.proofs.Common.{◌≡◌, ◌≢◌, ◌+◌, ◌-◌, ◌<◌, ◌≤◌, ◌⊎◌, ◌&&◌, ◌==◌, ◌∙◌, ℕ, ℤ, zero, suc, Bool, true, false, not}
-use Rattle.std.proofs.Common.{List, [], ◌∷◌, Option, Some, None, IsSome, get_or, length, inl, inr, refl, sym, ap, subst}
+use Rattle.std.proofs.Common.{◌≡◌, ◌+◌, ◌-◌, ◌<◌, ◌≤◌, ◌⊎◌, ◌&&◌, ◌==◌, ◌∙◌, ℕ, ℤ, Bool, true, false, not}
+use Rattle.std.proofs.Common.{List, [], Option, Some, None, IsSome, length, inl, inr, refl, sym, ap, subst}
 use Rattle.std.proofs.Common.{arith}
-use Rattle.std.specs.Prelude.{pos, ◌+ℤ◌, ◌-ℤ◌, fold, nat_le, nat_lt, slice_get, slice_index_or, unwrap_or, if◌then◌else◌}
+use Rattle.std.specs.Prelude.{pos, ◌+ℤ◌, ◌-ℤ◌, fold, nat_le, nat_lt, slice_get, slice_index_or, unwrap_or}
+use Rattle.std.specs.Prelude.{if◌then◌else◌}
 use Rattle.std.specs.List.{Contains, find, list_any, range_with_len}
 use Rattle.std.proofs.lemmas.Bool.{cases_lt}
 use Rattle.std.proofs.lemmas.Bool.Decides.{nat_tests}
@@ -25,12 +26,11 @@ use Rattle.section_file.specs.Files.{offset_of}
 use Rattle.sequence_match.specs.Code.{AreApart}
 use Rattle.sequence_match.specs.Sites.{Covers}
 use Rattle.sequence_match.proofs.Sections.{fields_apart, target_of_table}
-use Rattle.tls_layout.specs.Places.{address_of}
 use Rattle.tls_layout.proofs.LawsOfPlaces.{addresses_apart}
 use Rattle.tls_relocs.specs.declared.fields.Field.{Field}
 use Rattle.tls_relocs.specs.declared.fields.Field.TheVariants.{Empty}
 use Rattle.tls_relocs.specs.Fields.{field_bytes}
-use Rattle.tls_relocs.specs.Values.{fits_signed, fits_unsigned, signed_field, stored_field, unsigned_field, word32}
+use Rattle.tls_relocs.specs.Values.{fits_signed, fits_unsigned, signed_field, stored_field, word32}
 use Rattle.tls_symbols.specs.Faults.{held_for, held_in}
 use Rattle.link_core.specs.Linking.{Linking, layout, object, place}
 use Rattle.link_core.specs.Bytes.{raw_file, with_field, with_field_at, with_fields, with_fields_from, with_table}
@@ -39,9 +39,9 @@ use Rattle.link_core.specs.Meant.{is_in_field}
 use Rattle.link_core.specs.Values.{field, is_replaced}
 use Rattle.link_core.proofs.Lengths.{field_inside}
 use Rattle.link_core.proofs.LengthsInside.{is_object}
-use Rattle.link_core.proofs.StandingSteps.{Acts, always, any_range, fold_acts, from_zero, like, none_found, numbered_acts}
-use Rattle.link_core.proofs.StandingSteps.{one_found, same, splice_fills, when}
-use Rattle.link_core.proofs.StandingPlaces.{IsAway, Lies, field_in, field_leaves, lies_at}
+use Rattle.link_core.proofs.StandingSteps.{Acts, always, any_range, fold_acts, from_zero, like, none_found}
+use Rattle.link_core.proofs.StandingSteps.{numbered_acts, number_is, number_not, number_same, one_found, same, splice_fills, when}
+use Rattle.link_core.proofs.StandingPlaces.{IsAway, Lies, field_leaves}
 use Rattle.link_core.proofs.StandingAway.{object_away, table_away}
 
 -- ** a field that holds its value is as wide as its type says
@@ -299,12 +299,6 @@ module _ (l : Linking) (given : IsGiven l) (links : Links l) (o t address k : �
       b : List ℕ
       b = object l o
 
-      number : (m n : ℕ) → (m == n) ≡ true → m ≡ n
-      number m n e = grind (arith, nat_tests)
-
-      other : (m n : ℕ) → (m == n) ≡ false → n ≡ m → ⊥
-      other m n e same = grind (arith, nat_tests)
-
       of_any : (x : Bool) → list_any (is_in_field l o k) rs ≡ x
           → (x ≡ true) ⊎ ((byte : Option ℕ) → field_change found_field byte ≡ byte)
       of_any true e = inl refl
@@ -324,7 +318,7 @@ module _ (l : Linking) (given : IsGiven l) (links : Links l) (o t address k : �
           let any = list_any (is_in_field l o k) rs in
           like n q (field_change found_field) (λ now. with_table l o (object l o) now s)
           (λ now. fold (with_field l o t) now rs)
-          (alike (number (relocation_target (object l o) s) t e))
+          (alike (number_is (relocation_target (object l o) s) t e))
           (always n q (field_change found_field) any (λ now. fold (with_field l o t) now rs)
           (of_any any refl)
           (fold_acts n q (field_change found_field) (once found_field) (is_in_field l o k) (with_field l o t)
@@ -332,7 +326,7 @@ module _ (l : Linking) (given : IsGiven l) (links : Links l) (o t address k : �
       of_test false e =
           table_away l given limits q o s lies.there
           (other_away o (relocation_target (object l o) s)
-          (λ same. other (relocation_target (object l o) s) t e same.1))
+          (λ same. number_not (relocation_target (object l o) s) t e same.1))
 
   -- ** one object
 
@@ -347,9 +341,6 @@ module _ (l : Linking) (given : IsGiven l) (links : Links l) (o t address k : �
       (fold_acts n q (field_change found_field) (once found_field) test (with_table l o (object l o)) tables
       (λ s has. own_table s))
     where
-      number : (m n : ℕ) → m ≡ n → (m == n) ≡ true
-      number m n e = grind (arith, nat_tests)
-
       of_table : (0 < kept_relocation_table (object l o) t) ⊎ (kept_relocation_table (object l o) t ≤ 0)
           → (list_any (λ s. relocation_target (object l o) s == t)
           (range_with_len 1 (section_count (object l o) - 1)) ≡ true)
@@ -358,7 +349,7 @@ module _ (l : Linking) (given : IsGiven l) (links : Links l) (o t address k : �
           let s = kept_relocation_table (object l o) t in
           let inside = (table_of_kept (object l o) t some).1.0.1 in
           inl (any_range (λ i. relocation_target (object l o) i == t) 1 (section_count (object l o) - 1) s some
-          (omega arith) (number (relocation_target (object l o) s) t (target_of_table (object l o) t some)))
+          (omega arith) (number_same (relocation_target (object l o) s) t (target_of_table (object l o) t some)))
       of_table (inr none) =
           inr (λ byte. ap (λ xs. field_change (find (is_in_field l o k) xs) byte) (no_table (object l o) t none))
 
@@ -368,27 +359,19 @@ module _ (l : Linking) (given : IsGiven l) (links : Links l) (o t address k : �
       (field_change (find (is_in_field l o k) rs)) (with_fields_from l 0 l.objects)
   fields_act =
       always n q (field_change found_field) _ (with_fields_from l 0 l.objects)
-      (inl (any_range (λ i. i == o) 0 (length l.objects) o (omega arith) (omega (arith, lies.there)) (itself o)))
+      (inl (any_range (λ i. i == o) 0 (length l.objects) o (omega arith) (omega (arith, lies.there))
+      (number_same o o refl)))
       (numbered_acts n q (field_change found_field) (once found_field) [] (λ i. i == o) (with_fields l)
       (with_fields_from l) (λ i now. refl) (λ i b more now. refl) 0 l.objects (λ p below.
       subst (λ i. Acts n q
       (when (i == o) (field_change found_field)) (with_fields l i (object l p))) (from_zero p)
       (of_test p below (p == o) refl)))
     where
-      itself : (m : ℕ) → (m == m) ≡ true
-      itself m = grind (arith, nat_tests)
-
-      number : (m n : ℕ) → (m == n) ≡ true → n ≡ m
-      number m n e = grind (arith, nat_tests)
-
-      other : (m n : ℕ) → (m == n) ≡ false → n ≡ m → ⊥
-      other m n e same = grind (arith, nat_tests)
-
       of_test : (p : ℕ) → p < length l.objects → (x : Bool) → (p == o) ≡ x
           → Acts n q (when x (field_change found_field))
           (with_fields l p (object l p))
       of_test p below true e =
           subst (λ i. Acts n q (field_change found_field)
-          (with_fields l i (object l i))) (number p o e) own_object
+          (with_fields l i (object l i))) (sym (number_is p o e)) own_object
       of_test p below false e =
-          object_away l given limits q p below (λ u. other_away p u (λ same. other p o e same.0))
+          object_away l given limits q p below (λ u. other_away p u (λ same. number_not p o e same.0))

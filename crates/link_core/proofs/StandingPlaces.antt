@@ -1,32 +1,28 @@
 -- Where sections lie, and what writing in them does to a byte that lies elsewhere.
-use Rattle.std.proofs.Common.{◌≡◌, ◌≢◌, ◌+◌, ◌-◌, ◌<◌, ◌≤◌, ◌⊎◌, ◌∙◌, ℕ, zero, suc, Bool, true, false, List, [], ◌∷◌}
-use Rattle.std.proofs.Common.{Option, Some, None, IsSome, length, inl, inr, refl, sym, ap, subst, arith}
-use Rattle.std.specs.Prelude.{fold, slice_get, slice_index_or, unwrap_or, if◌then◌else◌}
-use Rattle.std.specs.List.{Contains, range_with_len}
+use Rattle.std.proofs.Common.{◌≡◌, ◌≢◌, ◌+◌, ◌<◌, ◌≤◌, ◌⊎◌, ◌∙◌, ℕ, Bool, true, false, List}
+use Rattle.std.proofs.Common.{Option, Some, None, IsSome, length, inl, inr, refl, ap, arith}
+use Rattle.std.specs.Prelude.{slice_get, unwrap_or, if◌then◌else◌}
+use Rattle.std.specs.List.{Contains}
 use Rattle.std.proofs.lemmas.List.Elements.{All-contains}
 use Rattle.object_faults.specs.declared.class.SectionClass.{SectionClass}
 use Rattle.object_faults.specs.declared.class.SectionClass.TheVariants.{Executable, Tls}
-use Rattle.object_faults.specs.Firsts.{nonzero}
 use Rattle.elf_object.specs.declared.relocation.Relocation.{Relocation}
 use Rattle.elf_object.specs.Lawful.{IsLawful}
 use Rattle.elf_object.specs.Laws.{class_in_table}
 use Rattle.elf_object.specs.LawsOfRelocations.{lawful as relocations_lawful}
-use Rattle.elf_object.specs.Lent.{relocation_target, relocations, section_class, section_size}
-use Rattle.elf_object.specs.Object.{section_count}
+use Rattle.elf_object.specs.Lent.{relocations, section_class, section_size}
 use Rattle.elf_object.specs.Relocations.{field_width}
 use Rattle.link_faults.specs.ImageKinds.{base_of}
 use Rattle.section_file.specs.Files.{offset_of}
 use Rattle.section_file.proofs.Standing.{has_place}
 use Rattle.sequence_match.specs.declared.places.Site.{Site}
 use Rattle.sequence_match.specs.Faults.{IsSite}
-use Rattle.tls_layout.specs.Places.{address_of, class_of, section_named}
+use Rattle.tls_layout.specs.Places.{address_of, section_named}
 use Rattle.tls_layout.specs.Sections.{is_class}
 use Rattle.tls_layout.proofs.LawsOfPlaces.{have_addresses, lie_in_classes}
 use Rattle.tls_layout.proofs.LawsOfSections.{finds_sections}
-use Rattle.tls_relocs.specs.declared.fields.Field.{Field}
 use Rattle.tls_relocs.specs.declared.fields.Field.TheVariants.{Empty}
 use Rattle.tls_relocs.specs.Fields.{field_bytes}
-use Rattle.tls_symbols.specs.Faults.{held_for, held_in}
 use Rattle.tls_symbols.specs.declared.binding.Binding.{Binding}
 use Rattle.dynamic_symbols.specs.Names.{first_of}
 use Rattle.relax_sites.specs.declared.choices.Choice.{Choice}
@@ -48,6 +44,7 @@ use Rattle.link_core.proofs.StandingSteps.{Acts, after, same, splice_leaves}
 
 -- ** where a section lies
 
+-- section t of object o begins at the address, in the room of sections
 pub record Lies (l : Linking) (o t address : ℕ) : Type 0 where
   pub there : o < length l.objects
   pub some : 0 < t
@@ -63,6 +60,7 @@ IsAway l q o t =
     → (q < offset_of (layout l) address) ⊎ (offset_of (layout l) (address + section_size (object l o) t) ≤ q)
 
 module _ (l : Linking) (given : IsGiven l) (limits : FitsLimits l) where
+  -- a section of a class that has an address
   lies_in : (o t address : ℕ) (class : SectionClass) → o < length l.objects → section_class (object l o) t ≡ Some class
       → address_of (layout l) o t ≡ Some address → Lies l o t address
   lies_in o t address class there is at =
@@ -82,7 +80,8 @@ module _ (l : Linking) (given : IsGiven l) (limits : FitsLimits l) where
   pub lies_at : (o t address : ℕ) → o < length l.objects → address_of (layout l) o t ≡ Some address
       → Lies l o t address
   lies_at o t address there at =
-      let h = has_place l.kind l.objects o t address (there, at) in of_class (section_class (object l o) t) refl h.class h.is
+      let h = has_place l.kind l.objects o t address (there, at) in
+      of_class (section_class (object l o) t) refl h.class h.is
     where
       of_class : (found : Option SectionClass) → section_class (object l o) t ≡ found → (class : SectionClass)
           → is_class class found ≡ true → Lies l o t address
@@ -102,13 +101,14 @@ module _ (l : Linking) (given : IsGiven l) (limits : FitsLimits l) where
 
   -- ** fields
 
-  -- the field of a relocation lies in its section
+  -- some bytes of a section
   pub record IsIn (o t from len : ℕ) : Type 0 where
     pub address : ℕ
     pub lies : Lies l o t address
     pub place_is : place l o t from ≡ address + from
     pub fits : from + len ≤ section_size (object l o) t
 
+  -- that of a relocation
   pub field_in : (o t : ℕ) (r : Relocation) → o < length l.objects → Contains (relocations (object l o) t) r
       → IsIn o t r.offset (field_width r.kind)
   field_in o t r there has =
@@ -123,6 +123,7 @@ module _ (l : Linking) (given : IsGiven l) (limits : FitsLimits l) where
         fits = lawful.inside;
       }
 
+  -- a sequence
   pub site_in : (o : ℕ) (site : Site) → o < length l.objects → Contains (sites_at l o) site
       → IsIn o site.section site.start site.len
   site_in o site there has =
@@ -152,6 +153,7 @@ module _ (l : Linking) (given : IsGiven l) (limits : FitsLimits l) where
       of_side (inl before) = inl (omega (arith, is.place_is, is.fits, is.lies.above))
       of_side (inr behind) = inr (omega (arith, is.place_is, is.fits, is.lies.above))
 
+  -- a field has at most the bytes that its type says
   field_few : (o t : ℕ) (r : Relocation) → IsAtMost (field_width r.kind) (field l o t r)
   unfolding field
   field_few o t r = field_at_most r.kind _ r.addend _ _
@@ -187,6 +189,7 @@ module _ (l : Linking) (given : IsGiven l) (limits : FitsLimits l) where
 
   -- ** sequences
 
+  -- what is chosen for a site is of its form
   pub own_choice_of : (o : ℕ) (site : Site) → choice l o site ≢ Keep → IsChoiceOf site.form (choice l o site)
   unfolding choice
   own_choice_of o site = own (binding l o (first_of site))
@@ -195,6 +198,7 @@ module _ (l : Linking) (given : IsGiven l) (limits : FitsLimits l) where
       own None changes = absurd (changes refl)
       own (Some bound) changes = own_choice site.form bound l.kind l.relax
 
+  -- the row in a site's place leaves what lies outside the site
   row_leaves : (n q : ℕ) (site : Site) (choice : Choice) → (choice ≢ Keep → IsChoiceOf site.form choice)
       → site.start + site.len ≤ n → site.len ≡ form_length site.form
       → (q < site.start) ⊎ (site.start + site.len ≤ q) → Acts n q same (rewritten site choice)

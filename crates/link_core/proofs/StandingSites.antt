@@ -1,8 +1,8 @@
 -- What the sequences in the place of rewritten sites make of a byte of a section.
-use Rattle.std.proofs.Common.{◌≡◌, ◌≢◌, ◌+◌, ◌-◌, ◌<◌, ◌≤◌, ◌⊎◌, ◌&&◌, ◌==◌, ◌∙◌, ℕ, zero, suc, Bool, true, false, not}
-use Rattle.std.proofs.Common.{List, [], ◌∷◌, Option, Some, None, length, drop, take, inl, inr, refl, sym, ap, subst, arith}
-use Rattle.std.specs.Prelude.{fold, nat_le, nat_lt, slice_get, slice_index_or, unwrap_or, if◌then◌else◌}
-use Rattle.std.specs.List.{Contains, find, list_any, range_with_len}
+use Rattle.std.proofs.Common.{◌≡◌, ◌≢◌, ◌+◌, ◌-◌, ◌<◌, ◌≤◌, ◌⊎◌, ◌&&◌, ◌==◌, ◌∙◌, ℕ, Bool, true, false, not}
+use Rattle.std.proofs.Common.{List, [], Option, Some, None, length, drop, inl, inr, refl, sym, ap, subst, arith}
+use Rattle.std.specs.Prelude.{fold, nat_le, nat_lt, slice_get, slice_index_or, unwrap_or}
+use Rattle.std.specs.List.{Contains, find, list_any}
 use Rattle.std.proofs.lemmas.Bool.{cases_lt}
 use Rattle.std.proofs.lemmas.Bool.Decides.{nat_tests}
 use Rattle.std.proofs.lemmas.List.Elements.{All-contains}
@@ -14,7 +14,7 @@ use Rattle.relax_sites.specs.declared.choices.Choice.{Choice}
 use Rattle.relax_sites.specs.declared.choices.Choice.TheVariants.{Keep, GdLe, GdIe, LdLe, IeLe, DescLe, DescIe}
 use Rattle.relax_sites.specs.declared.rows.NewField.{NewField}
 use Rattle.relax_sites.specs.Rewriting.{rewritten}
-use Rattle.relax_sites.specs.Rows.{form_length, new_bytes, new_field}
+use Rattle.relax_sites.specs.Rows.{new_bytes, new_field}
 use Rattle.relax_sites.proofs.Parts.{part_at-splice_inside}
 use Rattle.relax_sites.proofs.Tables.{row_length}
 use Rattle.section_file.specs.Files.{offset_of}
@@ -24,7 +24,6 @@ use Rattle.sequence_match.specs.declared.forms.Form.TheVariants.{DescCall}
 use Rattle.sequence_match.specs.declared.places.Site.{Site}
 use Rattle.sequence_match.specs.Faults.{IsSite}
 use Rattle.sequence_match.proofs.ApartSites.{sites_apart}
-use Rattle.tls_layout.specs.Places.{address_of}
 use Rattle.tls_relocs.specs.declared.fields.Field.TheVariants.{Empty}
 use Rattle.tls_relocs.specs.Elements.{slice_get-drop, slice_get-take}
 use Rattle.tls_relocs.specs.Fields.{field_bytes}
@@ -36,9 +35,9 @@ use Rattle.link_core.specs.Meant.{is_in_rewritten, rewritten_bytes, row_with}
 use Rattle.link_core.specs.Values.{field}
 use Rattle.link_core.proofs.Lengths.{site_inside}
 use Rattle.link_core.proofs.LengthsKept.{splice_keeps}
-use Rattle.link_core.proofs.StandingSteps.{Acts, always, any_range, fold_acts, from_zero, like, none_found, numbered_acts}
-use Rattle.link_core.proofs.StandingSteps.{one_found, same, splice_fills, when}
-use Rattle.link_core.proofs.StandingPlaces.{IsAway, IsIn, Lies, in_away, new_field_in, own_choice_of, site_in, site_leaves}
+use Rattle.link_core.proofs.StandingSteps.{Acts, always, any_range, fold_acts, from_zero, like, none_found}
+use Rattle.link_core.proofs.StandingSteps.{numbered_acts, number_is, number_not, number_same, one_found, same, splice_fills, when}
+use Rattle.link_core.proofs.StandingPlaces.{Lies, in_away, new_field_in, own_choice_of, site_in, site_leaves}
 use Rattle.link_core.proofs.StandingAway.{own_sites_away}
 use Rattle.link_core.proofs.StandingFields.{other_away}
 
@@ -91,12 +90,14 @@ splice_twice s a j new row now room inside below =
 
 -- ** one site
 
+-- byte k of section t lies in the site, which is rewritten
 pub record IsCovering (l : Linking) (o t k : ℕ) (site : Site) : Type 0 where
   pub section : site.section ≡ t
   pub from : site.start ≤ k
   pub to : k < site.start + site.len
   pub rewrites : is_kept (choice l o site) ≡ false
 
+-- what the test of a site says
 covers_true : (m n a w k : ℕ) (kept : Bool)
     → ((m == n) && (nat_le a k && nat_lt k (a + w)) && not kept) ≡ true
     → (m ≡ n) × (a ≤ k) × (k < a + w) × (kept ≡ false)
@@ -158,8 +159,9 @@ module _ (l : Linking) (given : IsGiven l) (links : Links l) (o t address k : �
       let first = covering l o t k site covers in
       one_found (is_in_rewritten l o t k) own site has covers (λ x among again.
       let next = covering l o t k x again in
-      sites_apart (object l o) x site k (is_site x among) (is_site site has) (next.section ∙ sym first.section) next.from
-      next.to first.from first.to)
+      let section = next.section ∙ sym first.section in
+      sites_apart (object l o) x site k (is_site x among) (is_site site has) section next.from next.to first.from
+      first.to)
 
   -- one that is kept stays
   kept_leaves : (site : Site) → choice l o site ≡ Keep → Acts n q same (λ now. with_site l o now site)
@@ -202,7 +204,8 @@ module _ (l : Linking) (given : IsGiven l) (links : Links l) (o t address k : �
 
       here : offset_of (layout l) (place l o site.section site.start) + (k - site.start) ≡ q
       here =
-          let moved_by : offset_of (layout l) (place l o site.section site.start) ≡ offset_of (layout l) (address + site.start) =
+          let moved_by : offset_of (layout l) (place l o site.section site.start)
+          ≡ offset_of (layout l) (address + site.start) =
           ap (λ u. offset_of (layout l) (place l o u site.start)) covers.section
           ∙ ap (λ a. offset_of (layout l) (unwrap_or a 0 + site.start)) lies.address_is in
           let low = covers.from in
@@ -215,8 +218,9 @@ module _ (l : Linking) (given : IsGiven l) (links : Links l) (o t address k : �
       of_new None e =
           let low = covers.from in
           let high = covers.to in
-          let made = splice_fills n at (k - site.start) row (omega (arith, long, inside)) (omega (arith, long)) now is in
-          (made.0, subst (λ i. slice_get (splice at row now) i ≡ Some (slice_index_or row (k - site.start) 0)) here made.1)
+          let j = k - site.start in
+          let made = splice_fills n at j row (omega (arith, long, inside)) (omega (arith, long)) now is in
+          (made.0, subst (λ i. slice_get (splice at row now) i ≡ Some (slice_index_or row j 0)) here made.1)
       of_new (Some f) e =
           let bytes = field_bytes (unwrap_or (field l o site.section (new_relocation site f)) Empty) in
           let len = (is_site site has).1.len_is in
@@ -232,21 +236,17 @@ module _ (l : Linking) (given : IsGiven l) (links : Links l) (o t address k : �
           let high = covers.to in (
             whole,
             ap (λ i. slice_get (splice i bytes (splice at row now)) q) fits.0
-            ∙ ap (slice_get (splice (at + f.at) bytes (splice at row now))) (sym here)
-            ∙ splice_twice at f.at (k - site.start) bytes row now room (omega (arith, long, inside)) (omega (arith, long))
-            ∙ slice_get-get_or (splice f.at bytes row) (k - site.start) 0 (omega (arith, long)),
+                ∙ ap (slice_get (splice (at + f.at) bytes (splice at row now))) (sym here)
+                ∙ splice_twice at f.at (k - site.start) bytes row now room (omega (arith, long, inside))
+                (omega (arith, long))
+                ∙ slice_get-get_or (splice f.at bytes row) (k - site.start) 0 (omega (arith, long)),
           )
 
+  -- what one site makes of the byte
   own_site : (site : Site) → Contains own site
       → Acts n q (when (is_in_rewritten l o t k site) (site_change found_site)) (λ now. with_site l o now site)
   own_site site has = of_test (is_in_rewritten l o t k site) refl
     where
-      number : (m n : ℕ) → (m == n) ≡ true → m ≡ n
-      number m n e = grind (arith, nat_tests)
-
-      other : (m n : ℕ) → (m == n) ≡ false → n ≡ m → ⊥
-      other m n e same = grind (arith, nat_tests)
-
       at : ℕ
       at = offset_of (layout l) (place l o site.section site.start)
 
@@ -273,12 +273,12 @@ module _ (l : Linking) (given : IsGiven l) (links : Links l) (o t address k : �
       of_section : (x : Bool) → (site.section == t) ≡ x → is_in_rewritten l o t k site ≡ false
           → Acts n q same (λ now. with_site l o now site)
       of_section true e outside =
-          of_kept (is_kept (choice l o site)) refl (number site.section t e) outside
+          of_kept (is_kept (choice l o site)) refl (number_is site.section t e) outside
       of_section false e outside =
           site_leaves l given limits q o site lies.there has
           (in_away l given limits q o site.section site.start site.len (site_in l given limits o site lies.there has)
           (other_away l given links o t address k lies below o site.section
-          (λ same. other site.section t e same.1)))
+          (λ same. number_not site.section t e same.1)))
 
       of_test : (x : Bool) → is_in_rewritten l o t k site ≡ x
           → Acts n q (when x (site_change found_site)) (λ now. with_site l o now site)
@@ -307,27 +307,19 @@ module _ (l : Linking) (given : IsGiven l) (links : Links l) (o t address k : �
       (site_change (find (is_in_rewritten l o t k) (sites_at l o))) (with_sites_from l 0 l.sites)
   sites_act =
       always n q (site_change found_site) _ (with_sites_from l 0 l.sites)
-      (inl (any_range (λ i. i == o) 0 (length l.sites) o (omega arith) (omega (arith, lies.there, given.each)) (itself o)))
+      (inl (any_range (λ i. i == o) 0 (length l.sites) o (omega arith) (omega (arith, lies.there, given.each))
+      (number_same o o refl)))
       (numbered_acts n q (site_change found_site) (once found_site) [] (λ i. i == o)
       (λ i sites now. fold (with_site l i) now sites) (with_sites_from l) (λ i now. refl) (λ i sites more now. refl) 0
       l.sites (λ p below.
       subst (λ i. Acts n q (when (i == o) (site_change found_site)) (λ now. fold (with_site l i) now (sites_at l p)))
       (from_zero p) (of_test p (omega (arith, given.each)) (p == o) refl)))
     where
-      itself : (m : ℕ) → (m == m) ≡ true
-      itself m = grind (arith, nat_tests)
-
-      number : (m n : ℕ) → (m == n) ≡ true → n ≡ m
-      number m n e = grind (arith, nat_tests)
-
-      other : (m n : ℕ) → (m == n) ≡ false → n ≡ m → ⊥
-      other m n e same = grind (arith, nat_tests)
-
       of_test : (p : ℕ) → p < length l.objects → (x : Bool) → (p == o) ≡ x
           → Acts n q (when x (site_change found_site)) (λ now. fold (with_site l p) now (sites_at l p))
       of_test p there true e =
-          subst (λ i. Acts n q (site_change found_site) (λ now. fold (with_site l i) now (sites_at l i))) (number p o e)
-          own_sites
+          subst (λ i. Acts n q (site_change found_site) (λ now. fold (with_site l i) now (sites_at l i)))
+          (sym (number_is p o e)) own_sites
       of_test p there false e =
           own_sites_away l given limits q p there
-          (λ u. other_away l given links o t address k lies below p u (λ same. other p o e same.0))
+          (λ u. other_away l given links o t address k lies below p u (λ same. number_not p o e same.0))

@@ -1,14 +1,15 @@
 -- What steps over a file do to one byte of it.
-use Rattle.std.proofs.Common.{◌≡◌, ◌+◌, ◌-◌, ◌<◌, ◌≤◌, ◌⊎◌, ◌||◌, ◌∙◌, ℕ, zero, suc, Bool, true, false, List, [], ◌∷◌}
+use Rattle.std.proofs.Common.{◌≡◌, ◌+◌, ◌-◌, ◌<◌, ◌≤◌, ◌⊎◌, ◌==◌, ◌||◌, ◌∙◌, ℕ, zero, suc, Bool, true, false}
+use Rattle.std.proofs.Common.{List, [], ◌∷◌}
 use Rattle.std.proofs.Common.{Option, Some, None, get_or, length, inl, inr, refl, sym, ap, subst, arith}
 use Rattle.std.specs.Prelude.{fold, slice_get, slice_index_or, if◌then◌else◌}
 use Rattle.std.specs.List.{Contains, find, list_any, range_with_len}
 use Rattle.std.proofs.lemmas.Bool.{cases_lt}
-use Rattle.std.proofs.lemmas.List.{take-append-drop}
+use Rattle.std.proofs.lemmas.Bool.Decides.{nat_tests}
 use Rattle.std.proofs.lemmas.Option.{slice_get-get_or}
 use Rattle.elf_records.specs.Fields.{splice}
 use Rattle.tls_relocs.specs.Elements.{slice_get-splice_after, slice_get-splice_before, slice_get-splice_within}
-use Rattle.link_core.proofs.LengthsKept.{splice_keeps}
+use Rattle.link_core.proofs.LengthsKept.{splice_keeps, splice_nothing}
 
 -- a step over n bytes leaves as many, and changes byte q so
 abbrev pub Acts : ℕ → ℕ → (Option ℕ → Option ℕ) → (List ℕ → List ℕ) → Type 0
@@ -76,7 +77,7 @@ module _ (n q : ℕ) (change : Option ℕ → Option ℕ) (once : (byte : Option
       let rest = fold_acts test f xs (λ y has. each y (suc has.0, omega arith, has.2)) (f now x) first.0 in (
         rest.0,
         rest.1 ∙ ap (when (list_any test xs) change) first.1
-        ∙ join (test x) (list_any test xs) (slice_get now q),
+            ∙ join (test x) (list_any test xs) (slice_get now q),
       )
 
   -- the same over a list of which each element has a number
@@ -97,14 +98,24 @@ module _ (n q : ℕ) (change : Option ℕ → Option ℕ) (once : (byte : Option
       subst (λ j. A j (slice_index_or ys k d)) next (each (suc k) (omega arith))) (step i y now) first.0 in (
         ap length (more i y ys now) ∙ rest.0,
         ap (λ xs. slice_get xs q) (more i y ys now) ∙ rest.1
-        ∙ ap (when (list_any test (range_with_len (i + 1) (length ys))) change) first.1
-        ∙ join (test i) (list_any test (range_with_len (i + 1) (length ys))) (slice_get now q),
+            ∙ ap (when (list_any test (range_with_len (i + 1) (length ys))) change) first.1
+            ∙ join (test i) (list_any test (range_with_len (i + 1) (length ys))) (slice_get now q),
       )
 
 pub from_zero : (k : ℕ) → k ≡ 0 + k
 from_zero k = omega arith
 
 -- ** tests
+
+-- of two numbers
+pub number_is : (m n : ℕ) → (m == n) ≡ true → m ≡ n
+number_is m n e = grind (arith, nat_tests)
+
+pub number_not : (m n : ℕ) → (m == n) ≡ false → n ≡ m → ⊥
+number_not m n e same = grind (arith, nat_tests)
+
+pub number_same : (m n : ℕ) → m ≡ n → (m == n) ≡ true
+number_same m n e = grind (arith, nat_tests)
 
 -- a test that a number of a range passes
 pub any_range : (test : ℕ → Bool) (i n k : ℕ) → i ≤ k → k < i + n → test k ≡ true
@@ -149,10 +160,6 @@ one_found test (y ∷ ys) x has passes alone =
 
 -- ** writing
 
-splice_nothing : (at : ℕ) (file : List ℕ) → splice at [] file ≡ file
-unfolding splice
-splice_nothing at file = let here : at + 0 ≡ at = omega arith in rw here (take-append-drop at file)
-
 -- what is written elsewhere
 pub splice_leaves : (n q at : ℕ) (new : List ℕ) → (0 < length new → at + length new ≤ n)
     → (q < at) ⊎ (at + length new ≤ q) → Acts n q same (splice at new)
@@ -176,5 +183,5 @@ splice_fills n at k new inside below now is =
     let place : at + k - at ≡ k = omega arith in (
       splice_keeps at new now (λ some. low) ∙ is,
       slice_get-splice_within at (at + k) new now low (omega arith) (omega arith)
-      ∙ ap (slice_get new) place ∙ slice_get-get_or new k 0 below,
+          ∙ ap (slice_get new) place ∙ slice_get-get_or new k 0 below,
     )

@@ -1,11 +1,10 @@
 -- The entries of the table and the stub stand at their places.
-use Rattle.std.proofs.Common.{◌≡◌, ◌+◌, ◌-◌, ◌^◌, ◌<◌, ◌≤◌, ◌&&◌, ◌∙◌, ◌++◌, ℕ, zero, suc, ℤ, Bool, true, false, List, []}
-use Rattle.std.proofs.Common.{◌∷◌, ◌%◌, inl, inr, Option, Some, None, FitsSigned, length, take, refl, sym, ap, subst, arith, length-append}
-use Rattle.std.specs.Prelude.{pos, negsuc, ◌+ℤ◌, ◌-ℤ◌, nat_eq, nat_lt, cond, ◌==◌, if◌then◌else◌, unwrap_or}
+use Rattle.std.proofs.Common.{◌≡◌, ◌+◌, ◌-◌, ◌^◌, ◌<◌, ◌≤◌, ◌&&◌, ◌∙◌, ◌++◌, ℕ, suc, ℤ, Bool, true, false, List, []}
+use Rattle.std.proofs.Common.{◌∷◌, ◌%◌, inl, inr, Some, FitsSigned, length, take, refl, sym, ap, subst, arith}
+use Rattle.std.specs.Prelude.{pos, negsuc, ◌+ℤ◌, ◌-ℤ◌, nat_eq, ◌==◌, if◌then◌else◌, unwrap_or}
 use Rattle.std.specs.Int.{w32, cast_unsigned}
 use Rattle.std.specs.List.{flat_map}
 use Rattle.std.specs.Option.{IfSome}
-use Rattle.std.specs.Str.{bytes_eq}
 use Rattle.std.proofs.Math.Nat.{mod-eq_of_lt}
 use Rattle.std.proofs.lemmas.Bool.{cases_lt, le-ltb, lt-ltb}
 use Rattle.std.proofs.lemmas.Bool.Decides.{nat_tests}
@@ -19,7 +18,7 @@ use Rattle.got_pairs.specs.declared.need.Need.TheVariants.{ModulePair, SymbolPai
 use Rattle.got_pairs.specs.declared.need.Need.TheVariants.{AddressWord, RuntimeWord}
 use Rattle.got_pairs.specs.declared.need.Target.{Target}
 use Rattle.got_pairs.specs.declared.need.Target.TheVariants.{Here, Import}
-use Rattle.got_pairs.specs.Needs.{same_need, same_symbol, same_target, size_of, start_from, start_of, total_size}
+use Rattle.got_pairs.specs.Needs.{same_need, same_symbol, same_target, size_of, start_from, start_of}
 use Rattle.got_pairs.proofs.Served.{within}
 use Rattle.section_file.specs.Files.{offset_of, sections_file}
 use Rattle.section_file.specs.Laws.{sections_end}
@@ -36,7 +35,7 @@ use Rattle.link_core.specs.Bytes.{file, got_bytes, need_bytes, raw_file, stub_by
 use Rattle.link_core.specs.Faults.{FitsLimits, IsGiven}
 use Rattle.link_core.proofs.LengthsInside.{are_laid}
 use Rattle.link_core.proofs.LengthsPlaces.{base_before, got_end, got_end-before, got_start-after}
-use Rattle.link_core.proofs.LengthsRaw.{back_fits, got_length, need_length, stub_length, stub_small, with_got_length, word_before}
+use Rattle.link_core.proofs.LengthsRaw.{back_fits, need_length, stub_length, stub_small, with_got_length, word_before}
 use Rattle.link_core.proofs.StandingAway.{table_stays}
 
 -- ** equal needs are the same
@@ -86,9 +85,6 @@ need_is x y e = absurd (cc)
 -- ** an entry in the bytes of the table
 
 module _ (l : Linking) (need : Need) where
-  n : ℕ
-  n = length (need_bytes l need)
-
   pub entry_in : (from at : ℕ) (ks : List Need) → start_from from ks need ≡ Some at
       → (from ≤ at)
       × (part_at (length (need_bytes l need)) (at - from) (flat_map (need_bytes l) ks) ≡ need_bytes l need)
@@ -109,16 +105,20 @@ module _ (l : Linking) (need : Need) where
           let N : ℕ → Type 0 = λ i.
           part_at (length (need_bytes l need)) i (flat_map (need_bytes l) (k ∷ ks)) ≡ need_bytes l need in
           let K : Need → Type 0 = λ x.
-          part_at (length (need_bytes l need)) 0 (need_bytes l x ++ flat_map (need_bytes l) ks) ≡ need_bytes l need in
-          (omega arith, subst N (sym start) (subst K (need_is need k same)
-          (part_again 0 [] (need_bytes l need) (flat_map (need_bytes l) ks) refl)))
+          part_at (length (need_bytes l need)) 0 (need_bytes l x ++ flat_map (need_bytes l) ks) ≡ need_bytes l need in (
+            omega arith,
+            subst N (sym start) (subst K (need_is need k same)
+                (part_again 0 [] (need_bytes l need) (flat_map (need_bytes l) ks) refl)),
+          )
       of_test false same e rest =
           let r = rest e in
           let long = need_length l k in
-          let further : at - from ≡ length (need_bytes l k) + (at - (from + size_of k)) = omega (arith, r.0) in
-          (omega (arith, r.0), ap (λ i. part_at (length (need_bytes l need)) i (flat_map (need_bytes l) (k ∷ ks))) further
-          ∙ part_at-behind (length (need_bytes l need)) (at - (from + size_of k)) (need_bytes l k)
-          (flat_map (need_bytes l) ks) ∙ r.1)
+          let further : at - from ≡ length (need_bytes l k) + (at - (from + size_of k)) = omega (arith, r.0) in (
+            omega (arith, r.0),
+            ap (λ i. part_at (length (need_bytes l need)) i (flat_map (need_bytes l) (k ∷ ks))) further
+                ∙ part_at-behind (length (need_bytes l need)) (at - (from + size_of k)) (need_bytes l k)
+                (flat_map (need_bytes l) ks) ∙ r.1,
+          )
 
 -- ** a part behind a file
 
