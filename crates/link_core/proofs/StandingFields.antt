@@ -74,6 +74,7 @@ field_exact TlsDescCall s a p g some = refl
 field_exact GotPcRelX s a p g some = signed_exact ((pos g +ℤ a) -ℤ pos p) some
 field_exact RexGotPcRelX s a p g some = signed_exact ((pos g +ℤ a) -ℤ pos p) some
 
+-- so is every field of the image
 exact : (l : Linking) (o t : ℕ) (r : Relocation) → IsExact (field_width r.kind) (field l o t r)
 unfolding field
 exact l o t r = field_exact r.kind _ r.addend _ _
@@ -156,6 +157,7 @@ field_some l links o t r there some has own = of_value (field l o t r) refl
 
 -- ** one field
 
+-- what the test of a field says
 covers_true : (a w k : ℕ) (s : Bool) → ((nat_le a k && nat_lt k (a + w)) && not s) ≡ true
     → (a ≤ k) × (k < a + w) × (s ≡ false)
 covers_true a w k true e = absurd (no (nat_le a k && nat_lt k (a + w)) e)
@@ -213,6 +215,7 @@ module _ (l : Linking) (given : IsGiven l) (links : Links l) (o t address k : �
   place_is : (from : ℕ) → place l o t from ≡ address + from
   place_is from = ap (λ a. unwrap_or a 0 + from) lies.address_is
 
+  -- a field that covers the byte
   field_fills : (r : Relocation) → Contains rs r → is_replaced l o r ≡ false
       → r.offset ≤ k → k < r.offset + field_width r.kind
       → Acts n q (field_change (Some r))
@@ -240,6 +243,7 @@ module _ (l : Linking) (given : IsGiven l) (links : Links l) (o t address k : �
       shared rs r x k (fields_apart (object l o) (is_object l o given lies.there) t) has among (first.0, first.1)
       (next.0, next.1))
 
+  -- what one field makes of it
   own_field : (r : Relocation) → Contains rs r
       → Acts n q
       (when (is_in_field l o k r) (field_change found_field)) (λ now. with_field l o t now r)

@@ -44,6 +44,7 @@ like n q change step other alike acts now is =
 
 -- ** one after another
 
+-- one step, and then another
 pub after : (n q : ℕ) (first change : Option ℕ → Option ℕ) (step next : List ℕ → List ℕ) → Acts n q first step
     → Acts n q change next → Acts n q (λ byte. change (first byte)) (λ now. next (step now))
 after n q first change step next acts later now is =
@@ -68,6 +69,7 @@ module _ (n q : ℕ) (change : Option ℕ → Option ℕ) (once : (byte : Option
   join false true byte = refl
   join false false byte = refl
 
+  -- over a list
   pub fold_acts : {X : Type 0} (test : X → Bool) (f : List ℕ → X → List ℕ) (xs : List X)
       → ((x : X) → Contains xs x → Acts n q (when (test x) change) (λ now. f now x))
       → Acts n q (when (list_any test xs) change) (λ now. fold f now xs)
@@ -102,6 +104,7 @@ module _ (n q : ℕ) (change : Option ℕ → Option ℕ) (once : (byte : Option
             ∙ join (test i) (list_any test (range_with_len (i + 1) (length ys))) (slice_get now q),
       )
 
+-- the first number is 0
 pub from_zero : (k : ℕ) → k ≡ 0 + k
 from_zero k = omega arith
 
@@ -111,9 +114,11 @@ from_zero k = omega arith
 pub number_is : (m n : ℕ) → (m == n) ≡ true → m ≡ n
 number_is m n e = grind (arith, nat_tests)
 
+-- they differ
 pub number_not : (m n : ℕ) → (m == n) ≡ false → n ≡ m → ⊥
 number_not m n e same = grind (arith, nat_tests)
 
+-- they are one
 pub number_same : (m n : ℕ) → m ≡ n → (m == n) ≡ true
 number_same m n e = grind (arith, nat_tests)
 

@@ -85,6 +85,7 @@ need_is x y e = absurd (cc)
 -- ** an entry in the bytes of the table
 
 module _ (l : Linking) (need : Need) where
+  -- the entry of a need, where the first begins at `from`
   pub entry_in : (from at : ℕ) (ks : List Need) → start_from from ks need ≡ Some at
       → (from ≤ at)
       × (part_at (length (need_bytes l need)) (at - from) (flat_map (need_bytes l) ks) ≡ need_bytes l need)
@@ -167,6 +168,7 @@ got_there l file some = of_test (got_size l == 0) (test (got_size l) some)
     of_test true e = absurd (cc)
     of_test false e = (refl, refl)
 
+-- each entry, with the words of its need
 pub entry_stands : (l : Linking) → IsGiven l → FitsLimits l → (need : Need) (at : ℕ)
     → start_of (entries l) need ≡ Some at
     → part_at (length (need_bytes l need)) (offset_of (layout l) (got_start l + at)) (file l) ≡ need_bytes l need
@@ -207,6 +209,7 @@ whole_part : (n : ℕ) (xs : List ℕ) → length xs ≡ n → part_at n 0 xs �
 unfolding part_at
 whole_part n xs e = ap (take n) (sym (append-nil xs)) ∙ take_at xs [] n e
 
+-- the stub stands at its place
 pub stub_at : (l : Linking) → IsGiven l → FitsLimits l → has_stub l ≡ true
     → part_at 6 (offset_of (layout l) (stub_start l)) (file l) ≡ stub_bytes l
 unfolding raw_file
@@ -269,6 +272,7 @@ jump_is g p below =
     ap (λ n. (pos g +ℤ negsuc 3) -ℤ pos n) near ∙ distance g (p + 1) (omega arith) ∙ ap negsuc same
     ∙ sym (back g (p + 5) (omega arith)) ∙ ap (λ n. pos g -ℤ pos n) (sym far)
 
+-- its field holds how far the word lies behind the field's end
 pub stub_jumps : (l : Linking) → IsGiven l → FitsLimits l → part_at 4 2 (stub_bytes l)
     ≡ bytes_of 4 (cast_unsigned w32 (pos (need_address l (Some RuntimeWord)) -ℤ pos (stub_start l + 6)))
 unfolding stub_bytes
