@@ -40,7 +40,8 @@ use Rattle.link_core.specs.Values.{field, is_replaced}
 use Rattle.link_core.proofs.Lengths.{field_inside}
 use Rattle.link_core.proofs.LengthsInside.{is_object}
 use Rattle.link_core.proofs.StandingSteps.{Acts, always, any_range, fold_acts, from_zero, like, none_found}
-use Rattle.link_core.proofs.StandingSteps.{numbered_acts, number_is, number_not, number_same, one_found, same, splice_fills, when}
+use Rattle.link_core.proofs.StandingSteps.{number_is, number_not, number_same, numbered_acts, one_found, same}
+use Rattle.link_core.proofs.StandingSteps.{splice_fills, when}
 use Rattle.link_core.proofs.StandingPlaces.{IsAway, Lies, field_leaves}
 use Rattle.link_core.proofs.StandingAway.{object_away, table_away}
 

@@ -36,7 +36,8 @@ use Rattle.link_core.specs.Values.{field}
 use Rattle.link_core.proofs.Lengths.{site_inside}
 use Rattle.link_core.proofs.LengthsKept.{splice_keeps}
 use Rattle.link_core.proofs.StandingSteps.{Acts, always, any_range, fold_acts, from_zero, like, none_found}
-use Rattle.link_core.proofs.StandingSteps.{numbered_acts, number_is, number_not, number_same, one_found, same, splice_fills, when}
+use Rattle.link_core.proofs.StandingSteps.{number_is, number_not, number_same, numbered_acts, one_found, same}
+use Rattle.link_core.proofs.StandingSteps.{splice_fills, when}
 use Rattle.link_core.proofs.StandingPlaces.{Lies, in_away, new_field_in, own_choice_of, site_in, site_leaves}
 use Rattle.link_core.proofs.StandingAway.{own_sites_away}
 use Rattle.link_core.proofs.StandingFields.{other_away}
