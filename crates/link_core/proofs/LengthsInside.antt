@@ -45,7 +45,7 @@ is_object l o given there = given.are_objects o [] there
 part_longer : (l : Linking) (address : ℕ) (bytes file : List ℕ) → length file ≤ length (with_part l address bytes file)
 part_longer l address bytes file = omega (arith, length-append {A = ℕ})
 
-got_longer : (l : Linking) (file : List ℕ) → length file ≤ length (with_got l file)
+pub got_longer : (l : Linking) (file : List ℕ) → length file ≤ length (with_got l file)
 got_longer l file = of_test (got_size l == 0)
   where
     of_test : (t : Bool) → length file ≤ length (if t then file else with_part l (got_start l) (got_bytes l) file)

@@ -36,6 +36,13 @@ pub mod RelativesParts
 pub mod RelativesTables
 pub mod RelocationListLemmas
 pub mod SortingLaws
+pub mod Standing
+pub mod StandingAway
+pub mod StandingFields
+pub mod StandingPlaces
+pub mod StandingSites
+pub mod StandingSteps
+pub mod StandingTable
 pub mod Symbols
 pub mod SymbolsInside
 pub mod SymbolsNames

@@ -22,7 +22,7 @@ ghost use Rattle.relax_sites.specs.Rows.{new_field as new_field_of};
 
 use crate::needs::new_relocation;
 use crate::plan::Plan;
-use elf_object::{Object, Relocation, RelocationKind};
+use elf_object::{Relocation, RelocationKind};
 use link_faults::{LinkFault, LinkFaultKind};
 use relax_sites::{NewField, new_field, rewrite};
 use section_file::offset_of;
