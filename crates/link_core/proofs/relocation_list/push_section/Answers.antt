@@ -14,7 +14,7 @@ loop-relocation-init c =
       tt,
       tt,
       flat_start (field_relocations c.args.plan.now c.args.object c.args.section) c.args.all.now.items
-      c.into_iter-relocation-iterator.result all same,
+          c.into_iter-relocation-iterator.result all same,
       all_contained c.into_iter-relocation-iterator.result all same,
     )
 
@@ -25,8 +25,8 @@ loop-relocation-preserved c =
       tt,
       tt,
       flat_next c.loop-relocation.all.items c.push_field.new.all.items _
-      (field_relocations c.args.plan.now c.args.object c.args.section) c.in-Some.relocation c.next.new.self
-      c.loop-relocation.relocation-iterator first c.in_ok-push_field.ensures c.loop-relocation.invariant.2,
+          (field_relocations c.args.plan.now c.args.object c.args.section) c.in-Some.relocation c.next.new.self
+          c.loop-relocation.relocation-iterator first c.in_ok-push_field.ensures c.loop-relocation.invariant.2,
       rest_all (Contains all) c.in-Some.relocation c.next.new.self c.loop-relocation.relocation-iterator first
-      c.loop-relocation.invariant.3,
+          c.loop-relocation.invariant.3,
     )
