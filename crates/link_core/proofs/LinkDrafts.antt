@@ -13,7 +13,7 @@ use Rattle.image_writer.specs.Page.{file_offset}
 use Rattle.link_core.specs.Linking.{Linking, layout}
 use Rattle.link_core.specs.Bytes.{file}
 use Rattle.link_core.specs.Dynamic.{image_relocations, is_flagged, names, symbols}
-use Rattle.link_core.specs.Faults.{FitsLimits, IsGiven, IsSound}
+use Rattle.link_core.specs.Faults.{IsGiven, IsSound}
 use Rattle.link_core.specs.Images.{contents, file_kind, got_number, places, tls_part}
 use Rattle.link_core.specs.Named.{names_in, symbols_in}
 use Rattle.link_core.proofs.Lengths.{file_ends, places_inside}

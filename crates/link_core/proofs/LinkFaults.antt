@@ -5,7 +5,6 @@ use Rattle.std.proofs.lemmas.Bool.{cases_lt}
 use Rattle.std.specs.Prelude.{Result, Ok, Err, IfErr, OnOk}
 use Rattle.link_faults.specs.declared.fault.LinkFault.{LinkFault}
 use Rattle.link_faults.specs.declared.fault.LinkFault.TheVariants.{OutOfMemory, At}
-use Rattle.link_faults.specs.declared.fault.LinkFaultKind.{LinkFaultKind}
 use Rattle.link_faults.specs.declared.fault.LinkFaultKind.TheVariants as fault
 use Rattle.link_refusals.specs.Faults.{FitsKind, IsKindFault, IsStorageFault}
 use Rattle.tls_layout.specs.Faults.{IsLayoutFault}

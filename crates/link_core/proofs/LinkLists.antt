@@ -1,9 +1,8 @@
 -- The sites and the choices of objects, one by one.
-use Rattle.std.proofs.Common.{◌≡◌, ◌∙◌, ◌+◌, ◌<◌, ◌≤◌, ◌++◌, ℕ, zero, suc, List, [], ◌∷◌, length, drop, get_or, map}
-use Rattle.std.proofs.Common.{Bor, refl, sym, ap, subst, arith, add-one, append_assoc, drop-cons, drop_of_length-le}
+use Rattle.std.proofs.Common.{◌≡◌, ◌∙◌, ◌+◌, ◌<◌, ◌≤◌, ◌++◌, ℕ, suc, List, [], ◌∷◌, length, drop, get_or, map}
+use Rattle.std.proofs.Common.{Bor, sym, ap, arith, add-one, append_assoc, drop-cons, drop_of_length-le}
 use Rattle.std.proofs.lemmas.List.{append-nil, length-map, map-append}
 use Rattle.std.specs.Global.{Vec}
-use Rattle.elf_object.specs.Faults.{IsObject}
 use Rattle.dynamic_symbols.specs.Names.{imports as imports_of, name_size}
 use Rattle.dynamic_symbols.proofs.Adding.{own_sites}
 use Rattle.dynamic_symbols.proofs.OfSites.{sites_symbols}

@@ -1,6 +1,6 @@
 -- The relocations of fields as they are listed, one by one.
-use Rattle.std.proofs.Common.{◌≡◌, ◌≢◌, ◌∙◌, ◌+◌, ◌-◌, ◌<◌, ◌≤◌, ◌^◌, ◌++◌, ℕ, zero, suc, Bool, true, false, List, []}
-use Rattle.std.proofs.Common.{◌∷◌, length, drop, get_or, refl, sym, ap, subst, arith, append_assoc, add-one}
+use Rattle.std.proofs.Common.{◌≡◌, ◌≢◌, ◌∙◌, ◌+◌, ◌-◌, ◌<◌, ◌≤◌, ◌^◌, ◌++◌, ℕ, suc, true, List, []}
+use Rattle.std.proofs.Common.{◌∷◌, length, drop, sym, ap, subst, arith, append_assoc, add-one}
 use Rattle.std.proofs.Common.{drop-cons, drop_of_length-le}
 use Rattle.std.proofs.lemmas.List.{append-nil}
 use Rattle.std.specs.List.{All, Contains, flat_map, range_with_len}

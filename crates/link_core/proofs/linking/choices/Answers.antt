@@ -1,5 +1,4 @@
 use Rattle.std.proofs.Common.{◌∙◌, ◌<◌, length, sym, ap, subst, arith}
-use Rattle.dynamic_symbols.proofs.Adding.{own_sites}
 use Rattle.dynamic_symbols.specs.Walks.{HaveSymbols}
 use Rattle.tls_symbols.specs.Bindings.{object_at}
 use Rattle.link_core.specs.Linking.{Linking}

@@ -1,9 +1,7 @@
-use Rattle.std.proofs.Common.{◌∙◌, ◌<◌, ◌≤◌, ◌^◌, ◌-◌, ◌⊎◌, length, map, inl, inr, sym, ap, subst, rules, arith}
-use Rattle.std.proofs.lemmas.Grind.{common_steps}
+use Rattle.std.proofs.Common.{◌∙◌, ◌<◌, ◌≤◌, ◌^◌, ◌-◌, ◌⊎◌, length, map, inl, inr, sym, ap, subst}
 use Rattle.std.proofs.lemmas.List.{length-map}
 use Rattle.std.proofs.lemmas.Result.{err_from_is_err_and}
 use Rattle.std.specs.Global.{Vec}
-use Rattle.dynamic_symbols.specs.Names.{name_size}
 use Rattle.dynamic_symbols.proofs.OfSites.{sites_symbols}
 use Rattle.link_refusals.specs.Counts.{relocation_count}
 use Rattle.sequence_match.specs.declared.places.Site.{Site}

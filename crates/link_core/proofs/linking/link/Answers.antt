@@ -2,7 +2,6 @@ use Rattle.std.proofs.Common.{◌≡◌, subst}
 use Rattle.std.specs.Prelude.{IfErr, IfOk, OnOk}
 use Rattle.link_core.specs.Linking.{Linking, link_of}
 use Rattle.link_core.specs.Images.{linked_of}
-use Rattle.link_core.specs.Faults.{IsSound}
 use Rattle.link_core.specs.Overflows.{IsOverflowFault, NoOverflow}
 use Rattle.link_core.proofs.LinkFaults.{fault_of, links_of}
 use Rattle.link_core.proofs.linking.link.Goals as goal

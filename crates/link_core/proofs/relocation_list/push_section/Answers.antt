@@ -2,8 +2,8 @@ use Rattle.std.proofs.Common.{◌≡◌}
 use Rattle.std.specs.List.{Contains}
 use Rattle.elf_object.specs.Lent.{relocations}
 use Rattle.tls_symbols.specs.Bindings.{object_at}
-use Rattle.link_refusals.proofs.Asked.{rest_all, first_all}
-use Rattle.link_core.specs.Dynamic.{field_relocations, section_relocations}
+use Rattle.link_refusals.proofs.Asked.{rest_all}
+use Rattle.link_core.specs.Dynamic.{field_relocations}
 use Rattle.link_core.proofs.ListedFields.{all_contained, flat_next, flat_start}
 use Rattle.link_core.proofs.relocation_list.push_section.Goals as goal
 
