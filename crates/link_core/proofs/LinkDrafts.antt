@@ -70,10 +70,13 @@ module _ (l : Linking) (given : IsGiven l) (sound : IsSound l) (d : Draft) (byte
       (subst (λ f. length f ≡ file_offset (file_kind l.kind) (parts_end (file_kind l.kind) (contents l).parts)) (sym is)
       (file_ends l given sound.limits)))
 
+  -- a part lies in a file of a kind
+  abbrev IsInside : FileKind → List ℕ → PartPlace → Type 0
+  IsInside kind bytes part = file_offset kind part.address + part.size ≤ length bytes
+
   -- and has them all
   pub inside : All (λ (part : PartPlace). file_offset d.kind part.address + part.size ≤ length bytes) d.parts.now
   inside =
-      subst (λ xs. All (λ (part : PartPlace). file_offset d.kind part.address + part.size ≤ length bytes) xs) (sym parts)
-      (subst (λ k. All (λ (part : PartPlace). file_offset k part.address + part.size ≤ length bytes) (places l)) (sym kind)
-      (subst (λ f. All (λ (part : PartPlace). file_offset (file_kind l.kind) part.address + part.size ≤ length f) (places l))
-      (sym is) (places_inside l given sound.limits)))
+      subst (All (IsInside d.kind bytes)) (sym parts)
+      (subst (λ k. All (IsInside k bytes) (places l)) (sym kind)
+      (subst (λ f. All (IsInside (file_kind l.kind) f) (places l)) (sym is) (places_inside l given sound.limits)))

@@ -23,7 +23,8 @@ imports-requires-clause-symbols c = λ o there.
 pub returns-then-not-few-clause-fault : goal.returns-then-not-few-clause-fault
 returns-then-not-few-clause-fault c =
     let l = link_of c.args.objects.now c.args.sites.now c.args.kind c.args.startup.now c.args.relax in
-    let lawful : IsLawful (layout l) = subst IsLawful c.in_ok-placement.ensures.places c.in_ok-placement.ensures.lawful in
+    let lawful : IsLawful (layout l) =
+    subst IsLawful c.in_ok-placement.ensures.places c.in_ok-placement.ensures.lawful in
     let large : IsCrowded l ⊎ IsWordy l =
     elim c.then-not-few.branch [
       | then-not-few-via-then-not-few w ↦
@@ -43,7 +44,8 @@ returns-then-not-few-clause-fault c =
 pub returns-in_err-ask_tls-clause-fault : goal.returns-in_err-ask_tls-clause-fault
 returns-in_err-ask_tls-clause-fault c =
     let l = link_of c.args.objects.now c.args.sites.now c.args.kind c.args.startup.now c.args.relax in
-    let lawful : IsLawful (layout l) = subst IsLawful c.in_ok-placement.ensures.places c.in_ok-placement.ensures.lawful in
+    let lawful : IsLawful (layout l) =
+    subst IsLawful c.in_ok-placement.ensures.places c.in_ok-placement.ensures.lawful in
     let limits : FitsLimits l = record {
       lawful = lawful;
       few = c.has_few_relocations-few.ensures.few.0 c.if-not-few.false;
