@@ -15,7 +15,11 @@ pub mod LengthsInside
 pub mod LengthsKept
 pub mod LengthsPlaces
 pub mod LengthsRaw
+pub mod LinkDrafts
+pub mod LinkFaults
+pub mod LinkLists
 pub mod Linkable
+pub mod ListedFields
 pub mod Loads
 pub mod LoadsChains
 pub mod LoadsCounts
