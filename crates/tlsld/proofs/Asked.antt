@@ -8,7 +8,11 @@ use Rattle.tlsld.specs.Tasks.{task_names}
 use Rattle.tlsld.specs.Statuses.{IsLate}
 use Rattle.std.proofs.Math.Seq.{take-length}
 use Rattle.job_text.specs.Jobs.{job_of}
+use Rattle.ports.specs.declared.faults.FetchFault.{FetchFault}
+use Rattle.ports.specs.declared.faults.FetchFault.TheVariants as fetch
 use Rattle.ports.specs.Files.{Files, file_at, with_name}
+use Rattle.tlsld.specs.FetchFaults.{fault_of_fetch}
+use Rattle.tlsld.specs.Links.{image_job_names, image_names}
 use Rattle.tlsld.specs.Steps.{Asks, AsksFront, with_names, job_names, run_names}
 use Rattle.tlsld.specs.declared.fault.CommandFault.{CommandFault}
 use Rattle.tlsld.specs.declared.fault.CommandFault.TheVariants as fault
@@ -39,6 +43,25 @@ pub asks_after : {T : Type 0} (files : Option Files) (name text seen : List ℕ)
 asks_after None name text seen old mid new r first there same h = tt
 asks_after (Some fs) name text seen old mid new r first there same h =
     rw there (more name (job_names (job_of text)) old mid new r first (subst (λ (s : List ℕ). Asks (job_names (job_of s)) mid new r) same h))
+
+-- the job, and then the objects of its images
+pub asks_images : {T : Type 0} (files : Option Files) (name text seen image : List ℕ) (old mid new : Option Names) (r : Result T CommandFault) → mid ≡ with_name name old
+    → IfSome files (λ fs. file_at fs name ≡ Some text) → seen ≡ text → Asks (image_job_names image (job_of seen)) mid new r → IfSome files (λ fs. Asks (image_names fs name image) old new r)
+asks_images None name text seen image old mid new r first there same h = tt
+asks_images (Some fs) name text seen image old mid new r first there same h =
+    rw there (more name (image_job_names image (job_of text)) old mid new r first (subst (λ (s : List ℕ). Asks (image_job_names image (job_of s)) mid new r) same h))
+
+-- all names were asked for
+pub asks_whole : {T : Type 0} (names : Names) (old new : Option Names) (r : Result T CommandFault) → new ≡ with_names names old → Asks names old new r
+asks_whole names old new (Ok x) e = e
+asks_whole names old new (Err fault.Store) e = asks_all names old new e
+asks_whole names old new (Err fault.OutOfMemory) e = asks_all names old new e
+asks_whole names old new (Err (fault.Refused refusal)) e = e
+
+-- a front of them, where a fetch failed
+pub asks_fetched : (T : Type 0) (names : Names) (old new : Option Names) (fetch : FetchFault) (f : CommandFault) → f ≡ fault_of_fetch fetch → AsksFront names old new → Asks {T = T} names old new (Err f)
+asks_fetched T names old new fetch.Failed f e front = subst (λ v. Asks {T = T} names old new (Err v)) (sym e) front
+asks_fetched T names old new fetch.OutOfMemory f e front = subst (λ v. Asks {T = T} names old new (Err v)) (sym e) front
 
 -- ** the whole command
 

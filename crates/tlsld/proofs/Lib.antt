@@ -1,6 +1,12 @@
 mod Asked
 mod Counted
 mod Lines
+mod Making
+mod Membership
+mod Mentioned
+mod Places
 mod Refused
 mod Shown
+mod SiteLines
+mod Stages
 mod Words

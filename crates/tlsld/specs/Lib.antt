@@ -2,6 +2,8 @@ pub mod Delivery
 pub mod Executables
 pub mod Faults
 pub mod FetchFaults
+pub mod LinkSteps
+pub mod Links
 pub mod Listings
 pub mod Narrow
 pub mod Replies
@@ -12,3 +14,4 @@ pub mod SmallObjects
 pub mod Statuses
 pub mod Steps
 pub mod Tasks
+pub mod Wishes

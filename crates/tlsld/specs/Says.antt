@@ -4,6 +4,9 @@ use Rattle.std.specs.Fmt.{decimal}
 use Rattle.object_faults.specs.declared.fault.FaultKind.{FaultKind}
 use Rattle.elf_object.specs.FaultNames.{kind_name}
 use Rattle.job_text.specs.declared.fault.JobFault.{JobFault}
+use Rattle.job_text.specs.declared.fault.JobFault.TheVariants.{OutOfMemory, At}
+use Rattle.job_text.specs.declared.fault.JobFaultKind.{JobFaultKind}
+use Rattle.job_text.specs.Kinds.{kind_text}
 use Rattle.job_text.specs.declared.images.Image.{Image}
 use Rattle.transcript_text.specs.declared.outcomes.Outcome.{Outcome}
 use Rattle.job_text.specs.Jobs.{JobParts, job_of}
@@ -19,6 +22,10 @@ use Rattle.tlsld.specs.Runs.{HasRun, IsRefused}
 unfoldable pub one_line_text : List Image → Outcome → List ℕ
 one_line_text images outcome =
     transcript_text images (record { threads = (record { points = 0 ∷ []; outcome = outcome } ∷ []) ∷ []; events = [] })
+
+-- a job with a fault
+abbrev pub job_fault_text : ℕ → JobFaultKind → List ℕ
+job_fault_text line kind = codes "job " ++ decimal line ++ codes " " ++ kind_text kind ++ codes "\n"
 
 -- a job that is not taken yet
 abbrev pub job_not_yet : List ℕ
@@ -43,6 +50,11 @@ HasFile (Some bytes) P = P bytes
 -- a status and a text
 abbrev pub Is : ℕ → List ℕ → ℕ → List ℕ → Type 0
 Is own words status text = (status ≡ own) × (text ≡ words)
+
+-- where the job has a fault: 5, and the first one; want of memory is none
+abbrev pub JobFaultSays : JobFault → ℕ → List ℕ → Type 0
+JobFaultSays OutOfMemory status text = ⊥
+JobFaultSays (At line kind) status text = Is 5 (job_fault_text line kind) status text
 
 -- where the job ran: 0, and its transcript
 pub record Ran (job : JobParts) (small : Small) (b : List ℕ) (status : ℕ) (text : List ℕ) : Type 0 where
@@ -73,10 +85,9 @@ module _ (fs : Files) where
   SmallSays job None status text = Is 5 job_not_yet status text
   SmallSays job (Some small) status text = HasFile (file_at fs small.object) (λ b. ObjectSays job small b status text)
 
-  -- a job with a fault is answered as one that is not taken yet
   abbrev pub JobSays : Result JobParts JobFault → ℕ → List ℕ → Type 0
   JobSays (Ok job) status text = SmallSays job (small_job job) status text
-  JobSays (Err fault) status text = Is 5 job_not_yet status text
+  JobSays (Err fault) status text = JobFaultSays fault status text
 
   abbrev pub RunSays : List ℕ → ℕ → List ℕ → Type 0
   RunSays name status text = HasFile (file_at fs name) (λ bytes. JobSays (job_of bytes) status text)

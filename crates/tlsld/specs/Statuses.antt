@@ -2,7 +2,7 @@
 use Rattle.std.specs.Prelude.{◌≡◌, ℕ, ◌<◌, ◌≤◌, ◌⊎◌, Bool, false}
 use Rattle.ports.specs.Counts.{Rose}
 use Rattle.tlsld.specs.declared.status.Status.{Status}
-use Rattle.tlsld.specs.declared.status.Status.TheVariants.{Done, Usage, Store, Job, Object, Image}
+use Rattle.tlsld.specs.declared.status.Status.TheVariants.{Done, Usage, Store, Job, Object, Link, Image}
 
 -- the number of a status that a command gives itself; 1 and 4 come of putting its text
 abbrev pub code_of : Status → ℕ
@@ -11,6 +11,7 @@ code_of Usage = 2
 code_of Store = 3
 code_of Job = 5
 code_of Object = 6
+code_of Link = 7
 code_of Image = 8
 
 -- the text did not get through, so that the number is not the command's own: want of memory, or a sink that failed

@@ -2,24 +2,28 @@
 use Rattle.std.specs.Prelude.{◌≡◌, ℕ, List, [], ◌∷◌, ◌++◌, take, Option, Some, None, string_bytes, Result, Ok, Err}
 use Rattle.std.specs.Option.{option_map}
 use Rattle.job_text.specs.declared.fault.JobFault.{JobFault}
+use Rattle.job_text.specs.declared.fault.JobFault.TheVariants as job_fault
 use Rattle.job_text.specs.Jobs.{JobParts, job_of}
 use Rattle.tlsld.specs.SmallJobs.{Small, small_job}
 use Rattle.ports.specs.Files.{Files, file_at}
 use Rattle.tlsld.specs.declared.small_run.refusal.ObjectRefusal.{ObjectRefusal as Why}
 use Rattle.tlsld.specs.declared.small_run.refusal.ObjectRefusal.TheVariants as why
-use Rattle.tlsld.specs.Says.{job_not_yet, fault_text, not_yet_text}
+use Rattle.tlsld.specs.Says.{job_fault_text, job_not_yet, fault_text, not_yet_text}
+use Rattle.tlsld.specs.Links.{link_line}
 use Rattle.tlsld.specs.Listings.{image_fault_text}
 use Rattle.tlsld.specs.declared.fault.CommandFault.{CommandFault}
 use Rattle.tlsld.specs.declared.fault.CommandFault.TheVariants as fault
 use Rattle.tlsld.specs.declared.fault.InputRefusal.{InputRefusal}
-use Rattle.tlsld.specs.declared.fault.InputRefusal.TheVariants.{JobNotYet, Object, Image}
+use Rattle.tlsld.specs.declared.fault.InputRefusal.TheVariants.{Job, JobNotYet, Object, Link, Image}
 use Rattle.tlsld.specs.declared.fault.Reason.{Reason}
 use Rattle.tlsld.specs.declared.fault.Reason.TheVariants.{Fault, NotYet}
 
 -- the status and the text of a refusal
 abbrev pub refusal_code : InputRefusal → ℕ
+refusal_code (Job line kind) = 5
 refusal_code JobNotYet = 5
 refusal_code (Object name reason) = 6
+refusal_code (Link image kind object section entry) = 7
 refusal_code (Image offset kind) = 8
 
 abbrev pub object_text : List ℕ → Reason → List ℕ
@@ -27,8 +31,11 @@ object_text name (Fault section entry kind) = fault_text name section entry kind
 object_text name NotYet = not_yet_text name
 
 abbrev pub refusal_text : InputRefusal → List ℕ
+refusal_text (Job line kind) = job_fault_text line kind
 refusal_text JobNotYet = job_not_yet
 refusal_text (Object name reason) = object_text (string_bytes name) reason
+refusal_text (Link image kind object section entry) =
+    link_line (string_bytes image) kind (string_bytes object) section entry
 refusal_text (Image offset kind) = image_fault_text offset kind
 
 -- a step's answer is what says, but that the store may fail, and memory may be wanting
@@ -75,9 +82,10 @@ run_names fs name = name ∷ file_names (file_at fs name)
 -- why there is no job
 abbrev pub IsNoJob : Result JobParts JobFault → CommandFault → Type 0
 IsNoJob (Ok job) f = f ≡ fault.OutOfMemory
-IsNoJob (Err e) fault.Store = ⊥
-IsNoJob (Err e) fault.OutOfMemory = Unit {0}
-IsNoJob (Err e) (fault.Refused refusal) = refusal ≡ JobNotYet
+IsNoJob (Err job_fault.OutOfMemory) f = f ≡ fault.OutOfMemory
+IsNoJob (Err (job_fault.At line kind)) fault.Store = ⊥
+IsNoJob (Err (job_fault.At line kind)) fault.OutOfMemory = Unit {0}
+IsNoJob (Err (job_fault.At line kind)) (fault.Refused refusal) = refusal ≡ Job line kind
 
 -- a refusal of an object, as the command has it
 abbrev pub IsRefusalOf : List ℕ → Why → CommandFault → Type 0

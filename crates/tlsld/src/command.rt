@@ -1,5 +1,5 @@
 //! The commands: for each one the steps from its words to its output, in the order in which their faults come.
-ghost use Rattle.std.specs.Prelude.{◌≡◌, ◌<◌, ◌^◌, [], ◌∷◌, Some, Ok, IfOk, IfErr, IfSome};
+ghost use Rattle.std.specs.Prelude.{◌≡◌, ◌<◌, ◌^◌, [], ◌∷◌, Some, Ok, IfOk, IfSome};
 ghost use Rattle.image_text.specs.Shown.{shown};
 ghost use Rattle.job_text.specs.Jobs.{job_of as job_of_text};
 ghost use Rattle.ports.specs.Files.{with_name};
@@ -7,11 +7,13 @@ ghost use Rattle.tlsld.specs.Faults.{StoreCounts, NoStoreFault, IsNoStoreFault};
 ghost use Rattle.tlsld.specs.Replies.{AnswerCounts, AnswerSays, AsksOfAnswer};
 ghost use Rattle.tlsld.specs.Says.{JobSays, ObjectSays, RunSays, SmallSays, one_line_text};
 ghost use Rattle.tlsld.specs.Listings.{ListingSays};
-ghost use Rattle.tlsld.specs.Tasks.{ShowSays, TaskSays, task_names};
-ghost use Rattle.tlsld.specs.Steps.{Asks, Comes, IsNoJob, IsRefusalOf, job_names, run_names};
+ghost use Rattle.tlsld.specs.Tasks.{ShowSays, TaskLeaves, TaskSays, task_names};
+ghost use Rattle.tlsld.specs.Steps.{Asks, Comes, IsRefusalOf, job_names, run_names};
 
 use crate::fault::{CommandFault, InputRefusal, Reason};
 use crate::fetched::whole_file;
+use crate::jobs::job_of;
+use crate::links::{link, sites};
 use crate::not_yet::{SmallJob, small_job};
 use crate::refusal::reply_of;
 use crate::reply::{Answer, Reply};
@@ -20,7 +22,7 @@ use crate::status::Status;
 use command_line::Task;
 use image_file::{Image, ImageFault, read_owned};
 use image_text::push_shown;
-use job_text::{Job, JobFault};
+use job_text::Job;
 use ports::Store;
 use std::alloc::{AllocError, Global};
 use transcript_text::{Line, Outcome, Points, Transcript};
@@ -28,9 +30,9 @@ use transcript_text::{Line, Outcome, Points, Transcript};
 /// What a command answers.
 #[tactic(auto, using(crate::proofs::Asked::asks_all))]
 pub fn answer<S: Store>(alloc: Global, task: &Task, store: &mut S) -> Answer
-    ensures files { S.files store.new ≡ S.files store.old }
+    ensures files { TaskLeaves (S.files store.old) (S.files store.new) task.now }
     ensures cause { AnswerCounts (S.faults store.old) (S.faults store.new) result }
-    ensures says { IfSome (S.files store.old) (λ fs. AnswerSays fs task.now result) }
+    ensures says { IfSome (S.files store.old) (λ fs. AnswerSays fs (S.files store.new) task.now result) }
     ensures asks { IfSome (S.files store.old) (λ fs. AsksOfAnswer fs task.now
         (S.asked store.old) (S.asked store.new) result) }
 {
@@ -50,14 +52,29 @@ pub fn answer<S: Store>(alloc: Global, task: &Task, store: &mut S) -> Answer
 
 /// What a command puts where nothing is wrong.
 fn output<S: Store>(alloc: Global, task: &Task, store: &mut S) -> Result<Vec<u8>, CommandFault>
-    ensures files { S.files store.new ≡ S.files store.old }
+    ensures files { TaskLeaves (S.files store.old) (S.files store.new) task.now }
     ensures cause { StoreCounts (S.faults store.old) (S.faults store.new) result }
-    ensures says { IfSome (S.files store.old) (λ fs. Comes (λ text. text.items) (TaskSays fs task.now) result) }
+    ensures says { IfSome (S.files store.old) (λ fs. Comes (λ text. text.items)
+        (TaskSays fs (S.files store.new) task.now) result) }
     ensures asks { IfSome (S.files store.old) (λ fs. Asks (task_names fs task.now)
         (S.asked store.old) (S.asked store.new) result) }
 {
     match task {
         Task::Run { job, no_relax: _ } => run(alloc, store, job.as_str()),
+        Task::Link {
+            job,
+            image,
+            out,
+            no_relax,
+        } => link(
+            alloc,
+            store,
+            job.as_str(),
+            image.as_str(),
+            out.as_str(),
+            *no_relax,
+        ),
+        Task::Sites { job, image } => sites(alloc, store, job.as_str(), image.as_str()),
         Task::Show { file } => show(alloc, store, file.as_str()),
     }
 }
@@ -124,19 +141,6 @@ fn run_job<S: Store>(alloc: Global, store: &mut S, text: &[u8]) -> Result<Vec<u8
     match small_job(&job) {
         Some(small) => run_small_job(alloc, store, &job, &small),
         None => Err(CommandFault::Refused(InputRefusal::JobNotYet)),
-    }
-}
-
-/// The job of a text.
-fn job_of(alloc: Global, text: &[u8]) -> Result<Job, CommandFault>
-    ensures job { IfOk result (λ job. job_of_text text.now ≡ Ok job) }
-    ensures refused { IfErr result (IsNoJob (job_of_text text.now)) }
-    ensures cause { NoStoreFault result }
-{
-    match Job::read(alloc, text) {
-        Ok(job) => Ok(job),
-        Err(JobFault::OutOfMemory) => Err(CommandFault::OutOfMemory),
-        Err(JobFault::At { .. }) => Err(CommandFault::Refused(InputRefusal::JobNotYet)),
     }
 }
 

@@ -2,7 +2,9 @@
 ghost use Rattle.std.specs.Prelude.{◌≡◌};
 
 use elf_object::FaultKind;
-use ports::FetchFault;
+use job_text::JobFaultKind;
+use link_faults::LinkFaultKind;
+use ports::{FetchFault, PutFault};
 use std::alloc::{AllocError, AllocFailed};
 
 /// Why a command gives no output.
@@ -19,12 +21,25 @@ pub enum CommandFault {
 /// What of the input is refused.
 #[derive(Drop)]
 pub enum InputRefusal {
+    /// The job, at a line from 1; 0 stands for the job as a whole.
+    Job {
+        line: u64,
+        kind: JobFaultKind,
+    },
     /// The path does not take this job yet.
     JobNotYet,
     /// The object of this name.
     Object {
         name: String,
         reason: Reason,
+    },
+    /// The image of this name does not link; the object is `-` where the fault stands at none.
+    Link {
+        image: String,
+        kind: LinkFaultKind,
+        object: String,
+        section: u64,
+        entry: u64,
     },
     /// The image, at an offset in its file.
     Image {
@@ -54,6 +69,19 @@ impl From<FetchFault> for CommandFault {
         match fault {
             FetchFault::Failed => CommandFault::Store,
             FetchFault::OutOfMemory => CommandFault::OutOfMemory,
+        }
+    }
+}
+
+impl From<PutFault> for CommandFault {
+    ghost use Rattle.tlsld.specs.FetchFaults.{fault_of_put};
+
+    ghost from_gives = { λ put fault. fault ≡ fault_of_put put };
+
+    fn from(fault: PutFault) -> CommandFault {
+        match fault {
+            PutFault::Failed => CommandFault::Store,
+            PutFault::OutOfMemory => CommandFault::OutOfMemory,
         }
     }
 }

@@ -13,14 +13,28 @@
 //!
 //! A command is read from top to bottom in `command`. For `run` the job is fetched and read, then its object, then the
 //! object is linked, then a thread runs the call, then the transcript is written; for `show` the file is fetched, read
-//! as an image, and what it says is written. Each step may end the command; what it ends with is a `CommandFault`, and
-//! what is said of it a `Reply`, which reaches the sink in one piece (`reply`). Which jobs and objects are taken is
-//! said by `not_yet`; `small_run` links the object and runs the call.
+//! as an image, and what it says is written. `link` and `sites` are one path (`links`): the job is fetched and read
+//! (`jobs`), the image must be one of its images, the objects of all its images are fetched and read, all images are
+//! linked, and only then is anything made of the one that is asked for (`made`): its file, which is put into the store
+//! whole, or the lines of its sites.
+//!
+//!     link a.job app app.elf      linked app 12417          and the store's file app.elf has the image's 12,417 bytes
+//!     sites a.job app             main.o 1 0000000000000000 gd gd-le x
+//!
+//! Each step may end the command; what it ends with is a `CommandFault`, and what is said of it a `Reply`, which
+//! reaches the sink in one piece (`reply`). Which jobs and objects `run` takes is said by `not_yet`; `small_run` links
+//! the object and runs the call.
+//!
+//! Only `link` changes the store's files, and only by one put, of whole bytes, when all else is done: a command that is
+//! refused leaves them as they were, and one that says so has put all that it says.
 #![tactic(auto)]
 
 mod command;
 mod fault;
 mod fetched;
+mod jobs;
+mod links;
+mod made;
 mod not_yet;
 mod refusal;
 mod reply;
@@ -29,6 +43,8 @@ mod status;
 #[cfg(test)]
 mod tests;
 mod top;
+mod unlinked;
+mod wish;
 
 use ports::{HostSink, HostStore};
 use std::process::ExitCode;

@@ -1,6 +1,7 @@
 //! The line that a refusal puts in place of the output.
 ghost use Rattle.std.specs.Prelude.{◌≡◌, IfOk};
-ghost use Rattle.tlsld.specs.Says.{fault_text, not_yet_text};
+ghost use Rattle.tlsld.specs.Says.{fault_text, job_fault_text, not_yet_text};
+ghost use Rattle.tlsld.specs.Links.{link_line};
 ghost use Rattle.tlsld.specs.Listings.{image_fault_text};
 ghost use Rattle.tlsld.specs.Steps.{object_text, refusal_code, refusal_text};
 ghost use Rattle.tlsld.specs.Replies.{IsOfFiles};
@@ -10,6 +11,8 @@ use crate::fault::{InputRefusal, Reason};
 use crate::reply::Reply;
 use crate::status::Status;
 use elf_object::FaultKind;
+use job_text::JobFaultKind;
+use link_faults::LinkFaultKind;
 use std::alloc::{AllocError, Global};
 
 /// The reply that refuses.
@@ -19,6 +22,10 @@ pub fn reply_of(alloc: Global, refusal: &InputRefusal) -> Result<Reply, AllocErr
     ensures text { IfOk result (λ reply. reply.text.items ≡ refusal_text refusal.now) }
 {
     match refusal {
+        InputRefusal::Job { line, kind } => Ok(Reply {
+            status: Status::Job,
+            text: job_line(alloc, *line, *kind)?,
+        }),
         InputRefusal::JobNotYet => Ok(Reply {
             status: Status::Job,
             text: Vec::from_slice(alloc, b"job 0 NotYet\n")?,
@@ -27,11 +34,50 @@ pub fn reply_of(alloc: Global, refusal: &InputRefusal) -> Result<Reply, AllocErr
             status: Status::Object,
             text: object_line(alloc, name.as_str(), *reason)?,
         }),
+        InputRefusal::Link {
+            image,
+            kind,
+            object,
+            section,
+            entry,
+        } => Ok(Reply {
+            status: Status::Link,
+            text: link_line(
+                alloc,
+                image.as_str(),
+                *kind,
+                object.as_str(),
+                *section,
+                *entry,
+            )?,
+        }),
         InputRefusal::Image { offset, kind } => Ok(Reply {
             status: Status::Image,
             text: image_line(alloc, *offset, *kind)?,
         }),
     }
+}
+
+fn job_line(alloc: Global, line: u64, kind: JobFaultKind) -> Result<Vec<u8>, AllocError>
+    ensures { IfOk result (λ text. text.items ≡ job_fault_text line kind) }
+{
+    Ok(format!(in alloc; "job {line} {kind}\n")?.into_bytes())
+}
+
+fn link_line(
+    alloc: Global,
+    image: &str,
+    kind: LinkFaultKind,
+    object: &str,
+    section: u64,
+    entry: u64,
+) -> Result<Vec<u8>, AllocError>
+    ensures { IfOk result (λ text. text.items ≡ link_line image.now kind object.now section entry) }
+{
+    let mut text = format!(in alloc; "link {image} {kind} {object}")?.into_bytes();
+    let place = format!(in alloc; " section {section} entry {entry}\n")?;
+    text.extend_from_slice(place.as_bytes())?;
+    Ok(text)
 }
 
 fn object_line(alloc: Global, name: &str, reason: Reason) -> Result<Vec<u8>, AllocError>

@@ -14,6 +14,8 @@ pub enum Status {
     Job,
     /// 6: an object has a fault.
     Object,
+    /// 7: the images of a job do not link.
+    Link,
     /// 8: an image has a fault.
     Image,
 }
@@ -31,6 +33,7 @@ impl Status {
             Status::Store => 3,
             Status::Job => 5,
             Status::Object => 6,
+            Status::Link => 7,
             Status::Image => 8,
         }
     }

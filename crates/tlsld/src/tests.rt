@@ -42,8 +42,10 @@ fn ends<R: Threads + Wait + Sync>(
 fn each_status_has_its_line(rt: HostRuntime) -> Result<(), Fail> {
     let alloc = rt.alloc();
     // A call that always wants memory is proved as well: with ample memory the answer is none.
-    let rows: [(&[&str], u64, u8, &[u8]); 6] = [
+    let rows: [(&[&str], u64, u8, &[u8]); 8] = [
         (&["run", "job"], 0, 0, b"t1 l1 g0 = 000000000000002a\n"),
+        (&["link", "job", "plug", "app"], 0, 5, b"job 0 Name\n"),
+        (&["sites", "job", "plug"], 0, 5, b"job 0 Name\n"),
         (
             &["run", "job", "--no-relax"],
             0,
@@ -71,19 +73,33 @@ fn each_status_has_its_line(rt: HostRuntime) -> Result<(), Fail> {
 fn refuses_jobs(rt: HostRuntime) -> Result<(), Fail> {
     let alloc = rt.alloc();
     let object = reader(alloc, 0)?;
-    let jobs = [
-        b"".as_slice(),
-        b"image app exe a.o\n1 call app f 0 0 zz\n",
-        b"image app exe a.o a.o\n1 call app f 0 0 0\n",
-        b"image app pie a.o\n1 call app f 0 0 0\n",
-        b"threads 2\nimage app exe a.o\n1 call app f 0 0 0\n",
-        b"image app exe a.o\n1 call app f 0 0 0\n1 call app f 0 0 0\n",
+    let not_yet = b"job 0 NotYet\n".as_slice();
+    let rows: [(&[u8], &[u8]); 7] = [
+        (b"", b"job 0 NoExe\n"),
+        (
+            b"image app exe a.o\n1 call app f 0 0 zz\n",
+            b"job 2 Number\n",
+        ),
+        (
+            b"#\nimage app exe a.o\nimage app late a.o\n",
+            b"job 3 Twice\n",
+        ),
+        (b"image app exe a.o a.o\n1 call app f 0 0 0\n", not_yet),
+        (b"image app pie a.o\n1 call app f 0 0 0\n", not_yet),
+        (
+            b"threads 2\nimage app exe a.o\n1 call app f 0 0 0\n",
+            not_yet,
+        ),
+        (
+            b"image app exe a.o\n1 call app f 0 0 0\n1 call app f 0 0 0\n",
+            not_yet,
+        ),
     ];
-    for job in jobs {
+    for (job, text) in rows {
         let store = store_of(alloc, job, object.as_slice())?;
         let (ended, put) = ends(&rt, alloc, &["run", "job"], store, MemorySink::new(alloc))?;
-        assert_eq!(rt; ended, 5);
-        assert_eq!(rt; put.as_slice(), b"job 0 NotYet\n".as_slice());
+        assert_eq!(rt; ended, 5, "{text:?}");
+        assert_eq!(rt; put.as_slice(), text);
     }
     Ok(())
 }

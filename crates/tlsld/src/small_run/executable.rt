@@ -2,8 +2,8 @@
 ghost use Rattle.std.specs.Prelude.{◌≡◌, ◌<◌, ℕ, All};
 ghost use Rattle.tlsld.specs.Executables.{IsExecutable};
 
-use local_exec::Linked;
 use link_faults::Part;
+use local_exec::Linked;
 use thread_blocks::{BlockImage, Executable};
 
 /// The image's parts. No byte is copied.

@@ -8,5 +8,5 @@ returns-clause-asked g c =
 
 pub returns-clause-shows : goal.returns-clause-shows
 returns-clause-shows g c =
-    answer_shows (g.S.Store.files c.args.store.now) c.args.task.now c.answer-answer.result _ _ _ _ c.deliver.result
+    answer_shows (g.S.Store.files c.args.store.now) _ c.args.task.now c.answer-answer.result _ _ _ _ c.deliver.result
     c.answer-answer.ensures.cause c.answer-answer.ensures.says c.deliver.ensures.delivered
