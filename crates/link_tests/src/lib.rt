@@ -14,6 +14,8 @@
 #![tactic(auto)]
 
 #[cfg(test)]
+mod faults;
+#[cfg(test)]
 mod links;
 #[cfg(test)]
 mod objects;
