@@ -20,6 +20,10 @@ mod links;
 #[cfg(test)]
 mod objects;
 #[cfg(test)]
+mod orders;
+#[cfg(test)]
 mod pieces;
+#[cfg(test)]
+mod tables;
 #[cfg(test)]
 mod worked;

@@ -101,14 +101,11 @@ fn push_choices(text: &mut String, linked: &Linked) -> Result<(), AllocError> {
     text.push('\n')
 }
 
-/// Adds the bytes of a part as hexadecimal digits, 40 bytes a line.
+/// Adds the bytes of a part as hexadecimal digits, and a semicolon.
 fn push_bytes(alloc: Global, text: &mut String, linked: &Linked, number: u64) -> Result<(), AllocError> {
-    let Some(part) = linked.image.part(number) else {
-        return Ok(());
-    };
-    for line in part.bytes.chunks(40) {
-        text.push_str(hex::encode(alloc, line)?.as_str())?;
-        text.push('\n')?;
+    if let Some(part) = linked.image.part(number) {
+        text.push_str(hex::encode(alloc, part.bytes)?.as_str())?;
+        text.push(';')?;
     }
     Ok(())
 }
@@ -153,8 +150,12 @@ pub(crate) fn links(rt: &impl Abort, alloc: Global, kind: &str, lines: &str, wan
     Ok(())
 }
 
-/// Compares the bytes of the image of objects.
+/// Compares the bytes of the image of objects; what is wanted may have spaces between digits.
 pub(crate) fn holds(rt: &impl Abort, alloc: Global, kind: &str, lines: &str, want: &str) -> Result<(), Fail> {
-    same(rt, bytes(alloc, kind, lines)?.as_str(), want, kind);
+    let mut digits = String::new(alloc);
+    for group in want.split_whitespace() {
+        digits.push_str(group)?;
+    }
+    same(rt, bytes(alloc, kind, lines)?.as_str(), digits.as_str(), kind);
     Ok(())
 }

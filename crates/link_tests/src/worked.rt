@@ -24,8 +24,8 @@ choices / GdLe
 /// mov %fs:0, %rax; lea -16(%rax), %rax; ret: x is at 8 of a block that begins 24 below the thread pointer, 20 rounded
 /// up to 8.
 const REWRITTEN_BYTES: &str = "\
-64488b042500000000488d80f0ffffffc3
-00000000000000002a0000000000000000000000
+64488b0425 00000000 488d80 f0ffffff c3;
+0000000000000000 2a000000 0000000000000000;
 ";
 
 /// The table has x's pair and the word of the run time, 24 bytes at 0x402000, and the stub is at 0x403000. The dynamic
@@ -51,10 +51,10 @@ choices / Keep
 /// lea: 0x402000 - 4 - 0x400004 = 0x1ff8; call: 0x403000 - 4 - 0x40000c = 0x2ff0; module 1, offset 8; the stub:
 /// 0x402010 - 4 - 0x403002 = -0xff6.
 const KEPT_BYTES: &str = "\
-66488d3df81f0000666648e8f02f0000c3
-00000000000000002a0000000000000000000000
-010000000000000008000000000000000000000000000000
-ff250af0ffff
+66488d3d f81f0000 666648e8 f02f0000 c3;
+0000000000000000 2a000000 0000000000000000;
+0100000000000000 0800000000000000 0000000000000000;
+ff25 0af0ffff;
 ";
 
 #[test]
