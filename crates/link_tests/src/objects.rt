@@ -1,18 +1,42 @@
-//! Objects by lines of words: symbols `NAME=PLACE`, LOCAL with a dot and WEAK with a tilde before the name, the places
-//! `vN` in `.tdata`, `zN` in `.tbss`, `cN` in code, and `?` of a name that is defined elsewhere; bytes `v:` of `.tdata`,
-//! `c:` of code and `d:` of data; sizes `z:` of `.tbss` and `b:` of one more section of zeros; pieces of code
-//! `PIECE:NAME,ADDEND`, where the addend is added to the piece's own; and `q:NAME,ADDEND,PLACE`, an address of eight
-//! bytes in data. A name that no symbol word tells is undefined. Numbers are hexadecimal.
+//! Objects of words.
+//!
+//! A symbol is NAME=PLACE, LOCAL with a dot and WEAK with a tilde before the name, at vN in `.tdata`, zN in `.tbss`, cN in
+//! code, or ?, nowhere. Bytes are v: of `.tdata`, aligned to 8 where it has any, c: of code and d: of data; sizes z: of `.tbss` and
+//! b:SIZE,COUNT of sections of zeros. PIECE:NAME,ADDEND is a piece of code whose field names a symbol, with so much added
+//! to its addend, and q:NAME,ADDEND,PLACE an address in data. A name that no symbol word tells is undefined. Numbers are
+//! hexadecimal.
+//!
+//! The sections are `.tdata` (1), `.tbss` (2) and `.text` (3); behind it the relocations of code (4), if it has any; then
+//! `.data` and its relocations, sections of zeros, and the symbols.
 
-use crate::pieces::{Piece, piece_of};
-use elf_records::Rela;
-use elf_records::SymbolEntry;
+ghost use Rattle.std.specs.Prelude.{◌<◌};
+
 use elf_records::relocation::R_X86_64_64;
 use elf_records::section_header::{SHF_ALLOC, SHF_WRITE};
-use elf_records::symbol::{STB_WEAK, STT_FUNC, STT_NOTYPE, STT_TLS};
+use elf_records::symbol::{STB_GLOBAL, STB_LOCAL, STB_WEAK, STT_FUNC, STT_NOTYPE, STT_TLS};
+use elf_records::{Rela, SymbolEntry};
 use object_builder::{Section, Symbol, object_of, rela};
 use std::alloc::{AllocError, Global};
 use std::test::Fail;
+
+/// Pieces of code: the sequences of the psABI, and other instructions with a field. Each line has the bytes, and of the
+/// field the offset, the type and the addend; a second field is one of a call of `__tls_get_addr`.
+const PIECES: &str = "\
+gd 66488d3d00000000666648e800000000 4:13:-4 c:4:-4
+gdi 66488d3d000000006648ff1500000000 4:13:-4 c:9:-4
+ld 488d3d00000000e800000000 3:14:-4 8:4:-4
+ldi 488d3d00000000ff1500000000 3:14:-4 9:29:-4
+mov 488b0500000000 3:16:-4
+add 48030500000000 3:16:-4
+lea 488d0500000000 3:22:-4
+tlscall ff10 0:23:0
+le 64488b042500000000 5:17:0
+off 488d8000000000 3:15:0
+word 488b0500000000 3:9:-4
+call e800000000 1:4:-4
+narrow 48c7c000000000 3:b:0
+wide 48b80000000000000000 2:1:0
+";
 
 /// What the words of an object add up to.
 #[derive(Drop)]
@@ -28,54 +52,57 @@ struct Parts<'a> {
     zeros: Vec<u64>,
 }
 
-/// A hexadecimal number.
-fn number(digits: &str) -> Result<u64, Fail> {
-    Ok(u64::from_str_radix(digits, 16).ok().ok_or("a number")?)
+/// A number, or 0 where no digits stand.
+fn number(digits: &str) -> u64 {
+    u64::from_str_radix(digits, 16).unwrap_or(0)
 }
 
-/// A hexadecimal number that may have a sign; 0 where no digits stand.
-fn addend(digits: &str) -> Result<i64, Fail> {
-    if digits.is_empty() {
-        return Ok(0);
-    }
-    Ok(i64::from_str_radix(digits, 16).ok().ok_or("an addend")?)
+/// A number that may have a sign.
+fn signed(digits: &str) -> i64 {
+    i64::from_str_radix(digits, 16).unwrap_or(0)
+}
+
+fn bytes_of(alloc: Global, digits: &str) -> Result<Vec<u8>, Fail> {
+    Ok(hex::decode(alloc, digits).ok().ok_or("digits")?)
 }
 
 /// The type and the section of what stands at a place.
-fn kind_of(place: &str) -> (u8, u16) {
-    if place.starts_with('v') {
-        (STT_TLS, 1)
-    } else if place.starts_with('z') {
-        (STT_TLS, 2)
-    } else if place.starts_with('c') {
-        (STT_FUNC, 3)
-    } else {
-        (STT_NOTYPE, 0)
+fn kind_of(place: &str) -> (u8, u16)
+    ensures { result.0 < 16 }
+{
+    match place.chars().next() {
+        Some('v') => (STT_TLS, 1),
+        Some('z') => (STT_TLS, 2),
+        Some('c') => (STT_FUNC, 3),
+        _ => (STT_NOTYPE, 0),
     }
-}
-
-/// A GLOBAL symbol at a place.
-fn global<'a>(name: &'a str, place: &str) -> Result<Symbol<'a>, Fail> {
-    let digits = place.trim_start_matches(['v', 'z', 'c', '?']);
-    let value = if digits.is_empty() { 0 } else { number(digits)? };
-    let (kind, section) = kind_of(place);
-    Ok(Symbol::global(name.as_bytes(), kind, section, value, 0))
 }
 
 /// The symbol of a word.
-fn symbol<'a>(name: &'a str, place: &str) -> Result<Symbol<'a>, Fail> {
-    if let Some(name) = name.strip_prefix('.') {
-        let symbol = global(name, place)?;
-        let kind = symbol.entry.info % 16;
-        let (section, value) = (symbol.entry.shndx, symbol.entry.value);
-        return Ok(Symbol::local(name.as_bytes(), kind, section, value, 0));
+fn symbol<'a>(word: &'a str, place: &str) -> Symbol<'a> {
+    let name = word.trim_start_matches(['.', '~']);
+    let (kind, section) = kind_of(place);
+    let value = number(place.trim_start_matches(['v', 'z', 'c']));
+    let mut symbol = Symbol::global(name.as_bytes(), kind, section, value, 0);
+    let binding = match word.chars().next() {
+        Some('.') => STB_LOCAL,
+        Some('~') => STB_WEAK,
+        _ => STB_GLOBAL,
+    };
+    symbol.entry.info = SymbolEntry::info_of(binding, kind);
+    symbol
+}
+
+/// What the table says of a piece of code.
+fn row_of(piece: &str) -> Option<&'static str> {
+    for line in PIECES.lines() {
+        if let Some((name, row)) = line.split_once(' ') {
+            if name == piece {
+                return Some(row);
+            }
+        }
     }
-    if let Some(name) = name.strip_prefix('~') {
-        let mut symbol = global(name, place)?;
-        symbol.entry.info = SymbolEntry::info_of(STB_WEAK, symbol.entry.info % 16);
-        return Ok(symbol);
-    }
-    global(name, place)
+    None
 }
 
 impl<'a> Parts<'a> {
@@ -88,50 +115,65 @@ impl<'a> Parts<'a> {
             }
             number = number.saturating_add(1);
         }
-        self.symbols.push(Symbol::global(name.as_bytes(), STT_NOTYPE, 0, 0, 0))?;
+        self.symbols.push(symbol(name, "?"))?;
         Ok(number)
     }
 
-    /// Adds a piece of code whose field names a symbol.
-    fn add_piece(&mut self, piece: &Piece, name: &'a str, addend: i64) -> Result<(), AllocError> {
-        let start = self.code.len() as u64;
-        self.code.extend_from_slice(piece.bytes)?;
-        let at = start.saturating_add(piece.at);
+    /// Adds the relocation of a field of a piece.
+    fn add_field(
+        &mut self,
+        start: u64,
+        field: &str,
+        name: &'a str,
+        addend: i64,
+    ) -> Result<(), Fail> {
+        let (at, rest) = field.split_once(':').ok_or("a type")?;
+        let (kind, own) = rest.split_once(':').ok_or("an addend")?;
+        let at = start.saturating_add(number(at));
+        let kind = u32::from_str_radix(kind, 16).unwrap_or(0);
         let symbol = self.symbol_number(name)?;
-        let sum = piece.addend.saturating_add(addend);
-        self.code_relocations.push(rela(at, piece.kind, symbol, sum))?;
-        let Some(call) = piece.call else {
-            return Ok(());
-        };
-        let at = start.saturating_add(call.at);
-        let symbol = self.symbol_number("__tls_get_addr")?;
-        self.code_relocations.push(rela(at, call.kind, symbol, -4))?;
+        let sum = signed(own).saturating_add(addend);
+        self.code_relocations.push(rela(at, kind, symbol, sum))?;
         Ok(())
     }
 
-    /// Adds an address in data.
-    fn add_address(&mut self, name: &'a str, rest: &str) -> Result<(), Fail> {
-        let (digits, place) = rest.split_once(',').ok_or("a place")?;
-        let symbol = self.symbol_number(name)?;
-        let field = rela(number(place)?, R_X86_64_64, symbol, addend(digits)?);
-        self.data_relocations.push(field)?;
-        Ok(())
+    /// Adds a piece of code.
+    fn add_piece(
+        &mut self,
+        alloc: Global,
+        row: &str,
+        name: &'a str,
+        addend: i64,
+    ) -> Result<(), Fail> {
+        let start = self.code.len() as u64;
+        let mut words = row.split(' ');
+        self.code
+            .extend_from_slice(&bytes_of(alloc, words.next().ok_or("bytes")?)?)?;
+        self.add_field(start, words.next().ok_or("a field")?, name, addend)?;
+        match words.next() {
+            Some(call) => self.add_field(start, call, "__tls_get_addr", 0),
+            None => Ok(()),
+        }
     }
 
     /// Adds what a word of two parts says.
     fn add(&mut self, alloc: Global, sort: &str, rest: &'a str) -> Result<(), Fail> {
         let (name, more) = rest.split_once(',').unwrap_or((rest, ""));
+        let (addend, place) = more.split_once(',').unwrap_or((more, ""));
         match sort {
             "v" => self.variables.extend_from_slice(&bytes_of(alloc, rest)?)?,
             "c" => self.code.extend_from_slice(&bytes_of(alloc, rest)?)?,
             "d" => self.data.extend_from_slice(&bytes_of(alloc, rest)?)?,
-            "z" => self.zero_variables = number(rest)?,
-            "b" => self.zeros.push(number(rest)?)?,
-            "q" => self.add_address(name, more)?,
-            _ => {
-                let piece = piece_of(sort).ok_or("a piece of code")?;
-                self.add_piece(&piece, name, addend(more)?)?;
+            "z" => self.zero_variables = number(rest),
+            "b" => self
+                .zeros
+                .extend(vec![in alloc; number(name); number(more) as usize]?)?,
+            "q" => {
+                let symbol = self.symbol_number(name)?;
+                let field = rela(number(place), R_X86_64_64, symbol, signed(addend));
+                self.data_relocations.push(field)?;
             }
+            _ => self.add_piece(alloc, row_of(sort).ok_or("a piece")?, name, signed(more))?,
         }
         Ok(())
     }
@@ -139,7 +181,7 @@ impl<'a> Parts<'a> {
     /// The bytes of the object.
     fn bytes(&self, alloc: Global) -> Result<Vec<u8>, AllocError> {
         let mut variables = Section::variables(&self.variables);
-        variables.alignment = 8;
+        variables.alignment = if self.variables.is_empty() { 1 } else { 8 };
         let code = Section::code(&self.code).with(&self.code_relocations);
         let data = Section::data(&self.data).with(&self.data_relocations);
         let zeros = Section::zero_variables(self.zero_variables);
@@ -149,11 +191,6 @@ impl<'a> Parts<'a> {
         }
         object_of(alloc, sections.as_slice(), self.symbols.as_slice())
     }
-}
-
-/// Bytes by their hexadecimal digits.
-fn bytes_of(alloc: Global, digits: &str) -> Result<Vec<u8>, Fail> {
-    Ok(hex::decode(alloc, digits).ok().ok_or("hexadecimal digits")?)
 }
 
 /// An object of nothing.
@@ -170,12 +207,12 @@ fn nothing<'a>(alloc: Global) -> Parts<'a> {
     }
 }
 
-/// The bytes of the object of a line of words.
+/// The bytes of the object of these words.
 pub(crate) fn object(alloc: Global, words: &str) -> Result<Vec<u8>, Fail> {
     let mut parts = nothing(alloc);
     for word in words.split_whitespace() {
         if let Some((name, place)) = word.split_once('=') {
-            parts.symbols.push(symbol(name, place)?)?;
+            parts.symbols.push(symbol(name, place))?;
         } else {
             let (sort, rest) = word.split_once(':').ok_or("a colon")?;
             parts.add(alloc, sort, rest)?;

@@ -1,0 +1,178 @@
+//! Links of objects, and what is told of them.
+
+ghost use Rattle.std.specs.Prelude.{◌≡◌, ◌<◌, ℕ, [], IfOk, length, map, slice_index_or};
+ghost use Rattle.sequence_match.specs.Faults.{AreSites};
+ghost use Rattle.tls_symbols.specs.Bindings.{object_at};
+
+use crate::objects::object;
+use elf_object::Object;
+use image_text::push_shown;
+use link_core::{Linked, link};
+use link_faults::{ImageKind, LinkFault};
+use sequence_match::{Site, sites};
+use std::alloc::{AllocError, Global};
+use std::process::Abort;
+use std::test::Fail;
+use tls_symbols::{Exports, exports};
+
+/// What is loaded with each image: y, w and errno.
+const STARTUP: &str = "y=v0 w=v4 errno=v8 v:000000000000000000000000";
+
+/// The kind of image of a word, and whether its sequences may be rewritten.
+fn kind_of(word: &str) -> (ImageKind, bool) {
+    match word {
+        "exe" => (ImageKind::Exe, true),
+        "exe-kept" => (ImageKind::Exe, false),
+        "pie" => (ImageKind::Pie, true),
+        "pie-kept" => (ImageKind::Pie, false),
+        "start" => (ImageKind::Start, true),
+        _ => (ImageKind::Late, true),
+    }
+}
+
+/// The objects, with a bar between them.
+fn files_of(alloc: Global, objects: &str) -> Result<Vec<Vec<u8>>, Fail> {
+    let mut files = Vec::new(alloc);
+    for words in objects.split('|') {
+        files.push(object(alloc, words)?)?;
+    }
+    Ok(files)
+}
+
+fn read<'a>(alloc: Global, files: &'a [Vec<u8>]) -> Result<Vec<Object<'a>>, Fail> {
+    let mut objects = Vec::new(alloc);
+    for file in files {
+        objects.push(Object::read(alloc, file.as_slice())?)?;
+    }
+    Ok(objects)
+}
+
+/// The sequences of each object.
+fn all_sites(alloc: Global, objects: &[Object]) -> Result<Vec<Vec<Site>>, Fail>
+    ensures len { IfOk result (λ all. length all.items ≡ length objects.now) }
+    ensures sites { IfOk result (λ all. (o : ℕ) → o < length objects.now
+        → AreSites (object_at objects.now o) (slice_index_or (map (λ own. own.items) all.items) o [])) }
+{
+    let mut all = Vec::new(alloc);
+    for object in objects {
+        let own = sites(alloc, object)?;
+        all.push(own)?;
+    }
+    Ok(all)
+}
+
+/// Links objects.
+fn answer(alloc: Global, kind: &str, objects: &str) -> Result<Result<Linked, LinkFault>, Fail> {
+    let files = files_of(alloc, objects)?;
+    let objects = read(alloc, files.as_slice())?;
+    let module = files_of(alloc, STARTUP)?;
+    let module = read(alloc, module.as_slice())?;
+    let startup: [Exports; 1] = [exports(alloc, module.as_slice())?];
+    let sites = all_sites(alloc, objects.as_slice())?;
+    let (kind, relax) = kind_of(kind);
+    let (objects, sites) = (objects.as_slice(), sites.as_slice());
+    Ok(link(alloc, objects, sites, kind, &startup, relax))
+}
+
+/// What is told of a link: the fault, or the image; and the bytes of the image's parts but for the last.
+#[derive(Drop)]
+struct Told {
+    text: String,
+    bytes: String,
+}
+
+/// Adds which sequences stand in the place of those of each object.
+fn push_choices(text: &mut String, linked: &Linked) -> Result<(), AllocError> {
+    text.push_str("choices")?;
+    for own in &linked.choices {
+        text.push_str(" /")?;
+        for choice in own {
+            write!(text, " {choice:?}")?;
+        }
+    }
+    Ok(())
+}
+
+/// The bytes of each part but the last as digits, with a semicolon behind them.
+fn digits(alloc: Global, linked: &Linked) -> Result<String, AllocError> {
+    let mut text = String::new(alloc);
+    for next in 1..linked.image.part_count() {
+        if let Some(part) = linked.image.part(next.saturating_sub(1)) {
+            text.push_str(hex::encode(alloc, part.bytes)?.as_str())?;
+            text.push(';')?;
+        }
+    }
+    Ok(text)
+}
+
+fn told(alloc: Global, kind: &str, objects: &str) -> Result<Told, Fail> {
+    let mut text = String::new(alloc);
+    match answer(alloc, kind, objects)? {
+        Ok(linked) => {
+            let mut shown = Vec::new(alloc);
+            push_shown(&linked.image, &mut shown)?;
+            for byte in &shown {
+                text.push(char::from(*byte))?;
+            }
+            push_choices(&mut text, &linked)?;
+            let bytes = digits(alloc, &linked)?;
+            Ok(Told {
+                text: squeezed(alloc, text.as_str())?,
+                bytes,
+            })
+        }
+        Err(fault) => {
+            write!(text, "{fault}")?;
+            Ok(Told {
+                text,
+                bytes: String::new(alloc),
+            })
+        }
+    }
+}
+
+/// The words of a text with single spaces between them, without lines of comments.
+fn squeezed(alloc: Global, text: &str) -> Result<String, AllocError> {
+    let mut squeezed = String::new(alloc);
+    for line in text.lines() {
+        if !line.starts_with("//") {
+            for word in line.split_whitespace() {
+                squeezed.push_str(word)?;
+                squeezed.push(' ')?;
+            }
+        }
+    }
+    squeezed.pop();
+    Ok(squeezed)
+}
+
+/// Compares what is told in each kind of image.
+fn check(rt: &impl Abort, alloc: Global, case: &str) -> Result<(), Fail> {
+    let (given, want) = case.split_once(" -> ").ok_or("an answer")?;
+    let (kinds, objects) = given.split_once(' ').ok_or("objects")?;
+    let (text, bytes) = want.split_once(" # ").unwrap_or((want, ""));
+    let bytes = bytes.replace(alloc, " ", "")?;
+    for kind in kinds.split('/') {
+        let told = told(alloc, kind, objects)?;
+        let links = text == "links" && told.text.starts_with("kind");
+        assert!(rt;
+            links || told.text.as_str() == text,
+            "{}: {case}",
+            told.text
+        );
+        let holds = bytes.is_empty() || told.bytes.as_str() == bytes.as_str();
+        assert!(rt; holds, "{}: {case}", told.bytes);
+    }
+    Ok(())
+}
+
+/// Compares what is told of each case. A star begins a case.
+pub(crate) fn check_all(rt: &impl Abort, alloc: Global, cases: &str) -> Result<(), Fail> {
+    for case in cases.split('*') {
+        let case = squeezed(alloc, case)?;
+        if !case.is_empty() {
+            check(rt, alloc, case.as_str())?;
+        }
+    }
+    Ok(())
+}
