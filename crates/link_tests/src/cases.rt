@@ -74,15 +74,13 @@ fn answer(alloc: Global, kind: &str, objects: &str) -> Result<Result<Linked, Lin
     Ok(link(alloc, objects, sites, kind, &startup, relax))
 }
 
-/// What is told of a link: the fault, or the image; and the bytes of the image's parts but for the last.
-#[derive(Drop)]
-struct Told {
-    text: String,
-    bytes: String,
-}
-
-/// Adds which sequences stand in the place of those of each object.
-fn push_choices(text: &mut String, linked: &Linked) -> Result<(), AllocError> {
+/// Adds an image as text, and which sequences stand in the place of those of each object.
+fn push_image(alloc: Global, text: &mut String, linked: &Linked) -> Result<(), AllocError> {
+    let mut shown = Vec::new(alloc);
+    push_shown(&linked.image, &mut shown)?;
+    for byte in &shown {
+        text.push(char::from(*byte))?;
+    }
     text.push_str("choices")?;
     for own in &linked.choices {
         text.push_str(" /")?;
@@ -93,42 +91,30 @@ fn push_choices(text: &mut String, linked: &Linked) -> Result<(), AllocError> {
     Ok(())
 }
 
-/// The bytes of each part but the last as digits, with a semicolon behind them.
-fn digits(alloc: Global, linked: &Linked) -> Result<String, AllocError> {
-    let mut text = String::new(alloc);
+/// Adds the bytes of each part but the last as digits, with a semicolon behind them.
+fn push_bytes(alloc: Global, text: &mut String, linked: &Linked) -> Result<(), AllocError> {
+    text.push_str(" # ")?;
     for next in 1..linked.image.part_count() {
         if let Some(part) = linked.image.part(next.saturating_sub(1)) {
             text.push_str(hex::encode(alloc, part.bytes)?.as_str())?;
             text.push(';')?;
         }
     }
-    Ok(text)
+    Ok(())
 }
 
-fn told(alloc: Global, kind: &str, objects: &str) -> Result<Told, Fail> {
+/// What is told of a link.
+fn told(alloc: Global, kind: &str, objects: &str) -> Result<String, Fail> {
     let mut text = String::new(alloc);
     match answer(alloc, kind, objects)? {
         Ok(linked) => {
-            let mut shown = Vec::new(alloc);
-            push_shown(&linked.image, &mut shown)?;
-            for byte in &shown {
-                text.push(char::from(*byte))?;
-            }
-            push_choices(&mut text, &linked)?;
-            let bytes = digits(alloc, &linked)?;
-            Ok(Told {
-                text: squeezed(alloc, text.as_str())?,
-                bytes,
-            })
+            push_image(alloc, &mut text, &linked)?;
+            text = text.replace(alloc, "0000000000", "")?;
+            push_bytes(alloc, &mut text, &linked)?;
         }
-        Err(fault) => {
-            write!(text, "{fault}")?;
-            Ok(Told {
-                text,
-                bytes: String::new(alloc),
-            })
-        }
+        Err(fault) => write!(text, "{fault}")?,
     }
+    Ok(squeezed(alloc, text.as_str())?)
 }
 
 /// The words of a text with single spaces between them, without lines of comments.
@@ -146,22 +132,19 @@ fn squeezed(alloc: Global, text: &str) -> Result<String, AllocError> {
     Ok(squeezed)
 }
 
-/// Compares what is told in each kind of image.
+/// Compares what is told in each kind of image. Among bytes a dash stands for eight zeros.
 fn check(rt: &impl Abort, alloc: Global, case: &str) -> Result<(), Fail> {
     let (given, want) = case.split_once(" -> ").ok_or("an answer")?;
     let (kinds, objects) = given.split_once(' ').ok_or("objects")?;
-    let (text, bytes) = want.split_once(" # ").unwrap_or((want, ""));
-    let bytes = bytes.replace(alloc, " ", "")?;
+    let (text, digits) = want.split_once(" # ").unwrap_or((want, ""));
+    let digits = digits.replace(alloc, " ", "")?;
+    let digits = digits.replace(alloc, "-", "0000000000000000")?;
     for kind in kinds.split('/') {
         let told = told(alloc, kind, objects)?;
-        let links = text == "links" && told.text.starts_with("kind");
-        assert!(rt;
-            links || told.text.as_str() == text,
-            "{}: {case}",
-            told.text
-        );
-        let holds = bytes.is_empty() || told.bytes.as_str() == bytes.as_str();
-        assert!(rt; holds, "{}: {case}", told.bytes);
+        let (shown, held) = told.split_once(" # ").unwrap_or((told.as_str(), ""));
+        let links = text == "links" && shown.starts_with("kind");
+        let holds = digits.is_empty() || held == digits.as_str();
+        assert!(rt; holds && (links || shown == text), "{told}: {case}");
     }
     Ok(())
 }

@@ -1,15 +1,12 @@
 //! Objects of words.
 //!
-//! A symbol is NAME=PLACE, LOCAL with a dot and WEAK with a tilde before the name, at vN in `.tdata`, zN in `.tbss`, cN in
-//! code, or ?, nowhere. Bytes are v: of `.tdata`, aligned to 8 where it has any, c: of code and d: of data; sizes z: of `.tbss` and
-//! b:SIZE,COUNT of sections of zeros. PIECE:NAME,ADDEND is a piece of code whose field names a symbol, with so much added
-//! to its addend, and q:NAME,ADDEND,PLACE an address in data. A name that no symbol word tells is undefined. Numbers are
-//! hexadecimal.
+//! A symbol is NAME=PLACE, LOCAL with a dot and WEAK with a tilde before its name, at vN in `.tdata`, zN in `.tbss`, cN
+//! in code, or ?, nowhere. Bytes are v: of `.tdata`, aligned to 8 where it has any, c: of code and d: of data; sizes are
+//! z: of `.tbss` and b:SIZE,COUNT of more sections of zeros. PIECE:NAME,ADDEND is code whose field names a symbol, with so
+//! much added to its addend, and q:NAME,ADDEND,PLACE an address in data. Numbers are hexadecimal.
 //!
-//! The sections are `.tdata` (1), `.tbss` (2) and `.text` (3); behind it the relocations of code (4), if it has any; then
-//! `.data` and its relocations, sections of zeros, and the symbols.
-
-ghost use Rattle.std.specs.Prelude.{◌<◌};
+//! The sections are `.tdata` (1), `.tbss` (2) and `.text` (3), behind it the relocations of code (4), if there are any,
+//! then `.data` and its relocations, the sections of zeros, and the symbols.
 
 use elf_records::relocation::R_X86_64_64;
 use elf_records::section_header::{SHF_ALLOC, SHF_WRITE};
@@ -21,7 +18,7 @@ use std::test::Fail;
 
 /// Pieces of code: the sequences of the psABI, and other instructions with a field. Each line has the bytes, and of the
 /// field the offset, the type and the addend; a second field is one of a call of `__tls_get_addr`.
-const PIECES: &str = "\
+const PIECES: &str = "
 gd 66488d3d00000000666648e800000000 4:13:-4 c:4:-4
 gdi 66488d3d000000006648ff1500000000 4:13:-4 c:9:-4
 ld 488d3d00000000e800000000 3:14:-4 8:4:-4
@@ -66,47 +63,28 @@ fn bytes_of(alloc: Global, digits: &str) -> Result<Vec<u8>, Fail> {
     Ok(hex::decode(alloc, digits).ok().ok_or("digits")?)
 }
 
-/// The type and the section of what stands at a place.
-fn kind_of(place: &str) -> (u8, u16)
-    ensures { result.0 < 16 }
-{
-    match place.chars().next() {
+/// The symbol of a word.
+fn symbol<'a>(word: &'a str, place: &str) -> Symbol<'a> {
+    let (kind, section) = match place.chars().next() {
         Some('v') => (STT_TLS, 1),
         Some('z') => (STT_TLS, 2),
         Some('c') => (STT_FUNC, 3),
         _ => (STT_NOTYPE, 0),
-    }
-}
-
-/// The symbol of a word.
-fn symbol<'a>(word: &'a str, place: &str) -> Symbol<'a> {
-    let name = word.trim_start_matches(['.', '~']);
-    let (kind, section) = kind_of(place);
-    let value = number(place.trim_start_matches(['v', 'z', 'c']));
-    let mut symbol = Symbol::global(name.as_bytes(), kind, section, value, 0);
+    };
     let binding = match word.chars().next() {
         Some('.') => STB_LOCAL,
         Some('~') => STB_WEAK,
         _ => STB_GLOBAL,
     };
+    let name = word.trim_start_matches(['.', '~']).as_bytes();
+    let value = number(place.trim_start_matches(['v', 'z', 'c']));
+    let mut symbol = Symbol::global(name, kind, section, value, 0);
     symbol.entry.info = SymbolEntry::info_of(binding, kind);
     symbol
 }
 
-/// What the table says of a piece of code.
-fn row_of(piece: &str) -> Option<&'static str> {
-    for line in PIECES.lines() {
-        if let Some((name, row)) = line.split_once(' ') {
-            if name == piece {
-                return Some(row);
-            }
-        }
-    }
-    None
-}
-
 impl<'a> Parts<'a> {
-    /// The number of the symbol of a name, one that is added if need be.
+    /// The number of the symbol of a name, an undefined one where no word told it before.
     fn symbol_number(&mut self, name: &'a str) -> Result<u32, AllocError> {
         let mut number = 1_u32;
         for symbol in &self.symbols {
@@ -119,21 +97,21 @@ impl<'a> Parts<'a> {
         Ok(number)
     }
 
-    /// Adds the relocation of a field of a piece.
+    /// Adds the relocation of a field of a piece that starts here.
     fn add_field(
         &mut self,
-        start: u64,
+        start: usize,
         field: &str,
         name: &'a str,
-        addend: i64,
+        more: i64,
     ) -> Result<(), Fail> {
         let (at, rest) = field.split_once(':').ok_or("a type")?;
-        let (kind, own) = rest.split_once(':').ok_or("an addend")?;
-        let at = start.saturating_add(number(at));
+        let (kind, addend) = rest.split_once(':').ok_or("an addend")?;
+        let at = (start as u64).saturating_add(number(at));
         let kind = u32::from_str_radix(kind, 16).unwrap_or(0);
-        let symbol = self.symbol_number(name)?;
-        let sum = signed(own).saturating_add(addend);
-        self.code_relocations.push(rela(at, kind, symbol, sum))?;
+        let addend = signed(addend).saturating_add(more);
+        let field = rela(at, kind, self.symbol_number(name)?, addend);
+        self.code_relocations.push(field)?;
         Ok(())
     }
 
@@ -141,18 +119,20 @@ impl<'a> Parts<'a> {
     fn add_piece(
         &mut self,
         alloc: Global,
-        row: &str,
+        piece: &str,
         name: &'a str,
-        addend: i64,
+        more: i64,
     ) -> Result<(), Fail> {
-        let start = self.code.len() as u64;
-        let mut words = row.split(' ');
-        self.code
-            .extend_from_slice(&bytes_of(alloc, words.next().ok_or("bytes")?)?)?;
-        self.add_field(start, words.next().ok_or("a field")?, name, addend)?;
+        let start = self.code.len();
+        let piece = format!(in alloc; "\n{piece} ")?;
+        let (_, row) = PIECES.split_once(piece.as_str()).ok_or("a piece")?;
+        let mut words = row.split_whitespace();
+        let bytes = bytes_of(alloc, words.next().ok_or("bytes")?)?;
+        self.code.extend_from_slice(bytes.as_slice())?;
+        self.add_field(start, words.next().ok_or("a field")?, name, more)?;
         match words.next() {
-            Some(call) => self.add_field(start, call, "__tls_get_addr", 0),
-            None => Ok(()),
+            Some(call) if call.contains(':') => self.add_field(start, call, "__tls_get_addr", 0),
+            _ => Ok(()),
         }
     }
 
@@ -165,15 +145,17 @@ impl<'a> Parts<'a> {
             "c" => self.code.extend_from_slice(&bytes_of(alloc, rest)?)?,
             "d" => self.data.extend_from_slice(&bytes_of(alloc, rest)?)?,
             "z" => self.zero_variables = number(rest),
-            "b" => self
-                .zeros
-                .extend(vec![in alloc; number(name); number(more) as usize]?)?,
+            "b" => {
+                for _ in 0..number(more) {
+                    self.zeros.push(number(name))?;
+                }
+            }
             "q" => {
                 let symbol = self.symbol_number(name)?;
                 let field = rela(number(place), R_X86_64_64, symbol, signed(addend));
                 self.data_relocations.push(field)?;
             }
-            _ => self.add_piece(alloc, row_of(sort).ok_or("a piece")?, name, signed(more))?,
+            _ => self.add_piece(alloc, sort, name, signed(more))?,
         }
         Ok(())
     }
@@ -193,9 +175,9 @@ impl<'a> Parts<'a> {
     }
 }
 
-/// An object of nothing.
-fn nothing<'a>(alloc: Global) -> Parts<'a> {
-    Parts {
+/// The bytes of the object of these words.
+pub(crate) fn object(alloc: Global, words: &str) -> Result<Vec<u8>, Fail> {
+    let mut parts = Parts {
         symbols: Vec::new(alloc),
         variables: Vec::new(alloc),
         zero_variables: 0,
@@ -204,12 +186,7 @@ fn nothing<'a>(alloc: Global) -> Parts<'a> {
         data: Vec::new(alloc),
         data_relocations: Vec::new(alloc),
         zeros: Vec::new(alloc),
-    }
-}
-
-/// The bytes of the object of these words.
-pub(crate) fn object(alloc: Global, words: &str) -> Result<Vec<u8>, Fail> {
-    let mut parts = nothing(alloc);
+    };
     for word in words.split_whitespace() {
         if let Some((name, place)) = word.split_once('=') {
             parts.symbols.push(symbol(name, place))?;
