@@ -20,14 +20,13 @@ const STARTUP: &str = "y=v0 w=v4 errno=v8 v:000000000000000000000000";
 
 /// The kind of image of a word, and whether its sequences may be rewritten.
 fn kind_of(word: &str) -> (ImageKind, bool) {
-    match word {
-        "exe" => (ImageKind::Exe, true),
-        "exe-kept" => (ImageKind::Exe, false),
-        "pie" => (ImageKind::Pie, true),
-        "pie-kept" => (ImageKind::Pie, false),
-        "start" => (ImageKind::Start, true),
-        _ => (ImageKind::Late, true),
-    }
+    let kind = match word.trim_end_matches("-kept") {
+        "exe" => ImageKind::Exe,
+        "pie" => ImageKind::Pie,
+        "start" => ImageKind::Start,
+        _ => ImageKind::Late,
+    };
+    (kind, !word.ends_with("-kept"))
 }
 
 /// The objects, with a bar between them.
@@ -62,16 +61,17 @@ fn all_sites(alloc: Global, objects: &[Object]) -> Result<Vec<Vec<Site>>, Fail>
 }
 
 /// Links objects.
-fn answer(alloc: Global, kind: &str, objects: &str) -> Result<Result<Linked, LinkFault>, Fail> {
-    let files = files_of(alloc, objects)?;
-    let objects = read(alloc, files.as_slice())?;
+fn answer(
+    alloc: Global,
+    kind: &str,
+    objects: &[Object],
+) -> Result<Result<Linked, LinkFault>, Fail> {
     let module = files_of(alloc, STARTUP)?;
     let module = read(alloc, module.as_slice())?;
     let startup: [Exports; 1] = [exports(alloc, module.as_slice())?];
-    let sites = all_sites(alloc, objects.as_slice())?;
+    let sites = all_sites(alloc, objects)?;
     let (kind, relax) = kind_of(kind);
-    let (objects, sites) = (objects.as_slice(), sites.as_slice());
-    Ok(link(alloc, objects, sites, kind, &startup, relax))
+    Ok(link(alloc, objects, sites.as_slice(), kind, &startup, relax))
 }
 
 /// Adds an image as text, and which sequences stand in the place of those of each object.
@@ -105,8 +105,10 @@ fn push_bytes(alloc: Global, text: &mut String, linked: &Linked) -> Result<(), A
 
 /// What is told of a link.
 fn told(alloc: Global, kind: &str, objects: &str) -> Result<String, Fail> {
+    let files = files_of(alloc, objects)?;
+    let objects = read(alloc, files.as_slice())?;
     let mut text = String::new(alloc);
-    match answer(alloc, kind, objects)? {
+    match answer(alloc, kind, objects.as_slice())? {
         Ok(linked) => {
             push_image(alloc, &mut text, &linked)?;
             text = text.replace(alloc, "0000000000", "")?;

@@ -1,9 +1,9 @@
 //! Objects of words.
 //!
-//! A symbol is NAME=PLACE, LOCAL with a dot and WEAK with a tilde before its name, at vN in `.tdata`, zN in `.tbss`, cN
-//! in code, or ?, nowhere. Bytes are v: of `.tdata`, aligned to 8 where it has any, c: of code and d: of data; sizes are
-//! z: of `.tbss` and b:SIZE,COUNT of more sections of zeros. PIECE:NAME,ADDEND is code whose field names a symbol, with so
-//! much added to its addend, and q:NAME,ADDEND,PLACE an address in data. Numbers are hexadecimal.
+//! A symbol is NAME=PLACE, LOCAL with a dot and WEAK with a tilde before its name, at vN in `.tdata`, zN in `.tbss`,
+//! cN in code, or ?, nowhere. Bytes are v: of `.tdata`, aligned to 8 where it has any, c: of code and d: of data; sizes
+//! are z: of `.tbss` and b:SIZE,COUNT of more sections of zeros. PIECE:NAME,ADDEND is code whose field names a symbol,
+//! with so much added to its addend, and q:NAME,ADDEND,PLACE an address in data. Numbers are hexadecimal.
 //!
 //! The sections are `.tdata` (1), `.tbss` (2) and `.text` (3), behind it the relocations of code (4), if there are any,
 //! then `.data` and its relocations, the sections of zeros, and the symbols.
@@ -98,40 +98,36 @@ impl<'a> Parts<'a> {
     }
 
     /// Adds the relocation of a field of a piece that starts here.
-    fn add_field(
-        &mut self,
-        start: usize,
-        field: &str,
-        name: &'a str,
-        more: i64,
-    ) -> Result<(), Fail> {
+    fn add_field(&mut self, start: u64, field: &str, symbol: u32, more: i64) -> Result<(), Fail> {
         let (at, rest) = field.split_once(':').ok_or("a type")?;
         let (kind, addend) = rest.split_once(':').ok_or("an addend")?;
-        let at = (start as u64).saturating_add(number(at));
+        let at = start.saturating_add(number(at));
         let kind = u32::from_str_radix(kind, 16).unwrap_or(0);
         let addend = signed(addend).saturating_add(more);
-        let field = rela(at, kind, self.symbol_number(name)?, addend);
-        self.code_relocations.push(field)?;
+        self.code_relocations.push(rela(at, kind, symbol, addend))?;
         Ok(())
     }
 
-    /// Adds a piece of code.
+    /// Adds a piece of code whose field names a symbol.
     fn add_piece(
         &mut self,
         alloc: Global,
         piece: &str,
-        name: &'a str,
+        symbol: u32,
         more: i64,
     ) -> Result<(), Fail> {
-        let start = self.code.len();
+        let start = self.code.len() as u64;
         let piece = format!(in alloc; "\n{piece} ")?;
         let (_, row) = PIECES.split_once(piece.as_str()).ok_or("a piece")?;
         let mut words = row.split_whitespace();
         let bytes = bytes_of(alloc, words.next().ok_or("bytes")?)?;
         self.code.extend_from_slice(bytes.as_slice())?;
-        self.add_field(start, words.next().ok_or("a field")?, name, more)?;
+        self.add_field(start, words.next().ok_or("a field")?, symbol, more)?;
         match words.next() {
-            Some(call) if call.contains(':') => self.add_field(start, call, "__tls_get_addr", 0),
+            Some(call) if call.contains(':') => {
+                let symbol = self.symbol_number("__tls_get_addr")?;
+                self.add_field(start, call, symbol, 0)
+            }
             _ => Ok(()),
         }
     }
@@ -150,12 +146,14 @@ impl<'a> Parts<'a> {
                     self.zeros.push(number(name))?;
                 }
             }
-            "q" => {
+            _ => {
                 let symbol = self.symbol_number(name)?;
+                if sort != "q" {
+                    return self.add_piece(alloc, sort, symbol, signed(more));
+                }
                 let field = rela(number(place), R_X86_64_64, symbol, signed(addend));
                 self.data_relocations.push(field)?;
             }
-            _ => self.add_piece(alloc, sort, name, signed(more))?,
         }
         Ok(())
     }
