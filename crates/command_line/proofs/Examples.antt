@@ -31,6 +31,32 @@ twice : asked (codes "run" ∷ codes "job" ∷ codes "--no-relax" ∷ codes "--n
 unfolding asked takes_words clap_on_literals
 twice = refl
 
+-- link job app out
+a_link : asked (codes "link" ∷ codes "job" ∷ codes "app" ∷ codes "out" ∷ []) ≡ Some (task.Link (codes "job") (codes "app") (codes "out") false)
+unfolding asked takes_words clap_on_literals
+a_link = refl
+
+-- link job --no-relax app out
+a_link_without_rewriting : asked (codes "link" ∷ codes "job" ∷ codes "--no-relax" ∷ codes "app" ∷ codes "out" ∷ [])
+    ≡ Some (task.Link (codes "job") (codes "app") (codes "out") true)
+unfolding asked takes_words clap_on_literals
+a_link_without_rewriting = refl
+
+-- link job app
+no_out : asked (codes "link" ∷ codes "job" ∷ codes "app" ∷ []) ≡ None
+unfolding asked takes_words clap_on_literals
+no_out = refl
+
+-- sites job app
+some_sites : asked (codes "sites" ∷ codes "job" ∷ codes "app" ∷ []) ≡ Some (task.Sites (codes "job") (codes "app"))
+unfolding asked takes_words clap_on_literals
+some_sites = refl
+
+-- sites job app --no-relax
+sites_with_an_option : asked (codes "sites" ∷ codes "job" ∷ codes "app" ∷ codes "--no-relax" ∷ []) ≡ None
+unfolding asked takes_words clap_on_literals
+sites_with_an_option = refl
+
 -- show app
 a_show : asked (codes "show" ∷ codes "app" ∷ []) ≡ Some (task.Show (codes "app"))
 unfolding asked takes_words clap_on_literals
@@ -45,6 +71,16 @@ a_show_with_an_option = refl
 any_job : (job : Text) → asked (codes "run" ∷ codes "--" ∷ job ∷ []) ≡ Some (task.Run job false)
 unfolding asked takes_words clap_on_literals
 any_job job = refl
+
+-- link -- JOB IMAGE OUT, whatever these texts are
+any_link : (job image out : Text) → asked (codes "link" ∷ codes "--" ∷ job ∷ image ∷ out ∷ []) ≡ Some (task.Link job image out false)
+unfolding asked takes_words clap_on_literals
+any_link job image out = refl
+
+-- sites -- JOB IMAGE
+any_sites : (job image : Text) → asked (codes "sites" ∷ codes "--" ∷ job ∷ image ∷ []) ≡ Some (task.Sites job image)
+unfolding asked takes_words clap_on_literals
+any_sites job image = refl
 
 -- run --no-relax -- JOB
 any_job_without_rewriting : (job : Text) → asked (codes "run" ∷ codes "--no-relax" ∷ codes "--" ∷ job ∷ []) ≡ Some (task.Run job true)

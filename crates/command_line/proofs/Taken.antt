@@ -66,7 +66,7 @@ yes x = refl
 entered_asks : (stop : Option (Text × List Text)) → is_some (entered (built tool_app) stop) ≡ true
     → is_some (option_and_then task_of (entered (built tool_app) stop)) ≡ true
 entered_asks None e = e
-entered_asks (Some p) e = each_found (λ o. is_some (option_and_then task_of o)) p.0 p.1 (built tool_app).subs (yes, (yes, tt)) e
+entered_asks (Some p) e = each_found (λ o. is_some (option_and_then task_of o)) p.0 p.1 (built tool_app).subs (yes, (yes, (yes, (yes, tt)))) e
 
 -- words without a fault give a task
 without_fault : (words : List Text) → fault_of tool_app words ≡ [] → is_some (option_and_then task_of (subcommand_of tool_app words)) ≡ true

@@ -19,6 +19,19 @@ no_relax_rule = record (new_rule (codes "no-relax")) {
 abbrev pub run_app : App
 run_app = with_rule (with_rule (new_app (codes "run")) (text_rule (codes "JOB"))) no_relax_rule
 
+-- link JOB IMAGE OUT [--no-relax]
+abbrev pub link_app : App
+link_app =
+    with_rule
+    (with_rule
+    (with_rule (with_rule (new_app (codes "link")) (text_rule (codes "JOB"))) (text_rule (codes "IMAGE")))
+    (text_rule (codes "OUT")))
+    no_relax_rule
+
+-- sites JOB IMAGE
+abbrev pub sites_app : App
+sites_app = with_rule (with_rule (new_app (codes "sites")) (text_rule (codes "JOB"))) (text_rule (codes "IMAGE"))
+
 -- show FILE
 abbrev pub show_app : App
 show_app = with_rule (new_app (codes "show")) (text_rule (codes "FILE"))
@@ -30,6 +43,10 @@ top_settings s = record s { no_binary_name = true; subcommand_required = true; d
 abbrev pub bare_tool : App
 bare_tool = on_top top_settings (new_app (codes "tlsld"))
 
--- all the commands
+-- the commands that link images
+abbrev pub linking_tool : App
+linking_tool = with_subcommand (with_subcommand bare_tool run_app.top) link_app.top
+
+-- all the commands: behind those the ones that print what is in an image
 abbrev pub tool_app : App
-tool_app = with_subcommand (with_subcommand bare_tool run_app.top) show_app.top
+tool_app = with_subcommand (with_subcommand linking_tool sites_app.top) show_app.top

@@ -31,6 +31,16 @@ flag_at id rows = bytes_eq (text_at id rows) (codes "true")
 abbrev pub run_task : List Row → Task
 run_task rows = task.Run (text_at (codes "JOB") rows) (flag_at (codes "no-relax") rows)
 
+-- link JOB IMAGE OUT [--no-relax]
+abbrev pub link_task : List Row → Task
+link_task rows =
+    task.Link (text_at (codes "JOB") rows) (text_at (codes "IMAGE") rows) (text_at (codes "OUT") rows)
+    (flag_at (codes "no-relax") rows)
+
+-- sites JOB IMAGE
+abbrev pub sites_task : List Row → Task
+sites_task rows = task.Sites (text_at (codes "JOB") rows) (text_at (codes "IMAGE") rows)
+
 -- show FILE
 abbrev pub show_task : List Row → Task
 show_task rows = task.Show (text_at (codes "FILE") rows)
@@ -39,6 +49,8 @@ show_task rows = task.Show (text_at (codes "FILE") rows)
 abbrev pub task_of : Text × List Row → Option Task
 task_of command =
     if bytes_eq command.0 (codes "run") then Some (run_task command.1) else
+    if bytes_eq command.0 (codes "link") then Some (link_task command.1) else
+    if bytes_eq command.0 (codes "sites") then Some (sites_task command.1) else
     if bytes_eq command.0 (codes "show") then Some (show_task command.1) else
     None
 

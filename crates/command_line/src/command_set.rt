@@ -3,8 +3,8 @@ ghost use Rattle.std.specs.Prelude.{◌≡◌, false, IfOk};
 ghost use Rattle.clap.specs.Walk.{rule_of};
 ghost use Rattle.clap.specs.Simple.{app_of};
 ghost use Rattle.clap.specs.declared.builder.command.Command.TheViews.{out-Command};
-ghost use Rattle.command_line.specs.CommandSet.{text_rule, no_relax_rule, run_app, show_app};
-ghost use Rattle.command_line.specs.CommandSet.{bare_tool, tool_app};
+ghost use Rattle.command_line.specs.CommandSet.{text_rule, no_relax_rule, run_app, link_app, sites_app, show_app};
+ghost use Rattle.command_line.specs.CommandSet.{bare_tool, linking_tool, tool_app};
 
 use clap::{Arg, ArgAction, Command};
 use std::alloc::{AllocError, Global};
@@ -37,6 +37,28 @@ fn run_command<'a>(alloc: Global) -> Result<Command<'a>, AllocError>
         .arg(no_relax_flag(alloc))
 }
 
+/// `link JOB IMAGE OUT [--no-relax]`.
+fn link_command<'a>(alloc: Global) -> Result<Command<'a>, AllocError>
+    ensures app { IfOk result (λ command. app_of command ≡ link_app) }
+    ensures local { IfOk result (λ command. (out-Command command).has_globals ≡ false) }
+{
+    Command::new(alloc, "link")
+        .arg(text_argument(alloc, "JOB"))?
+        .arg(text_argument(alloc, "IMAGE"))?
+        .arg(text_argument(alloc, "OUT"))?
+        .arg(no_relax_flag(alloc))
+}
+
+/// `sites JOB IMAGE`.
+fn sites_command<'a>(alloc: Global) -> Result<Command<'a>, AllocError>
+    ensures app { IfOk result (λ command. app_of command ≡ sites_app) }
+    ensures local { IfOk result (λ command. (out-Command command).has_globals ≡ false) }
+{
+    Command::new(alloc, "sites")
+        .arg(text_argument(alloc, "JOB"))?
+        .arg(text_argument(alloc, "IMAGE"))
+}
+
 /// `show FILE`.
 fn show_command<'a>(alloc: Global) -> Result<Command<'a>, AllocError>
     ensures app { IfOk result (λ command. app_of command ≡ show_app) }
@@ -55,11 +77,20 @@ fn bare_command<'a>(alloc: Global) -> Command<'a>
         .disable_help_subcommand(true)
 }
 
+/// The linker's command line with the commands that link images.
+fn linking_command<'a>(alloc: Global) -> Result<Command<'a>, AllocError>
+    ensures { IfOk result (λ command. app_of command ≡ linking_tool) }
+{
+    bare_command(alloc)
+        .subcommand(run_command(alloc)?)?
+        .subcommand(link_command(alloc)?)
+}
+
 /// The linker's command line.
 pub(crate) fn tool_command<'a>(alloc: Global) -> Result<Command<'a>, AllocError>
     ensures { IfOk result (λ command. app_of command ≡ tool_app) }
 {
-    bare_command(alloc)
-        .subcommand(run_command(alloc)?)?
+    linking_command(alloc)?
+        .subcommand(sites_command(alloc)?)?
         .subcommand(show_command(alloc)?)
 }

@@ -7,6 +7,8 @@
 //! | words | task |
 //! |---|---|
 //! | `run JOB [--no-relax]` | link the images of the job in the file JOB, and run its threads |
+//! | `link JOB IMAGE OUT [--no-relax]` | link the images, put the one named IMAGE to the file OUT, and say how long it is |
+//! | `sites JOB IMAGE` | print the code sequences of the image named IMAGE, and what stands in the place of each |
 //! | `show FILE` | print what the image in the file FILE says |
 //!
 //! ```text
@@ -15,6 +17,9 @@
 //! run -- --no-relax            Run { job: "--no-relax", no_relax: false }
 //! run -                        Run { job: "-", no_relax: false }
 //! run                          usage: there is no JOB
+//! link a.job app a.out         Link { job: "a.job", image: "app", out: "a.out", no_relax: false }
+//! link a.job app               usage: there is no OUT
+//! sites a.job app              Sites { job: "a.job", image: "app" }
 //! show app                     Show { file: "app" }
 //! run a.job b.job              usage: there is one word too many
 //! run a.job --no-rel           usage: an option has no shorter forms

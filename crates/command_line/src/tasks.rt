@@ -12,6 +12,25 @@ pub enum Task {
         /// Whether each code sequence stays as the compiler wrote it.
         no_relax: bool,
     },
+    /// `link JOB IMAGE OUT [--no-relax]`: link the images of the job, put one to a file, and print how long it is.
+    Link {
+        /// The name of the job's file.
+        job: Text,
+        /// The name of the image in the job.
+        image: Text,
+        /// The name of the file that the image is put to.
+        out: Text,
+        /// Whether each code sequence stays as the compiler wrote it.
+        no_relax: bool,
+    },
+    /// `sites JOB IMAGE`: print the code sequences of an image for thread-local storage, and what stands in the place
+    /// of each.
+    Sites {
+        /// The name of the job's file.
+        job: Text,
+        /// The name of the image in the job.
+        image: Text,
+    },
     /// `show FILE`: print what an image says.
     Show {
         /// The name of the image's file.

@@ -4,7 +4,8 @@ ghost use Rattle.std.specs.Option.{option_and_then};
 ghost use Rattle.clap.specs.Matches.{found_of};
 ghost use Rattle.clap.specs.Walk.{rows_of};
 ghost use Rattle.clap.specs.Simple.{subcommand_rows_of};
-ghost use Rattle.command_line.specs.Words.{takes_words, asked, task_of, run_task, show_task, text_at, flag_at};
+ghost use Rattle.command_line.specs.Words.{takes_words, asked, task_of, text_at, flag_at};
+ghost use Rattle.command_line.specs.Words.{run_task, link_task, sites_task, show_task};
 
 use crate::command_set::tool_command;
 use crate::{Task, Text, WordsFault};
@@ -46,6 +47,26 @@ fn run_of(alloc: Global, matches: &ArgMatches<'_>) -> Result<Task, AllocError>
     })
 }
 
+fn link_of(alloc: Global, matches: &ArgMatches<'_>) -> Result<Task, AllocError>
+    ensures { IfOk result (λ task. task ≡ link_task (rows_of (found_of matches.now))) }
+{
+    Ok(Task::Link {
+        job: Text::copy_of(alloc, text_of(matches, "JOB"))?,
+        image: Text::copy_of(alloc, text_of(matches, "IMAGE"))?,
+        out: Text::copy_of(alloc, text_of(matches, "OUT"))?,
+        no_relax: flag_of(matches, "no-relax"),
+    })
+}
+
+fn sites_of(alloc: Global, matches: &ArgMatches<'_>) -> Result<Task, AllocError>
+    ensures { IfOk result (λ task. task ≡ sites_task (rows_of (found_of matches.now))) }
+{
+    Ok(Task::Sites {
+        job: Text::copy_of(alloc, text_of(matches, "JOB"))?,
+        image: Text::copy_of(alloc, text_of(matches, "IMAGE"))?,
+    })
+}
+
 fn show_of(alloc: Global, matches: &ArgMatches<'_>) -> Result<Task, AllocError>
     ensures { IfOk result (λ task. task ≡ show_task (rows_of (found_of matches.now))) }
 {
@@ -62,6 +83,8 @@ fn task_of_matches(alloc: Global, matches: &ArgMatches<'_>) -> Result<Task, Word
 {
     match matches.subcommand() {
         Some(("run", values)) => Ok(run_of(alloc, values)?),
+        Some(("link", values)) => Ok(link_of(alloc, values)?),
+        Some(("sites", values)) => Ok(sites_of(alloc, values)?),
         Some(("show", values)) => Ok(show_of(alloc, values)?),
         _ => Err(WordsFault::Usage),
     }

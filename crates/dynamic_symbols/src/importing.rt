@@ -32,7 +32,10 @@ fn is_import(bindings: &Bindings, index: usize, site: &Site) -> bool
     requires symbol { site.now.symbol < symbol_count (object_at bindings.now.objects index) }
     ensures { result ≡ is_import bindings.now.objects bindings.now.startup index site.now }
 {
-    matches!(bindings.binding(index, &first_of(site)), Some(Binding::Startup(_)))
+    matches!(
+        bindings.binding(index, &first_of(site)),
+        Some(Binding::Startup(_))
+    )
 }
 
 /// Adds the names that an object's sites import.

@@ -125,7 +125,7 @@ fn all_said(alloc: Global, bindings: &Bindings, objects: &[Object]) -> Result<St
         text.push_str(format!(in alloc; "{}.{} ", found.object, found.symbol)?.as_str())?;
     }
     text.push_str("/ ")?;
-    for name in &names {
+    for name in names.as_slice() {
         for byte in *name {
             text.push(char::from(*byte))?;
         }

@@ -141,7 +141,7 @@ const GOOD: &str = "# each group in the order of the job\nimage plug late p.o q.
 
 /// What that job says, as Debug prints it.
 const GOOD_SAID: &str = "\
-2 4294967295 [2, 1, 2]\n\
+2 4294967295 [2, 1, 2]\n[3, 2, 1, 4]\n\
 [\
 Image { name: Name { text: \"app\" }, kind: Pie, objects: Names { items: [Name { text: \"a.o\" }] } }, \
 Image { name: Name { text: \"lib\" }, kind: Start, objects: Names { items: [Name { text: \"l.o\" }] } }, \
@@ -157,16 +157,20 @@ ThreadLine { image: 2, action: Call { symbol: Name { text: \"f\" }, a: 1, b: 184
 ThreadLine { image: 4, action: Open }]\n";
 
 const LITTLE_SAID: &str = "\
-1 100000 []\n\
+1 100000 []\n[1]\n\
 [Image { name: Name { text: \"app\" }, kind: Exe, objects: Names { items: [Name { text: \"a.o\" }] } }]\n\
 [ThreadLine { image: 1, action: Open }]\n[]\n";
 
-/// What a job says, as one text: its threads, steps and order, its images, and the lines of two threads.
+/// What a job says, as one text: its threads, steps and order, its mentions, its images, and the lines of
+/// two threads.
 fn said(alloc: Global, job: &str) -> Result<String, Fail> {
     let job = Job::read(alloc, job.as_bytes())?;
     let (threads, fuel, order) = (job.threads(), job.fuel(), job.order());
-    let (images, first, second) = (job.images(), job.lines(1), job.lines(2));
-    Ok(format!(in alloc; "{threads} {fuel} {order:?}\n{images:?}\n{first:?}\n{second:?}\n")?)
+    let (mentions, images) = (job.mentions(), job.images());
+    let (first, second) = (job.lines(1), job.lines(2));
+    Ok(format!(in alloc;
+        "{threads} {fuel} {order:?}\n{mentions:?}\n{images:?}\n{first:?}\n{second:?}\n"
+    )?)
 }
 
 #[test]

@@ -1,0 +1,5 @@
+pub mod Buffer
+pub mod Exported
+pub mod Filled
+pub mod Pushed
+pub mod Unseen

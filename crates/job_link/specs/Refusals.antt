@@ -7,6 +7,8 @@ use Rattle.job_link.specs.declared.reading.ReadRefusal.{ReadRefusal}
 use Rattle.job_link.specs.declared.reading.ReadRefusal.TheVariants as unread
 use Rattle.job_link.specs.Given.{Given, IsFirstFaulty}
 use Rattle.job_link.specs.Linked.{IsFirstUnlinked}
+use Rattle.link_faults.specs.declared.fault.LinkFault.{LinkFault}
+use Rattle.link_faults.specs.declared.fault.LinkFault.TheVariants as link
 
 abbrev pub IsReadRefusal : (List ℕ → List ℕ) → JobParts → ReadRefusal → Type 0
 IsReadRefusal bytes job unread.OutOfMemory = Unit {0}
@@ -16,3 +18,8 @@ abbrev pub IsImageRefusal : List Given → Bool → ImageRefusal → Type 0
 IsImageRefusal images relax unlinked.OutOfMemory = Unit {0}
 IsImageRefusal images relax (unlinked.At number kind object section entry) =
     IsFirstUnlinked images relax number kind object section entry
+
+-- what is told of the image of this number, from 0, that has this fault
+abbrev pub refusal_of : ℕ → LinkFault → ImageRefusal
+refusal_of number link.OutOfMemory = unlinked.OutOfMemory
+refusal_of number (link.At kind object section entry) = unlinked.At number kind object section entry

@@ -1,8 +1,9 @@
 //! Files of objects, fetched once each.
 
-ghost use Rattle.std.specs.Prelude.{◌≡◌, IfOk, IfSome};
+ghost use Rattle.std.specs.Prelude.{◌≡◌, ◌∷◌, [], IfOk, IfSome, OnOk};
 ghost use Rattle.ports.specs.Counts.{FetchCounts};
 ghost use Rattle.job_link.specs.Mentions.{bytes_in, object_names, AreFilesOf, Fetches};
+ghost use Rattle.job_link.specs.Walks.{names_of, unseen, Grows};
 
 use indexmap::IndexMap;
 use job_text::{Image, Job};
@@ -11,7 +12,7 @@ use std::alloc::Global;
 use std::marker::Model;
 
 /// Where a file lies among others, one behind another.
-#[derive(Clone, Copy, PartialEq, Eq, Debug)]
+#[derive(Clone, Copy)]
 struct Extent {
     start: usize,
     end: usize,
@@ -24,7 +25,28 @@ pub struct Files<'j> {
     places: IndexMap<&'j str, Extent>,
 }
 
+impl<'j> Model for Files<'j> {
+    ghost use Rattle.job_link.specs.Mentions.{Fetched};
+    ghost use Rattle.job_link.specs.Places.{files_in, AreWithin};
+
+    ghost Value = { Fetched };
+
+    ghost view = { λ files. files_in files.bytes.items files.places.entries };
+
+    ghost invariant = { λ files. AreWithin files.bytes.items files.places.entries };
+}
+
 impl<'j> Files<'j> {
+    /// No file.
+    fn empty(alloc: Global) -> Self
+        ensures { result ≡ [] }
+    {
+        Files {
+            bytes: Vec::new(alloc),
+            places: IndexMap::new(alloc),
+        }
+    }
+
     /// The bytes of the file of that name; none where it was not fetched.
     pub fn file(&self, name: &str) -> &[u8]
         ensures { result.now ≡ bytes_in self.now name.now }
@@ -36,21 +58,41 @@ impl<'j> Files<'j> {
     }
 
     /// Fetches a file, unless it is there.
-    fn fetch<S: Store>(&mut self, store: &mut S, name: &'j str) -> Result<(), FetchFault> {
+    fn fetch<S: Store>(&mut self, store: &mut S, name: &'j str) -> Result<(), FetchFault>
+        ensures files { S.files store.new ≡ S.files store.old }
+        ensures cause { FetchCounts (S.faults store.old) (S.faults store.new) result }
+        ensures asked { Fetches (unseen (names_of self.old) (name.now ∷ [])) (S.asked store.old) (S.asked store.new)
+            result }
+        ensures grows { OnOk result (Grows (S.files store.old) (unseen (names_of self.old) (name.now ∷ []))
+            self.old self.new) }
+    {
         if self.places.contains_key(name) {
             return Ok(());
         }
-        let start = self.bytes.len();
-        store.fetch(name, &mut self.bytes)?;
-        let end = self.bytes.len();
-        self.places.insert(name, Extent { start, end })?;
+        let start = self.bytes.as_slice().len();
+        if let Err(fault) = store.fetch(name, &mut self.bytes) {
+            return Err(fault);
+        }
+        let end = self.bytes.as_slice().len();
+        if let Err(_failed) = self.places.insert(name, Extent { start, end }) {
+            return Err(FetchFault::OutOfMemory);
+        }
         Ok(())
     }
 
     /// Fetches the objects of an image that are not there.
-    fn fetch_image<S: Store>(&mut self, store: &mut S, image: &'j Image) -> Result<(), FetchFault> {
+    fn fetch_image<S: Store>(&mut self, store: &mut S, image: &'j Image) -> Result<(), FetchFault>
+        ensures files { S.files store.new ≡ S.files store.old }
+        ensures cause { FetchCounts (S.faults store.old) (S.faults store.new) result }
+        ensures asked { Fetches (unseen (names_of self.old) image.now.objects) (S.asked store.old) (S.asked store.new)
+            result }
+        ensures grows { OnOk result (Grows (S.files store.old) (unseen (names_of self.old) image.now.objects)
+            self.old self.new) }
+    {
         for object in image.objects.as_slice() {
-            self.fetch(store, object.as_str())?;
+            if let Err(fault) = self.fetch(store, object.as_str()) {
+                return Err(fault);
+            }
         }
         Ok(())
     }
@@ -67,12 +109,11 @@ pub fn fetch_objects<'j, S: Store>(
     ensures asked { Fetches (object_names job.now) (S.asked store.old) (S.asked store.new) result }
     ensures bytes { IfSome (S.files store.old) (λ fs. IfOk result (AreFilesOf fs (object_names job.now))) }
 {
-    let mut files = Files {
-        bytes: Vec::new(alloc),
-        places: IndexMap::new(alloc),
-    };
+    let mut files = Files::empty(alloc);
     for number in job.mentions() {
-        files.fetch_image(store, job.image(*number))?;
+        if let Err(fault) = files.fetch_image(store, job.image(*number)) {
+            return Err(fault);
+        }
     }
     Ok(files)
 }

@@ -1,7 +1,8 @@
 //! The objects of an image.
 
-ghost use Rattle.std.specs.Prelude.{◌≡◌, [], ◌∷◌, ◌++◌, IfErr, OnOk};
-ghost use Rattle.job_link.specs.Given.{IsFileFault, IsSound};
+ghost use Rattle.std.specs.Prelude.{◌≡◌, [], ◌∷◌, ◌++◌, IfErr, OnOk, map};
+ghost use Rattle.sequence_match.specs.Faults.{AreSites};
+ghost use Rattle.job_link.specs.Given.{IsFileFault, IsGiven, IsSound};
 
 use elf_object::{Object, ObjectFault};
 use link_faults::ImageKind;
@@ -39,7 +40,8 @@ impl<'a> Model for ImageObjects<'a> {
 impl<'a> ImageObjects<'a> {
     /// No object yet.
     pub(crate) fn new(alloc: Global, kind: ImageKind) -> Self
-        ensures { result ≡ record { kind = kind; objects = []; sites = [] } }
+        ensures value { result ≡ record { kind = kind; objects = []; sites = [] } }
+        ensures given { IsGiven result }
     {
         ImageObjects {
             kind,
@@ -48,21 +50,26 @@ impl<'a> ImageObjects<'a> {
         }
     }
 
+    /// What the image is linked as.
     pub fn kind(&self) -> ImageKind
-        ensures { result ≡ self.now.kind }
+        ensures kind { result ≡ self.now.kind }
+        ensures given { IsGiven self.now }
     {
         self.kind
     }
 
+    /// Its objects, in the order of the job.
     pub fn objects(&self) -> &[Object<'a>]
-        ensures { result.now ≡ self.now.objects }
+        ensures objects { result.now ≡ self.now.objects }
+        ensures given { IsGiven self.now }
     {
         self.objects.as_slice()
     }
 
     /// The sequences of each object.
     pub fn sites(&self) -> &[Vec<Site>]
-        ensures { map (λ own. own.items) result.now ≡ self.now.sites }
+        ensures sites { map (λ own. own.items) result.now ≡ self.now.sites }
+        ensures given { IsGiven self.now }
     {
         self.sites.as_slice()
     }
@@ -71,18 +78,33 @@ impl<'a> ImageObjects<'a> {
     pub(crate) fn push(&mut self, alloc: Global, bytes: &'a [u8]) -> Result<(), ObjectFault>
         ensures kind { self.new.kind ≡ self.old.kind }
         ensures objects { OnOk result (self.new.objects ≡ self.old.objects ++ bytes.now ∷ []) }
+        ensures given { OnOk result (IsGiven self.new) }
         ensures sound { OnOk result (IsSound bytes.now) }
         ensures fault { IfErr result (IsFileFault bytes.now) }
     {
-        let object = Object::read(alloc, bytes)?;
-        let own = sites(alloc, &object)?;
+        let object = match Object::read(alloc, bytes) {
+            Ok(object) => object,
+            Err(fault) => return Err(fault),
+        };
+        let own = match sites(alloc, &object) {
+            Ok(own) => own,
+            Err(fault) => return Err(fault),
+        };
         Ok(self.add(object, own)?)
     }
 
     /// Adds an object and its sequences.
-    fn add(&mut self, object: Object<'a>, own: Vec<Site>) -> Result<(), AllocError> {
-        self.objects.push(object)?;
-        self.sites.push(own)?;
+    fn add(&mut self, object: Object<'a>, own: Vec<Site>) -> Result<(), AllocError>
+        requires sound { IsSound object }
+        requires sites { AreSites object own.items }
+        ensures kind { self.new.kind ≡ self.old.kind }
+        ensures objects { OnOk result (self.new.objects ≡ self.old.objects ++ object.entry ∷ []) }
+        ensures given { IsGiven self.new }
+    {
+        self.objects.reserve(1)?;
+        self.sites.reserve(1)?;
+        self.objects.push(object).unwrap();
+        self.sites.push(own).unwrap();
         Ok(())
     }
 }

@@ -1,4 +1,43 @@
-//! The images of a job: their objects fetched and read, and linked.
+//! The images of a job: their objects fetched, read and linked.
+//!
+//! A job names its images, and each image the object files that it is made of. Between that text and images that run
+//! there are three steps, and this crate is their order:
+//!
+//! 1. [`fetch_objects`] asks a store for each object file, and keeps the bytes of all of them in one buffer.
+//! 2. [`read_objects`] reads the objects of each image, and finds the sequences of code that reach thread-local
+//!    storage.
+//! 3. [`link_images`] links each image beside the names that the startup images export: the program, and the modules
+//!    that start with it.
+//!
+//! Two orders meet here. The job's lines **mention** images in any order; in **image order** the program is first, then
+//! come the modules that start with it, then the late ones. Files are fetched and read as they are mentioned, so that a
+//! user is told of the first line that is wrong; images are linked in image order, in which the loader numbers them.
+//!
+//! The rule that the crate keeps: **each file is fetched once, and each step does what the job says or names the
+//! first thing that stops it.** A step goes through its things in one order and stops at the first that fails: what
+//! stands before it is sound, and nothing behind it is looked at. Want of memory can stop any step, and is its own
+//! answer.
+//!
+//! Take a job whose two images share an object:
+//!
+//! ```text
+//! image plug late plugin.o shared.o
+//! image app exe main.o shared.o
+//! ```
+//!
+//! | step | order |
+//! |---|---|
+//! | fetched | `plugin.o`, `shared.o`, `main.o`: `shared.o` is asked for once, where it is first mentioned |
+//! | read | `plugin.o` and `shared.o` for `plug`, then `main.o` and `shared.o` for `app`, over the same bytes |
+//! | linked | `app`, then `plug`, each beside what `app` exports, since a late image exports nothing to others |
+//!
+//! If the store has no `shared.o`, it is asked for `plugin.o` and `shared.o`, and no more. If `shared.o` and `main.o`
+//! are both faulty, `shared.o` is told, which the first line mentions, and of it the first fault in the order of
+//! `elf_object`, with the faults of its sequences last. If neither image links, `app` is told, number 0 in image order.
+//!
+//! `specs/` has the steps as definitions: the names that a job mentions and the files by these names (`Mentions`),
+//! what an image is linked from and the first file that is refused (`Given`), and the links and the first image that
+//! does not link (`Linked`). Sequences, exports and links are those of the crates below.
 #![tactic(auto)]
 
 mod fetching;

@@ -1,18 +1,22 @@
 //! All images of a job, linked in image order.
 
-ghost use Rattle.std.specs.Prelude.{◌≡◌, ◌≤◌, IfErr, IfOk, OnOk, length};
-ghost use Rattle.job_link.specs.Linked.{exports_of, linked_in, AllLink};
-ghost use Rattle.job_link.specs.Refusals.{IsImageRefusal};
+ghost use Rattle.std.specs.Prelude.{◌≡◌, ◌≤◌, ◌<◌, ◌-◌, ◌^◌, IfErr, IfOk, OnOk, length};
+ghost use Rattle.link_core.specs.Faults.{IsLinkFault, Links};
+ghost use Rattle.link_core.specs.Images.{linked_of};
+ghost use Rattle.job_link.specs.Linked.{exports_of, is_startup as starts, linked_in, AllLink};
+ghost use Rattle.job_link.specs.Beside.{link_beside};
+ghost use Rattle.job_link.specs.Refusals.{refusal_of, IsImageRefusal};
 
 use crate::images::ImageObjects;
 use link_core::{Linked, link};
 use link_faults::{ImageKind, LinkFault, LinkFaultKind};
-use std::alloc::{AllocError, Global};
+use std::alloc::{AllocError, AllocFailed, Global};
 use tls_symbols::{Exports, exports};
 
 /// Why the images of a job do not link.
 #[derive(Clone, Copy)]
 pub enum ImageRefusal {
+    /// There was no memory for an image.
     OutOfMemory,
     /// The first image that does not link, by its number in image order from 0, and its first fault.
     At {
@@ -25,12 +29,34 @@ pub enum ImageRefusal {
 }
 
 impl From<AllocError> for ImageRefusal {
-    ghost use Rattle.job_link.specs.declared.linked_images.ImageRefusal.TheVariants.{OutOfMemory};
+    ghost use Rattle.std.specs.Prelude.{◌≡◌};
+    ghost use Rattle.job_link.specs.declared.linked_images.ImageRefusal.TheVariants.{OutOfMemory as NoRoom};
 
-    ghost from_gives = { λ _ refusal. refusal ≡ OutOfMemory };
+    ghost from_gives = { λ _ refusal. refusal ≡ NoRoom };
 
     fn from(_error: AllocError) -> ImageRefusal {
         ImageRefusal::OutOfMemory
+    }
+}
+
+impl<T: Drop> From<AllocFailed<T>> for ImageRefusal {
+    ghost use Rattle.std.specs.Prelude.{◌≡◌};
+    ghost use Rattle.job_link.specs.declared.linked_images.ImageRefusal.TheVariants.{OutOfMemory as NoRoom};
+
+    ghost from_gives = { λ _ refusal. refusal ≡ NoRoom };
+
+    fn from(_error: AllocFailed<T>) -> ImageRefusal {
+        ImageRefusal::OutOfMemory
+    }
+}
+
+/// Whether an image is the program, or a module that starts with it.
+fn is_startup(kind: ImageKind) -> bool
+    ensures { result ≡ starts kind }
+{
+    match kind {
+        ImageKind::Exe | ImageKind::Pie | ImageKind::Start => true,
+        ImageKind::Late => false,
     }
 }
 
@@ -43,7 +69,7 @@ fn startup_exports<'a>(
 {
     let mut startup = Vec::new(alloc);
     for image in images {
-        if image.kind() != ImageKind::Late {
+        if is_startup(image.kind()) {
             startup.push(exports(alloc, image.objects())?)?;
         }
     }
@@ -56,7 +82,12 @@ fn link_one<'a>(
     image: &ImageObjects<'a>,
     startup: &[Exports<'a>],
     relax: bool,
-) -> Result<Linked, LinkFault> {
+) -> Result<Linked, LinkFault>
+    requires { length startup.now < 2 ^ 32 - 1 }
+    ensures linked { IfOk result (λ linked. linked ≡ linked_of (link_beside startup.now relax image.now)) }
+    ensures links { OnOk result (Links (link_beside startup.now relax image.now)) }
+    ensures fault { IfErr result (IsLinkFault (link_beside startup.now relax image.now)) }
+{
     link(
         alloc,
         image.objects(),
@@ -65,6 +96,27 @@ fn link_one<'a>(
         startup,
         relax,
     )
+}
+
+/// What is told of the image of this number.
+fn refused(image: usize, fault: LinkFault) -> ImageRefusal
+    ensures { result ≡ refusal_of image fault }
+{
+    match fault {
+        LinkFault::OutOfMemory => ImageRefusal::OutOfMemory,
+        LinkFault::At {
+            kind,
+            object,
+            section,
+            entry,
+        } => ImageRefusal::At {
+            image,
+            kind,
+            object,
+            section,
+            entry,
+        },
+    }
 }
 
 /// Links the images of a job, which stand in image order, or answers the first that does not link. `relax` says whether
@@ -84,21 +136,7 @@ pub fn link_images(
     for (number, image) in images.iter().enumerate() {
         match link_one(alloc, image, startup.as_slice(), relax) {
             Ok(linked) => all.push(linked)?,
-            Err(LinkFault::OutOfMemory) => return Err(ImageRefusal::OutOfMemory),
-            Err(LinkFault::At {
-                kind,
-                object,
-                section,
-                entry,
-            }) => {
-                return Err(ImageRefusal::At {
-                    image: number,
-                    kind,
-                    object,
-                    section,
-                    entry,
-                });
-            }
+            Err(fault) => return Err(refused(number, fault)),
         }
     }
     Ok(all)

@@ -220,4 +220,5 @@ draft_with_line view names d lines i now e h plans =
       slots = h.slots;
       plans = plans_with_line view (IsPlan d.program d.starts d.lates) lines i now (subst (All (All (IsPlan d.program d.starts d.lates))) e h.plans) plans;
       order_named = λ order o. subst (λ (n : ℕ). All (IsThread n) order) (sym same) (h.order_named order o);
+      mentioned = h.mentioned;
     }

@@ -15,9 +15,10 @@ use Rattle.job_text.specs.LineEffects.{with_text}
 use Rattle.job_text.specs.LineFaults.{fault_of}
 use Rattle.job_text.specs.Flaws.{fault_at}
 use Rattle.job_text.specs.Images.{IsImageNumber}
+use Rattle.job_text.specs.Listings.{IsListOf}
+use Rattle.job_text.proofs.MentionLemmas.{mentions_listed, number_within}
 use Rattle.job_text.specs.Jobs.{JobParts, IsAnswer, IsJob, IsLineOf, fault_or, in_image_order, job_declared, job_from, job_parts, lines_of_thread, number_of, numbered_line}
 use Rattle.job_text.specs.declared.draft.Slot.{Slot}
-use Rattle.job_text.specs.declared.draft.Slot.TheVariants.{Program, Start, Late}
 use Rattle.job_text.specs.declared.draft.Plan.{Plan}
 use Rattle.job_text.specs.declared.fault.Flaw.{Flaw}
 use Rattle.job_text.specs.declared.fault.Flaw.TheVariants as flaw
@@ -27,25 +28,19 @@ use Rattle.job_text.specs.declared.images.Image.{Image}
 use Rattle.job_text.specs.declared.thread_lines.ThreadLine.{ThreadLine}
 
 -- a job with these parts is the one that is declared
-pub made_job : (d : Declared) (program : Image) (images : List Image) (fuel : ℕ) (order : List ℕ) (lines : List (List ThreadLine))
-    → d.program ≡ Some program → images ≡ in_image_order program d.starts d.lates → fuel ≡ unwrap_or d.fuel 100000 → order ≡ unwrap_or d.order []
+pub made_job : (d : Declared) (program : Image) (images : List Image) (mentions : List ℕ) (fuel : ℕ) (order : List ℕ) (lines : List (List ThreadLine))
+    → d.program ≡ Some program → images ≡ in_image_order program d.starts d.lates → mentions ≡ map (number_of (length d.starts)) d.mentions → fuel ≡ unwrap_or d.fuel 100000 → order ≡ unwrap_or d.order []
     → lines ≡ map (map (numbered_line (length d.starts))) d.lines
-    → job_declared d ≡ Ok (record { images = images; fuel = fuel; order = order; lines = lines })
-made_job d program images fuel order lines p i f o l = rw (p, i, f, o, l) refl
+    → job_declared d ≡ Ok (job_parts images mentions fuel order lines)
+made_job d program images mentions fuel order lines p i m f o l = rw (p, i, m, f, o, l) refl
 
 fuel_given : (told : Option ℕ) (fuel : ℕ) → fuel ≡ unwrap_or told 100000 → ((steps : ℕ) → told ≡ Some steps → (1 ≤ steps) × (steps < 2 ^ 32)) → (1 ≤ fuel) × (fuel < 2 ^ 32)
 fuel_given None fuel e h = rw e (lit≤ tt, lit< tt)
 fuel_given (Some steps) fuel e h = rw e (h steps refl)
 
-number_within : (program : Option Image) (p : Image) (starts lates : List Image) (slot : Slot) → program ≡ Some p → IsSlot program starts lates slot
-    → IsImageNumber (in_image_order p starts lates) (number_of (length starts) slot)
-number_within program p starts lates Program e h = (lit≤ tt, omega (arith, length-append starts lates))
-number_within program p starts lates (Start k) e h = (omega arith, omega (arith, length-append starts lates))
-number_within program p starts lates (Late k) e h = (omega arith, omega (arith, length-append starts lates))
-
 line_of : (program : Option Image) (p : Image) (starts lates : List Image) (plan : Plan) → program ≡ Some p → IsPlan program starts lates plan
     → IsLineOf (in_image_order p starts lates) (numbered_line (length starts) plan)
-line_of program p starts lates plan e h = record { image = number_within program p starts lates plan.slot e h.placed; shown = h.shown }
+line_of program p starts lates plan e h = record { image = number_within p starts lates plan.slot (subst (λ (o : Option Image). IsSlot o starts lates plan.slot) e h.placed); shown = h.shown }
 
 lines_of : (program : Option Image) (p : Image) (starts lates : List Image) (lines : List (List Plan)) → program ≡ Some p → All (All (IsPlan program starts lates)) lines
     → All (All (IsLineOf (in_image_order p starts lates))) (map (map (numbered_line (length starts))) lines)
@@ -61,11 +56,11 @@ order_given threads None order e h = subst (All (IsThread threads)) (sym e) (All
 order_given threads (Some o) order e h = subst (All (IsThread threads)) (sym e) (h o refl)
 
 -- it is a job
-pub is_job : {S : Type 0} (names : HashMap (Bor (List ℕ)) Slot S) (d : Declared) (program : Image) (images : List Image) (fuel : ℕ) (order : List ℕ) (lines : List (List ThreadLine))
-    → IsDraft names d → d.program ≡ Some program → images ≡ in_image_order program d.starts d.lates → fuel ≡ unwrap_or d.fuel 100000 → order ≡ unwrap_or d.order []
+pub is_job : {S : Type 0} (names : HashMap (Bor (List ℕ)) Slot S) (d : Declared) (program : Image) (images : List Image) (mentions : List ℕ) (fuel : ℕ) (order : List ℕ) (lines : List (List ThreadLine))
+    → IsDraft names d → d.program ≡ Some program → images ≡ in_image_order program d.starts d.lates → mentions ≡ map (number_of (length d.starts)) d.mentions → fuel ≡ unwrap_or d.fuel 100000 → order ≡ unwrap_or d.order []
     → lines ≡ map (map (numbered_line (length d.starts))) d.lines
-    → IsJob (job_parts images fuel order lines)
-is_job names d program images fuel order lines draft p i f o l =
+    → IsJob (job_parts images mentions fuel order lines)
+is_job names d program images mentions fuel order lines draft p i m f o l =
     let count : length images ≡ 1 + length d.starts + length d.lates = rw i (omega (arith, length-append d.starts d.lates)) in
     let limit : 1 + length d.starts + length d.lates ≤ 64 = subst (λ (o : Option Image). cond (is_some o) 1 0 + length d.starts + length d.lates ≤ 64) p draft.within.few_images in
     let fuels : (1 ≤ fuel) × (fuel < 2 ^ 32) = fuel_given d.fuel fuel f draft.within.fuel_within in
@@ -73,6 +68,8 @@ is_job names d program images fuel order lines draft p i f o l =
     record {
       some_image = omega arith;
       few_images = omega arith;
+      mentioned = subst (λ (is : List Image). IsListOf (IsImageNumber is) mentions) (sym i)
+          (subst (IsListOf (IsImageNumber (in_image_order program d.starts d.lates))) (sym m) (mentions_listed d.program program d.starts d.lates d.mentions p draft.mentioned));
       some_thread = rw threads draft.within.some_thread;
       few_threads = rw threads draft.within.few_threads;
       some_fuel = fuels.0;

@@ -1,4 +1,5 @@
 pub mod DraftLemmas
 pub mod JobLemmas
+pub mod MentionLemmas
 pub mod NumberLemmas
 pub mod WordLemmas

@@ -8,31 +8,35 @@ use Rattle.std.specs.Prelude.{Option, Some, None, is_some}
 use Rattle.std.specs.Str.{bytes_eq}
 use Rattle.job_text.specs.Actions.{IsAction}
 pub use Rattle.job_text.specs.Images.{is_named}
+use Rattle.job_text.specs.Listings.{IsListOf}
 use Rattle.job_text.specs.Threads.{IsThread}
 use Rattle.job_text.specs.declared.draft.Slot.TheVariants as slot
 use Rattle.job_text.specs.declared.draft.Slot.{Slot}
 use Rattle.job_text.specs.declared.draft.Plan.{Plan}
 use Rattle.job_text.specs.declared.images.Image.{Image}
 
--- the images in their groups, each in the order of the job; whether there was a line `threads`; the
--- numbers of `fuel` and `order`; and the lines of each thread, thread 1 first
+-- the images in their groups, each in the order of the job; the images' slots in the order of their
+-- lines; whether there was a line `threads`; the numbers of `fuel` and `order`; and the lines of each
+-- thread, thread 1 first
 pub record Declared : Type 0 where
   pub program : Option Image
   pub starts : List Image
   pub lates : List Image
+  pub mentions : List Slot
   pub has_threads : Bool
   pub fuel : Option ℕ
   pub order : Option (List ℕ)
   pub lines : List (List Plan)
 
 -- the record of these parts
-abbrev pub declared : Option Image → List Image → List Image → Bool → Option ℕ → Option (List ℕ) → List (List Plan)
-    → Declared
-declared program starts lates has_threads fuel order lines =
+abbrev pub declared : Option Image → List Image → List Image → List Slot → Bool → Option ℕ → Option (List ℕ)
+    → List (List Plan) → Declared
+declared program starts lates mentions has_threads fuel order lines =
     record {
       program = program;
       starts = starts;
       lates = lates;
+      mentions = mentions;
       has_threads = has_threads;
       fuel = fuel;
       order = order;
@@ -41,7 +45,7 @@ declared program starts lates has_threads fuel order lines =
 
 -- before the first line there is one thread
 abbrev pub nothing_declared : Declared
-nothing_declared = declared None [] [] false None None ([] ∷ [])
+nothing_declared = declared None [] [] [] false None None ([] ∷ [])
 
 -- how many images there are
 abbrev pub image_count : Declared → ℕ
@@ -105,3 +109,4 @@ pub record IsDraft {S : Type 0} (names : HashMap (Bor (List ℕ)) Slot S) (d : D
   pub slots : FindsSlots names d
   pub plans : ArePlans d
   pub order_named : IsOrder d
+  pub mentioned : IsListOf (IsSlot d.program d.starts d.lates) d.mentions

@@ -8,6 +8,7 @@ use Rattle.job_text.specs.Drafts.{Declared, nothing_declared}
 use Rattle.job_text.specs.LineEffects.{with_text}
 use Rattle.job_text.specs.LineFaults.{fault_of}
 use Rattle.job_text.specs.Images.{IsImageNumber}
+use Rattle.job_text.specs.Listings.{IsListOf}
 use Rattle.job_text.specs.Words.{lines_of}
 use Rattle.job_text.specs.declared.draft.Slot.{Slot}
 use Rattle.job_text.specs.declared.draft.Slot.TheVariants.{Program, Start, Late}
@@ -19,17 +20,19 @@ use Rattle.job_text.specs.declared.fault.JobFaultKind.TheVariants.{NoExe}
 use Rattle.job_text.specs.declared.images.Image.{Image}
 use Rattle.job_text.specs.declared.thread_lines.ThreadLine.{ThreadLine}
 
--- the images in image order, the steps of a call, the threads of the first turns, and the lines of
--- each thread, thread 1 first
+-- the images in image order, their numbers in the order of their lines, the steps of a call, the
+-- threads of the first turns, and the lines of each thread, thread 1 first
 pub record JobParts : Type 0 where
   pub images : List Image
+  pub mentions : List ℕ
   pub fuel : ℕ
   pub order : List ℕ
   pub lines : List (List ThreadLine)
 
 -- the record of these parts
-abbrev pub job_parts : List Image → ℕ → List ℕ → List (List ThreadLine) → JobParts
-job_parts images fuel order lines = record { images = images; fuel = fuel; order = order; lines = lines }
+abbrev pub job_parts : List Image → List ℕ → ℕ → List ℕ → List (List ThreadLine) → JobParts
+job_parts images mentions fuel order lines =
+    record { images = images; mentions = mentions; fuel = fuel; order = order; lines = lines }
 
 -- a line of a thread is about an image of the job
 pub record IsLineOf (images : List Image) (line : ThreadLine) : Type 0 where
@@ -40,6 +43,7 @@ pub record IsLineOf (images : List Image) (line : ThreadLine) : Type 0 where
 pub record IsJob (job : JobParts) : Type 0 where
   pub some_image : 1 ≤ length job.images
   pub few_images : length job.images ≤ 64
+  pub mentioned : IsListOf (IsImageNumber job.images) job.mentions
   pub some_thread : 1 ≤ length job.lines
   pub few_threads : length job.lines ≤ 64
   pub some_fuel : 1 ≤ job.fuel
@@ -70,6 +74,7 @@ in_image_order program starts lates = program ∷ starts ++ lates
 abbrev pub job_with : Image → Declared → JobParts
 job_with program d = record {
   images = in_image_order program d.starts d.lates;
+  mentions = map (number_of (length d.starts)) d.mentions;
   fuel = unwrap_or d.fuel 100000;
   order = unwrap_or d.order [];
   lines = map (map (numbered_line (length d.starts))) d.lines;

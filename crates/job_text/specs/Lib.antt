@@ -8,6 +8,7 @@ pub mod Kinds
 pub mod LineAnswers
 pub mod LineEffects
 pub mod LineFaults
+pub mod Listings
 pub mod Numbers
 pub mod Threads
 pub mod Words

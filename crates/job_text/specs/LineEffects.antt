@@ -1,6 +1,6 @@
 -- What a line without fault adds to what is declared.
 use Rattle.std.specs.List.{filter_map}
-use Rattle.std.specs.Prelude.{ℕ, ◌-◌, true, if◌then◌else◌, List, [], ◌∷◌, ◌++◌, drop, replicate, slice_set}
+use Rattle.std.specs.Prelude.{ℕ, ◌-◌, true, if◌then◌else◌, List, [], ◌∷◌, ◌++◌, length, drop, replicate, slice_set}
 use Rattle.std.specs.Prelude.{slice_index_or, Option, Some, None, unwrap_or}
 use Rattle.job_text.specs.Drafts.{Declared, slot_of}
 use Rattle.job_text.specs.Grammar.{heading_of}
@@ -22,12 +22,14 @@ use Rattle.job_text.specs.declared.thread_lines.Action.{Action}
 abbrev pub number_at : ℕ → List (List ℕ) → ℕ
 number_at k words = unwrap_or (number (word_at k words)) 0
 
--- an image joins its group
+-- an image joins its group, and is mentioned after those before it
 abbrev pub with_image : Image → ImageKind → Declared → Declared
-with_image added image.Exe d = record d { program = Some added }
-with_image added image.Pie d = record d { program = Some added }
-with_image added image.Start d = record d { starts = d.starts ++ added ∷ [] }
-with_image added image.Late d = record d { lates = d.lates ++ added ∷ [] }
+with_image added image.Exe d = record d { program = Some added; mentions = d.mentions ++ slot.Program ∷ [] }
+with_image added image.Pie d = record d { program = Some added; mentions = d.mentions ++ slot.Program ∷ [] }
+with_image added image.Start d =
+    record d { starts = d.starts ++ added ∷ []; mentions = d.mentions ++ slot.Start (length d.starts) ∷ [] }
+with_image added image.Late d =
+    record d { lates = d.lates ++ added ∷ []; mentions = d.mentions ++ slot.Late (length d.lates) ∷ [] }
 
 -- what the line of a thread does
 abbrev pub action_of : Verb → List (List ℕ) → Action

@@ -1,6 +1,6 @@
 //! A job as far as it is read.
 
-ghost use Rattle.std.specs.Prelude.{All, ◌≡◌, ◌≤◌, ◌<◌, ◌++◌, ◌∷◌, ◌||◌, ◌&&◌, [], false, Some, is_some, IfOk};
+ghost use Rattle.std.specs.Prelude.{All, ◌≡◌, ◌≤◌, ◌<◌, ◌||◌, ◌&&◌, [], false, Some, is_some, IfOk};
 ghost use Rattle.std.specs.Prelude.{IfSome, IsTrue, OnOk, None, length, map, replicate, drop};
 ghost use Rattle.job_text.specs.Actions.{IsAction};
 ghost use Rattle.job_text.specs.Threads.{IsThread};
@@ -13,6 +13,7 @@ ghost use Rattle.job_text.specs.Grammar.{heading_of};
 ghost use Rattle.job_text.specs.Words.{word_at, words_of};
 ghost use Rattle.job_text.specs.declared.grammar.Heading.TheVariants as heading;
 ghost use Rattle.job_text.specs.declared.grammar.Verb.TheVariants as verb;
+ghost use Rattle.link_faults.specs.declared.image_kind.ImageKind.TheVariants as kind;
 
 use crate::fault::{Flaw, JobFaultKind};
 use crate::grammar::{Heading, Verb, has_its_words, heading_of, is_image_name};
@@ -58,6 +59,7 @@ pub(crate) struct Draft<'a> {
     pub(crate) program: Option<Image>,
     pub(crate) starts: Vec<Image>,
     pub(crate) lates: Vec<Image>,
+    pub(crate) mentions: Vec<Slot>,
     pub(crate) has_threads: bool,
     pub(crate) fuel: Option<u64>,
     pub(crate) order: Option<Vec<u32>>,
@@ -71,11 +73,11 @@ impl<'a> Model for Draft<'a> {
 
     ghost Value = { Declared };
 
-    ghost view = { λ d. declared d.program d.starts.items d.lates.items d.has_threads d.fuel
+    ghost view = { λ d. declared d.program d.starts.items d.lates.items d.mentions.items d.has_threads d.fuel
         (option_map (λ threads. threads.items) d.order) (map (λ lines. lines.items) d.lines.items) };
 
     ghost invariant = { λ d. IsDraft d.names
-        (declared d.program d.starts.items d.lates.items d.has_threads d.fuel
+        (declared d.program d.starts.items d.lates.items d.mentions.items d.has_threads d.fuel
         (option_map (λ threads. threads.items) d.order) (map (λ lines. lines.items) d.lines.items)) };
 }
 
@@ -91,6 +93,7 @@ impl<'a> Draft<'a> {
             program: None,
             starts: Vec::new(alloc),
             lates: Vec::new(alloc),
+            mentions: Vec::new(alloc),
             has_threads: false,
             fuel: None,
             order: None,
@@ -191,7 +194,7 @@ impl<'a> Draft<'a> {
         self.names.get(&name).copied()
     }
 
-    /// Adds an image of a new name to its group.
+    /// Adds an image of a new name to its group, and mentions it after those before it.
     fn declare(&mut self, name: &'a str, image: Image) -> Result<(), AllocError>
         requires room { image_count self.old < 64 }
         requires named { image.name ≡ name.now }
@@ -211,10 +214,12 @@ impl<'a> Draft<'a> {
         requires named { image.name ≡ name.now }
         requires undeclared { slot_of self.old name.now ≡ None }
         requires program { self.old.program ≡ None }
-        ensures { OnOk result (self.new ≡ record self.old { program = Some image }) }
+        ensures { OnOk result (self.new ≡ with_image image kind.Exe self.old) }
     {
+        self.mentions.reserve(1)?;
         self.names.insert(name, Slot::Program)?;
         self.program = Some(image);
+        self.mentions.push(Slot::Program).unwrap();
         Ok(())
     }
 
@@ -222,12 +227,14 @@ impl<'a> Draft<'a> {
         requires room { image_count self.old < 64 }
         requires named { image.name ≡ name.now }
         requires undeclared { slot_of self.old name.now ≡ None }
-        ensures { OnOk result (self.new ≡ record self.old { starts = self.old.starts ++ image ∷ [] }) }
+        ensures { OnOk result (self.new ≡ with_image image kind.Start self.old) }
     {
+        let slot = Slot::Start(self.starts.len() as u8);
         self.starts.reserve(1)?;
-        self.names
-            .insert(name, Slot::Start(self.starts.len() as u8))?;
+        self.mentions.reserve(1)?;
+        self.names.insert(name, slot)?;
         self.starts.push(image).unwrap();
+        self.mentions.push(slot).unwrap();
         Ok(())
     }
 
@@ -235,11 +242,14 @@ impl<'a> Draft<'a> {
         requires room { image_count self.old < 64 }
         requires named { image.name ≡ name.now }
         requires undeclared { slot_of self.old name.now ≡ None }
-        ensures { OnOk result (self.new ≡ record self.old { lates = self.old.lates ++ image ∷ [] }) }
+        ensures { OnOk result (self.new ≡ with_image image kind.Late self.old) }
     {
+        let slot = Slot::Late(self.lates.len() as u8);
         self.lates.reserve(1)?;
-        self.names.insert(name, Slot::Late(self.lates.len() as u8))?;
+        self.mentions.reserve(1)?;
+        self.names.insert(name, slot)?;
         self.lates.push(image).unwrap();
+        self.mentions.push(slot).unwrap();
         Ok(())
     }
 

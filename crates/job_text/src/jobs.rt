@@ -1,7 +1,7 @@
 //! The job.
 
 ghost use Rattle.std.specs.Prelude.{All, ◌≡◌, ◌-◌, ◌≤◌, IfSome, Some, slice_get, ◌<◌, ◌^◌, [], IfOk, length, map};
-ghost use Rattle.std.specs.Prelude.{position, unwrap_or};
+ghost use Rattle.std.specs.Prelude.{AllPairs, Contains, ◌≢◌, ℕ, position, unwrap_or};
 ghost use Rattle.std.specs.Option.{option_map};
 ghost use Rattle.job_text.specs.LineAnswers.{IsLineAnswer};
 ghost use Rattle.job_text.specs.LineEffects.{with_text};
@@ -24,6 +24,7 @@ const DEFAULT_FUEL: u64 = 100_000;
 #[derive(Debug, Drop)]
 pub struct Job {
     images: Vec<Image>,
+    mentions: Vec<u32>,
     fuel: u64,
     order: Vec<u32>,
     lines: Vec<Vec<ThreadLine>>,
@@ -35,11 +36,12 @@ impl Model for Job {
 
     ghost Value = { JobParts };
 
-    ghost view = { λ job. job_parts job.images.items job.fuel job.order.items
+    ghost view = { λ job. job_parts job.images.items job.mentions.items job.fuel job.order.items
         (map (λ lines. lines.items) job.lines.items) };
 
     ghost invariant = { λ job. IsJob
-        (job_parts job.images.items job.fuel job.order.items (map (λ lines. lines.items) job.lines.items)) };
+        (job_parts job.images.items job.mentions.items job.fuel job.order.items
+        (map (λ lines. lines.items) job.lines.items)) };
 }
 
 impl Job {
@@ -72,6 +74,16 @@ impl Job {
         ensures few { length result.now ≤ 64 }
     {
         self.images.as_slice()
+    }
+
+    /// The numbers of the images, each once, in the order of their lines.
+    pub fn mentions(&self) -> &[u32]
+        ensures value { result.now ≡ self.now.mentions }
+        ensures numbers { All (IsImageNumber self.now.images) result.now }
+        ensures every { (k : ℕ) → 1 ≤ k → k ≤ length self.now.images → Contains result.now k }
+        ensures once { AllPairs (λ a b. a ≢ b) result.now }
+    {
+        self.mentions.as_slice()
     }
 
     /// An image by its number, which counts from 1 in image order.
@@ -179,6 +191,7 @@ fn finish(alloc: Global, draft: Draft) -> Result<Job, JobFault>
         program,
         starts,
         lates,
+        mentions,
         has_threads: _,
         fuel,
         order,
@@ -190,10 +203,13 @@ fn finish(alloc: Global, draft: Draft) -> Result<Job, JobFault>
             kind: JobFaultKind::NoExe,
         });
     };
-    let lines = numbered_lines(alloc, lines, starts.len() as u8)?;
+    let count = starts.len() as u8;
+    let mentions = numbers_of(alloc, mentions, count)?;
+    let lines = numbered_lines(alloc, lines, count)?;
     let images = in_image_order(alloc, program, starts, lates)?;
     Ok(Job {
         images,
+        mentions,
         fuel: fuel.unwrap_or(DEFAULT_FUEL),
         order: order_or_none(alloc, order),
         lines,
@@ -262,6 +278,16 @@ fn numbered_line(plan: Plan, starts: u8) -> ThreadLine
         image: number_of(slot, starts),
         action,
     }
+}
+
+/// The numbers of images, in the same order.
+fn numbers_of(alloc: Global, slots: Vec<Slot>, starts: u8) -> Result<Vec<u32>, AllocError>
+    ensures { IfOk result (λ numbers. numbers.items ≡ map (number_of starts) slots.items) }
+{
+    slots
+        .into_iter()
+        .map(|slot| number_of(slot, starts))
+        .collect(alloc)
 }
 
 /// The number of an image: the program is 1, then come the start images, then the late ones.

@@ -14,10 +14,11 @@
 //!
 //! The program is an `exe` or a `pie`, and there is one of them; `start` modules are loaded with it,
 //! `late` ones are opened by a thread. Images are numbered in *image order*: the program is 1, then
-//! come the start modules and then the late ones, each group in the order of the job. An image is
-//! named before a line speaks of it. `fuel N` bounds the steps of a call, and `order T T ..` says
-//! which threads take the first turns. Numbers are decimal without leading zeros, or `0x` and
-//! hexadecimal digits. A line that begins with `#`, or has no word, is passed over and counted.
+//! come the start modules and then the late ones, each group in the order of the job. A job also keeps
+//! in which order its lines name the images (`Job::mentions`). An image is named before a line speaks
+//! of it. `fuel N` bounds the steps of a call, and `order T T ..` says which threads take the first
+//! turns. Numbers are decimal without leading zeros, or `0x` and hexadecimal digits. A line that
+//! begins with `#`, or has no word, is passed over and counted.
 //!
 //! [`Job::read`] gives the job that a text spells, or its **first fault**: that of the first faulty
 //! line, and in it the first of the kinds of [`JobFaultKind`], in their order. So a user is told one

@@ -1,7 +1,7 @@
 -- A relocation of the table names what it may, and has the storage that it asks for.
 use Rattle.std.proofs.Common.{◌≡◌, ◌+◌, ◌<◌, ◌≤◌, ◌^◌, ◌==◌, ℕ, true, false, List, [], ◌∷◌, length, IsSome, inl, inr}
 use Rattle.std.proofs.Common.{refl, arith}
-use Rattle.std.specs.Prelude.{ℤ, pos, ◌≤ℤ◌}
+use Rattle.std.specs.Prelude.{pos, ◌≤ℤ◌}
 use Rattle.std.specs.Int.{w64, cast_signed}
 use Rattle.std.specs.List.{All}
 use Rattle.std.proofs.lemmas.Bool.Decides.{nat_tests}

@@ -1,5 +1,5 @@
 -- A section whose fields are filled lies in the file of sections, and that file is the front of the whole.
-use Rattle.std.proofs.Common.{◌≡◌, ◌≢◌, ◌+◌, ◌-◌, ◌*◌, ◌<◌, ◌≤◌, ◌∙◌, ℕ, zero, suc, Bool, true, false, List, []}
+use Rattle.std.proofs.Common.{◌≡◌, ◌≢◌, ◌+◌, ◌*◌, ◌<◌, ◌≤◌, ◌∙◌, ℕ, zero, suc, Bool, true, false, List, []}
 use Rattle.std.proofs.Common.{Option, Some, None, length, inl, inr, refl, sym, ap, subst, arith, length-append}
 use Rattle.std.specs.Prelude.{IsSome, map, nat_lt, unwrap_or, if◌then◌else◌, ◌==◌}
 use Rattle.std.specs.List.{Contains, range_with_len}
@@ -45,7 +45,7 @@ is_object l o given there = given.are_objects o [] there
 part_longer : (l : Linking) (address : ℕ) (bytes file : List ℕ) → length file ≤ length (with_part l address bytes file)
 part_longer l address bytes file = omega (arith, length-append {A = ℕ})
 
-got_longer : (l : Linking) (file : List ℕ) → length file ≤ length (with_got l file)
+pub got_longer : (l : Linking) (file : List ℕ) → length file ≤ length (with_got l file)
 got_longer l file = of_test (got_size l == 0)
   where
     of_test : (t : Bool) → length file ≤ length (if t then file else with_part l (got_start l) (got_bytes l) file)

@@ -85,7 +85,7 @@ field_at_most RexGotPcRelX s a p g = signed_at_most ((pos g +ℤ a) -ℤ pos p)
 -- ** writing
 
 -- no bytes change nothing
-splice_nothing : (at : ℕ) (file : List ℕ) → splice at [] file ≡ file
+pub splice_nothing : (at : ℕ) (file : List ℕ) → splice at [] file ≡ file
 unfolding splice
 splice_nothing at file = let same : at + 0 ≡ at = omega arith in rw same (take-append-drop at file)
 
@@ -199,7 +199,7 @@ module _ (l : Linking) (n : ℕ) where
   of_field : (row f : NewField) → Some row ≡ Some f → field_width row.kind ≡ 4 → field_width f.kind ≡ 4
   of_field row f e wide = let same : row ≡ f = cc in subst (λ (x : NewField). field_width x.kind ≡ 4) same wide
 
-  new_width : (form : Form) (choice : Choice) (f : NewField) → new_field form choice ≡ Some f → field_width f.kind ≡ 4
+  pub new_width : (form : Form) (choice : Choice) (f : NewField) → new_field form choice ≡ Some f → field_width f.kind ≡ 4
   new_width Gd GdLe f is = of_field _ f is refl
   new_width GdInd GdLe f is = of_field _ f is refl
   new_width Gd GdIe f is = of_field _ f is refl

@@ -77,7 +77,7 @@ word_count Start block (AddressWord s p) = refl
 word_count Late block (AddressWord s p) = refl
 word_count kind block RuntimeWord = refl
 
-need_length : (l : Linking) (need : Need) → length (need_bytes l need) ≡ size_of need
+pub need_length : (l : Linking) (need : Need) → length (need_bytes l need) ≡ size_of need
 need_length l need =
     words_length (words (entry_of l.kind (block_offset l) need)) ∙ word_count l.kind (block_offset l) need
 
@@ -115,7 +115,7 @@ neg_mag zero = omega arith
 neg_mag (suc b) = omega arith
 
 -- a small distance backwards fits its field
-back_fits : (g p : ℕ) → g ≤ p → p < 2 ^ 29 → FitsSigned w32 ((pos g +ℤ negsuc 3) -ℤ pos p)
+pub back_fits : (g p : ℕ) → g ≤ p → p < 2 ^ 29 → FitsSigned w32 ((pos g +ℤ negsuc 3) -ℤ pos p)
 back_fits g p below small =
     record { sfits = omega (arith, sum_mag (pos g +ℤ negsuc 3) (neg_ℤ (pos p)), sum_mag (pos g) (negsuc 3), neg_mag p) }
 
@@ -152,7 +152,7 @@ stub_small l given limits =
     omega (arith, room_small l limits, base_small l.kind, near, (few l given limits).got)
 
 -- the word that it jumps through lies before it
-word_before : (l : Linking) → need_address l (Some RuntimeWord) ≤ stub_start l
+pub word_before : (l : Linking) → need_address l (Some RuntimeWord) ≤ stub_start l
 word_before l =
     let inside = within (entries l) RuntimeWord (start_of (entries l) RuntimeWord) refl in
     let page = page_up-above (got_start l + got_size l) in
@@ -163,7 +163,7 @@ word_before l =
     of_start None inside page = omega arith
     of_start (Some at) inside page = omega arith
 
-stub_length : (l : Linking) → IsGiven l → FitsLimits l → length (stub_bytes l) ≡ 6
+pub stub_length : (l : Linking) → IsGiven l → FitsLimits l → length (stub_bytes l) ≡ 6
 unfolding stub_bytes
 stub_length l given limits =
     let before = word_before l in
@@ -186,7 +186,7 @@ part_length l end address bytes file is behind above =
     )
 
 -- with the table
-with_got_length : (l : Linking) (file : List ℕ) → length file ≡ offset_of (layout l) (sections_end (layout l))
+pub with_got_length : (l : Linking) (file : List ℕ) → length file ≡ offset_of (layout l) (sections_end (layout l))
     → length (with_got l file) ≡ offset_of (layout l) (got_end l)
 with_got_length l file is = of_test (got_size l == 0)
   where

@@ -15,7 +15,11 @@ pub mod LengthsInside
 pub mod LengthsKept
 pub mod LengthsPlaces
 pub mod LengthsRaw
+pub mod LinkDrafts
+pub mod LinkFaults
+pub mod LinkLists
 pub mod Linkable
+pub mod ListedFields
 pub mod Loads
 pub mod LoadsChains
 pub mod LoadsCounts
@@ -32,6 +36,13 @@ pub mod RelativesParts
 pub mod RelativesTables
 pub mod RelocationListLemmas
 pub mod SortingLaws
+pub mod Standing
+pub mod StandingAway
+pub mod StandingFields
+pub mod StandingPlaces
+pub mod StandingSites
+pub mod StandingSteps
+pub mod StandingTable
 pub mod Symbols
 pub mod SymbolsInside
 pub mod SymbolsNames
@@ -41,3 +52,8 @@ pub mod TogetherNames
 pub mod TogetherRows
 pub mod TogetherSites
 pub mod UsableSites
+pub mod WritingFields
+pub mod WritingParts
+pub mod WritingRoom
+pub mod WritingSites
+pub mod WritingWalks

@@ -1,5 +1,5 @@
 -- The table and the stub lie behind the sections, and how many parts there are.
-use Rattle.std.proofs.Common.{◌≡◌, ◌+◌, ◌-◌, ◌*◌, ◌^◌, ◌<◌, ◌≤◌, ◌==◌, ℕ, Bool, true, false, [], ◌∷◌, ◌++◌}
+use Rattle.std.proofs.Common.{◌≡◌, ◌+◌, ◌*◌, ◌^◌, ◌<◌, ◌≤◌, ◌==◌, ℕ, Bool, true, false, [], ◌∷◌, ◌++◌}
 use Rattle.std.proofs.Common.{length, refl, arith, inl, inr, length-append}
 use Rattle.std.specs.Prelude.{if◌then◌else◌}
 use Rattle.std.proofs.lemmas.Bool.{cases_lt}
@@ -7,7 +7,7 @@ use Rattle.std.proofs.lemmas.Bool.Decides.{nat_tests}
 use Rattle.image_file.specs.declared.part.PartClass.TheVariants.{Executable, ReadOnly, Writable}
 use Rattle.image_writer.specs.declared.outline.PartPlace.{PartPlace}
 use Rattle.link_faults.specs.ImageKinds.{base_of}
-use Rattle.tls_layout.specs.Places.{executable, read_only, room, span, tls_image, writable, zero_data, IsLawful}
+use Rattle.tls_layout.specs.Places.{executable, read_only, room, tls_image, writable, zero_data, IsLawful}
 use Rattle.tls_layout.specs.Rounding.{page_up}
 use Rattle.tls_layout.specs.Sections.{Layout}
 use Rattle.tls_layout.proofs.LawsOfPlaces.{classes_follow, page_multiple}

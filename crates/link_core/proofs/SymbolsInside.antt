@@ -1,6 +1,6 @@
 -- The symbols of an image are shared, and those of thread-local storage lie in its TLS segment.
 use Rattle.std.proofs.Common.{◌≡◌, ◌≢◌, ◌+◌, ◌≤◌, ◌==◌, ℕ, Bool, true, false, List, [], ◌++◌, map}
-use Rattle.std.proofs.Common.{Option, Some, None, IsSome, unwrap_or, refl, ap, ◌∙◌, arith}
+use Rattle.std.proofs.Common.{Option, Some, None, IsSome, unwrap_or, refl, ◌∙◌, arith}
 use Rattle.std.specs.Prelude.{if◌then◌else◌}
 use Rattle.std.specs.List.{All}
 use Rattle.std.proofs.lemmas.Bool.Decides.{nat_tests}
@@ -33,7 +33,7 @@ use Rattle.tls_layout.specs.Sections.{Layout}
 use Rattle.tls_layout.proofs.LawsOfSections.{finds_sections}
 use Rattle.tls_layout.proofs.LawsOfTls.{have_offsets, lie_in_segment}
 use Rattle.tls_symbols.specs.Bindings.{is_tls_class, is_tls_place}
-use Rattle.tls_symbols.specs.Definitions.{is_defined, same_binding}
+use Rattle.tls_symbols.specs.Definitions.{same_binding}
 use Rattle.link_core.specs.Linking.{Linking, address, layout, object, offset, offset_in}
 use Rattle.link_core.specs.Dynamic.{binding_shown, defined, foreign, imports, own_symbols, runtime_symbols, symbols}
 use Rattle.link_core.specs.Dynamic.{type_shown}

@@ -1,6 +1,6 @@
 -- The bytes of an image's file but for its headers and its dynamic tables: the sections at their places, the fields of
 -- relocations and the sequences in the place of rewritten ones, the global offset table and the stub.
-use Rattle.std.specs.Prelude.{◌+◌, ◌-◌, ◌==◌, ◌∷◌, ℕ, ℤ, negsuc, List, [], Option, Some, None, fold, unwrap_or}
+use Rattle.std.specs.Prelude.{◌+◌, ◌-◌, ◌==◌, ◌∷◌, ℕ, negsuc, List, [], Option, Some, None, fold, unwrap_or}
 use Rattle.std.specs.Prelude.{if◌then◌else◌}
 use Rattle.std.specs.List.{flat_map, range_with_len}
 use Rattle.elf_records.specs.Fields.{bytes_of}
@@ -11,6 +11,7 @@ use Rattle.elf_object.specs.Object.{section_count}
 use Rattle.got_pairs.specs.declared.need.Need.{Need}
 use Rattle.got_pairs.specs.declared.need.Need.TheVariants.{RuntimeWord}
 use Rattle.got_pairs.specs.Entries.{entry_of, words}
+use Rattle.got_pairs.specs.Plans.{Table}
 use Rattle.relax_sites.specs.declared.rows.NewField.{NewField}
 use Rattle.relax_sites.specs.Rewriting.{rewritten}
 use Rattle.relax_sites.specs.Rows.{new_field}
@@ -33,6 +34,11 @@ use Rattle.link_core.specs.Values.{field, is_replaced}
 abbrev pub need_bytes : Linking → Need → List ℕ
 need_bytes l need = flat_map (λ w. bytes_of 8 w.number) (words (entry_of l.kind (block_offset l) need))
 
+-- those of all entries of a table
+abbrev pub table_bytes : Table → List ℕ
+table_bytes t =
+    flat_map (λ need. flat_map (λ w. bytes_of 8 w.number) (words (entry_of t.kind t.block_offset need))) t.entries
+
 unfoldable pub got_bytes : Linking → List ℕ
 got_bytes l = flat_map (need_bytes l) (entries l)
 
@@ -41,7 +47,7 @@ unfoldable pub stub_bytes : Linking → List ℕ
 stub_bytes l =
     0xff ∷ 0x25
     ∷ field_bytes (unwrap_or (stored_field GotPcRel 0 (negsuc 3) (stub_start l + 2) (need_address l (Some RuntimeWord)))
-        Empty)
+    Empty)
 
 -- bytes at an address, behind zeros
 abbrev pub with_part : Linking → ℕ → List ℕ → List ℕ → List ℕ
@@ -95,7 +101,8 @@ with_new_field l o site (Some f) file =
 -- with the sequence that stands in a site's place
 unfoldable pub with_site : Linking → ℕ → List ℕ → Site → List ℕ
 with_site l o file site =
-    with_new_field l o site (new_field site.form (choice l o site)) (rewritten (in_file l o site) (choice l o site) file)
+    with_new_field l o site (new_field site.form (choice l o site))
+    (rewritten (in_file l o site) (choice l o site) file)
 
 -- with those of the objects from number o on, which have these sites
 abbrev pub with_sites_from : Linking → ℕ → List (List Site) → List ℕ → List ℕ

@@ -1,7 +1,7 @@
 -- The symbols and the relocations by which a loader ties an image to others (gABI, "Symbol Table", "Relocation";
 -- psABI, "Relocation Types").
-use Rattle.std.specs.Prelude.{◌+◌, ◌-◌, ◌*◌, ◌^◌, ◌&&◌, ◌++◌, ℕ, ℤ, pos, ◌+ℤ◌, Bool, true, false, List, [], ◌∷◌, length}
-use Rattle.std.specs.Prelude.{Option, Some, None, codes, map, unwrap_or, if◌then◌else◌}
+use Rattle.std.specs.Prelude.{◌+◌, ◌^◌, ◌&&◌, ◌++◌, ℕ, ℤ, pos, ◌+ℤ◌, Bool, true, false, List, [], ◌∷◌, length}
+use Rattle.std.specs.Prelude.{Option, Some, None, map, unwrap_or, if◌then◌else◌}
 use Rattle.std.specs.Int.{w64, cast_signed}
 use Rattle.std.specs.List.{flat_map, list_any, position_from, range_with_len}
 use Rattle.std.specs.Str.{bytes_eq}
@@ -25,7 +25,6 @@ use Rattle.got_pairs.specs.declared.entry.DynamicSymbol.TheVariants.{Image, Impo
 use Rattle.got_pairs.specs.declared.entry.Entry.{Entry}
 use Rattle.got_pairs.specs.declared.entry.Entry.TheVariants.{One, Two}
 use Rattle.got_pairs.specs.declared.need.Need.{Need}
-use Rattle.got_pairs.specs.declared.entry.Word.{Word}
 use Rattle.got_pairs.specs.Entries.{entry_of}
 use Rattle.got_pairs.specs.Plans.{starts_from}
 use Rattle.image_faults.specs.declared.loader_kind.LoaderKind.{LoaderKind}

@@ -1,6 +1,5 @@
 -- What holds of every linked image.
-use Rattle.std.specs.Prelude.{◌≡◌, ◌+◌, ◌-◌, ◌*◌, ◌<◌, ◌≤◌, ◌^◌, ℕ, pos, ◌-ℤ◌, true, false, List, Some, length, slice_get}
-use Rattle.std.specs.Prelude.{slice_index_or}
+use Rattle.std.specs.Prelude.{◌≡◌, ◌+◌, ◌<◌, ◌≤◌, ℕ, pos, ◌-ℤ◌, true, false, Some, length, slice_get}
 use Rattle.std.specs.Int.{w32, cast_unsigned}
 use Rattle.elf_object.specs.declared.relocation.Relocation.{Relocation}
 use Rattle.elf_object.specs.Lent.{relocations, section_size}
@@ -17,10 +16,10 @@ use Rattle.sequence_match.specs.declared.places.Site.{Site}
 use Rattle.sequence_match.specs.Faults.{Nowhere}
 use Rattle.std.specs.List.{Contains}
 use Rattle.tls_layout.specs.Places.{address_of}
-use Rattle.link_core.specs.Bytes.{file, got_bytes, need_bytes, stub_bytes}
+use Rattle.link_core.specs.Bytes.{file, need_bytes, stub_bytes}
 use Rattle.link_core.specs.Faults.{IsGiven, Links}
 use Rattle.link_core.specs.Images.{image_of}
-use Rattle.link_core.specs.Linking.{Linking, choice, layout, object, place, sites_at}
+use Rattle.link_core.specs.Linking.{Linking, choice, layout, object, sites_at}
 use Rattle.link_core.specs.Meant.{meant_byte}
 use Rattle.link_core.specs.Needs.{entries, got_start, has_stub, is_kept, need_address, stub_start}
 use Rattle.link_core.specs.Values.{is_replaced}

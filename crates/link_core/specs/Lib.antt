@@ -9,6 +9,7 @@ pub mod Named
 pub mod Needs
 pub mod Overflows
 pub mod Plans
+pub mod Room
 pub mod Sorting
 pub mod Usable
 pub mod Values

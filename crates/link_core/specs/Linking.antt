@@ -1,6 +1,6 @@
 -- All that decides an image: what it is linked as, its objects with their sequences, what the startup images export,
 -- and whether sequences may be rewritten.
-use Rattle.std.specs.Prelude.{◌+◌, ℕ, Bool, List, [], ◌∷◌, Option, Some, None, map, slice_index_or, unwrap_or}
+use Rattle.std.specs.Prelude.{◌+◌, ℕ, Bool, List, [], Option, Some, None, map, slice_index_or, unwrap_or}
 use Rattle.std.specs.Global.{Vec}
 use Rattle.elf_object.specs.declared.relocation.Relocation.{Relocation}
 use Rattle.elf_object.specs.declared.symbol.SymbolPlace.{SymbolPlace}

@@ -1,7 +1,7 @@
 -- What an image holds at each place, by its objects, their layout and the tables alone: in words that know nothing of
 -- how a linker writes it.
-use Rattle.std.specs.Prelude.{◌+◌, ◌-◌, ◌&&◌, ◌==◌, ℕ, Bool, not, true, false, List, [], ◌∷◌, Option, Some, None}
-use Rattle.std.specs.Prelude.{nat_le, nat_lt, slice_index_or, unwrap_or, if◌then◌else◌}
+use Rattle.std.specs.Prelude.{◌+◌, ◌-◌, ◌&&◌, ◌==◌, ℕ, Bool, not, List, Option, Some, None}
+use Rattle.std.specs.Prelude.{nat_le, nat_lt, slice_index_or, unwrap_or}
 use Rattle.std.specs.List.{find}
 use Rattle.elf_records.specs.Fields.{splice}
 use Rattle.elf_object.specs.declared.relocation.Relocation.{Relocation}
@@ -10,7 +10,6 @@ use Rattle.elf_object.specs.Relocations.{field_width}
 use Rattle.relax_sites.specs.declared.rows.NewField.{NewField}
 use Rattle.relax_sites.specs.Rows.{new_bytes, new_field}
 use Rattle.sequence_match.specs.declared.places.Site.{Site}
-use Rattle.tls_relocs.specs.declared.fields.Field.{Field}
 use Rattle.tls_relocs.specs.declared.fields.Field.TheVariants.{Empty}
 use Rattle.tls_relocs.specs.Fields.{field_bytes}
 use Rattle.link_core.specs.Linking.{Linking, choice, object, sites_at}

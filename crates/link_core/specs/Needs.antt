@@ -1,7 +1,7 @@
 -- What code needs of the global offset table, and where the table, the stub and each entry lie (Drepper, "ELF Handling
 -- For Thread-Local Storage", section 4; psABI, "Thread-Local Storage").
-use Rattle.std.specs.Prelude.{◌+◌, ◌&&◌, ◌==◌, ◌++◌, ℕ, Bool, true, false, List, [], ◌∷◌, Option, Some, None, filter}
-use Rattle.std.specs.Prelude.{not, option_and_then, option_map, unwrap_or, is_some, if◌then◌else◌}
+use Rattle.std.specs.Prelude.{◌+◌, ◌&&◌, ◌++◌, ℕ, Bool, true, false, List, [], ◌∷◌, Option, Some, None, filter}
+use Rattle.std.specs.Prelude.{option_and_then, option_map, is_some, if◌then◌else◌}
 use Rattle.std.specs.List.{flat_map, list_any, range_with_len}
 use Rattle.elf_records.specs.declared.relocation.RelocationKind.{RelocationKind}
 use Rattle.elf_records.specs.declared.relocation.RelocationKind.TheVariants.{GotPcRel, TlsGd, TlsLd, GotTpOff}

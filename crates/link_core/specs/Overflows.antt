@@ -1,5 +1,5 @@
 -- Fields that do not hold their values, table by table.
-use Rattle.std.specs.Prelude.{◌≡◌, ◌≢◌, ◌<◌, ◌⊎◌, ℕ, List, Some, None, IsNone, IsSome, false, length}
+use Rattle.std.specs.Prelude.{◌≡◌, ◌<◌, ℕ, Some, IsNone, false}
 use Rattle.elf_object.specs.declared.relocation.Relocation.{Relocation}
 use Rattle.link_faults.specs.declared.fault.LinkFault.{LinkFault}
 use Rattle.link_faults.specs.declared.fault.LinkFault.TheVariants.{OutOfMemory, At}

@@ -1,13 +1,12 @@
 -- What the field of each relocation holds (psABI, "Relocation Types"): the numbers that the table of relocations is
 -- asked with.
-use Rattle.std.specs.Prelude.{◌&&◌, ℕ, ℤ, Bool, true, false, List, Option, Some, None, if◌then◌else◌}
+use Rattle.std.specs.Prelude.{◌&&◌, ℕ, Bool, true, false, Option, Some, if◌then◌else◌}
 use Rattle.std.specs.List.{list_any}
 use Rattle.elf_records.specs.declared.relocation.RelocationKind.{RelocationKind}
 use Rattle.elf_records.specs.declared.relocation.RelocationKind.TheVariants.{Pc32, Plt32, GotPcRel, TlsGd, TlsLd}
 use Rattle.elf_records.specs.declared.relocation.RelocationKind.TheVariants.{DtpOff32, GotTpOff, TpOff32}
 use Rattle.elf_records.specs.declared.relocation.RelocationKind.TheVariants.{GotPc32TlsDesc, GotPcRelX, RexGotPcRelX}
 use Rattle.elf_object.specs.declared.relocation.Relocation.{Relocation}
-use Rattle.link_faults.specs.declared.image_kind.ImageKind.{ImageKind}
 use Rattle.link_refusals.specs.Refused.{is_module, is_here}
 use Rattle.sequence_match.specs.declared.forms.Form.{Form}
 use Rattle.sequence_match.specs.declared.forms.Form.TheVariants.{Ld, LdInd}

@@ -4,18 +4,20 @@ ghost use Rattle.std.specs.Prelude.{◌≡◌, ◌<◌, ◌-◌, ◌^◌, ◌++�
 ghost use Rattle.std.specs.List.{flat_map};
 ghost use Rattle.elf_records.specs.Fields.{bytes_of};
 ghost use Rattle.got_pairs.specs.Entries.{words};
+ghost use Rattle.tls_relocs.specs.Fields.{field_bytes};
 ghost use Rattle.tls_relocs.specs.Laid.{zeros};
-ghost use Rattle.link_core.specs.Bytes.{file as file_of_link, with_got, with_stub};
-ghost use Rattle.link_core.specs.Overflows.{IsOverflowFault, NoOverflow};
+ghost use Rattle.link_core.specs.Bytes.{file as file_of_link, raw_file as raw_file_of};
+ghost use Rattle.link_core.specs.Bytes.{table_bytes, with_got, with_stub};
+ghost use Rattle.link_core.specs.Overflows.{IsFirstOverflow, IsOverflowFault, NoOverflow};
 
 use crate::plan::Plan;
-use crate::writing::{write_fields, write_sites};
+use crate::writing::{place_in_file, write_fields, write_sites};
 use elf_object::RelocationKind;
-use got_pairs::{Entry, Need, Word};
+use got_pairs::{Entry, GotPlan, Need, Word};
 use link_faults::LinkFault;
-use section_file::{lay_sections, offset_of};
+use section_file::lay_sections;
 use std::alloc::{AllocError, Global};
-use tls_relocs::value;
+use tls_relocs::{Field, value};
 
 /// Puts zeros behind the file, up to an offset.
 fn pad(file: &mut Vec<u8>, offset: u64) -> Result<(), AllocError>
@@ -27,6 +29,7 @@ fn pad(file: &mut Vec<u8>, offset: u64) -> Result<(), AllocError>
 }
 
 /// Puts a word behind the file.
+#[tactic(auto, unfolding(elf_records::specs::Fields::bytes_of))]
 fn push_word(file: &mut Vec<u8>, word: &Word) -> Result<(), AllocError>
     ensures { OnOk result (file.new.items ≡ file.old.items ++ bytes_of 8 word.now.number) }
 {
@@ -47,6 +50,18 @@ fn push_entry(file: &mut Vec<u8>, entry: &Entry) -> Result<(), AllocError>
     }
 }
 
+/// Puts the entries of a table behind the file.
+fn push_entries(got: &GotPlan, file: &mut Vec<u8>) -> Result<(), AllocError>
+    ensures { OnOk result (file.new.items ≡ file.old.items ++ table_bytes got.now) }
+{
+    for number in 0..got.entry_count() {
+        if let Some(entry) = got.entry(number) {
+            push_entry(file, &entry)?;
+        }
+    }
+    Ok(())
+}
+
 /// Puts the global offset table at its place, if it has entries.
 fn push_got(plan: &Plan, file: &mut Vec<u8>) -> Result<(), AllocError>
     ensures { OnOk result (file.new.items ≡ with_got plan.now file.old.items) }
@@ -54,13 +69,20 @@ fn push_got(plan: &Plan, file: &mut Vec<u8>) -> Result<(), AllocError>
     if plan.got.size() == 0 {
         return Ok(());
     }
-    pad(file, offset_of(plan.inputs.kind, plan.got_start))?;
-    for number in 0..plan.got.entry_count() {
-        if let Some(entry) = plan.got.entry(number) {
-            push_entry(file, &entry)?;
-        }
+    pad(file, place_in_file(plan, plan.got_start))?;
+    push_entries(&plan.got, file)
+}
+
+/// Puts the bytes of a field behind the file.
+#[tactic(auto, unfolding(elf_records::specs::Fields::bytes_of))]
+fn push_field(file: &mut Vec<u8>, field: Field) -> Result<(), AllocError>
+    ensures { OnOk result (file.new.items ≡ file.old.items ++ field_bytes field) }
+{
+    match field {
+        Field::Empty => Ok(()),
+        Field::Word32(word) => file.extend_from_slice(&word.to_le_bytes()),
+        Field::Word64(word) => file.extend_from_slice(&word.to_le_bytes()),
     }
-    Ok(())
 }
 
 /// Puts the stub at its place, if there is one: a jump through the word of `__tls_get_addr`.
@@ -70,15 +92,42 @@ fn push_stub(plan: &Plan, file: &mut Vec<u8>) -> Result<(), AllocError>
     if !plan.has_stub {
         return Ok(());
     }
-    pad(file, offset_of(plan.inputs.kind, plan.stub_start))?;
+    pad(file, place_in_file(plan, plan.stub_start))?;
     let word = plan.need_address(Some(Need::RuntimeWord));
-    let field = match value(RelocationKind::GotPcRel, 0, -4, plan.stub_start + 2, word) {
-        Ok(field) => field.word() as u32,
-        Err(_) => 0,
-    };
     // jmp *word(%rip)
     file.extend_from_slice(&[0xff, 0x25])?;
-    file.extend_from_slice(&field.to_le_bytes())
+    match value(RelocationKind::GotPcRel, 0, -4, plan.stub_start + 2, word) {
+        Ok(field) => push_field(file, field),
+        // A distance inside an image fits.
+        Err(_) => Ok(()),
+    }
+}
+
+/// All parts of a link as they lie, before fields are written.
+#[tactic(auto, unfolding(crate::specs::Bytes::raw_file))]
+fn raw_file(alloc: Global, plan: &Plan) -> Result<Vec<u8>, AllocError>
+    ensures { IfOk result (λ file. file.items ≡ raw_file_of plan.now) }
+{
+    let inputs = plan.inputs;
+    let mut file = lay_sections(alloc, &inputs.placement, inputs.kind, inputs.objects)?;
+    push_got(plan, &mut file)?;
+    push_stub(plan, &mut file)?;
+    Ok(file)
+}
+
+/// Writes all fields and sequences, or answers the first field that does not hold its value.
+#[tactic(auto, unfolding(crate::specs::Bytes::file))]
+fn write_all(plan: &Plan, file: &mut [u8]) -> Result<(), LinkFault>
+    requires { file.old ≡ raw_file_of plan.now }
+    ensures written { OnOk result (file.new ≡ file_of_link plan.now) }
+    ensures fits { OnOk result (NoOverflow plan.now) }
+    ensures overflow { IfErr result (IsFirstOverflow plan.now) }
+{
+    if let Err(fault) = write_fields(plan, file) {
+        return Err(fault);
+    }
+    write_sites(plan, file);
+    Ok(())
 }
 
 /// The file of a link, or the first field that does not hold its value.
@@ -87,11 +136,7 @@ pub fn file_of(alloc: Global, plan: &Plan) -> Result<Vec<u8>, LinkFault>
     ensures fits { OnOk result (NoOverflow plan.now) }
     ensures overflow { IfErr result (IsOverflowFault plan.now) }
 {
-    let inputs = plan.inputs;
-    let mut file = lay_sections(alloc, &inputs.placement, inputs.kind, inputs.objects)?;
-    push_got(plan, &mut file)?;
-    push_stub(plan, &mut file)?;
-    write_fields(plan, file.as_mut_slice())?;
-    write_sites(plan, file.as_mut_slice());
+    let mut file = raw_file(alloc, plan)?;
+    write_all(plan, file.as_mut_slice())?;
     Ok(file)
 }

@@ -60,5 +60,5 @@ mod relocation_list;
 mod symbol_list;
 mod writing;
 
-pub use linking::link;
 pub use linked::Linked;
+pub use linking::link;

@@ -6,10 +6,11 @@ ghost use Rattle.std.specs.List.{Contains, position_from};
 ghost use Rattle.std.specs.Str.{bytes_eq};
 ghost use Rattle.elf_object.specs.Lent.{relocations};
 ghost use Rattle.got_pairs.specs.Entries.{entry_of, words};
+ghost use Rattle.link_refusals.specs.Refused.{is_moved};
 ghost use Rattle.tls_layout.specs.Places.{address_of};
 ghost use Rattle.tls_symbols.specs.Bindings.{object_at};
 ghost use Rattle.link_core.specs.Dynamic.{entry_relocations, field_relocations, got_relocations, imports, loader_kind};
-ghost use Rattle.link_core.specs.Dynamic.{number_of, own_symbols};
+ghost use Rattle.link_core.specs.Dynamic.{is_absolute, number_of, own_symbols};
 ghost use Rattle.link_core.specs.Dynamic.{object_relocations, object_relocations_from, relatives, relocation_of};
 ghost use Rattle.link_core.specs.Dynamic.{section_relocations, word_relocations};
 ghost use Rattle.link_core.specs.Linking.{block_offset, layout};
@@ -172,6 +173,13 @@ fn size_of(entry: &Entry) -> u64
     }
 }
 
+/// Whether a field of this type has an address of 8 bytes.
+fn is_absolute(kind: RelocationKind) -> bool
+    ensures { result ≡ is_absolute kind }
+{
+    matches!(kind, RelocationKind::Absolute64)
+}
+
 /// Adds that of a field of 8 bytes with an address, of a section that begins at this address.
 fn push_field(
     plan: &Plan,
@@ -184,10 +192,11 @@ fn push_field(
     requires object { object < length plan.now.objects }
     requires own { Contains (relocations (object_at plan.now.objects object) section) relocation.now }
     requires address { address ≡ unwrap_or (address_of (layout plan.now) object section) 0 }
+    requires small { address ≤ 2 ^ 25 }
     ensures { OnOk result
         (all.new.items ≡ all.old.items ++ field_relocations plan.now object section relocation.now) }
 {
-    if relocation.kind != RelocationKind::Absolute64 {
+    if !is_absolute(relocation.kind) {
         return Ok(());
     }
     let bound = plan.inputs.binding(object, relocation);
@@ -236,20 +245,29 @@ fn found_fields(alloc: Global, plan: &Plan) -> Result<Vec<ImageRelocation>, Allo
     ensures { IfOk result (λ all. all.items ≡ object_relocations_from plan.now 0 plan.now.objects) }
 {
     let mut all = Vec::new(alloc);
-    for object in 0..plan.inputs.objects.len() {
+    let inputs = plan.inputs;
+    for object in 0..inputs.objects.len() {
         push_object(plan, object, &mut all)?;
     }
     Ok(all)
+}
+
+/// Whether the image may lie at any address.
+fn is_moved(plan: &Plan) -> bool
+    ensures { result ≡ is_moved plan.now.kind }
+{
+    let inputs = plan.inputs;
+    !matches!(inputs.kind, ImageKind::Exe)
 }
 
 /// The relocations of fields with addresses by their places, in an image that may lie anywhere.
 pub fn relatives(alloc: Global, plan: &Plan) -> Result<Vec<ImageRelocation>, AllocError>
     ensures { IfOk result (λ all. all.items ≡ relatives plan.now) }
 {
-    let mut all = Vec::new(alloc);
-    if plan.inputs.kind != ImageKind::Exe {
-        all = found_fields(alloc, plan)?;
-        all.sort_by_key(|relocation| relocation.place)?;
+    if !is_moved(plan) {
+        return Ok(Vec::new(alloc));
     }
+    let mut all = found_fields(alloc, plan)?;
+    all.sort_by_key(|relocation| relocation.place)?;
     Ok(all)
 }

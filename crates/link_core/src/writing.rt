@@ -1,27 +1,54 @@
 //! The fields of relocations, and the sequences in the place of rewritten ones, written in the file.
 
-ghost use Rattle.std.specs.Prelude.{◌≡◌, ◌<◌, IfErr, OnErr, OnOk, Some, fold, length, unwrap_or};
+ghost use Rattle.std.specs.Prelude.{◌≡◌, ◌+◌, ◌^◌, ◌<◌, ◌≤◌, [], ◌∷◌, IfErr, OnErr, OnOk, Some};
+ghost use Rattle.std.specs.Prelude.{fold, length, unwrap_or};
 ghost use Rattle.std.specs.List.{Contains};
-ghost use Rattle.elf_object.specs.Lent.{relocations};
+ghost use Rattle.elf_object.specs.Lent.{relocation_target, relocations};
 ghost use Rattle.elf_object.specs.Object.{section_count};
+ghost use Rattle.link_faults.specs.ImageKinds.{base_of};
+ghost use Rattle.object_faults.specs.Firsts.{nonzero};
+ghost use Rattle.section_file.specs.Files.{offset_of as file_offset};
 ghost use Rattle.tls_layout.specs.Places.{address_of};
+ghost use Rattle.tls_relocs.specs.Fields.{field_patch, width_of};
+ghost use Rattle.tls_relocs.specs.Patches.{patched};
 ghost use Rattle.tls_symbols.specs.Bindings.{object_at};
-ghost use Rattle.link_core.specs.Bytes.{raw_file, with_field, with_fields, with_fields_from, with_new_field, with_site, with_sites_from, with_table};
+ghost use Rattle.link_core.specs.Bytes.{raw_file, with_field, with_fields, with_fields_from, with_table};
+ghost use Rattle.link_core.specs.Bytes.{with_new_field, with_site, with_sites_from};
 ghost use Rattle.link_core.specs.Linking.{choice, layout, sites_at};
-ghost use Rattle.link_core.specs.Overflows.{IsFilled, IsFirstOverflow, IsFirstOverflowIn, IsFirstOverflowOf, IsOverflow};
-ghost use Rattle.link_core.specs.Overflows.{NoOverflow, NoOverflowIn, NoOverflowOf};
-ghost use Rattle.link_faults.specs.declared.fault.LinkFault.TheVariants.{At};
-ghost use Rattle.link_faults.specs.declared.fault.LinkFaultKind.TheVariants.{Overflow};
+ghost use Rattle.link_core.specs.Overflows.{IsFirstOverflow, IsFirstOverflowIn, IsFirstOverflowOf};
+ghost use Rattle.link_core.specs.Overflows.{IsFilled, IsOverflow, NoOverflow, NoOverflowIn, NoOverflowOf};
+ghost use Rattle.link_core.specs.Room.{HasRoom};
 ghost use Rattle.relax_sites.specs.Rows.{new_field as new_field_of};
 
 use crate::needs::new_relocation;
 use crate::plan::Plan;
-use elf_object::{Object, Relocation, RelocationKind};
+use elf_object::{Relocation, RelocationKind};
 use link_faults::{LinkFault, LinkFaultKind};
 use relax_sites::{NewField, new_field, rewrite};
 use section_file::offset_of;
 use sequence_match::Site;
 use tls_relocs::{Field, Overflow, apply};
+
+/// Where the byte of an address stands in the file.
+pub fn place_in_file(plan: &Plan, address: u64) -> u64
+    requires from_base { base_of plan.now.kind ≤ address + 4096 }
+    requires fits { address + 4096 < 2 ^ 64 }
+    ensures { result ≡ file_offset (layout plan.now) address }
+{
+    let inputs = plan.inputs;
+    offset_of(inputs.kind, address)
+}
+
+/// Writes a field at an address, if it has bytes.
+#[tactic(auto, using(crate::proofs::WritingRoom::patched_nothing))]
+fn put(plan: &Plan, place: u64, field: Field, file: &mut [u8])
+    requires room { HasRoom plan.now place (width_of field) (length file.old) }
+    ensures { file.new ≡ patched (field_patch (file_offset (layout plan.now) place) field ∷ []) file.old }
+{
+    if field.width() > 0 {
+        apply(field, file, place_in_file(plan, place) as usize);
+    }
+}
 
 /// Writes the field of a relocation of a section that begins at this address, if it has one.
 fn write_field(
@@ -41,7 +68,7 @@ fn write_field(
     ensures fits { OnOk result (IsFilled plan.now object section relocation.now) }
     ensures overflow { OnErr result (IsOverflow plan.now object section relocation.now) }
 {
-    if relocation.kind == RelocationKind::Nothing {
+    if let RelocationKind::Nothing = relocation.kind {
         return Ok(());
     }
     let bound = plan.inputs.binding(object, relocation);
@@ -49,16 +76,18 @@ fn write_field(
         return Ok(());
     }
     let place = address + relocation.offset;
-    let field = plan.field(object, place, relocation, bound)?;
-    if field != Field::Empty {
-        apply(field, file, offset_of(plan.inputs.kind, place) as usize);
+    match plan.field(object, place, relocation, bound) {
+        Ok(field) => {
+            put(plan, place, field, file);
+            Ok(())
+        }
+        Err(unfit) => Err(unfit),
     }
-    Ok(())
 }
 
 /// A field of this object, section and entry does not hold its value.
 fn overflow(object: usize, section: u32, entry: u64) -> LinkFault
-    ensures { result ≡ At Overflow (Some object) section entry }
+    ensures { result ≡ LinkFault.At LinkFaultKind.Overflow (Some object) section entry }
 {
     LinkFault::At {
         kind: LinkFaultKind::Overflow,
@@ -68,7 +97,36 @@ fn overflow(object: usize, section: u32, entry: u64) -> LinkFault
     }
 }
 
-/// Writes the fields of the relocations that a section holds.
+/// Writes the fields of the relocations of a section, which the table holds.
+fn write_held(
+    plan: &Plan,
+    number: usize,
+    table: u32,
+    section: u32,
+    file: &mut [u8],
+) -> Result<(), LinkFault>
+    requires object { number < length plan.now.objects }
+    requires table { (0 < table) × (table < section_count (object_at plan.now.objects number)) }
+    requires target { nonzero (relocation_target (object_at plan.now.objects number) table) ≡ Some section }
+    requires filled { length file.old ≡ length (raw_file plan.now) }
+    ensures written { OnOk result
+        (file.new ≡ with_table plan.now number (object_at plan.now.objects number) file.old table) }
+    ensures filled { length file.new ≡ length (raw_file plan.now) }
+    ensures fits { OnOk result (NoOverflowIn plan.now number table) }
+    ensures overflow { IfErr result (IsFirstOverflowIn plan.now number table) }
+{
+    let address = plan.inputs.section_address(number, section);
+    let mut entry = 0;
+    for relocation in plan.inputs.object(number).relocs(section) {
+        if let Err(_) = write_field(plan, number, section, address, &relocation, file) {
+            return Err(overflow(number, table, entry));
+        }
+        entry += 1;
+    }
+    Ok(())
+}
+
+/// Writes the fields of the relocations that a section holds, if it holds any.
 fn write_table(plan: &Plan, number: usize, table: u32, file: &mut [u8]) -> Result<(), LinkFault>
     requires object { number < length plan.now.objects }
     requires table { (0 < table) × (table < section_count (object_at plan.now.objects number)) }
@@ -79,19 +137,10 @@ fn write_table(plan: &Plan, number: usize, table: u32, file: &mut [u8]) -> Resul
     ensures fits { OnOk result (NoOverflowIn plan.now number table) }
     ensures overflow { IfErr result (IsFirstOverflowIn plan.now number table) }
 {
-    let object = plan.inputs.object(number);
-    let Some(section) = object.relocation_target(table) else {
-        return Ok(());
-    };
-    let address = plan.inputs.section_address(number, section);
-    let mut entry = 0;
-    for relocation in object.relocs(section) {
-        if write_field(plan, number, section, address, &relocation, file).is_err() {
-            return Err(overflow(number, table, entry));
-        }
-        entry += 1;
+    match plan.inputs.object(number).relocation_target(table) {
+        Some(section) => write_held(plan, number, table, section, file),
+        None => Ok(()),
     }
-    Ok(())
 }
 
 /// Writes the fields of an object's relocations.
@@ -105,7 +154,9 @@ fn write_object(plan: &Plan, number: usize, file: &mut [u8]) -> Result<(), LinkF
     ensures overflow { IfErr result (IsFirstOverflowOf plan.now number) }
 {
     for table in 1..plan.inputs.object(number).section_count() {
-        write_table(plan, number, table, file)?;
+        if let Err(fault) = write_table(plan, number, table, file) {
+            return Err(fault);
+        }
     }
     Ok(())
 }
@@ -118,8 +169,11 @@ pub fn write_fields(plan: &Plan, file: &mut [u8]) -> Result<(), LinkFault>
     ensures fits { OnOk result (NoOverflow plan.now) }
     ensures overflow { IfErr result (IsFirstOverflow plan.now) }
 {
-    for number in 0..plan.inputs.objects.len() {
-        write_object(plan, number, file)?;
+    let inputs = plan.inputs;
+    for number in 0..inputs.objects.len() {
+        if let Err(fault) = write_object(plan, number, file) {
+            return Err(fault);
+        }
     }
     Ok(())
 }
@@ -141,12 +195,13 @@ fn write_new_field(
     ensures written { file.new ≡ with_new_field plan.now object site.now (Some field.now) file.old }
     ensures filled { length file.new ≡ length (raw_file plan.now) }
 {
+    let inputs = plan.inputs;
     let relocation = new_relocation(site, field);
     let place = address + relocation.offset;
-    let bound = plan.inputs.binding(object, &relocation);
+    let bound = inputs.binding(object, &relocation);
     // Distances inside an image fit.
     if let Ok(value) = plan.field(object, place, &relocation, bound) {
-        apply(value, file, offset_of(plan.inputs.kind, place) as usize);
+        put(plan, place, value, file);
     }
 }
 
@@ -161,7 +216,7 @@ fn write_site(plan: &Plan, object: usize, site: &Site, file: &mut [u8])
     let choice = plan.inputs.choice(object, site);
     let address = plan.inputs.section_address(object, site.section);
     let mut placed = *site;
-    placed.start = offset_of(plan.inputs.kind, address + site.start);
+    placed.start = place_in_file(plan, address + site.start);
     rewrite(file, &placed, choice);
     if let Some(field) = new_field(site.form, choice) {
         write_new_field(plan, object, address, site, &field, file);
@@ -187,7 +242,8 @@ pub fn write_sites(plan: &Plan, file: &mut [u8])
     ensures written { file.new ≡ with_sites_from plan.now 0 plan.now.sites file.old }
     ensures filled { length file.new ≡ length (raw_file plan.now) }
 {
-    for (object, own) in plan.inputs.sites.iter().enumerate() {
+    let inputs = plan.inputs;
+    for (object, own) in inputs.sites.iter().enumerate() {
         write_own_sites(plan, object, own.as_slice(), file);
     }
 }

@@ -1,6 +1,8 @@
 //! How many relocations an image has.
 
 ghost use Rattle.std.specs.Prelude.{◌≡◌, ◌+◌, ◌*◌, ◌<◌, ◌≤◌, ◌^◌, ◌↔◌, IsTrue, length};
+ghost use Rattle.std.specs.List.{All};
+ghost use Rattle.elf_object.specs.Faults.{IsObject};
 ghost use Rattle.elf_object.specs.Lent.{relocations};
 ghost use Rattle.link_refusals.specs.Counts.{own_count, relocation_count};
 
@@ -26,6 +28,7 @@ fn section_count(object: &Object, section: u32) -> u64
 fn own_count(object: &Object) -> u64
     ensures count { result ≡ own_count object.now }
     ensures few { result ≤ 2 ^ 36 }
+    ensures object { IsObject object.now }
 {
     let mut count = 0;
     for section in 1..object.section_count() {
@@ -36,7 +39,8 @@ fn own_count(object: &Object) -> u64
 
 /// How many relocations the objects have, of sections that linking keeps.
 pub fn relocation_count(objects: &[Object]) -> u128
-    ensures { result ≡ relocation_count objects.now }
+    ensures count { result ≡ relocation_count objects.now }
+    ensures objects { All IsObject objects.now }
 {
     let mut count = 0;
     for object in objects {
@@ -47,7 +51,8 @@ pub fn relocation_count(objects: &[Object]) -> u128
 
 /// Whether they are no more than an image may have.
 pub fn has_few_relocations(objects: &[Object]) -> bool
-    ensures { IsTrue result ↔ (relocation_count objects.now ≤ MAX_RELOCATIONS) }
+    ensures few { IsTrue result ↔ (relocation_count objects.now ≤ MAX_RELOCATIONS) }
+    ensures objects { All IsObject objects.now }
 {
     relocation_count(objects) <= MAX_RELOCATIONS
 }

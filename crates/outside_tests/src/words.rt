@@ -17,6 +17,17 @@ run --no-relax false|run|--|--no-relax
 run -- false|run|--|--
 run -x true|run|--no-relax|--|-x
 run run false|run|run
+link job app out false|link|job|app|out
+link a b c true|link|--no-relax|a|b|c
+link a b c true|link|a|--no-relax|b|c
+link a b c true|link|a|b|--no-relax|c
+link a b c true|link|a|b|c|--no-relax
+link a b --no-relax false|link|a|b|--|--no-relax
+link - - - false|link|-|-|-
+link link sites run false|link|link|sites|run
+sites job app|sites|job|app
+sites --no-relax app|sites|--|--no-relax|app
+sites a=b |sites|a=b|
 show image|show|image
 show -|show|-
 usage
@@ -41,6 +52,22 @@ usage|help|run
 usage|--help
 usage|run|job|--help
 usage|-h
+usage|link
+usage|link|a|b
+usage|link|a|b|c|d
+usage|link|a|b|--no-relax
+usage|link|--no-relax|a|b|c|--no-relax
+usage|link|a|b|c|--no-relax=true
+usage|link|a|b|c|-n
+usage|link|a|b|c|--help
+usage|lin|a|b|c
+usage|sites
+usage|sites|a
+usage|sites|a|b|c
+usage|sites|a|b|--no-relax
+usage|sites|--no-relax|a|b
+usage|sites|--help
+usage|site|a|b
 usage|show
 usage|show|image|more
 ";
@@ -49,6 +76,26 @@ usage|show|image|more
 fn told(alloc: Global, task: Result<Task, WordsFault>) -> Result<String, AllocError> {
     match task {
         Ok(Task::Run { job, no_relax }) => format!(in alloc; "run {} {no_relax}", job.as_str()),
+        Ok(
+            Task::Link {
+                job,
+                image,
+                out,
+                no_relax,
+            },
+        ) => {
+            format!(in alloc;
+                "link {} {} {} {no_relax}",
+                job.as_str(),
+                image.as_str(),
+                out.as_str()
+            )
+        }
+        Ok(Task::Sites { job, image }) => format!(in alloc;
+            "sites {} {}",
+            job.as_str(),
+            image.as_str()
+        ),
         Ok(Task::Show { file }) => format!(in alloc; "show {}", file.as_str()),
         Err(fault) => format!(in alloc; "{fault}"),
     }

@@ -1,5 +1,6 @@
-use Rattle.std.proofs.Common.{◌≡◌, ◌+◌, ◌*◌, ◌≤◌, ◌^◌, drop}
+use Rattle.std.proofs.Common.{◌≡◌, ◌+◌, ◌*◌, ◌<◌, ◌≤◌, ◌^◌, ℕ, List, drop, slice_index_or}
 use Rattle.std.specs.Prelude.{sum_by}
+use Rattle.elf_object.specs.Faults.{IsObject}
 use Rattle.link_refusals.specs.Counts.{own_count, relocation_count}
 use Rattle.link_refusals.proofs.count.relocation_count.Given as goal
 
@@ -7,4 +8,5 @@ use Rattle.link_refusals.proofs.count.relocation_count.Given as goal
 abbrev pub invariant-loop-object : goal.invariant-loop-object
 invariant-loop-object l =
     (l.count + sum_by own_count (drop l.object-index l.objects) ≡ relocation_count l.objects) ×
-    (l.count ≤ 2 ^ 36 * l.object-index)
+    (l.count ≤ 2 ^ 36 * l.object-index) ×
+    ((k : ℕ) (d : List ℕ) → k < l.object-index → IsObject (slice_index_or l.objects k d))

@@ -1,0 +1,335 @@
+-- Names that are fetched where they were not seen, and the list that they come to.
+use Rattle.std.proofs.Common.{◌≡◌, ◌∙◌, ◌+◌, ◌<◌, ◌≤◌, ◌&&◌, ◌||◌, ℕ, suc, Bool, true, false, not, cond, List, [], ◌∷◌}
+use Rattle.std.proofs.Common.{◌++◌}
+use Rattle.std.proofs.Common.{Option, Some, None, IsSome, filter, map, min, refl, sym, ap, subst, append_assoc}
+use Rattle.std.proofs.Common.{append-nil, length, take, drop, get_or, arith}
+use Rattle.std.specs.Prelude.{◌-◌, if◌then◌else◌, slice_get, IfSome}
+use Rattle.std.specs.List.{cons_option, filter_map, flat_map}
+use Rattle.std.specs.Str.{bytes_eq}
+use Rattle.std.proofs.lemmas.List.{get_or_default, map-append, take-append-drop, take-append-le, take_all, take_min}
+use Rattle.std.proofs.lemmas.List.{take_more}
+use Rattle.std.proofs.lemmas.List.Elements.{All-append}
+use Rattle.std.proofs.lemmas.List.Folds.{list_any-append}
+use Rattle.std.proofs.lemmas.Slice.Eq.{bytes_eq-Decides}
+use Rattle.job_text.specs.declared.images.Image.{Image}
+use Rattle.job_text.specs.Jobs.{JobParts}
+use Rattle.ports.specs.Files.{Files, file_at}
+use Rattle.job_link.specs.Mentions.{bytes_at, mentions_of, object_names, once, with_names, AreFilesOf, Fetched}
+use Rattle.job_link.specs.Walks.{is_among, names_in, names_of, unseen, Grows}
+
+-- ** those that were not seen
+
+-- names before others
+pub unseen-append : (s xs ys : List (List ℕ)) → unseen s (xs ++ ys) ≡ unseen s xs ++ unseen (s ++ unseen s xs) ys
+unseen-append s [] ys = ap (λ t. unseen t ys) (sym (append-nil s))
+unseen-append s (x ∷ xs) ys = by (is_among s x) (λ t. unseen-append t xs ys)
+  where
+    by : (b : Bool) → ((t : List (List ℕ)) → unseen t (xs ++ ys) ≡ unseen t xs ++ unseen (t ++ unseen t xs) ys)
+        → (if b then unseen s (xs ++ ys) else x ∷ unseen (s ++ x ∷ []) (xs ++ ys))
+        ≡ (if b then unseen s xs else x ∷ unseen (s ++ x ∷ []) xs)
+        ++ unseen (s ++ (if b then unseen s xs else x ∷ unseen (s ++ x ∷ []) xs)) ys
+    by true more = more s
+    by false more =
+        ap (λ r. x ∷ r) (more (s ++ x ∷ []))
+        ∙ ap (λ t. x ∷ (unseen (s ++ x ∷ []) xs ++ unseen t ys)) (append_assoc s (x ∷ []) (unseen (s ++ x ∷ []) xs))
+
+-- two tests, one after the other
+filter_twice : (P Q R : List ℕ → Bool) → ((y : List ℕ) → R y ≡ (Q y && P y)) → (ys : List (List ℕ))
+    → filter R ys ≡ filter P (filter Q ys)
+filter_twice P Q R h [] = refl
+filter_twice P Q R h (y ∷ ys) =
+    ap (λ b. cond b (y ∷ filter R ys) (filter R ys)) (h y)
+    ∙ elim (Q y) as (λ b.
+    cond (b && P y) (y ∷ filter R ys) (filter R ys) ≡ filter P (cond b (y ∷ filter Q ys) (filter Q ys))) [
+      | true ↦ ap (λ r. cond (P y) (y ∷ r) r) (filter_twice P Q R h ys)
+      | false ↦ filter_twice P Q R h ys
+    ]
+
+-- all pass
+filter_all : (ys : List (List ℕ)) → filter (λ y. true) ys ≡ ys
+filter_all [] = refl
+filter_all (y ∷ ys) = ap (λ r. y ∷ r) (filter_all ys)
+
+-- two names are equal whichever is first
+symmetric : (x y : List ℕ) → bytes_eq x y ≡ bytes_eq y x
+symmetric x y = by (bytes_eq x y) refl (bytes_eq y x) refl
+  where
+    by : (s : Bool) → bytes_eq x y ≡ s → (t : Bool) → bytes_eq y x ≡ t → s ≡ t
+    by true e true f = refl
+    by false e false f = refl
+    by true e false f = sym ((bytes_eq-Decides y x).1 (sym ((bytes_eq-Decides x y).0 e))) ∙ f
+    by false e true f = sym e ∙ (bytes_eq-Decides x y).1 (sym ((bytes_eq-Decides y x).0 f))
+
+-- what is equal to one that was seen was seen
+like_seen : (seen : List (List ℕ)) (x : List ℕ) → is_among seen x ≡ true → (y : List ℕ)
+    → not (is_among seen y) ≡ (not (bytes_eq x y) && not (is_among seen y))
+like_seen seen x there y = by (bytes_eq x y) refl
+  where
+    by : (b : Bool) → bytes_eq x y ≡ b → not (is_among seen y) ≡ (not b && not (is_among seen y))
+    by true e =
+        let same : x ≡ y = (bytes_eq-Decides x y).0 e in
+        let also : is_among seen y ≡ true = ap (is_among seen) (sym same) ∙ there in
+        ap not also
+    by false e = refl
+
+-- not one of two, whichever is asked first
+neither : (a b : Bool) → not (a || (b || false)) ≡ (not b && not a)
+neither true true = refl
+neither true false = refl
+neither false true = refl
+neither false false = refl
+
+-- what is none of some and not one more
+new_past : (seen : List (List ℕ)) (x y : List ℕ)
+    → not (is_among (seen ++ x ∷ []) y) ≡ (not (bytes_eq x y) && not (is_among seen y))
+new_past seen x y =
+    ap not (list_any-append (bytes_eq y) seen (x ∷ [])) ∙ neither (is_among seen y) (bytes_eq y x)
+    ∙ ap (λ b. not b && not (is_among seen y)) (symmetric y x)
+
+-- those that were not seen
+abbrev new_in : List (List ℕ) → List (List ℕ) → List (List ℕ)
+new_in seen ys = filter (λ y. not (is_among seen y)) ys
+
+-- those that differ from a name
+abbrev unlike : List ℕ → List (List ℕ) → List (List ℕ)
+unlike x ys = filter (λ y. not (bytes_eq x y)) ys
+
+-- those like a name that was seen do not count
+new_in-unlike : (seen : List (List ℕ)) (x : List ℕ) → is_among seen x ≡ true → (ys : List (List ℕ))
+    → new_in seen ys ≡ new_in seen (unlike x ys)
+new_in-unlike seen x there =
+    filter_twice (λ y. not (is_among seen y)) (λ y. not (bytes_eq x y)) (λ y. not (is_among seen y))
+    (like_seen seen x there)
+
+-- nor do those like a name that is seen next
+new_in-one_more : (seen : List (List ℕ)) (x : List ℕ) (ys : List (List ℕ))
+    → new_in (seen ++ x ∷ []) ys ≡ new_in seen (unlike x ys)
+new_in-one_more seen x =
+    filter_twice (λ y. not (is_among seen y)) (λ y. not (bytes_eq x y)) (λ y. not (is_among (seen ++ x ∷ []) y))
+    (new_past seen x)
+
+-- they are those of all, each once, that were not seen
+unseen_once : (seen xs : List (List ℕ)) → unseen seen xs ≡ new_in seen (once xs)
+unseen_once seen [] = refl
+unseen_once seen (x ∷ xs) = by (is_among seen x) refl (λ s. unseen_once s xs)
+  where
+    by : (b : Bool) → is_among seen x ≡ b → ((s : List (List ℕ)) → unseen s xs ≡ new_in s (once xs))
+        → (if b then unseen seen xs else x ∷ unseen (seen ++ x ∷ []) xs)
+        ≡ cond (not b) (x ∷ new_in seen (unlike x (once xs))) (new_in seen (unlike x (once xs)))
+    by true e more = more seen ∙ new_in-unlike seen x e (once xs)
+    by false e more = ap (λ r. x ∷ r) (more (seen ++ x ∷ []) ∙ new_in-one_more seen x (once xs))
+
+-- so where none was seen they are each once
+pub all_once : (xs : List (List ℕ)) → unseen [] xs ≡ once xs
+all_once xs = unseen_once [] xs ∙ filter_all (once xs)
+
+-- one name that was seen
+pub seen_one : (seen : List (List ℕ)) (name : List ℕ) → is_among seen name ≡ true → unseen seen (name ∷ []) ≡ []
+seen_one seen name e = ap (λ b. if b then [] else name ∷ []) e
+
+-- one name that was not seen
+pub unseen_one : (seen : List (List ℕ)) (name : List ℕ) → is_among seen name ≡ false
+    → unseen seen (name ∷ []) ≡ name ∷ []
+unseen_one seen name e = ap (λ b. if b then [] else name ∷ []) e
+
+-- ** names asked for
+
+-- no name asked for
+pub asked_none : (a : Option (List (List ℕ))) → a ≡ with_names [] a
+asked_none None = refl
+asked_none (Some names) = ap Some (sym (append-nil names))
+
+-- names asked for, and then others
+pub asked-append : (xs ys : List (List ℕ)) (a : Option (List (List ℕ)))
+    → with_names ys (with_names xs a) ≡ with_names (xs ++ ys) a
+asked-append xs ys None = refl
+asked-append xs ys (Some names) = ap Some (append_assoc names xs ys)
+
+-- ** files that follow
+
+-- a front that reaches past a list
+take_past : (xs ys : List (List ℕ)) (k : ℕ) → take (length xs + k) (xs ++ ys) ≡ xs ++ take k ys
+-- a front that reaches past a list
+take_past [] ys k = let e : 0 + k ≡ k = omega arith in ap (λ n. take n ys) e
+take_past (x ∷ xs) ys k =
+    let e : suc (length xs) + k ≡ suc (length xs + k) = omega arith in
+    ap (λ n. take n (x ∷ xs ++ ys)) e ∙ ap (λ r. x ∷ r) (take_past xs ys k)
+
+-- a front that ends in the second of three lists
+take_front : (xs ys zs : List (List ℕ)) (k : ℕ)
+    → take (length xs + min k (length ys)) (xs ++ (ys ++ zs)) ≡ xs ++ take k ys
+take_front xs ys zs k =
+    let few : min k (length ys) ≤ length ys = omega arith in
+    let past : length xs ≤ length xs + min k (length ys) = omega arith in
+    let rest : length xs + min k (length ys) - length xs ≡ min k (length ys) = omega arith in
+    take_past xs (ys ++ zs) (min k (length ys))
+    ∙ ap (λ r. xs ++ r) (take-append-le (min k (length ys)) ys zs few ∙ take_min k ys)
+
+-- no file follows
+pub follow_none : (told : Option Files) (old : Fetched) → Grows told [] old old
+follow_none told old = record {
+  names_are = sym (append-nil (names_of old));
+  files_are = λ fs e. record { there = λ k d h. absurd (omega arith); files_are = sym (append-nil old) };
+}
+
+-- the files of these names
+abbrev files_at : Files → List (List ℕ) → Fetched
+files_at fs names = map (λ name. (name, bytes_at fs name)) names
+
+-- files follow, and then others
+pub follow-append : (told : Option Files) (xs ys : List (List ℕ)) (old mid new : Fetched) → Grows told xs old mid
+    → Grows told ys mid new
+    → Grows told (xs ++ ys) old new
+follow-append told xs ys old mid new first second = record {
+  names_are = second.names_are ∙ ap (λ names. names ++ ys) first.names_are ∙ append_assoc (names_of old) xs ys;
+  files_are = λ fs e. record {
+    there = All-append (λ name. IsSome (file_at fs name)) xs ys (first.files_are fs e).there
+        (second.files_are fs e).there;
+    files_are =
+        (second.files_are fs e).files_are ∙ ap (λ r. r ++ files_at fs ys) (first.files_are fs e).files_are
+        ∙ append_assoc old (files_at fs xs) (files_at fs ys)
+        ∙ ap (λ r. old ++ r) (sym (map-append (λ name. (name, bytes_at fs name)) xs ys));
+  };
+}
+
+-- ** some names fetched, of more
+
+-- what a store tells, its count of faults and the names that it was asked for, and the files: before, and after names
+-- were fetched where they were not there
+pub record Fetching (told_old told : Option Files) (faults_old faults : ℕ) (asked_old asked : Option (List (List ℕ)))
+    (names : List (List ℕ)) (old new : Fetched) : Type 0 where
+  pub told_is : told ≡ told_old
+  pub faults_is : faults ≡ faults_old
+  pub asked_is : asked ≡ with_names (unseen (names_of old) names) asked_old
+  pub grows : Grows told_old (unseen (names_of old) names) old new
+
+module _ {told_old told : Option Files} {faults_old faults : ℕ} {asked_old asked : Option (List (List ℕ))}
+    {old mid : Fetched}
+    (names more : List (List ℕ)) (before : Fetching told_old told faults_old faults asked_old asked names old mid) where
+  both : unseen (names_of old) (names ++ more) ≡ unseen (names_of old) names ++ unseen (names_of mid) more
+  both =
+      unseen-append (names_of old) names more
+      ∙ ap (λ seen. unseen (names_of old) names ++ unseen seen more) (sym before.grows.names_are)
+
+  pub fetching_more : (told_new : Option Files) (faults_new : ℕ) (asked_new : Option (List (List ℕ))) (new : Fetched)
+      → told_new ≡ told → faults_new ≡ faults → asked_new ≡ with_names (unseen (names_of mid) more) asked
+      → Grows told (unseen (names_of mid) more) mid new
+      → Fetching told_old told_new faults_old faults_new asked_old asked_new (names ++ more) old new
+  fetching_more told_new faults_new asked_new new t f a g = record {
+    told_is = t ∙ before.told_is;
+    faults_is = f ∙ before.faults_is;
+    asked_is =
+        a ∙ ap (with_names (unseen (names_of mid) more)) before.asked_is
+        ∙ asked-append (unseen (names_of old) names) (unseen (names_of mid) more) asked_old
+        ∙ ap (λ all. with_names all asked_old) (sym both);
+    grows =
+        let late : Grows told_old (unseen (names_of mid) more) mid new =
+        subst (λ (t : Option Files). Grows t (unseen (names_of mid) more) mid new) before.told_is g in
+        subst (λ all. Grows told_old all old new) (sym both)
+        (follow-append told_old (unseen (names_of old) names) (unseen (names_of mid) more) old mid new before.grows
+        late);
+  }
+
+  -- a fetch among them that failed
+  pub fetching_stops : (rest : List (List ℕ)) (asked_new : Option (List (List ℕ)))
+      → (k : ℕ) × (asked_new ≡ with_names (take k (unseen (names_of mid) more)) asked)
+      → (k : ℕ) × (asked_new ≡ with_names (take k (unseen (names_of old) ((names ++ more) ++ rest))) asked_old)
+  fetching_stops rest asked_new (k, a) =
+      let first = unseen (names_of old) names in
+      let second = unseen (names_of mid) more in
+      let last = unseen (names_of old ++ unseen (names_of old) (names ++ more)) rest in
+      let all : unseen (names_of old) ((names ++ more) ++ rest) ≡ first ++ (second ++ last) =
+      unseen-append (names_of old) (names ++ more) rest ∙ ap (λ r. r ++ last) both ∙ append_assoc first second last in (
+        length first + min k (length second),
+        a ∙ ap (with_names (take k second)) before.asked_is ∙ asked-append first (take k second) asked_old
+            ∙ ap (λ r. with_names r asked_old)
+            (sym (take_front first second last k) ∙ ap (take (length first + min k (length second))) (sym all)),
+      )
+
+-- ** images
+
+-- the images of these numbers
+abbrev images_of : JobParts → List ℕ → List Image
+images_of job numbers = filter_map (λ (number : ℕ). slice_get job.images (number - 1)) numbers
+
+-- the names of images before others
+names_in-append : (job : JobParts) (xs ys : List ℕ) → names_in job (xs ++ ys) ≡ names_in job xs ++ names_in job ys
+names_in-append job [] ys = refl
+names_in-append job (x ∷ xs) ys = by (slice_get job.images (x - 1)) (names_in-append job xs ys)
+  where
+    by : (image : Option Image) → names_in job (xs ++ ys) ≡ names_in job xs ++ names_in job ys
+        → flat_map (λ (i : Image). i.objects) (cons_option image (images_of job (xs ++ ys)))
+        ≡ flat_map (λ (i : Image). i.objects) (cons_option image (images_of job xs)) ++ names_in job ys
+    by None more = more
+    by (Some image) more = ap (λ r. image.objects ++ r) more
+        ∙ sym (append_assoc image.objects (names_in job xs) (names_in job ys))
+
+-- the names of one more image
+names_in-push : (job : JobParts) (numbers : List ℕ) (number : ℕ) (image : Image)
+    → slice_get job.images (number - 1) ≡ Some image
+    → names_in job (numbers ++ number ∷ []) ≡ names_in job numbers ++ image.objects
+names_in-push job numbers number image e =
+    names_in-append job numbers (number ∷ [])
+    ∙ ap (λ (o : Option Image). names_in job numbers ++ flat_map (λ (i : Image). i.objects) (cons_option o [])) e
+    ∙ ap (λ r. names_in job numbers ++ r) (append-nil image.objects)
+
+-- a list up to an element, that element, and the rest
+module _ {X : Type 0} (xs : List X) (i : ℕ) (x : X) (is : x ≡ get_or xs i x) (inside : i < length xs) where
+  pub one_more : take (i + 1) xs ≡ take i xs ++ x ∷ []
+  one_more = take_more xs i x inside ∙ ap (λ y. take i xs ++ y ∷ []) (sym is)
+
+  pub with_rest : xs ≡ (take i xs ++ x ∷ []) ++ drop (i + 1) xs
+  with_rest = sym (take-append-drop (i + 1) xs) ∙ ap (λ r. r ++ drop (i + 1) xs) one_more
+
+-- the names of the images up to one, its names, and those of the rest
+module _ (job : JobParts) (numbers : List ℕ) (i : ℕ) (image : Image) (inside : i < length numbers)
+    (there : slice_get job.images (get_or numbers i 0 - 1) ≡ Some image) where
+  is_next : get_or numbers i 0 ≡ get_or numbers i (get_or numbers i 0)
+  is_next = get_or_default numbers i 0 (get_or numbers i 0) inside
+
+  pub numbers_more : take (i + 1) numbers ≡ take i numbers ++ get_or numbers i 0 ∷ []
+  numbers_more = one_more numbers i (get_or numbers i 0) is_next inside
+
+  pub names_more : names_in job (take (i + 1) numbers) ≡ names_in job (take i numbers) ++ image.objects
+  names_more = ap (names_in job) numbers_more ∙ names_in-push job (take i numbers) (get_or numbers i 0) image there
+
+  pub names_around : names_in job numbers
+      ≡ (names_in job (take i numbers) ++ image.objects) ++ names_in job (drop (i + 1) numbers)
+  names_around =
+      ap (names_in job) (with_rest numbers i (get_or numbers i 0) is_next inside)
+      ∙ names_in-append job (take i numbers ++ get_or numbers i 0 ∷ []) (drop (i + 1) numbers)
+      ∙ ap (λ r. r ++ names_in job (drop (i + 1) numbers))
+      (names_in-push job (take i numbers) (get_or numbers i 0) image there)
+
+-- the names that a job mentions are those of its images as they are mentioned
+pub mentions_are : (job : JobParts) → mentions_of job ≡ names_in job job.mentions
+unfolding mentions_of
+mentions_are job = refl
+
+-- each of them once
+pub object_names_are : (job : JobParts) → object_names job ≡ unseen [] (names_in job job.mentions)
+unfolding object_names
+object_names_are job = ap once (mentions_are job) ∙ sym (all_once (names_in job job.mentions))
+
+-- ** all fetched
+
+-- once the last image is behind, all names were asked for and all files are there
+pub all_fetched : {told_old told : Option Files} {faults_old faults : ℕ} {asked_old asked : Option (List (List ℕ))}
+    {files : Fetched} (job : JobParts) (n : ℕ)
+    → Fetching told_old told faults_old faults asked_old asked (names_in job (take n job.mentions)) [] files
+    → length job.mentions ≤ n
+    → (asked ≡ with_names (object_names job) asked_old) × ((fs : Files) → told_old ≡ Some fs
+    → AreFilesOf fs (object_names job) files)
+all_fetched {told_old} {told} {faults_old} {faults} {asked_old} {asked} {files} job n all past =
+    let names : unseen [] (names_in job (take n job.mentions)) ≡ object_names job =
+    ap (λ numbers. unseen [] (names_in job numbers)) (take_all n job.mentions past) ∙ sym (object_names_are job) in (
+      all.asked_is ∙ ap (λ ns. with_names ns asked_old) names,
+      λ fs e.
+          let is = all.grows.files_are fs e in
+          subst (λ ns. AreFilesOf fs ns files) names (record { there = is.there; files_are = is.files_are }),
+    )
+
+-- what holds of what is there
+pub if_some : {X : Type 0} (P : X → Type 0) (o : Option X) → ((x : X) → o ≡ Some x → P x) → IfSome o P
+if_some P None h = tt
+if_some P (Some x) h = h x refl

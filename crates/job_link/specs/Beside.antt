@@ -1,0 +1,14 @@
+-- The link of an image beside startup images.
+use Rattle.std.specs.Prelude.{ℕ, Bool, List}
+use Rattle.link_core.specs.Linking.{Linking}
+use Rattle.job_link.specs.Given.{Given}
+
+-- that of an image, where the startup images export these names
+unfoldable pub link_beside : List (List (List ℕ)) → Bool → Given → Linking
+link_beside startup relax g = record {
+  kind = g.kind;
+  objects = g.objects;
+  startup = startup;
+  sites = g.sites;
+  relax = relax;
+}

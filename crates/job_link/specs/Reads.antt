@@ -1,0 +1,46 @@
+-- Objects that are read one after another.
+use Rattle.std.specs.Prelude.{◌≡◌, ◌+◌, ◌<◌, ℕ, List, [], Some, length, map, slice_get, slice_index_or}
+use Rattle.std.specs.Borrow.{Bor}
+use Rattle.std.specs.List.{All, Contains}
+use Rattle.object_faults.specs.declared.fault.FaultKind.{FaultKind}
+use Rattle.object_faults.specs.declared.fault.ObjectFault.{ObjectFault}
+use Rattle.object_faults.specs.declared.fault.ObjectFault.TheVariants as object
+use Rattle.link_faults.specs.declared.image_kind.ImageKind.{ImageKind}
+use Rattle.job_text.specs.declared.images.Image.{Image}
+use Rattle.job_text.specs.Jobs.{JobParts}
+use Rattle.job_link.specs.declared.reading.ReadRefusal.{ReadRefusal}
+use Rattle.job_link.specs.declared.reading.ReadRefusal.TheVariants as unread
+use Rattle.job_link.specs.Given.{Given, IsFileFault, IsGiven, IsSound}
+
+-- the first of these names whose file is refused
+pub record IsFirstIn (bytes : List ℕ → List ℕ) (names : List (List ℕ)) (name : List ℕ) (section entry : ℕ)
+    (kind : FaultKind) : Type 0 where
+  pub at : ℕ
+  pub there : slice_get names at ≡ Some name
+  pub here : IsFileFault (bytes name) (object.At section entry kind)
+  pub before : (k : ℕ) (other : List ℕ) → k < at → slice_get names k ≡ Some other → IsSound (bytes other)
+
+-- what a refusal says of files by these names; of want of memory nothing
+abbrev pub IsRefusalIn : (List ℕ → List ℕ) → List (List ℕ) → ReadRefusal → Type 0
+IsRefusalIn bytes names unread.OutOfMemory = Unit {0}
+IsRefusalIn bytes names (unread.At name section entry kind) = IsFirstIn bytes names name.now section entry kind
+
+-- what is told of an object of this name that has this fault
+abbrev pub read_refusal_of : Bor (List ℕ) → ObjectFault → ReadRefusal
+read_refusal_of name object.OutOfMemory = unread.OutOfMemory
+read_refusal_of name (object.At section entry kind) = unread.At name section entry kind
+
+-- the objects of each image of a job
+abbrev pub objects_of : (List ℕ → List ℕ) → JobParts → List (List (List ℕ))
+objects_of bytes job = map (λ (image : Image). map bytes image.objects) job.images
+
+-- what images are linked as
+abbrev pub kinds_of : List Given → List ImageKind
+kinds_of images = map (λ (g : Given). g.kind) images
+
+-- images of the job's kinds, in image order, of which these are read
+pub record IsReadIn (bytes : List ℕ → List ℕ) (job : JobParts) (numbers : List ℕ) (images : List Given) : Type 0 where
+  pub kinds : kinds_of images ≡ map (λ (image : Image). image.kind) job.images
+  pub given : All IsGiven images
+  pub objects : (k : ℕ) → k < length job.images → Contains numbers (k + 1)
+      → slice_index_or (map (λ (g : Given). g.objects) images) k [] ≡ slice_index_or (objects_of bytes job) k []

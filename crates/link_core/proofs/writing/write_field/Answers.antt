@@ -1,0 +1,101 @@
+use Rattle.std.proofs.Common.{[], ◌∷◌, ◌∙◌, ◌<◌, ap, arith, sym, subst, ◌+◌}
+use Rattle.elf_object.specs.Parts.{symbol_count}
+use Rattle.section_file.specs.Files.{offset_of}
+use Rattle.tls_relocs.specs.Fields.{field_patch}
+use Rattle.tls_relocs.specs.Patches.{patched}
+use Rattle.link_core.specs.Faults.{FitsLimits, IsGiven}
+use Rattle.link_core.specs.Linking.{Linking, binding, layout, object}
+use Rattle.link_core.proofs.WritingFields.{field_fills, field_overflows, field_writes, names_symbol, nothing_fills}
+use Rattle.link_core.proofs.WritingFields.{nothing_writes, replaced_as, replaced_fills, replaced_writes}
+use Rattle.link_core.proofs.WritingRoom.{field_room}
+use Rattle.link_core.proofs.writing.write_field.Goals as goal
+
+pub returns-in-Nothing-clause-written : goal.returns-in-Nothing-clause-written
+returns-in-Nothing-clause-written c =
+    nothing_writes c.args.plan.now c.args.object c.args.section c.args.relocation.now c.args.file.now c.in-Nothing.is
+
+pub returns-in-Nothing-clause-fits : goal.returns-in-Nothing-clause-fits
+returns-in-Nothing-clause-fits c =
+    nothing_fills c.args.plan.now c.args.object c.args.section c.args.relocation.now c.in-Nothing.is
+
+pub binding-bound-requires-clause-symbol : goal.binding-bound-requires-clause-symbol
+binding-bound-requires-clause-symbol c =
+    let l = c.args.plan.now in
+    let given = subst IsGiven c.plan.view_is c.plan.invariant.given in
+    let r = c.args.relocation.now in
+    let names = names_symbol l c.args.object c.args.section r given c.requires.object c.requires.own
+    c.in_default.not-Nothing in
+    subst (λ (l : Linking). r.symbol < symbol_count (object l c.args.object)) (sym c.plan.view_is) names
+
+pub returns-then-is_replaced : goal.returns-then-is_replaced
+returns-then-is_replaced c =
+    let l = c.args.plan.now in
+    let o = c.args.object in
+    let r = c.args.relocation.now in
+    let bound = c.binding-bound.ensures.binding ∙ ap (λ l. binding l o r) c.plan.view_is in
+    let is = replaced_as l o c.args.section r c.binding-bound.result bound ∙ sym c.is_replaced.ensures
+    ∙ c.if-is_replaced.true in
+    record {
+      written = replaced_writes l o c.args.section r c.args.file.now is;
+      filled = c.requires.filled;
+      fits = replaced_fills l o c.args.section r is;
+      overflow = tt;
+    }
+
+pub overflow_add-place : goal.overflow_add-place
+overflow_add-place c =
+    let l = c.args.plan.now in
+    let given = subst IsGiven c.plan.view_is c.plan.invariant.given in
+    let limits = subst FitsLimits c.plan.view_is c.plan.invariant.limits in
+    let room = field_room l c.args.object c.args.section c.args.relocation.now given limits c.requires.object
+    c.requires.own in
+    omega (arith, room.near, c.requires.address)
+
+pub field-requires-clause-symbol : goal.field-requires-clause-symbol
+field-requires-clause-symbol c =
+    let given = subst IsGiven c.plan.view_is c.plan.invariant.given in
+    names_symbol c.args.plan.now c.args.object c.args.section c.args.relocation.now given c.requires.object
+    c.requires.own c.in_default.not-Nothing
+
+pub put-requires : goal.put-requires
+put-requires c =
+    let l = c.args.plan.now in
+    let r = c.args.relocation.now in
+    let given = subst IsGiven c.plan.view_is c.plan.invariant.given in
+    let limits = subst FitsLimits c.plan.view_is c.plan.invariant.limits in
+    let room = field_room l c.args.object c.args.section r given limits c.requires.object c.requires.own in
+    record { room = rw (c.in-Ok.ensures.width, c.requires.address, c.requires.filled) room }
+
+pub returns-in-Ok : goal.returns-in-Ok
+returns-in-Ok c =
+    let l = c.args.plan.now in
+    let o = c.args.object in
+    let t = c.args.section in
+    let r = c.args.relocation.now in
+    let bound = c.binding-bound.ensures.binding ∙ ap (λ l. binding l o r) c.plan.view_is in
+    let is = replaced_as l o t r c.binding-bound.result bound ∙ sym c.is_replaced.ensures ∙ c.if-is_replaced.false in
+    let place = ap (λ n. n + r.offset) c.requires.address in
+    let value = c.in-Ok.ensures.field t place in
+    let put = c.put.ensures
+    ∙ ap (λ n. patched (field_patch (offset_of (layout l) n) c.in-Ok.field ∷ []) c.args.file.now) place in
+    record {
+      written = put ∙ field_writes l o t r c.args.file.now c.in-Ok.field is value;
+      filled = c.put.auto.file ∙ c.requires.filled;
+      fits = field_fills l o t r c.in-Ok.field value;
+      overflow = tt;
+    }
+
+pub returns-in-Err : goal.returns-in-Err
+returns-in-Err c =
+    let l = c.args.plan.now in
+    let o = c.args.object in
+    let t = c.args.section in
+    let r = c.args.relocation.now in
+    let bound = c.binding-bound.ensures.binding ∙ ap (λ l. binding l o r) c.plan.view_is in
+    let is = replaced_as l o t r c.binding-bound.result bound ∙ sym c.is_replaced.ensures ∙ c.if-is_replaced.false in
+    record {
+      written = tt;
+      filled = c.requires.filled;
+      fits = tt;
+      overflow = field_overflows l o t r is (c.in-Err.ensures.field t (ap (λ n. n + r.offset) c.requires.address));
+    }

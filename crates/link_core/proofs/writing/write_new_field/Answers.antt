@@ -1,0 +1,87 @@
+use Rattle.std.proofs.Common.{◌+◌, ◌∙◌, [], ◌∷◌, Some, ap, subst, arith}
+use Rattle.elf_object.specs.declared.relocation.Relocation.{Relocation}
+use Rattle.section_file.specs.Files.{offset_of}
+use Rattle.tls_relocs.specs.Fields.{field_patch}
+use Rattle.tls_relocs.specs.Patches.{patched}
+use Rattle.link_core.specs.Faults.{FitsLimits, IsGiven}
+use Rattle.link_core.specs.Linking.{choice, layout, place}
+use Rattle.link_core.specs.Values.{field}
+use Rattle.link_core.proofs.WritingRoom.{new_room, new_small, site_room}
+use Rattle.link_core.proofs.WritingSites.{new_skips, new_writes}
+use Rattle.link_core.proofs.writing.write_new_field.Goals as goal
+
+pub new_relocation-relocation-requires : goal.new_relocation-relocation-requires
+new_relocation-relocation-requires c =
+    let l = c.args.plan.now in
+    let given = subst IsGiven c.plan.view_is c.plan.invariant.given in
+    let limits = subst FitsLimits c.plan.view_is c.plan.invariant.limits in
+    let site = c.args.site.now in
+    let room = site_room l c.args.object site given limits c.requires.object c.requires.own in
+    new_small l c.args.object site (choice l c.args.object site) c.args.field.now room c.requires.field
+
+pub overflow_add-place : goal.overflow_add-place
+overflow_add-place c =
+    let l = c.args.plan.now in
+    let given = subst IsGiven c.plan.view_is c.plan.invariant.given in
+    let limits = subst FitsLimits c.plan.view_is c.plan.invariant.limits in
+    let site = c.args.site.now in
+    let room = site_room l c.args.object site given limits c.requires.object c.requires.own in
+    let fits = new_room l c.args.object site (choice l c.args.object site) c.args.field.now room c.requires.field in
+    let same = ap (λ (r : Relocation). r.offset) c.new_relocation-relocation.ensures in
+    omega (arith, fits.near, same, c.requires.address)
+
+pub binding-bound-requires-clause-symbol : goal.binding-bound-requires-clause-symbol
+binding-bound-requires-clause-symbol c =
+    let l = c.args.plan.now in
+    let given = subst IsGiven c.plan.view_is c.plan.invariant.given in
+    let limits = subst FitsLimits c.plan.view_is c.plan.invariant.limits in
+    let room = site_room l c.args.object c.args.site.now given limits c.requires.object c.requires.own in
+    let same = ap (λ (r : Relocation). r.symbol) c.new_relocation-relocation.ensures in
+    rw (same, c.plan.view_is) room.usable.symbol
+
+pub field-requires-clause-symbol : goal.field-requires-clause-symbol
+field-requires-clause-symbol c =
+    let l = c.args.plan.now in
+    let given = subst IsGiven c.plan.view_is c.plan.invariant.given in
+    let limits = subst FitsLimits c.plan.view_is c.plan.invariant.limits in
+    let room = site_room l c.args.object c.args.site.now given limits c.requires.object c.requires.own in
+    let same = ap (λ (r : Relocation). r.symbol) c.new_relocation-relocation.ensures in
+    rw same room.usable.symbol
+
+pub put-requires : goal.put-requires
+put-requires c =
+    let l = c.args.plan.now in
+    let given = subst IsGiven c.plan.view_is c.plan.invariant.given in
+    let limits = subst FitsLimits c.plan.view_is c.plan.invariant.limits in
+    let site = c.args.site.now in
+    let room = site_room l c.args.object site given limits c.requires.object c.requires.own in
+    let fits = new_room l c.args.object site (choice l c.args.object site) c.args.field.now room c.requires.field in
+    record {
+      room =
+          rw (c.in-Ok.ensures.width, c.new_relocation-relocation.ensures, c.requires.address, c.requires.filled) fits;
+    }
+
+pub returns-in-Ok-clause-written : goal.returns-in-Ok-clause-written
+returns-in-Ok-clause-written c =
+    let l = c.args.plan.now in
+    let o = c.args.object in
+    let site = c.args.site.now in
+    let f = c.args.field.now in
+    let t = site.section in
+    let same = c.new_relocation-relocation.ensures in
+    let begins = ap (λ n. n + c.new_relocation-relocation.result.offset) c.requires.address in
+    let at = begins ∙ ap (λ (r : Relocation). place l o t r.offset) same in
+    let is = c.in-Ok.ensures.field t begins ∙ ap (field l o t) same in
+    c.put.ensures
+    ∙ ap (λ n. patched (field_patch (offset_of (layout l) n) c.in-Ok.value ∷ []) c.args.file.now) at
+    ∙ new_writes l o site c.args.file.now f (Some c.in-Ok.value) is
+
+pub returns-in_default-clause-written : goal.returns-in_default-clause-written
+returns-in_default-clause-written c =
+    let l = c.args.plan.now in
+    let o = c.args.object in
+    let site = c.args.site.now in
+    let t = site.section in
+    let begins = ap (λ n. n + c.new_relocation-relocation.result.offset) c.requires.address in
+    let is = c.in_default.ensures.field t begins ∙ ap (field l o t) c.new_relocation-relocation.ensures in
+    new_skips l o site c.args.file.now c.args.field.now is

@@ -1,0 +1,34 @@
+-- Sites as text: a line for each.
+use Rattle.std.specs.Prelude.{ℕ, ◌-◌, ◌^◌, List, [], ◌∷◌, ◌++◌, codes, false}
+use Rattle.std.specs.List.{flat_map, zip}
+use Rattle.std.specs.Fmt.{decimal, digits, padded_integral, format_spec}
+use Rattle.elf_object.specs.Lent.{symbol_name}
+use Rattle.sequence_match.specs.declared.places.Site.{Site}
+use Rattle.relax_sites.specs.declared.choices.Choice.{Choice}
+use Rattle.site_text.specs.Names.{choice_name, form_name}
+
+-- a number as 16 hexadecimal digits
+abbrev pub hex16 : ℕ → List ℕ
+hex16 n = padded_integral (format_spec 32 0 4 16 (2 ^ 64 - 1)) false [] (digits 16 false n)
+
+-- a name as it is shown: `-` for an empty one
+abbrev pub shown_name : List ℕ → List ℕ
+shown_name [] = codes "-"
+shown_name (c ∷ cs) = c ∷ cs
+
+-- where a site lies in its object: the section, the offset there
+unfoldable pub site_place : Site → List ℕ
+site_place site = codes " " ++ decimal site.section ++ codes " " ++ hex16 site.start
+
+-- what a site is, and what stands in its place
+unfoldable pub site_choice : Site → Choice → List ℕ
+site_choice site choice = codes " " ++ form_name site.form ++ codes " " ++ choice_name choice ++ codes " "
+
+-- the line of a site in an object of this name and these bytes: the name, where the site lies, what it is, its symbol
+unfoldable pub site_line : List ℕ → List ℕ → Site → Choice → List ℕ
+site_line name object site choice =
+    name ++ site_place site ++ site_choice site choice ++ shown_name (symbol_name object site.symbol) ++ codes "\n"
+
+-- the lines of the sites of an object, each with its choice
+abbrev pub site_lines : List ℕ → List ℕ → List Site → List Choice → List ℕ
+site_lines name object sites choices = flat_map (λ site. site_line name object site.0 site.1) (zip sites choices)

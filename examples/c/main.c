@@ -1,0 +1,4 @@
+/* A program of no variables, for images that are modules. */
+void nothing(void)
+{
+}
