@@ -60,18 +60,29 @@ fn all_sites(alloc: Global, objects: &[Object]) -> Result<Vec<Vec<Site>>, Fail>
     Ok(all)
 }
 
-/// Links objects.
-fn answer(
+/// Links objects beside what is loaded with them.
+fn linked<'a>(
     alloc: Global,
     kind: &str,
-    objects: &[Object],
+    objects: &[Object<'a>],
+    startup: &[Exports<'a>; 1],
 ) -> Result<Result<Linked, LinkFault>, Fail> {
-    let module = files_of(alloc, STARTUP)?;
-    let module = read(alloc, module.as_slice())?;
-    let startup: [Exports; 1] = [exports(alloc, module.as_slice())?];
     let sites = all_sites(alloc, objects)?;
     let (kind, relax) = kind_of(kind);
-    Ok(link(alloc, objects, sites.as_slice(), kind, &startup, relax))
+    Ok(link(alloc, objects, sites.as_slice(), kind, startup, relax))
+}
+
+/// Links the objects of files beside a module of objects.
+fn answer<'a>(
+    alloc: Global,
+    kind: &str,
+    files: &'a [Vec<u8>],
+    module: &'a [Vec<u8>],
+) -> Result<Result<Linked, LinkFault>, Fail> {
+    let module = read(alloc, module)?;
+    let startup = [exports(alloc, module.as_slice())?];
+    let objects = read(alloc, files)?;
+    linked(alloc, kind, objects.as_slice(), &startup)
 }
 
 /// Adds an image as text, and which sequences stand in the place of those of each object.
@@ -106,9 +117,9 @@ fn push_bytes(alloc: Global, text: &mut String, linked: &Linked) -> Result<(), A
 /// What is told of a link.
 fn told(alloc: Global, kind: &str, objects: &str) -> Result<String, Fail> {
     let files = files_of(alloc, objects)?;
-    let objects = read(alloc, files.as_slice())?;
+    let module = files_of(alloc, STARTUP)?;
     let mut text = String::new(alloc);
-    match answer(alloc, kind, objects.as_slice())? {
+    match answer(alloc, kind, files.as_slice(), module.as_slice())? {
         Ok(linked) => {
             push_image(alloc, &mut text, &linked)?;
             text = text.replace(alloc, "0000000000", "")?;

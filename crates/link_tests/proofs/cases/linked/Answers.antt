@@ -1,0 +1,5 @@
+use Rattle.std.proofs.Common.{◌≡◌, ◌<◌, ℕ, [], length, map, slice_index_or}
+use Rattle.link_tests.proofs.cases.linked.Goals as goal
+
+pub link-requires-clause-sites : goal.link-requires-clause-sites
+link-requires-clause-sites c o below = rw c.as_slice.ensures.value (c.in_ok-sites.ensures.sites o below)
