@@ -1,4 +1,3 @@
-use Rattle.std.proofs.Common.{◌≡◌, ◌<◌, ℕ, [], length, map, slice_index_or}
 use Rattle.link_tests.proofs.cases.linked.Goals as goal
 
 pub link-requires-clause-sites : goal.link-requires-clause-sites
