@@ -1,0 +1,174 @@
+//! Links of objects, and what is told of them.
+
+ghost use Rattle.std.specs.Prelude.{◌≡◌, ◌<◌, ℕ, [], IfOk, length, map, slice_index_or};
+ghost use Rattle.sequence_match.specs.Faults.{AreSites};
+ghost use Rattle.tls_symbols.specs.Bindings.{object_at};
+
+use crate::objects::object;
+use elf_object::Object;
+use image_text::push_shown;
+use link_core::{Linked, link};
+use link_faults::{ImageKind, LinkFault};
+use sequence_match::{Site, sites};
+use std::alloc::{AllocError, Global};
+use std::process::Abort;
+use std::test::Fail;
+use tls_symbols::{Exports, exports};
+
+/// What is loaded with each image: y, w and errno.
+const STARTUP: &str = "y=v0 w=v4 errno=v8 v:000000000000000000000000";
+
+/// The kind of image of a word, and whether its sequences may be rewritten.
+fn kind_of(word: &str) -> (ImageKind, bool) {
+    let kind = match word.trim_end_matches("-kept") {
+        "exe" => ImageKind::Exe,
+        "pie" => ImageKind::Pie,
+        "start" => ImageKind::Start,
+        _ => ImageKind::Late,
+    };
+    (kind, !word.ends_with("-kept"))
+}
+
+/// The objects, with a bar between them.
+fn files_of(alloc: Global, objects: &str) -> Result<Vec<Vec<u8>>, Fail> {
+    let mut files = Vec::new(alloc);
+    for words in objects.split('|') {
+        files.push(object(alloc, words)?)?;
+    }
+    Ok(files)
+}
+
+fn read<'a>(alloc: Global, files: &'a [Vec<u8>]) -> Result<Vec<Object<'a>>, Fail> {
+    let mut objects = Vec::new(alloc);
+    for file in files {
+        objects.push(Object::read(alloc, file.as_slice())?)?;
+    }
+    Ok(objects)
+}
+
+/// The sequences of each object.
+fn all_sites(alloc: Global, objects: &[Object]) -> Result<Vec<Vec<Site>>, Fail>
+    ensures len { IfOk result (λ all. length all.items ≡ length objects.now) }
+    ensures sites { IfOk result (λ all. (o : ℕ) → o < length objects.now
+        → AreSites (object_at objects.now o) (slice_index_or (map (λ own. own.items) all.items) o [])) }
+{
+    let mut all = Vec::new(alloc);
+    for object in objects {
+        let own = sites(alloc, object)?;
+        all.push(own)?;
+    }
+    Ok(all)
+}
+
+/// Links objects beside what is loaded with them.
+fn linked<'a>(
+    alloc: Global,
+    kind: &str,
+    objects: &[Object<'a>],
+    startup: &[Exports<'a>; 1],
+) -> Result<Result<Linked, LinkFault>, Fail> {
+    let sites = all_sites(alloc, objects)?;
+    let (kind, relax) = kind_of(kind);
+    Ok(link(alloc, objects, sites.as_slice(), kind, startup, relax))
+}
+
+/// Links the objects of files beside a module of objects.
+fn answer<'a>(
+    alloc: Global,
+    kind: &str,
+    files: &'a [Vec<u8>],
+    module: &'a [Vec<u8>],
+) -> Result<Result<Linked, LinkFault>, Fail> {
+    let module = read(alloc, module)?;
+    let startup = [exports(alloc, module.as_slice())?];
+    let objects = read(alloc, files)?;
+    linked(alloc, kind, objects.as_slice(), &startup)
+}
+
+/// Adds an image as text, and which sequences stand in the place of those of each object.
+fn push_image(alloc: Global, text: &mut String, linked: &Linked) -> Result<(), AllocError> {
+    let mut shown = Vec::new(alloc);
+    push_shown(&linked.image, &mut shown)?;
+    for byte in &shown {
+        text.push(char::from(*byte))?;
+    }
+    text.push_str("choices")?;
+    for own in &linked.choices {
+        text.push_str(" /")?;
+        for choice in own {
+            write!(text, " {choice:?}")?;
+        }
+    }
+    Ok(())
+}
+
+/// Adds the bytes of each part but the last as digits, with a semicolon behind them.
+fn push_bytes(alloc: Global, text: &mut String, linked: &Linked) -> Result<(), AllocError> {
+    text.push_str(" # ")?;
+    for next in 1..linked.image.part_count() {
+        if let Some(part) = linked.image.part(next.saturating_sub(1)) {
+            text.push_str(hex::encode(alloc, part.bytes)?.as_str())?;
+            text.push(';')?;
+        }
+    }
+    Ok(())
+}
+
+/// What is told of a link.
+fn told(alloc: Global, kind: &str, objects: &str) -> Result<String, Fail> {
+    let files = files_of(alloc, objects)?;
+    let module = files_of(alloc, STARTUP)?;
+    let mut text = String::new(alloc);
+    match answer(alloc, kind, files.as_slice(), module.as_slice())? {
+        Ok(linked) => {
+            push_image(alloc, &mut text, &linked)?;
+            text = text.replace(alloc, "0000000000", "")?;
+            push_bytes(alloc, &mut text, &linked)?;
+        }
+        Err(fault) => write!(text, "{fault}")?,
+    }
+    Ok(squeezed(alloc, text.as_str())?)
+}
+
+/// The words of a text with single spaces between them, without lines of comments.
+fn squeezed(alloc: Global, text: &str) -> Result<String, AllocError> {
+    let mut squeezed = String::new(alloc);
+    for line in text.lines() {
+        if !line.starts_with("//") {
+            for word in line.split_whitespace() {
+                squeezed.push_str(word)?;
+                squeezed.push(' ')?;
+            }
+        }
+    }
+    squeezed.pop();
+    Ok(squeezed)
+}
+
+/// Compares what is told in each kind of image. Among bytes a dash stands for eight zeros.
+fn check(rt: &impl Abort, alloc: Global, case: &str) -> Result<(), Fail> {
+    let (given, want) = case.split_once(" -> ").ok_or("an answer")?;
+    let (kinds, objects) = given.split_once(' ').ok_or("objects")?;
+    let (text, digits) = want.split_once(" # ").unwrap_or((want, ""));
+    let digits = digits.replace(alloc, " ", "")?;
+    let digits = digits.replace(alloc, "-", "0000000000000000")?;
+    for kind in kinds.split('/') {
+        let told = told(alloc, kind, objects)?;
+        let (shown, held) = told.split_once(" # ").unwrap_or((told.as_str(), ""));
+        let links = text == "links" && shown.starts_with("kind");
+        let holds = digits.is_empty() || held == digits.as_str();
+        assert!(rt; holds && (links || shown == text), "{told}: {case}");
+    }
+    Ok(())
+}
+
+/// Compares what is told of each case. A star begins a case.
+pub(crate) fn check_all(rt: &impl Abort, alloc: Global, cases: &str) -> Result<(), Fail> {
+    for case in cases.split('*') {
+        let case = squeezed(alloc, case)?;
+        if !case.is_empty() {
+            check(rt, alloc, case.as_str())?;
+        }
+    }
+    Ok(())
+}

@@ -1,0 +1,22 @@
+//! Tests of linking: small objects in, the image as text out.
+//!
+//! What a clause says is proved in `link_core`. Here stands whether the definitions say what the standard means: faults
+//! and images that a reader works out by hand, with the arithmetic of each field.
+//!
+//! A case is kinds of image, objects of words (`objects`), and what is told: a fault, or the image as `image_text`
+//! shows it, with six digits of each place and with the choices for each object's sequences; and behind a `#` the bytes
+//! of its parts but for the last, the dynamic tables. For example, a program whose function f reaches its variable x:
+//!
+//! ```text
+//! * exe f=c0 x=v8 v:0000000000000000 v:2a000000 mov:x c:c3 -> links # 48c7c0 f8ffffff c3; 0000000000000000 2a000000;
+//! ```
+#![tactic(auto)]
+
+#[cfg(test)]
+mod cases;
+#[cfg(test)]
+mod faults;
+#[cfg(test)]
+mod images;
+#[cfg(test)]
+mod objects;
