@@ -1,7 +1,6 @@
 -- What all linked images make of one of them.
-use Rattle.std.proofs.Common.{◌≡◌, ◌∙◌, ◌+◌, ◌-◌, ◌<◌, ◌≤◌, ◌^◌, ℕ, zero, suc, Bool, true, false, cond, List, [], ◌∷◌, get_or, length, map, Option, Some, None, Err, inl, inr, refl, sym, ap, subst, arith, lit<}
-use Rattle.std.specs.Prelude.{filter, slice_get}
-use Rattle.std.specs.List.{All}
+use Rattle.std.proofs.Common.{◌≡◌, ◌∙◌, ◌+◌, ◌-◌, ◌<◌, ◌≤◌, ◌^◌, ℕ, zero, suc, Bool, true, false, cond, List, [], ◌∷◌, get_or, length, map, Err, inl, inr, refl, sym, ap, subst, arith}
+use Rattle.std.specs.Prelude.{filter}
 use Rattle.std.specs.Option.{option_map_or}
 use Rattle.std.proofs.lemmas.List.{length-map}
 use Rattle.std.proofs.lemmas.List.Elements.{All-weaker}
@@ -18,7 +17,7 @@ use Rattle.job_link.specs.Refusals.{IsImageRefusal}
 use Rattle.job_text.specs.declared.images.Image.{Image}
 use Rattle.job_text.specs.Jobs.{JobParts}
 use Rattle.link_core.specs.Faults.{IsGiven, Links}
-use Rattle.link_core.specs.Images.{LinkedImage, choices_from, choices_in, image_of, linked_of}
+use Rattle.link_core.specs.Images.{LinkedImage, choices_from, image_of, linked_of}
 use Rattle.link_core.specs.Linking.{Linking, choice}
 use Rattle.sequence_match.specs.declared.places.Site.{Site}
 use Rattle.tlsld.specs.declared.fault.CommandFault.{CommandFault}
@@ -32,7 +31,7 @@ use Rattle.image_writer.specs.Written.{written}
 use Rattle.tls_symbols.specs.Bindings.{exported_names}
 use Rattle.tlsld.specs.Wishes.{CanMake, image_lines, objects_of, relax_of, wished_bytes}
 use Rattle.tlsld.proofs.Places.{both_at, mapped_at, some_at}
-use Rattle.tlsld.proofs.Stages.{Text, items}
+use Rattle.tlsld.proofs.Stages.{items}
 
 -- ** choices
 

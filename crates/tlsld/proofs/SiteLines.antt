@@ -1,5 +1,5 @@
 -- The lines of sites, object by object.
-use Rattle.std.proofs.Common.{◌≡◌, ◌∙◌, ◌+◌, ◌-◌, ◌<◌, ◌≤◌, ℕ, List, [], ◌∷◌, ◌++◌, length, refl, sym, ap, arith}
+use Rattle.std.proofs.Common.{◌≡◌, ◌∙◌, ◌+◌, ◌-◌, ◌<◌, ◌≤◌, ℕ, List, [], ◌++◌, length, refl, ap, arith}
 use Rattle.std.specs.List.{flat_map, range_with_len}
 use Rattle.relax_sites.specs.declared.choices.Choice.{Choice}
 use Rattle.sequence_match.specs.declared.places.Site.{Site}

@@ -1,12 +1,11 @@
 -- The steps of `link` and `sites`, joined.
-use Rattle.std.proofs.Common.{◌≡◌, ◌∙◌, ◌+◌, ◌-◌, ◌<◌, ◌≤◌, ℕ, zero, suc, Bool, List, length, Vec, Global, Option, Some, None, IfSome, IfOk, Result, Ok, Err, ◌⊎◌, inl, inr, refl, sym, ap, subst, arith, lit≤}
+use Rattle.std.proofs.Common.{◌≡◌, ◌∙◌, ◌+◌, ◌-◌, ◌≤◌, ℕ, Bool, List, length, Vec, Global, Option, Some, None, IfSome, IfOk, Result, Ok, Err, inl, inr, refl, sym, ap, subst, arith, lit≤}
 use Rattle.std.specs.Prelude.{IfErr}
 use Rattle.std.specs.List.{Contains}
 use Rattle.image_writer.specs.Written.{written}
-use Rattle.job_link.specs.Given.{Given, AreGiven}
-use Rattle.job_link.specs.Linked.{AllLink, link_in}
+use Rattle.job_link.specs.Linked.{link_in}
 use Rattle.job_link.specs.Mentions.{AreFilesOf, Fetched, bytes_at, bytes_in, object_names}
-use Rattle.job_text.specs.Jobs.{JobParts, job_of}
+use Rattle.job_text.specs.Jobs.{JobParts}
 use Rattle.link_core.specs.Images.{image_of}
 use Rattle.link_core.specs.Linking.{Linking}
 use Rattle.ports.specs.Files.{Files, file_at, with_file}
@@ -18,7 +17,7 @@ use Rattle.tlsld.specs.declared.wish.Wish.{Wish}
 use Rattle.tlsld.specs.declared.wish.Wish.TheVariants.{File, Sites}
 use Rattle.tlsld.specs.Faults.{IsFetchFault}
 use Rattle.job_text.specs.Images.{image_number}
-use Rattle.tlsld.specs.Links.{Output, BytesSay, ImageSays, ImagesSay, IsLinked, IsRead, IsUnlinked, IsUnread, Leaves, ObjectsSay, linked_text}
+use Rattle.tlsld.specs.Links.{Output, BytesSay, ImageSays, ImagesSay, ObjectsSay, linked_text}
 use Rattle.tlsld.specs.LinkSteps.{IsFinished, LeavesBy, MayPut, made_of, output_of}
 use Rattle.tlsld.specs.Says.{HasFile}
 use Rattle.tlsld.specs.Steps.{Comes, refusal_code, refusal_text}

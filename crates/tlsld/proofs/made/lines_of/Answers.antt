@@ -1,7 +1,7 @@
-use Rattle.std.proofs.Common.{◌≡◌, ◌∙◌, ◌+◌, ◌++◌, ◌<◌, List, [], length, get_or, sym, ap, subst, append_assoc, arith}
+use Rattle.std.proofs.Common.{◌∙◌, ◌+◌, ◌++◌, ◌<◌, [], length, get_or, sym, ap, subst, append_assoc, arith}
 use Rattle.dynamic_symbols.specs.Walks.{HaveSymbols}
 use Rattle.tlsld.proofs.Places.{at_any, row_is}
-use Rattle.tlsld.proofs.SiteLines.{all_left, left, one_less, none_left, same_lines}
+use Rattle.tlsld.proofs.SiteLines.{all_left, left, one_less, same_lines}
 use Rattle.tlsld.proofs.made.lines_of.Goals as goal
 
 pub loop-number-init : goal.loop-number-init
