@@ -5,7 +5,7 @@ mod Making
 mod Membership
 mod Mentioned
 mod Places
-mod Refused
+mod Running
 mod Shown
 mod SiteLines
 mod Stages

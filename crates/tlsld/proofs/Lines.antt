@@ -1,5 +1,5 @@
 -- What is said of a small job's line.
-use Rattle.std.proofs.Common.{◌≡◌, ◌<◌, ◌^◌, ◌∙◌, ◌&&◌, ℕ, zero, suc, Bool, true, false, List, [], ◌∷◌, All, map, map-id, Option, Some, None, Result, Ok, Err, IfOk, refl, sym, ap, subst, arith}
+use Rattle.std.proofs.Common.{◌≡◌, ◌<◌, ◌^◌, ◌∙◌, ◌&&◌, ℕ, zero, suc, Bool, true, false, List, [], ◌∷◌, All, map, map-id, Option, Some, None, Result, Ok, Err, IfOk, refl, sym, ap, subst, inr, arith}
 use Rattle.std.specs.Prelude.{IfErr, nat_le, slice_index_or}
 use Rattle.job_meaning.specs.declared.values.Byte.{Byte}
 use Rattle.elf_object.specs.Faults.{IsObject}
@@ -26,7 +26,7 @@ use Rattle.elf_object.specs.Parts.{symbol_count}
 use Rattle.tls_layout.specs.Places.{room, IsLawful}
 use Rattle.tls_layout.specs.Sections.{Layout, layout_of}
 use Rattle.tlsld.specs.declared.small_run.refusal.ObjectRefusal.{ObjectRefusal}
-use Rattle.tlsld.specs.declared.small_run.refusal.ObjectRefusal.TheVariants.{OutOfMemory, Fault, NotYet}
+use Rattle.tlsld.specs.declared.small_run.refusal.ObjectRefusal.TheVariants.{OutOfMemory, NotYet}
 use Rattle.tlsld.specs.Narrow.{call_line, fits, is_narrow, layout_one, image_one, entry_one, printed, meant}
 use Rattle.tlsld.specs.Runs.{IsLine, IsCalled, IsPlainObject, HasRun, IsRefused, NotPlaced, Comes}
 
@@ -146,5 +146,4 @@ module _ (b : List ℕ) (p : Layout) (is : p ≡ layout_of Exe (b ∷ [])) where
 pub not_placed : (b : List ℕ) (job : Small) (refusal : ObjectRefusal) → IsPlainObject b → is_small_object b ≡ true → NotPlaced (layout_of Exe (b ∷ [])) refusal → Comes b job (Err refusal)
 unfolding is_narrow layout_one
 not_placed b job OutOfMemory plain small h = tt
-not_placed b job (Fault section entry kind) plain small h = absurd h
-not_placed b job NotYet plain small h = (plain, rw small h)
+not_placed b job NotYet plain small h = inr (rw small h)

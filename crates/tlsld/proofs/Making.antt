@@ -31,7 +31,6 @@ use Rattle.image_writer.specs.Written.{written}
 use Rattle.tls_symbols.specs.Bindings.{exported_names}
 use Rattle.tlsld.specs.Wishes.{CanMake, image_lines, objects_of, relax_of, wished_bytes}
 use Rattle.tlsld.proofs.Places.{both_at, mapped_at, some_at}
-use Rattle.tlsld.proofs.Stages.{items}
 
 -- ** choices
 
@@ -134,12 +133,12 @@ names_image job images relax bytes are (refusal.At number kind object section en
     let within = slice_get_within images number is.image is.there in
     omega (arith, count, within)
 
-pub unlinked_says : (wish : Wish) (O : Output) (job : JobParts) (place : ℕ) (images : List Given) (relax : Bool) (r : ImageRefusal) (f : CommandFault) → relax ≡ relax_of wish
-    → IsImageRefusal images relax r → IsImageRefusalOf job r f → Comes items (ImagesSay (relax_of wish) O job place images) (Err f)
-unlinked_says wish O job place images relax refusal.OutOfMemory f e is of = subst (λ v. Comes items (ImagesSay (relax_of wish) O job place images) (Err v)) (sym of) tt
-unlinked_says wish O job place images relax (refusal.At number kind object section entry) fault.Store e is of = tt
-unlinked_says wish O job place images relax (refusal.At number kind object section entry) fault.OutOfMemory e is of = tt
-unlinked_says wish O job place images relax (refusal.At number kind object section entry) (fault.Refused told) e is of =
+pub unlinked_says : {T : Type 0} (text_of : T → List ℕ) (own : Bool) (O : Output) (job : JobParts) (place : ℕ) (images : List Given) (relax : Bool) (r : ImageRefusal) (f : CommandFault) → relax ≡ own
+    → IsImageRefusal images relax r → IsImageRefusalOf job r f → Comes text_of (ImagesSay own O job place images) (Err f)
+unlinked_says text_of own O job place images relax refusal.OutOfMemory f e is of = subst (λ v. Comes text_of (ImagesSay own O job place images) (Err v)) (sym of) tt
+unlinked_says text_of own O job place images relax (refusal.At number kind object section entry) fault.Store e is of = tt
+unlinked_says text_of own O job place images relax (refusal.At number kind object section entry) fault.OutOfMemory e is of = tt
+unlinked_says text_of own O job place images relax (refusal.At number kind object section entry) (fault.Refused told) e is of =
     inr (record {
       number = number;
       kind = kind;

@@ -154,10 +154,10 @@ put_says wish (Some fs) after image job place files are every made (Err fault.Ou
 put_says wish (Some fs) after image job place files are every made (Err (fault.Refused refusal)) says ok err = absurd err
 
 -- where nothing was made
-some_code : (refusal : InputRefusal) → 5 ≤ refusal_code refusal
+pub some_code : (refusal : InputRefusal) → 5 ≤ refusal_code refusal
 some_code (Job line kind) = lit≤ tt
 some_code JobNotYet = lit≤ tt
-some_code (Object name reason) = lit≤ tt
+some_code (Object name section entry kind) = lit≤ tt
 some_code (Link image kind object section entry) = lit≤ tt
 some_code (Image offset kind) = lit≤ tt
 
@@ -165,7 +165,7 @@ never_made : (wish : Wish) (job : JobParts) (place : ℕ) (l : Linking) (refusal
 never_made (File out relax) job place l refusal is = omega (arith, is.0, some_code refusal)
 never_made Sites job place l refusal is = omega (arith, is.0, some_code refusal)
 
-same_said : (relax : Bool) (O Q : Output) (bytes : List ℕ → List ℕ) (job : JobParts) (place status : ℕ) (text : List ℕ) → ((l : Linking) → O job place l status text → Q job place l status text)
+pub same_said : (relax : Bool) (O Q : Output) (bytes : List ℕ → List ℕ) (job : JobParts) (place status : ℕ) (text : List ℕ) → ((l : Linking) → O job place l status text → Q job place l status text)
     → BytesSay relax O bytes job place status text → BytesSay relax Q bytes job place status text
 same_said relax O Q bytes job place status text more (inr unread) = inr unread
 same_said relax O Q bytes job place status text more (inl read) = inl (record { images = read.images; given = read.given; says = of_images read.says })

@@ -7,6 +7,7 @@ pub mod Links
 pub mod Listings
 pub mod Narrow
 pub mod Replies
+pub mod RunJobs
 pub mod Runs
 pub mod Says
 pub mod SmallJobs

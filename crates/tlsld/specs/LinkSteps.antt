@@ -1,4 +1,4 @@
--- The steps of `link` and `sites`: what each makes, and what its refusals say.
+-- The steps of `link`, `sites` and `run`: what each makes, and what its refusals say.
 use Rattle.std.specs.Prelude.{◌≡◌, ◌<◌, ◌⊎◌, ℕ, List, Option, Some, None, length}
 use Rattle.job_link.specs.declared.linked_images.ImageRefusal.{ImageRefusal}
 use Rattle.job_link.specs.declared.linked_images.ImageRefusal.TheVariants as unlinked
@@ -29,6 +29,10 @@ output_of fs after image Sites job number l status text = SitesOutput job number
 abbrev pub made_of : Wish → Output
 made_of (File out relax) job number l status text = Is 0 (written (image_of l)) status text
 made_of Sites job number l status text = SitesOutput job number l status text
+
+-- nothing is made of it
+abbrev pub NoOutput : Output
+NoOutput job number l status text = status ≡ 0
 
 -- what a command of an image says
 abbrev pub WishSays : Wish → Files → Option Files → List ℕ → List ℕ → ℕ → List ℕ → Type 0

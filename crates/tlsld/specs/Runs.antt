@@ -1,10 +1,6 @@
 -- What a small job comes to over the bytes of its object.
 use Rattle.std.specs.Prelude.{◌≡◌, ◌⊎◌, ℕ, true, false, List, [], ◌∷◌, map, Option, Some, None, Result, Ok, Err}
-use Rattle.object_faults.specs.declared.fault.FaultKind.{FaultKind}
-use Rattle.object_faults.specs.declared.fault.FaultKind.TheVariants.{WritableData}
-use Rattle.object_faults.specs.declared.fault.ObjectFault.TheVariants.{At, OutOfMemory as NoMemory}
-use Rattle.object_faults.specs.declared.fault.ObjectFault.{ObjectFault}
-use Rattle.elf_object.specs.Faults.{IsObject, IsFault, IsFirstAt}
+use Rattle.elf_object.specs.Faults.{IsObject, IsFirstAt}
 use Rattle.elf_object.specs.Object.{IsWritable}
 use Rattle.job_run.specs.Loading.{machine_loaded, HasBytes}
 use Rattle.module_table.specs.declared.events.Event.{Event}
@@ -14,7 +10,7 @@ use Rattle.job_run.specs.Worlds.{AreClean}
 use Rattle.transcript_text.specs.declared.outcomes.Outcome.{Outcome}
 use Rattle.tlsld.specs.SmallJobs.{Small}
 use Rattle.tlsld.specs.declared.small_run.refusal.ObjectRefusal.{ObjectRefusal}
-use Rattle.tlsld.specs.declared.small_run.refusal.ObjectRefusal.TheVariants.{OutOfMemory, Fault, NotYet}
+use Rattle.tlsld.specs.declared.small_run.refusal.ObjectRefusal.TheVariants.{OutOfMemory, NotYet}
 use Rattle.tlsld.specs.Narrow.{is_narrow, fits, call_line, printed, meant}
 use Rattle.thread_blocks.specs.MachineTurns.{call_said, shown}
 use Rattle.thread_blocks.specs.Turns.{Said}
@@ -35,30 +31,26 @@ pub record HasRun (b : List ℕ) (job : Small) (outcome : Outcome) : Type 0 wher
   pub printed_is : IsLine (printed b job) outcome
   pub meant_is : AreClean (meant b job) → IsLine (meant b job) outcome
 
--- the object has data that programs write, first in this section
-abbrev pub HasData : List ℕ → ℕ → ℕ → FaultKind → Type 0
-HasData b section entry kind =
-    IsObject b × (entry ≡ 0) × (kind ≡ WritableData) × IsFirstAt (IsWritable b) (Some section)
+-- the object has data that programs write
+abbrev pub HasData : List ℕ → Type 0
+HasData b = (section : ℕ) × IsWritable b section
+
+-- the path does not take it
+abbrev pub IsUntaken : List ℕ → Type 0
+IsUntaken b = HasData b ⊎ (is_narrow b ≡ false)
 
 -- why it was refused
 abbrev pub IsRefused : List ℕ → ObjectRefusal → Type 0
 IsRefused b OutOfMemory = Unit {0}
-IsRefused b (Fault section entry kind) = IsFault b (At section entry kind) ⊎ HasData b section entry kind
-IsRefused b NotYet = IsPlainObject b × (is_narrow b ≡ false)
+IsRefused b NotYet = IsUntaken b
 
 abbrev pub Comes : List ℕ → Small → Result Outcome ObjectRefusal → Type 0
 Comes b job (Ok outcome) = HasRun b job outcome
 Comes b job (Err refusal) = IsRefused b refusal
 
--- a fault of the object as a refusal
-abbrev pub refusal_of : ObjectFault → ObjectRefusal
-refusal_of NoMemory = OutOfMemory
-refusal_of (At section entry kind) = Fault section entry kind
-
 -- why there is no placement
 abbrev pub NotPlaced : Layout → ObjectRefusal → Type 0
 NotPlaced p OutOfMemory = Unit {0}
-NotPlaced p (Fault section entry kind) = ⊥
 NotPlaced p NotYet = fits p ≡ false
 
 -- what comes of a call at a place of an image

@@ -1,39 +1,31 @@
 -- The steps of a command: what each answers over the files that the store tells, and which names were asked for.
 use Rattle.std.specs.Prelude.{◌≡◌, ℕ, List, [], ◌∷◌, ◌++◌, take, Option, Some, None, string_bytes, Result, Ok, Err}
 use Rattle.std.specs.Option.{option_map}
+use Rattle.job_link.specs.Mentions.{object_names}
 use Rattle.job_text.specs.declared.fault.JobFault.{JobFault}
 use Rattle.job_text.specs.declared.fault.JobFault.TheVariants as job_fault
 use Rattle.job_text.specs.Jobs.{JobParts, job_of}
-use Rattle.tlsld.specs.SmallJobs.{Small, small_job}
 use Rattle.ports.specs.Files.{Files, file_at}
-use Rattle.tlsld.specs.declared.small_run.refusal.ObjectRefusal.{ObjectRefusal as Why}
-use Rattle.tlsld.specs.declared.small_run.refusal.ObjectRefusal.TheVariants as why
-use Rattle.tlsld.specs.Says.{job_fault_text, job_not_yet, fault_text, not_yet_text}
+use Rattle.tlsld.specs.Says.{job_fault_text, job_not_yet, fault_text}
 use Rattle.tlsld.specs.Links.{link_line}
 use Rattle.tlsld.specs.Listings.{image_fault_text}
 use Rattle.tlsld.specs.declared.fault.CommandFault.{CommandFault}
 use Rattle.tlsld.specs.declared.fault.CommandFault.TheVariants as fault
 use Rattle.tlsld.specs.declared.fault.InputRefusal.{InputRefusal}
 use Rattle.tlsld.specs.declared.fault.InputRefusal.TheVariants.{Job, JobNotYet, Object, Link, Image}
-use Rattle.tlsld.specs.declared.fault.Reason.{Reason}
-use Rattle.tlsld.specs.declared.fault.Reason.TheVariants.{Fault, NotYet}
 
 -- the status and the text of a refusal
 abbrev pub refusal_code : InputRefusal → ℕ
 refusal_code (Job line kind) = 5
 refusal_code JobNotYet = 5
-refusal_code (Object name reason) = 6
+refusal_code (Object name section entry kind) = 6
 refusal_code (Link image kind object section entry) = 7
 refusal_code (Image offset kind) = 8
-
-abbrev pub object_text : List ℕ → Reason → List ℕ
-object_text name (Fault section entry kind) = fault_text name section entry kind
-object_text name NotYet = not_yet_text name
 
 abbrev pub refusal_text : InputRefusal → List ℕ
 refusal_text (Job line kind) = job_fault_text line kind
 refusal_text JobNotYet = job_not_yet
-refusal_text (Object name reason) = object_text (string_bytes name) reason
+refusal_text (Object name section entry kind) = fault_text (string_bytes name) section entry kind
 refusal_text (Link image kind object section entry) =
     link_line (string_bytes image) kind (string_bytes object) section entry
 refusal_text (Image offset kind) = image_fault_text offset kind
@@ -62,20 +54,16 @@ Asks names old new (Err fault.Store) = AsksFront names old new
 Asks names old new (Err fault.OutOfMemory) = AsksFront names old new
 Asks names old new (Err (fault.Refused refusal)) = new ≡ with_names names old
 
--- the object of a small job
-abbrev pub small_names : Option Small → List (List ℕ)
-small_names None = []
-small_names (Some small) = small.object ∷ []
-
+-- the objects of all images of the job
 abbrev pub job_names : Result JobParts JobFault → List (List ℕ)
-job_names (Ok job) = small_names (small_job job)
+job_names (Ok job) = object_names job
 job_names (Err fault) = []
 
 abbrev pub file_names : Option (List ℕ) → List (List ℕ)
 file_names None = []
 file_names (Some bytes) = job_names (job_of bytes)
 
--- the names that `run JOB` asks for over these files: the job, and then its object
+-- the names that `run JOB` asks for over these files: the job, and then its objects
 abbrev pub run_names : Files → List ℕ → List (List ℕ)
 run_names fs name = name ∷ file_names (file_at fs name)
 
@@ -86,13 +74,3 @@ IsNoJob (Err job_fault.OutOfMemory) f = f ≡ fault.OutOfMemory
 IsNoJob (Err (job_fault.At line kind)) fault.Store = ⊥
 IsNoJob (Err (job_fault.At line kind)) fault.OutOfMemory = Unit {0}
 IsNoJob (Err (job_fault.At line kind)) (fault.Refused refusal) = refusal ≡ Job line kind
-
--- a refusal of an object, as the command has it
-abbrev pub IsRefusalOf : List ℕ → Why → CommandFault → Type 0
-IsRefusalOf name why fault.Store = ⊥
-IsRefusalOf name why fault.OutOfMemory = Unit {0}
-IsRefusalOf name why.OutOfMemory (fault.Refused refusal) = ⊥
-IsRefusalOf name (why.Fault section entry kind) (fault.Refused refusal) =
-    (refusal_code refusal ≡ 6) × (refusal_text refusal ≡ fault_text name section entry kind)
-IsRefusalOf name why.NotYet (fault.Refused refusal) =
-    (refusal_code refusal ≡ 6) × (refusal_text refusal ≡ not_yet_text name)

@@ -3,7 +3,8 @@ use Rattle.std.specs.Prelude.{◌≡◌, ℕ, List, [], ◌∷◌, Option}
 use Rattle.command_line.specs.declared.tasks.Task.{Task}
 use Rattle.command_line.specs.declared.tasks.Task.TheVariants.{Run, Link, Sites, Show}
 use Rattle.ports.specs.Files.{Files, file_at}
-use Rattle.tlsld.specs.Says.{HasFile, RunSays}
+use Rattle.tlsld.specs.Says.{HasFile}
+use Rattle.tlsld.specs.RunJobs.{RunSays}
 use Rattle.tlsld.specs.Links.{LinkSays, SitesSays, Leaves, image_names}
 use Rattle.tlsld.specs.Listings.{ListingSays}
 use Rattle.tlsld.specs.Steps.{run_names}
@@ -14,7 +15,7 @@ ShowSays fs name status text = HasFile (file_at fs name) (λ b. ListingSays b st
 
 -- what a command says over these files, after which the store's files are so
 abbrev pub TaskSays : Files → Option Files → Task → ℕ → List ℕ → Type 0
-TaskSays fs after (Run job no_relax) status text = RunSays fs job status text
+TaskSays fs after (Run job no_relax) status text = RunSays fs job no_relax status text
 TaskSays fs after (Link job image out no_relax) status text = LinkSays fs after job image out no_relax status text
 TaskSays fs after (Sites job image) status text = SitesSays fs job image status text
 TaskSays fs after (Show file) status text = ShowSays fs file status text

@@ -26,12 +26,14 @@ pub enum InputRefusal {
         line: u64,
         kind: JobFaultKind,
     },
-    /// The path does not take this job yet.
+    /// The path does not take this job, or its object, yet.
     JobNotYet,
     /// The object of this name.
     Object {
         name: String,
-        reason: Reason,
+        section: u64,
+        entry: u64,
+        kind: FaultKind,
     },
     /// The image of this name does not link; the object is `-` where the fault stands at none.
     Link {
@@ -46,18 +48,6 @@ pub enum InputRefusal {
         offset: u64,
         kind: image_file::FaultKind,
     },
-}
-
-/// Why an object is refused.
-#[derive(Clone, Copy)]
-pub enum Reason {
-    Fault {
-        section: u64,
-        entry: u64,
-        kind: FaultKind,
-    },
-    /// It has no fault, but the path does not take it yet.
-    NotYet,
 }
 
 impl From<FetchFault> for CommandFault {

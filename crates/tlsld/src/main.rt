@@ -11,19 +11,19 @@
 //! A wrong byte there gives one thread another thread's data, and no test of the program shows it at once. So what
 //! this program says of its input is a contract: the clauses of `tlsld` and `tlsld_plain`, in `top`.
 //!
-//! A command is read from top to bottom in `command`. For `run` the job is fetched and read, then its object, then the
-//! object is linked, then a thread runs the call, then the transcript is written; for `show` the file is fetched, read
-//! as an image, and what it says is written. `link` and `sites` are one path (`links`): the job is fetched and read
-//! (`jobs`), the image must be one of its images, the objects of all its images are fetched and read, all images are
-//! linked, and only then is anything made of the one that is asked for (`made`): its file, which is put into the store
-//! whole, or the lines of its sites.
+//! A command is read from top to bottom in `command`. For `show` the file is fetched, read as an image, and what it
+//! says is written. The other three are about a job, and refuse it for the same reasons, in the same order: the job is
+//! fetched and read (`jobs`), the objects of all its images are fetched and read, and all images are linked. Only then
+//! does a command go its own way. `link` and `sites` (`links`) name an image, which must be one of the job's before any
+//! object is fetched, and make something of it (`made`): its file, which is put into the store whole, or the lines of
+//! its sites. `run` (`runs`) calls what the job says in a thread, and writes the transcript.
 //!
 //!     link a.job app app.elf      linked app 12417          and the store's file app.elf has the image's 12,417 bytes
 //!     sites a.job app             main.o 1 0000000000000000 gd gd-le x
 //!
 //! Each step may end the command; what it ends with is a `CommandFault`, and what is said of it a `Reply`, which
-//! reaches the sink in one piece (`reply`). Which jobs and objects `run` takes is said by `not_yet`; `small_run` links
-//! the object and runs the call.
+//! reaches the sink in one piece (`reply`). Which of the jobs that link `run` takes so far is said by `not_yet`;
+//! `small_run` links the object and runs the call.
 //!
 //! Only `link` changes the store's files, and only by one put, of whole bytes, when all else is done: a command that is
 //! refused leaves them as they were, and one that says so has put all that it says.
@@ -38,6 +38,7 @@ mod made;
 mod not_yet;
 mod refusal;
 mod reply;
+mod runs;
 mod small_run;
 mod status;
 #[cfg(test)]

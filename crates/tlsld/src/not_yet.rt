@@ -25,14 +25,15 @@
 //! - The sections that linking keeps have at most 2^19 relocations, and `local_exec` takes each: an `R_X86_64_TPOFF32`
 //!   of the object's own GLOBAL variable, with an addend of at most 2^20 either way (psABI AMD64, "Relocation
 //!   Types").
+//! - It has no data that programs write, a TLS segment of at most 2^20 bytes, and sections that span at most 2^24.
 //!
 //! An example: an object whose one field stands in the instruction `64 8b 04 25 00 00 00 00`, `mov %fs:x@tpoff, %eax`,
-//! is taken, if it defines `x`. The same with `x` undefined is not, nor `e8 00 00 00 00`, `call g`, whose relocation
-//! is an `R_X86_64_PLT32`.
+//! is taken, if it defines `x`. One with `e8 00 00 00 00`, `call g`, is not: its relocation is an `R_X86_64_PLT32`.
 //!
-//! An object that is not taken has no fault: faults are `elf_object`'s, and are found first. `specs/SmallJobs` says
-//! which jobs are taken, and `specs/SmallObjects` which objects. Names are compared by a hash index, so that no walk
-//! over symbols is quadratic.
+//! A job that is not taken, or whose object is not, has no fault. Faults of objects, and images that do not link, are
+//! found first, so that they are the answer for any job; what links and is not taken is answered `job 0 NotYet`.
+//! `specs/SmallJobs` says which jobs are taken, `specs/SmallObjects` and `specs/Narrow` which objects. Names are
+//! compared by a hash index, so that no walk over symbols is quadratic.
 mod job;
 mod object;
 

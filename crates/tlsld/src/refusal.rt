@@ -1,13 +1,13 @@
 //! The line that a refusal puts in place of the output.
 ghost use Rattle.std.specs.Prelude.{◌≡◌, IfOk};
-ghost use Rattle.tlsld.specs.Says.{fault_text, job_fault_text, not_yet_text};
+ghost use Rattle.tlsld.specs.Says.{fault_text, job_fault_text};
 ghost use Rattle.tlsld.specs.Links.{link_line};
 ghost use Rattle.tlsld.specs.Listings.{image_fault_text};
-ghost use Rattle.tlsld.specs.Steps.{object_text, refusal_code, refusal_text};
+ghost use Rattle.tlsld.specs.Steps.{refusal_code, refusal_text};
 ghost use Rattle.tlsld.specs.Replies.{IsOfFiles};
 ghost use Rattle.tlsld.specs.Statuses.{code_of};
 
-use crate::fault::{InputRefusal, Reason};
+use crate::fault::InputRefusal;
 use crate::reply::Reply;
 use crate::status::Status;
 use elf_object::FaultKind;
@@ -30,9 +30,14 @@ pub fn reply_of(alloc: Global, refusal: &InputRefusal) -> Result<Reply, AllocErr
             status: Status::Job,
             text: Vec::from_slice(alloc, b"job 0 NotYet\n")?,
         }),
-        InputRefusal::Object { name, reason } => Ok(Reply {
+        InputRefusal::Object {
+            name,
+            section,
+            entry,
+            kind,
+        } => Ok(Reply {
             status: Status::Object,
-            text: object_line(alloc, name.as_str(), *reason)?,
+            text: object_line(alloc, name.as_str(), *section, *entry, *kind)?,
         }),
         InputRefusal::Link {
             image,
@@ -80,20 +85,7 @@ fn link_line(
     Ok(text)
 }
 
-fn object_line(alloc: Global, name: &str, reason: Reason) -> Result<Vec<u8>, AllocError>
-    ensures { IfOk result (λ text. text.items ≡ object_text name.now reason) }
-{
-    match reason {
-        Reason::Fault {
-            section,
-            entry,
-            kind,
-        } => fault_line(alloc, name, section, entry, kind),
-        Reason::NotYet => not_yet_line(alloc, name),
-    }
-}
-
-fn fault_line(
+fn object_line(
     alloc: Global,
     name: &str,
     section: u64,
@@ -113,10 +105,4 @@ fn image_line(
     ensures { IfOk result (λ text. text.items ≡ image_fault_text offset kind) }
 {
     Ok(format!(in alloc; "image {offset} {kind}\n")?.into_bytes())
-}
-
-fn not_yet_line(alloc: Global, name: &str) -> Result<Vec<u8>, AllocError>
-    ensures { IfOk result (λ text. text.items ≡ not_yet_text name.now) }
-{
-    Ok(format!(in alloc; "object {name} section 0 entry 0 NotYet\n")?.into_bytes())
 }

@@ -4,7 +4,7 @@
 //! that answer:
 //!
 //! ```text
-//! bytes   the object is read; the first fault, if it has one, is the answer      elf_object
+//! bytes   the object is read; it has no data that programs write                 elf_object
 //! object  it must be of those that are taken                                     not_yet
 //! places  where its sections go, as an executable                                tls_layout
 //! image   its sections' bytes, with their fields written                         local_exec
@@ -17,10 +17,9 @@
 //! nothing that a linker may choose, it is the meaning's too (`job_run` has the law). So no choice of this linker
 //! shows in a clean line.
 //!
-//! Every refusal has its cause: `Fault` is the object's first fault by the gABI and the psABI, with the number of its
-//! section and entry, or `WritableData` if it has no fault but data that programs write; `NotYet` says that it has
-//! neither and is not taken yet. A name that no function of the image has is no fault of the object: the job runs, and
-//! its line says `Refused(Symbol)`. Only want of memory may come at any time.
+//! The object is one of an image that links, so it has no fault. `NotYet` says that it has data that programs write, or
+//! is too large or of another form than is taken yet. A name that no function of the image has is no refusal: the job
+//! runs, and its line says `Refused(Symbol)`. Only want of memory may come at any time.
 //!
 //! An example: a.o has `f`, which reads the thread-local variable `x`, whose initial image is `2a 00 00 00`.
 //!

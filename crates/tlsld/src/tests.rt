@@ -74,31 +74,46 @@ fn refuses_jobs(rt: HostRuntime) -> Result<(), Fail> {
     let alloc = rt.alloc();
     let object = reader(alloc, 0)?;
     let not_yet = b"job 0 NotYet\n".as_slice();
-    let rows: [(&[u8], &[u8]); 7] = [
-        (b"", b"job 0 NoExe\n"),
+    let rows: [(&[u8], u8, &[u8]); 8] = [
+        (b"", 5, b"job 0 NoExe\n"),
         (
             b"image app exe a.o\n1 call app f 0 0 zz\n",
+            5,
             b"job 2 Number\n",
         ),
         (
             b"#\nimage app exe a.o\nimage app late a.o\n",
+            5,
             b"job 3 Twice\n",
         ),
-        (b"image app exe a.o a.o\n1 call app f 0 0 0\n", not_yet),
-        (b"image app pie a.o\n1 call app f 0 0 0\n", not_yet),
+        // f is symbol 1 of the second object, whose symbols are section 5
+        (
+            b"image app exe a.o a.o\n1 call app f 0 0 0\n",
+            7,
+            b"link app Duplicate a.o section 5 entry 1\n",
+        ),
+        // a module that no line asks for
+        (
+            b"image app exe a.o\nimage plug late a.o\n1 call app f 0 0 0\n",
+            7,
+            b"link plug LocalExecInModule a.o section 2 entry 0\n",
+        ),
+        (b"image app pie a.o\n1 call app f 0 0 0\n", 5, not_yet),
         (
             b"threads 2\nimage app exe a.o\n1 call app f 0 0 0\n",
+            5,
             not_yet,
         ),
         (
             b"image app exe a.o\n1 call app f 0 0 0\n1 call app f 0 0 0\n",
+            5,
             not_yet,
         ),
     ];
-    for (job, text) in rows {
+    for (job, status, text) in rows {
         let store = store_of(alloc, job, object.as_slice())?;
         let (ended, put) = ends(&rt, alloc, &["run", "job"], store, MemorySink::new(alloc))?;
-        assert_eq!(rt; ended, 5, "{text:?}");
+        assert_eq!(rt; ended, status, "{text:?}");
         assert_eq!(rt; put.as_slice(), text);
     }
     Ok(())

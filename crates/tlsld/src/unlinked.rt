@@ -5,7 +5,7 @@ ghost use Rattle.tlsld.specs.Links.{link_line, shown_object};
 ghost use Rattle.tlsld.specs.LinkSteps.{IsImageRefusalOf, IsReadRefusalOf, NamesImage};
 ghost use Rattle.tlsld.specs.Steps.{refusal_code, refusal_text};
 
-use crate::fault::{CommandFault, InputRefusal, Reason};
+use crate::fault::{CommandFault, InputRefusal};
 use job_link::{ImageRefusal, ReadRefusal};
 use job_text::{Image, Job, Name};
 use link_faults::LinkFaultKind;
@@ -26,11 +26,9 @@ pub fn unread(alloc: Global, refusal: ReadRefusal) -> CommandFault
         } => match String::from_str(alloc, name) {
             Ok(name) => CommandFault::Refused(InputRefusal::Object {
                 name,
-                reason: Reason::Fault {
-                    section,
-                    entry,
-                    kind,
-                },
+                section,
+                entry,
+                kind,
             }),
             Err(AllocError) => CommandFault::OutOfMemory,
         },

@@ -3,6 +3,7 @@ ghost use Rattle.std.specs.Prelude.{◌≡◌, ◌<◌, ◌^◌, IfOk, IfErr, tr
 ghost use Rattle.tlsld.specs.SmallObjects.{is_small_object};
 ghost use Rattle.tlsld.specs.Narrow.{fits};
 ghost use Rattle.tlsld.specs.Runs.{Comes, IsCalled, IsPlainObject, NotPlaced};
+ghost use Rattle.elf_object.specs.Faults.{IsObject};
 ghost use Rattle.tls_layout.specs.Places.{IsLawful};
 ghost use Rattle.tls_layout.specs.Sections.{layout_of};
 
@@ -24,7 +25,8 @@ use transcript_text::{LineRefusal, Outcome};
 ///
 /// `job.fuel` is the number of steps that the call may take, below 2^32.
 pub fn run_small(alloc: Global, job: &SmallJob, bytes: &[u8]) -> Result<Outcome, ObjectRefusal>
-    requires { job.now.fuel < 2 ^ 32 }
+    requires fuel { job.now.fuel < 2 ^ 32 }
+    requires object { IsObject bytes.now }
     ensures { Comes bytes.now job.now result }
 {
     let object = plain_object(alloc, bytes)?;

@@ -1,7 +1,7 @@
 //! Objects of one function, `f`.
 
 use elf_records::Rela;
-use elf_records::relocation::{R_X86_64_PC32, R_X86_64_TPOFF32};
+use elf_records::relocation::{R_X86_64_PC32, R_X86_64_TLSGD, R_X86_64_TPOFF32};
 use elf_records::symbol::{STT_FUNC, STT_TLS};
 use object_builder::{Section, Symbol, object_of, rela};
 use std::alloc::{AllocError, Global};
@@ -52,10 +52,10 @@ fn with_data(alloc: Global) -> Result<Vec<u8>, AllocError> {
 /// An object, the status of `1 call app f 0 0 0` over it, and the text.
 type Row = (Vec<u8>, u8, &'static [u8]);
 
-/// Objects that run, and objects that are refused.
+/// Objects that run, objects that are not run yet, and objects that are refused.
 pub fn rows(alloc: Global) -> Result<Vec<Row>, AllocError> {
     let no_function = b"t1 l1 g0 refused symbol\n".as_slice();
-    let not_yet = b"object a.o section 0 entry 0 NotYet\n".as_slice();
+    let not_yet = b"job 0 NotYet\n".as_slice();
     let mut rows = Vec::new(alloc);
     // The TLS segment has at most 2^20 bytes.
     rows.push((
@@ -63,17 +63,23 @@ pub fn rows(alloc: Global) -> Result<Vec<Row>, AllocError> {
         0,
         b"t1 l1 g0 = 000000000000002a\n".as_slice(),
     ))?;
-    rows.push((reader(alloc, 0xffffd)?, 6, not_yet))?;
+    rows.push((
+        reader(alloc, 0xffffd)?,
+        7,
+        b"link app TlsTooLarge - section 0 entry 0\n".as_slice(),
+    ))?;
     rows.push((
         reader_with(alloc, &[rela(4, R_X86_64_PC32, 1, 0)], 0)?,
-        6,
+        5,
         not_yet,
     ))?;
     rows.push((without_code(alloc)?, 0, no_function))?;
+    rows.push((with_data(alloc)?, 5, not_yet))?;
+    // The relocation is that of an address, and no instruction for one is there.
     rows.push((
-        with_data(alloc)?,
+        reader_with(alloc, &[rela(4, R_X86_64_TLSGD, 2, 0)], 0)?,
         6,
-        b"object a.o section 2 entry 0 WritableData\n".as_slice(),
+        b"object a.o section 2 entry 0 Sequence\n".as_slice(),
     ))?;
     // The table has two symbols behind the reserved one.
     rows.push((

@@ -1,6 +1,8 @@
 use Rattle.std.proofs.Common.{◌∙◌, ◌≤◌, length, get_or, sym, ap, subst}
 use Rattle.tlsld.specs.LinkSteps.{made_of}
+use Rattle.tlsld.specs.Wishes.{relax_of}
 use Rattle.tlsld.proofs.Making.{can_make, linked_is, made_says, names_image, unlinked_says}
+use Rattle.tlsld.proofs.Stages.{items}
 use Rattle.tlsld.proofs.links.made_of_images.Goals as goal
 
 pub wished-requires : goal.wished-requires
@@ -28,4 +30,4 @@ returns-in_ok-wished-in-Ok-clause-says c =
 
 pub returns-in-Err-clause-says : goal.returns-in-Err-clause-says
 returns-in-Err-clause-says c =
-    unlinked_says c.args.wish (made_of c.args.wish) c.args.job.now c.args.place c.args.images.now c.relax.result c.in-Err.refusal c.unlinked.result c.relax.ensures c.in-Err.ensures.refused c.unlinked.ensures.says
+    unlinked_says items (relax_of c.args.wish) (made_of c.args.wish) c.args.job.now c.args.place c.args.images.now c.relax.result c.in-Err.refusal c.unlinked.result c.relax.ensures c.in-Err.ensures.refused c.unlinked.ensures.says

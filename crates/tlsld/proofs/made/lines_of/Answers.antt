@@ -14,15 +14,15 @@ push_sites-requires-clause-each c =
     let in_choices : n < length c.args.linked.now.choices = omega arith in
     ap length (c.as_slice-choices.ensures.value ∙ row_is (λ own. own.items) c.linked.inside.choices.items c.args.linked.now.choices n c.index.result.now (ap (λ s. s.choices) c.linked.view_is) in_choices c.index.ensures)
     ∙ c.requires.each n
-    ∙ sym (ap length (c.as_slice-sites.ensures.value ∙ row_is (λ own. own.items) c.sites.result.now c.args.image.now.sites n c.index-sites-number.result c.sites.ensures in_sites c.index-sites-number.is))
+    ∙ sym (ap length (c.as_slice-sites.ensures.value ∙ row_is (λ own. own.items) c.sites.result.now c.args.image.now.sites n c.index-sites-number.result c.sites.ensures.sites in_sites c.index-sites-number.is))
 
 pub push_sites-requires-clause-symbols : goal.push_sites-requires-clause-symbols
 push_sites-requires-clause-symbols c =
     let n = c.loop-number.number in
     let in_sites : n < length c.args.image.now.sites = omega arith in
     let in_objects : n < length c.args.image.now.objects = omega arith in
-    let own = c.as_slice-sites.ensures.value ∙ row_is (λ own. own.items) c.sites.result.now c.args.image.now.sites n c.index-sites-number.result c.sites.ensures in_sites c.index-sites-number.is in
-    let object = at_any c.args.image.now.objects n c.index-objects-number.result [] in_objects (c.index-objects-number.is ∙ ap (λ os. get_or os n c.index-objects-number.result) c.objects.ensures) in
+    let own = c.as_slice-sites.ensures.value ∙ row_is (λ own. own.items) c.sites.result.now c.args.image.now.sites n c.index-sites-number.result c.sites.ensures.sites in_sites c.index-sites-number.is in
+    let object = at_any c.args.image.now.objects n c.index-objects-number.result [] in_objects (c.index-objects-number.is ∙ ap (λ os. get_or os n c.index-objects-number.result) c.objects.ensures.objects) in
     subst (HaveSymbols c.index-objects-number.result) (sym own) (subst (λ b. HaveSymbols b (get_or c.args.image.now.sites n [])) (sym object) (c.requires.symbols n in_objects))
 
 pub loop-number-preserved : goal.loop-number-preserved
@@ -37,8 +37,8 @@ loop-number-preserved c =
     let in_objects : n < length objects = omega arith in
     let in_choices : n < length choices = omega arith in
     let name = c.as_str.ensures ∙ at_any names n c.index-names-number.result [] below c.index-names-number.is in
-    let object = at_any objects n c.index-objects-number.result [] in_objects (c.index-objects-number.is ∙ ap (λ os. get_or os n c.index-objects-number.result) c.objects.ensures) in
-    let own = c.as_slice-sites.ensures.value ∙ row_is (λ own. own.items) c.sites.result.now sites n c.index-sites-number.result c.sites.ensures in_sites c.index-sites-number.is in
+    let object = at_any objects n c.index-objects-number.result [] in_objects (c.index-objects-number.is ∙ ap (λ os. get_or os n c.index-objects-number.result) c.objects.ensures.objects) in
+    let own = c.as_slice-sites.ensures.value ∙ row_is (λ own. own.items) c.sites.result.now sites n c.index-sites-number.result c.sites.ensures.sites in_sites c.index-sites-number.is in
     let chosen = c.as_slice-choices.ensures.value ∙ row_is (λ own. own.items) c.linked.inside.choices.items choices n c.index.result.now (ap (λ s. s.choices) c.linked.view_is) in_choices c.index.ensures in
     let rest = left names objects sites choices (n + 1) in
     ap (λ t. t ++ rest) c.in_ok-push_sites.ensures.ok
