@@ -74,7 +74,7 @@ symbols_few b object = elim (cases_lt 0 (symbol_table b)) [
     few_none s n h = let zero : s ≡ 0 = omega arith in rw zero (omega arith)
 
 -- as many relocations as are asked for
-length-relocations_from : (b : List ℕ) (at e n : ℕ) → length (relocations_from b at e n) ≡ n
+pub length-relocations_from : (b : List ℕ) (at e n : ℕ) → length (relocations_from b at e n) ≡ n
 unfolding relocations_from
 length-relocations_from b at e zero = refl
 length-relocations_from b at e (suc n) = ap suc (length-relocations_from b at (e + 1) n)

@@ -36,6 +36,7 @@ impl<'a> Model for Relocs<'a> {
 }
 
 /// The relocation at an offset of the file.
+#[inline(always)]
 #[tactic(auto, unfolding(crate::specs::Lent::relocation_at))]
 fn relocation_at(bytes: &[u8], at: u64) -> Relocation
     requires { at + 24 ≤ length bytes.now }
@@ -74,6 +75,7 @@ impl Iterator for Relocs<'_> {
 
     ghost remaining = { item_count (λ s. s) };
 
+    #[inline(always)]
     fn next(&mut self) -> Option<Relocation> {
         if self.end <= self.next {
             return None;
@@ -110,6 +112,17 @@ pub fn relocs_in<'a>(tables: &Tables<'a>, table: u64) -> Relocs<'a>
     }
     let header = tables.section(table);
     Relocs::of(tables.bytes, header.offset, header.size / Rela::SIZE)
+}
+
+/// How many relocations a section holds.
+pub fn count_in(tables: &Tables, table: u64) -> u64
+    requires { 0 < table → IsRela tables.now.bytes.now table }
+    ensures { result ≡ length (relocations_in tables.now.bytes.now table) }
+{
+    if table == 0 {
+        return 0;
+    }
+    tables.section(table).size / Rela::SIZE
 }
 
 /// The section, one that linking keeps, whose relocations a section holds, or 0.

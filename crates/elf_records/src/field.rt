@@ -7,6 +7,7 @@ ghost use Rattle.elf_records.specs.Fields.{bytes_of, number_at, signed_at, splic
 use byteorder::{ByteOrder, LittleEndian};
 
 /// Whether `size` bytes from offset `at` on end no later than `bytes` does. No sum wraps: `at` may be any number.
+#[inline(always)]
 pub fn fits(bytes: &[u8], at: u64, size: u64) -> bool
     ensures { result ≡ nat_le (at + size) (length bytes.now) }
 {
@@ -14,6 +15,7 @@ pub fn fits(bytes: &[u8], at: u64, size: u64) -> bool
     size <= len && at <= len - size
 }
 
+#[inline(always)]
 #[tactic(auto, unfolding(crate::specs::Fields::number_at))]
 pub fn u8_at(bytes: &[u8], at: usize) -> u8
     requires { at + 1 ≤ length bytes.now }
@@ -22,6 +24,7 @@ pub fn u8_at(bytes: &[u8], at: usize) -> u8
     bytes[at]
 }
 
+#[inline(always)]
 pub fn u16_at(bytes: &[u8], at: usize) -> u16
     requires { at + 2 ≤ length bytes.now }
     ensures { result ≡ number_at 2 at bytes.now }
@@ -29,6 +32,7 @@ pub fn u16_at(bytes: &[u8], at: usize) -> u16
     LittleEndian::read_u16(&bytes[at..])
 }
 
+#[inline(always)]
 pub fn u32_at(bytes: &[u8], at: usize) -> u32
     requires { at + 4 ≤ length bytes.now }
     ensures { result ≡ number_at 4 at bytes.now }
@@ -36,6 +40,7 @@ pub fn u32_at(bytes: &[u8], at: usize) -> u32
     LittleEndian::read_u32(&bytes[at..])
 }
 
+#[inline(always)]
 pub fn u64_at(bytes: &[u8], at: usize) -> u64
     requires { at + 8 ≤ length bytes.now }
     ensures { result ≡ number_at 8 at bytes.now }
@@ -44,6 +49,7 @@ pub fn u64_at(bytes: &[u8], at: usize) -> u64
 }
 
 /// A signed number is read in two's complement.
+#[inline(always)]
 pub fn i64_at(bytes: &[u8], at: usize) -> i64
     requires { at + 8 ≤ length bytes.now }
     ensures { result ≡ signed_at at bytes.now }

@@ -78,6 +78,7 @@ pub enum RelocationKind {
 
 impl RelocationKind {
     /// The type of a number.
+    #[inline]
     pub fn numbered(number: u32) -> Option<RelocationKind>
         ensures { result ≡ relocation_kind number }
     {
@@ -103,6 +104,7 @@ impl RelocationKind {
     }
 
     /// How many bytes the field has.
+    #[inline]
     pub fn width(self) -> u64
         ensures { result ≡ field_width self }
     {
@@ -114,6 +116,7 @@ impl RelocationKind {
     }
 
     /// Whether it belongs to an instruction, so that it stands in executable sections alone.
+    #[inline]
     pub fn is_of_code(self) -> bool
         ensures { IsTrue result ↔ IsOfCode self }
     {
@@ -130,6 +133,7 @@ impl RelocationKind {
 }
 
 /// How many bytes the field of a relocation of this type has; 0 for a number that is no [`RelocationKind`].
+#[inline]
 pub fn width_of(number: u32) -> u64
     ensures { result ≡ width_of (relocation_kind number) }
 {
@@ -163,6 +167,7 @@ impl Rela {
     }
 
     /// The symbol's number in the symbol table.
+    #[inline(always)]
     pub fn symbol(self) -> u32
         ensures { result ≡ rela_symbol self }
     {
@@ -170,6 +175,7 @@ impl Rela {
     }
 
     /// The type, as [`R_X86_64_TPOFF32`].
+    #[inline(always)]
     pub fn kind(self) -> u32
         ensures { result ≡ rela_kind self }
     {
@@ -178,6 +184,7 @@ impl Rela {
 }
 
 /// Reads the relocation entry at offset `at`. `None` exactly where it would pass the end of `bytes`.
+#[inline(always)]
 #[tactic(auto, unfolding(crate::specs::Records::rela_at))]
 pub fn read_rela(bytes: &[u8], at: u64) -> Option<Rela>
     ensures { IsReadAt Rela.SIZE rela_at bytes.now at result }
@@ -194,6 +201,7 @@ pub fn read_rela(bytes: &[u8], at: u64) -> Option<Rela>
 }
 
 /// Entry `number` of the relocations that begin at `table`.
+#[inline(always)]
 pub fn rela_numbered(bytes: &[u8], table: u64, number: u64) -> Rela
     requires { table + Rela.SIZE * number + Rela.SIZE ≤ length bytes.now }
     ensures { result ≡ rela_at (table + Rela.SIZE * number) bytes.now }

@@ -76,6 +76,7 @@ impl SectionHeader {
 }
 
 /// Reads the section header at offset `at`. `None` exactly where it would pass the end of `bytes`.
+#[inline]
 #[tactic(auto, unfolding(crate::specs::Records::section_at))]
 pub fn read_section(bytes: &[u8], at: u64) -> Option<SectionHeader>
     ensures { IsReadAt SectionHeader.SIZE section_at bytes.now at result }
@@ -99,6 +100,7 @@ pub fn read_section(bytes: &[u8], at: u64) -> Option<SectionHeader>
 }
 
 /// Header `number` of the table that begins at `table`.
+#[inline]
 pub fn section_numbered(bytes: &[u8], table: u64, number: u64) -> SectionHeader
     requires { table + SectionHeader.SIZE * number + SectionHeader.SIZE ≤ length bytes.now }
     ensures { result ≡ section_at (table + SectionHeader.SIZE * number) bytes.now }
@@ -110,6 +112,7 @@ pub fn section_numbered(bytes: &[u8], table: u64, number: u64) -> SectionHeader
 }
 
 /// Whether the file holds bytes of the section.
+#[inline]
 pub fn has_bytes(header: &SectionHeader) -> bool
     ensures { IsTrue result ↔ HasBytes header.now }
 {

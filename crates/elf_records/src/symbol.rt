@@ -86,6 +86,7 @@ impl SymbolEntry {
     }
 
     /// The binding, as [`STB_GLOBAL`]; 0 to 15.
+    #[inline]
     pub fn binding(self) -> u8
         ensures { result ≡ symbol_binding self }
     {
@@ -93,6 +94,7 @@ impl SymbolEntry {
     }
 
     /// The type, as [`STT_TLS`]; 0 to 15.
+    #[inline]
     pub fn kind(self) -> u8
         ensures { result ≡ symbol_kind self }
     {
@@ -100,6 +102,7 @@ impl SymbolEntry {
     }
 
     /// The visibility, as [`STV_HIDDEN`]; 0 to 3.
+    #[inline]
     pub fn visibility(self) -> u8
         ensures { result ≡ symbol_visibility self }
     {
@@ -108,6 +111,7 @@ impl SymbolEntry {
 }
 
 /// Reads the symbol table entry at offset `at`. `None` exactly where it would pass the end of `bytes`.
+#[inline]
 #[tactic(auto, unfolding(crate::specs::Records::symbol_at))]
 pub fn read_symbol(bytes: &[u8], at: u64) -> Option<SymbolEntry>
     ensures { IsReadAt SymbolEntry.SIZE symbol_at bytes.now at result }
@@ -127,6 +131,7 @@ pub fn read_symbol(bytes: &[u8], at: u64) -> Option<SymbolEntry>
 }
 
 /// Symbol `number` of the table that begins at `table`.
+#[inline]
 pub fn symbol_numbered(bytes: &[u8], table: u64, number: u64) -> SymbolEntry
     requires { table + SymbolEntry.SIZE * number + SymbolEntry.SIZE ≤ length bytes.now }
     ensures { result ≡ symbol_at (table + SymbolEntry.SIZE * number) bytes.now }

@@ -5,3 +5,4 @@ pub mod Overlaps
 pub mod Parts
 pub mod SymbolTables
 pub mod TargetsFound
+pub mod Walks

@@ -10,3 +10,4 @@ pub mod Parts
 pub mod Relocations
 pub mod Searches
 pub mod Tables
+pub mod Walks

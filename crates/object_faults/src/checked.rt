@@ -11,6 +11,7 @@ use crate::scan::{ask_relocs, ask_sections, ask_symbols};
 use crate::symbols::ask_symbol_table;
 use crate::tables::{Tables, tables_of};
 use crate::targets::ask_targets;
+use crate::walk::most_to_mark;
 use std::alloc::Global;
 
 /// Asks what is wrong with sections.
@@ -38,16 +39,26 @@ fn ask_all_symbols(tables: &Tables) -> Result<(), ObjectFault>
     Ok(())
 }
 
-/// Asks what is wrong with relocations.
-fn ask_all_relocs(alloc: Global, tables: &Tables) -> Result<(), ObjectFault>
+/// Asks what is wrong with relocations by themselves.
+fn ask_each_reloc(tables: &Tables) -> Result<(), ObjectFault>
     requires { NoneBelow 13 tables.now.bytes.now }
-    ensures { Answers 16 tables.now.bytes.now result }
+    ensures { Answers 15 tables.now.bytes.now result }
 {
     ask_relocs(RelocFault::Symbol, tables)?;
     ask_relocs(RelocFault::Kind, tables)?;
     ask_relocs(RelocFault::Range, tables)?;
-    ask_overlaps(alloc, tables)?;
     Ok(())
+}
+
+/// Asks what is wrong with relocations. Which fault is the first is asked only where one walk found that there is one.
+fn ask_all_relocs(alloc: Global, tables: &Tables) -> Result<(), ObjectFault>
+    requires { NoneBelow 13 tables.now.bytes.now }
+    ensures { Answers 16 tables.now.bytes.now result }
+{
+    match most_to_mark(tables) {
+        Some(most) => ask_overlaps(alloc, tables, most),
+        None => ask_each_reloc(tables),
+    }
 }
 
 /// What a check keeps of an object in which no fault stands.

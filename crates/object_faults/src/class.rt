@@ -30,6 +30,7 @@ pub const CLASS_FLAGS: u64 = !(SHF_ALLOC | SHF_MERGE | SHF_STRINGS);
 pub const SHF_TLS_WRITE: u64 = SHF_TLS | SHF_WRITE;
 
 /// The class of these flags and this type.
+#[inline]
 fn class_row(flags: u64, kind: u32) -> Option<SectionClass>
     ensures { result ≡ class_row flags kind }
 {
@@ -45,6 +46,7 @@ fn class_row(flags: u64, kind: u32) -> Option<SectionClass>
 }
 
 /// The class that the section's flags and type give it.
+#[inline]
 #[tactic(auto, unfolding(crate::specs::Classes::class_of))]
 pub fn class_of(header: &SectionHeader) -> Option<SectionClass>
     ensures { result ≡ class_of header.now }
@@ -56,6 +58,7 @@ pub fn class_of(header: &SectionHeader) -> Option<SectionClass>
 }
 
 /// The class that linking keeps the section in: a writable section of no bytes is dropped.
+#[inline]
 #[tactic(auto, unfolding(crate::specs::Classes::kept_class))]
 pub fn kept_class(header: &SectionHeader) -> Option<SectionClass>
     ensures { result ≡ kept_class header.now }

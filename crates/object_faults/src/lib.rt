@@ -7,8 +7,10 @@
 //! The rule that it keeps: **an object is exactly what no fault stands in**, and the fault that is answered is the
 //! first: no earlier [`FaultKind`] stands anywhere, and this one at no lower section and, there, at no lower entry.
 //! `specs/Faults` says what each kind means, one line each; it knows nothing of how the code looks for it. Checking
-//! takes one pass for each kind, and time and memory that grow with what the tables hold: a mark on each byte finds
-//! fields that overlap, the last zero byte of a string table tells which names end.
+//! takes one pass for each kind, and time and memory that grow with what the tables hold: the last zero byte of a
+//! string table tells which names end. Relocations, of which there are most, are walked over once (`specs/Walks`):
+//! only where one is at fault is it asked which kind is the first, and only where fields do not rise, as compilers
+//! write them, a mark on each byte finds those that overlap.
 //!
 //! An example. In an object of one variable the section headers may say
 //!
@@ -39,6 +41,7 @@ mod symbol_tests;
 mod symbols;
 mod tables;
 mod targets;
+mod walk;
 
 pub use checked::{FaultFree, fault_free};
 pub use class::{SectionClass, kept_class};

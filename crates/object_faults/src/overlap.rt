@@ -4,14 +4,16 @@
 ghost use Rattle.std.specs.Prelude.{◌≡◌, ◌≢◌, ◌+◌, ◌<◌, ◌≤◌, ◌↔◌, ◌⊎◌, ℕ, length, slice_index, IsTrue, IfNone};
 ghost use Rattle.std.specs.Prelude.{MatchOption};
 ghost use Rattle.object_faults.specs.declared.fault.FaultKind.TheVariants.{RelocOverlap};
-ghost use Rattle.object_faults.specs.Parts.{IsSection, rela as entry_of, section as section_header};
-ghost use Rattle.object_faults.specs.Relocations.{Covers, IsReloc, width_at};
+ghost use Rattle.object_faults.specs.Parts.{IsSection, rela as entry_of};
+ghost use Rattle.object_faults.specs.Relocations.{Covers, width_at};
 ghost use Rattle.object_faults.specs.Tables.{AreRelocs, HasRoom};
 ghost use Rattle.object_faults.specs.Faults.{Stands, IsFirstAt, NoneBelow, Answers};
+ghost use Rattle.object_faults.specs.Walks.{HasRoomToMark};
 
 use crate::fault::{FaultKind, ObjectFault, fault_at};
 use crate::reloc_tests::{RelocTable, rela_in, reloc_table};
 use crate::tables::Tables;
+use crate::walk::{Walk, walk_over};
 use elf_records::relocation::width_of;
 use std::alloc::Global;
 
@@ -75,50 +77,48 @@ fn overlap_in(tables: &Tables, section: u64, marks: &mut [u32]) -> Option<u64>
     None
 }
 
-/// Asks whether fields share a byte, with marks on as many bytes as the largest target has.
+/// The first entry of a section whose field shares a byte with that of an earlier one. Marks are taken only where the
+/// fields do not rise.
+fn first_overlap(tables: &Tables, section: u64, marks: &mut [u32]) -> Option<u64>
+    requires section { IsSection tables.now.bytes.now section }
+    requires earlier { NoneBelow 16 tables.now.bytes.now }
+    requires room { HasRoomToMark tables.now.bytes.now section (length marks.old) }
+    requires unmarked { (k : ℕ) → slice_index marks.old k < section }
+    ensures first { IsFirstAt (Stands RelocOverlap tables.now.bytes.now section) result }
+    ensures marked { (k : ℕ) → slice_index marks.new k < section + 1 }
+{
+    match walk_over(tables, section) {
+        Walk::Rising => None,
+        Walk::Scattered => overlap_in(tables, section, marks),
+        // Refused before.
+        Walk::Faulty => unreachable!(),
+    }
+}
+
+/// Asks whether fields share a byte, with marks on as many bytes as the largest target has whose fields do not rise.
 fn ask_marked(tables: &Tables, marks: &mut [u32]) -> Result<(), ObjectFault>
     requires earlier { NoneBelow 16 tables.now.bytes.now }
-    requires room { (r : ℕ) → HasRoom tables.now.bytes.now r (length marks.old) }
+    requires room { (r : ℕ) → HasRoomToMark tables.now.bytes.now r (length marks.old) }
     requires unmarked { (k : ℕ) → slice_index marks.old k ≡ 0 }
     ensures { Answers 16 tables.now.bytes.now result }
 {
     for section in 1..tables.count {
-        if let Some(entry) = overlap_in(tables, section, marks) {
+        if let Some(entry) = first_overlap(tables, section, marks) {
             return Err(fault_at(section, entry, FaultKind::RelocOverlap));
         }
     }
     Ok(())
 }
 
-/// How many bytes the target of a section of relocations has; 0 where linking keeps none.
-fn target_size(tables: &Tables, section: u64) -> u64
-    requires { IsSection tables.now.bytes.now section }
-    ensures { (e : ℕ) → IsReloc tables.now.bytes.now section e
-        → (section_header tables.now.bytes.now (section_header tables.now.bytes.now section).info).size ≤ result }
-{
-    match reloc_table(tables, section) {
-        Some(relocs) => relocs.target_size,
-        None => 0,
-    }
-}
-
-/// How many bytes the largest target of relocations has.
-fn largest_target(tables: &Tables) -> u64
-    ensures { (r e : ℕ) → IsReloc tables.now.bytes.now r e
-        → (section_header tables.now.bytes.now (section_header tables.now.bytes.now r).info).size ≤ result }
-{
-    let mut largest = 0;
-    for section in 1..tables.count {
-        largest = target_size(tables, section).max(largest);
-    }
-    largest
-}
-
-/// Asks whether fields of relocations share a byte.
-pub fn ask_overlaps(alloc: Global, tables: &Tables) -> Result<(), ObjectFault>
-    requires { NoneBelow 16 tables.now.bytes.now }
+/// Asks whether fields of relocations share a byte. `most` bytes are enough to mark what they fill, unless they rise.
+pub fn ask_overlaps(alloc: Global, tables: &Tables, most: u64) -> Result<(), ObjectFault>
+    requires earlier { NoneBelow 16 tables.now.bytes.now }
+    requires room { (r : ℕ) → HasRoomToMark tables.now.bytes.now r most }
     ensures { Answers 16 tables.now.bytes.now result }
 {
-    let mut marks = vec![in alloc; 0; largest_target(tables) as usize]?;
+    if most == 0 {
+        return Ok(());
+    }
+    let mut marks = vec![in alloc; 0; most as usize]?;
     ask_marked(tables, &mut marks)
 }

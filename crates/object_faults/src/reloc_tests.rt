@@ -1,11 +1,14 @@
 //! What may be wrong with the relocations of one section: one test for each kind of fault.
 
-ghost use Rattle.std.specs.Prelude.{◌≡◌, ◌+◌, ◌*◌, ◌<◌, ◌≤◌, ◌↔◌, ℕ, IsTrue, MatchOption, length};
+ghost use Rattle.std.specs.Prelude.{◌≡◌, ◌≢◌, ◌+◌, ◌*◌, ◌<◌, ◌≤◌, ◌↔◌, ℕ, IsTrue, MatchOption, length};
 ghost use Rattle.object_faults.specs.declared.fault.FaultKind.TheVariants.{RelocSymbol, RelocKind, RelocRange};
-ghost use Rattle.object_faults.specs.Parts.{IsSection, rela as entry_of, symbol_count};
+ghost use Rattle.elf_records.specs.Records.{rela_kind, rela_symbol};
+ghost use Rattle.object_faults.specs.Parts.{IsSection, rela as entry_of, section as section_header, symbol_count};
+ghost use Rattle.object_faults.specs.Classes.{kept_class};
 ghost use Rattle.object_faults.specs.Relocations.{IsReloc, width_of, relocation_kind};
 ghost use Rattle.object_faults.specs.Tables.{AreRelocs};
-ghost use Rattle.object_faults.specs.Faults.{Stands, IsUnplaced};
+ghost use Rattle.object_faults.specs.Faults.{Stands, IsUnplaced, IsMiskinded};
+ghost use Rattle.object_faults.specs.Walks.{IsFaulty, end_at};
 
 use crate::class::{SectionClass, kept_class};
 use crate::symbol_tests::is_dropped;
@@ -49,6 +52,7 @@ pub fn reloc_table(tables: &Tables, section: u64) -> Option<RelocTable>
 }
 
 /// An entry of the section.
+#[inline]
 #[tactic(auto, unfolding(crate::specs::Parts::rela))]
 pub fn rela_in(tables: &Tables, section: u64, relocs: &RelocTable, entry: u64) -> Rela
     requires relocs { AreRelocs tables.now.bytes.now section relocs.now }
@@ -59,6 +63,7 @@ pub fn rela_in(tables: &Tables, section: u64, relocs: &RelocTable, entry: u64) -
 }
 
 /// Whether this is no symbol, or one that has no place in the image.
+#[inline]
 fn is_unplaced(tables: &Tables, symbol: u64) -> bool
     ensures { IsTrue result ↔ IsUnplaced tables.now.bytes.now symbol }
 {
@@ -71,6 +76,44 @@ fn is_unplaced(tables: &Tables, symbol: u64) -> bool
     }
 }
 
+/// Whether an entry names no symbol, or one that has no place in the image.
+#[inline]
+fn names_no_place(tables: &Tables, rela: Rela) -> bool
+    ensures { IsTrue result ↔ ((rela_kind rela ≢ R_X86_64_NONE) × IsUnplaced tables.now.bytes.now (rela_symbol rela)) }
+{
+    rela.kind() != R_X86_64_NONE && is_unplaced(tables, u64::from(rela.symbol()))
+}
+
+/// Whether an entry is of a type that linking does not know, or that the target may not have.
+#[inline]
+fn is_miskinded(tables: &Tables, section: u64, relocs: &RelocTable, rela: Rela) -> bool
+    requires { AreRelocs tables.now.bytes.now section relocs.now }
+    ensures { IsTrue result ↔ IsMiskinded (relocation_kind (rela_kind rela))
+        (kept_class (section_header tables.now.bytes.now (section_header tables.now.bytes.now section).info)) }
+{
+    match RelocationKind::numbered(rela.kind()) {
+        Some(kind) => kind.is_of_code() && !relocs.is_code,
+        None => true,
+    }
+}
+
+/// Where an entry's field ends, unless it passes the end of the target.
+#[inline]
+fn field_end(tables: &Tables, section: u64, relocs: &RelocTable, rela: Rela) -> Option<u64>
+    requires { AreRelocs tables.now.bytes.now section relocs.now }
+    ensures { MatchOption result
+        ((section_header tables.now.bytes.now (section_header tables.now.bytes.now section).info).size
+        < rela.offset + width_of (relocation_kind (rela_kind rela)))
+        (λ end. (end ≡ rela.offset + width_of (relocation_kind (rela_kind rela)))
+        × (end ≤ (section_header tables.now.bytes.now (section_header tables.now.bytes.now section).info).size)) }
+{
+    let width = width_of(rela.kind());
+    if relocs.target_size < width || relocs.target_size - width < rela.offset {
+        return None;
+    }
+    Some(rela.offset + width)
+}
+
 /// The relocation names no symbol, or one that has no place in the image.
 #[tactic(auto, unfolding(crate::specs::Faults::Stands))]
 pub fn reloc_symbol(tables: &Tables, section: u64, relocs: &RelocTable, entry: u64) -> bool
@@ -78,8 +121,7 @@ pub fn reloc_symbol(tables: &Tables, section: u64, relocs: &RelocTable, entry: u
     requires entry { entry < relocs.now.count }
     ensures { IsTrue result ↔ Stands RelocSymbol tables.now.bytes.now section entry }
 {
-    let rela = rela_in(tables, section, relocs, entry);
-    rela.kind() != R_X86_64_NONE && is_unplaced(tables, u64::from(rela.symbol()))
+    names_no_place(tables, rela_in(tables, section, relocs, entry))
 }
 
 /// The relocation is of a type that linking does not know, or that the target may not have.
@@ -89,10 +131,12 @@ pub fn reloc_kind(tables: &Tables, section: u64, relocs: &RelocTable, entry: u64
     requires entry { entry < relocs.now.count }
     ensures { IsTrue result ↔ Stands RelocKind tables.now.bytes.now section entry }
 {
-    match RelocationKind::numbered(rela_in(tables, section, relocs, entry).kind()) {
-        Some(kind) => kind.is_of_code() && !relocs.is_code,
-        None => true,
-    }
+    is_miskinded(
+        tables,
+        section,
+        relocs,
+        rela_in(tables, section, relocs, entry),
+    )
 }
 
 /// The relocation's field passes the end of the target.
@@ -102,7 +146,47 @@ pub fn reloc_range(tables: &Tables, section: u64, relocs: &RelocTable, entry: u6
     requires entry { entry < relocs.now.count }
     ensures { IsTrue result ↔ Stands RelocRange tables.now.bytes.now section entry }
 {
+    field_end(
+        tables,
+        section,
+        relocs,
+        rela_in(tables, section, relocs, entry),
+    )
+    .is_none()
+}
+
+/// The bytes of a target that a relocation fills: offsets from `start` up to, but not with, `end`.
+#[derive(Clone, Copy)]
+pub struct Field {
+    pub start: u64,
+    pub end: u64,
+}
+
+/// The field of an entry, unless the entry is at fault by itself: for its symbol, its type or the range of its field.
+#[inline]
+#[tactic(auto, unfolding(crate::specs::Faults::Stands))]
+pub fn faultless_field(
+    tables: &Tables,
+    section: u64,
+    relocs: &RelocTable,
+    entry: u64,
+) -> Option<Field>
+    requires relocs { AreRelocs tables.now.bytes.now section relocs.now }
+    requires entry { entry < relocs.now.count }
+    ensures { MatchOption result (IsFaulty tables.now.bytes.now section entry)
+        (λ field. (field.start ≡ (entry_of tables.now.bytes.now section entry).offset)
+        × (field.end ≡ end_at tables.now.bytes.now section entry)
+        × (IsFaulty tables.now.bytes.now section entry → ⊥)) }
+{
     let rela = rela_in(tables, section, relocs, entry);
-    let width = width_of(rela.kind());
-    relocs.target_size < width || relocs.target_size - width < rela.offset
+    let Some(end) = field_end(tables, section, relocs, rela) else {
+        return None;
+    };
+    if names_no_place(tables, rela) || is_miskinded(tables, section, relocs, rela) {
+        return None;
+    }
+    Some(Field {
+        start: rela.offset,
+        end,
+    })
 }

@@ -63,6 +63,7 @@ pub fn symbol_name(tables: &Tables, entry: u64) -> bool
 }
 
 /// Whether this is a section, and linking drops it.
+#[inline]
 pub fn is_dropped(tables: &Tables, section: u64) -> bool
     ensures { IsTrue result ↔ IsDropped tables.now.bytes.now section }
 {

@@ -136,6 +136,7 @@ pub fn tables_of(bytes: &[u8]) -> Result<Tables<'_>, ObjectFault>
 
 impl Tables<'_> {
     /// The header of a section.
+    #[inline]
     #[tactic(auto, unfolding(crate::specs::Parts::section))]
     pub fn section(&self, number: u64) -> SectionHeader
         requires { number < self.now.count }
@@ -145,6 +146,7 @@ impl Tables<'_> {
     }
 
     /// Whether there is such a section, and it is not the reserved one.
+    #[inline]
     pub fn has_section(&self, number: u64) -> bool
         ensures { IsTrue result ↔ IsSection self.now.bytes.now number }
     {
@@ -152,6 +154,7 @@ impl Tables<'_> {
     }
 
     /// The header of a section, if there is one of this number.
+    #[inline]
     pub fn section_at(&self, number: u64) -> Option<SectionHeader>
         ensures { MatchOption result (IsSection self.now.bytes.now number → ⊥)
             (λ header. IsSection self.now.bytes.now number × (header ≡ section_header self.now.bytes.now number)) }
@@ -174,6 +177,7 @@ impl Tables<'_> {
     }
 
     /// A symbol.
+    #[inline]
     #[tactic(auto, unfolding(crate::specs::Parts::symbol))]
     pub fn symbol(&self, number: u64) -> SymbolEntry
         requires { number < symbol_count self.now.bytes.now }

@@ -17,3 +17,8 @@ returns c =
     (λ s e w.
     let within = at_overlap b s e w in
     c.loop-section.invariant.none s (omega (arith, within.0.0.1, c.args.tables.now.count_is)) e w)
+
+pub first_overlap-requires-clause-room : goal.first_overlap-requires-clause-room
+first_overlap-requires-clause-room c = λ e reloc scattered.
+    let room = c.requires.room c.loop-section.section e reloc scattered in
+    omega (arith, room, c.loop-section.auto.marks)
