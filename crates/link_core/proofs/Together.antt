@@ -21,7 +21,7 @@ use Rattle.sequence_match.specs.declared.places.Site.{Site}
 use Rattle.sequence_match.specs.Faults.{code_of, IsGetter, IsOfSequence, IsSite}
 use Rattle.sequence_match.specs.Forms.{row, IsCallKind}
 use Rattle.sequence_match.specs.Sites.{IsEntry, IsSecond, IsSiteOf}
-use Rattle.sequence_match.proofs.Marked.{same_entry}
+use Rattle.sequence_match.proofs.Entries.{same_entry}
 use Rattle.sequence_match.proofs.Rows.{first_of_sequence}
 use Rattle.sequence_match.proofs.Sections.{fields_apart}
 use Rattle.tls_symbols.specs.declared.binding.Binding.{Binding}

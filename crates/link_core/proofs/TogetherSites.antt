@@ -8,7 +8,7 @@ use Rattle.sequence_match.specs.declared.places.Site.{Site}
 use Rattle.sequence_match.specs.Code.{AreApart}
 use Rattle.sequence_match.specs.Forms.{row}
 use Rattle.sequence_match.specs.Sites.{Covers, HasSecond, IsEntry, IsSecond, IsSiteOf}
-use Rattle.sequence_match.proofs.Marked.{same_entry}
+use Rattle.sequence_match.proofs.Entries.{same_entry}
 use Rattle.sequence_match.proofs.Rows.{call_width_is}
 use Rattle.link_core.proofs.TogetherRows.{cell_at, first_fits, FitsIn, IsInSecond, second_fits}
 

@@ -1,18 +1,17 @@
--- The second relocation of a sequence, and the earliest at a place, found by marks.
-use Rattle.std.proofs.Common.{◌≡◌, ◌+◌, ◌<◌, ◌≤◌, ◌⊎◌, ◌↔◌, ◌==◌, ◌∙◌, ℕ, List, Bool, Some, None, IsTrue, length, refl, subst, sym, ap, inl, inr, arith}
-use Rattle.std.proofs.lemmas.Option.{slice_get_within}
+-- The second relocation of a sequence, and the earliest at a place, found by place.
+use Rattle.std.proofs.Common.{◌≡◌, ◌+◌, ◌<◌, ◌≤◌, ◌↔◌, ◌==◌, ◌∙◌, ℕ, List, Bool, Some, IsTrue, refl, subst, sym, ap, inl, inr, arith}
 use Rattle.std.proofs.lemmas.Bool.Decides.{nat_tests}
 use Rattle.elf_records.specs.declared.relocation.RelocationKind.{RelocationKind}
 use Rattle.elf_records.specs.declared.relocation.RelocationKind.TheVariants.{TlsDescCall}
 use Rattle.elf_object.specs.declared.relocation.Relocation.{Relocation}
 use Rattle.elf_object.specs.Relocations.{field_width}
 use Rattle.sequence_match.specs.declared.forms.Second.{Second}
-use Rattle.sequence_match.specs.declared.marks.Mark.{Mark}
-use Rattle.sequence_match.specs.declared.marks.Reach.TheVariants.{OfField, OfCall}
-use Rattle.sequence_match.specs.Code.{look, AreMarks, AreApart, MarksAt, IsEarliest, call_width}
+use Rattle.sequence_match.specs.declared.index.Reach.TheVariants.{OfField, OfCall}
+use Rattle.sequence_match.specs.Code.{AreApart, IsEarliest, ReachesAt, call_width}
 use Rattle.sequence_match.specs.Faults.{IsOfSequence}
 use Rattle.sequence_match.specs.Sites.{Covers, Calls, IsEntry, IsSecond}
-use Rattle.sequence_match.proofs.Marked.{same_entry, marked_by, only_field, bare_of, unmarked}
+use Rattle.sequence_match.proofs.Entries.{bare_of, below_or_not, only_field, same_entry}
+use Rattle.sequence_match.proofs.Indexed.{reach_of_call}
 use Rattle.sequence_match.proofs.Rows.{call_width_is, sequence_width}
 
 starts : (a k o w : ℕ) → o ≡ k → w ≡ 4 → (o ≤ k) × (k < o + w)
@@ -24,25 +23,21 @@ pub covers_call : (second : Second) (getter : ℕ → Type 0) (start : ℕ) (x :
 covers_call second getter start x h =
     starts 0 (start + second.at) x.offset (field_width x.kind) h.offset_is (call_width_is second.call x.kind h.kind_is)
 
-module _ (xs : List Relocation) (len stamp : ℕ) (marks : List Mark) (apart : AreApart xs) (are : AreMarks OfField xs (length xs) len stamp marks) where
-  -- the relocation that marks the place is the second one, or none is
-  pub call_found : (second : Second) (getter : ℕ → Type 0) (start e : ℕ) (x : Relocation) (r : Bool) → start + second.at < len
-      → Some e ≡ look marks stamp (start + second.at) → IsEntry xs e x → (IsTrue r ↔ Calls second getter start x)
-      → IsTrue r ↔ ((f : ℕ) × IsSecond (Some second) getter xs start f)
-  call_found second getter start e x r below same entry is = (
+module _ (xs : List Relocation) (apart : AreApart xs) (second : Second) (getter : ℕ → Type 0) (start : ℕ) where
+  -- the relocation whose field covers the place is the second one, or none is
+  pub call_found : (e : ℕ) (x : Relocation) (r : Bool) → ReachesAt OfField xs (start + second.at) e → IsEntry xs e x
+      → (IsTrue r ↔ Calls second getter start x) → IsTrue r ↔ ((f : ℕ) × IsSecond (Some second) getter xs start f)
+  call_found e x r by entry is = (
     λ t. (e, (x, entry, is.0 t)),
     λ h.
-        let eq = only_field xs len stamp (start + second.at) e h.0 h.1.0 marks apart are below same h.1.1 (covers_call second getter start h.1.0 h.1.2) in
+        let eq = only_field xs (start + second.at) e h.0 h.1.0 apart by h.1.1 (covers_call second getter start h.1.0 h.1.2) in
         let P : ℕ → Type 0 = λ n. IsEntry xs n h.1.0 in
         let C : Relocation → Type 0 = λ y. Calls second getter start y in
         is.1 (subst C (same_entry xs e h.1.0 x (subst P eq h.1.1) entry) h.1.2),
   )
 
-  pub call_missing : (second : Second) (getter : ℕ → Type 0) (start : ℕ) → start + second.at < len
-      → None ≡ look marks stamp (start + second.at)
-      → ((f : ℕ) × IsSecond (Some second) getter xs start f) → ⊥
-  call_missing second getter start below same h =
-      bare_of xs len stamp (start + second.at) marks are below same h.0 h.1.0 h.1.1 (covers_call second getter start h.1.0 h.1.2)
+  pub call_missing : ((e : ℕ) → ReachesAt OfField xs (start + second.at) e → ⊥) → ((f : ℕ) × IsSecond (Some second) getter xs start f) → ⊥
+  call_missing none h = bare_of xs (start + second.at) none h.0 h.1.0 h.1.1 (covers_call second getter start h.1.0 h.1.2)
 
 -- a relocation with a field is the first at its place
 pub field_earliest : (xs : List Relocation) (e : ℕ) (x : Relocation) → AreApart xs → IsEntry xs e x → IsOfSequence x.kind
@@ -53,10 +48,6 @@ field_earliest xs e x apart entry sequence other f y less at kind offset =
     apart f e x.offset y x at entry less (starts 0 x.offset y.offset (field_width y.kind) offset same)
     (starts 0 x.offset x.offset (field_width x.kind) refl wide)
 
-reach_of_call : (kind : RelocationKind) (o k : ℕ) → (o ≤ k) × (k < o + call_width kind) → (kind ≡ TlsDescCall) × (o ≡ k)
-reach_of_call TlsDescCall o k h = (refl, omega (arith, h.0, h.1))
-reach_of_call _ o k h = absurd (omega (arith, h.0, h.1))
-
 reaches_place : (kind : RelocationKind) (o k : ℕ) → kind ≡ TlsDescCall → o ≡ k → (o ≤ k) × (k < o + call_width kind)
 reaches_place kind o k same at = rw same (omega arith, omega arith)
 
@@ -66,29 +57,24 @@ eq_of a b t = grind (arith, nat_tests)
 of_eq : (a b : ℕ) → a ≡ b → IsTrue (a == b)
 of_eq a b h = grind (arith, nat_tests)
 
-below_or_not : (e f : ℕ) → (e < f) ⊎ ((e ≡ f) ⊎ (f < e))
-below_or_not e f = grind arith
+module _ (xs : List Relocation) (e : ℕ) (x : Relocation) (entry : IsEntry xs e x) (call : x.kind ≡ TlsDescCall) where
+  reaches_itself : ReachesAt OfCall xs x.offset e
+  reaches_itself = (x, entry, reaches_place x.kind x.offset x.offset call refl)
 
-module _ (xs : List Relocation) (len stamp : ℕ) (marks : List Mark) (are : AreMarks OfCall xs (length xs) len stamp marks)
-    (e : ℕ) (x : Relocation) (entry : IsEntry xs e x) (inside : x.offset < len) (call : x.kind ≡ TlsDescCall) where
-  marks_itself : MarksAt OfCall xs (length xs) x.offset e
-  marks_itself = (slice_get_within xs e x entry, (x, entry, reaches_place x.kind x.offset x.offset call refl))
+  pub call_earliest : (first : ℕ) → ReachesAt OfCall xs x.offset first × ((f : ℕ) → f < first → ReachesAt OfCall xs x.offset f → ⊥)
+      → IsTrue (first == e) ↔ IsEarliest xs e x
+  call_earliest first by = (
+    λ t f y less at kind offset.
+        by.1 f (omega (arith, eq_of first e t, less)) (y, at, reaches_place y.kind y.offset x.offset (kind ∙ call) offset),
+    λ earliest. of_eq first e
+        (elim (below_or_not first e) [
+          | inl less ↦
+              let place = reach_of_call by.0.0.kind by.0.0.offset x.offset by.0.2 in
+              absurd (earliest first by.0.0 less by.0.1 (place.0 ∙ sym call) place.1)
+          | inr (inl eq) ↦ eq
+          | inr (inr more) ↦ absurd (by.1 e more reaches_itself)
+        ]),
+  )
 
-  pub call_earliest : (first : ℕ) → Some first ≡ look marks stamp x.offset → IsTrue (first == e) ↔ IsEarliest xs e x
-  call_earliest first same =
-      let by = marked_by OfCall xs len stamp x.offset first marks are inside same in (
-        λ t f y less at kind offset.
-            by.1 f (omega (arith, eq_of first e t, less))
-            (slice_get_within xs f y at, (y, at, reaches_place y.kind y.offset x.offset (kind ∙ call) offset)),
-        λ earliest. of_eq first e
-            (elim (below_or_not first e) [
-              | inl less ↦
-                  let place = reach_of_call by.0.1.0.kind by.0.1.0.offset x.offset by.0.1.2 in
-                  absurd (earliest first by.0.1.0 less by.0.1.1 (place.0 ∙ sym call) place.1)
-              | inr (inl eq) ↦ eq
-              | inr (inr more) ↦ absurd (by.1 e more marks_itself)
-            ]),
-      )
-
-  pub call_marked : None ≡ look marks stamp x.offset → ⊥
-  call_marked same = unmarked OfCall xs len stamp x.offset marks are inside same e marks_itself
+  pub call_there : ((f : ℕ) → ReachesAt OfCall xs x.offset f → ⊥) → ⊥
+  call_there none = none e reaches_itself

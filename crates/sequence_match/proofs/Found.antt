@@ -16,7 +16,7 @@ use Rattle.sequence_match.specs.Faults.{StandsAt}
 use Rattle.sequence_match.specs.Finding.{AreSitesIn}
 use Rattle.sequence_match.specs.Forms.{row, register}
 use Rattle.sequence_match.specs.Sites.{Calls, HasSecond, IsSecond, IsSiteOf, IsSpelled}
-use Rattle.sequence_match.proofs.Marked.{same_entry}
+use Rattle.sequence_match.proofs.Entries.{same_entry}
 use Rattle.sequence_match.proofs.OneForm.{one_form}
 use Rattle.sequence_match.proofs.Opened.{same_start}
 

@@ -11,7 +11,7 @@ use Rattle.sequence_match.specs.declared.places.Site.{Site}
 use Rattle.sequence_match.specs.Code.{IsFound, HasNoSiteOf, IsNoFirst}
 use Rattle.sequence_match.specs.Forms.{row}
 use Rattle.sequence_match.specs.Sites.{IsEntry, Opens, IsSiteOf}
-use Rattle.sequence_match.proofs.Marked.{same_entry}
+use Rattle.sequence_match.proofs.Entries.{same_entry}
 
 -- the forms that a type opens
 abbrev pub IsAmong : Form → RelocationKind → Type 0

@@ -8,11 +8,12 @@ use Rattle.sequence_match.specs.declared.forms.Form.TheVariants.{Gd, Ld, IeMov, 
 use Rattle.sequence_match.specs.declared.forms.Second.{Second}
 use Rattle.sequence_match.specs.declared.matching.Code.{Code}
 use Rattle.sequence_match.specs.declared.places.Site.{Site}
-use Rattle.sequence_match.specs.Code.{look, IsFound, IsNoFirst, IsReady, IsSecondIn, IsSiteIn, Names}
+use Rattle.sequence_match.specs.declared.index.Reach.TheVariants.{OfField}
+use Rattle.sequence_match.specs.Code.{IsFound, IsNoFirst, IsReady, IsSecondIn, IsSiteIn, Names, ReachesAt}
 use Rattle.sequence_match.specs.Faults.{IsStray}
 use Rattle.sequence_match.specs.Forms.{row}
 use Rattle.sequence_match.specs.Sites.{Covers, IsEntry, IsSecond, IsSpelled, Opens}
-use Rattle.sequence_match.proofs.Marked.{bare_of, only_field, same_entry}
+use Rattle.sequence_match.proofs.Entries.{bare_of, only_field, same_entry}
 use Rattle.sequence_match.proofs.OneForm.{one_form}
 use Rattle.sequence_match.proofs.Opened.{same_start}
 use Rattle.sequence_match.proofs.Rows.{first_has_field, first_inside}
@@ -61,29 +62,28 @@ module _ (code : Code) (form : Form) (f start : ℕ) where
       starts (start + (row form).first_at) h.1.2.first.0.offset (field_width h.1.2.first.0.kind) (opens.offset_is ∙ ap (λ n. n + (row form).first_at) same)
       (ap field_width opens.kind_is ∙ first_has_field form two.0 two.1)
 
-module _ (code : Code) (ready : IsReady code) (form : Form) (f start : ℕ) (inside : start + (row form).first_at < length code.bytes.now)
+module _ (code : Code) (ready : IsReady code) (form : Form) (f start : ℕ)
     (second : IsSecond (row form).second (Names code.getters.now) code.relocations.now start f) where
   same_starts : (h : IsSecondIn code form f) → h.1.0.start ≡ start
   same_starts h = start_of_second (row form).second (Names code.getters.now) code.relocations.now h.1.0.start start f h.1.3 second
 
   -- where no relocation covers the first one's place, there is no such sequence
-  pub not_marked : None ≡ look code.fields.now code.stamp (start + (row form).first_at) → IsSecondIn code form f → ⊥
-  not_marked none h =
-      bare_of code.relocations.now (length code.bytes.now) code.stamp (start + (row form).first_at) code.fields.now ready.fields_are inside none
+  pub not_covered : ((e : ℕ) → ReachesAt OfField code.relocations.now (start + (row form).first_at) e → ⊥) → IsSecondIn code form f → ⊥
+  not_covered none h =
+      bare_of code.relocations.now (start + (row form).first_at) none
       h.0 h.1.2.first.0 h.1.2.first.1 (first_covers code form f start h (same_starts h))
 
   -- the one that covers it is the first one
-  is_first : (e : ℕ) → Some e ≡ look code.fields.now code.stamp (start + (row form).first_at) → (h : IsSecondIn code form f) → h.0 ≡ e
+  is_first : (e : ℕ) → ReachesAt OfField code.relocations.now (start + (row form).first_at) e → (h : IsSecondIn code form f) → h.0 ≡ e
   is_first e some h =
-      only_field code.relocations.now (length code.bytes.now) code.stamp (start + (row form).first_at) e h.0 h.1.2.first.0 code.fields.now ready.apart ready.fields_are
-      inside some h.1.2.first.1 (first_covers code form f start h (same_starts h))
+      only_field code.relocations.now (start + (row form).first_at) e h.0 h.1.2.first.0 ready.apart some h.1.2.first.1 (first_covers code form f start h (same_starts h))
 
-  pub no_sequence : (e : ℕ) → Some e ≡ look code.fields.now code.stamp (start + (row form).first_at) → IsNoFirst code e → IsSecondIn code form f → ⊥
+  pub no_sequence : (e : ℕ) → ReachesAt OfField code.relocations.now (start + (row form).first_at) e → IsNoFirst code e → IsSecondIn code form f → ⊥
   no_sequence e some none h =
       let P : ℕ → Type 0 = λ i. IsSiteIn code i h.1.0 in
       none h.1.0 (subst P (is_first e some h) h.1.2)
 
-  pub a_sequence : (e : ℕ) (site : Site) (r : Bool) → Some e ≡ look code.fields.now code.stamp (start + (row form).first_at)
+  pub a_sequence : (e : ℕ) (site : Site) (r : Bool) → ReachesAt OfField code.relocations.now (start + (row form).first_at) e
       → IsFound code site.form e site → (IsTrue r ↔ ((site.form ≡ form) × (site.start ≡ start)))
       → IsTrue r ↔ IsSecondIn code form f
   a_sequence e site r some found is = (

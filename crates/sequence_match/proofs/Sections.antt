@@ -1,25 +1,23 @@
 -- The sections of an object, their code and their relocations.
 use Rattle.std.proofs.Common.{◌≡◌, ◌+◌, ◌*◌, ◌<◌, ◌≤◌, ◌==◌, ◌&&◌, ◌∙◌, ℕ, zero, suc, Bool, true, false, List}
-use Rattle.std.proofs.Common.{[], Option, Some, None, IsSome, is_some, is_none, nat_lt, if◌then◌else◌, refl, sym, ap, subst, inr, arith}
+use Rattle.std.proofs.Common.{[], Option, Some, None, IsSome, is_some, nat_lt, if◌then◌else◌, refl, sym, ap, subst, arith}
 use Rattle.std.specs.Prelude.{unwrap_or}
 use Rattle.std.specs.List.{slice_get}
 use Rattle.std.proofs.lemmas.Option.{same_Some}
 use Rattle.std.proofs.lemmas.Bool.Decides.{nat_tests}
 use Rattle.object_faults.specs.declared.class.SectionClass.{SectionClass}
-use Rattle.object_faults.specs.declared.fault.FaultKind.TheVariants.{RelocTarget, RelocOverlap}
+use Rattle.object_faults.specs.declared.fault.FaultKind.TheVariants.{RelocOverlap}
 use Rattle.elf_records.specs.Records.{rela_kind}
 use Rattle.elf_object.specs.declared.relocation.Relocation.{Relocation}
 use Rattle.elf_records.specs.declared.relocation.RelocationKind.{RelocationKind}
 use Rattle.elf_records.specs.declared.relocation.RelocationKind.TheVariants.{Nothing}
 use Rattle.elf_object.specs.Classes.{kept_class, IsKeptSection}
 use Rattle.elf_object.specs.Faults.{Stands, IsObject}
-use Rattle.elf_object.specs.FirstLaws.{first_least}
-use Rattle.elf_object.specs.Laws.{kept_is, table_of_kept}
+use Rattle.elf_object.specs.Laws.{table_of_kept}
 use Rattle.elf_object.specs.LawsOfParts.{class_of_section}
 use Rattle.elf_object.specs.Lent.{section_class, section_bytes, relocation_target, kept_relocation_table, relocations, relocations_in, relocations_from, relocation_at}
-use Rattle.elf_object.specs.Parts.{header, section, rela, relocation_table, relocates, entry_count, IsRela}
+use Rattle.elf_object.specs.Parts.{header, section, rela, entry_count, IsRela}
 use Rattle.elf_object.specs.Relocations.{relocation_kind, field_width, width_of, Covers as CoversAt}
-use Rattle.elf_object.specs.Searches.{relocates_is}
 use Rattle.sequence_match.specs.Code.{AreApart}
 use Rattle.sequence_match.specs.Faults.{code_of, bytes_of_code}
 use Rattle.sequence_match.specs.Sites.{Covers}
@@ -55,48 +53,6 @@ target_of_table b s some =
     some_is None None same h = absurd (cc)
     some_is None (Some d) same h = absurd (cc)
     some_is (Some c) d same h = refl
-
-relocates_itself : (r k i : ℕ) → 0 < r → k ≡ 4 → (nat_lt 0 r && ((k == 4) && (i == i))) ≡ true
-relocates_itself r k i above same = grind (arith, nat_tests)
-
-table_is : (class : Option SectionClass) (r : ℕ) → is_none class ≡ false → (if is_some class then r else 0) ≡ r
-table_is None r h = absurd (cc)
-table_is (Some class) r h = refl
-
-least : (q r : ℕ) → q ≤ r → (q < r → ⊥) → q ≡ r
-least q r h other = grind arith
-
-is_own : (b : List ℕ) → IsObject b → (r : ℕ) → IsRela b r → is_none (section_class b (section b r).info) ≡ false
-    → kept_relocation_table b (section b r).info ≡ r
-unfolding kept_relocation_table relocation_table Stands
-is_own b object r rela kept =
-    let t = (section b r).info in
-    let n = (header b).e_shnum in
-    let found = first_least (relocates b t) n r rela.0.0 rela.0.1 (relocates_itself r (section b r).kind t rela.0.0 rela.1) in
-    let of = relocates_is b t found.0 in
-    table_is (section_class b t) (relocation_table b t) kept
-    ∙ least (relocation_table b t) r found.1
-    (λ earlier. object RelocTarget r 0
-    (refl, rela, inr ((kept_is b t kept).0, inr (inr (inr (inr (relocation_table b t, earlier, of.0, of.1)))))))
-
--- and a section whose relocations are those of one that linking keeps is that one's table
-pub table_of_target : (b : List ℕ) → IsObject b → (r : ℕ) → 0 < relocation_target b r → kept_relocation_table b (relocation_target b r) ≡ r
-unfolding Stands relocation_target
-table_of_target b object r some =
-    let t = (section b r).info in
-    let parts = of_target r (header b).e_shnum (section b r).kind t (is_some (section_class b t)) some in
-    let rela : IsRela b r = (parts.0, parts.1) in
-    let P : ℕ → Type 0 = λ x. kept_relocation_table b x ≡ r in
-    subst P (sym parts.3) (is_own b object r rela (class_is (section_class b t) parts.2))
-  where
-    of_target : (r n k t : ℕ) (kept : Bool) → 0 < (if ((nat_lt 0 r && nat_lt r n) && (k == 4)) && kept then t else 0)
-        → ((0 < r) × (r < n)) × (k ≡ 4) × (kept ≡ true) × ((if ((nat_lt 0 r && nat_lt r n) && (k == 4)) && kept then t else 0) ≡ t)
-    of_target r n k t true h = grind (arith, nat_tests)
-    of_target r n k t false h = grind (arith, nat_tests)
-
-    class_is : (class : Option SectionClass) → is_some class ≡ true → is_none class ≡ false
-    class_is None h = absurd (cc)
-    class_is (Some class) h = refl
 
 -- the fields of a section's relocations share no byte
 width_is : (kind : Option RelocationKind) → field_width (unwrap_or kind Nothing) ≡ width_of kind

@@ -1,86 +1,25 @@
--- From the relocations of one section to those of an object: faults by tables, sites by sections.
-use Rattle.std.proofs.Common.{◌≡◌, ◌≢◌, ◌+◌, ◌-◌, ◌<◌, ◌≤◌, ◌⊎◌, ◌∙◌, ◌++◌, ◌==◌, ℕ, List, [], Bool, true}
-use Rattle.std.proofs.Common.{false, Option, Some, None, length, get_or, if◌then◌else◌, refl, sym, ap, subst, inl, inr, arith, length-append}
+-- From the sites of one section to those of an object.
+use Rattle.std.proofs.Common.{◌≡◌, ◌≢◌, ◌+◌, ◌-◌, ◌<◌, ◌≤◌, ◌⊎◌, ◌∙◌, ◌++◌, ℕ, List, []}
+use Rattle.std.proofs.Common.{length, get_or, refl, sym, ap, subst, inl, inr, arith, length-append}
 use Rattle.std.specs.List.{AllPairs}
 use Rattle.std.specs.List.Sorted.{IsPermutation, IsNonDecreasingBy}
-use Rattle.std.specs.Prelude.{Err}
 use Rattle.std.proofs.lemmas.Bool.{cases_lt}
-use Rattle.std.proofs.lemmas.Bool.Decides.{nat_tests}
 use Rattle.std.proofs.lemmas.List.{get_or-append_right, get_or_append_left}
 use Rattle.std.proofs.lemmas.List.Elements.{All-append, Contains-append_left, Contains-append_right}
 use Rattle.std.proofs.lemmas.List.Sorted.{All-permutation, Contains-permutation}
-use Rattle.object_faults.specs.declared.fault.FaultKind.{FaultKind}
-use Rattle.object_faults.specs.declared.fault.FaultKind.TheVariants.{Sequence, StrayCall}
-use Rattle.object_faults.specs.declared.fault.ObjectFault.{ObjectFault}
-use Rattle.object_faults.specs.declared.fault.ObjectFault.TheVariants.{OutOfMemory, At}
 use Rattle.elf_object.specs.declared.relocation.Relocation.{Relocation}
-use Rattle.elf_object.specs.Faults.{number, Earlier, IsFirstAt, IsObject}
-use Rattle.elf_object.specs.Firsts.{nonzero}
-use Rattle.elf_object.specs.Laws.{table_of_kept}
-use Rattle.elf_object.specs.Lent.{kept_relocation_table, relocation_target, relocations}
+use Rattle.elf_object.specs.Lent.{relocations}
 use Rattle.elf_object.specs.Parts.{header}
 use Rattle.sequence_match.specs.declared.matching.Code.{Code}
 use Rattle.sequence_match.specs.declared.places.Site.{Site}
 use Rattle.sequence_match.specs.Code.{Names}
-use Rattle.sequence_match.specs.Faults.{code_of, AreSites, Before, IsFault, IsFirst, IsGetter, IsSite, Nowhere, Stands, StandsAt, StandsOf}
-use Rattle.sequence_match.specs.Finding.{Answers, AreGetters, AreSitesFrom, AreSitesIn, IsOf}
+use Rattle.sequence_match.specs.Faults.{code_of, AreSites, Before, IsGetter, IsSite}
+use Rattle.sequence_match.specs.Finding.{AreGetters, AreSitesFrom, AreSitesIn, IsOf}
 use Rattle.sequence_match.specs.Sites.{IsSiteOf}
-use Rattle.sequence_match.proofs.Found.{site_with, stands_with}
+use Rattle.sequence_match.proofs.Found.{site_with}
 use Rattle.sequence_match.proofs.Rising.{pairs_of_permutation, rises}
 use Rattle.sequence_match.proofs.Rows.{first_inside}
-use Rattle.sequence_match.proofs.Sections.{code_past, code_zero, table_of_target, target_of_table}
-
-some_of : (n m : ℕ) (t : Bool) → ((n == 0) ≡ t) → Some m ≡ (if t then None else Some n) → (n ≡ m) × (0 < n)
-some_of n m true test h = absurd (cc)
-some_of n m false test h = (cc, above n test)
-  where
-    above : (n : ℕ) → (n == 0) ≡ false → 0 < n
-    above n h = grind (arith, nat_tests)
-
-pub nonzero_some : (n m : ℕ) → Some m ≡ nonzero n → (n ≡ m) × (0 < n)
-nonzero_some n m h = some_of n m (n == 0) refl h
-
-none_of : (n : ℕ) (t : Bool) → ((n == 0) ≡ t) → None ≡ (if t then None else Some n) → n ≡ 0
-none_of n true test h = zero_is n test
-  where
-    zero_is : (n : ℕ) → (n == 0) ≡ true → n ≡ 0
-    zero_is n h = grind (arith, nat_tests)
-none_of n false test h = absurd (cc)
-
-pub nonzero_none : (n : ℕ) → None ≡ nonzero n → n ≡ 0
-nonzero_none n h = none_of n (n == 0) refl h
-
--- where a fault stands, the table is one
-pub stands_in_table : (kind : FaultKind) (b : List ℕ) (r e : ℕ) → Stands kind b r e → (0 < r) × (r < (header b).e_shnum) × (0 < relocation_target b r)
-stands_in_table kind b r e h =
-    let R : ℕ → Type 0 = λ t. 0 < t in
-    let table = table_of_kept b h.1.0 (subst R (sym h.1.1) h.0) in
-    let same : relocation_target b r ≡ h.1.0 =
-    ap (relocation_target b) (sym h.1.1) ∙ target_of_table b h.1.0 (subst R (sym h.1.1) h.0) in
-    (h.0, omega (arith, table.1.0.1, h.1.1), omega (arith, same, table.0.0.0))
-
-pub first_with : (P Q : ℕ → Type 0) → ((e : ℕ) → P e → Q e) → ((e : ℕ) → Q e → P e) → (o : Option ℕ) → IsFirstAt P o → IsFirstAt Q o
-first_with P Q to from None h = λ e q. h e (from e q)
-first_with P Q to from (Some e) h = (to e h.0, λ f less q. h.1 f less (from f q))
-
--- the relocations of a section's table, which is its target's
-module _ (kind : FaultKind) (b : List ℕ) (object : IsObject b) (r s : ℕ) (bytes : List ℕ) (xs : List Relocation) (getters : List Bool) where
-  pub stands_first : bytes ≡ code_of b s → xs ≡ relocations b s → AreGetters b getters → relocation_target b r ≡ s → 0 < relocation_target b r → 0 < r
-      → (o : Option ℕ) → IsFirstAt (StandsAt kind bytes xs (Names getters)) o → IsFirstAt (Stands kind b r) o
-  stands_first bytes_are xs_are are target some above o h =
-      let K : ℕ → Type 0 = λ t. kept_relocation_table b t ≡ r in
-      let table : kept_relocation_table b s ≡ r = subst K target (table_of_target b object r some) in
-      let B : List ℕ → Type 0 = λ c. IsFirstAt (StandsAt kind c xs (Names getters)) o in
-      let X : List Relocation → Type 0 = λ c. IsFirstAt (StandsAt kind (code_of b s) c (Names getters)) o in
-      first_with (StandsAt kind (code_of b s) (relocations b s) (Names getters)) (Stands kind b r)
-      (λ e p. (above, (s, table, stands_with (Names getters) (IsGetter b) kind (code_of b s) (relocations b s) e (λ n. (are n).0) (λ n. (are n).1) p)))
-      (λ e q.
-      let R : ℕ → Type 0 = λ t. 0 < t in
-      let same : q.1.0 ≡ s =
-      sym (target_of_table b q.1.0 (subst R (sym q.1.1) above)) ∙ ap (relocation_target b) q.1.1 ∙ target in
-      let S : ℕ → Type 0 = λ t. StandsOf kind b t e in
-      stands_with (IsGetter b) (Names getters) kind (code_of b s) (relocations b s) e (λ n. (are n).1) (λ n. (are n).0) (subst S same q.1.2))
-      o (subst X xs_are (subst B bytes_are h))
+use Rattle.sequence_match.proofs.Sections.{code_past, code_zero}
 
 -- a section's sites
 module _ (code : Code) (b : List ℕ) (s : ℕ) (at : code.section ≡ s) (bytes_are : code.bytes.now ≡ code_of b s)
@@ -188,56 +127,3 @@ sites_done b n xs all from = record {
   every = λ site is. let h = site_section b site is in from.every site is h.0 (omega (arith, h.1));
   rising = from.rising;
 }
-
--- of the kinds, two can stand
-only_two : (kind : FaultKind) (b : List ℕ) (s e : ℕ) → StandsOf kind b s e → (kind ≡ Sequence) ⊎ (kind ≡ StrayCall)
-only_two Sequence b s e h = inl refl
-only_two StrayCall b s e h = inr refl
-only_two _ b s e h = absurd h
-
-pub loose_fault : (b : List ℕ) (fault : ObjectFault) → Answers {X = Unit {0}} Sequence b (Err fault) → IsFault b fault
-loose_fault b OutOfMemory h = tt
-loose_fault b (At r e kind) h =
-    let F : FaultKind → Type 0 = λ k. IsFirst b r e k in
-    subst F (sym h.0) (record {
-      here = h.1;
-      nowhere_earlier = h.2;
-      earlier_kinds = λ earlier less t f stands. elim (only_two earlier b stands.1.0 f stands.1.2) [
-        | inl same ↦ omega (arith, less, ap number same)
-        | inr same ↦ omega (arith, less, ap number same)
-      ];
-    })
-
-pub stray_fault : (b : List ℕ) (fault : ObjectFault) → Nowhere Sequence b → Answers {X = Unit {0}} StrayCall b (Err fault) → IsFault b fault
-stray_fault b OutOfMemory none h = tt
-stray_fault b (At r e kind) none h =
-    let F : FaultKind → Type 0 = λ k. IsFirst b r e k in
-    subst F (sym h.0) (record {
-      here = h.1;
-      nowhere_earlier = h.2;
-      earlier_kinds = λ earlier less t f stands. elim (only_two earlier b stands.1.0 f stands.1.2) [
-        | inl same ↦ let N : FaultKind → Type 0 = λ k. Stands k b t f in none t f (subst N same stands)
-        | inr same ↦ omega (arith, less, ap number same)
-      ];
-    })
-
--- no fault stands before one place where none stands in the tables before it, nor at its table's earlier entries
-pub none_earlier : (kind : FaultKind) (b : List ℕ) (r e : ℕ) → ((t : ℕ) → t < r → (f : ℕ) → Stands kind b t f → ⊥)
-    → ((f : ℕ) → f < e → Stands kind b r f → ⊥) → (t f : ℕ) → Earlier t f r e → Stands kind b t f → ⊥
-none_earlier kind b r e tables entries t f (inl less) h = tables t less f h
-none_earlier kind b r e tables entries t f (inr same) h =
-    let S : ℕ → Type 0 = λ n. Stands kind b n f in
-    entries f same.1 (subst S same.0 h)
-
--- what a search through one table answers
-pub stands_at : (kind : FaultKind) (b : List ℕ) (r e : ℕ) (o : Option ℕ) → o ≡ Some e → IsFirstAt (Stands kind b r) o
-    → Stands kind b r e × ((f : ℕ) → f < e → Stands kind b r f → ⊥)
-stands_at kind b r e None same h = absurd (cc)
-stands_at kind b r e (Some d) same h =
-    let eq : d ≡ e = cc in
-    let P : ℕ → Type 0 = λ n. Stands kind b r n × ((f : ℕ) → f < n → Stands kind b r f → ⊥) in
-    subst P eq h
-
-pub none_at : (kind : FaultKind) (b : List ℕ) (r : ℕ) (o : Option ℕ) → o ≡ None → IsFirstAt (Stands kind b r) o → (e : ℕ) → Stands kind b r e → ⊥
-none_at kind b r None same h = h
-none_at kind b r (Some d) same h = absurd (cc)

@@ -1,22 +1,23 @@
--- What matching keeps of the code of one section: marks on its bytes, and which symbols are `__tls_get_addr`.
-use Rattle.std.specs.Prelude.{◌≡◌, ◌+◌, ◌<◌, ◌≤◌, ◌==◌, ◌^◌, ℕ, Bool, false, List, length, Option, Some}
-use Rattle.std.specs.Prelude.{None, IsTrue, IfSome}
-use Rattle.std.specs.Prelude.{slice_index_or, if◌then◌else◌}
+-- What matching keeps of the code of one section: its relocations by their places, and which symbols are
+-- `__tls_get_addr`.
+use Rattle.std.specs.Prelude.{◌≡◌, ◌+◌, ◌*◌, ◌<◌, ◌≤◌, ◌^◌, ℕ, Bool, false, List, length, Option, Some, None}
+use Rattle.std.specs.Prelude.{IsTrue, IfSome, slice_index_or}
+use Rattle.std.specs.List.{All, AllWithin, Contains}
+use Rattle.std.specs.List.Sorted.{IsNonDecreasingBy}
 use Rattle.elf_records.specs.declared.relocation.RelocationKind.{RelocationKind}
 use Rattle.elf_records.specs.declared.relocation.RelocationKind.TheVariants.{TlsDescCall}
 use Rattle.elf_object.specs.declared.relocation.Relocation.{Relocation}
-use Rattle.elf_object.specs.Faults.{IsFirstAt}
 use Rattle.elf_object.specs.Relocations.{field_width}
-use Rattle.sequence_match.specs.declared.marks.Mark.{Mark}
-use Rattle.sequence_match.specs.declared.marks.Reach.{Reach}
-use Rattle.sequence_match.specs.declared.marks.Reach.TheVariants.{OfField, OfCall}
+use Rattle.sequence_match.specs.declared.index.Span.{Span}
+use Rattle.sequence_match.specs.declared.index.Reach.{Reach}
+use Rattle.sequence_match.specs.declared.index.Reach.TheVariants.{OfField, OfCall}
 use Rattle.sequence_match.specs.declared.matching.Code.{Code}
 use Rattle.sequence_match.specs.declared.forms.Form.{Form}
 use Rattle.sequence_match.specs.declared.places.Site.{Site}
 use Rattle.sequence_match.specs.Forms.{row}
 use Rattle.sequence_match.specs.Sites.{Covers, HasSecond, IsEntry, IsSecond, IsSiteOf, IsSpelled}
 
--- how many bytes a relocation of this type marks: those of its field, or the place of a descriptor's call
+-- how many bytes a relocation of this type reaches: those of its field, or the place of a descriptor's call
 abbrev pub call_width : RelocationKind → ℕ
 call_width TlsDescCall = 1
 call_width _ = 0
@@ -25,51 +26,76 @@ abbrev pub reach_width : Reach → RelocationKind → ℕ
 reach_width OfField kind = field_width kind
 reach_width OfCall kind = call_width kind
 
--- the relocation marks byte k
+-- the relocation reaches byte k
 abbrev pub Reaches : Reach → Relocation → ℕ → Type 0
 Reaches reach x k = (x.offset ≤ k) × (k < x.offset + reach_width reach x.kind)
 
--- a mark that no section has
-abbrev pub no_mark : Mark
-no_mark = record { stamp = 0; entry = 0 }
+-- relocation number e reaches byte k
+abbrev pub ReachesAt : Reach → List Relocation → ℕ → ℕ → Type 0
+ReachesAt reach xs k e = (x : Relocation) × IsEntry xs e x × Reaches reach x k
 
--- the entry that a mark says, if the mark is this stamp's
-abbrev pub entry_of : Mark → ℕ → Option ℕ
-entry_of mark stamp = if mark.stamp == stamp then Some mark.entry else None
+-- what x, relocation number e, reaches
+abbrev pub span_of : Reach → ℕ → Relocation → Span
+span_of reach e x = record { offset = x.offset; width = reach_width reach x.kind; entry = e }
 
--- the entry that byte k is marked with
-unfoldable pub look : List Mark → ℕ → ℕ → Option ℕ
-look marks stamp k = entry_of (slice_index_or marks k no_mark) stamp
+-- what one of the first n relocations reaches, one byte at least
+abbrev pub IsSpanOf : Reach → List Relocation → ℕ → Span → Type 0
+IsSpanOf reach xs n span =
+    (span.entry < n) × (0 < span.width)
+    × ((x : Relocation) × IsEntry xs span.entry x × (span ≡ span_of reach span.entry x))
 
--- each mark has a stamp below n
-abbrev pub AreBelow : List Mark → ℕ → Type 0
-AreBelow marks n = (k : ℕ) → k < length marks → (slice_index_or marks k no_mark).stamp < n
+-- exactly the spans of those of the first n relocations that reach a byte
+pub record AreSpans (reach : Reach) (xs : List Relocation) (n : ℕ) (spans : List Span) : Type 0 where
+  pub only : All (IsSpanOf reach xs n) spans
+  pub every : (e : ℕ) (x : Relocation) → e < n → IsEntry xs e x → 0 < reach_width reach x.kind
+      → Contains spans (span_of reach e x)
 
--- relocation number e, one of the first n, marks byte k
-abbrev pub MarksAt : Reach → List Relocation → ℕ → ℕ → ℕ → Type 0
-MarksAt reach xs n k e = (e < n) × ((x : Relocation) × IsEntry xs e x × Reaches reach x k)
+-- a number by which spans rise by offset, and those at one offset by entry, which is below 2 ^ 20
+abbrev pub order_of : Span → ℕ
+order_of span = span.offset * 2 ^ 20 + span.entry
 
--- each of the first len bytes is marked with the first of n relocations that marks it
-abbrev pub AreMarks : Reach → List Relocation → ℕ → ℕ → ℕ → List Mark → Type 0
-AreMarks reach xs n len stamp marks = (k : ℕ) → k < len → IsFirstAt (MarksAt reach xs n k) (look marks stamp k)
+pub record IsRising (spans : List Span) : Type 0 where
+  pub by_offset : IsNonDecreasingBy (λ span. span.offset) spans
+  pub by_order : IsNonDecreasingBy order_of spans
+
+-- the spans of the relocations that reach a byte, rising
+pub record IsIndex (reach : Reach) (xs : List Relocation) (spans : List Span) : Type 0 where
+  pub are : AreSpans reach xs (length xs) spans
+  pub rising : IsRising spans
+
+-- just the first n spans begin below the limit
+pub record IsSplit (spans : List Span) (limit n : ℕ) : Type 0 where
+  pub few : n ≤ length spans
+  pub below : AllWithin (λ span. span.offset < limit) spans 0 n
+  pub above : AllWithin (λ span. limit ≤ span.offset) spans n (length spans)
+
+-- the last span that begins below the limit, or there is none
+abbrev pub IsLastBelow : List Span → ℕ → Option Span → Type 0
+IsLastBelow spans limit None = All (λ span. limit ≤ span.offset) spans
+IsLastBelow spans limit (Some last) =
+    Contains spans last × (last.offset < limit)
+    × All (λ span. span.offset < limit → order_of span ≤ order_of last) spans
+
+-- the first span that begins at the limit or above, or there is none
+abbrev pub IsFirstFrom : List Span → ℕ → Option Span → Type 0
+IsFirstFrom spans limit None = All (λ span. span.offset < limit) spans
+IsFirstFrom spans limit (Some first) =
+    Contains spans first × (limit ≤ first.offset)
+    × All (λ span. limit ≤ span.offset → order_of first ≤ order_of span) spans
 
 -- the fields of two relocations share no byte
 abbrev pub AreApart : List Relocation → Type 0
 AreApart xs =
     (e f k : ℕ) (x y : Relocation) → IsEntry xs e x → IsEntry xs f y → e < f → Covers x k → Covers y k → ⊥
 
--- symbol n is marked as `__tls_get_addr`
+-- symbol n is told to be `__tls_get_addr`
 abbrev pub Names : List Bool → ℕ → Type 0
 Names getters n = IsTrue (slice_index_or getters n false)
 
--- the marks are those of the code's relocations
+-- the spans are those of the code's relocations
 pub record IsReady (code : Code) : Type 0 where
-  pub room_of_fields : length code.bytes.now ≤ length code.fields.now
-  pub room_of_calls : length code.bytes.now ≤ length code.calls.now
-  pub fields_are : AreMarks OfField code.relocations.now (length code.relocations.now) (length code.bytes.now)
-      code.stamp code.fields.now
-  pub calls_are : AreMarks OfCall code.relocations.now (length code.relocations.now) (length code.bytes.now)
-      code.stamp code.calls.now
+  pub fields_are : IsIndex OfField code.relocations.now code.fields.now
+  pub calls_are : IsIndex OfCall code.relocations.now code.calls.now
   pub apart : AreApart code.relocations.now
   pub few : length code.relocations.now ≤ 2 ^ 20
 

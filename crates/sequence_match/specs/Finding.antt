@@ -1,19 +1,25 @@
--- What the search through an object keeps: room for marks, the symbols that are `__tls_get_addr`, and what it has
--- found.
-use Rattle.std.specs.Prelude.{◌≡◌, ◌≢◌, ◌↔◌, ◌<◌, ◌≤◌, ℕ, Bool, List, length, Result, Ok, Err}
+-- What the search through an object keeps: the symbols that are `__tls_get_addr`, and what it has found.
+use Rattle.std.specs.Prelude.{◌≡◌, ◌≢◌, ◌↔◌, ◌+◌, ◌<◌, ◌≤◌, ◌⊎◌, ◌||◌, ℕ, Bool, true, false, List, Option, Some}
+use Rattle.std.specs.Prelude.{None, IfSome, slice_index_or}
 use Rattle.std.specs.List.{All, AllPairs, Contains}
+use Rattle.std.specs.List.Sorted.{IsNonDecreasingBy, IsPermutation}
 use Rattle.object_faults.specs.declared.fault.FaultKind.{FaultKind}
 use Rattle.object_faults.specs.declared.fault.FaultKind.TheVariants.{Sequence, StrayCall}
-use Rattle.object_faults.specs.declared.fault.ObjectFault.{ObjectFault}
-use Rattle.object_faults.specs.declared.fault.ObjectFault.TheVariants.{OutOfMemory, At}
-use Rattle.elf_object.specs.Faults.{Earlier}
+use Rattle.elf_records.specs.declared.relocation.RelocationKind.{RelocationKind}
+use Rattle.elf_records.specs.declared.relocation.RelocationKind.TheVariants.{TlsGd, TlsLd, GotTpOff, GotPc32TlsDesc}
+use Rattle.elf_records.specs.declared.relocation.RelocationKind.TheVariants.{TlsDescCall}
+use Rattle.elf_object.specs.declared.relocation.Relocation.{Relocation}
+use Rattle.elf_object.specs.Faults.{Earlier, IsFirstAt}
+use Rattle.elf_object.specs.Lent.{kept_relocation_table}
 use Rattle.sequence_match.specs.declared.finding.Asked.{Asked}
 use Rattle.sequence_match.specs.declared.finding.Asked.TheVariants.{Loose, Stray}
-use Rattle.sequence_match.specs.declared.finding.Room.{Room}
+use Rattle.sequence_match.specs.declared.finding.Findings.{Findings}
+use Rattle.sequence_match.specs.declared.finding.Spot.{Spot}
+use Rattle.sequence_match.specs.declared.finding.Survey.{Survey}
 use Rattle.sequence_match.specs.declared.matching.Code.{Code}
 use Rattle.sequence_match.specs.declared.places.Site.{Site}
-use Rattle.sequence_match.specs.Code.{AreBelow, IsSiteIn, Names}
-use Rattle.sequence_match.specs.Faults.{code_of, Before, IsGetter, IsSite, Nowhere, Stands}
+use Rattle.sequence_match.specs.Code.{IsSiteIn, Names}
+use Rattle.sequence_match.specs.Faults.{AreSites, Before, IsGetter, IsLoose, IsSite, IsStray, Nowhere, Stands, StandsOf}
 
 -- the kind of fault that is asked
 abbrev pub kind_of : Asked → FaultKind
@@ -24,22 +30,18 @@ kind_of Stray = StrayCall
 abbrev pub AreGetters : List ℕ → List Bool → Type 0
 AreGetters b getters = (n : ℕ) → Names getters n ↔ IsGetter b n
 
--- there is room for the marks on each section's code
-pub record HasRoom (b : List ℕ) (room : Room) : Type 0 where
-  pub fields : (s : ℕ) → length (code_of b s) ≤ length room.fields.items
-  pub calls : (s : ℕ) → length (code_of b s) ≤ length room.calls.items
+-- a type that stands only in sequences
+abbrev pub is_of_sequence : RelocationKind → Bool
+is_of_sequence TlsGd = true
+is_of_sequence TlsLd = true
+is_of_sequence GotTpOff = true
+is_of_sequence GotPc32TlsDesc = true
+is_of_sequence TlsDescCall = true
+is_of_sequence _ = false
 
--- no mark has a stamp of n or above
-pub record AllBelow (room : Room) (n : ℕ) : Type 0 where
-  pub fields : AreBelow room.fields.items n
-  pub calls : AreBelow room.calls.items n
-
--- what a step says that asked one kind: it stands nowhere, or this is where it stands first
-abbrev pub Answers : {X : Type 0} → FaultKind → List ℕ → Result X ObjectFault → Type 0
-Answers kind b (Ok _) = Nowhere kind b
-Answers kind b (Err OutOfMemory) = Unit {0}
-Answers kind b (Err (At r e given)) =
-    (given ≡ kind) × Stands kind b r e × ((t f : ℕ) → Earlier t f r e → Stands kind b t f → ⊥)
+-- a relocation of such a type, or one that names `__tls_get_addr`
+abbrev pub is_use : List Bool → Relocation → Bool
+is_use getters x = is_of_sequence x.kind || slice_index_or getters x.symbol false
 
 -- a sequence of the code, with the number of its section
 abbrev pub IsOf : Code → Site → Type 0
@@ -56,3 +58,46 @@ pub record AreSitesFrom (b : List ℕ) (from to : ℕ) (sites : List Site) : Typ
   pub only : All (λ site. IsSite b site × (from ≤ site.section) × (site.section < to)) sites
   pub every : (site : Site) → IsSite b site → from ≤ site.section → site.section < to → Contains sites site
   pub rising : AllPairs Before sites
+
+-- what is found in code
+pub record AreFindingsIn (code : Code) (found : Findings) : Type 0 where
+  pub sites : (unsorted : List Site) × AreSitesIn code unsorted × IsPermutation unsorted found.sites.items
+  pub rising : IsNonDecreasingBy (λ site. site.start) found.sites.items
+  pub loose : IsFirstAt (IsLoose code.bytes.now code.relocations.now (Names code.getters.now)) found.loose
+  pub stray : IsFirstAt (IsStray code.bytes.now code.relocations.now (Names code.getters.now)) found.stray
+
+-- what is found in section s
+pub record AreFindings (b : List ℕ) (s : ℕ) (found : Findings) : Type 0 where
+  pub sites : AreSitesFrom b s (s + 1) found.sites.items
+  pub loose : IsFirstAt (StandsOf Sequence b s) found.loose
+  pub stray : IsFirstAt (StandsOf StrayCall b s) found.stray
+
+-- an entry that lies before no other of the two, and is one of them
+pub record IsLower (first : Option Spot) (second lower : Spot) : Type 0 where
+  pub one : (first ≡ Some lower) ⊎ (second ≡ lower)
+  pub not_after_second : Earlier second.table second.entry lower.table lower.entry → ⊥
+  pub not_after_first : IfSome first (λ spot. Earlier spot.table spot.entry lower.table lower.entry → ⊥)
+
+-- the kind stands at relocation number e of a section below n that has a table
+abbrev pub StandsBelow : FaultKind → List ℕ → ℕ → ℕ → ℕ → Type 0
+StandsBelow kind b n s e = (s < n) × (0 < kept_relocation_table b s) × StandsOf kind b s e
+
+-- the first entry of the tables of the sections below n at which the kind stands
+abbrev pub IsFirstBelow : FaultKind → List ℕ → ℕ → Option Spot → Type 0
+IsFirstBelow kind b n None = (s e : ℕ) → StandsBelow kind b n s e → ⊥
+IsFirstBelow kind b n (Some spot) =
+    Stands kind b spot.table spot.entry
+    × ((s e : ℕ) → StandsBelow kind b n s e → Earlier (kept_relocation_table b s) e spot.table spot.entry → ⊥)
+
+-- the first entry at which the kind stands
+abbrev pub IsFirstOf : FaultKind → List ℕ → Option Spot → Type 0
+IsFirstOf kind b None = Nowhere kind b
+IsFirstOf kind b (Some spot) =
+    Stands kind b spot.table spot.entry
+    × ((t f : ℕ) → Earlier t f spot.table spot.entry → Stands kind b t f → ⊥)
+
+-- what is found in an object
+pub record IsSurvey (b : List ℕ) (found : Survey) : Type 0 where
+  pub sites : AreSites b found.sites.items
+  pub loose : IsFirstOf Sequence b found.loose
+  pub stray : IsFirstOf StrayCall b found.stray

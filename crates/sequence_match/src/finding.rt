@@ -1,20 +1,21 @@
-//! Finding the sites of an object, or its first fault: every section of relocations is gone through once for each.
+//! Finding the sites of an object, or its first fault, in one walk over its sections. One whose relocations have nothing
+//! to do with sequences is passed over.
 
 ghost use Rattle.std.specs.Prelude.{◌≡◌, ◌↔◌, ◌+◌, ◌<◌, ◌≤◌, ◌^◌, ℕ, IsTrue, IfOk, IfErr, OnOk, length};
+ghost use Rattle.std.specs.List.{list_any};
 ghost use Rattle.std.specs.List.Sorted.{IsNonDecreasingBy, IsPermutation};
 ghost use Rattle.object_faults.specs.declared.fault.FaultKind.TheVariants.{Sequence, StrayCall};
-ghost use Rattle.elf_object.specs.Faults.{IsFirstAt, IsObject};
+ghost use Rattle.object_faults.specs.declared.fault.ObjectFault.TheVariants.{At};
+ghost use Rattle.elf_object.specs.Faults.{Earlier, IsFirstAt, IsObject};
 ghost use Rattle.elf_object.specs.Lent.{relocations as relocations_in_file};
-ghost use Rattle.elf_object.specs.Object.{section_count as count_of_sections};
-ghost use Rattle.sequence_match.specs.declared.marks.Reach.TheVariants.{OfField, OfCall};
-ghost use Rattle.sequence_match.specs.Code.{AreMarks, IsReady, Names};
-ghost use Rattle.sequence_match.specs.Faults.{AreSites, IsFault, IsGetter, Nowhere, Stands, StandsAt};
+ghost use Rattle.sequence_match.specs.Code.{IsReady, Names};
+ghost use Rattle.sequence_match.specs.Faults.{AreSites, IsFault, IsGetter, Nowhere, StandsAt, StandsOf};
 ghost use Rattle.sequence_match.specs.Faults.{code_of as bytes_of};
-ghost use Rattle.sequence_match.specs.Finding.{AllBelow, Answers, AreGetters, AreSitesFrom, AreSitesIn, HasRoom};
-ghost use Rattle.sequence_match.specs.Finding.{kind_of};
+ghost use Rattle.sequence_match.specs.Finding.{AreFindings, AreFindingsIn, AreGetters, AreSitesIn, IsFirstBelow};
+ghost use Rattle.sequence_match.specs.Finding.{IsLower, IsSurvey, is_use, kind_of};
 
-use crate::marks::{Mark, Reach, mark_all};
-use crate::matching::{Code, is_loose, is_stray, site_of};
+use crate::index::{Reach, index};
+use crate::matching::{Code, is_loose, is_of_sequence, is_stray, names_getter, site_of};
 use crate::places::Site;
 use elf_object::{FaultKind, Object, ObjectFault, Relocation, SectionClass, SymbolPlace};
 use std::alloc::{AllocError, Global};
@@ -31,11 +32,33 @@ enum Asked {
     Stray,
 }
 
-/// Room for the marks on the bytes of one section.
+/// An entry of a section of relocations.
+#[derive(Clone, Copy)]
+struct Spot {
+    table: u32,
+    entry: u32,
+}
+
+/// What is found in a section.
 #[derive(Drop)]
-struct Room {
-    fields: Vec<Mark>,
-    calls: Vec<Mark>,
+struct Findings {
+    /// Its sequences, rising.
+    sites: Vec<Site>,
+    /// The first of its relocations at which there is a `Loose`.
+    loose: Option<u32>,
+    /// The first at which there is a `Stray`.
+    stray: Option<u32>,
+}
+
+/// What is found in an object.
+#[derive(Drop)]
+struct Survey {
+    /// Its sequences, rising.
+    sites: Vec<Site>,
+    /// The first entry at which there is a `Loose`.
+    loose: Option<Spot>,
+    /// The first at which there is a `Stray`.
+    stray: Option<Spot>,
 }
 
 /// Whether a symbol is `__tls_get_addr`, and the object does not define it.
@@ -80,27 +103,23 @@ fn code_of<'a>(object: &Object<'a>, section: u32) -> &'a [u8]
     }
 }
 
-/// How many bytes the largest executable section has.
-fn largest_code(object: &Object) -> usize
-    ensures { (s : ℕ) → length (bytes_of object.now s) ≤ result }
+/// Whether a relocation can be part of a sequence, or a fault.
+fn is_use(getters: &[bool], relocation: &Relocation) -> bool
+    ensures { result ≡ is_use getters.now relocation.now }
 {
-    let mut largest = 0;
-    for section in 0..object.section_count() {
-        largest = code_of(object, section).len().max(largest);
-    }
-    largest
+    is_of_sequence(relocation.kind) || names_getter(getters, relocation.symbol)
 }
 
-/// Room for the marks on the largest section.
-fn room_for(alloc: Global, object: &Object) -> Result<Room, AllocError>
-    ensures room { IfOk result (HasRoom object.now) }
-    ensures unmarked { IfOk result (λ room. AllBelow room 1) }
+/// Whether a section has such a relocation.
+fn has_use(object: &Object, getters: &[bool], section: u32) -> bool
+    ensures { result ≡ list_any (is_use getters.now) (relocations_in_file object.now section) }
 {
-    let largest = largest_code(object);
-    let none = Mark { stamp: 0, entry: 0 };
-    let fields = vec![in alloc; none; largest]?;
-    let calls = vec![in alloc; none; largest]?;
-    Ok(Room { fields, calls })
+    for relocation in object.relocs(section) {
+        if is_use(getters, &relocation) {
+            return true;
+        }
+    }
+    false
 }
 
 /// The relocations of a section.
@@ -113,22 +132,6 @@ fn relocations_of(
     ensures few { IfOk result (λ found. length found.items ≤ 2 ^ 20) }
 {
     object.relocs(section).collect(alloc)
-}
-
-/// Marks what the relocations of a section reach of its code.
-fn mark_code(room: &mut Room, stamp: u32, relocations: &[Relocation], len: usize)
-    requires fields { len ≤ length room.old.fields.items }
-    requires calls { len ≤ length room.old.calls.items }
-    requires few { length relocations.now ≤ 2 ^ 20 }
-    requires fresh { AllBelow room.old stamp }
-    ensures fields { AreMarks OfField relocations.now (length relocations.now) len stamp room.new.fields.items }
-    ensures calls { AreMarks OfCall relocations.now (length relocations.now) len stamp room.new.calls.items }
-    ensures below { AllBelow room.new (stamp + 1) }
-    ensures room_of_fields { length room.new.fields.items ≡ length room.old.fields.items }
-    ensures room_of_calls { length room.new.calls.items ≡ length room.old.calls.items }
-{
-    mark_all(&mut room.fields, stamp, Reach::OfField, relocations, len);
-    mark_all(&mut room.calls, stamp, Reach::OfCall, relocations, len);
 }
 
 impl Asked {
@@ -169,60 +172,6 @@ fn first_entry(asked: Asked, code: &Code) -> Option<u32>
     None
 }
 
-/// The first entry of a section of relocations at which the kind stands. No mark has the section's stamp yet.
-fn first_in(
-    alloc: Global,
-    object: &Object,
-    getters: &[bool],
-    asked: Asked,
-    table: u32,
-    room: &mut Room,
-) -> Result<Option<u32>, AllocError>
-    requires getters { AreGetters object.now getters.now }
-    requires room { HasRoom object.now room.old }
-    requires fresh { AllBelow room.old table }
-    requires table { 0 < table }
-    ensures first { IfOk result (IsFirstAt (Stands (kind_of asked) object.now table)) }
-    ensures room { OnOk result (HasRoom object.now room.new) }
-    ensures below { OnOk result (AllBelow room.new (table + 1)) }
-{
-    let Some(section) = object.relocation_target(table) else {
-        return Ok(None);
-    };
-    let found = relocations_of(alloc, object, section)?;
-    let relocations = found.as_slice();
-    let bytes = code_of(object, section);
-    mark_code(room, table, relocations, bytes.len());
-    let code = Code {
-        section,
-        bytes,
-        relocations,
-        getters,
-        fields: room.fields.as_slice(),
-        calls: room.calls.as_slice(),
-        stamp: table,
-    };
-    Ok(first_entry(asked, &code))
-}
-
-/// Asks a kind of fault.
-fn ask(alloc: Global, object: &Object, getters: &[bool], asked: Asked) -> Result<(), ObjectFault>
-    requires { AreGetters object.now getters.now }
-    ensures { Answers (kind_of asked) object.now result }
-{
-    let mut room = room_for(alloc, object)?;
-    for table in 1..object.section_count() {
-        if let Some(entry) = first_in(alloc, object, getters, asked, table, &mut room)? {
-            return Err(ObjectFault::At {
-                section: u64::from(table),
-                entry: u64::from(entry),
-                kind: asked.kind(),
-            });
-        }
-    }
-    Ok(())
-}
-
 /// The sites of a section's code, in the order of its relocations.
 fn sites_in(alloc: Global, code: &Code) -> Result<Vec<Site>, AllocError>
     requires { IsReady code.now }
@@ -246,51 +195,137 @@ fn rising(mut sites: Vec<Site>) -> Result<Vec<Site>, AllocError>
     Ok(sites)
 }
 
-/// The sites of a section, rising. No mark has the section's stamp yet.
-fn sites_of(
+/// What is found in code.
+fn find_in_code(alloc: Global, code: &Code) -> Result<Findings, AllocError>
+    requires { IsReady code.now }
+    ensures { IfOk result (AreFindingsIn code.now) }
+{
+    let unsorted = sites_in(alloc, code)?;
+    let sites = rising(unsorted)?;
+    Ok(Findings {
+        sites,
+        loose: first_entry(Asked::Loose, code),
+        stray: first_entry(Asked::Stray, code),
+    })
+}
+
+/// What is found in a section, by all of its relocations.
+fn search_section(
     alloc: Global,
     object: &Object,
     getters: &[bool],
     section: u32,
-    room: &mut Room,
-) -> Result<Vec<Site>, AllocError>
-    requires getters { AreGetters object.now getters.now }
-    requires room { HasRoom object.now room.old }
-    requires fresh { AllBelow room.old section }
-    ensures sites { IfOk result (λ sites. AreSitesFrom object.now section (section + 1) sites.items) }
-    ensures room { OnOk result (HasRoom object.now room.new) }
-    ensures below { OnOk result (AllBelow room.new (section + 1)) }
+) -> Result<Findings, AllocError>
+    requires { AreGetters object.now getters.now }
+    ensures { IfOk result (AreFindings object.now section) }
 {
     let found = relocations_of(alloc, object, section)?;
     let relocations = found.as_slice();
-    let bytes = code_of(object, section);
-    mark_code(room, section, relocations, bytes.len());
+    let fields = index(alloc, Reach::OfField, relocations)?;
+    let calls = index(alloc, Reach::OfCall, relocations)?;
     let code = Code {
         section,
-        bytes,
+        bytes: code_of(object, section),
         relocations,
         getters,
-        fields: room.fields.as_slice(),
-        calls: room.calls.as_slice(),
-        stamp: section,
+        fields: fields.as_slice(),
+        calls: calls.as_slice(),
     };
-    let unsorted = sites_in(alloc, &code)?;
-    let sites = rising(unsorted)?;
-    Ok(sites)
+    let findings = find_in_code(alloc, &code)?;
+    Ok(findings)
 }
 
-/// The sites of an object, rising by section and start.
-fn collect(alloc: Global, object: &Object, getters: &[bool]) -> Result<Vec<Site>, AllocError>
+/// What is found in a section. Only one with a use is searched.
+fn find_in_section(
+    alloc: Global,
+    object: &Object,
+    getters: &[bool],
+    section: u32,
+) -> Result<Findings, AllocError>
     requires { AreGetters object.now getters.now }
-    ensures { IfOk result (λ sites. AreSites object.now sites.items) }
+    ensures { IfOk result (AreFindings object.now section) }
 {
-    let mut room = room_for(alloc, object)?;
-    let mut sites = Vec::new(alloc);
-    for section in 1..object.section_count() {
-        let found = sites_of(alloc, object, getters, section, &mut room)?;
-        sites.extend_from_slice(&found)?;
+    if has_use(object, getters, section) {
+        return search_section(alloc, object, getters, section);
     }
-    Ok(sites)
+    Ok(Findings {
+        sites: Vec::new(alloc),
+        loose: None,
+        stray: None,
+    })
+}
+
+impl Spot {
+    /// Whether it lies in a lower section than the other, or at a lower entry of the same.
+    fn is_before(self, other: Spot) -> bool
+        ensures { IsTrue result ↔ Earlier self.table self.entry other.table other.entry }
+    {
+        self.table < other.table || (self.table == other.table && self.entry < other.entry)
+    }
+
+    /// The fault at it.
+    fn fault(self, kind: FaultKind) -> ObjectFault
+        ensures { result ≡ At self.table self.entry kind }
+    {
+        ObjectFault::At {
+            section: u64::from(self.table),
+            entry: u64::from(self.entry),
+            kind,
+        }
+    }
+}
+
+/// The lower one of two entries.
+fn lower(first: Option<Spot>, second: Spot) -> Spot
+    ensures { IsLower first second result }
+{
+    match first {
+        Some(first) if !second.is_before(first) => first,
+        _ => second,
+    }
+}
+
+/// The first entry of the tables of the sections up to this one at which the kind stands. `first` is that of the
+/// sections before it, and `entry` the first of this one's relocations.
+fn first_with(
+    object: &Object,
+    section: u32,
+    asked: Asked,
+    first: Option<Spot>,
+    entry: Option<u32>,
+) -> Option<Spot>
+    requires before { IsFirstBelow (kind_of asked) object.now section first }
+    requires here { IsFirstAt (StandsOf (kind_of asked) object.now section) entry }
+    ensures { IsFirstBelow (kind_of asked) object.now (section + 1) result }
+{
+    let Some(table) = object.relocation_table(section) else {
+        return first;
+    };
+    match entry {
+        Some(entry) => Some(lower(first, Spot { table, entry })),
+        None => first,
+    }
+}
+
+/// Goes through the sections.
+fn find_all(alloc: Global, object: &Object, getters: &[bool]) -> Result<Survey, AllocError>
+    requires { AreGetters object.now getters.now }
+    ensures { IfOk result (IsSurvey object.now) }
+{
+    let mut sites = Vec::new(alloc);
+    let mut loose = None;
+    let mut stray = None;
+    for section in 1..object.section_count() {
+        let found = find_in_section(alloc, object, getters, section)?;
+        sites.extend_from_slice(&found.sites)?;
+        loose = first_with(object, section, Asked::Loose, loose, found.loose);
+        stray = first_with(object, section, Asked::Stray, stray, found.stray);
+    }
+    Ok(Survey {
+        sites,
+        loose,
+        stray,
+    })
 }
 
 /// The sequences of an object, rising by section and start, or the first fault of those that no reading of the object
@@ -303,11 +338,12 @@ pub fn sites(alloc: Global, object: &Object) -> Result<Vec<Site>, ObjectFault>
     ensures fault { IfErr result (IsFault object.now) }
 {
     let getters = find_getters(alloc, object)?;
-    if let Err(fault) = ask(alloc, object, &getters, Asked::Loose) {
-        return Err(fault);
+    let found = find_all(alloc, object, &getters)?;
+    if let Some(spot) = found.loose {
+        return Err(spot.fault(FaultKind::Sequence));
     }
-    if let Err(fault) = ask(alloc, object, &getters, Asked::Stray) {
-        return Err(fault);
+    if let Some(spot) = found.stray {
+        return Err(spot.fault(FaultKind::StrayCall));
     }
-    Ok(collect(alloc, object, &getters)?)
+    Ok(found.sites)
 }

@@ -21,13 +21,22 @@
 //! `StrayCall`. In the example above an addend of 0 at offset 4 is `Sequence` at that entry, and the call alone, with no
 //! `lea` before it, is `StrayCall`.
 //!
+//! Most sections have nothing to do with it, so the search asks first whether a relocation of a section has a type of
+//! sequences or names `__tls_get_addr`; a section with none has no site and no fault. In one with such a use each
+//! relocation of those types is matched with the one or two rows that it can open, and each call of `__tls_get_addr` is
+//! looked for in the sequence that it would end. Which field covers a byte is asked of an index: the fields by their
+//! places, in which they share no byte, so that the last one that begins at the byte or before decides. In the example
+//! the fields are `4: 4 bytes` and `12: 4 bytes`; byte 8 is bare since the last field that begins there or before, that
+//! at 4, ends at 8. Where the file has the relocations in the order of their places, as compilers write them, nothing is
+//! sorted, and a guess finds most fields without a search.
+//!
 //! The forms are those of "ELF Handling For Thread-Local Storage" (Drepper) and of the psABI ("Thread-Local Storage").
 #![tactic(auto)]
 
 mod finding;
 mod forms;
+mod index;
 pub mod laws;
-mod marks;
 mod matching;
 mod places;
 

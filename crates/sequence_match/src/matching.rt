@@ -2,18 +2,20 @@
 
 ghost use Rattle.std.specs.Prelude.{◌≡◌, ◌↔◌, ◌+◌, ◌<◌, ◌≤◌, ◌^◌, ℕ, IsTrue, IfSome, MatchOption, length, Some};
 ghost use Rattle.sequence_match.specs.Code.{HasNoSiteOf, IsAt, IsEarliest, IsFound, IsNoFirst, IsReady, IsSecondIn};
-ghost use Rattle.sequence_match.specs.Code.{Names};
+ghost use Rattle.sequence_match.specs.Code.{Names, ReachesAt};
+ghost use Rattle.elf_object.specs.Faults.{IsFirstAt};
+ghost use Rattle.sequence_match.specs.declared.index.Reach.TheVariants.{OfField, OfCall};
 ghost use Rattle.sequence_match.specs.declared.forms.Form.{Form};
 ghost use Rattle.sequence_match.specs.Forms.{IsCallKind, register, row};
 ghost use Rattle.sequence_match.specs.Sites.{Calls, HasSecond, IsEntry, IsSecond, IsSpelled, StandsIn};
 ghost use Rattle.sequence_match.specs.Faults.{IsLoose, IsOfSequence, IsStray};
 
 use crate::forms::{Call, Cell, Form, Second, TO_END};
-use crate::marks::{Mark, look};
+use crate::index::{Span, count_below, first_from, last_below};
 use crate::places::Site;
 use elf_object::{Relocation, RelocationKind};
 
-/// The code of one section, its relocations, and the marks that they left.
+/// The code of one section, and its relocations.
 #[derive(Clone, Copy)]
 pub struct Code<'a> {
     pub section: u32,
@@ -22,13 +24,45 @@ pub struct Code<'a> {
     pub relocations: &'a [Relocation],
     /// Of each symbol whether it is the undefined `__tls_get_addr`.
     pub getters: &'a [bool],
-    pub fields: &'a [Mark],
-    pub calls: &'a [Mark],
-    pub stamp: u32,
+    /// The fields of the relocations, rising.
+    pub fields: &'a [Span],
+    /// The calls through descriptors, likewise.
+    pub calls: &'a [Span],
+}
+
+impl Code<'_> {
+    /// The relocation whose field covers a byte. `guess` is a guess of how many fields begin at the byte or before.
+    fn field_over(&self, place: usize, guess: usize) -> Option<u32>
+        requires ready { IsReady self.now }
+        requires inside { place < length self.now.bytes.now }
+        ensures { IsFirstAt (ReachesAt OfField self.now.relocations.now place) result }
+    {
+        let _length = self.bytes.len();
+        let Some(last) = last_below(self.fields, place as u64 + 1, guess) else {
+            return None;
+        };
+        if place as u64 - last.offset < u64::from(last.width) {
+            Some(last.entry)
+        } else {
+            None
+        }
+    }
+
+    /// The first call through a descriptor that stands at a place.
+    fn call_at(&self, place: u64) -> Option<u32>
+        requires ready { IsReady self.now }
+        ensures { IsFirstAt (ReachesAt OfCall self.now.relocations.now place) result }
+    {
+        match first_from(self.calls, place) {
+            Some(first) if first.offset == place => Some(first.entry),
+            _ => None,
+        }
+    }
 }
 
 /// Whether a byte of the code is one that a cell allows, and no relocation changes it where the cell is literal.
-fn stands_in(code: &Code, cell: Cell, place: usize) -> bool
+/// `guess` is as for `field_over`.
+fn stands_in(code: &Code, cell: Cell, place: usize, guess: usize) -> bool
     requires ready { IsReady code.now }
     requires inside { place < length code.now.bytes.now }
     ensures { IsTrue result ↔ StandsIn code.now.bytes.now code.now.relocations.now cell place }
@@ -38,15 +72,15 @@ fn stands_in(code: &Code, cell: Cell, place: usize) -> bool
     }
     match cell {
         Cell::Field => true,
-        _ => match look(code.fields, code.stamp, place) {
+        _ => match code.field_over(place, guess) {
             Some(_) => false,
             None => true,
         },
     }
 }
 
-/// Whether the cells stand in the code from `start` on.
-fn is_spelled(code: &Code, cells: &[Cell], start: u64) -> bool
+/// Whether the cells stand in the code from `start` on. `guess` is as for `field_over`.
+fn is_spelled(code: &Code, cells: &[Cell], start: u64, guess: usize) -> bool
     requires ready { IsReady code.now }
     requires few { length cells.now ≤ 16 }
     ensures { IsTrue result ↔ IsSpelled code.now.bytes.now code.now.relocations.now cells.now start }
@@ -56,7 +90,7 @@ fn is_spelled(code: &Code, cells: &[Cell], start: u64) -> bool
         return false;
     }
     for (index, cell) in cells.iter().enumerate() {
-        if !stands_in(code, *cell, start as usize + index) {
+        if !stands_in(code, *cell, start as usize + index, guess) {
             return false;
         }
     }
@@ -64,7 +98,7 @@ fn is_spelled(code: &Code, cells: &[Cell], start: u64) -> bool
 }
 
 /// Whether a symbol is the undefined `__tls_get_addr`.
-fn is_getter(getters: &[bool], symbol: u32) -> bool
+pub fn names_getter(getters: &[bool], symbol: u32) -> bool
     ensures { IsTrue result ↔ Names getters.now symbol }
 {
     let symbol = symbol as usize;
@@ -98,31 +132,32 @@ fn calls(second: Second, getters: &[bool], start: u64, relocation: &Relocation) 
     is_call_kind(second.call, relocation.kind)
         && relocation.offset == start + second.at
         && relocation.addend == TO_END
-        && is_getter(getters, relocation.symbol)
+        && names_getter(getters, relocation.symbol)
 }
 
-/// Whether a relocation stands at the place of a second one, and is as it is to be.
-fn has_call(code: &Code, second: Second, start: u64) -> bool
+/// Whether a relocation stands at the place of a second one, and is as it is to be. `guess` is as for `field_over`.
+fn has_call(code: &Code, second: Second, start: u64, guess: usize) -> bool
     requires ready { IsReady code.now }
     requires inside { start + second.at < length code.now.bytes.now }
     ensures { IsTrue result
         ↔ ((f : ℕ) × IsSecond (Some second) (Names code.now.getters.now) code.now.relocations.now start f) }
 {
     let place = (start + second.at) as usize;
-    match look(code.fields, code.stamp, place) {
+    match code.field_over(place, guess) {
         Some(entry) => calls(second, code.getters, start, relocation_at(code, entry)),
         None => false,
     }
 }
 
-/// Whether the second relocation of a sequence stands at its place, where the sequence has two.
-fn has_second(code: &Code, second: Option<Second>, start: u64) -> bool
+/// Whether the second relocation of a sequence stands at its place, where the sequence has two. `guess` is as for
+/// `field_over`.
+fn has_second(code: &Code, second: Option<Second>, start: u64, guess: usize) -> bool
     requires ready { IsReady code.now }
     requires inside { IfSome second (λ second. start + second.at < length code.now.bytes.now) }
     ensures { IsTrue result ↔ HasSecond second (Names code.now.getters.now) code.now.relocations.now start }
 {
     match second {
-        Some(second) => has_call(code, second, start),
+        Some(second) => has_call(code, second, start, guess),
         None => true,
     }
 }
@@ -137,7 +172,7 @@ fn is_earliest(code: &Code, entry: u32, relocation: &Relocation) -> bool
 {
     match relocation.kind {
         RelocationKind::TlsDescCall => {
-            match look(code.calls, code.stamp, relocation.offset as usize) {
+            match code.call_at(relocation.offset) {
                 Some(first) => first == entry,
                 None => false,
             }
@@ -182,11 +217,12 @@ fn is_site_at(code: &Code, form: Form, entry: u32, first: &Relocation, start: u6
     ensures { IsTrue result ↔ IsAt code.now form entry first.now start }
 {
     let row = form.row();
-    if !is_spelled(code, row.cells, start) {
+    let before = count_below(code.fields, start, entry as usize);
+    if !is_spelled(code, row.cells, start, before) {
         return false;
     }
     takes(row.addend, first.addend)
-        && has_second(code, row.second, start)
+        && has_second(code, row.second, start, before.saturating_add(1))
         && is_earliest(code, entry, first)
 }
 
@@ -237,7 +273,7 @@ fn site_of_forms(
 }
 
 /// A relocation of the code, by its number.
-#[tactic(auto, using(crate::proofs::Marked::gives_entry))]
+#[tactic(auto, using(crate::proofs::Entries::gives_entry))]
 fn relocation_at<'a>(code: &Code<'a>, entry: u32) -> &'a Relocation
     requires { entry < length code.now.relocations.now }
     ensures { IsEntry code.now.relocations.now entry result.now }
@@ -272,7 +308,7 @@ pub fn site_of(code: &Code, entry: u32) -> Option<Site>
 }
 
 /// Whether a type stands only in sequences, as the first relocation.
-fn is_of_sequence(kind: RelocationKind) -> bool
+pub fn is_of_sequence(kind: RelocationKind) -> bool
     ensures { IsTrue result ↔ IsOfSequence kind }
 {
     match kind {
@@ -311,7 +347,7 @@ fn is_second_at(code: &Code, form: Form, entry: u32, start: u64, place: u64) -> 
     requires inside { place < length code.now.bytes.now }
     ensures { IsTrue result ↔ IsSecondIn code.now form entry }
 {
-    let Some(first) = look(code.fields, code.stamp, place as usize) else {
+    let Some(first) = code.field_over(place as usize, entry as usize) else {
         return false;
     };
     match site_of(code, first) {
@@ -381,7 +417,7 @@ pub fn is_stray(code: &Code, entry: u32) -> bool
     match relocation.kind {
         RelocationKind::Nothing => false,
         _ => {
-            if !is_getter(code.getters, relocation.symbol) {
+            if !names_getter(code.getters, relocation.symbol) {
                 return false;
             }
             !is_second(code, entry)

@@ -2,7 +2,7 @@ use Rattle.std.proofs.Common.{rules}
 use Rattle.sequence_match.proofs.Seconds.{stray_is}
 use Rattle.sequence_match.proofs.matching.is_stray.Goals as goal
 
-pub returns-else-not-is_getter : goal.returns-else-not-is_getter
-returns-else-not-is_getter c =
+pub returns-else-not-names_getter : goal.returns-else-not-names_getter
+returns-else-not-names_getter c =
     stray_is c.args.code.now c.args.entry c.relocation_at-relocation.result.now c.is_second.result c.relocation_at-relocation.ensures c.in_default.not-Nothing
-    (c.is_getter.ensures.0 (search rules)) c.is_second.ensures
+    (c.names_getter.ensures.0 (search rules)) c.is_second.ensures
