@@ -10,13 +10,17 @@ use Rattle.link_faults.specs.declared.fault.LinkFaultKind.{LinkFaultKind}
 use Rattle.link_faults.specs.declared.fault.LinkFaultKind.TheVariants.{LocalExecInModule, NarrowInModule, NoTls}
 use Rattle.tls_symbols.specs.Bindings.{binding_of, object_at}
 use Rattle.link_refusals.specs.declared.charge.Charge.{Charge}
-use Rattle.link_refusals.specs.declared.charge.Charge.TheVariants.{ByType, ByStorage}
-use Rattle.link_refusals.specs.Refused.{is_refused, is_without_storage}
+use Rattle.link_refusals.specs.declared.charge.Charge.TheVariants.{ByType, ByKind, ByStorage}
+use Rattle.link_refusals.specs.Refused.{is_refused, is_refused_at_all, is_without_storage}
 use Rattle.link_refusals.specs.Places.{Test, IsFirstCharged, NoneCharged}
 
 -- the relocations that the image's kind refuses
 abbrev pub by_type : LinkFaultKind → ImageKind → Test
 by_type fault image o r = is_refused fault image r.kind
+
+-- those that it refuses with any fault
+abbrev pub by_kind : ImageKind → Test
+by_kind image o r = is_refused_at_all image r.kind
 
 -- those that want storage of an image that has none; startup is what the startup images export
 abbrev pub by_storage : List (List ℕ) → List (List (List ℕ)) → ImageKind → ℕ → Test
@@ -57,22 +61,26 @@ IsStorageFault objects startup image size fault = ⊥
 -- the relocations that a question is about
 abbrev pub test_of : Charge → Test
 test_of (ByType fault image) = by_type fault image
+test_of (ByKind image) = by_kind image
 test_of (ByStorage image bindings) = by_storage bindings.now.objects bindings.now.startup image 0
 
 -- it is asked of these objects
 abbrev pub IsAskedOf : List (List ℕ) → Charge → Type 0
 IsAskedOf objects (ByType fault image) = Unit {0}
+IsAskedOf objects (ByKind image) = Unit {0}
 IsAskedOf objects (ByStorage image bindings) = bindings.now.objects ≡ objects
 
 -- it is asked of object o, and b is that object
 abbrev pub IsAskedAt : ℕ → List ℕ → Charge → Type 0
 IsAskedAt o b (ByType fault image) = Unit {0}
+IsAskedAt o b (ByKind image) = Unit {0}
 IsAskedAt o b (ByStorage image bindings) =
     (o < length bindings.now.objects) × (b ≡ object_at bindings.now.objects o)
 
 -- it is asked of a relocation of object o, whose symbol is there
 abbrev pub IsAskedWithin : ℕ → Relocation → Charge → Type 0
 IsAskedWithin o r (ByType fault image) = Unit {0}
+IsAskedWithin o r (ByKind image) = Unit {0}
 IsAskedWithin o r (ByStorage image bindings) =
     (o < length bindings.now.objects)
     × (r.kind ≢ Nothing → r.symbol < symbol_count (object_at bindings.now.objects o))

@@ -1,6 +1,6 @@
 -- What is refused of a relocation: what no linker of static thread-local storage can fill in (psABI, "Relocation
 -- Types"; Drepper, "ELF Handling For Thread-Local Storage", section 4).
-use Rattle.std.specs.Prelude.{◌==◌, ◌&&◌, ℕ, Bool, true, false, Option, Some}
+use Rattle.std.specs.Prelude.{◌==◌, ◌&&◌, ◌||◌, ℕ, Bool, true, false, Option, Some}
 use Rattle.elf_records.specs.declared.relocation.RelocationKind.{RelocationKind}
 use Rattle.elf_records.specs.declared.relocation.RelocationKind.TheVariants.{Absolute32, Absolute32Signed, TlsGd}
 use Rattle.elf_records.specs.declared.relocation.RelocationKind.TheVariants.{TlsLd, GotTpOff, TpOff32}
@@ -33,6 +33,10 @@ is_refused LocalExecInModule image TpOff32 = is_module image
 is_refused NarrowInModule image Absolute32 = is_moved image
 is_refused NarrowInModule image Absolute32Signed = is_moved image
 is_refused fault image type = false
+
+-- whether it is refused at all
+abbrev pub is_refused_at_all : ImageKind → RelocationKind → Bool
+is_refused_at_all image type = is_refused LocalExecInModule image type || is_refused NarrowInModule image type
 
 -- whether it is a symbol of the image itself
 abbrev pub is_here : Option Binding → Bool

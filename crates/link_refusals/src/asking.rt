@@ -1,7 +1,7 @@
 //! What is refused of the relocations of an image.
 
 ghost use Rattle.std.specs.Prelude.{◌≡◌, MatchOption, MatchResult};
-ghost use Rattle.link_refusals.specs.Faults.{test_of, FitsKind, FitsStorage, IsAskedOf, IsKindFault, IsStorageFault};
+ghost use Rattle.link_refusals.specs.Faults.{by_kind, test_of, FitsKind, FitsStorage, IsAskedOf, IsKindFault, IsStorageFault};
 ghost use Rattle.link_refusals.specs.Places.{IsFirstCharged, NoneCharged};
 
 use crate::charge::Charge;
@@ -20,10 +20,19 @@ fn first_place(charge: &Charge, objects: &[Object]) -> Option<Place>
     first_charged(charge, objects)
 }
 
-/// Asks whether an image of these objects may be of this kind: a module has no offset from the thread pointer in its
-/// code, and an image that may lie at any address no address in 32 bits. Answers the first fault: `LocalExecInModule`,
-/// else `NarrowInModule`, at the first object, section and entry.
-pub fn ask_kind(objects: &[Object], kind: ImageKind) -> Result<(), LinkFault>
+/// The first relocation that an image of this kind refuses, if there is one. A program at a fixed address refuses none.
+fn first_refused(objects: &[Object], kind: ImageKind) -> Option<Place>
+    ensures { MatchOption result (FitsKind objects.now kind)
+        (λ place. IsFirstCharged (by_kind kind) objects.now place.object place.section place.entry) }
+{
+    match kind {
+        ImageKind::Exe => None,
+        _ => first_place(&Charge::ByKind(kind), objects),
+    }
+}
+
+/// Asks of one fault after another whether an image of this kind refuses a relocation with it.
+fn ask_faults(objects: &[Object], kind: ImageKind) -> Result<(), LinkFault>
     ensures { MatchResult result (λ _. FitsKind objects.now kind) (IsKindFault objects.now kind) }
 {
     let local_exec = Charge::ByType(LinkFaultKind::LocalExecInModule, kind);
@@ -33,6 +42,18 @@ pub fn ask_kind(objects: &[Object], kind: ImageKind) -> Result<(), LinkFault>
     let narrow = Charge::ByType(LinkFaultKind::NarrowInModule, kind);
     match first_place(&narrow, objects) {
         Some(place) => Err(place.fault(LinkFaultKind::NarrowInModule)),
+        None => Ok(()),
+    }
+}
+
+/// Asks whether an image of these objects may be of this kind: a module has no offset from the thread pointer in its
+/// code, and an image that may lie at any address no address in 32 bits. Answers the first fault: `LocalExecInModule`,
+/// else `NarrowInModule`, at the first object, section and entry.
+pub fn ask_kind(objects: &[Object], kind: ImageKind) -> Result<(), LinkFault>
+    ensures { MatchResult result (λ _. FitsKind objects.now kind) (IsKindFault objects.now kind) }
+{
+    match first_refused(objects, kind) {
+        Some(_) => ask_faults(objects, kind),
         None => Ok(()),
     }
 }

@@ -4,7 +4,7 @@ ghost use Rattle.std.specs.Prelude.{◌≡◌, ◌≢◌, ◌<◌, length};
 ghost use Rattle.elf_object.specs.Parts.{symbol_count};
 ghost use Rattle.tls_symbols.specs.Bindings.{binding_of, object_at};
 ghost use Rattle.link_refusals.specs.Faults.{test_of, IsAskedWithin};
-ghost use Rattle.link_refusals.specs.Refused.{asks_storage, is_here, is_moved, is_refused};
+ghost use Rattle.link_refusals.specs.Refused.{asks_storage, is_here, is_moved, is_refused, is_refused_at_all};
 
 use elf_object::{Relocation, RelocationKind};
 use link_faults::{ImageKind, LinkFaultKind};
@@ -15,6 +15,8 @@ use tls_symbols::{Binding, Bindings};
 pub enum Charge<'b, 'l, 's, 'a> {
     /// Does the kind of the image refuse its type, with this fault?
     ByType(LinkFaultKind, ImageKind),
+    /// Does the kind of the image refuse its type, with any fault?
+    ByKind(ImageKind),
     /// Does it want storage that the image, which has none, would have itself?
     ByStorage(ImageKind, &'b Bindings<'l, 's, 'a>),
 }
@@ -38,6 +40,14 @@ fn is_refused(fault: LinkFaultKind, image: ImageKind, kind: RelocationKind) -> b
         ) => is_moved(image),
         _ => false,
     }
+}
+
+/// Whether an image of this kind refuses relocations of a type at all.
+fn is_refused_at_all(image: ImageKind, kind: RelocationKind) -> bool
+    ensures { result ≡ is_refused_at_all image kind }
+{
+    is_refused(LinkFaultKind::LocalExecInModule, image, kind)
+        || is_refused(LinkFaultKind::NarrowInModule, image, kind)
 }
 
 /// Whether it is a symbol of the image itself.
@@ -77,6 +87,7 @@ pub fn is_charged(charge: &Charge, index: usize, relocation: &Relocation) -> boo
 {
     match charge {
         Charge::ByType(fault, image) => is_refused(*fault, *image, relocation.kind),
+        Charge::ByKind(image) => is_refused_at_all(*image, relocation.kind),
         Charge::ByStorage(image, bindings) => asks_storage(bindings, *image, index, relocation),
     }
 }

@@ -11,18 +11,6 @@ use elf_object::Object;
 /// How many relocations an image may have.
 pub const MAX_RELOCATIONS: u128 = 1 << 19;
 
-/// How many relocations a section has that linking keeps.
-fn section_count(object: &Object, section: u32) -> u64
-    ensures count { result ≡ length (relocations object.now section) }
-    ensures few { result ≤ 2 ^ 20 }
-{
-    let mut count = 0;
-    for _relocation in object.relocs(section) {
-        count += 1;
-    }
-    count
-}
-
 /// How many the sections of an object have.
 #[tactic(auto, unfolding(crate::specs::Counts::own_count))]
 fn own_count(object: &Object) -> u64
@@ -32,7 +20,7 @@ fn own_count(object: &Object) -> u64
 {
     let mut count = 0;
     for section in 1..object.section_count() {
-        count += section_count(object, section);
+        count += object.relocation_count(section);
     }
     count
 }

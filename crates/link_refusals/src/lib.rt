@@ -36,7 +36,8 @@
 //! there are for sections that linking keeps, and [`has_few_relocations`] whether they are no more than an image may
 //! have, [`MAX_RELOCATIONS`].
 //!
-//! No call takes memory, and none looks at a name: each reads every relocation once or twice.
+//! No call takes memory, and none looks at a name. Where nothing is refused, each question reads every relocation once
+//! at most, and of a program at a fixed address [`ask_kind`] reads none. A count reads none.
 //!
 //! `specs/Refused` has the table, `specs/Places` says where a relocation is charged and which is the first,
 //! `specs/Faults` what each call asks, `specs/Searches` how the first is found, and `specs/Counts` what is counted.

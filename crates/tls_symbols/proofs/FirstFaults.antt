@@ -6,11 +6,10 @@ use Rattle.std.proofs.lemmas.Bool.{cases_lt}
 use Rattle.std.proofs.lemmas.List.{length-drop}
 use Rattle.elf_object.specs.Object.{section_count}
 use Rattle.elf_object.specs.Parts.{symbol_count, symbol_table}
-use Rattle.link_faults.specs.declared.fault.LinkFaultKind.{LinkFaultKind}
 use Rattle.tls_symbols.specs.declared.place.Place.{Place}
 use Rattle.tls_symbols.specs.Bindings.{object_at}
-use Rattle.tls_symbols.specs.Faults.{held_in, is_duplicate, is_faulty, Earlier, IsDuplicateAt, IsFaultyUse}
-use Rattle.tls_symbols.specs.Searches.{first_duplicate_from, first_duplicate_in, first_entry, first_in_sections, first_use_from, first_use_in, or_place, place_at}
+use Rattle.tls_symbols.specs.Faults.{held_in, is_duplicate, Earlier, IsDuplicateAt}
+use Rattle.tls_symbols.specs.Searches.{first_duplicate_from, first_duplicate_in, first_entry, first_in_sections, first_use_from, first_use_in, or_place, place_at, Test}
 use Rattle.tls_symbols.proofs.Within.{Dropped, dropped_is, FoundAt, find_found, find_nothing}
 
 impossible : true ≡ false → ⊥
@@ -122,33 +121,39 @@ module _ (f : ℕ → List ℕ → Option Place) (all : List (List ℕ)) where
 
 -- ** relocations
 
-module _ (kind : LinkFaultKind) (objects : List (List ℕ)) (startup : List (List (List ℕ))) where
+-- entry e of section s of object o is a relocation that is charged
+abbrev pub IsChargedUse : Test → List (List ℕ) → ℕ → ℕ → ℕ → Type 0
+IsChargedUse test objects o s e =
+    (o < length objects) × (0 < s) × (s < section_count (object_at objects o))
+    × IsSomeAnd (slice_get (held_in (object_at objects o) s) e) (λ r. test o r ≡ true)
+
+module _ (test : Test) (objects : List (List ℕ)) where
   -- the place is that of the first such relocation in n sections of object o, from number a on
   record FirstIn (o : ℕ) (b : List ℕ) (a n : ℕ) (place : Place) : Type 0 where
     object : place.object ≡ o
     low : a ≤ place.section
     high : place.section < a + n
-    entry : FirstCharged (is_faulty kind objects startup o) (held_in b place.section) place.entry
-    none_earlier : (t : ℕ) → a ≤ t → t < place.section → (f : ℕ) → ChargedAt (is_faulty kind objects startup o) (held_in b t) f → ⊥
+    entry : FirstCharged (test o) (held_in b place.section) place.entry
+    none_earlier : (t : ℕ) → a ≤ t → t < place.section → (f : ℕ) → ChargedAt (test o) (held_in b t) f → ⊥
 
   module _ (o : ℕ) (b : List ℕ) where
-    entry_found : (s e : ℕ) → first_entry kind objects startup o b s ≡ Some e → FirstCharged (is_faulty kind objects startup o) (held_in b s) e
+    entry_found : (s e : ℕ) → first_entry test o b s ≡ Some e → FirstCharged (test o) (held_in b s) e
     unfolding first_entry
     entry_found s e is =
-        let found = position_found (is_faulty kind objects startup o) (held_in b s) 0 e is in
-        let same : found.0 ≡ e = omega (arith, found.1) in subst (FirstCharged (is_faulty kind objects startup o) (held_in b s)) same found.2
+        let found = position_found (test o) (held_in b s) 0 e is in
+        let same : found.0 ≡ e = omega (arith, found.1) in subst (FirstCharged (test o) (held_in b s)) same found.2
 
-    entry_nothing : (s : ℕ) → first_entry kind objects startup o b s ≡ None → (f : ℕ) → ChargedAt (is_faulty kind objects startup o) (held_in b s) f → ⊥
+    entry_nothing : (s : ℕ) → first_entry test o b s ≡ None → (f : ℕ) → ChargedAt (test o) (held_in b s) f → ⊥
     unfolding first_entry
-    entry_nothing s is = position_nothing (is_faulty kind objects startup o) (held_in b s) 0 is
+    entry_nothing s is = position_nothing (test o) (held_in b s) 0 is
 
-    sections_found : (a n : ℕ) (place : Place) → first_in_sections kind objects startup o b (range_with_len a n) ≡ Some place → FirstIn o b a n place
+    sections_found : (a n : ℕ) (place : Place) → first_in_sections test o b (range_with_len a n) ≡ Some place → FirstIn o b a n place
     sections_found a zero place is = absurd (cc)
-    sections_found a (suc n) place is = by_entry (first_entry kind objects startup o b a) refl (λ h. sections_found (a + 1) n place h) is
+    sections_found a (suc n) place is = by_entry (first_entry test o b a) refl (λ h. sections_found (a + 1) n place h) is
       where
-        by_entry : (found : Option ℕ) → first_entry kind objects startup o b a ≡ found
-            → (first_in_sections kind objects startup o b (range_with_len (a + 1) n) ≡ Some place → FirstIn o b (a + 1) n place)
-            → or_place (place_at o a found) (first_in_sections kind objects startup o b (range_with_len (a + 1) n)) ≡ Some place → FirstIn o b a (suc n) place
+        by_entry : (found : Option ℕ) → first_entry test o b a ≡ found
+            → (first_in_sections test o b (range_with_len (a + 1) n) ≡ Some place → FirstIn o b (a + 1) n place)
+            → or_place (place_at o a found) (first_in_sections test o b (range_with_len (a + 1) n)) ≡ Some place → FirstIn o b a (suc n) place
         by_entry (Some e) here rest is =
             let P : Place → Type 0 = FirstIn o b a (suc n) in
             subst P (some_same _ _ is) (record {
@@ -167,69 +172,69 @@ module _ (kind : LinkFaultKind) (objects : List (List ℕ)) (startup : List (Lis
               entry = later.entry;
               none_earlier = λ t low high. elim (cases_lt a t) [
                 | inl above ↦ later.none_earlier t (omega (arith, above)) high
-                | inr at ↦ let same : a ≡ t = omega (arith, low, at) in subst (λ m. (f : ℕ) → ChargedAt (is_faulty kind objects startup o) (held_in b m) f → ⊥) same (entry_nothing a here)
+                | inr at ↦ let same : a ≡ t = omega (arith, low, at) in subst (λ m. (f : ℕ) → ChargedAt (test o) (held_in b m) f → ⊥) same (entry_nothing a here)
               ];
             }
 
-    sections_nothing : (a n : ℕ) → first_in_sections kind objects startup o b (range_with_len a n) ≡ None
-        → (t : ℕ) → a ≤ t → t < a + n → (f : ℕ) → ChargedAt (is_faulty kind objects startup o) (held_in b t) f → ⊥
+    sections_nothing : (a n : ℕ) → first_in_sections test o b (range_with_len a n) ≡ None
+        → (t : ℕ) → a ≤ t → t < a + n → (f : ℕ) → ChargedAt (test o) (held_in b t) f → ⊥
     sections_nothing a zero is t low high = absurd (omega (arith, low, high))
-    sections_nothing a (suc n) is t low high = by_entry (first_entry kind objects startup o b a) refl (λ h above. sections_nothing (a + 1) n h t above (omega (arith, high))) is
+    sections_nothing a (suc n) is t low high = by_entry (first_entry test o b a) refl (λ h above. sections_nothing (a + 1) n h t above (omega (arith, high))) is
       where
-        by_entry : (found : Option ℕ) → first_entry kind objects startup o b a ≡ found
-            → (first_in_sections kind objects startup o b (range_with_len (a + 1) n) ≡ None → a + 1 ≤ t → (f : ℕ) → ChargedAt (is_faulty kind objects startup o) (held_in b t) f → ⊥)
-            → or_place (place_at o a found) (first_in_sections kind objects startup o b (range_with_len (a + 1) n)) ≡ None
-            → (f : ℕ) → ChargedAt (is_faulty kind objects startup o) (held_in b t) f → ⊥
+        by_entry : (found : Option ℕ) → first_entry test o b a ≡ found
+            → (first_in_sections test o b (range_with_len (a + 1) n) ≡ None → a + 1 ≤ t → (f : ℕ) → ChargedAt (test o) (held_in b t) f → ⊥)
+            → or_place (place_at o a found) (first_in_sections test o b (range_with_len (a + 1) n)) ≡ None
+            → (f : ℕ) → ChargedAt (test o) (held_in b t) f → ⊥
         by_entry (Some e) here rest is = absurd (cc)
         by_entry None here rest is = elim (cases_lt a t) [
           | inl above ↦ rest is (omega (arith, above))
-          | inr at ↦ let same : a ≡ t = omega (arith, low, at) in subst (λ m. (f : ℕ) → ChargedAt (is_faulty kind objects startup o) (held_in b m) f → ⊥) same (entry_nothing a here)
+          | inr at ↦ let same : a ≡ t = omega (arith, low, at) in subst (λ m. (f : ℕ) → ChargedAt (test o) (held_in b m) f → ⊥) same (entry_nothing a here)
         ]
 
-  walk_uses : (o : ℕ) (more : List (List ℕ)) → first_use_from kind objects startup o more ≡ walk (first_use_in kind objects startup) o more
+  walk_uses : (o : ℕ) (more : List (List ℕ)) → first_use_from test o more ≡ walk (first_use_in test) o more
   walk_uses o [] = refl
-  walk_uses o (b ∷ more) = ap (or_place (first_use_in kind objects startup o b)) (walk_uses (o + 1) more)
+  walk_uses o (b ∷ more) = ap (or_place (first_use_in test o b)) (walk_uses (o + 1) more)
 
-  use_nothing_in : (o : ℕ) → first_use_in kind objects startup o (object_at objects o) ≡ None → (s e : ℕ) → IsFaultyUse kind objects startup o s e → ⊥
+  use_nothing_in : (o : ℕ) → first_use_in test o (object_at objects o) ≡ None → (s e : ℕ) → IsChargedUse test objects o s e → ⊥
   unfolding first_use_in
   use_nothing_in o is s e at =
       sections_nothing o (object_at objects o) 1 (section_count (object_at objects o) - 1) is s (omega (arith, at.1)) (omega (arith, at.1, at.2)) e at.3
 
-  use_found_in : (o : ℕ) (place : Place) → first_use_in kind objects startup o (object_at objects o) ≡ Some place → FirstIn o (object_at objects o) 1 (section_count (object_at objects o) - 1) place
+  use_found_in : (o : ℕ) (place : Place) → first_use_in test o (object_at objects o) ≡ Some place → FirstIn o (object_at objects o) 1 (section_count (object_at objects o) - 1) place
   unfolding first_use_in
   use_found_in o place is = sections_found o (object_at objects o) 1 (section_count (object_at objects o) - 1) place is
 
   -- the first use is one, and none is earlier
-  pub use_found : (place : Place) → first_use_from kind objects startup 0 objects ≡ Some place
-      → IsFaultyUse kind objects startup place.object place.section place.entry
-      × ((p t f : ℕ) → Earlier p t f place.object place.section place.entry → IsFaultyUse kind objects startup p t f → ⊥)
+  pub use_found : (place : Place) → first_use_from test 0 objects ≡ Some place
+      → IsChargedUse test objects place.object place.section place.entry
+      × ((p t f : ℕ) → Earlier p t f place.object place.section place.entry → IsChargedUse test objects p t f → ⊥)
   use_found place is = (here, earlier)
     where
-      first : FirstOf (first_use_in kind objects startup) objects 0 place
-      first = walk_found (first_use_in kind objects startup) objects objects 0 place refl (sym (walk_uses 0 objects) ∙ is)
+      first : FirstOf (first_use_in test) objects 0 place
+      first = walk_found (first_use_in test) objects objects 0 place refl (sym (walk_uses 0 objects) ∙ is)
 
       found : FirstIn first.at (object_at objects first.at) 1 (section_count (object_at objects first.at) - 1) place
       found = use_found_in first.at place first.here
 
-      use_at : IsFaultyUse kind objects startup first.at place.section place.entry
+      use_at : IsChargedUse test objects first.at place.section place.entry
       use_at = (first.within, omega (arith, found.low), omega (arith, found.low, found.high), found.entry.charged)
 
-      here : IsFaultyUse kind objects startup place.object place.section place.entry
-      here = subst (λ o. IsFaultyUse kind objects startup o place.section place.entry) (sym found.object) use_at
+      here : IsChargedUse test objects place.object place.section place.entry
+      here = subst (λ o. IsChargedUse test objects o place.section place.entry) (sym found.object) use_at
 
-      earlier : (p t f : ℕ) → Earlier p t f place.object place.section place.entry → IsFaultyUse kind objects startup p t f → ⊥
+      earlier : (p t f : ℕ) → Earlier p t f place.object place.section place.entry → IsChargedUse test objects p t f → ⊥
       earlier p t f (inl less) at = use_nothing_in p (first.none_earlier p (omega arith) (omega (arith, less, found.object))) t f at
       earlier p t f (inr (same, inl less)) at =
-          let moved : IsFaultyUse kind objects startup first.at t f = subst (λ o. IsFaultyUse kind objects startup o t f) (same ∙ found.object) at in
+          let moved : IsChargedUse test objects first.at t f = subst (λ o. IsChargedUse test objects o t f) (same ∙ found.object) at in
           found.none_earlier t (omega (arith, moved.1)) less f moved.3
       earlier p t f (inr (same, inr (section, less))) at =
-          let moved : IsFaultyUse kind objects startup first.at t f = subst (λ o. IsFaultyUse kind objects startup o t f) (same ∙ found.object) at in
-          let there : IsFaultyUse kind objects startup first.at place.section f = subst (λ s. IsFaultyUse kind objects startup first.at s f) section moved in
+          let moved : IsChargedUse test objects first.at t f = subst (λ o. IsChargedUse test objects o t f) (same ∙ found.object) at in
+          let there : IsChargedUse test objects first.at place.section f = subst (λ s. IsChargedUse test objects first.at s f) section moved in
           found.entry.first f less there.3
 
-  pub use_nothing : first_use_from kind objects startup 0 objects ≡ None → (o s e : ℕ) → IsFaultyUse kind objects startup o s e → ⊥
+  pub use_nothing : first_use_from test 0 objects ≡ None → (o s e : ℕ) → IsChargedUse test objects o s e → ⊥
   use_nothing is o s e at =
-      use_nothing_in o (walk_nothing (first_use_in kind objects startup) objects objects 0 refl (sym (walk_uses 0 objects) ∙ is) o (omega arith) at.0) s e at
+      use_nothing_in o (walk_nothing (first_use_in test) objects objects 0 refl (sym (walk_uses 0 objects) ∙ is) o (omega arith) at.0) s e at
 
 -- ** symbols
 

@@ -1,26 +1,37 @@
 -- What the tables tell of a name, by its number.
-use Rattle.std.proofs.Common.{◌≡◌, ◌≤◌, ◌∙◌, ℕ, Bool, true, false, cond, List, Option, Some, None, length, refl, sym, ap, arith}
+use Rattle.std.proofs.Common.{◌≡◌, ◌≤◌, ◌∙◌, ℕ, Bool, true, false, cond, List, Option, Some, None, length, refl, sym, ap, subst, arith}
 use Rattle.std.specs.Prelude.{◌==◌, nat_lt, if◌then◌else◌}
 use Rattle.std.specs.List.{position}
 use Rattle.std.specs.Str.{bytes_eq}
 use Rattle.std.proofs.lemmas.Bool.Decides.{nat_tests}
 use Rattle.std.proofs.lemmas.List.{get_or_past}
 use Rattle.std.proofs.lemmas.Slice.Eq.{bytes_eq-Decides}
-use Rattle.elf_object.specs.declared.symbol.SymbolBinding.TheVariants.{Global, Weak}
+use Rattle.elf_object.specs.declared.symbol.SymbolBinding.TheVariants.{Local, Global, Weak}
+use Rattle.elf_object.specs.Lent.{symbol_binding, symbol_name}
 use Rattle.elf_records.specs.declared.relocation.RelocationKind.{RelocationKind}
 use Rattle.tls_symbols.specs.declared.binding.Binding.{Binding}
 use Rattle.tls_symbols.specs.declared.binding.Binding.TheVariants.{Runtime}
+use Rattle.tls_symbols.specs.declared.numbers.KnownSymbol.{KnownSymbol}
 use Rattle.tls_symbols.specs.declared.symbols.SymbolRef.{SymbolRef}
 use Rattle.tls_symbols.specs.Bindings.{get_address, here_or, may_import, name_binding, of_startup}
-use Rattle.tls_symbols.specs.Definitions.{definition_of, first_from, or_weak}
-use Rattle.tls_symbols.specs.Numbers.{Names, KnowsNames, number_of, IsNumberOf, at_number, or_else, told}
+use Rattle.tls_symbols.specs.Definitions.{definition_of, first_from, or_weak, same_binding}
+use Rattle.tls_symbols.specs.Numbers.{Names, KnowsNames, IsNamed, IsNumbered, number_of, IsNumberOf, at_number, or_else, told}
 use Rattle.tls_symbols.proofs.Told.{same_number}
+
+-- a symbol whose name has a number
+pub record NumberedName (names : Names) (b : List ℕ) (e n : ℕ) : Type 0 where
+  pub shared : same_binding Local (symbol_binding b e) ≡ false
+  pub number : IsNumberOf names (symbol_name b e) n
+
+pub numbered_name : (names : Names) (b : List ℕ) (e : ℕ) (known : KnownSymbol) (n : ℕ) → IsNumbered names b e known → known.name ≡ Some n → NumberedName names b e n
+numbered_name names b e known n is some =
+    let named : IsNamed names b e (Some n) = subst (IsNamed names b e) some is.name in record { shared = named.0; number = named.1 }
 
 or_else_weak : (strong weak : Option SymbolRef) → or_else strong weak ≡ or_weak strong weak
 or_else_weak (Some x) weak = refl
 or_else_weak None weak = refl
 
-module _ (objects : List (List ℕ)) (startup : List (List (List ℕ))) (names : Names) (numbers : List (List ℕ))
+module _ (objects : List (List ℕ)) (startup : List (List (List ℕ))) (names : Names) (numbers : List (List KnownSymbol))
     (strong weak : List (Option SymbolRef)) (imported : List (Option ℕ)) (known : KnowsNames objects startup names numbers strong weak imported) where
   pub known_told : (name : List ℕ) → or_else (told names strong name) (told names weak name) ≡ definition_of objects name
   unfolding definition_of

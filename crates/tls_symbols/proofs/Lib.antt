@@ -8,4 +8,5 @@ pub mod Resolves
 pub mod Search
 pub mod Sections
 pub mod Told
+pub mod Unfit
 pub mod Within

@@ -1,5 +1,5 @@
 -- Names keep their numbers where more names come.
-use Rattle.std.proofs.Common.{◌≡◌, ◌+◌, ◌<◌, ◌∙◌, ◌++◌, ℕ, Bool, true, false, cond, List, [], ◌∷◌, length, map, eqb, inl, inr, refl, sym, ap, subst, Bor, arith}
+use Rattle.std.proofs.Common.{◌≡◌, ◌+◌, ◌<◌, ◌∙◌, ◌++◌, ℕ, Bool, true, false, cond, List, [], ◌∷◌, Option, Some, None, length, map, eqb, inl, inr, refl, sym, ap, subst, Bor, arith}
 use Rattle.std.specs.Global.{Vec}
 use Rattle.std.specs.Prelude.{if◌then◌else◌, slice_index, slice_index_or}
 use Rattle.std.specs.List.{list_any, position_or_len}
@@ -10,7 +10,8 @@ use Rattle.std.proofs.lemmas.List.{length-append, length-map, map-append, get_or
 use Rattle.std.proofs.lemmas.List.Folds.{position_or_len_push}
 use Rattle.indexmap.specs.IndexSet.{insert_key}
 use Rattle.elf_object.specs.Lent.{symbol_name}
-use Rattle.tls_symbols.specs.Numbers.{Names, number_of, Grows, AreNumbered, AreListed, AllListed}
+use Rattle.tls_symbols.specs.declared.numbers.KnownSymbol.{KnownSymbol}
+use Rattle.tls_symbols.specs.Numbers.{Names, number_of, Grows, IsNamed, IsNumbered, AreNumbered, AreListed, AllListed}
 
 -- a name is equal to itself
 pub same_name : (name : List ℕ) → bytes_eq name name ≡ true
@@ -70,10 +71,17 @@ each_push P xs y d n len each last k below = elim (cases_lt k n) [
 ]
 
 -- numbers among more names
-pub numbered_grows : (old new : Names) (b numbers : List ℕ) → Grows old new → AreNumbered old b numbers → AreNumbered new b numbers
-numbered_grows old new b numbers grows all = record {
+named_grows : (old new : Names) (b : List ℕ) (e : ℕ) (number : Option ℕ) → Grows old new → IsNamed old b e number → IsNamed new b e number
+named_grows old new b e (Some n) grows is = (is.0, grows.keeps (symbol_name b e) n is.1)
+named_grows old new b e None grows is = is
+
+pub known_grows : (old new : Names) (b : List ℕ) (e : ℕ) (known : KnownSymbol) → Grows old new → IsNumbered old b e known → IsNumbered new b e known
+known_grows old new b e known grows is = record { name = named_grows old new b e known.name grows is.name; is_tls = is.is_tls }
+
+pub numbered_grows : (old new : Names) (b : List ℕ) (known : List KnownSymbol) → Grows old new → AreNumbered old b known → AreNumbered new b known
+numbered_grows old new b known grows all = record {
   len = all.len;
-  each = λ e below shared. grows.keeps (symbol_name b e) (slice_index numbers e) (all.each e below shared);
+  each = λ e d below. known_grows old new b e (slice_index_or known e d) grows (all.each e d below);
 }
 
 pub listed_grows : (old new : Names) (listed : List (List ℕ)) (numbers : List ℕ) → Grows old new → AreListed old listed numbers → AreListed new listed numbers
@@ -89,10 +97,10 @@ lists_grow old new lists numbers grows all = record {
 }
 
 -- the same of lists, each of which is held by a `Vec`
-pub vecs_push : (P : ℕ → List ℕ → Type 0) (old new : List (Vec ℕ)) (own : Vec ℕ) (n : ℕ) → length old ≡ n → new ≡ old ++ own ∷ []
+pub vecs_push : {X : Type 0} (P : ℕ → List X → Type 0) (old new : List (Vec X)) (own : Vec X) (n : ℕ) → length old ≡ n → new ≡ old ++ own ∷ []
     → ((k : ℕ) → k < n → P k (slice_index_or (map (λ v. v.items) old) k [])) → P n own.items → (k : ℕ) → k < n + 1 → P k (slice_index_or (map (λ v. v.items) new) k [])
-vecs_push P old new own n len pushed each last =
-    let f : Vec ℕ → List ℕ = λ v. v.items in
-    let P' : List (List ℕ) → Type 0 = λ xs. (k : ℕ) → k < n + 1 → P k (slice_index_or xs k []) in
+vecs_push {X} P old new own n len pushed each last =
+    let f : Vec X → List X = λ v. v.items in
+    let P' : List (List X) → Type 0 = λ xs. (k : ℕ) → k < n + 1 → P k (slice_index_or xs k []) in
     subst P' (sym (ap (map f) pushed ∙ map-append f old (own ∷ [])))
     (each_push P (map f old) own.items [] n (length-map old f ∙ len) each last)

@@ -1,11 +1,11 @@
 -- What a table tells once an entry is noted, and the steps of the walks that note them.
 use Rattle.std.proofs.Common.{◌≡◌, ◌≢◌, ◌+◌, ◌-◌, ◌<◌, ◌∙◌, ◌&&◌, ◌||◌, ℕ, Bool, true, false, List, [], ◌∷◌, Option, Some, None, length, get_or, refl, sym, ap, subst, Bor, arith}
 use Rattle.std.specs.Global.{Vec}
-use Rattle.std.specs.Prelude.{if◌then◌else◌, slice_index, slice_index_or}
+use Rattle.std.specs.Prelude.{if◌then◌else◌, slice_index_or, MatchOption}
 use Rattle.std.specs.List.{find, list_any, range_with_len}
 use Rattle.std.specs.Str.{bytes_eq}
 use Rattle.std.proofs.lemmas.Grind.{get_or-set_at}
-use Rattle.std.proofs.lemmas.List.{get_or-map, get_or-set_other, get_or_default}
+use Rattle.std.proofs.lemmas.List.{get_or-map, get_or-set_other}
 use Rattle.std.proofs.lemmas.List.Sums.{passes_at_first}
 use Rattle.std.proofs.lemmas.Slice.Eq.{bytes_eq-Decides}
 use Rattle.elf_object.specs.declared.symbol.SymbolBinding.{SymbolBinding}
@@ -15,7 +15,7 @@ use Rattle.elf_object.specs.Parts.{symbol_count}
 use Rattle.tls_symbols.specs.declared.symbols.SymbolRef.{SymbolRef}
 use Rattle.tls_symbols.specs.Definitions.{defines, found_or, is_defined, same_binding}
 use Rattle.tls_symbols.specs.Firsts.{export_in}
-use Rattle.tls_symbols.specs.Numbers.{Names, number_of, IsNumberOf, at_number, or_else, own_numbers, with_first, told}
+use Rattle.tls_symbols.specs.Numbers.{Names, number_of, IsNamed, IsNumberOf, at_number, or_else, own_numbers, with_first, told}
 use Rattle.tls_symbols.proofs.Search.{find_here, find_later}
 
 -- two names with one number are one
@@ -95,6 +95,15 @@ module _ (names : Names) (binding : SymbolBinding) (o : ℕ) (b : List ℕ) wher
             ∙ ap (λ f. or_else (told names table name) (found_or o f None)) (sym (find_later (defines b binding name) a (symbol_count b) below
             (both_true (same_binding binding (symbol_binding b a)) (is_defined (symbol_place b a)) (bytes_eq name (symbol_name b a)) false defined other)))
 
+    -- the symbol's definition was noted by the number of its name
+    pub note_named : (old new : List (Option SymbolRef)) (number : Option ℕ) → (same_binding binding (symbol_binding b a) && is_defined (symbol_place b a)) ≡ true
+        → same_binding Local (symbol_binding b a) ≡ false → IsNamed names b a number → length old ≡ length names
+        → MatchOption number (new ≡ old) (λ n. new ≡ with_first old n (record { object = o; symbol = a }))
+        → (name : List ℕ) → or_else (told names new name) (left (a + 1) name) ≡ or_else (told names old name) (left a name)
+    note_named old new None defined shared named len noted name = absurd (cc)
+    note_named old new (Some n) defined shared named len noted name =
+        ap (λ t. or_else (told names t name) (left (a + 1) name)) noted ∙ note_step old n defined named.1 len name
+
 -- one object, and those behind it
 pub note_object : (t : Option SymbolRef) (o : ℕ) (found : Option ℕ) (rest : Option SymbolRef) → or_else (or_else t (found_or o found None)) rest ≡ or_else t (found_or o found rest)
 note_object (Some x) o found rest = refl
@@ -132,15 +141,13 @@ note_image None k false rest = refl
 -- ** numbers that are read
 
 -- those of an object or an image
-pub own_is : (xs : List (Vec ℕ)) (i : ℕ) (own : Vec ℕ) → own ≡ slice_index_or xs i own → i < length xs → own_numbers xs i ≡ own.items
+pub own_is : {X : Type 0} (xs : List (Vec X)) (i : ℕ) (own : Vec X) → own ≡ slice_index_or xs i own → i < length xs → own_numbers xs i ≡ own.items
 own_is xs i own e within = get_or-map (λ v. v.items) xs i own [] within ∙ ap (λ v. v.items) (sym e)
 
 -- one of them
-pub number_is : (xs : List (Vec ℕ)) (i : ℕ) (own : Vec ℕ) → own ≡ slice_index_or xs i own → i < length xs → (e n d : ℕ)
-    → n ≡ slice_index_or own.items e d → e < length (own_numbers xs i) → n ≡ slice_index (own_numbers xs i) e
-number_is xs i own e within k n d is below =
-    let same = own_is xs i own e within in
-    is ∙ get_or_default own.items k d 0 (subst (λ ys. k < length ys) same below) ∙ ap (λ ys. slice_index ys k) (sym same)
+pub known_is : {X : Type 0} (xs : List (Vec X)) (i : ℕ) (own : Vec X) → own ≡ slice_index_or xs i own → i < length xs → (e : ℕ) (n d : X)
+    → n ≡ slice_index_or own.items e d → n ≡ slice_index_or (own_numbers xs i) e d
+known_is xs i own e within k n d is = is ∙ ap (λ ys. slice_index_or ys k d) (sym (own_is xs i own e within))
 
 -- what defines a name with a binding other than LOCAL is not LOCAL
 pub shared_binding : (binding : SymbolBinding) (b : List ℕ) (e : ℕ) → same_binding Local binding ≡ false

@@ -54,6 +54,10 @@ is_faulty NotTls objects startup o r =
     names_symbol r.kind && is_mismatched objects r.kind (binding_of objects startup o r)
 is_faulty kind objects startup o r = false
 
+-- whether it is one of the two
+abbrev pub is_unfit : List (List ℕ) → List (List (List ℕ)) → ℕ → Relocation → Bool
+is_unfit objects startup o r = is_faulty Undefined objects startup o r || is_faulty NotTls objects startup o r
+
 -- ** what a symbol is charged with
 
 -- whether symbol e of object o is a second strong definition: its name binds to another

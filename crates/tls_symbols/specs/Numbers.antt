@@ -1,6 +1,6 @@
 -- Names and their numbers, and what a table over these numbers tells of each name.
-use Rattle.std.specs.Prelude.{◌≡◌, ◌<◌, ℕ, false, List, [], Option, Some, None, length, map, slice_index}
-use Rattle.std.specs.Prelude.{slice_index_or, slice_set}
+use Rattle.std.specs.Prelude.{◌≡◌, ◌<◌, ℕ, true, false, List, [], Option, Some, None, length, map, slice_index}
+use Rattle.std.specs.Prelude.{slice_index_or, slice_set, MatchOption}
 use Rattle.std.specs.Borrow.{Bor}
 use Rattle.std.specs.Global.{Vec}
 use Rattle.std.specs.List.{position_or_len}
@@ -9,9 +9,10 @@ use Rattle.elf_object.specs.declared.symbol.SymbolBinding.{SymbolBinding}
 use Rattle.elf_object.specs.declared.symbol.SymbolBinding.TheVariants.{Local, Global, Weak}
 use Rattle.elf_object.specs.Lent.{symbol_binding, symbol_name}
 use Rattle.elf_object.specs.Parts.{symbol_count}
+use Rattle.tls_symbols.specs.declared.numbers.KnownSymbol.{KnownSymbol}
 use Rattle.tls_symbols.specs.declared.symbols.SymbolRef.{SymbolRef}
 use Rattle.tls_symbols.specs.Definitions.{first_from, same_binding}
-use Rattle.tls_symbols.specs.Bindings.{first_export, get_address, object_at}
+use Rattle.tls_symbols.specs.Bindings.{first_export, get_address, is_tls_symbol, object_at}
 
 -- names, each of which is lent
 abbrev pub Names : Type 0
@@ -30,17 +31,24 @@ pub record IsNumberOf (names : Names) (name : List ℕ) (n : ℕ) : Type 0 where
 pub record Grows (old new : Names) : Type 0 where
   pub keeps : (name : List ℕ) (n : ℕ) → IsNumberOf old name n → IsNumberOf new name n
 
--- symbol e has the number of its name, but where it is LOCAL
-abbrev pub IsNumbered : Names → List ℕ → ℕ → ℕ → Type 0
-IsNumbered names b e n = same_binding Local (symbol_binding b e) ≡ false → IsNumberOf names (symbol_name b e) n
+-- symbol e has the number of its name, and none where it is LOCAL
+abbrev pub IsNamed : Names → List ℕ → ℕ → Option ℕ → Type 0
+IsNamed names b e number =
+    MatchOption number (same_binding Local (symbol_binding b e) ≡ true)
+    (λ n. (same_binding Local (symbol_binding b e) ≡ false) × IsNumberOf names (symbol_name b e) n)
 
--- each symbol of an object has
-pub record AreNumbered (names : Names) (b numbers : List ℕ) : Type 0 where
-  pub len : length numbers ≡ symbol_count b
-  pub each : (e : ℕ) → e < symbol_count b → IsNumbered names b e (slice_index numbers e)
+-- what is known of symbol e: the number of its name, and whether it is thread-local
+pub record IsNumbered (names : Names) (b : List ℕ) (e : ℕ) (known : KnownSymbol) : Type 0 where
+  pub name : IsNamed names b e known.name
+  pub is_tls : known.is_tls ≡ is_tls_symbol b e
 
--- each symbol of each object has
-pub record AllNumbered (names : Names) (objects numbers : List (List ℕ)) : Type 0 where
+-- it is known of each symbol of an object
+pub record AreNumbered (names : Names) (b : List ℕ) (known : List KnownSymbol) : Type 0 where
+  pub len : length known ≡ symbol_count b
+  pub each : (e : ℕ) (d : KnownSymbol) → e < symbol_count b → IsNumbered names b e (slice_index_or known e d)
+
+-- of each symbol of each object
+pub record AllNumbered (names : Names) (objects : List (List ℕ)) (numbers : List (List KnownSymbol)) : Type 0 where
   pub len : length numbers ≡ length objects
   pub each : (o : ℕ) → o < length objects → AreNumbered names (object_at objects o) (slice_index_or numbers o [])
 
@@ -83,7 +91,7 @@ pub record TellsExports (names : Names) (startup : List (List (List ℕ))) (tabl
 
 -- all that is known of the names of an image
 pub record KnowsNames (objects : List (List ℕ)) (startup : List (List (List ℕ))) (names : Names)
-    (numbers : List (List ℕ)) (strong weak : List (Option SymbolRef)) (imported : List (Option ℕ)) : Type 0 where
+    (numbers : List (List KnownSymbol)) (strong weak : List (Option SymbolRef)) (imported : List (Option ℕ)) : Type 0 where
   -- number 0 is that of the function of the run time
   pub run_time : IsNumberOf names get_address 0
   pub numbered : AllNumbered names objects numbers
@@ -91,6 +99,6 @@ pub record KnowsNames (objects : List (List ℕ)) (startup : List (List (List �
   pub weakly : TellsDefinitions names Weak objects weak
   pub exports : TellsExports names startup imported
 
--- the numbers of what stands at an index
-abbrev pub own_numbers : List (Vec ℕ) → ℕ → List ℕ
+-- what a list of lists has at an index
+abbrev pub own_numbers : {X : Type 0} → List (Vec X) → ℕ → List X
 own_numbers numbers index = slice_index_or (map (λ own. own.items) numbers) index []

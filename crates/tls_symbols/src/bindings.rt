@@ -12,7 +12,7 @@ use crate::duplicates::first_duplicate;
 use crate::export_list::Exports;
 use crate::image_names::{ImageNames, binding, definition_named, know_names};
 use crate::symbols::SymbolRef;
-use crate::uses::first_use;
+use crate::uses::{Charge, first_charged, first_use};
 use elf_object::{Object, Relocation};
 use link_faults::{LinkFault, LinkFaultKind};
 use std::alloc::Global;
@@ -36,17 +36,18 @@ impl<'l, 's, 'a> Model for Bindings<'l, 's, 'a> {
     ghost invariant = { λ b. IsKnown b.names × AreResolved b.names.objects.now b.names.startup.now };
 }
 
-/// The first fault of the names of an image.
+/// The first fault of the names of an image. Where no relocation is unfit, one walk over them says so.
 fn first_fault(names: &ImageNames) -> Option<LinkFault>
     requires { IsKnown names.now }
     ensures { MatchOption result (AreResolved names.now.objects.now names.now.startup.now)
         (IsFault names.now.objects.now names.now.startup.now) }
 {
-    match first_use(names, LinkFaultKind::Undefined) {
+    let unfit = first_use(names, Charge::Either);
+    match first_charged(names, unfit, Charge::Unbound) {
         Some(place) => Some(place.fault(LinkFaultKind::Undefined)),
         None => match first_duplicate(names) {
             Some(place) => Some(place.fault(LinkFaultKind::Duplicate)),
-            None => match first_use(names, LinkFaultKind::NotTls) {
+            None => match first_charged(names, unfit, Charge::Unsuited) {
                 Some(place) => Some(place.fault(LinkFaultKind::NotTls)),
                 None => None,
             },

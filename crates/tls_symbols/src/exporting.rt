@@ -10,7 +10,7 @@ ghost use Rattle.tls_symbols.specs.Known.{IsKnown};
 use crate::duplicates::is_symbol;
 use crate::export_list::Exports;
 use crate::image_names::{ImageNames, know_names, symbol_definition};
-use crate::uses::is_tls_place;
+use crate::tls_place::is_tls_place;
 use elf_object::{Object, SymbolBinding, Visibility};
 use std::alloc::{AllocError, Global};
 

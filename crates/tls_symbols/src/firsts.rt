@@ -1,6 +1,6 @@
 //! Tables over the numbers of names: what comes first of each name.
 
-ghost use Rattle.std.specs.Prelude.{◌≡◌, ◌<◌, ◌-◌, ◌^◌, ◌&&◌, false, IfOk, length, map};
+ghost use Rattle.std.specs.Prelude.{◌≡◌, ◌<◌, ◌-◌, ◌^◌, ◌&&◌, false, IfOk, IfSome, MatchOption, length, map};
 ghost use Rattle.elf_object.specs.Lent.{symbol_binding, symbol_place};
 ghost use Rattle.elf_object.specs.Parts.{symbol_count};
 ghost use Rattle.elf_object.specs.declared.symbol.SymbolBinding.TheVariants.{Local};
@@ -15,12 +15,14 @@ use crate::symbols::SymbolRef;
 use elf_object::{Object, SymbolBinding, SymbolPlace};
 use std::alloc::{AllocError, Global};
 
-/// Notes a definition, where the table has none of the name yet.
-fn note_definition(table: &mut [Option<SymbolRef>], number: usize, found: SymbolRef)
-    requires { number < length table.old }
-    ensures { table.new ≡ with_first table.old number found }
+/// Notes a definition of a name, where the table has none of it yet. A LOCAL symbol's name has no number.
+fn note_definition(table: &mut [Option<SymbolRef>], name: Option<usize>, found: SymbolRef)
+    requires { IfSome name (λ number. number < length table.old) }
+    ensures { MatchOption name (table.new ≡ table.old) (λ number. table.new ≡ with_first table.old number found) }
 {
-    table[number] = table[number].or(Some(found));
+    if let Some(number) = name {
+        table[number] = table[number].or(Some(found));
+    }
 }
 
 /// Notes a startup image, where the table has none for the name yet.
@@ -64,7 +66,7 @@ fn note_object(
                 object: index as u64,
                 symbol,
             };
-            note_definition(table, own[symbol as usize], found);
+            note_definition(table, own[symbol as usize].name, found);
         }
     }
 }

@@ -5,7 +5,7 @@ ghost use Rattle.std.specs.Str.{bytes_eq};
 ghost use Rattle.elf_object.specs.Lent.{symbol_binding, symbol_name};
 ghost use Rattle.elf_object.specs.declared.symbol.SymbolBinding.TheVariants.{Local};
 ghost use Rattle.elf_object.specs.Parts.{symbol_count};
-ghost use Rattle.tls_symbols.specs.Bindings.{binding_of, get_address, may_import, object_at, IsBindingWithin};
+ghost use Rattle.tls_symbols.specs.Bindings.{binding_of, get_address, is_tls_symbol, may_import, object_at, IsBindingWithin};
 ghost use Rattle.tls_symbols.specs.Definitions.{definition_of, same_binding, IsWithin};
 ghost use Rattle.tls_symbols.specs.Known.{IsKnown, binding_at, definition_at, imported_at};
 ghost use Rattle.tls_symbols.specs.Numbers.{IsNumbered};
@@ -13,7 +13,7 @@ ghost use Rattle.tls_symbols.specs.Numbers.{IsNumbered};
 use crate::binding::Binding;
 use crate::export_list::Exports;
 use crate::firsts::{first_definitions, first_exports};
-use crate::numbers::{Numbers, number_names};
+use crate::numbers::{KnownSymbol, Numbers, number_names};
 use crate::symbols::SymbolRef;
 use elf_object::{Object, Relocation, RelocationKind, SymbolBinding};
 use std::alloc::{AllocError, Global};
@@ -79,8 +79,8 @@ pub fn definition_named(names: &ImageNames, name: &[u8]) -> Option<SymbolRef>
     }
 }
 
-/// The number of a symbol's name; of a LOCAL symbol any.
-fn number_at(names: &ImageNames, object: usize, symbol: u32) -> usize
+/// What is known of a symbol.
+fn symbol_at(names: &ImageNames, object: usize, symbol: u32) -> KnownSymbol
     requires known { IsKnown names.now }
     requires object { object < length names.now.objects.now }
     requires symbol { symbol < symbol_count (object_at names.now.objects.now object) }
@@ -88,6 +88,15 @@ fn number_at(names: &ImageNames, object: usize, symbol: u32) -> usize
 {
     let own = &names.numbers.symbols[object];
     own[symbol as usize]
+}
+
+/// Whether a symbol of the image is thread-local.
+pub fn is_tls(names: &ImageNames, found: SymbolRef) -> bool
+    requires known { IsKnown names.now }
+    requires within { IsWithin names.now.objects.now found }
+    ensures { result ≡ is_tls_symbol (object_at names.now.objects.now found.object) found.symbol }
+{
+    symbol_at(names, found.object as usize, found.symbol).is_tls
 }
 
 /// The definition that the name of a symbol binds to, one that is not LOCAL.
@@ -99,7 +108,10 @@ pub fn symbol_definition(names: &ImageNames, object: usize, symbol: u32) -> Opti
     ensures { result ≡ definition_of names.now.objects.now
         (symbol_name (object_at names.now.objects.now object) symbol) }
 {
-    definition_at(names, number_at(names, object, symbol))
+    match symbol_at(names, object, symbol).name {
+        Some(number) => definition_at(names, number),
+        None => None,
+    }
 }
 
 /// Whether a symbol, one that is not LOCAL, has the name of the run time's function.
@@ -110,7 +122,10 @@ pub fn is_run_time(names: &ImageNames, object: usize, symbol: u32) -> bool
     requires shared { same_binding Local (symbol_binding (object_at names.now.objects.now object) symbol) ≡ false }
     ensures { result ≡ bytes_eq (symbol_name (object_at names.now.objects.now object) symbol) get_address }
 {
-    number_at(names, object, symbol) == 0
+    match symbol_at(names, object, symbol).name {
+        Some(number) => number == 0,
+        None => false,
+    }
 }
 
 /// Whether a relocation of this type may name what another image exports.
@@ -150,18 +165,7 @@ fn binding_at(names: &ImageNames, number: usize, kind: RelocationKind) -> Option
     }
 }
 
-/// Whether a symbol is LOCAL.
-fn is_local(object: &Object, symbol: u32) -> bool
-    requires { symbol < symbol_count object.now }
-    ensures { result ≡ same_binding Local (symbol_binding object.now symbol) }
-{
-    match object.symbol(symbol) {
-        Some(part) => matches!(part.binding, SymbolBinding::Local),
-        None => false,
-    }
-}
-
-/// What the symbol is bound to that a relocation of an object names.
+/// What the symbol is bound to that a relocation of an object names; a LOCAL one is bound to itself.
 #[tactic(auto, unfolding(crate::specs::Bindings::binding_of))]
 pub fn binding(names: &ImageNames, object: usize, relocation: &Relocation) -> Option<Binding>
     requires known { IsKnown names.now }
@@ -170,12 +174,11 @@ pub fn binding(names: &ImageNames, object: usize, relocation: &Relocation) -> Op
     ensures binding { result ≡ binding_of names.now.objects.now names.now.startup.now object relocation.now }
     ensures within { IfSome result (IsBindingWithin names.now.objects.now) }
 {
-    if is_local(&names.objects[object], relocation.symbol) {
-        return Some(Binding::Here(SymbolRef {
+    match symbol_at(names, object, relocation.symbol).name {
+        Some(number) => binding_at(names, number, relocation.kind),
+        None => Some(Binding::Here(SymbolRef {
             object: object as u64,
             symbol: relocation.symbol,
-        }));
+        })),
     }
-    let number = number_at(names, object, relocation.symbol);
-    binding_at(names, number, relocation.kind)
 }

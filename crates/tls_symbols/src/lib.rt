@@ -31,9 +31,10 @@
 //! of each relocation what its symbol is bound to, and of a name its definition in the image.
 //!
 //! The rule of cost: **a name is read and hashed once, and is a number from then on.** Names are numbered in the order
-//! in which they are met, each symbol keeps the number of its name, and tables over these numbers hold the first strong
-//! and the first weak definition and the first startup image. So a relocation is bound by a few look-ups in lists,
-//! however many names there are. LOCAL names are not looked at.
+//! in which they are met, each symbol keeps the number of its name and whether it is thread-local, and tables over
+//! these numbers hold the first strong and the first weak definition and the first startup image. So a relocation is
+//! bound by a few look-ups in lists, however many names there are. LOCAL names are not looked at. Where no relocation
+//! is at fault, one walk over them all says so, and the searches for the first of each kind are not made.
 //!
 //! `specs/Definitions` says which definition a name has, `specs/Bindings` what a symbol is bound to and what an image
 //! exports, and `specs/Faults` what each kind of fault means and which is the first. The other files of specs/ speak of
@@ -51,6 +52,7 @@ pub mod laws;
 mod numbers;
 mod place;
 mod symbols;
+mod tls_place;
 mod uses;
 
 pub use binding::Binding;

@@ -1,26 +1,37 @@
 //! The numbers of names: each name is hashed once, and is a number from then on.
 
 ghost use Rattle.std.specs.Prelude.{◌≡◌, ◌<◌, length, map, slice_index_or, IfOk, OnOk};
+ghost use Rattle.elf_object.specs.Lent.{symbol_binding};
 ghost use Rattle.elf_object.specs.Parts.{symbol_count};
 ghost use Rattle.tls_symbols.specs.Bindings.{get_address};
 ghost use Rattle.tls_symbols.specs.Numbers.{AllListed, AllNumbered, AreListed, AreNumbered, Grows, IsNumberOf};
-ghost use Rattle.tls_symbols.specs.Numbers.{IsNumbered};
+ghost use Rattle.tls_symbols.specs.Numbers.{IsNamed, IsNumbered};
 
 use crate::export_list::Exports;
-use elf_object::{Object, SymbolBinding};
+use crate::tls_place::is_tls_place;
+use elf_object::{Object, SymbolBinding, SymbolPart};
 use indexmap::IndexSet;
 use std::alloc::{AllocError, Global};
 
 /// The function of the run time.
 const GET_ADDRESS: &[u8] = b"__tls_get_addr";
 
+/// What is known of a symbol.
+#[derive(Clone, Copy)]
+pub struct KnownSymbol {
+    /// The number of its name; `None` of a LOCAL one, whose name is not looked at.
+    pub name: Option<usize>,
+    /// Whether it is thread-local.
+    pub is_tls: bool,
+}
+
 /// The names of an image, and the numbers of those that its symbols and the startup images have.
 #[derive(Drop)]
 pub struct Numbers<'a> {
     /// All names, each once. The first is the run time's.
     pub names: IndexSet<&'a [u8]>,
-    /// The number of each symbol of each object; of a LOCAL one 0.
-    pub symbols: Vec<Vec<usize>>,
+    /// What each symbol of each object is.
+    pub symbols: Vec<Vec<KnownSymbol>>,
     /// The numbers of what each startup image exports.
     pub exported: Vec<Vec<usize>>,
 }
@@ -43,47 +54,71 @@ fn number_name<'a>(names: &mut IndexSet<&'a [u8]>, name: &'a [u8]) -> Result<usi
     Ok(number)
 }
 
-/// The number of a symbol's name; 0 of a LOCAL symbol, whose name is not looked at.
+/// The number of a symbol's name; `None` of a LOCAL symbol, whose name is not looked at.
 fn number_symbol<'a>(
     object: &Object<'a>,
     symbol: u32,
+    part: &SymbolPart,
     names: &mut IndexSet<&'a [u8]>,
-) -> Result<usize, AllocError>
+) -> Result<Option<usize>, AllocError>
+    requires symbol { symbol < symbol_count object.now }
+    requires binding { part.now.binding ≡ symbol_binding object.now symbol }
+    ensures number { IfOk result (IsNamed names.new.keys object.now symbol) }
+    ensures grows { OnOk result (Grows names.old.keys names.new.keys) }
+{
+    if part.binding == SymbolBinding::Local {
+        return Ok(None);
+    }
+    let number = number_name(names, object.symbol_name(symbol))?;
+    Ok(Some(number))
+}
+
+/// What is known of a symbol.
+fn know_symbol<'a>(
+    object: &Object<'a>,
+    symbol: u32,
+    names: &mut IndexSet<&'a [u8]>,
+) -> Result<KnownSymbol, AllocError>
     requires { symbol < symbol_count object.now }
-    ensures number { IfOk result (IsNumbered names.new.keys object.now symbol) }
+    ensures known { IfOk result (IsNumbered names.new.keys object.now symbol) }
     ensures grows { OnOk result (Grows names.old.keys names.new.keys) }
 {
     match object.symbol(symbol) {
-        Some(part) if part.binding != SymbolBinding::Local => {
-            number_name(names, object.symbol_name(symbol))
+        Some(part) => {
+            let name = number_symbol(object, symbol, &part, names)?;
+            let is_tls = is_tls_place(object, part.place);
+            Ok(KnownSymbol { name, is_tls })
         }
-        _ => Ok(0),
+        None => Ok(KnownSymbol {
+            name: None,
+            is_tls: false,
+        }),
     }
 }
 
-/// The numbers of an object's symbols.
+/// What is known of an object's symbols.
 fn number_symbols<'a>(
     alloc: Global,
     object: &Object<'a>,
     names: &mut IndexSet<&'a [u8]>,
-) -> Result<Vec<usize>, AllocError>
+) -> Result<Vec<KnownSymbol>, AllocError>
     ensures numbers { IfOk result (λ numbers. AreNumbered names.new.keys object.now numbers.items) }
     ensures grows { OnOk result (Grows names.old.keys names.new.keys) }
 {
     let mut numbers = Vec::new(alloc);
     for symbol in 0..object.symbol_count() {
-        let number = number_symbol(object, symbol, names)?;
-        numbers.push(number)?;
+        let known = know_symbol(object, symbol, names)?;
+        numbers.push(known)?;
     }
     Ok(numbers)
 }
 
-/// The numbers of all objects' symbols.
+/// What is known of all objects' symbols.
 fn number_objects<'a>(
     alloc: Global,
     objects: &[Object<'a>],
     names: &mut IndexSet<&'a [u8]>,
-) -> Result<Vec<Vec<usize>>, AllocError>
+) -> Result<Vec<Vec<KnownSymbol>>, AllocError>
     ensures numbers { IfOk result (λ numbers.
         AllNumbered names.new.keys objects.now (map (λ own. own.items) numbers.items)) }
     ensures grows { OnOk result (Grows names.old.keys names.new.keys) }

@@ -10,6 +10,6 @@ loop-section-preserved c =
     let b = c.args.object.now in
     let kept = c.loop-section.invariant in
     let more : c.loop-section.section < section_count b = omega (arith, c.loop-section-test.true, c.section_count-section-end.ensures.count) in (
-      sum_kept (λ t. length (relocations b t)) c.loop-section.section (section_count b) c.loop-section.count c.section_count-count.result (own_count b) more c.section_count-count.ensures.count kept.0,
-      omega (arith, kept.1, c.section_count-count.ensures.few),
+      sum_kept (λ t. length (relocations b t)) c.loop-section.section (section_count b) c.loop-section.count c.relocation_count-count.result (own_count b) more c.relocation_count-count.ensures.count kept.0,
+      omega (arith, kept.1, c.relocation_count-count.ensures.few),
     )

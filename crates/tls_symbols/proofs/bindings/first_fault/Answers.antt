@@ -16,16 +16,16 @@ returns-in-Some-first_duplicate c =
     let earlier = none_undefined objects startup (sym c.in-None.ensures) in
     subst (IsFault objects startup) (sym c.fault-in-Some-first_duplicate.ensures) (duplicate_first objects startup earlier c.in-Some-first_duplicate.place (sym c.in-Some-first_duplicate.ensures))
 
-pub returns-in-Some-first_use : goal.returns-in-Some-first_use
-returns-in-Some-first_use c =
+pub returns-in-Some-first_charged : goal.returns-in-Some-first_charged
+returns-in-Some-first_charged c =
     let objects = c.args.names.now.objects.now in
     let startup = c.args.names.now.startup.now in
     let earlier = none_duplicate objects startup (none_undefined objects startup (sym c.in-None.ensures)) (sym c.in-None-first_duplicate.ensures) in
-    subst (IsFault objects startup) (sym c.fault-in-Some-first_use.ensures) (not_tls_first objects startup earlier c.in-Some-first_use.place (sym c.in-Some-first_use.ensures))
+    subst (IsFault objects startup) (sym c.fault-in-Some-first_charged.ensures) (not_tls_first objects startup earlier c.in-Some-first_charged.place (sym c.in-Some-first_charged.ensures))
 
-pub returns-in-None-first_use : goal.returns-in-None-first_use
-returns-in-None-first_use c =
+pub returns-in-None-first_charged : goal.returns-in-None-first_charged
+returns-in-None-first_charged c =
     let objects = c.args.names.now.objects.now in
     let startup = c.args.names.now.startup.now in
     let earlier = none_duplicate objects startup (none_undefined objects startup (sym c.in-None.ensures)) (sym c.in-None-first_duplicate.ensures) in
-    none_not_tls objects startup earlier (sym c.in-None-first_use.ensures)
+    none_not_tls objects startup earlier (sym c.in-None-first_charged.ensures)

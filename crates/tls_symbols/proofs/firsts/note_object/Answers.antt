@@ -1,9 +1,8 @@
 use Rattle.std.proofs.Common.{◌≡◌, ◌∙◌, ◌+◌, ◌<◌, length, refl, sym, ap, subst, arith}
-use Rattle.elf_object.specs.Lent.{symbol_name}
 use Rattle.elf_object.specs.Parts.{symbol_count}
 use Rattle.tls_symbols.specs.Definitions.{first_in}
-use Rattle.tls_symbols.specs.Numbers.{or_else, own_numbers, told, IsNumberOf}
-use Rattle.tls_symbols.proofs.Told.{left, note_skip, note_step, number_is, shared_binding}
+use Rattle.tls_symbols.specs.Numbers.{or_else, told, IsNumbered}
+use Rattle.tls_symbols.proofs.Told.{known_is, left, note_named, note_skip, shared_binding}
 use Rattle.tls_symbols.proofs.firsts.note_object.Goals as goal
 use Rattle.tls_symbols.proofs.firsts.note_object.Goals.{then-is_definition, else-is_definition}
 
@@ -22,14 +21,13 @@ loop-symbol-preserved c = λ name.
     elim c.if-is_definition.branch [
       | then-is_definition w ↦
           let defined = sym c.is_definition.ensures ∙ w.if-is_definition.true in
-          let listed : a < length (own_numbers c.args.numbers.now.symbols.items o) = omega (arith, below, c.requires.numbered.len) in
-          let same = number_is c.args.numbers.now.symbols.items o c.index-own.result.now c.index-own.ensures c.requires.there a w.index.result.now w.index.result.now w.index.ensures listed in
+          let known = w.index.result.now in
+          let same = known_is c.args.numbers.now.symbols.items o c.index-own.result.now c.index-own.ensures c.requires.there a known known w.index.ensures in
+          let is : IsNumbered names b a known = subst (IsNumbered names b a) (sym same) (c.requires.numbered.each a known below) in
           let shared = shared_binding c.args.binding b a c.requires.shared defined in
-          let known = c.requires.numbered.each a below shared in
-          let is : IsNumberOf names (symbol_name b a) w.index.result.now = subst (IsNumberOf names (symbol_name b a)) (sym same) known in
           let len : length table ≡ length names = omega (arith, c.loop-symbol.auto.table, c.requires.len) in
-          ap (λ t. or_else (told names t name) (left names c.args.binding o b (a + 1) name)) (w.table-is ∙ w.note_definition.ensures)
-          ∙ note_step names c.args.binding o b a below table w.index.result.now defined is len name
+          ap (λ t. or_else (told names t name) (left names c.args.binding o b (a + 1) name)) w.table-is
+          ∙ note_named names c.args.binding o b a below table w.note_definition.new.table known.name defined shared is.name len w.note_definition.ensures name
           ∙ c.loop-symbol.invariant name
       | else-is_definition w ↦
           let other = sym c.is_definition.ensures ∙ w.if-is_definition.false in
