@@ -68,6 +68,14 @@ impl Image {
         }
     }
 
+    /// The bytes of the file, which the image gives up. They are not copied.
+    pub fn into_bytes(self) -> Vec<u8>
+        ensures spelled { spelled result.items ≡ self }
+        ensures image { IsImage result.items }
+    {
+        self.bytes
+    }
+
     /// What the image is.
     pub fn kind(&self) -> FileKind
         ensures { result ≡ self.now.kind }

@@ -1,7 +1,7 @@
 -- What a linker owes is met by a program with data, a GOT and a stub, whatever the bytes of its parts.
-use Rattle.std.proofs.Common.{◌≡◌, ◌≢◌, ℕ, ◌+◌, ◌-◌, ◌<◌, ◌≤◌, ◌⊎◌, Bool, true, false, List, [], ◌∷◌, ◌++◌, Option, Some, None, length}
-use Rattle.std.proofs.Common.{refl, zero, suc, ap, sym, ◌∙◌, subst, inl, inr, arith, All}
-use Rattle.std.specs.Prelude.{IfSome, codes, map, pos}
+use Rattle.std.proofs.Common.{◌≡◌, ℕ, ◌+◌, ◌<◌, ◌≤◌, true, false, List, [], ◌∷◌, Some, length}
+use Rattle.std.proofs.Common.{refl, zero, suc, ap, sym, subst, inl, inr, arith}
+use Rattle.std.specs.Prelude.{codes, pos}
 use Rattle.elf_records.specs.Fields.{bytes_of, part_at}
 use Rattle.elf_records.specs.Fields as fields
 use Rattle.std.proofs.lemmas.List.Elements.{All-cons}

@@ -1,7 +1,7 @@
 -- What a linker owes is met by a module that asks for its thread-local data at a fixed distance, whatever its bytes.
-use Rattle.std.proofs.Common.{◌≡◌, ◌≢◌, ℕ, ◌+◌, ◌-◌, ◌<◌, ◌≤◌, ◌⊎◌, Bool, true, false, List, [], ◌∷◌, ◌++◌, Option, Some, None, length}
-use Rattle.std.proofs.Common.{refl, zero, suc, ap, sym, ◌∙◌, subst, inl, inr, arith, All}
-use Rattle.std.specs.Prelude.{IfSome, codes, map, pos}
+use Rattle.std.proofs.Common.{◌≡◌, ℕ, ◌+◌, ◌<◌, ◌≤◌, true, List, [], ◌∷◌, Some, length}
+use Rattle.std.proofs.Common.{refl, zero, suc, ap, sym, subst, inl, inr, arith}
+use Rattle.std.specs.Prelude.{codes, pos}
 use Rattle.elf_records.specs.Fields.{bytes_of, part_at}
 use Rattle.elf_records.specs.Fields as fields
 use Rattle.std.proofs.lemmas.List.Elements.{All-cons}
@@ -11,7 +11,7 @@ use Rattle.image_faults.specs.declared.loader_kind.LoaderKind.TheVariants.{Threa
 use Rattle.image_faults.specs.Counts.{how_many, behind_last}
 use Rattle.image_file.specs.declared.part.PartClass.TheVariants.{Executable, ReadOnly, Writable}
 use Rattle.image_file.specs.declared.part.TlsPart.{TlsPart}
-use Rattle.image_file.specs.declared.symbol.SymbolType.TheVariants.{NoType, Object, Func, Tls}
+use Rattle.image_file.specs.declared.symbol.SymbolType.TheVariants.{Func, Tls}
 use Rattle.image_file.specs.declared.relocation.ImageRelocation.{ImageRelocation}
 use Rattle.image_file.specs.Tabled.{tabled}
 use Rattle.image_writer.specs.Contents.{Contents}

@@ -1,14 +1,16 @@
 //! Images that a linker's drafts become, and their files.
 
 ghost use Rattle.std.specs.Prelude.{◌≡◌, length};
+ghost use Rattle.image_writer.specs.Loadable.{HoldsTls};
+ghost use Rattle.image_writer.specs.Outlined.{outline_of};
 
 use crate::images::{SURPLUS, WRITTEN};
 use crate::reading::bytes_of;
 use image_file::{
-    FileKind, ImageRelocation, ImageSymbol, LoaderKind, PartClass, SymbolBinding, SymbolType,
-    TlsPart, Visibility,
+    FileKind, Image, ImageRelocation, ImageSymbol, LoaderKind, PartClass, SymbolBinding,
+    SymbolType, TlsPart, Visibility,
 };
-use image_writer::{Draft, NamedSymbol, PartPlace, image_of, write};
+use image_writer::{Draft, NamedSymbol, PartPlace, image_of, into_file, write};
 use std::alloc::{AllocError, Global};
 use std::test::Fail;
 
@@ -49,8 +51,24 @@ fn place(class: PartClass, address: u64, size: u64) -> PartPlace
     }
 }
 
+/// The file of an image: appended to nothing, and made of the image itself.
+#[derive(Drop)]
+struct Files {
+    appended: Vec<u8>,
+    made: Vec<u8>,
+}
+
+fn files_of(alloc: Global, image: Image) -> Result<Files, AllocError>
+    requires { HoldsTls (outline_of image) }
+{
+    let mut appended = Vec::new(alloc);
+    write(alloc, &image, &mut appended)?;
+    let made = into_file(alloc, image)?;
+    Ok(Files { appended, made })
+}
+
 /// Writes the image `WRITTEN`, from the bytes of its parts behind a page.
-fn written_program(alloc: Global, file: Vec<u8>) -> Result<Vec<u8>, AllocError>
+fn written_program(alloc: Global, file: Vec<u8>) -> Result<Files, AllocError>
     requires { length file.items ≡ 20486 }
 {
     let draft = Draft {
@@ -83,14 +101,11 @@ fn written_program(alloc: Global, file: Vec<u8>) -> Result<Vec<u8>, AllocError>
         }],
         is_flagged: false,
     };
-    let image = image_of(alloc, &draft, file)?;
-    let mut bytes = Vec::new(alloc);
-    write(alloc, &image, &mut bytes)?;
-    Ok(bytes)
+    files_of(alloc, image_of(alloc, &draft, file)?)
 }
 
 /// Writes a module that asks for its thread-local data at a fixed distance, from the bytes of its parts behind a page.
-fn written_surplus(alloc: Global, file: Vec<u8>) -> Result<Vec<u8>, AllocError>
+fn written_surplus(alloc: Global, file: Vec<u8>) -> Result<Files, AllocError>
     requires { length file.items ≡ 12296 }
 {
     let draft = Draft {
@@ -119,10 +134,7 @@ fn written_surplus(alloc: Global, file: Vec<u8>) -> Result<Vec<u8>, AllocError>
         }],
         is_flagged: true,
     };
-    let image = image_of(alloc, &draft, file)?;
-    let mut bytes = Vec::new(alloc);
-    write(alloc, &image, &mut bytes)?;
-    Ok(bytes)
+    files_of(alloc, image_of(alloc, &draft, file)?)
 }
 
 /// The bytes of an image's parts, but for its tables, behind a page of zeros.
@@ -133,17 +145,39 @@ fn parts_of(alloc: Global, image: &[u8], end: usize) -> Result<Vec<u8>, Fail> {
     Ok(file)
 }
 
+/// The same bytes but for one of them, which is 1.
+fn with_one(file: Vec<u8>, at: usize) -> Result<Vec<u8>, Fail> {
+    let mut file = file;
+    *file.get_mut(at).ok_or("the byte")? = 1;
+    Ok(file)
+}
+
 #[test]
 fn makes_the_images_of_drafts(rt: HostRuntime) -> Result<(), Fail> {
     let want = bytes_of(rt.alloc(), WRITTEN)?;
     let file = parts_of(rt.alloc(), want.as_slice(), 20_486)?;
     assert_eq!(rt; file.len(), 20_486);
-    let made = written_program(rt.alloc(), file)?;
-    assert_eq!(rt; made.as_slice(), want.as_slice());
+    let files = written_program(rt.alloc(), file)?;
+    assert_eq!(rt; files.appended.as_slice(), want.as_slice());
+    assert_eq!(rt; files.made.as_slice(), want.as_slice());
     let want = bytes_of(rt.alloc(), SURPLUS)?;
     let file = parts_of(rt.alloc(), want.as_slice(), 12_296)?;
     assert_eq!(rt; file.len(), 12_296);
-    let made = written_surplus(rt.alloc(), file)?;
-    assert_eq!(rt; made.as_slice(), want.as_slice());
+    let files = written_surplus(rt.alloc(), file)?;
+    assert_eq!(rt; files.appended.as_slice(), want.as_slice());
+    assert_eq!(rt; files.made.as_slice(), want.as_slice());
+    Ok(())
+}
+
+/// The first part has 23 bytes: the byte at 4,096 + 23 is of no part.
+#[test]
+fn puts_zeros_between_parts(rt: HostRuntime) -> Result<(), Fail> {
+    let want = bytes_of(rt.alloc(), WRITTEN)?;
+    let file = parts_of(rt.alloc(), want.as_slice(), 20_486)?;
+    let file = with_one(file, 4_119)?;
+    assert_eq!(rt; file.len(), 20_486);
+    let files = written_program(rt.alloc(), file)?;
+    assert_eq!(rt; files.appended.as_slice(), want.as_slice());
+    assert_eq!(rt; files.made.as_slice(), want.as_slice());
     Ok(())
 }

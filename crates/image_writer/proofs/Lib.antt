@@ -15,6 +15,7 @@ pub mod HeaderRest
 pub mod HeaderRows
 pub mod HeaderRules
 pub mod Headings
+pub mod InPlace
 pub mod Laying
 pub mod Layouts
 pub mod Linked
@@ -32,6 +33,7 @@ pub mod SameRules
 pub mod SameSpelled
 pub mod SameTables
 pub mod Seen
+pub mod Standing
 pub mod Strings
 pub mod SymbolRows
 pub mod TableArray

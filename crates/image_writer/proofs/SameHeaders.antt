@@ -50,7 +50,7 @@ type_again n c kind = elim kind [
     by_flag false = refl
 
 -- where a LOAD stands in the file
-offset_again : (kind : FileKind) (b : List ℕ) (s : Segment) → base_of kind ≡ base b → s.vaddr + 4096 ≡ s.offset + base b
+pub offset_again : (kind : FileKind) (b : List ℕ) (s : Segment) → base_of kind ≡ base b → s.vaddr + 4096 ≡ s.offset + base b
     → file_offset kind s.vaddr ≡ s.offset
 offset_again kind b s based placed = less s.vaddr s.offset (base_of kind) (base b) based placed
   where

@@ -53,7 +53,7 @@ seen_at f g n i e h =
     (slice_get-map g (tabled f n) i ∙ ap (option_map g) (tabled_at f n i h))
 
 -- how many bytes stand between two offsets
-length_between : (b : List ℕ) (from n : ℕ) → from + n ≤ length b → length (slice_range b from (from + n)) ≡ n
+pub length_between : (b : List ℕ) (from n : ℕ) → from + n ≤ length b → length (slice_range b from (from + n)) ≡ n
 length_between b from n h = simp (length-take, length-drop) (omega arith)
 
 -- where LOAD i lies, by what is read of it

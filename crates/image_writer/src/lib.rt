@@ -10,12 +10,14 @@
 //! The rule that it keeps: **what is written is read as just what it was made of.**
 //! - [`write`] appends the file of an [`Image`](image_file::Image), and that file is read as this very image. It asks
 //!   that the TLS segment begins no further than the last part ends.
+//! - [`into_file`] makes that file of the image's own bytes, for which the image is given up. Its parts stand at their
+//!   offsets already: headers and the zeros between parts are put around them.
 //! - [`image_of`] makes an image of a [`Draft`], all that a linker knows but the tables, and of the file so far. It
 //!   lays the tables behind the last part and the headers over the first page, and the image is the draft's: its
 //!   parts, its symbols and their names, its relocations. `specs/Linkable` says what it asks of the draft.
 //!
-//! Memory is taken first and at once. Where there is none, `write` leaves what it was to append to as it was. Parts
-//! are copied once, and `image_of` keeps the file that it was given.
+//! Memory is taken first and at once. Where there is none, `write` leaves what it was to append to as it was. It copies
+//! parts once, `into_file` none of them, and `image_of` keeps the file that it was given.
 //!
 //! For example, a module that defines one symbol, `x`, thread-local at offset 8, has these tables at address 0x1000,
 //!
@@ -50,4 +52,4 @@ pub use draft::{Draft, NamedSymbol};
 pub use made::image_of;
 pub use outline::{Outline, PartPlace};
 pub use page::{PAGE_SIZE, file_offset};
-pub use written::write;
+pub use written::{into_file, write};

@@ -6,7 +6,8 @@ ghost use Rattle.image_faults.specs.Faults.{IsImage};
 ghost use Rattle.image_file.specs.Spelled.{spelled};
 ghost use Rattle.image_writer.specs.Loadable.{IsLoadable, HoldsTls};
 ghost use Rattle.image_writer.specs.Outlined.{outlined, outline_of, place_of, last_part, end_of};
-ghost use Rattle.image_writer.specs.Page.{base_of, file_offset};
+ghost use Rattle.image_writer.specs.Contents.{part_in};
+ghost use Rattle.image_writer.specs.Page.{base_of, file_offset, page};
 ghost use Rattle.image_writer.specs.Written.{laid, written};
 
 use crate::outline::{Outline, PartPlace};
@@ -114,6 +115,50 @@ fn put_image(image: &Image, outline: &Outline<'_>, out: &mut [u8], at: usize)
 {
     put_page(outline, out, at);
     put_parts(image, out, at + PAGE_SIZE as usize);
+}
+
+/// Puts zeros between parts that stand at their offsets already.
+fn put_gaps(outline: &Outline<'_>, out: &mut [u8])
+    requires loadable { IsLoadable (outlined outline.now) }
+    requires room { file_offset outline.now.kind (end_of (last_part (outlined outline.now))) ≤ length out.old }
+    ensures { out.new ≡ splice PAGE_SIZE (laid (base_of outline.now.kind)
+        (map (part_in outline.now.kind out.old) outline.now.parts.now)) out.old }
+{
+    let mut end = base_of(outline.kind);
+    for part in outline.parts {
+        let gap = part.address - end;
+        put_zeros(out, file_offset(outline.kind, end) as usize, gap as usize);
+        end = part.address + part.size;
+    }
+}
+
+/// Puts all of a file but its parts, which stand at their offsets already: the page of headers, and zeros between the
+/// parts.
+fn put_around(outline: &Outline<'_>, out: &mut [u8])
+    requires loadable { IsLoadable (outlined outline.now) }
+    requires tls { HoldsTls (outlined outline.now) }
+    requires ends { length out.old ≡ file_offset outline.now.kind (end_of (last_part (outlined outline.now))) }
+    ensures { out.new ≡ page (outlined outline.now) ++ laid (base_of outline.now.kind)
+        (map (part_in outline.now.kind out.old) outline.now.parts.now) }
+{
+    put_gaps(outline, out);
+    put_page(outline, out, 0);
+}
+
+/// The file of an image, which is given up for it. The bytes of its parts stay where they are, and are not copied.
+/// What it makes is read as that very image.
+pub fn into_file(alloc: Global, image: Image) -> Result<Vec<u8>, AllocError>
+    requires { HoldsTls (outline_of image) }
+    ensures file { IfOk result (λ file. file.items ≡ written image) }
+    ensures again { IsImage (written image) × (spelled (written image) ≡ image) }
+{
+    written_again(&image);
+    let places = places_of(alloc, &image)?;
+    let outline = outline_of(&image, places.as_slice());
+    let mut file = image.into_bytes();
+    file.truncate(file_size(&outline));
+    put_around(&outline, file.as_mut_slice());
+    Ok(file)
 }
 
 /// Appends the file of an image: a page of headers, and each part at its address. What is appended is read as that

@@ -1,5 +1,4 @@
-use Rattle.std.proofs.Common.{◌≡◌, length, ℕ, arith}
-use Rattle.image_writer.specs.Linkable.{IsLinkable}
+use Rattle.std.proofs.Common.{arith}
 use Rattle.image_tests.proofs.Data.{file_linkable}
 use Rattle.image_tests.proofs.Pieces.{has}
 use Rattle.image_tests.proofs.drafts.written_program.Goals as goal
@@ -26,10 +25,10 @@ pub image_of-requires-clause-ends : goal.image_of-requires-clause-ends
 image_of-requires-clause-ends c =
     rw (c.place-5.ensures) (omega (arith, c.requires, has 6 20480 c.args.file.items (omega (arith, c.requires))))
 
-pub write-requires : goal.write-requires
-write-requires c =
+pub files_of-requires : goal.files_of-requires
+files_of-requires c =
     rw (
-      c.in_ok-image.ensures,
+      c.in_ok-image_of.ensures,
       c.named.ensures,
       c.named-2.ensures,
       c.named-3.ensures,
