@@ -1,4 +1,4 @@
-//! The host's disk, but that it fails where a test says: files of any length, and writes, syncs and renames that fail.
+//! The host's disk, but that it fails where a test says: files of any length, and writes and renames that fail.
 use std::alloc::Allocator;
 use std::fs::{Metadata, OpenFile, OpenOptions};
 use std::io;
@@ -12,8 +12,6 @@ pub enum Fault {
     Length(usize, Option<ErrorKind>),
     /// A write fails.
     Write,
-    /// The disk does not say that it has a file's bytes.
-    Sync,
     /// No file gets another name.
     Rename,
 }
@@ -90,10 +88,7 @@ impl<F: OpenFile + Drop> OpenFile for FaultyFile<F> {
     }
 
     fn sync_all(&self) -> io::Result<()> {
-        match self.fault {
-            Fault::Sync => Err(Error::from(ErrorKind::Other)),
-            _ => self.file.sync_all(),
-        }
+        self.file.sync_all()
     }
 
     fn sync_data(&self) -> io::Result<()> {

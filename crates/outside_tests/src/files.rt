@@ -3,6 +3,7 @@ use crate::disk::{Fault, FaultyDisk};
 use crate::memory::fetched;
 use ports::{FetchFault, HostStore, PutFault, Store};
 use std::alloc::{AllocError, Global};
+use std::fs::OpenFile;
 use std::io::{Error, ErrorKind};
 use std::os::unix::fs::symlink;
 use std::rt::Files;
@@ -73,15 +74,16 @@ fn a_host_store_keeps_files(rt: HostRuntime) -> Result<(), Fail> {
     Ok(())
 }
 
-/// The length of what a fetch gives of a disk with this fault.
-fn fetched_length<R: Files>(rt: &R, alloc: Global, fault: Fault) -> Result<usize, FetchFault> {
+/// The length of what a fetch gives of a file on a disk with this fault.
+fn fetched_length<R: Files>(
+    rt: &R,
+    alloc: Global,
+    file: &str,
+    fault: Fault,
+) -> Result<usize, FetchFault> {
     let disk = FaultyDisk { disk: rt, fault };
     let mut store = HostStore::new(&disk, alloc);
-    Ok(
-        fetched(alloc, &mut store, "/dev/null")?
-            .len()
-            .saturating_sub(1),
-    )
+    Ok(fetched(alloc, &mut store, file)?.len().saturating_sub(1))
 }
 
 #[test]
@@ -97,9 +99,48 @@ fn a_host_store_fetches_up_to_2_to_28_bytes(rt: HostRuntime) {
         ),
         (5_000, Some(ErrorKind::Other), Err(FetchFault::Failed)),
     ] {
-        let fetched = fetched_length(&rt, rt.alloc(), Fault::Length(length, error));
+        let fetched = fetched_length(&rt, rt.alloc(), "/dev/null", Fault::Length(length, error));
         assert!(rt; fetched == answer, "{length} bytes");
     }
+}
+
+/// What a fetch gives of a file that tells one length and has another.
+fn fetched_from<R: Files>(
+    rt: &R,
+    alloc: Global,
+    file: &str,
+    told: u64,
+    length: usize,
+) -> io::Result<Result<usize, FetchFault>> {
+    fs::create(rt, file)?.set_len(told)?;
+    Ok(fetched_length(rt, alloc, file, Fault::Length(length, None)))
+}
+
+/// What fetches give of a file that is shorter than it tells, is as long, is longer, and tells too much.
+fn told_lengths<R: Files>(
+    rt: &R,
+    alloc: Global,
+    folder: &str,
+) -> io::Result<[Result<usize, FetchFault>; 4]> {
+    let file = path(alloc, folder, "file")?;
+    let file = file.as_str();
+    Ok([
+        fetched_from(rt, alloc, file, 6_000, 5_000)?,
+        fetched_from(rt, alloc, file, 6_000, 6_000)?,
+        fetched_from(rt, alloc, file, 6_000, 20_000)?,
+        fetched_from(rt, alloc, file, 268_435_457, 0)?,
+    ])
+}
+
+#[test]
+fn a_told_length_is_a_hint_but_for_its_limit(rt: HostRuntime) -> Result<(), Fail> {
+    let temp = env::temp_dir(&rt)?;
+    let id = process::id(rt.process());
+    let folder = new_folder(&rt, rt.alloc(), temp.as_path().as_str(), id, "told-lengths")?;
+    let lengths = told_lengths(&rt, rt.alloc(), folder.as_str());
+    fs::remove_dir_all(&rt, folder.as_str())?;
+    assert!(rt; lengths? == [Ok(5_000), Ok(6_000), Ok(20_000), Err(FetchFault::Failed)]);
+    Ok(())
 }
 
 /// Puts over an old file, on a disk that fails in one way, and says whether the put failed.
@@ -114,7 +155,7 @@ fn put_fails<R: Files>(rt: &R, alloc: Global, file: &str, fault: Fault) -> bool 
 fn survives_failing_puts<R: Files>(rt: &R, alloc: Global, folder: &str) -> io::Result<Vec<u8>> {
     let file = path(alloc, folder, "file")?;
     fs::write(rt, file.as_str(), "old")?;
-    for fault in [Fault::Write, Fault::Sync, Fault::Rename] {
+    for fault in [Fault::Write, Fault::Rename] {
         if !put_fails(rt, alloc, file.as_str(), fault) {
             return Err(Error::from(ErrorKind::Other));
         }

@@ -22,15 +22,17 @@ const NAMES: u32 = 100;
 /// The files of the host, by path. A clause learns neither files nor names of it, only the count of its
 /// faults, as which a contract sees the whole store.
 ///
-/// A fetch reads the file to its end. A path that cannot be opened or read is a fault, and so is a file of
-/// more than [`LARGEST_FILE`] bytes. A read or write that a signal interrupts is asked again, up to a
-/// thousand times in a row, and then is a fault too. Where the host itself lacks memory, the answer is
+/// A fetch reads the file to its end, in one read where it has the length that the host tells of it. A path
+/// that cannot be opened or read is a fault, and so is a file of more than [`LARGEST_FILE`] bytes, for which no
+/// memory is taken where the host tells its length. A read or write that a signal interrupts is asked again, up
+/// to a thousand times in a row, and then is a fault too. Where the host itself lacks memory, the answer is
 /// `OutOfMemory` and no fault.
 ///
-/// A put writes a new file `PATH.partN` beside the old one, waits until the disk has it, and then gives it
-/// the path. So a file that a put has answered `Ok` for is whole, and after a refused put the old file
-/// stands as it was and the new one is gone. Only where something stands there that is no plain file, such
-/// as a device, a pipe or a link, are the bytes written to it in place; a refused put may then leave a part.
+/// A put writes a new file `PATH.partN` beside the old one, and gives it the path once all of it is written. So
+/// a reader sees the old file or the whole new one, and after a refused put the old file stands as it was and
+/// the new one is gone. It does not wait for the disk: what stands there after a loss of power is not said. Only
+/// where something stands there that is no plain file, such as a device, a pipe or a link, are the bytes
+/// written to it in place; a refused put may then leave a part.
 #[derive(Drop)]
 pub struct HostStore<'a, R: Files> {
     rt: &'a R,
@@ -118,7 +120,8 @@ fn read_file<R: Files>(rt: &R, name: &str, into: &mut Vec<u8>) -> Result<(), Fet
     ensures kept { OnErr result (into.new.items ≡ into.old.items) }
 {
     let mut file = fs::open(rt, name)?;
-    read_all(&mut file, into, LARGEST_FILE)
+    let expected = usize::try_from(file.metadata()?.len()).unwrap_or(usize::MAX);
+    read_all(&mut file, into, expected, LARGEST_FILE)
 }
 
 /// Makes the bytes the content of the file.
@@ -170,8 +173,7 @@ fn finish_file<R: Files>(
     answer
 }
 
-fn fill_file<F: io::Write + OpenFile + Drop>(mut file: F, bytes: &[u8]) -> Result<(), PutFault> {
-    write_all(&mut file, bytes)?;
-    file.sync_all()?;
-    Ok(())
+/// Writes the bytes to the new file, and closes it.
+fn fill_file<F: io::Write + Drop>(mut file: F, bytes: &[u8]) -> Result<(), PutFault> {
+    write_all(&mut file, bytes)
 }

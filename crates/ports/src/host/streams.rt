@@ -1,7 +1,7 @@
 //! Whole streams, by single reads and writes.
-ghost use Rattle.std.specs.Prelude.{◌≡◌, [], ◌+◌, ◌++◌, ◌≤◌, length, take, OnOk, OnErr, IsOk, IfErr, IfSome};
+ghost use Rattle.std.specs.Prelude.{◌≡◌, [], ◌+◌, ◌++◌, ◌≤◌, length, take, ℕ, List, OnOk, OnErr, IsOk, IfOk, IfErr, IfSome};
 ghost use Rattle.std.specs.Io.{ReadsAtMost, WritesAtMost};
-ghost use Rattle.std.specs.Io.KnownBytes.{ReadConsumes, WriteAppends, Appends};
+ghost use Rattle.std.specs.Io.KnownBytes.{ReadConsumes, WriteAppends, Appends, Consumes};
 ghost use Rattle.ports.specs.Streams.{AppendsFront};
 
 use crate::{FetchFault, PutFault};
@@ -74,11 +74,71 @@ fn append(into: &mut Vec<u8>, bytes: &[u8]) -> Result<(), FetchFault>
     Ok(into.extend_from_slice(bytes)?)
 }
 
-/// Appends what the reader has left. It leaves `into` as it was where a read fails, and where more than
-/// `room` bytes are left, which is a fault.
+/// Reads until the buffer is full or the reader is at its end, and answers how many bytes were read.
+fn fill<R: Read>(from: &mut R, buffer: &mut [u8]) -> io::Result<usize>
+    ensures bound { ReadsAtMost result buffer.new }
+    ensures bytes { IfOk result (λ count.
+        Consumes (R.remaining from.old) (R.remaining from.new) (take count buffer.new)) }
+{
+    let mut filled = 0;
+    while filled < buffer.len() {
+        let count = read_some(from, &mut buffer[filled..])?;
+        if count == 0 {
+            return Ok(filled);
+        }
+        filled += count;
+    }
+    Ok(filled)
+}
+
+/// Appends the next `expected` bytes of the reader, or all that it has left where those are fewer, and answers
+/// how many it was. They are read straight into the room made for them. After a refusal some of that room may
+/// stand behind what was there.
+fn read_front<R: Read>(
+    from: &mut R,
+    into: &mut Vec<u8>,
+    expected: usize,
+) -> Result<usize, FetchFault>
+    ensures bytes { IfOk result (λ count. (front : List ℕ) × (length front ≡ count)
+        × Consumes (R.remaining from.old) (R.remaining from.new) front
+        × (into.new.items ≡ into.old.items ++ front)) }
+    ensures bound { IfOk result (λ count. count ≤ expected) }
+    ensures begins { take (length into.old.items) into.new.items ≡ into.old.items }
+{
+    let begin = into.len();
+    // A sum past the last number is more than any vector holds, and is refused as such.
+    into.resize(begin.saturating_add(expected), 0)?;
+    let count = fill(from, &mut into[begin..])?;
+    into.truncate(begin + count);
+    Ok(count)
+}
+
+/// Appends what the reader has left: up to `expected` bytes at once, and then chunk by chunk, where it has
+/// more. More than `room` bytes, expected or read, are a fault. After a refusal `into` may have grown.
+fn read_sized<R: Read>(
+    from: &mut R,
+    into: &mut Vec<u8>,
+    expected: usize,
+    room: usize,
+) -> Result<(), FetchFault>
+    ensures bytes { OnOk result (IfSome (R.remaining from.old)
+        (λ bytes. into.new.items ≡ into.old.items ++ bytes)) }
+    ensures fits { OnOk result (length into.new.items ≤ length into.old.items + room) }
+    ensures begins { take (length into.old.items) into.new.items ≡ into.old.items }
+{
+    if expected > room {
+        return Err(FetchFault::Failed);
+    }
+    let count = read_front(from, into, expected)?;
+    read_rest(from, into, room - count)
+}
+
+/// Appends what the reader has left, which is likely to be `expected` bytes. It leaves `into` as it was where a
+/// read fails, and where more than `room` bytes are expected or left, which is a fault.
 pub(super) fn read_all<R: Read>(
     from: &mut R,
     into: &mut Vec<u8>,
+    expected: usize,
     room: usize,
 ) -> Result<(), FetchFault>
     ensures bytes { OnOk result (IfSome (R.remaining from.old)
@@ -88,7 +148,7 @@ pub(super) fn read_all<R: Read>(
     ensures kept { OnErr result (into.new.items ≡ into.old.items) }
 {
     let begin = into.len();
-    let answer = read_rest(from, into, room);
+    let answer = read_sized(from, into, expected, room);
     if answer.is_err() {
         into.truncate(begin);
     }
