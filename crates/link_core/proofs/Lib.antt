@@ -52,6 +52,7 @@ pub mod TogetherNames
 pub mod TogetherRows
 pub mod TogetherSites
 pub mod UsableSites
+pub mod ValueLemmas
 pub mod WritingFields
 pub mod WritingParts
 pub mod WritingRoom

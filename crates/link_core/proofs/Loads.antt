@@ -57,12 +57,12 @@ placed kind bytes (p ∷ xs) inside =
     ∙ ap (λ ys. p ∷ ys) rest
 
 -- the parts of the contents lie where they are said to
-contents_placed : (l : Linking) → IsGiven l → FitsLimits l → map place_of (contents l).parts ≡ places l
+pub contents_placed : (l : Linking) → IsGiven l → FitsLimits l → map place_of (contents l).parts ≡ places l
 unfolding contents
 contents_placed l given limits = placed (file_kind l.kind) (file l) (places l) (places_inside l given limits)
 
 -- where the tables lie
-abbrev tables_place : Linking → PartPlace
+abbrev pub tables_place : Linking → PartPlace
 tables_place l = place_of (tables_part (contents l))
 
 -- the outline of the image is that of its parts and the tables
@@ -85,7 +85,7 @@ outline_is l given limits =
 -- ** the tables
 
 -- they begin at the page behind all parts
-tables_begin : (l : Linking) → IsGiven l → FitsLimits l
+pub tables_begin : (l : Linking) → IsGiven l → FitsLimits l
     → tables_address (contents l) ≡ page_up (last_end (base_of l.kind) (places l))
 unfolding contents page_up round_up
 tables_begin l given limits =
@@ -97,15 +97,15 @@ tables_begin l given limits =
     ap (λ n. next_multiple_of n 4096) (end ∙ same)
 
 -- how many bytes they have
-record IsTabled (l : Linking) : Type 0 where
-  constant : (tables_place l).class ≡ ReadOnly
-  address : (tables_place l).address ≡ page_up (last_end (base_of l.kind) (places l))
-  array : array_size (contents l) ≤ (tables_place l).size
-  filled : 0 < (tables_place l).size
-  short : (tables_place l).size ≤ 2 ^ 25 + 1000
+pub record IsTabled (l : Linking) : Type 0 where
+  pub constant : (tables_place l).class ≡ ReadOnly
+  pub address : (tables_place l).address ≡ page_up (last_end (base_of l.kind) (places l))
+  pub array : array_size (contents l) ≤ (tables_place l).size
+  pub filled : 0 < (tables_place l).size
+  pub short : (tables_place l).size ≤ 2 ^ 25 + 1000
 
 -- the tables are as they are said to be
-tabled : (l : Linking) → IsGiven l → FitsLimits l → IsTabled l
+pub tabled : (l : Linking) → IsGiven l → FitsLimits l → IsTabled l
 unfolding tables_part contents
 tabled l given limits = record {
   constant = refl;

@@ -70,7 +70,7 @@ module _ (l : Linking) (given : IsGiven l) (limits : FitsLimits l) (q : ℕ) whe
   -- ** the whole file
 
   -- all that is written
-  file_away : ((o t : ℕ) → IsAway l q o t) → slice_get (file l) q ≡ slice_get (raw_file l) q
+  pub file_away : ((o t : ℕ) → IsAway l q o t) → slice_get (file l) q ≡ slice_get (raw_file l) q
   unfolding file
   file_away away =
       let n = length (raw_file l) in

@@ -1,5 +1,5 @@
 -- What one relocation writes.
-use Rattle.std.proofs.Common.{◌≡◌, ◌≢◌, ◌<◌, ◌∙◌, ◌&&◌, ℕ, Bool, true, false, List, [], ◌∷◌, Option, Some, None, length}
+use Rattle.std.proofs.Common.{◌≡◌, ◌≢◌, ◌<◌, ◌∙◌, ◌&&◌, ℕ, Bool, true, false, List, [], ◌∷◌, Some, None, length}
 use Rattle.std.proofs.Common.{refl, sym, ap, subst, arith}
 use Rattle.std.specs.List.{Contains}
 use Rattle.std.proofs.lemmas.List.Elements.{All-contains}
@@ -16,13 +16,15 @@ use Rattle.tls_relocs.specs.declared.fields.Field.TheVariants.{Empty}
 use Rattle.tls_relocs.specs.Fields.{field_patch}
 use Rattle.tls_relocs.specs.Patches.{patched}
 use Rattle.tls_relocs.specs.Values.{stored_field}
-use Rattle.tls_symbols.specs.declared.binding.Binding.{Binding}
+use Rattle.link_core.specs.declared.symbol_values.SymbolValue.{SymbolValue}
 use Rattle.link_core.specs.Linking.{Linking, binding, layout, object, place}
 use Rattle.link_core.specs.Bytes.{with_field}
 use Rattle.link_core.specs.Faults.{IsGiven}
 use Rattle.link_core.specs.Overflows.{IsFilled, IsOverflow}
-use Rattle.link_core.specs.Values.{field, goes, is_replaced, is_rewriting, other_number, own_number}
+use Rattle.link_core.specs.SymbolNumbers.{goes_by, value_of}
+use Rattle.link_core.specs.Values.{field, is_replaced, is_rewriting, other_number, own_number}
 use Rattle.link_core.proofs.LengthsInside.{is_object}
+use Rattle.link_core.proofs.ValueLemmas.{takes_part}
 use Rattle.link_core.proofs.WritingRoom.{patched_nothing}
 
 -- a relocation that does something names a symbol of its object
@@ -34,10 +36,11 @@ names_symbol l o t r given there is some =
     ((All-contains (IsLawful b t) (relocations b t) r (relocations_lawful b whole t) is).symbol some).1
 
 module _ (l : Linking) (o t : ℕ) (r : Relocation) where
-  pub replaced_as : (bound : Option Binding) → bound ≡ binding l o r
-      → is_replaced l o r ≡ (is_rewriting l && goes bound r.kind)
+  pub replaced_as : (symbol : SymbolValue) → symbol ≡ value_of l o r.symbol
+      → is_replaced l o r ≡ (is_rewriting l && goes_by symbol r.kind)
   unfolding is_replaced
-  replaced_as bound e = ap (λ x. is_rewriting l && goes x r.kind) (sym e)
+  replaced_as symbol e =
+      ap (λ b. is_rewriting l && b) (sym (takes_part l o r)) ∙ ap (λ x. is_rewriting l && goes_by x r.kind) (sym e)
 
   -- one that goes with its sequence writes nothing
   pub replaced_writes : (file : List ℕ) → is_replaced l o r ≡ true → file ≡ with_field l o t file r

@@ -11,5 +11,6 @@ pub mod Overflows
 pub mod Plans
 pub mod Room
 pub mod Sorting
+pub mod SymbolNumbers
 pub mod Usable
 pub mod Values

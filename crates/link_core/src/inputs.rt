@@ -75,6 +75,7 @@ impl<'l, 's, 'a> Inputs<'l, 's, 'a> {
     }
 
     /// What the symbol is bound to that a relocation of an object names.
+    #[inline]
     pub fn binding(&self, object: usize, relocation: &Relocation) -> Option<Binding>
         requires object { object < length self.now.objects }
         requires symbol { relocation.now.symbol < symbol_count (object_at self.now.objects object) }
@@ -112,6 +113,7 @@ impl<'l, 's, 'a> Inputs<'l, 's, 'a> {
 
     /// The address of a symbol of the image.
     #[tactic(auto, unfolding(crate::specs::Linking::address))]
+    #[inline]
     pub fn address(&self, symbol: SymbolRef) -> u64
         requires { IsWithin self.now.objects symbol }
         ensures { result ≡ address self.now symbol }
@@ -125,6 +127,7 @@ impl<'l, 's, 'a> Inputs<'l, 's, 'a> {
 
     /// The offset of a thread-local symbol of the image in its TLS segment.
     #[tactic(auto, unfolding(crate::specs::Linking::offset))]
+    #[inline]
     pub fn offset(&self, symbol: SymbolRef) -> u64
         requires { IsWithin self.now.objects symbol }
         ensures { result ≡ offset self.now symbol }
@@ -138,6 +141,7 @@ impl<'l, 's, 'a> Inputs<'l, 's, 'a> {
 
     /// The address so far behind the start of a section; the value alone where it has no address.
     #[tactic(auto, using(crate::proofs::InputsLemmas::address_small))]
+    #[inline]
     fn address_in(&self, object: usize, place: SymbolPlace, value: u64) -> u64
         requires small { (section : ℕ) → place ≡ SymbolPlace.InSection section
             → IsSome (address_of (layout self.now) object section) → value ≤ 2 ^ 20 }
@@ -154,6 +158,7 @@ impl<'l, 's, 'a> Inputs<'l, 's, 'a> {
 
     /// The offset so far behind the start of a section; the value alone where it has no offset.
     #[tactic(auto, using(crate::proofs::InputsLemmas::offset_small))]
+    #[inline]
     fn offset_in(&self, object: usize, place: SymbolPlace, value: u64) -> u64
         requires small { (section : ℕ) → place ≡ SymbolPlace.InSection section
             → IsSome (tls_offset_of (layout self.now) object section) → value ≤ 2 ^ 20 }

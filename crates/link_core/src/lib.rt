@@ -41,8 +41,8 @@
 //! 403000  ff 25 0a f0 ff ff             jmp *0x402010(%rip)
 //! ```
 //!
-//! Names are compared by hash, each section is copied once, and each relocation is looked at by a fixed number of
-//! walks: time is linear in objects, symbols, relocations and bytes.
+//! Names are compared by hash, each section is copied once, what a symbol stands for is found once, and each relocation
+//! is looked at by a fixed number of walks: time is linear in objects, symbols, relocations and bytes.
 //!
 //! The rules are those of "ELF Handling For Thread-Local Storage" (Drepper), of the psABI ("Thread-Local Storage",
 //! "Relocation Types") and of the gABI ("Program Loading and Dynamic Linking").
@@ -58,6 +58,7 @@ mod needs;
 mod plan;
 mod relocation_list;
 mod symbol_list;
+mod symbol_values;
 mod writing;
 
 pub use linked::Linked;

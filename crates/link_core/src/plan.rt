@@ -1,21 +1,23 @@
 //! Where the global offset table and the stub of an image lie, and what the field of each relocation holds.
 
-ghost use Rattle.std.specs.Prelude.{◌≡◌, ◌<◌, ◌&&◌, ℕ, IfOk, IfSome, length};
+ghost use Rattle.std.specs.Prelude.{◌≡◌, ◌<◌, ◌&&◌, ℕ, IfOk, length};
 ghost use Rattle.std.specs.List.{All, list_any};
 ghost use Rattle.std.specs.Result.{result_ok};
 ghost use Rattle.elf_object.specs.Parts.{symbol_count};
 ghost use Rattle.elf_object.specs.Relocations.{field_width};
 ghost use Rattle.tls_relocs.specs.Fields.{width_of};
-ghost use Rattle.tls_symbols.specs.Bindings.{IsBindingWithin, object_at};
+ghost use Rattle.tls_symbols.specs.Bindings.{object_at};
 ghost use Rattle.link_core.specs.Faults.{FitsLimits};
-ghost use Rattle.link_core.specs.Linking.{binding, place as place_of};
-ghost use Rattle.link_core.specs.Needs.{has_stub, is_stub_call, need_address};
+ghost use Rattle.link_core.specs.Linking.{place as place_of};
+ghost use Rattle.link_core.specs.Needs.{has_stub, is_stub_call, need_address, relocation_need};
+ghost use Rattle.link_core.specs.SymbolNumbers.{goes_by, number_by, reaches_entry, value_of};
 ghost use Rattle.link_core.specs.Usable.{IsUsable};
-ghost use Rattle.link_core.specs.Values.{counts_from_thread_pointer, field, goes, is_local, is_rewriting};
-ghost use Rattle.link_core.specs.Values.{other_number, own_number};
+ghost use Rattle.link_core.specs.Values.{counts_from_thread_pointer, field, is_local, is_rewriting};
+ghost use Rattle.link_core.specs.Values.{other_number};
 
 use crate::inputs::Inputs;
 use crate::needs::{calls_stub, is_kept};
+use crate::symbol_values::SymbolValue;
 use elf_object::{Relocation, RelocationKind};
 use got_pairs::{GotPlan, Need, plan};
 use sequence_match::{Form, Site};
@@ -23,12 +25,13 @@ use std::alloc::{AllocError, Global};
 use std::marker::Model;
 use tls_layout::page_up;
 use tls_relocs::{Field, Overflow, value};
-use tls_symbols::Binding;
 
 /// A link whose table is laid out. Contracts see what decides it.
 #[derive(Drop)]
 pub struct Plan<'i, 'l, 's, 'a> {
     pub inputs: &'i Inputs<'l, 's, 'a>,
+    /// What each symbol of each object stands for.
+    pub values: Vec<Vec<SymbolValue>>,
     pub got: GotPlan<'a>,
     /// Where the table begins.
     pub got_start: u64,
@@ -42,6 +45,7 @@ pub struct Plan<'i, 'l, 's, 'a> {
 }
 
 impl<'i, 'l, 's, 'a> Model for Plan<'i, 'l, 's, 'a> {
+    ghost use Rattle.std.specs.Prelude.{map};
     ghost use Rattle.link_core.specs.Linking.{Linking};
     ghost use Rattle.link_core.specs.Plans.{IsPlan};
 
@@ -50,7 +54,7 @@ impl<'i, 'l, 's, 'a> Model for Plan<'i, 'l, 's, 'a> {
     ghost view = { λ plan. plan.inputs.now };
 
     ghost invariant = { λ plan. IsPlan
-        plan.inputs.now plan.got plan.got_start plan.stub_start plan.has_stub plan.is_rewriting
+        plan.inputs.now (map (λ own. own.items) plan.values.items) plan.got plan.got_start plan.stub_start plan.has_stub plan.is_rewriting
         plan.counts_from_thread_pointer };
 }
 
@@ -141,6 +145,7 @@ pub fn plan_of<'i, 'l, 's, 'a>(
     let stub_start = page_up(got_start + got.size());
     Ok(Plan {
         inputs,
+        values: inputs.symbol_values(alloc)?,
         got,
         got_start,
         stub_start,
@@ -150,20 +155,37 @@ pub fn plan_of<'i, 'l, 's, 'a>(
     })
 }
 
-/// Whether a type of relocation goes with the sequence that it belongs to, where its symbol is bound so.
-fn goes(bound: Option<Binding>, kind: RelocationKind) -> bool
-    ensures { result ≡ goes bound kind }
+/// Whether a type of relocation goes with the sequence that it belongs to, where its symbol stands for this.
+#[inline(always)]
+fn goes(symbol: SymbolValue, kind: RelocationKind) -> bool
+    ensures { result ≡ goes_by symbol kind }
 {
     match kind {
         RelocationKind::TlsGd | RelocationKind::TlsLd | RelocationKind::GotPc32TlsDesc => true,
-        RelocationKind::GotTpOff => matches!(bound, Some(Binding::Here(_))),
+        RelocationKind::GotTpOff => matches!(symbol, SymbolValue::Here { .. }),
         RelocationKind::Pc32
         | RelocationKind::Plt32
         | RelocationKind::GotPcRel
         | RelocationKind::GotPcRelX
-        | RelocationKind::RexGotPcRelX => matches!(bound, Some(Binding::Runtime)),
+        | RelocationKind::RexGotPcRelX => matches!(symbol, SymbolValue::Runtime),
         _ => false,
     }
+}
+
+/// Whether the field of a relocation of this type reaches an entry of the table.
+fn reaches_entry(kind: RelocationKind) -> bool
+    ensures { result ≡ reaches_entry kind }
+{
+    matches!(
+        kind,
+        RelocationKind::TlsGd
+            | RelocationKind::TlsLd
+            | RelocationKind::GotTpOff
+            | RelocationKind::GotPc32TlsDesc
+            | RelocationKind::GotPcRel
+            | RelocationKind::GotPcRelX
+            | RelocationKind::RexGotPcRelX
+    )
 }
 
 impl<'i, 'l, 's, 'a> Plan<'i, 'l, 's, 'a> {
@@ -180,66 +202,89 @@ impl<'i, 'l, 's, 'a> Plan<'i, 'l, 's, 'a> {
         }
     }
 
-    /// Whether a relocation has no field, since its sequence is rewritten; its symbol is bound so.
-    pub fn is_replaced(&self, bound: Option<Binding>, kind: RelocationKind) -> bool
-        ensures { result ≡ (is_rewriting self.now && goes bound kind) }
+    /// What a symbol of an object stands for.
+    #[inline(always)]
+    pub fn symbol_value(&self, object: usize, symbol: u32) -> SymbolValue
+        requires object { object < length self.now.objects }
+        requires symbol { symbol < symbol_count (object_at self.now.objects object) }
+        ensures { result ≡ value_of self.now object symbol }
     {
-        self.is_rewriting && goes(bound, kind)
+        let own = &self.values[object];
+        own[symbol as usize]
+    }
+
+    /// Whether a relocation has no field, since its sequence is rewritten; its symbol stands for this.
+    #[inline(always)]
+    pub fn is_replaced(&self, symbol: SymbolValue, kind: RelocationKind) -> bool
+        ensures { result ≡ (is_rewriting self.now && goes_by symbol kind) }
+    {
+        self.is_rewriting && goes(symbol, kind)
     }
 
     /// The symbol's place, or its offset in the TLS segment.
-    pub fn own_number(&self, kind: RelocationKind, bound: Option<Binding>) -> u64
-        requires { IfSome bound (IsBindingWithin self.now.objects) }
-        ensures { result ≡ own_number self.now kind bound }
+    #[inline(always)]
+    pub fn own_number(&self, kind: RelocationKind, symbol: SymbolValue) -> u64
+        ensures { result ≡ number_by self.now kind symbol }
     {
-        match bound {
-            Some(Binding::Here(found)) => match kind {
-                RelocationKind::DtpOff32 | RelocationKind::TpOff32 => self.inputs.offset(found),
-                _ => self.inputs.address(found),
+        match symbol {
+            SymbolValue::Here { address, offset } => match kind {
+                RelocationKind::DtpOff32 | RelocationKind::TpOff32 => offset,
+                _ => address,
             },
-            Some(Binding::Runtime) => self.stub_start,
-            Some(Binding::Startup(_)) | None => 0,
+            SymbolValue::Runtime => self.stub_start,
+            SymbolValue::Elsewhere => 0,
         }
     }
 
-    /// The place of the entry in the table, or what is subtracted from an offset.
-    fn other_number(&self, object: usize, relocation: &Relocation, bound: Option<Binding>) -> u64
+    /// The place of the entry that the field of a relocation reaches; 0 where it reaches none.
+    fn entry_place(&self, object: usize, relocation: &Relocation) -> u64
         requires object { object < length self.now.objects }
         requires symbol { relocation.now.symbol < symbol_count (object_at self.now.objects object) }
-        requires bound { bound ≡ binding self.now object relocation.now }
-        requires within { IfSome bound (IsBindingWithin self.now.objects) }
+        ensures { result ≡ need_address self.now (relocation_need self.now object relocation.now) }
+    {
+        let inputs = self.inputs;
+        let bound = inputs.binding(object, relocation);
+        self.need_address(inputs.need(object, relocation.symbol, bound, relocation.kind))
+    }
+
+    /// The place of the entry in the table, or what is subtracted from an offset.
+    #[inline(always)]
+    fn other_number(&self, object: usize, relocation: &Relocation) -> u64
+        requires object { object < length self.now.objects }
+        requires symbol { relocation.now.symbol < symbol_count (object_at self.now.objects object) }
         ensures { result ≡ other_number self.now object relocation.now relocation.now.kind }
     {
         let inputs = self.inputs;
         match relocation.kind {
             RelocationKind::DtpOff32 if !self.counts_from_thread_pointer => 0,
             RelocationKind::DtpOff32 | RelocationKind::TpOff32 => inputs.block_offset,
-            kind => self.need_address(inputs.need(object, relocation.symbol, bound, kind)),
+            kind if reaches_entry(kind) => self.entry_place(object, relocation),
+            _ => 0,
         }
     }
 
-    /// What the field of a relocation holds, which stands at this place; its symbol is bound so.
+    /// What the field of a relocation holds, which stands at this place; its symbol stands for this.
+    #[inline(always)]
     pub fn field(
         &self,
         object: usize,
         place: u64,
         relocation: &Relocation,
-        bound: Option<Binding>,
+        symbol: SymbolValue,
     ) -> Result<Field, Overflow>
         requires object { object < length self.now.objects }
-        requires symbol { relocation.now.symbol < symbol_count (object_at self.now.objects object) }
-        requires bound { bound ≡ binding self.now object relocation.now }
-        requires within { IfSome bound (IsBindingWithin self.now.objects) }
+        requires number { relocation.now.symbol < symbol_count (object_at self.now.objects object) }
+        requires symbol { symbol ≡ value_of self.now object relocation.now.symbol }
         ensures field { (section : ℕ) → place ≡ place_of self.now object section relocation.now.offset
             → result_ok result ≡ field self.now object section relocation.now }
         ensures width { IfOk result (λ field. width_of field ≡ field_width relocation.now.kind) }
     {
         value(
             relocation.kind,
-            self.own_number(relocation.kind, bound),
+            self.own_number(relocation.kind, symbol),
             relocation.addend,
             place,
-            self.other_number(object, relocation, bound),
+            self.other_number(object, relocation),
         )
     }
 }

@@ -199,8 +199,10 @@ fn push_field(
     if !is_absolute(relocation.kind) {
         return Ok(());
     }
-    let bound = plan.inputs.binding(object, relocation);
-    let place = plan.own_number(relocation.kind, bound);
+    // What is known of a plan is known where a part of it is read.
+    let _inputs = plan.inputs;
+    let symbol = plan.symbol_value(object, relocation.symbol);
+    let place = plan.own_number(relocation.kind, symbol);
     all.push(ImageRelocation {
         place: address + relocation.offset,
         kind: LoaderKind::Relative,

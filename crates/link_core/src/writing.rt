@@ -30,6 +30,7 @@ use sequence_match::Site;
 use tls_relocs::{Field, Overflow, apply};
 
 /// Where the byte of an address stands in the file.
+#[inline(always)]
 pub fn place_in_file(plan: &Plan, address: u64) -> u64
     requires from_base { base_of plan.now.kind ≤ address + 4096 }
     requires fits { address + 4096 < 2 ^ 64 }
@@ -41,6 +42,7 @@ pub fn place_in_file(plan: &Plan, address: u64) -> u64
 
 /// Writes a field at an address, if it has bytes.
 #[tactic(auto, using(crate::proofs::WritingRoom::patched_nothing))]
+#[inline(always)]
 fn put(plan: &Plan, place: u64, field: Field, file: &mut [u8])
     requires room { HasRoom plan.now place (width_of field) (length file.old) }
     ensures { file.new ≡ patched (field_patch (file_offset (layout plan.now) place) field ∷ []) file.old }
@@ -51,6 +53,7 @@ fn put(plan: &Plan, place: u64, field: Field, file: &mut [u8])
 }
 
 /// Writes the field of a relocation of a section that begins at this address, if it has one.
+#[inline(always)]
 fn write_field(
     plan: &Plan,
     object: usize,
@@ -71,12 +74,14 @@ fn write_field(
     if let RelocationKind::Nothing = relocation.kind {
         return Ok(());
     }
-    let bound = plan.inputs.binding(object, relocation);
-    if plan.is_replaced(bound, relocation.kind) {
+    // What is known of a plan is known where a part of it is read.
+    let _inputs = plan.inputs;
+    let symbol = plan.symbol_value(object, relocation.symbol);
+    if plan.is_replaced(symbol, relocation.kind) {
         return Ok(());
     }
     let place = address + relocation.offset;
-    match plan.field(object, place, relocation, bound) {
+    match plan.field(object, place, relocation, symbol) {
         Ok(field) => {
             put(plan, place, field, file);
             Ok(())
@@ -195,12 +200,13 @@ fn write_new_field(
     ensures written { file.new ≡ with_new_field plan.now object site.now (Some field.now) file.old }
     ensures filled { length file.new ≡ length (raw_file plan.now) }
 {
-    let inputs = plan.inputs;
+    // What is known of a plan is known where a part of it is read.
+    let _inputs = plan.inputs;
     let relocation = new_relocation(site, field);
     let place = address + relocation.offset;
-    let bound = inputs.binding(object, &relocation);
+    let symbol = plan.symbol_value(object, relocation.symbol);
     // Distances inside an image fit.
-    if let Ok(value) = plan.field(object, place, &relocation, bound) {
+    if let Ok(value) = plan.field(object, place, &relocation, symbol) {
         put(plan, place, value, file);
     }
 }

@@ -42,6 +42,7 @@ impl Field {
 }
 
 /// Writes the field at offset `at`, the lowest byte first, over the bytes that stand there.
+#[inline(always)]
 pub fn apply(field: Field, bytes: &mut [u8], at: usize)
     requires { at + width_of field ≤ length bytes.old }
     ensures { bytes.new ≡ patched (field_patch at field ∷ []) bytes.old }

@@ -21,6 +21,7 @@ pub struct Overflow;
 /// `g` is G, the place of the entry in the GOT that the type speaks of. For the two offsets in a TLS segment,
 /// `DtpOff32` and `TpOff32`, `s` is the symbol's offset in its segment, and `g` the number that is subtracted: 0, or
 /// how far the segment's block begins below the thread pointer. A letter that a type does not use changes nothing.
+#[inline(always)]
 pub fn value(kind: RelocationKind, s: u64, a: i64, p: u64, g: u64) -> Result<Field, Overflow>
     ensures stored { result_ok result ≡ stored_field kind s a p g }
     ensures width { IfOk result (λ field. width_of field ≡ field_width kind) }
@@ -44,6 +45,7 @@ pub fn value(kind: RelocationKind, s: u64, a: i64, p: u64, g: u64) -> Result<Fie
 }
 
 /// From -2^31 to 2^31 - 1.
+#[inline(always)]
 fn signed_field(value: i128) -> Result<Field, Overflow>
     ensures { result_ok result ≡ signed_field value }
 {
@@ -54,6 +56,7 @@ fn signed_field(value: i128) -> Result<Field, Overflow>
 }
 
 /// From 0 to 2^32 - 1.
+#[inline(always)]
 fn unsigned_field(value: i128) -> Result<Field, Overflow>
     ensures { result_ok result ≡ unsigned_field value }
 {
@@ -64,6 +67,7 @@ fn unsigned_field(value: i128) -> Result<Field, Overflow>
 }
 
 /// Any number, modulo 2^64.
+#[inline(always)]
 fn wrapped_field(value: i128) -> Field
     ensures { Some result ≡ wrapped_field value }
 {

@@ -45,6 +45,7 @@ invariant_of-result c =
     record {
       given = subst IsGiven c.inputs.view_is c.inputs.invariant.given;
       limits = c.requires;
+      values_are = c.in_ok-symbol_values.ensures;
       got_is = is;
       start_is = begins;
       stub_is = c.page_up-stub_start.ensures.page

@@ -1,10 +1,9 @@
-use Rattle.std.proofs.Common.{[], ◌∷◌, ◌∙◌, ◌<◌, ap, arith, sym, subst, ◌+◌}
-use Rattle.elf_object.specs.Parts.{symbol_count}
+use Rattle.std.proofs.Common.{[], ◌∷◌, ◌∙◌, ap, arith, sym, subst, ◌+◌}
 use Rattle.section_file.specs.Files.{offset_of}
 use Rattle.tls_relocs.specs.Fields.{field_patch}
 use Rattle.tls_relocs.specs.Patches.{patched}
 use Rattle.link_core.specs.Faults.{FitsLimits, IsGiven}
-use Rattle.link_core.specs.Linking.{Linking, binding, layout, object}
+use Rattle.link_core.specs.Linking.{layout}
 use Rattle.link_core.proofs.WritingFields.{field_fills, field_overflows, field_writes, names_symbol, nothing_fills}
 use Rattle.link_core.proofs.WritingFields.{nothing_writes, replaced_as, replaced_fills, replaced_writes}
 use Rattle.link_core.proofs.WritingRoom.{field_room}
@@ -18,23 +17,19 @@ pub returns-in-Nothing-clause-fits : goal.returns-in-Nothing-clause-fits
 returns-in-Nothing-clause-fits c =
     nothing_fills c.args.plan.now c.args.object c.args.section c.args.relocation.now c.in-Nothing.is
 
-pub binding-bound-requires-clause-symbol : goal.binding-bound-requires-clause-symbol
-binding-bound-requires-clause-symbol c =
-    let l = c.args.plan.now in
+pub symbol_value-symbol-requires-clause-symbol : goal.symbol_value-symbol-requires-clause-symbol
+symbol_value-symbol-requires-clause-symbol c =
     let given = subst IsGiven c.plan.view_is c.plan.invariant.given in
-    let r = c.args.relocation.now in
-    let names = names_symbol l c.args.object c.args.section r given c.requires.object c.requires.own
-    c.in_default.not-Nothing in
-    subst (λ (l : Linking). r.symbol < symbol_count (object l c.args.object)) (sym c.plan.view_is) names
+    names_symbol c.args.plan.now c.args.object c.args.section c.args.relocation.now given c.requires.object
+    c.requires.own c.in_default.not-Nothing
 
 pub returns-then-is_replaced : goal.returns-then-is_replaced
 returns-then-is_replaced c =
     let l = c.args.plan.now in
     let o = c.args.object in
     let r = c.args.relocation.now in
-    let bound = c.binding-bound.ensures.binding ∙ ap (λ l. binding l o r) c.plan.view_is in
-    let is = replaced_as l o c.args.section r c.binding-bound.result bound ∙ sym c.is_replaced.ensures
-    ∙ c.if-is_replaced.true in
+    let is = replaced_as l o c.args.section r c.symbol_value-symbol.result c.symbol_value-symbol.ensures
+    ∙ sym c.is_replaced.ensures ∙ c.if-is_replaced.true in
     record {
       written = replaced_writes l o c.args.section r c.args.file.now is;
       filled = c.requires.filled;
@@ -51,8 +46,8 @@ overflow_add-place c =
     c.requires.own in
     omega (arith, room.near, c.requires.address)
 
-pub field-requires-clause-symbol : goal.field-requires-clause-symbol
-field-requires-clause-symbol c =
+pub field-requires-clause-number : goal.field-requires-clause-number
+field-requires-clause-number c =
     let given = subst IsGiven c.plan.view_is c.plan.invariant.given in
     names_symbol c.args.plan.now c.args.object c.args.section c.args.relocation.now given c.requires.object
     c.requires.own c.in_default.not-Nothing
@@ -72,8 +67,8 @@ returns-in-Ok c =
     let o = c.args.object in
     let t = c.args.section in
     let r = c.args.relocation.now in
-    let bound = c.binding-bound.ensures.binding ∙ ap (λ l. binding l o r) c.plan.view_is in
-    let is = replaced_as l o t r c.binding-bound.result bound ∙ sym c.is_replaced.ensures ∙ c.if-is_replaced.false in
+    let is = replaced_as l o t r c.symbol_value-symbol.result c.symbol_value-symbol.ensures
+    ∙ sym c.is_replaced.ensures ∙ c.if-is_replaced.false in
     let place = ap (λ n. n + r.offset) c.requires.address in
     let value = c.in-Ok.ensures.field t place in
     let put = c.put.ensures
@@ -91,8 +86,8 @@ returns-in-Err c =
     let o = c.args.object in
     let t = c.args.section in
     let r = c.args.relocation.now in
-    let bound = c.binding-bound.ensures.binding ∙ ap (λ l. binding l o r) c.plan.view_is in
-    let is = replaced_as l o t r c.binding-bound.result bound ∙ sym c.is_replaced.ensures ∙ c.if-is_replaced.false in
+    let is = replaced_as l o t r c.symbol_value-symbol.result c.symbol_value-symbol.ensures
+    ∙ sym c.is_replaced.ensures ∙ c.if-is_replaced.false in
     record {
       written = tt;
       filled = c.requires.filled;

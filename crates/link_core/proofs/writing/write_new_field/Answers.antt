@@ -30,17 +30,17 @@ overflow_add-place c =
     let same = ap (λ (r : Relocation). r.offset) c.new_relocation-relocation.ensures in
     omega (arith, fits.near, same, c.requires.address)
 
-pub binding-bound-requires-clause-symbol : goal.binding-bound-requires-clause-symbol
-binding-bound-requires-clause-symbol c =
+pub symbol_value-symbol-requires-clause-symbol : goal.symbol_value-symbol-requires-clause-symbol
+symbol_value-symbol-requires-clause-symbol c =
     let l = c.args.plan.now in
     let given = subst IsGiven c.plan.view_is c.plan.invariant.given in
     let limits = subst FitsLimits c.plan.view_is c.plan.invariant.limits in
     let room = site_room l c.args.object c.args.site.now given limits c.requires.object c.requires.own in
     let same = ap (λ (r : Relocation). r.symbol) c.new_relocation-relocation.ensures in
-    rw (same, c.plan.view_is) room.usable.symbol
+    rw same room.usable.symbol
 
-pub field-requires-clause-symbol : goal.field-requires-clause-symbol
-field-requires-clause-symbol c =
+pub field-requires-clause-number : goal.field-requires-clause-number
+field-requires-clause-number c =
     let l = c.args.plan.now in
     let given = subst IsGiven c.plan.view_is c.plan.invariant.given in
     let limits = subst FitsLimits c.plan.view_is c.plan.invariant.limits in
