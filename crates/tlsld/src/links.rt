@@ -187,10 +187,11 @@ fn made_of_images(
 {
     let names = job.images()[place].objects.as_slice();
     match link_images(alloc, images, wish.relax()) {
-        Ok(all) => {
+        Ok(mut all) => {
             images_hold_tls();
             sites_have_symbols();
-            Ok(wished(alloc, names, &images[place], &all[place], wish)?)
+            let linked = all.swap_remove(place);
+            Ok(wished(alloc, names, &images[place], linked, wish)?)
         }
         Err(refusal) => Err(unlinked(alloc, job, refusal)),
     }

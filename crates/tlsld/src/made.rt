@@ -1,8 +1,5 @@
 //! What is made of a linked image: its file, or the lines of its sites.
 ghost use Rattle.std.specs.Prelude.{◌≡◌, IfOk, IfErr};
-ghost use Rattle.image_writer.specs.Loadable.{HoldsTls};
-ghost use Rattle.image_writer.specs.Outlined.{outline_of};
-ghost use Rattle.image_writer.specs.Written.{written};
 ghost use Rattle.tlsld.specs.Faults.{IsFetchFault, StoreCounts};
 ghost use Rattle.tlsld.specs.Links.{linked_text};
 ghost use Rattle.tlsld.specs.LinkSteps.{IsFinished, MayPut};
@@ -10,8 +7,7 @@ ghost use Rattle.tlsld.specs.Wishes.{CanMake, image_lines, wished_bytes};
 
 use crate::fault::CommandFault;
 use crate::wish::Wish;
-use image_file::Image;
-use image_writer::write;
+use image_writer::into_file;
 use job_link::ImageObjects;
 use job_text::Name;
 use link_core::Linked;
@@ -19,31 +15,21 @@ use ports::Store;
 use site_text::push_sites;
 use std::alloc::{AllocError, Global};
 
-/// What is made of a linked image whose objects have these names.
+/// What is made of a linked image whose objects have these names. The image's own bytes become its file.
 pub fn wished(
     alloc: Global,
     names: &[Name],
     image: &ImageObjects,
-    linked: &Linked,
+    linked: Linked,
     wish: Wish,
 ) -> Result<Vec<u8>, AllocError>
-    requires { CanMake names.now image.now linked.now }
-    ensures { IfOk result (λ made. made.items ≡ wished_bytes wish.entry names.now image.now linked.now) }
+    requires { CanMake names.now image.now linked }
+    ensures { IfOk result (λ made. made.items ≡ wished_bytes wish.entry names.now image.now linked) }
 {
     match wish {
-        Wish::File { .. } => file_of(alloc, &linked.image),
-        Wish::Sites => lines_of(alloc, names, image, linked),
+        Wish::File { .. } => into_file(alloc, linked.image),
+        Wish::Sites => lines_of(alloc, names, image, &linked),
     }
-}
-
-/// The file of an image.
-fn file_of(alloc: Global, image: &Image) -> Result<Vec<u8>, AllocError>
-    requires { HoldsTls (outline_of image.now) }
-    ensures { IfOk result (λ file. file.items ≡ written image.now) }
-{
-    let mut file = Vec::new(alloc);
-    write(alloc, image, &mut file)?;
-    Ok(file)
 }
 
 /// The lines of the sites of an image, object by object.

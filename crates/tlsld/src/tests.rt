@@ -1,6 +1,7 @@
 //! Whole commands over a store and a sink in memory: the words, the files, the output and the status.
 
 mod images;
+mod links;
 mod objects;
 
 use crate::tlsld;
@@ -27,14 +28,14 @@ fn ends<R: Threads + Wait + Sync>(
     rt: &R,
     alloc: Global,
     line: &[&str],
-    mut store: MemoryStore,
+    store: &mut MemoryStore,
     mut out: MemorySink,
 ) -> Result<(u8, Vec<u8>), Fail> {
     let mut words = Vec::new(alloc);
     for word in line {
         words.push(String::from_str(alloc, word)?)?;
     }
-    let status = tlsld(rt, alloc, words.as_slice(), &mut store, &mut out);
+    let status = tlsld(rt, alloc, words.as_slice(), store, &mut out);
     Ok((status, Vec::from_slice(alloc, out.bytes())?))
 }
 
@@ -61,8 +62,8 @@ fn each_status_has_its_line(rt: HostRuntime) -> Result<(), Fail> {
     for (line, fails_at, status, text) in rows {
         let mut out = MemorySink::new(alloc);
         out.fail_part(fails_at, 6);
-        let store = store_of(alloc, JOB, object.as_slice())?;
-        let (ended, put) = ends(&rt, alloc, line, store, out)?;
+        let mut store = store_of(alloc, JOB, object.as_slice())?;
+        let (ended, put) = ends(&rt, alloc, line, &mut store, out)?;
         assert_eq!(rt; ended, status, "{line:?}");
         assert_eq!(rt; put.as_slice(), text, "{line:?}");
     }
@@ -111,8 +112,14 @@ fn refuses_jobs(rt: HostRuntime) -> Result<(), Fail> {
         ),
     ];
     for (job, status, text) in rows {
-        let store = store_of(alloc, job, object.as_slice())?;
-        let (ended, put) = ends(&rt, alloc, &["run", "job"], store, MemorySink::new(alloc))?;
+        let mut store = store_of(alloc, job, object.as_slice())?;
+        let (ended, put) = ends(
+            &rt,
+            alloc,
+            &["run", "job"],
+            &mut store,
+            MemorySink::new(alloc),
+        )?;
         assert_eq!(rt; ended, status, "{text:?}");
         assert_eq!(rt; put.as_slice(), text);
     }
@@ -123,8 +130,14 @@ fn refuses_jobs(rt: HostRuntime) -> Result<(), Fail> {
 fn runs_or_refuses_objects(rt: HostRuntime) -> Result<(), Fail> {
     let alloc = rt.alloc();
     for (object, status, text) in objects::rows(alloc)? {
-        let store = store_of(alloc, JOB, object.as_slice())?;
-        let (ended, put) = ends(&rt, alloc, &["run", "job"], store, MemorySink::new(alloc))?;
+        let mut store = store_of(alloc, JOB, object.as_slice())?;
+        let (ended, put) = ends(
+            &rt,
+            alloc,
+            &["run", "job"],
+            &mut store,
+            MemorySink::new(alloc),
+        )?;
         assert_eq!(rt; ended, status);
         assert_eq!(rt; put.as_slice(), text);
     }
@@ -147,7 +160,13 @@ fn shows_images(rt: HostRuntime) -> Result<(), Fail> {
     for (image, status, text) in rows {
         let mut store = MemoryStore::new(alloc);
         store.add("app", image.as_slice())?;
-        let (ended, put) = ends(&rt, alloc, &["show", "app"], store, MemorySink::new(alloc))?;
+        let (ended, put) = ends(
+            &rt,
+            alloc,
+            &["show", "app"],
+            &mut store,
+            MemorySink::new(alloc),
+        )?;
         assert_eq!(rt; ended, status);
         assert_eq!(rt; put.as_slice(), text);
     }
@@ -166,8 +185,14 @@ fn check_call<R: Threads + Wait + Sync + Abort>(
     let mut job = b"image app exe a.o\n".to_vec(alloc)?;
     job.extend_from_slice(lines)?;
     let object = function(alloc, code)?;
-    let store = store_of(alloc, job.as_slice(), object.as_slice())?;
-    let (ended, put) = ends(rt, alloc, &["run", "job"], store, MemorySink::new(alloc))?;
+    let mut store = store_of(alloc, job.as_slice(), object.as_slice())?;
+    let (ended, put) = ends(
+        rt,
+        alloc,
+        &["run", "job"],
+        &mut store,
+        MemorySink::new(alloc),
+    )?;
     assert_eq!(rt; ended, 0);
     assert_eq!(rt; put.as_slice().strip_prefix(b"t1 l1 g0 "), Some(outcome));
     Ok(())
