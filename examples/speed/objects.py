@@ -1,9 +1,12 @@
 #!/usr/bin/env python3
-"""objects.py FOLDER small N | large N | relocations N: writes objects of the same shape for every linker, and a job.
+"""objects.py FOLDER small N | large N | code N | relocations N: writes objects of the same shape for every linker, and a job.
 
 small:        N objects of some 30 bytes of code each, with a variable of their own that they reach by a general dynamic
               sequence, and another object's variable that they reach by an initial executable one
-large:        N objects of 256 KiB of code each
+large:        N objects of 256 KiB each, as compilers write them: functions of some 400 bytes, each with a name, a
+              relocation in every 48 bytes of code (calls, addresses, thread-local variables by general dynamic, initial
+              and local executable sequences), constants, and addresses of constants
+code:         N objects of 256 KiB of code each, with one relocation
 relocations:  seven objects that hold N relocations together, of types 64, PC32 and TPOFF32
 """
 import os
@@ -69,6 +72,41 @@ def small(folder, count):
 def large(folder, count):
     for i in range(count):
         o = Object()
+        for k in range(380):
+            o.symbol(f"function_{i}_{k}", 2, 1, 400 * k, 400)
+        own = o.symbol(f"variable{i}", 6, 5, 0, 8)
+        other = o.symbol(f"variable{(i + 1) % count}", 6, 0, 0, 0) if count > 1 else own
+        next_one = o.symbol(f"function_{(i + 1) % count}_0", 0, 0, 0, 0) if count > 1 else 1
+        getter = o.symbol("__tls_get_addr", 0, 0, 0, 0)
+        for k in range(380 * 400 // 48):
+            at = len(o.code)
+            if k % 8 == 0:
+                o.code += bytes.fromhex("66488d3d00000000666648e800000000")
+                o.code_relocations += [(at + 4, TLSGD, own, -4), (at + 12, PLT32, getter, -4)]
+            elif k % 8 == 1:
+                o.code += bytes.fromhex("488b0500000000")
+                o.code_relocations += [(at + 3, GOTTPOFF, other, -4)]
+            elif k % 8 == 2:
+                o.code += bytes.fromhex("64488b042500000000")
+                o.code_relocations += [(at + 5, TPOFF32, own, 0)]
+            elif k % 8 < 6:
+                o.code += bytes.fromhex("e800000000")
+                o.code_relocations += [(at + 1, PLT32, next_one, -4)]
+            else:
+                o.code += bytes.fromhex("488d0500000000")
+                o.code_relocations += [(at + 3, PC32, 1 + k % 380, -4)]
+            o.code += b"\x90" * (48 - (len(o.code) - at))
+        o.code += b"\x90" * (380 * 400 - len(o.code))
+        o.data += bytes(k % 251 for k in range(4096))
+        for k in range(64):
+            o.data_relocations += [(8 * k, ABS64, 1 + k, 0)]
+        o.write(f"{folder}/o{i}.o")
+    return count
+
+
+def code(folder, count):
+    for i in range(count):
+        o = Object()
         o.code += b"\x90" * (256 * 1024 - 9) + bytes.fromhex("64488b042500000000")
         o.symbol(f"f{i}", 2, 1, 0, len(o.code))
         own = o.symbol(f"variable{i}", 6, 5, 0, 8)
@@ -95,7 +133,7 @@ def relocations(folder, count):
 def main():
     folder, shape, count = sys.argv[1], sys.argv[2], int(sys.argv[3])
     os.makedirs(folder, exist_ok=True)
-    made = {"small": small, "large": large, "relocations": relocations}[shape](folder, count)
+    made = {"small": small, "large": large, "code": code, "relocations": relocations}[shape](folder, count)
     with open(f"{folder}/job", "w") as job:
         job.write("image app exe " + " ".join(f"o{i}.o" for i in range(made)) + "\n")
 

@@ -1,17 +1,18 @@
 #!/usr/bin/env python3
 """time.py TLSLD: times `link` beside the linkers that are there, on the same objects.
 
-Each linker links the objects of each shape five times, in turns; the least wall-clock time of each is printed in
+Each linker links the objects of each shape five times, in turns, where no output stands yet; the least wall-clock time of each is printed in
 milliseconds, and the greatest memory in MiB. For tlsld the growth from 1,000 to 8,000 objects stands in the last line.
 """
+import glob
 import os
-import resource
 import subprocess
 import sys
 import tempfile
 import time
 
-SHAPES = [("small", 1000), ("small", 4000), ("small", 8000), ("large", 60), ("relocations", 490_000)]
+SHAPES = [("small", 1000), ("small", 4000), ("small", 8000), ("large", 60), ("code", 60),
+          ("relocations", 490_000)]
 OTHERS = ["ld.bfd", "ld.gold", "ld.lld", "mold"]
 
 
@@ -39,6 +40,8 @@ def main():
                 words[name] = [name, "-e", "f0", "-o", f"out.{name}", "@list"]
             for _ in range(5):
                 for name, line in words.items():
+                    for old in glob.glob(f"{folder}/out*"):
+                        os.remove(old)
                     took, memory, status = run(line, folder)
                     if status != 0:
                         print(f"{name} failed on {shape} {count}: status {status}")
