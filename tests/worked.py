@@ -3,8 +3,8 @@
 
 A folder holds one command: its words (`words`), the files that it runs among, the exit status (`status`) and what it
 prints (`output`; a folder without it says nothing of that). `facts` says what the written file holds, a line each:
-`size FILE BYTES` and `bytes FILE OFFSET HEX`. The values were worked out by hand from the gABI, the psABI and Drepper's
-paper, and not taken from the program.
+`size FILE BYTES` and `bytes FILE OFFSET HEX`. The expected values were there before the program, and were not taken from
+it.
 """
 import os
 import shlex
