@@ -6,9 +6,9 @@ top=$(cd "$(dirname "$0")/.." && pwd)
 copy=$(mktemp -d)
 trap 'rm -rf "$copy"' EXIT
 mkdir -p "$copy/crates/outlives/src"
-cp -r "$top/crates/elf_records" "$top/crates/object_faults" "$top/crates/elf_object" "$copy/crates"
+for crate in elf_records object_rules object_faults elf_object; do cp -r "$top/crates/$crate" "$copy/crates"; done
 cp "$top/HANDLES" "$copy"
-grep -E '^(elf_records|object_faults|elf_object):' "$top/crates.txt" > "$copy/crates.txt"
+grep -E '^(elf_records|object_rules|object_faults|elf_object):' "$top/crates.txt" > "$copy/crates.txt"
 echo 'outlives: elf_object' >> "$copy/crates.txt"
 cat > "$copy/crates/outlives/src/lib.rt" <<'RATTLE'
 #![tactic(auto)]

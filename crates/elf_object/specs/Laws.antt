@@ -4,7 +4,7 @@ use Rattle.std.specs.Prelude.{None, IsSome, is_some, is_none, Bool, true, false,
 use Rattle.std.proofs.Common.{inl, inr, refl, sym, ap, subst, arith}
 use Rattle.std.proofs.lemmas.Bool.{cases_lt}
 use Rattle.std.proofs.lemmas.Bool.Decides.{nat_tests}
-use Rattle.object_faults.specs.declared.fault.FaultKind.TheVariants.{TooLarge}
+use Rattle.object_rules.specs.declared.fault.FaultKind.TheVariants.{TooLarge}
 use Rattle.object_faults.specs.declared.class.SectionClass.{SectionClass}
 use Rattle.elf_object.specs.declared.relocation.Relocation.{Relocation}
 use Rattle.elf_object.specs.Parts.{header, section, is_section, symbol_table, symbol_count, relocation_table}

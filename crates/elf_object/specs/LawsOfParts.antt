@@ -5,7 +5,7 @@ use Rattle.std.proofs.Common.{Some, None, IsSome, nat_lt, if◌then◌else◌, i
 use Rattle.std.proofs.lemmas.Bool.{cases_lt}
 use Rattle.std.proofs.lemmas.Bool.Decides.{nat_tests}
 use Rattle.elf_records.specs.Records.{symbol_binding as binding_number, symbol_kind as type_number}
-use Rattle.object_faults.specs.declared.fault.FaultKind.TheVariants.{SymbolSection, SymbolRange, SymbolKind}
+use Rattle.object_rules.specs.declared.fault.FaultKind.TheVariants.{SymbolSection, SymbolRange, SymbolKind}
 use Rattle.object_faults.specs.declared.class.SectionClass.{SectionClass}
 use Rattle.object_faults.specs.declared.class.SectionClass.TheVariants.{Executable, ReadOnly, Tls, Writable}
 use Rattle.elf_object.specs.declared.symbol.SymbolBinding.TheVariants.{Local, Global, Weak}

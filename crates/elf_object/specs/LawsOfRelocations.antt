@@ -5,7 +5,7 @@ use Rattle.std.proofs.Common.{subst, arith}
 use Rattle.std.specs.List.{All}
 use Rattle.std.proofs.lemmas.Bool.{cases_lt}
 use Rattle.elf_records.specs.Records.{rela_symbol, rela_kind}
-use Rattle.object_faults.specs.declared.fault.FaultKind.TheVariants.{RelocSymbol, RelocKind, RelocRange}
+use Rattle.object_rules.specs.declared.fault.FaultKind.TheVariants.{RelocSymbol, RelocKind, RelocRange}
 use Rattle.object_faults.specs.declared.class.SectionClass.{SectionClass}
 use Rattle.object_faults.specs.declared.class.SectionClass.TheVariants.{Executable, ReadOnly, Tls, Writable}
 use Rattle.elf_object.specs.declared.symbol.SymbolPlace.TheVariants.{Absolute, InSection}

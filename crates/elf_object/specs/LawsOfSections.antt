@@ -5,7 +5,7 @@ use Rattle.std.proofs.Common.{if◌then◌else◌, inl, inr, refl, sym, ap, arit
 use Rattle.std.proofs.lemmas.Bool.{cases_lt}
 use Rattle.std.proofs.lemmas.Bool.Decides.{nat_tests}
 use Rattle.elf_records.specs.declared.section_header.SectionHeader.{SectionHeader}
-use Rattle.object_faults.specs.declared.fault.FaultKind.TheVariants.{Truncated, NotElf, NotRelocatable, SectionAlign}
+use Rattle.object_rules.specs.declared.fault.FaultKind.TheVariants.{Truncated, NotElf, NotRelocatable, SectionAlign}
 use Rattle.object_faults.specs.declared.class.SectionClass.{SectionClass}
 use Rattle.object_faults.specs.declared.class.SectionClass.TheVariants.{Executable, ReadOnly, Tls, Writable}
 use Rattle.object_faults.specs.declared.class.TheConstants.{CLASS_FLAGS}

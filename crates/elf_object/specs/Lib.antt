@@ -1,7 +1,6 @@
 pub use Rattle.object_faults.specs.Checked
 pub use Rattle.object_faults.specs.Classes
 pub use Rattle.object_faults.specs.Faults
-pub use Rattle.object_faults.specs.FaultNames
 pub use Rattle.object_faults.specs.FirstLaws
 pub use Rattle.object_faults.specs.Firsts
 pub use Rattle.object_faults.specs.Names
@@ -9,6 +8,7 @@ pub use Rattle.object_faults.specs.Parts
 pub use Rattle.object_faults.specs.Relocations
 pub use Rattle.object_faults.specs.Searches
 pub use Rattle.object_faults.specs.Tables
+pub use Rattle.object_rules.specs.FaultNames
 pub mod Lawful
 pub mod LawsOfParts
 pub mod LawsOfRelocations

@@ -8,8 +8,8 @@ use Rattle.std.proofs.lemmas.List.{ext_get_or, get_or-map, get_or-set_other, get
 use Rattle.std.proofs.lemmas.List.{length-take-le, map-set, set-get_or, take-append-drop}
 use Rattle.std.proofs.lemmas.List.Elements.{All-get_or, All-set, Contains-push_cases}
 use Rattle.std.proofs.lemmas.Option.{get_or_from_slice_get, slice_get-get_or, slice_get_within}
-use Rattle.object_faults.specs.declared.fault.ObjectFault.{ObjectFault}
-use Rattle.object_faults.specs.declared.fault.ObjectFault.TheVariants as object
+use Rattle.object_rules.specs.declared.fault.ObjectFault.{ObjectFault}
+use Rattle.object_rules.specs.declared.fault.ObjectFault.TheVariants as object
 use Rattle.job_text.specs.declared.images.Image.{Image}
 use Rattle.job_text.specs.Jobs.{JobParts}
 use Rattle.link_faults.specs.declared.image_kind.ImageKind.{ImageKind}

@@ -1,10 +1,10 @@
 -- The objects of the images of a job, each with its sequences, and the first that has a fault.
 use Rattle.std.specs.Prelude.{◌≡◌, ◌<◌, ◌⊎◌, ℕ, List, [], Some, length, map, slice_get, slice_index_or}
 use Rattle.std.specs.List.{All}
-use Rattle.object_faults.specs.declared.fault.FaultKind.{FaultKind}
-use Rattle.object_faults.specs.declared.fault.FaultKind.TheVariants.{Sequence, StrayCall}
-use Rattle.object_faults.specs.declared.fault.ObjectFault.{ObjectFault}
-use Rattle.object_faults.specs.declared.fault.ObjectFault.TheVariants.{OutOfMemory, At}
+use Rattle.object_rules.specs.declared.fault.FaultKind.{FaultKind}
+use Rattle.object_rules.specs.declared.fault.FaultKind.TheVariants.{Sequence, StrayCall}
+use Rattle.object_rules.specs.declared.fault.ObjectFault.{ObjectFault}
+use Rattle.object_rules.specs.declared.fault.ObjectFault.TheVariants.{OutOfMemory, At}
 use Rattle.elf_object.specs.Faults.{IsObject, IsFault}
 use Rattle.job_text.specs.declared.images.Image.{Image}
 use Rattle.job_text.specs.Jobs.{JobParts}

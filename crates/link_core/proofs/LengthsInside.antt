@@ -4,7 +4,7 @@ use Rattle.std.proofs.Common.{Option, Some, None, length, inl, inr, refl, sym, a
 use Rattle.std.specs.Prelude.{IsSome, map, nat_lt, unwrap_or, if◌then◌else◌, ◌==◌}
 use Rattle.std.specs.List.{Contains, range_with_len}
 use Rattle.std.proofs.lemmas.Bool.Decides.{nat_tests}
-use Rattle.object_faults.specs.declared.fault.FaultKind.TheVariants.{RelocTarget}
+use Rattle.object_rules.specs.declared.fault.FaultKind.TheVariants.{RelocTarget}
 use Rattle.object_faults.specs.declared.class.SectionClass.{SectionClass}
 use Rattle.object_faults.specs.declared.class.SectionClass.TheVariants.{Executable, ReadOnly, Tls, Writable}
 use Rattle.elf_object.specs.declared.relocation.Relocation.{Relocation}

@@ -9,7 +9,7 @@ use Rattle.std.proofs.lemmas.List.Elements.{All-from_get_or}
 use Rattle.std.proofs.lemmas.Option.{slice_get-get_or}
 use Rattle.object_faults.specs.declared.class.SectionClass.{SectionClass}
 use Rattle.object_faults.specs.declared.class.SectionClass.TheVariants.{Tls}
-use Rattle.object_faults.specs.declared.fault.FaultKind.TheVariants.{RelocTarget}
+use Rattle.object_rules.specs.declared.fault.FaultKind.TheVariants.{RelocTarget}
 use Rattle.elf_records.specs.declared.relocation.RelocationKind.TheVariants.{Absolute64}
 use Rattle.elf_object.specs.declared.relocation.Relocation.{Relocation}
 use Rattle.elf_object.specs.Classes.{kept_class, IsKeptSection}

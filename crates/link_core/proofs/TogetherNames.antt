@@ -5,7 +5,7 @@ use Rattle.std.specs.Str.{bytes_eq}
 use Rattle.std.proofs.lemmas.Bool.Decides.{nat_tests}
 use Rattle.std.proofs.lemmas.Slice.Eq.{bytes_eq-Decides}
 use Rattle.elf_records.specs.Records.{symbol_binding as binding_number}
-use Rattle.object_faults.specs.declared.fault.FaultKind.TheVariants.{SymbolSection}
+use Rattle.object_rules.specs.declared.fault.FaultKind.TheVariants.{SymbolSection}
 use Rattle.elf_object.specs.declared.relocation.Relocation.{Relocation}
 use Rattle.elf_object.specs.declared.symbol.SymbolBinding.TheVariants.{Local, Global, Weak}
 use Rattle.elf_object.specs.declared.symbol.SymbolPlace.{SymbolPlace}

@@ -10,7 +10,7 @@ use Rattle.got_pairs.specs.declared.need.Need.TheVariants.{RuntimeWord}
 use Rattle.got_pairs.specs.Needs.{start_of}
 use Rattle.image_writer.specs.Loadable.{HoldsTls}
 use Rattle.image_writer.specs.Outlined.{outline_of}
-use Rattle.object_faults.specs.declared.fault.FaultKind.TheVariants.{Sequence, StrayCall}
+use Rattle.object_rules.specs.declared.fault.FaultKind.TheVariants.{Sequence, StrayCall}
 use Rattle.section_file.specs.Files.{offset_of}
 use Rattle.sequence_match.specs.declared.places.Site.{Site}
 use Rattle.sequence_match.specs.Faults.{Nowhere}

@@ -1,6 +1,6 @@
 -- The faults of the file as a whole: its length, its header, the table of section headers, the bytes of sections.
 use Rattle.std.proofs.Common.{◌+◌, ◌*◌, ◌<◌, ◌≤◌, ℕ, List, length, inl, inr, refl, arith}
-use Rattle.object_faults.specs.declared.fault.FaultKind.TheVariants.{Truncated, NotElf, NotRelocatable}
+use Rattle.object_rules.specs.declared.fault.FaultKind.TheVariants.{Truncated, NotElf, NotRelocatable}
 use Rattle.object_faults.specs.Parts.{header}
 use Rattle.object_faults.specs.Faults.{IsElf, IsRelocatable, HasPartPastEnd, Stands, NoneBelow, IsFirst}
 use Rattle.object_faults.proofs.Order.{none_at_first, none_more}

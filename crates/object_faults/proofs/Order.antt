@@ -1,14 +1,14 @@
 -- The order of the kinds: what is asked in turn, kind after kind, place after place, finds the first fault.
 use Rattle.std.proofs.Common.{◌≡◌, ◌+◌, ◌<◌, ◌⊎◌, ◌∙◌, ℕ, List, [], ◌∷◌, get_or, inl, inr, refl, sym, ap, subst, arith}
-use Rattle.object_faults.specs.declared.fault.FaultKind.{FaultKind}
-use Rattle.object_faults.specs.declared.fault.FaultKind.TheVariants.{Truncated, NotElf, NotRelocatable, SectionName, SectionKind, SectionAlign, TooLarge, SymbolTable, SymbolName, SymbolSection, SymbolRange, SymbolKind, RelocTarget, RelocSymbol, RelocKind, RelocRange, RelocOverlap, Sequence, StrayCall, WritableData}
-use Rattle.object_faults.specs.declared.kinds.SectionFault.{SectionFault}
-use Rattle.object_faults.specs.declared.kinds.SectionFault.TheVariants as section
-use Rattle.object_faults.specs.declared.kinds.SymbolFault.{SymbolFault}
-use Rattle.object_faults.specs.declared.kinds.SymbolFault.TheVariants as symbol
-use Rattle.object_faults.specs.declared.kinds.RelocFault.{RelocFault}
-use Rattle.object_faults.specs.declared.kinds.RelocFault.TheVariants as reloc
-use Rattle.object_faults.specs.Kinds.{of_section, of_symbol, of_reloc}
+use Rattle.object_rules.specs.declared.fault.FaultKind.{FaultKind}
+use Rattle.object_rules.specs.declared.fault.FaultKind.TheVariants.{Truncated, NotElf, NotRelocatable, SectionName, SectionKind, SectionAlign, TooLarge, SymbolTable, SymbolName, SymbolSection, SymbolRange, SymbolKind, RelocTarget, RelocSymbol, RelocKind, RelocRange, RelocOverlap, Sequence, StrayCall, WritableData}
+use Rattle.object_rules.specs.declared.kinds.SectionFault.{SectionFault}
+use Rattle.object_rules.specs.declared.kinds.SectionFault.TheVariants as section
+use Rattle.object_rules.specs.declared.kinds.SymbolFault.{SymbolFault}
+use Rattle.object_rules.specs.declared.kinds.SymbolFault.TheVariants as symbol
+use Rattle.object_rules.specs.declared.kinds.RelocFault.{RelocFault}
+use Rattle.object_rules.specs.declared.kinds.RelocFault.TheVariants as reloc
+use Rattle.object_rules.specs.Kinds.{of_section, of_symbol, of_reloc}
 use Rattle.object_faults.specs.Parts.{IsSection}
 use Rattle.object_faults.specs.Relocations.{IsReloc}
 use Rattle.object_faults.specs.Faults.{number, Stands, Nowhere, NoneBelow, IsObject, IsFirst, IsSymbol}

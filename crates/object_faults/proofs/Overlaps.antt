@@ -1,7 +1,7 @@
 -- Marks on the bytes of a target say which fields cover them, entry after entry.
 use Rattle.std.proofs.Common.{◌≡◌, ◌+◌, ◌<◌, ◌≤◌, ◌⊎◌, ◌↔◌, ◌∙◌, ℕ, List, slice_index, sym, subst, inl, inr, arith}
 use Rattle.std.proofs.lemmas.Bool.{cases_lt}
-use Rattle.object_faults.specs.declared.fault.FaultKind.TheVariants.{RelocRange, RelocOverlap}
+use Rattle.object_rules.specs.declared.fault.FaultKind.TheVariants.{RelocRange, RelocOverlap}
 use Rattle.object_faults.specs.Parts.{section, rela}
 use Rattle.object_faults.specs.Relocations.{Covers, IsReloc, width_at}
 use Rattle.object_faults.specs.Faults.{Stands, NoneBelow}

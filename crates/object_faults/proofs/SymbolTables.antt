@@ -1,6 +1,6 @@
 -- The faults of the symbol table: those of the first section of symbols come before a second such section.
 use Rattle.std.proofs.Common.{◌≡◌, ◌<◌, ◌≤◌, ℕ, List, refl, sym, subst, inl, inr, arith}
-use Rattle.object_faults.specs.declared.fault.FaultKind.TheVariants.{SymbolTable}
+use Rattle.object_rules.specs.declared.fault.FaultKind.TheVariants.{SymbolTable}
 use Rattle.object_faults.specs.Parts.{header, section, symbol_table, IsTable}
 use Rattle.object_faults.specs.Faults.{Stands, Nowhere, NoneBelow, IsFirst, IsBadTable}
 use Rattle.object_faults.proofs.Order.{first_of}

@@ -1,7 +1,7 @@
 -- One walk over the relocations: what it goes by has no fault, and fields that rise share no byte.
 use Rattle.std.proofs.Common.{◌≡◌, ◌+◌, ◌<◌, ◌≤◌, ◌⊎◌, ◌↔◌, ◌&&◌, ℕ, zero, suc, List, Bool, IsTrue, nat_le, inl, inr, refl, sym, subst, arith}
 use Rattle.std.proofs.lemmas.Bool.Decides.{nat_tests}
-use Rattle.object_faults.specs.declared.fault.FaultKind.TheVariants.{RelocOverlap}
+use Rattle.object_rules.specs.declared.fault.FaultKind.TheVariants.{RelocOverlap}
 use Rattle.object_faults.specs.Parts.{section, rela, entry_count, IsRela}
 use Rattle.object_faults.specs.Classes.{IsKeptSection}
 use Rattle.object_faults.specs.Relocations.{IsReloc}

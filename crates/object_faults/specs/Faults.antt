@@ -4,15 +4,15 @@ use Rattle.std.specs.Prelude.{None, IsNone, length, bit_and}
 use Rattle.elf_records.specs.declared.file_header.Header.{Header}
 use Rattle.elf_records.specs.declared.section_header.SectionHeader.{SectionHeader}
 use Rattle.elf_records.specs.declared.symbol.SymbolEntry.{SymbolEntry}
-use Rattle.object_faults.specs.declared.fault.FaultKind.{FaultKind}
-use Rattle.object_faults.specs.declared.fault.FaultKind.TheVariants.{Truncated, NotElf, NotRelocatable, SectionName}
-use Rattle.object_faults.specs.declared.fault.FaultKind.TheVariants.{SectionKind, SectionAlign, TooLarge, SymbolTable}
-use Rattle.object_faults.specs.declared.fault.FaultKind.TheVariants.{SymbolName, SymbolSection, SymbolRange}
-use Rattle.object_faults.specs.declared.fault.FaultKind.TheVariants.{SymbolKind, RelocTarget, RelocSymbol, RelocKind}
-use Rattle.object_faults.specs.declared.fault.FaultKind.TheVariants.{RelocRange, RelocOverlap, Sequence, StrayCall}
-use Rattle.object_faults.specs.declared.fault.FaultKind.TheVariants.{WritableData}
-use Rattle.object_faults.specs.declared.fault.ObjectFault.{ObjectFault}
-use Rattle.object_faults.specs.declared.fault.ObjectFault.TheVariants.{OutOfMemory, At}
+use Rattle.object_rules.specs.declared.fault.FaultKind.{FaultKind}
+use Rattle.object_rules.specs.declared.fault.FaultKind.TheVariants.{Truncated, NotElf, NotRelocatable, SectionName}
+use Rattle.object_rules.specs.declared.fault.FaultKind.TheVariants.{SectionKind, SectionAlign, TooLarge, SymbolTable}
+use Rattle.object_rules.specs.declared.fault.FaultKind.TheVariants.{SymbolName, SymbolSection, SymbolRange}
+use Rattle.object_rules.specs.declared.fault.FaultKind.TheVariants.{SymbolKind, RelocTarget, RelocSymbol, RelocKind}
+use Rattle.object_rules.specs.declared.fault.FaultKind.TheVariants.{RelocRange, RelocOverlap, Sequence, StrayCall}
+use Rattle.object_rules.specs.declared.fault.FaultKind.TheVariants.{WritableData}
+use Rattle.object_rules.specs.declared.fault.ObjectFault.{ObjectFault}
+use Rattle.object_rules.specs.declared.fault.ObjectFault.TheVariants.{OutOfMemory, At}
 use Rattle.elf_records.specs.declared.file_header.TheConstants.{ET_REL, EM_X86_64}
 use Rattle.elf_records.specs.declared.section_header.TheConstants.{SHT_STRTAB, SHT_REL, SHT_GROUP, SHT_SYMTAB_SHNDX}
 use Rattle.elf_records.specs.declared.section_header.TheConstants.{SHT_NOBITS, SHF_ALLOC, SHF_TLS}

@@ -1,10 +1,8 @@
 pub mod Checked
 pub mod Classes
-pub mod FaultNames
 pub mod Faults
 pub mod FirstLaws
 pub mod Firsts
-pub mod Kinds
 pub mod Names
 pub mod Parts
 pub mod Relocations

@@ -1,6 +1,6 @@
 -- What one walk over relocations tells.
 use Rattle.std.specs.Prelude.{◌+◌, ◌≤◌, ◌⊎◌, ℕ, List, Option, Some, None}
-use Rattle.object_faults.specs.declared.fault.FaultKind.TheVariants.{RelocSymbol, RelocKind, RelocRange}
+use Rattle.object_rules.specs.declared.fault.FaultKind.TheVariants.{RelocSymbol, RelocKind, RelocRange}
 use Rattle.object_faults.specs.declared.walk.Walk.{Walk}
 use Rattle.object_faults.specs.declared.walk.Walk.TheVariants.{Faulty, Scattered, Rising}
 use Rattle.object_faults.specs.Parts.{section, rela}

@@ -4,14 +4,13 @@ ghost use Rattle.std.specs.Prelude.{◌≡◌, IfOk, IfErr};
 ghost use Rattle.object_faults.specs.Faults.{IsFault, NoneBelow, Answers};
 ghost use Rattle.object_faults.specs.Checked.{IsRead};
 
-use crate::fault::ObjectFault;
-use crate::kinds::{RelocFault, SectionFault, SymbolFault};
 use crate::overlap::ask_overlaps;
 use crate::scan::{ask_relocs, ask_sections, ask_symbols};
 use crate::symbols::ask_symbol_table;
 use crate::tables::{Tables, tables_of};
 use crate::targets::ask_targets;
 use crate::walk::most_to_mark;
+use object_rules::{ObjectFault, RelocFault, SectionFault, SymbolFault};
 use std::alloc::Global;
 
 /// Asks what is wrong with sections.

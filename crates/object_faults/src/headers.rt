@@ -4,10 +4,10 @@ ghost use Rattle.std.specs.Prelude.{◌≡◌, ◌+◌, ◌*◌, ◌<◌, ◌≤
 ghost use Rattle.object_faults.specs.Parts.{header, section as section_header};
 ghost use Rattle.object_faults.specs.Faults.{IsElf, IsRelocatable, IsFault};
 
-use crate::fault::{FaultKind, ObjectFault, fault_at};
 use elf_records::file_header::{EM_X86_64, ET_REL, is_elf};
 use elf_records::symbol::SHN_LORESERVE;
 use elf_records::{Header, SectionHeader, fits, read_header, section_numbered};
+use object_rules::{FaultKind, ObjectFault, fault_at};
 
 /// The bytes of a relocatable file whose table of section headers lies in it.
 #[derive(Clone, Copy)]

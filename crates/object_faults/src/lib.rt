@@ -30,9 +30,7 @@
 
 mod checked;
 mod class;
-mod fault;
 mod headers;
-mod kinds;
 mod overlap;
 mod reloc_tests;
 mod scan;
@@ -47,6 +45,6 @@ pub use checked::{FaultFree, fault_free};
 pub use class::{SectionClass, kept_class};
 pub use elf_records::RelocationKind;
 pub use elf_records::section_header::has_bytes;
-pub use fault::{FaultKind, ObjectFault};
+pub use object_rules::{FaultKind, ObjectFault};
 pub use symbols::Symbols;
 pub use tables::Tables;

@@ -3,18 +3,18 @@
 
 ghost use Rattle.std.specs.Prelude.{◌≡◌, ◌≢◌, ◌+◌, ◌<◌, ◌≤◌, ◌↔◌, ◌⊎◌, ℕ, length, slice_index, IsTrue, IfNone};
 ghost use Rattle.std.specs.Prelude.{MatchOption};
-ghost use Rattle.object_faults.specs.declared.fault.FaultKind.TheVariants.{RelocOverlap};
+ghost use Rattle.object_rules.specs.declared.fault.FaultKind.TheVariants.{RelocOverlap};
 ghost use Rattle.object_faults.specs.Parts.{IsSection, rela as entry_of};
 ghost use Rattle.object_faults.specs.Relocations.{Covers, width_at};
 ghost use Rattle.object_faults.specs.Tables.{AreRelocs, HasRoom};
 ghost use Rattle.object_faults.specs.Faults.{Stands, IsFirstAt, NoneBelow, Answers};
 ghost use Rattle.object_faults.specs.Walks.{HasRoomToMark};
 
-use crate::fault::{FaultKind, ObjectFault, fault_at};
 use crate::reloc_tests::{RelocTable, rela_in, reloc_table};
 use crate::tables::Tables;
 use crate::walk::{Walk, walk_over};
 use elf_records::relocation::width_of;
+use object_rules::{FaultKind, ObjectFault, fault_at};
 use std::alloc::Global;
 
 /// Marks the bytes from `from` to `to`, and says whether one of them had the mark already.

@@ -1,7 +1,7 @@
 //! What may be wrong with the relocations of one section: one test for each kind of fault.
 
 ghost use Rattle.std.specs.Prelude.{◌≡◌, ◌≢◌, ◌+◌, ◌*◌, ◌<◌, ◌≤◌, ◌↔◌, ℕ, IsTrue, MatchOption, length};
-ghost use Rattle.object_faults.specs.declared.fault.FaultKind.TheVariants.{RelocSymbol, RelocKind, RelocRange};
+ghost use Rattle.object_rules.specs.declared.fault.FaultKind.TheVariants.{RelocSymbol, RelocKind, RelocRange};
 ghost use Rattle.elf_records.specs.Records.{rela_kind, rela_symbol};
 ghost use Rattle.object_faults.specs.Parts.{IsSection, rela as entry_of, section as section_header, symbol_count};
 ghost use Rattle.object_faults.specs.Classes.{kept_class};

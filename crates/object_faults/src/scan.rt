@@ -2,16 +2,15 @@
 
 ghost use Rattle.std.specs.Prelude.{◌<◌, ◌↔◌, IsTrue};
 ghost use Rattle.object_faults.specs.Parts.{IsSection};
-ghost use Rattle.object_faults.specs.Kinds.{of_section, of_symbol, of_reloc};
+ghost use Rattle.object_rules.specs.Kinds.{of_section, of_symbol, of_reloc};
 ghost use Rattle.object_faults.specs.Tables.{AreRelocs};
 ghost use Rattle.object_faults.specs.Faults.{Stands, number, NoneBelow, Answers, IsFirstAt, IsSymbol};
 
-use crate::fault::{ObjectFault, fault_at};
-use crate::kinds::{RelocFault, SectionFault, SymbolFault};
 use crate::reloc_tests::{RelocTable, reloc_kind, reloc_range, reloc_symbol, reloc_table};
 use crate::section_tests::{section_align, section_kind, section_name, too_large};
 use crate::symbol_tests::{symbol_kind, symbol_name, symbol_range, symbol_section};
 use crate::tables::Tables;
+use object_rules::{ObjectFault, RelocFault, SectionFault, SymbolFault, fault_at};
 
 /// Whether a kind of fault of sections stands at a section.
 fn section_stands(fault: SectionFault, tables: &Tables, section: u64) -> bool

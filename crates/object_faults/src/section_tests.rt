@@ -1,8 +1,8 @@
 //! What may be wrong with one section: one test for each kind of fault.
 
 ghost use Rattle.std.specs.Prelude.{◌<◌, ◌↔◌, IsTrue};
-ghost use Rattle.object_faults.specs.declared.fault.FaultKind.TheVariants.{SectionName, SectionKind, SectionAlign};
-ghost use Rattle.object_faults.specs.declared.fault.FaultKind.TheVariants.{TooLarge};
+ghost use Rattle.object_rules.specs.declared.fault.FaultKind.TheVariants.{SectionName, SectionKind, SectionAlign};
+ghost use Rattle.object_rules.specs.declared.fault.FaultKind.TheVariants.{TooLarge};
 ghost use Rattle.object_faults.specs.Parts.{IsSection, IsStrings};
 ghost use Rattle.object_faults.specs.Names.{Ends};
 ghost use Rattle.object_faults.specs.Faults.{Stands, IsRefused};

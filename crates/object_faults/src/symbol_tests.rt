@@ -1,8 +1,8 @@
 //! What may be wrong with one symbol: one test for each kind of fault.
 
 ghost use Rattle.std.specs.Prelude.{◌≡◌, ◌<◌, ◌↔◌, IsTrue};
-ghost use Rattle.object_faults.specs.declared.fault.FaultKind.TheVariants.{SymbolTable, SymbolName, SymbolSection};
-ghost use Rattle.object_faults.specs.declared.fault.FaultKind.TheVariants.{SymbolRange, SymbolKind};
+ghost use Rattle.object_rules.specs.declared.fault.FaultKind.TheVariants.{SymbolTable, SymbolName, SymbolSection};
+ghost use Rattle.object_rules.specs.declared.fault.FaultKind.TheVariants.{SymbolRange, SymbolKind};
 ghost use Rattle.object_faults.specs.Parts.{IsSection, IsStrings};
 ghost use Rattle.object_faults.specs.Classes.{IsTls};
 ghost use Rattle.object_faults.specs.Names.{Ends};

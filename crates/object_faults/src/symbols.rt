@@ -1,15 +1,15 @@
 //! The symbol table: where it lies, and what may be wrong with it as a whole.
 
 ghost use Rattle.std.specs.Prelude.{◌<◌, ◌↔◌, IsTrue};
-ghost use Rattle.object_faults.specs.declared.fault.FaultKind.TheVariants.{SymbolTable};
+ghost use Rattle.object_rules.specs.declared.fault.FaultKind.TheVariants.{SymbolTable};
 ghost use Rattle.object_faults.specs.Parts.{IsTable, IsStrings};
 ghost use Rattle.object_faults.specs.Faults.{Stands, IsBadTable, IsFirstAt, NoneBelow, Answers};
 
-use crate::fault::{FaultKind, ObjectFault, fault_at};
 use crate::symbol_tests::symbol_order;
 use crate::tables::Tables;
 use elf_records::SymbolEntry;
 use elf_records::section_header::{SHT_STRTAB, SHT_SYMTAB};
+use object_rules::{FaultKind, ObjectFault, fault_at};
 
 /// The symbol table of an object, if it has one.
 #[derive(Clone, Copy)]

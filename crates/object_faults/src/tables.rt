@@ -10,12 +10,12 @@ ghost use Rattle.object_faults.specs.Tables.{AreSymbols};
 ghost use Rattle.object_faults.specs.Faults.{IsFault, IsFirstAt, HasPartPastEnd, Answers};
 
 use crate::class::kept_class;
-use crate::fault::{FaultKind, ObjectFault, fault_at};
 use crate::headers::{Headers, headers_of, lies_in};
 use crate::symbols::Symbols;
 use elf_records::section_header::{SHT_STRTAB, SHT_SYMTAB, has_bytes};
 use elf_records::strings::names_end;
 use elf_records::{SectionHeader, SymbolEntry, section_numbered, symbol_numbered};
+use object_rules::{FaultKind, ObjectFault, fault_at};
 
 /// The sections of an object: the table of headers and the bytes of each section lie in the file.
 #[derive(Clone, Copy)]

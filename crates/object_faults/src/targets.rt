@@ -1,16 +1,16 @@
 //! Which section holds the relocations of which.
 
 ghost use Rattle.std.specs.Prelude.{◌≡◌, ◌+◌, ◌<◌, ◌↔◌, ℕ, length, slice_index, IsTrue, IfOk, IfNone};
-ghost use Rattle.object_faults.specs.declared.fault.FaultKind.TheVariants.{RelocTarget};
+ghost use Rattle.object_rules.specs.declared.fault.FaultKind.TheVariants.{RelocTarget};
 ghost use Rattle.object_faults.specs.Parts.{section as section_header, IsSection, IsTable};
 ghost use Rattle.object_faults.specs.Tables.{AreTargets, AreTargetsBelow};
 ghost use Rattle.object_faults.specs.Faults.{Stands, IsFirstAt, IsSecond, NoneBelow, Answers};
 
 use crate::class::kept_class;
-use crate::fault::{FaultKind, ObjectFault, fault_at};
 use crate::tables::Tables;
 use elf_records::Rela;
 use elf_records::section_header::{SHT_NOBITS, SHT_RELA, SHT_SYMTAB};
+use object_rules::{FaultKind, ObjectFault, fault_at};
 use std::alloc::Global;
 
 /// Whether the section holds symbols.

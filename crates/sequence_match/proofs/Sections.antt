@@ -6,7 +6,7 @@ use Rattle.std.specs.List.{slice_get}
 use Rattle.std.proofs.lemmas.Option.{same_Some}
 use Rattle.std.proofs.lemmas.Bool.Decides.{nat_tests}
 use Rattle.object_faults.specs.declared.class.SectionClass.{SectionClass}
-use Rattle.object_faults.specs.declared.fault.FaultKind.TheVariants.{RelocOverlap}
+use Rattle.object_rules.specs.declared.fault.FaultKind.TheVariants.{RelocOverlap}
 use Rattle.elf_records.specs.Records.{rela_kind}
 use Rattle.elf_object.specs.declared.relocation.Relocation.{Relocation}
 use Rattle.elf_records.specs.declared.relocation.RelocationKind.{RelocationKind}

@@ -1,7 +1,7 @@
 -- From what is found in the sections to what is found in the object.
 use Rattle.std.proofs.Common.{◌≡◌, ◌<◌, ◌≤◌, ◌⊎◌, ℕ, List, Option, Some, None, refl, sym, ap, subst, inl, inr, arith}
-use Rattle.object_faults.specs.declared.fault.FaultKind.{FaultKind}
-use Rattle.object_faults.specs.declared.fault.FaultKind.TheVariants.{Sequence, StrayCall}
+use Rattle.object_rules.specs.declared.fault.FaultKind.{FaultKind}
+use Rattle.object_rules.specs.declared.fault.FaultKind.TheVariants.{Sequence, StrayCall}
 use Rattle.elf_object.specs.declared.relocation.Relocation.{Relocation}
 use Rattle.elf_object.specs.Faults.{number, Earlier, IsFirstAt}
 use Rattle.elf_object.specs.Laws.{table_of_kept}

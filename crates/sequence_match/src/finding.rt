@@ -4,8 +4,8 @@
 ghost use Rattle.std.specs.Prelude.{◌≡◌, ◌↔◌, ◌+◌, ◌<◌, ◌≤◌, ◌^◌, ℕ, IsTrue, IfOk, IfErr, OnOk, length};
 ghost use Rattle.std.specs.List.{list_any};
 ghost use Rattle.std.specs.List.Sorted.{IsNonDecreasingBy, IsPermutation};
-ghost use Rattle.object_faults.specs.declared.fault.FaultKind.TheVariants.{Sequence, StrayCall};
-ghost use Rattle.object_faults.specs.declared.fault.ObjectFault.TheVariants.{At};
+ghost use Rattle.object_rules.specs.declared.fault.FaultKind.TheVariants.{Sequence, StrayCall};
+ghost use Rattle.object_rules.specs.declared.fault.ObjectFault.TheVariants.{At};
 ghost use Rattle.elf_object.specs.Faults.{Earlier, IsFirstAt, IsObject};
 ghost use Rattle.elf_object.specs.Lent.{relocations as relocations_in_file};
 ghost use Rattle.sequence_match.specs.Code.{IsReady, Names};

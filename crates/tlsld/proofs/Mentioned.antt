@@ -9,8 +9,8 @@ use Rattle.job_link.specs.Given.{Given, AreGiven, IsFileFault, IsFirstFaulty, Is
 use Rattle.job_link.specs.Mentions.{AreFilesOf, Fetched, bytes_at, bytes_in, mentioned, mentions_of, object_names, once}
 use Rattle.job_text.specs.declared.images.Image.{Image}
 use Rattle.job_text.specs.Jobs.{JobParts}
-use Rattle.object_faults.specs.declared.fault.FaultKind.{FaultKind}
-use Rattle.object_faults.specs.declared.fault.ObjectFault.TheVariants.{At}
+use Rattle.object_rules.specs.declared.fault.FaultKind.{FaultKind}
+use Rattle.object_rules.specs.declared.fault.ObjectFault.TheVariants.{At}
 use Rattle.ports.specs.Files.{Files}
 use Rattle.tlsld.proofs.Membership.{In, in_at, at_in, in_contains, in_filter, in_filter_map, in_flat, map_same}
 

@@ -17,7 +17,7 @@ use Rattle.link_core.specs.Images.{choices_from, image_of}
 use Rattle.link_core.specs.Linking.{Linking}
 use Rattle.link_faults.specs.declared.fault.LinkFaultKind.{LinkFaultKind}
 use Rattle.link_faults.specs.FaultNames.{kind_name}
-use Rattle.object_faults.specs.declared.fault.FaultKind.{FaultKind}
+use Rattle.object_rules.specs.declared.fault.FaultKind.{FaultKind}
 use Rattle.ports.specs.Files.{Files, file_at, with_file}
 use Rattle.tlsld.specs.Says.{HasFile, Is, JobFaultSays, fault_text, job_fault_text}
 use Rattle.tlsld.specs.Wishes.{image_lines, objects_of}

@@ -1,7 +1,7 @@
 -- What commands say, a status and a text: the texts of `run JOB` and of refusals.
 use Rattle.std.specs.Prelude.{◌≡◌, ℕ, List, [], ◌∷◌, ◌++◌, codes, Option, Some, None}
 use Rattle.std.specs.Fmt.{decimal}
-use Rattle.object_faults.specs.declared.fault.FaultKind.{FaultKind}
+use Rattle.object_rules.specs.declared.fault.FaultKind.{FaultKind}
 use Rattle.elf_object.specs.FaultNames.{kind_name}
 use Rattle.job_text.specs.declared.fault.JobFault.{JobFault}
 use Rattle.job_text.specs.declared.fault.JobFault.TheVariants.{OutOfMemory, At}

@@ -1,5 +1,5 @@
 use Rattle.std.proofs.Common.{arith}
-use Rattle.object_faults.specs.declared.fault.FaultKind.TheVariants.{RelocOverlap}
+use Rattle.object_rules.specs.declared.fault.FaultKind.TheVariants.{RelocOverlap}
 use Rattle.object_faults.proofs.Order.{none_more}
 use Rattle.object_faults.proofs.Overlaps.{at_overlap}
 use Rattle.object_faults.proofs.overlap.ask_marked.Goals as goal

@@ -1,5 +1,5 @@
 use Rattle.std.proofs.Common.{ℕ, subst, arith}
-use Rattle.object_faults.specs.declared.fault.FaultKind.TheVariants.{RelocOverlap}
+use Rattle.object_rules.specs.declared.fault.FaultKind.TheVariants.{RelocOverlap}
 use Rattle.object_faults.specs.Walks.{HasRoomToMark}
 use Rattle.object_faults.proofs.Order.{none_more}
 use Rattle.object_faults.proofs.Walks.{none_to_mark}

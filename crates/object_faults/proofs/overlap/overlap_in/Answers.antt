@@ -1,5 +1,5 @@
 use Rattle.std.proofs.Common.{◌≡◌, ℕ, slice_index, below_more, arith}
-use Rattle.object_faults.specs.declared.fault.FaultKind.TheVariants.{RelocOverlap}
+use Rattle.object_rules.specs.declared.fault.FaultKind.TheVariants.{RelocOverlap}
 use Rattle.object_faults.specs.Relocations.{Covers, IsReloc}
 use Rattle.object_faults.specs.Faults.{Stands}
 use Rattle.object_faults.proofs.Overlaps.{overlap_found, overlap_none, marked_more, marks_below, at_overlap}

@@ -1,6 +1,6 @@
 use Rattle.std.proofs.Common.{ℕ, below_more, arith}
 use Rattle.object_faults.specs.Faults.{Stands}
-use Rattle.object_faults.specs.Kinds.{of_reloc}
+use Rattle.object_rules.specs.Kinds.{of_reloc}
 use Rattle.object_faults.proofs.Order.{at_reloc, none_more, first_of}
 use Rattle.object_faults.proofs.scan.ask_relocs.Goals as goal
 

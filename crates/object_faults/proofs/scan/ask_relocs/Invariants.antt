@@ -1,6 +1,6 @@
 use Rattle.std.proofs.Common.{◌<◌, ℕ}
 use Rattle.object_faults.specs.Faults.{Stands}
-use Rattle.object_faults.specs.Kinds.{of_reloc}
+use Rattle.object_rules.specs.Kinds.{of_reloc}
 use Rattle.object_faults.proofs.scan.ask_relocs.Given as goal
 
 abbrev pub invariant-loop-section : goal.invariant-loop-section

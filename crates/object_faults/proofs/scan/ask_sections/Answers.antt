@@ -1,6 +1,6 @@
 use Rattle.std.proofs.Common.{ℕ, below_more, subst, arith}
 use Rattle.object_faults.specs.Faults.{Stands}
-use Rattle.object_faults.specs.Kinds.{of_section}
+use Rattle.object_rules.specs.Kinds.{of_section}
 use Rattle.object_faults.proofs.Order.{in_section, none_more, first_of}
 use Rattle.object_faults.proofs.scan.ask_sections.Goals as goal
 

@@ -1,6 +1,6 @@
 use Rattle.std.proofs.Common.{◌∙◌, ℕ, sym, subst, arith}
 use Rattle.object_faults.specs.Faults.{Stands}
-use Rattle.object_faults.specs.Kinds.{of_symbol}
+use Rattle.object_rules.specs.Kinds.{of_symbol}
 use Rattle.object_faults.proofs.Order.{at_symbol, none_more, first_of}
 use Rattle.object_faults.proofs.scan.ask_symbols.Goals as goal
 

@@ -1,5 +1,5 @@
 use Rattle.std.proofs.Common.{◌∙◌, sym, arith}
-use Rattle.object_faults.specs.declared.fault.FaultKind.TheVariants.{SymbolTable}
+use Rattle.object_rules.specs.declared.fault.FaultKind.TheVariants.{SymbolTable}
 use Rattle.object_faults.specs.Faults.{IsBadTable}
 use Rattle.object_faults.proofs.Order.{none_more}
 use Rattle.object_faults.proofs.SymbolTables.{no_table, is_table_of, bad_table, bad_symbol, second_table, tables_fine}

@@ -1,5 +1,5 @@
 use Rattle.std.proofs.Common.{◌<◌, ℕ}
-use Rattle.object_faults.specs.declared.fault.FaultKind.TheVariants.{SymbolTable}
+use Rattle.object_rules.specs.declared.fault.FaultKind.TheVariants.{SymbolTable}
 use Rattle.object_faults.specs.Faults.{Stands}
 use Rattle.object_faults.proofs.symbols.first_misplaced.Given as goal
 

@@ -1,5 +1,5 @@
 use Rattle.std.proofs.Common.{ℕ, subst, arith}
-use Rattle.object_faults.specs.declared.fault.FaultKind.TheVariants.{RelocTarget}
+use Rattle.object_rules.specs.declared.fault.FaultKind.TheVariants.{RelocTarget}
 use Rattle.object_faults.specs.Faults.{Stands}
 use Rattle.object_faults.proofs.Order.{at_target, none_more, first_of}
 use Rattle.object_faults.proofs.targets.ask_targets.Goals as goal

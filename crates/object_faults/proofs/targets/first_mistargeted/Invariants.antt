@@ -1,5 +1,5 @@
 use Rattle.std.proofs.Common.{◌<◌, ℕ}
-use Rattle.object_faults.specs.declared.fault.FaultKind.TheVariants.{RelocTarget}
+use Rattle.object_rules.specs.declared.fault.FaultKind.TheVariants.{RelocTarget}
 use Rattle.object_faults.specs.Tables.{AreTargetsBelow}
 use Rattle.object_faults.specs.Faults.{Stands}
 use Rattle.object_faults.proofs.targets.first_mistargeted.Given as goal

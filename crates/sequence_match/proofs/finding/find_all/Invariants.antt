@@ -1,4 +1,4 @@
-use Rattle.object_faults.specs.declared.fault.FaultKind.TheVariants.{Sequence, StrayCall}
+use Rattle.object_rules.specs.declared.fault.FaultKind.TheVariants.{Sequence, StrayCall}
 use Rattle.sequence_match.specs.Finding.{AreSitesFrom, IsFirstBelow}
 use Rattle.sequence_match.proofs.finding.find_all.Given as goal
 

@@ -1,6 +1,6 @@
 use Rattle.std.proofs.Common.{sym, subst}
-use Rattle.object_faults.specs.declared.fault.FaultKind.TheVariants.{Sequence, StrayCall}
-use Rattle.object_faults.specs.declared.fault.ObjectFault.{ObjectFault}
+use Rattle.object_rules.specs.declared.fault.FaultKind.TheVariants.{Sequence, StrayCall}
+use Rattle.object_rules.specs.declared.fault.ObjectFault.{ObjectFault}
 use Rattle.sequence_match.specs.Faults.{IsFault}
 use Rattle.sequence_match.proofs.Surveys.{first_at, loose_fault, nowhere_of, stray_fault}
 use Rattle.sequence_match.proofs.finding.sites.Goals as goal

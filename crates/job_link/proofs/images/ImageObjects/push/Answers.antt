@@ -1,5 +1,5 @@
 use Rattle.std.proofs.Common.{List, ℕ, subst}
-use Rattle.object_faults.specs.declared.fault.FaultKind.TheVariants.{Sequence, StrayCall}
+use Rattle.object_rules.specs.declared.fault.FaultKind.TheVariants.{Sequence, StrayCall}
 use Rattle.sequence_match.specs.Faults.{Nowhere}
 use Rattle.job_link.proofs.images.ImageObjects.push.Goals as goal
 

@@ -1,8 +1,8 @@
 //! What may be wrong with an object, and where.
 
 ghost use Rattle.std.specs.Prelude.{◌≡◌, Some, codes};
-ghost use Rattle.object_faults.specs.declared.fault.ObjectFault.TheVariants.{OutOfMemory, At};
-ghost use Rattle.object_faults.specs.FaultNames.{kind_name};
+ghost use Rattle.object_rules.specs.declared.fault.ObjectFault.TheVariants.{OutOfMemory, At};
+ghost use Rattle.object_rules.specs.FaultNames.{kind_name};
 
 use std::alloc::AllocError;
 use std::fmt;

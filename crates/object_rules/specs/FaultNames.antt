@@ -1,12 +1,12 @@
 -- The kinds of fault as they are printed.
 use Rattle.std.specs.Prelude.{ℕ, List, codes}
-use Rattle.object_faults.specs.declared.fault.FaultKind.{FaultKind}
-use Rattle.object_faults.specs.declared.fault.FaultKind.TheVariants.{Truncated, NotElf, NotRelocatable, SectionName}
-use Rattle.object_faults.specs.declared.fault.FaultKind.TheVariants.{SectionKind, SectionAlign, TooLarge, SymbolTable}
-use Rattle.object_faults.specs.declared.fault.FaultKind.TheVariants.{SymbolName, SymbolSection, SymbolRange}
-use Rattle.object_faults.specs.declared.fault.FaultKind.TheVariants.{SymbolKind, RelocTarget, RelocSymbol, RelocKind}
-use Rattle.object_faults.specs.declared.fault.FaultKind.TheVariants.{RelocRange, RelocOverlap, Sequence, StrayCall}
-use Rattle.object_faults.specs.declared.fault.FaultKind.TheVariants.{WritableData}
+use Rattle.object_rules.specs.declared.fault.FaultKind.{FaultKind}
+use Rattle.object_rules.specs.declared.fault.FaultKind.TheVariants.{Truncated, NotElf, NotRelocatable, SectionName}
+use Rattle.object_rules.specs.declared.fault.FaultKind.TheVariants.{SectionKind, SectionAlign, TooLarge, SymbolTable}
+use Rattle.object_rules.specs.declared.fault.FaultKind.TheVariants.{SymbolName, SymbolSection, SymbolRange}
+use Rattle.object_rules.specs.declared.fault.FaultKind.TheVariants.{SymbolKind, RelocTarget, RelocSymbol, RelocKind}
+use Rattle.object_rules.specs.declared.fault.FaultKind.TheVariants.{RelocRange, RelocOverlap, Sequence, StrayCall}
+use Rattle.object_rules.specs.declared.fault.FaultKind.TheVariants.{WritableData}
 
 abbrev pub kind_name : FaultKind → List ℕ
 kind_name Truncated = codes "Truncated"

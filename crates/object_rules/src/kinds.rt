@@ -1,7 +1,7 @@
 //! The kinds of fault that are asked alike, by what they stand at.
 
 ghost use Rattle.std.specs.Prelude.{◌≡◌};
-ghost use Rattle.object_faults.specs.Kinds.{of_section, of_symbol, of_reloc};
+ghost use Rattle.object_rules.specs.Kinds.{of_section, of_symbol, of_reloc};
 
 use crate::fault::FaultKind;
 
