@@ -11,12 +11,13 @@ use elf_object::Object;
 use elf_records::Rela;
 use elf_records::relocation::R_X86_64_TPOFF32;
 use elf_records::symbol::{STT_NOTYPE, STT_TLS};
+use link_faults::Binding;
 use object_builder::{Section, Symbol, object_of, rela};
 use std::alloc::{AllocError, Global};
 use std::rt::Clock;
 use std::time::{Duration, Instant};
 use std::{env, io};
-use tls_symbols::{Binding, Bindings, resolve};
+use tls_symbols::{Bindings, resolve};
 
 /// How many variables an object defines, and how many it uses.
 const VARIABLES: u32 = 100;

@@ -6,11 +6,11 @@ ghost use Rattle.tls_symbols.specs.Bindings.{object_at};
 use elf_object::Object;
 use elf_records::Rela;
 use elf_records::symbol::STT_NOTYPE;
-use link_faults::LinkFault;
+use link_faults::{Binding, LinkFault};
 use object_builder::{Section, Symbol, object_of, rela};
 use std::alloc::{AllocError, Global};
 use std::test::Fail;
-use tls_symbols::{Binding, Bindings, Exports, exports, resolve};
+use tls_symbols::{Bindings, Exports, exports, resolve};
 
 /// The section of each object's code. Section 1 holds its variables, section 3 the code's relocations, where there are
 /// any, and the symbols come behind that.

@@ -1,10 +1,9 @@
 //! Which sites are kept.
 
 use crate::sites::{HERE, STARTUP};
-use link_faults::ImageKind;
+use link_faults::{Binding, ImageKind};
 use relax_sites::{Choice, choice, new_field, rewrite};
 use sequence_match::{Form, Site};
-use tls_symbols::Binding;
 
 const FORMS: [Form; 8] = [
     Form::Gd,

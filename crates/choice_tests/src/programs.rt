@@ -5,12 +5,12 @@
 //! in the GOT at 0x401000.
 
 use crate::sites::{Case, HERE, STARTUP, bytes, relink};
+use link_faults::Binding;
 use relax_sites::Choice;
 use sequence_match::Form;
 use std::alloc::Global;
 use std::process::Abort;
 use std::test::Fail;
-use tls_symbols::Binding;
 
 const CODE: u64 = 0x40_0000;
 

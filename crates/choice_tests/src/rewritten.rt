@@ -6,12 +6,12 @@
 //! the thread pointer, in digits f0 ff ff ff; or of a variable of a module.
 
 use crate::sites::{Case, HERE, STARTUP, bytes, relink};
+use link_faults::Binding;
 use relax_sites::Choice;
 use sequence_match::Form;
 use std::alloc::Global;
 use std::process::Abort;
 use std::test::Fail;
-use tls_symbols::Binding;
 
 /// The bytes around a site, which stay.
 const AROUND: &[u8] = &[0x0f, 0x0b, 0x0f];

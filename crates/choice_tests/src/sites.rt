@@ -1,13 +1,12 @@
 //! What a linker does at one site.
 
 use elf_object::RelocationKind;
-use link_faults::ImageKind;
+use link_faults::{Binding, ImageKind, SymbolRef};
 use relax_sites::{Choice, choice, new_field, rewrite};
 use sequence_match::{Form, Site};
 use std::alloc::Global;
 use std::process::Abort;
 use std::test::Fail;
-use tls_symbols::{Binding, SymbolRef};
 
 /// A variable of the program itself.
 pub(super) const HERE: Binding = Binding::Here(SymbolRef {

@@ -1,23 +1,23 @@
 -- Names that are added one by one, and the list that they come to.
-use Rattle.std.proofs.Common.{◌≡◌, ◌+◌, ◌-◌, ◌<◌, ◌≤◌, ◌∙◌, ◌&&◌, ◌||◌, ℕ, suc, Bool, true, false, not, cond, List}
-use Rattle.std.proofs.Common.{[], ◌∷◌, ◌++◌, Some, None, drop, filter, map, refl, sym, ap, Bor, append_assoc, append-nil, length, arith}
+use Rattle.std.proofs.Common.{◌≡◌, ◌+◌, ◌-◌, ◌<◌, ◌≤◌, ◌∙◌, ◌&&◌, ◌||◌, ℕ, Bool, true, false, not, cond, List}
+use Rattle.std.proofs.Common.{[], ◌∷◌, ◌++◌, Some, None, drop, filter, map, refl, sym, ap, Bor, append_assoc, append-nil, length}
 use Rattle.std.specs.Global.{Vec}
 use Rattle.std.specs.Prelude.{if◌then◌else◌, slice_index_or}
 use Rattle.std.specs.List.{cons_option, filter_map, flat_map, list_any, range_with_len}
 use Rattle.std.specs.Str.{bytes_eq}
 use Rattle.std.proofs.Math.ListN.{drop_of_length-le}
-use Rattle.std.proofs.Math.Seq.{drop-cons}
-use Rattle.std.proofs.lemmas.List.{get_or-map, get_or_default, map-append}
+use Rattle.std.proofs.lemmas.List.{get_or_default, map-append}
 use Rattle.std.proofs.lemmas.List.Folds.{list_any-append}
 use Rattle.std.proofs.lemmas.Slice.Eq.{bytes_eq-Decides}
 use Rattle.indexmap.specs.IndexSet.{insert_key}
 use Rattle.elf_object.specs.Lent.{symbol_name}
 use Rattle.elf_object.specs.Parts.{symbol_count}
-use Rattle.sequence_match.specs.declared.places.Site.{Site}
-use Rattle.tls_symbols.specs.declared.symbols.SymbolRef.{SymbolRef}
+use Rattle.sequence_forms.specs.declared.places.Site.{Site}
+use Rattle.link_faults.specs.declared.symbol_ref.SymbolRef.{SymbolRef}
 use Rattle.tls_symbols.specs.Bindings.{object_at}
 use Rattle.tls_symbols.specs.Definitions.{definition_of}
 use Rattle.tls_symbols.proofs.Search.{range_first}
+use Rattle.sequence_match.proofs.OwnSites.{drop_at}
 use Rattle.dynamic_symbols.specs.Names.{defined_at, distinct, imported_at, imported_from, imported_in, is_definition, is_import}
 use Rattle.dynamic_symbols.specs.Walks.{with_name, with_names}
 
@@ -147,15 +147,7 @@ module _ {X : Type 0} (f : X → List (List ℕ)) (seen : List (List ℕ)) (x : 
   pub walk_none : f x ≡ [] → with_names seen (flat_map f (drop (i + 1) xs)) ≡ with_names seen (flat_map f (drop i xs))
   walk_none none = ap (λ ys. with_names (with_names seen ys) (flat_map f (drop (i + 1) xs))) (sym none) ∙ walk
 
--- what is left of a list from a place on, and behind its end
-pub drop_here : {X : Type 0} (xs : List X) (i : ℕ) (x : X) → x ≡ slice_index_or xs i x → i < length xs → drop i xs ≡ x ∷ drop (i + 1) xs
-drop_here xs i x is below =
-    let next : suc i ≡ i + 1 = omega arith in
-    drop-cons xs i x below ∙ ap (λ y. y ∷ drop (suc i) xs) (sym is) ∙ ap (λ m. x ∷ drop m xs) next
-
-pub drop_at : {X : Type 0} (xs : List X) (i : ℕ) (d : X) → i < length xs → drop i xs ≡ slice_index_or xs i d ∷ drop (i + 1) xs
-drop_at xs i d below = drop_here xs i (slice_index_or xs i d) (get_or_default xs i d (slice_index_or xs i d) below) below
-
+-- what is left of a list behind its end
 pub ended : {X : Type 0} (f : X → List (List ℕ)) (seen : List (List ℕ)) (xs : List X) (i : ℕ) → length xs ≤ i → seen ≡ with_names seen (flat_map f (drop i xs))
 ended f seen xs i past = sym (ap (λ ys. with_names seen (flat_map f ys)) (drop_of_length-le xs past))
 
@@ -172,9 +164,6 @@ module _ (objects : List (List ℕ)) (startup : List (List (List ℕ))) (seen : 
   ended_from past = sym (ap (λ vs. with_names seen (imported_from objects startup i (map (λ v. v.items) vs))) (drop_of_length-le sites past))
 
 -- ** what is read at a place
-
-pub own_sites : (sites : List (Vec Site)) (i : ℕ) (own : Vec Site) → own ≡ slice_index_or sites i own → i < length sites → slice_index_or (map (λ v. v.items) sites) i [] ≡ own.items
-own_sites sites i own is below = get_or-map (λ v. v.items) sites i own [] below ∙ ap (λ v. v.items) (sym is)
 
 pub object_is : (objects : List (List ℕ)) (i : ℕ) (b : List ℕ) → b ≡ slice_index_or objects i b → i < length objects → object_at objects i ≡ b
 object_is objects i b is below = get_or_default objects i [] b below ∙ sym is

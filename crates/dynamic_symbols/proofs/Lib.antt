@@ -2,5 +2,4 @@ pub mod Adding
 pub mod Foreign
 pub mod Lists
 pub mod Named
-pub mod OfSites
 pub mod Sums

@@ -10,7 +10,7 @@ use Rattle.elf_object.specs.declared.symbol.SymbolBinding.{SymbolBinding}
 use Rattle.elf_object.specs.declared.symbol.SymbolBinding.TheVariants.{Local, Global, Weak}
 use Rattle.elf_object.specs.Lent.{symbol_binding, symbol_name, symbol_place}
 use Rattle.elf_object.specs.Parts.{symbol_count}
-use Rattle.tls_symbols.specs.declared.symbols.SymbolRef.{SymbolRef}
+use Rattle.link_faults.specs.declared.symbol_ref.SymbolRef.{SymbolRef}
 use Rattle.tls_symbols.specs.Bindings.{object_at}
 use Rattle.tls_symbols.specs.Definitions.{defines, definition_of, first_from, first_in, found_or, is_defined, or_weak, same_binding, IsWithin}
 use Rattle.tls_symbols.proofs.Within.{Dropped, dropped_is, find_found, find_nothing}

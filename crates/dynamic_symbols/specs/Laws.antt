@@ -5,13 +5,13 @@ use Rattle.elf_object.specs.declared.relocation.Relocation.{Relocation}
 use Rattle.elf_object.specs.declared.symbol.SymbolBinding.TheVariants.{Local}
 use Rattle.elf_object.specs.Faults.{IsObject}
 use Rattle.elf_object.specs.Lent.{symbol_binding, symbol_place}
-use Rattle.sequence_match.specs.declared.places.Site.{Site}
+use Rattle.sequence_forms.specs.declared.places.Site.{Site}
 use Rattle.sequence_match.specs.Faults.{AreSites}
-use Rattle.tls_symbols.specs.declared.symbols.SymbolRef.{SymbolRef}
+use Rattle.link_faults.specs.declared.symbol_ref.SymbolRef.{SymbolRef}
 use Rattle.tls_symbols.specs.Bindings.{binding_of, get_address, object_at}
 use Rattle.tls_symbols.specs.Definitions.{definition_of, is_defined, same_binding, IsWithin}
 use Rattle.dynamic_symbols.specs.Names.{defined_names, defined_symbols, imports, name_of}
-use Rattle.dynamic_symbols.specs.Walks.{HaveSymbols}
+use Rattle.sequence_match.specs.Sites.{HaveSymbols}
 
 -- the symbol is one of the image's, and defines a name for all objects
 pub record IsShared (objects : List (List ℕ)) (found : SymbolRef) : Type 0 where

@@ -1,18 +1,17 @@
 -- Which symbols the dynamic symbol table of an image has, and in which order (gABI, "Symbol Table" and "Dynamic
 -- Section"; the order is this project's own).
-use Rattle.std.specs.Prelude.{◌+◌, ◌-◌, ◌&&◌, ◌++◌, ℕ, Bool, true, false, not, pos, List, [], ◌∷◌, Option, Some}
+use Rattle.std.specs.Prelude.{◌+◌, ◌-◌, ◌&&◌, ◌++◌, ℕ, Bool, true, false, not, List, [], ◌∷◌, Option, Some}
 use Rattle.std.specs.Prelude.{filter, length, sum_by, if◌then◌else◌}
 use Rattle.std.specs.List.{filter_map, flat_map, range_with_len}
 use Rattle.std.specs.Str.{bytes_eq}
-use Rattle.elf_object.specs.declared.relocation.Relocation.{Relocation}
 use Rattle.elf_object.specs.declared.symbol.SymbolBinding.TheVariants.{Local}
 use Rattle.elf_object.specs.Lent.{symbol_binding, symbol_name, symbol_place}
 use Rattle.elf_object.specs.Parts.{symbol_count}
-use Rattle.sequence_match.specs.declared.places.Site.{Site}
-use Rattle.sequence_match.specs.Forms.{row}
-use Rattle.tls_symbols.specs.declared.binding.Binding.{Binding}
-use Rattle.tls_symbols.specs.declared.binding.Binding.TheVariants.{Startup}
-use Rattle.tls_symbols.specs.declared.symbols.SymbolRef.{SymbolRef}
+use Rattle.sequence_forms.specs.declared.places.Site.{Site}
+use Rattle.sequence_match.specs.Sites.{first_of}
+use Rattle.link_faults.specs.declared.binding.Binding.{Binding}
+use Rattle.link_faults.specs.declared.binding.Binding.TheVariants.{Startup}
+use Rattle.link_faults.specs.declared.symbol_ref.SymbolRef.{SymbolRef}
 use Rattle.tls_symbols.specs.Bindings.{binding_of, object_at}
 use Rattle.tls_symbols.specs.Definitions.{definition_of, is_defined, same_binding}
 
@@ -44,10 +43,6 @@ unfoldable pub defined_symbols : List (List ℕ) → List SymbolRef
 defined_symbols objects = filter_map (definition_of objects) (defined_names objects)
 
 -- ** what the image imports
-
--- a relocation of the type of a site's first one that names the site's symbol; a binding depends on nothing else of it
-abbrev pub first_of : Site → Relocation
-first_of site = record { offset = 0; kind = (row site.form).first; symbol = site.symbol; addend = pos 0 }
 
 abbrev pub is_startup : Option Binding → Bool
 is_startup (Some (Startup image)) = true

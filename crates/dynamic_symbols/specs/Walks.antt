@@ -1,9 +1,7 @@
--- How the lists of names grow, a name at a time, and what is asked of sites.
-use Rattle.std.specs.Prelude.{◌<◌, ◌++◌, ℕ, List, [], ◌∷◌, if◌then◌else◌}
-use Rattle.std.specs.List.{All, list_any}
+-- How the lists of names grow, a name at a time.
+use Rattle.std.specs.Prelude.{◌++◌, ℕ, List, [], ◌∷◌, if◌then◌else◌}
+use Rattle.std.specs.List.{list_any}
 use Rattle.std.specs.Str.{bytes_eq}
-use Rattle.elf_object.specs.Parts.{symbol_count}
-use Rattle.sequence_match.specs.declared.places.Site.{Site}
 
 -- these names, and one more where it is none of them
 abbrev pub with_name : List (List ℕ) → List ℕ → List (List ℕ)
@@ -13,7 +11,3 @@ with_name names name = if list_any (bytes_eq name) names then names else names +
 abbrev pub with_names : List (List ℕ) → List (List ℕ) → List (List ℕ)
 with_names names [] = names
 with_names names (name ∷ more) = with_names (with_name names name) more
-
--- each site's symbol is one of the object's
-abbrev pub HaveSymbols : List ℕ → List Site → Type 0
-HaveSymbols b sites = All (λ site. site.symbol < symbol_count b) sites

@@ -9,8 +9,9 @@ ghost use Rattle.dynamic_symbols.specs.Walks.{with_names};
 
 use elf_object::{Object, SymbolBinding, SymbolPlace};
 use indexmap::IndexSet;
+use link_faults::SymbolRef;
 use std::alloc::{AllocError, Global};
-use tls_symbols::{Bindings, SymbolRef};
+use tls_symbols::Bindings;
 
 /// Whether a symbol, GLOBAL or WEAK, defines its name.
 fn is_definition(object: &Object, number: u32) -> bool

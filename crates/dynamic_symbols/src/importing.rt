@@ -4,27 +4,16 @@ ghost use Rattle.std.specs.Prelude.{◌≡◌, ◌<◌, ℕ, [], IfOk, OnOk, len
 ghost use Rattle.std.specs.List.{All};
 ghost use Rattle.elf_object.specs.Parts.{symbol_count};
 ghost use Rattle.tls_symbols.specs.Bindings.{object_at};
-ghost use Rattle.dynamic_symbols.specs.Names.{first_of, imported_in, imports, is_import};
-ghost use Rattle.dynamic_symbols.specs.Walks.{HaveSymbols, with_names};
+ghost use Rattle.dynamic_symbols.specs.Names.{imported_in, imports, is_import};
+ghost use Rattle.sequence_match.specs.Sites.{first_of, HaveSymbols};
+ghost use Rattle.dynamic_symbols.specs.Walks.{with_names};
 
-use elf_object::{Object, Relocation};
+use elf_object::Object;
 use indexmap::IndexSet;
-use sequence_match::Site;
+use link_faults::Binding;
+use sequence_match::{Site, first_of};
 use std::alloc::{AllocError, Global};
-use tls_symbols::{Binding, Bindings};
-
-/// A relocation of the type of a site's first one that names the site's symbol. What the symbol is bound to depends on
-/// nothing else of it.
-pub fn first_of(site: &Site) -> Relocation
-    ensures { result ≡ first_of site.now }
-{
-    Relocation {
-        offset: 0,
-        kind: site.form.row().first,
-        symbol: site.symbol,
-        addend: 0,
-    }
-}
+use tls_symbols::Bindings;
 
 /// Whether a startup image defines what a site of an object uses.
 fn is_import(bindings: &Bindings, index: usize, site: &Site) -> bool

@@ -42,5 +42,5 @@ pub mod laws;
 mod sizes;
 
 pub use defining::defined_symbols;
-pub use importing::{first_of, imports};
+pub use importing::imports;
 pub use sizes::{NAME_LIMIT, name_size, names_fit};

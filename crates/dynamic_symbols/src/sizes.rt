@@ -6,7 +6,7 @@ ghost use Rattle.tls_symbols.specs.Definitions.{IsWithin};
 ghost use Rattle.dynamic_symbols.specs.Names.{name_size, size_of};
 
 use elf_object::Object;
-use tls_symbols::SymbolRef;
+use link_faults::SymbolRef;
 
 /// How many bytes a name takes beside its own: an entry of the symbol table, and a zero in the string table.
 const BESIDE: u64 = 25;

@@ -2,7 +2,7 @@
 
 ghost use Rattle.std.specs.Prelude.{◌≡◌, ◌<◌, ℕ, [], IfOk, length, map, slice_index_or};
 ghost use Rattle.tls_symbols.specs.Bindings.{object_at};
-ghost use Rattle.dynamic_symbols.specs.Walks.{HaveSymbols};
+ghost use Rattle.sequence_match.specs.Sites.{HaveSymbols};
 
 use dynamic_symbols::{defined_symbols, imports, name_size};
 use elf_object::{Object, ObjectFault};

@@ -3,7 +3,7 @@ ghost use Rattle.std.specs.Prelude.{◌≡◌};
 ghost use Rattle.got_pairs.specs.Needs.{group_of, size_of};
 
 use crate::name::Name;
-use tls_symbols::SymbolRef;
+use link_faults::SymbolRef;
 
 /// A thread-local variable.
 #[derive(PartialEq, Eq, Hash, Debug, Drop)]

@@ -1,12 +1,11 @@
 //! Needs, entries and tables as the tests write them.
 
 use got_pairs::{DynamicSymbol, Entry, GotPlan, Name, Need, Target, Word, plan};
-use link_faults::ImageKind;
+use link_faults::{ImageKind, SymbolRef};
 use std::alloc::{AllocError, Global};
 use std::process::Abort;
 use std::str;
 use std::test::Fail;
-use tls_symbols::SymbolRef;
 
 /// Compares what a test finds with what it wants.
 pub(crate) fn same(rt: &impl Abort, found: &str, want: &str, at: &str) {

@@ -8,11 +8,11 @@ use Rattle.std.proofs.lemmas.List.{map-append, take_more}
 use Rattle.std.proofs.lemmas.Option.{slice_get-get_or}
 use Rattle.link_core.specs.Faults.{IsLinkFault, Links}
 use Rattle.link_core.specs.Images.{linked_of, LinkedImage}
-use Rattle.link_core.specs.Linking.{link_of, Linking}
+use Rattle.link_needs.specs.Linking.{link_of, Linking}
 use Rattle.link_faults.specs.declared.fault.LinkFault.{LinkFault}
 use Rattle.link_faults.specs.declared.fault.LinkFault.TheVariants as link
 use Rattle.link_faults.specs.declared.image_kind.ImageKind.{ImageKind}
-use Rattle.sequence_match.specs.declared.places.Site.{Site}
+use Rattle.sequence_forms.specs.declared.places.Site.{Site}
 use Rattle.tls_symbols.specs.Bindings.{exported_names}
 use Rattle.job_link.specs.Beside.{link_beside}
 use Rattle.job_link.specs.Given.{Given}

@@ -1,6 +1,6 @@
 -- The link of an image beside startup images.
 use Rattle.std.specs.Prelude.{ℕ, Bool, List}
-use Rattle.link_core.specs.Linking.{Linking}
+use Rattle.link_needs.specs.Linking.{Linking}
 use Rattle.job_link.specs.Given.{Given}
 
 -- that of an image, where the startup images export these names

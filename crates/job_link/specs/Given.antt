@@ -9,7 +9,7 @@ use Rattle.elf_object.specs.Faults.{IsObject, IsFault}
 use Rattle.job_text.specs.declared.images.Image.{Image}
 use Rattle.job_text.specs.Jobs.{JobParts}
 use Rattle.link_faults.specs.declared.image_kind.ImageKind.{ImageKind}
-use Rattle.sequence_match.specs.declared.places.Site.{Site}
+use Rattle.sequence_forms.specs.declared.places.Site.{Site}
 use Rattle.sequence_match.specs.Faults.{AreSites, Nowhere, IsFault as IsSequenceFault}
 use Rattle.job_link.specs.Mentions.{mentions_of}
 

@@ -2,7 +2,7 @@
 use Rattle.std.specs.Prelude.{◌≡◌, ◌<◌, ℕ, Bool, true, false, List, Option, Some, filter, map, slice_get}
 use Rattle.std.specs.List.{All}
 use Rattle.link_core.specs.Faults.{IsLinkFault, Links}
-use Rattle.link_core.specs.Linking.{Linking}
+use Rattle.link_needs.specs.Linking.{Linking}
 use Rattle.link_core.specs.Images.{LinkedImage, linked_of}
 use Rattle.link_faults.specs.declared.fault.LinkFault.TheVariants.{At}
 use Rattle.link_faults.specs.declared.fault.LinkFaultKind.{LinkFaultKind}

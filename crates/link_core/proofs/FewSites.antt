@@ -21,18 +21,18 @@ use Rattle.elf_object.specs.declared.relocation.Relocation.{Relocation}
 use Rattle.elf_object.specs.Lent.{kept_relocation_table, relocations, relocations_in, section_class}
 use Rattle.elf_object.specs.Object.{section_count}
 use Rattle.link_refusals.specs.Counts.{own_count}
-use Rattle.sequence_match.specs.declared.forms.Form.{Form}
-use Rattle.sequence_match.specs.declared.forms.Form.TheVariants.{Gd, Ld, IeMov, IeAdd, GdInd, LdInd, DescLea, DescCall}
-use Rattle.sequence_match.specs.declared.places.Site.{Site}
+use Rattle.sequence_forms.specs.declared.forms.Form.{Form}
+use Rattle.sequence_forms.specs.declared.forms.Form.TheVariants.{Gd, Ld, IeMov, IeAdd, GdInd, LdInd, DescLea, DescCall}
+use Rattle.sequence_forms.specs.declared.places.Site.{Site}
 use Rattle.sequence_match.specs.Faults.{AreSites, Before, IsGetter, IsSite, code_of}
-use Rattle.sequence_match.specs.Forms.{row}
+use Rattle.sequence_forms.specs.Forms.{row}
 use Rattle.sequence_match.specs.Sites.{IsSiteOf}
 use Rattle.sequence_match.proofs.ApartSites.{sites_apart}
 use Rattle.sequence_match.proofs.Sections.{code_past, code_zero}
-use Rattle.tls_symbols.specs.declared.binding.Binding.{Binding}
-use Rattle.tls_symbols.specs.declared.binding.Binding.TheVariants.{Here, Startup, Runtime}
-use Rattle.link_core.specs.Linking.{Linking, binding}
-use Rattle.link_core.specs.Needs.{address_fields, address_needs, is_address_kind, object_needs, own_word, section_needs}
+use Rattle.link_faults.specs.declared.binding.Binding.{Binding}
+use Rattle.link_faults.specs.declared.binding.Binding.TheVariants.{Here, Startup, Runtime}
+use Rattle.link_needs.specs.Linking.{Linking, binding}
+use Rattle.link_needs.specs.Needs.{address_fields, address_needs, is_address_kind, object_needs, own_word, section_needs}
 use Rattle.link_core.specs.Dynamic.{field_relocations, is_absolute, object_relocations, section_relocations}
 use Rattle.link_core.proofs.FewLists.{contains_flat, length-each, length-sorted_by, no_longer}
 

@@ -16,16 +16,18 @@ use Rattle.image_writer.specs.Outlined.{no_part, outline_of, part, place_of}
 use Rattle.image_writer.specs.Page.{file_offset}
 use Rattle.image_writer.specs.Tables.{finished, tables_part}
 use Rattle.image_writer.proofs.SameBytes.{part_length}
-use Rattle.link_core.specs.Linking.{Linking, layout}
-use Rattle.link_core.specs.Needs.{entries, got_size, got_start}
+use Rattle.link_needs.specs.Linking.{Linking, layout}
+use Rattle.link_needs.specs.Needs.{entries, got_size, got_start}
 use Rattle.link_core.specs.Bytes.{file}
 use Rattle.link_core.specs.Dynamic.{got_relocations}
-use Rattle.link_core.specs.Faults.{FitsLimits, IsGiven, IsSound}
+use Rattle.link_core.specs.Faults.{IsSound}
+use Rattle.link_needs.specs.Given.{FitsTable, IsGiven}
 use Rattle.link_core.specs.Images.{contents, file_kind, places, section_places, stub_places}
 use Rattle.link_core.proofs.GotRelocationsNamed.{rows_named, IsNamed}
 use Rattle.link_core.proofs.GotRelocationsNeeds.{are_entries, IsEntry}
 use Rattle.link_core.proofs.GotRelocationsRows.{all_rows, got_lies, got_rises, LiesBetween}
 use Rattle.link_core.proofs.Lengths.{places_inside}
+use Rattle.link_core.proofs.Few.{table_fits}
 
 -- ** the part that the table is
 
@@ -75,7 +77,7 @@ module _ (l : Linking) (some : 0 < got_size l) where
       ∙ get_or-map (part_in kind (file l)) (places l) (got_index l) no_part last index_below
       ∙ ap (part_in kind (file l)) index_place)
 
-  module _ (given : IsGiven l) (limits : FitsLimits l) where
+  module _ (given : IsGiven l) (limits : FitsTable l) where
     part_size : length (part_in (file_kind l.kind) (file l) (got_place l)).bytes ≡ got_size l
     unfolding got_place
     part_size =
@@ -120,7 +122,7 @@ right_got l given sound = λ k d h.
       symbol_in = named.symbol_in;
       names = named.names;
       own = named.own;
-      held = (got_index l, part_holds l some given sound.limits r lies);
+      held = (got_index l, part_holds l some given (table_fits l given sound.limits) r lies);
     }
 
 pub rising_got : (l : Linking) → AreRising (got_relocations l)

@@ -19,8 +19,8 @@ use Rattle.got_pairs.specs.declared.need.Need.TheVariants.{ModulePair, SymbolPai
 use Rattle.got_pairs.specs.declared.need.Need.TheVariants.{AddressWord, RuntimeWord}
 use Rattle.got_pairs.specs.declared.need.Target.TheVariants.{Here, Import}
 use Rattle.got_pairs.specs.Entries.{entry_of}
-use Rattle.link_core.specs.Linking.{Linking, block_offset}
-use Rattle.link_core.specs.Needs.{uses_runtime}
+use Rattle.link_needs.specs.Linking.{Linking, block_offset}
+use Rattle.link_needs.specs.Needs.{uses_runtime}
 use Rattle.link_core.specs.Dynamic.{entry_relocations, imports, loader_kind, need_relocations, number_of, relocation_of}
 use Rattle.link_core.specs.Dynamic.{symbols}
 use Rattle.link_core.specs.Images.{contents, tls_part}

@@ -12,22 +12,23 @@ use Rattle.elf_object.specs.declared.symbol.SymbolBinding.TheVariants.{Local}
 use Rattle.elf_object.specs.Lent.{symbol_binding, symbol_name}
 use Rattle.elf_object.specs.Object.{section_count}
 use Rattle.elf_object.specs.Parts.{symbol_count}
-use Rattle.sequence_match.specs.declared.forms.Form.{Form}
-use Rattle.sequence_match.specs.declared.forms.Form.TheVariants.{Gd, Ld, IeMov, IeAdd, GdInd, LdInd, DescLea, DescCall}
-use Rattle.sequence_match.specs.declared.places.Site.{Site}
+use Rattle.sequence_forms.specs.declared.forms.Form.{Form}
+use Rattle.sequence_forms.specs.declared.forms.Form.TheVariants.{Gd, Ld, IeMov, IeAdd, GdInd, LdInd, DescLea, DescCall}
+use Rattle.sequence_forms.specs.declared.places.Site.{Site}
 use Rattle.sequence_match.specs.Faults.{IsSite}
-use Rattle.sequence_match.specs.Forms.{row}
+use Rattle.sequence_forms.specs.Forms.{row}
 use Rattle.link_faults.specs.declared.image_kind.ImageKind.{ImageKind}
-use Rattle.tls_symbols.specs.declared.binding.Binding.{Binding}
-use Rattle.tls_symbols.specs.declared.binding.Binding.TheVariants.{Here, Startup, Runtime}
-use Rattle.tls_symbols.specs.declared.symbols.SymbolRef.{SymbolRef}
+use Rattle.link_faults.specs.declared.binding.Binding.{Binding}
+use Rattle.link_faults.specs.declared.binding.Binding.TheVariants.{Here, Startup, Runtime}
+use Rattle.link_faults.specs.declared.symbol_ref.SymbolRef.{SymbolRef}
 use Rattle.tls_symbols.specs.Bindings.{binding_of, first_export, get_address, here_or, may_import, object_at}
 use Rattle.tls_symbols.specs.Bindings.{of_startup}
 use Rattle.tls_symbols.specs.Definitions.{definition_of, same_binding}
 use Rattle.std.specs.Str.{bytes_eq}
-use Rattle.dynamic_symbols.specs.Names.{first_of, is_startup}
+use Rattle.dynamic_symbols.specs.Names.{is_startup}
+use Rattle.sequence_match.specs.Sites.{first_of}
 use Rattle.dynamic_symbols.proofs.Lists.{all_flat}
-use Rattle.dynamic_symbols.proofs.OfSites.{sites_symbols}
+use Rattle.sequence_match.proofs.SitesSymbols.{sites_symbols}
 use Rattle.got_pairs.specs.declared.need.Need.{Need}
 use Rattle.got_pairs.specs.declared.need.Need.TheVariants.{ModulePair, SymbolPair, Descriptor, SymbolWord}
 use Rattle.got_pairs.specs.declared.need.Need.TheVariants.{AddressWord, RuntimeWord}
@@ -35,17 +36,19 @@ use Rattle.got_pairs.specs.declared.need.Target.{Target}
 use Rattle.got_pairs.specs.declared.need.Target.TheVariants as target
 use Rattle.got_pairs.specs.Needs.{by_group, distinct, entries as entries_of, group_of, groups, of_group, same_group}
 use Rattle.got_pairs.specs.Needs.{same_need, size_of, start_from}
-use Rattle.link_refusals.specs.Refused.{asks_storage, is_module}
+use Rattle.link_refusals.specs.Refused.{asks_storage}
+use Rattle.link_faults.specs.ImageKinds.{is_module}
 use Rattle.relax_sites.specs.declared.choices.Choice.{Choice}
 use Rattle.relax_sites.specs.declared.choices.Choice.TheVariants.{Keep, GdLe, GdIe, IeLe, DescLe, DescIe}
 use Rattle.relax_sites.specs.declared.rows.NewField.{NewField}
 use Rattle.relax_sites.specs.Rows.{new_field}
-use Rattle.link_core.specs.Linking.{Linking, address, binding, choice, object, offset, sites_at}
-use Rattle.link_core.specs.Needs.{address_needs, as_list, calls, entries, is_kept, need_by, needs, new_relocation}
-use Rattle.link_core.specs.Needs.{object_needs, object_needs_from, own_word, reaching, relocation_need, section_needs}
-use Rattle.link_core.specs.Needs.{site_needs, site_needs_from, target_by, address_fields, uses_runtime}
+use Rattle.link_needs.specs.Linking.{Linking, address, binding, choice, object, offset, sites_at}
+use Rattle.link_needs.specs.Needs.{address_needs, as_list, calls, entries, is_kept, need_by, needs, new_relocation}
+use Rattle.link_needs.specs.Needs.{object_needs, object_needs_from, own_word, reaching, relocation_need, section_needs}
+use Rattle.link_needs.specs.Needs.{site_needs, site_needs_from, target_by, address_fields, uses_runtime}
 use Rattle.link_core.specs.Dynamic.{imports}
-use Rattle.link_core.specs.Faults.{IsGiven, IsSound}
+use Rattle.link_core.specs.Faults.{IsSound}
+use Rattle.link_needs.specs.Given.{IsGiven}
 use Rattle.link_core.proofs.GotRelocationsSites.{known, segment, IsKnown}
 
 -- ** what an entry asks of an image of this kind

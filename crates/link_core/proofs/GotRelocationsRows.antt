@@ -13,8 +13,8 @@ use Rattle.got_pairs.specs.Needs.{size_of, total_size}
 use Rattle.got_pairs.specs.Plans.{starts_from}
 use Rattle.link_faults.specs.declared.image_kind.ImageKind.{ImageKind}
 use Rattle.link_faults.specs.declared.image_kind.ImageKind.TheVariants.{Exe, Pie, Start, Late}
-use Rattle.link_core.specs.Linking.{Linking, block_offset}
-use Rattle.link_core.specs.Needs.{entries, got_size, got_start}
+use Rattle.link_needs.specs.Linking.{Linking, block_offset}
+use Rattle.link_needs.specs.Needs.{entries, got_size, got_start}
 use Rattle.link_core.specs.Dynamic.{entry_relocations, got_relocations, need_relocations}
 
 -- the relocations of these entries, the first of which begins there

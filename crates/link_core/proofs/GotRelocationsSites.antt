@@ -19,32 +19,34 @@ use Rattle.elf_object.specs.Lent.{kept_relocation_table, relocation_target, relo
 use Rattle.elf_object.specs.Lent.{symbol_place, symbol_value}
 use Rattle.elf_object.specs.Object.{section_count}
 use Rattle.elf_object.specs.Parts.{symbol_count}
-use Rattle.sequence_match.specs.declared.forms.Form.{Form}
-use Rattle.sequence_match.specs.declared.forms.Form.TheVariants.{Gd, Ld, IeMov, IeAdd, GdInd, LdInd, DescLea, DescCall}
-use Rattle.sequence_match.specs.declared.places.Site.{Site}
+use Rattle.sequence_forms.specs.declared.forms.Form.{Form}
+use Rattle.sequence_forms.specs.declared.forms.Form.TheVariants.{Gd, Ld, IeMov, IeAdd, GdInd, LdInd, DescLea, DescCall}
+use Rattle.sequence_forms.specs.declared.places.Site.{Site}
 use Rattle.sequence_match.specs.Faults.{IsSite}
-use Rattle.sequence_match.specs.Forms.{row}
+use Rattle.sequence_forms.specs.Forms.{row}
 use Rattle.sequence_match.proofs.Sections.{target_of_table}
 use Rattle.link_faults.specs.declared.fault.LinkFaultKind.TheVariants.{NotTls}
 use Rattle.tls_layout.specs.Places.{tls_offset_of, tls_size, IsLawful}
 use Rattle.tls_layout.proofs.LawsOfSections.{finds_sections}
 use Rattle.tls_layout.proofs.LawsOfTls.{have_offsets, lie_in_segment}
-use Rattle.tls_symbols.specs.declared.binding.Binding.{Binding}
-use Rattle.tls_symbols.specs.declared.binding.Binding.TheVariants.{Here}
-use Rattle.tls_symbols.specs.declared.symbols.SymbolRef.{SymbolRef}
+use Rattle.link_faults.specs.declared.binding.Binding.{Binding}
+use Rattle.link_faults.specs.declared.binding.Binding.TheVariants.{Here}
+use Rattle.link_faults.specs.declared.symbol_ref.SymbolRef.{SymbolRef}
 use Rattle.tls_symbols.specs.Bindings.{is_tls_class, is_tls_place, is_tls_symbol, IsBindingWithin}
 use Rattle.tls_symbols.specs.Definitions.{IsWithin}
 use Rattle.tls_symbols.specs.Faults.{differ, held_in, held_for, is_faulty, is_mismatched, is_tls_kind, names_symbol}
 use Rattle.tls_symbols.specs.Faults.{Stands}
 use Rattle.tls_symbols.proofs.Within.{binding_within}
-use Rattle.dynamic_symbols.specs.Names.{distinct, first_of, imported_at, imported_from, imported_in}
+use Rattle.dynamic_symbols.specs.Names.{distinct, imported_at, imported_from, imported_in}
+use Rattle.sequence_match.specs.Sites.{first_of}
 use Rattle.dynamic_symbols.specs.Names.{imports as imports_of, is_import}
 use Rattle.dynamic_symbols.proofs.Foreign.{bindings_by_use}
 use Rattle.link_refusals.specs.Faults.{by_storage}
 use Rattle.link_refusals.specs.Refused.{asks_storage}
-use Rattle.link_core.specs.Linking.{Linking, binding, layout, object, offset, offset_in, sites_at}
+use Rattle.link_needs.specs.Linking.{Linking, binding, layout, object, offset, offset_in, sites_at}
 use Rattle.link_core.specs.Dynamic.{imports}
-use Rattle.link_core.specs.Faults.{IsGiven, IsSound}
+use Rattle.link_core.specs.Faults.{IsSound}
+use Rattle.link_needs.specs.Given.{IsGiven}
 
 -- how many bytes the segment has
 abbrev pub segment : Linking → ℕ

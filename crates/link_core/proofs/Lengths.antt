@@ -13,11 +13,11 @@ use Rattle.image_writer.specs.Page.{file_offset}
 use Rattle.image_writer.proofs.Making.{parts_end-in}
 use Rattle.link_faults.specs.ImageKinds.{base_of}
 use Rattle.section_file.specs.Files.{offset_of}
-use Rattle.sequence_match.specs.declared.places.Site.{Site}
+use Rattle.sequence_forms.specs.declared.places.Site.{Site}
 use Rattle.sequence_match.specs.Faults.{IsSite}
-use Rattle.link_core.specs.Linking.{Linking, layout, object, place, sites_at}
+use Rattle.link_needs.specs.Linking.{Linking, layout, object, place, sites_at}
 use Rattle.link_core.specs.Bytes.{file, raw_file, with_fields_from}
-use Rattle.link_core.specs.Faults.{FitsLimits, IsGiven}
+use Rattle.link_needs.specs.Given.{FitsTable, IsGiven}
 use Rattle.link_core.specs.Images.{contents, file_kind, places}
 use Rattle.link_core.proofs.LengthsInside.{form_some, is_code, is_object, is_relocated, raw_longer, section_inside}
 use Rattle.link_core.proofs.LengthsPlaces.{all_follow, end_from, last_end, lie_between, places_end-is, same_base}
@@ -25,7 +25,7 @@ use Rattle.link_core.proofs.LengthsRaw.{raw_length}
 use Rattle.link_core.proofs.LengthsKept.{FieldsFit, SiteFits, objects_keep, sites_keep}
 
 -- a field that has bytes lies in the file
-pub field_inside : (l : Linking) (o t : ℕ) (r : Relocation) → IsGiven l → FitsLimits l → o < length l.objects
+pub field_inside : (l : Linking) (o t : ℕ) (r : Relocation) → IsGiven l → FitsTable l → o < length l.objects
     → Contains (relocations (object l o) t) r → 0 < field_width r.kind
     → offset_of (layout l) (place l o t r.offset) + field_width r.kind ≤ length (raw_file l)
 field_inside l o t r given limits there is wide =
@@ -38,7 +38,7 @@ field_inside l o t r given limits there is wide =
     omega (arith, section, inside, raw_longer l)
 
 -- a sequence does
-pub site_inside : (l : Linking) (o : ℕ) (site : Site) → IsGiven l → FitsLimits l → o < length l.objects
+pub site_inside : (l : Linking) (o : ℕ) (site : Site) → IsGiven l → FitsTable l → o < length l.objects
     → Contains (sites_at l o) site
     → offset_of (layout l) (place l o site.section site.start) + site.len ≤ length (raw_file l)
 site_inside l o site given limits there is =
@@ -54,7 +54,7 @@ site_inside l o site given limits there is =
     omega (arith, section, raw_longer l)
 
 -- nothing that is written changes its length
-pub file_keeps : (l : Linking) → IsGiven l → FitsLimits l → length (file l) ≡ length (raw_file l)
+pub file_keeps : (l : Linking) → IsGiven l → FitsTable l → length (file l) ≡ length (raw_file l)
 unfolding file
 file_keeps l given limits =
     let n = length (raw_file l) in
@@ -79,11 +79,11 @@ file_keeps l given limits =
         })
 
 -- the file ends where the parts do
-file_length : (l : Linking) → IsGiven l → FitsLimits l → length (file l) ≡ offset_of (layout l) (last_end l)
+file_length : (l : Linking) → IsGiven l → FitsTable l → length (file l) ≡ offset_of (layout l) (last_end l)
 file_length l given limits = file_keeps l given limits ∙ raw_length l given limits
 
 -- each part lies in it
-pub places_inside : (l : Linking) → IsGiven l → FitsLimits l
+pub places_inside : (l : Linking) → IsGiven l → FitsTable l
     → All (λ part. file_offset (file_kind l.kind) part.address + part.size ≤ length (file l)) (places l)
 places_inside l given limits k d below =
     let f = all_follow l in
@@ -91,7 +91,7 @@ places_inside l given limits k d below =
     omega (arith, lies.0, lies.1, f.ends, file_length l given limits, same_base l.kind)
 
 -- it ends where the last part does
-pub file_ends : (l : Linking) → IsGiven l → FitsLimits l
+pub file_ends : (l : Linking) → IsGiven l → FitsTable l
     → length (file l) ≡ file_offset (file_kind l.kind) (parts_end (file_kind l.kind) (contents l).parts)
 unfolding contents
 file_ends l given limits =

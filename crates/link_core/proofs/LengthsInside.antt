@@ -16,23 +16,23 @@ use Rattle.elf_object.specs.LawsOfSections.{class_holds, kept_as}
 use Rattle.elf_object.specs.Lent.{kept_relocation_table, relocation_at, relocations, relocations_from, relocations_in}
 use Rattle.elf_object.specs.Lent.{section_bytes, section_class, section_size}
 use Rattle.elf_object.specs.Parts.{section, entry_count}
-use Rattle.sequence_match.specs.declared.forms.Form.{Form}
-use Rattle.sequence_match.specs.declared.forms.Form.TheVariants.{Gd, Ld, IeMov, IeAdd, GdInd, LdInd, DescLea}
-use Rattle.sequence_match.specs.declared.forms.Form.TheVariants.{DescCall}
+use Rattle.sequence_forms.specs.declared.forms.Form.{Form}
+use Rattle.sequence_forms.specs.declared.forms.Form.TheVariants.{Gd, Ld, IeMov, IeAdd, GdInd, LdInd, DescLea}
+use Rattle.sequence_forms.specs.declared.forms.Form.TheVariants.{DescCall}
 use Rattle.sequence_match.specs.Faults.{bytes_of_code, code_of}
-use Rattle.sequence_match.specs.Forms.{row}
+use Rattle.sequence_forms.specs.Forms.{row}
 use Rattle.tls_layout.specs.Places.{address_of}
 use Rattle.tls_layout.proofs.LawsOfPlaces.{have_addresses}
 use Rattle.tls_layout.proofs.LawsOfSections.{finds_sections}
 use Rattle.section_file.specs.Files.{offset_of, sections_file}
 use Rattle.section_file.specs.Laws.{AreLaid}
 use Rattle.section_file.proofs.Told.{sections_fit}
-use Rattle.link_core.specs.Linking.{Linking, layout, object, place}
-use Rattle.link_core.specs.Needs.{got_size, got_start, has_stub, stub_start}
+use Rattle.link_needs.specs.Linking.{Linking, layout, object, place}
+use Rattle.link_needs.specs.Needs.{got_size, got_start, has_stub, stub_start}
 use Rattle.link_core.specs.Bytes.{got_bytes, raw_file, stub_bytes, with_got, with_part, with_stub}
-use Rattle.link_core.specs.Faults.{FitsLimits, IsGiven}
+use Rattle.link_needs.specs.Given.{FitsTable, IsGiven}
 
-pub are_laid : (l : Linking) → IsGiven l → FitsLimits l → AreLaid l.kind l.objects
+pub are_laid : (l : Linking) → IsGiven l → FitsTable l → AreLaid l.kind l.objects
 are_laid l given limits = record { lawful = limits.lawful; are_objects = given.are_objects }
 
 -- what is given of object o
@@ -124,7 +124,7 @@ is_relocated b object t x has =
     }
 
 -- such a section of object o lies in the file
-pub section_inside : (l : Linking) (o t : ℕ) (class : SectionClass) → IsGiven l → FitsLimits l → o < length l.objects
+pub section_inside : (l : Linking) (o t : ℕ) (class : SectionClass) → IsGiven l → FitsTable l → o < length l.objects
     → section_class (object l o) t ≡ Some class → class ≢ Tls false → 0 < section_size (object l o) t
     → offset_of (layout l) (place l o t 0) + section_size (object l o) t ≤ length (sections_file (layout l) l.objects)
 section_inside l o t class given limits there is other some =

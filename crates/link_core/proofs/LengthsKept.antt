@@ -26,7 +26,7 @@ use Rattle.tls_relocs.specs.Values.{wrapped_field}
 use Rattle.section_file.specs.Files.{offset_of}
 use Rattle.object_faults.specs.Firsts.{nonzero}
 use Rattle.tls_symbols.specs.Faults.{held_for, held_in}
-use Rattle.dynamic_symbols.specs.Names.{first_of}
+use Rattle.sequence_match.specs.Sites.{first_of}
 use Rattle.relax_sites.specs.declared.choices.Choice.{Choice}
 use Rattle.relax_sites.specs.declared.choices.Choice.TheVariants.{Keep, GdLe, GdIe, IeLe, DescLe, DescIe}
 use Rattle.relax_sites.specs.declared.rows.NewField.{NewField}
@@ -34,15 +34,15 @@ use Rattle.relax_sites.specs.Choices.{IsChoiceOf}
 use Rattle.relax_sites.specs.Rewriting.{rewritten}
 use Rattle.relax_sites.specs.Rows.{form_length, new_field}
 use Rattle.relax_sites.proofs.Tables.{field_end, own_choice, stays}
-use Rattle.sequence_match.specs.declared.forms.Form.{Form}
-use Rattle.sequence_match.specs.declared.forms.Form.TheVariants.{Gd, IeMov, IeAdd, GdInd, DescLea}
-use Rattle.sequence_match.specs.declared.places.Site.{Site}
-use Rattle.tls_symbols.specs.declared.binding.Binding.{Binding}
-use Rattle.link_core.specs.Linking.{Linking, binding, choice, chosen, layout, place}
-use Rattle.link_core.specs.Needs.{new_relocation}
+use Rattle.sequence_forms.specs.declared.forms.Form.{Form}
+use Rattle.sequence_forms.specs.declared.forms.Form.TheVariants.{Gd, IeMov, IeAdd, GdInd, DescLea}
+use Rattle.sequence_forms.specs.declared.places.Site.{Site}
+use Rattle.link_faults.specs.declared.binding.Binding.{Binding}
+use Rattle.link_needs.specs.Linking.{Linking, binding, choice, chosen, layout, place}
+use Rattle.link_needs.specs.Needs.{new_relocation}
 use Rattle.link_core.specs.Bytes.{in_file, with_field, with_field_at, with_fields, with_fields_from, with_new_field}
 use Rattle.link_core.specs.Bytes.{with_site, with_sites_from, with_table}
-use Rattle.link_core.specs.Values.{field, is_replaced}
+use Rattle.link_needs.specs.Values.{field, is_replaced}
 
 -- ** how many bytes a field has
 

@@ -32,11 +32,10 @@ use Rattle.tls_relocs.specs.Fields.{field_bytes}
 use Rattle.tls_relocs.specs.Laid.{zeros}
 use Rattle.tls_relocs.specs.ValueLaws.{signed_fits}
 use Rattle.tls_relocs.specs.Values.{fits_signed, signed_field, word32}
-use Rattle.link_core.specs.Linking.{Linking, block_offset, layout}
-use Rattle.link_core.specs.Needs.{entries, entry_by, got_size, got_start, has_stub, need_address, stub_start}
+use Rattle.link_needs.specs.Linking.{Linking, block_offset, layout}
+use Rattle.link_needs.specs.Needs.{entries, entry_by, got_size, got_start, has_stub, need_address, stub_start}
 use Rattle.link_core.specs.Bytes.{got_bytes, need_bytes, raw_file, stub_bytes, with_got, with_part, with_stub}
-use Rattle.link_core.specs.Faults.{FitsLimits, IsGiven}
-use Rattle.link_core.proofs.Few.{few}
+use Rattle.link_needs.specs.Given.{FitsTable, IsGiven}
 use Rattle.link_core.proofs.LengthsInside.{are_laid}
 use Rattle.link_core.proofs.LengthsPlaces.{base_before, got_end, got_end-before, got_start-after, last_end}
 
@@ -130,7 +129,7 @@ jump_length g p below small =
     of_fits false z some = absurd (cc)
 
 -- the table is not far from the stub
-room_small : (l : Linking) → FitsLimits l → got_start l ≤ base_of l.kind + 2 ^ 24
+room_small : (l : Linking) → FitsTable l → got_start l ≤ base_of l.kind + 2 ^ 24
 unfolding room
 room_small l limits =
     let small = limits.lawful.small_span in
@@ -146,10 +145,10 @@ page_near : (n : ℕ) → page_up n < n + 4096
 unfolding page_up
 page_near n = round_up-near n 4096 (omega arith)
 
-pub stub_small : (l : Linking) → IsGiven l → FitsLimits l → stub_start l + 2 < 2 ^ 29
+pub stub_small : (l : Linking) → IsGiven l → FitsTable l → stub_start l + 2 < 2 ^ 29
 stub_small l given limits =
     let near = page_near (got_start l + got_size l) in
-    omega (arith, room_small l limits, base_small l.kind, near, (few l given limits).got)
+    omega (arith, room_small l limits, base_small l.kind, near, limits.got)
 
 -- the word that it jumps through lies before it
 pub word_before : (l : Linking) → need_address l (Some RuntimeWord) ≤ stub_start l
@@ -163,7 +162,7 @@ word_before l =
     of_start None inside page = omega arith
     of_start (Some at) inside page = omega arith
 
-pub stub_length : (l : Linking) → IsGiven l → FitsLimits l → length (stub_bytes l) ≡ 6
+pub stub_length : (l : Linking) → IsGiven l → FitsTable l → length (stub_bytes l) ≡ 6
 unfolding stub_bytes
 stub_length l given limits =
     let before = word_before l in
@@ -198,7 +197,7 @@ with_got_length l file is = of_test (got_size l == 0)
         ∙ ap (λ n. offset_of (layout l) (got_start l + n)) (got_length l)
 
 -- with the stub
-with_stub_length : (l : Linking) (file : List ℕ) → IsGiven l → FitsLimits l
+with_stub_length : (l : Linking) (file : List ℕ) → IsGiven l → FitsTable l
     → length file ≡ offset_of (layout l) (got_end l) → length (with_stub l file) ≡ offset_of (layout l) (last_end l)
 with_stub_length l file given limits is = of_test (has_stub l)
   where
@@ -212,7 +211,7 @@ with_stub_length l file given limits is = of_test (has_stub l)
         ∙ ap (λ n. offset_of (layout l) (stub_start l + n)) (stub_length l given limits)
     of_test false = is
 
-pub raw_length : (l : Linking) → IsGiven l → FitsLimits l → length (raw_file l) ≡ offset_of (layout l) (last_end l)
+pub raw_length : (l : Linking) → IsGiven l → FitsTable l → length (raw_file l) ≡ offset_of (layout l) (last_end l)
 unfolding raw_file
 raw_length l given limits =
     let sections = sections_file (layout l) l.objects in

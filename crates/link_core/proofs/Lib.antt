@@ -9,7 +9,6 @@ pub mod GotRelocationsNeeds
 pub mod GotRelocationsRows
 pub mod GotRelocationsShown
 pub mod GotRelocationsSites
-pub mod InputsLemmas
 pub mod Lengths
 pub mod LengthsInside
 pub mod LengthsKept
@@ -27,15 +26,12 @@ pub mod LoadsParts
 pub mod LoadsPlaces
 pub mod LoadsTables
 pub mod LoadsTls
-pub mod NeedsLemmas
-pub mod PlanLemmas
 pub mod Relatives
 pub mod RelativesApart
 pub mod RelativesFields
 pub mod RelativesParts
 pub mod RelativesTables
 pub mod RelocationListLemmas
-pub mod SortingLaws
 pub mod Standing
 pub mod StandingAway
 pub mod StandingFields
@@ -51,8 +47,6 @@ pub mod TogetherFound
 pub mod TogetherNames
 pub mod TogetherRows
 pub mod TogetherSites
-pub mod UsableSites
-pub mod ValueLemmas
 pub mod WritingFields
 pub mod WritingParts
 pub mod WritingRoom

@@ -10,14 +10,16 @@ use Rattle.image_writer.specs.declared.outline.PartPlace.{PartPlace}
 use Rattle.image_writer.specs.Contents.{Contents, contents_of, part_in, parts_end}
 use Rattle.image_writer.specs.Linkable.{IsLinkable}
 use Rattle.image_writer.specs.Page.{file_offset}
-use Rattle.link_core.specs.Linking.{Linking, layout}
+use Rattle.link_needs.specs.Linking.{Linking, layout}
 use Rattle.link_core.specs.Bytes.{file}
 use Rattle.link_core.specs.Dynamic.{image_relocations, is_flagged, names, symbols}
-use Rattle.link_core.specs.Faults.{IsGiven, IsSound}
+use Rattle.link_core.specs.Faults.{IsSound}
+use Rattle.link_needs.specs.Given.{IsGiven}
 use Rattle.link_core.specs.Images.{contents, file_kind, got_number, places, tls_part}
 use Rattle.link_core.specs.Named.{names_in, symbols_in}
 use Rattle.link_core.proofs.Lengths.{file_ends, places_inside}
 use Rattle.link_core.proofs.Linkable.{linkable}
+use Rattle.link_core.proofs.Few.{table_fits}
 
 -- what a draft of these fields makes of a file
 abbrev pub drafted_of : FileKind → List ℕ → List PartPlace → Option ℕ → Option TlsPart → List NamedSymbol
@@ -68,7 +70,7 @@ module _ (l : Linking) (given : IsGiven l) (sound : IsSound l) (d : Draft) (byte
       subst (λ c. length bytes ≡ file_offset d.kind (parts_end d.kind c.parts)) (sym same_contents)
       (subst (λ k. length bytes ≡ file_offset k (parts_end k (contents l).parts)) (sym kind)
       (subst (λ f. length f ≡ file_offset (file_kind l.kind) (parts_end (file_kind l.kind) (contents l).parts)) (sym is)
-      (file_ends l given sound.limits)))
+      (file_ends l given (table_fits l given sound.limits))))
 
   -- a part lies in a file of a kind
   abbrev IsInside : FileKind → List ℕ → PartPlace → Type 0
@@ -79,4 +81,4 @@ module _ (l : Linking) (given : IsGiven l) (sound : IsSound l) (d : Draft) (byte
   inside =
       subst (All (IsInside d.kind bytes)) (sym parts)
       (subst (λ k. All (IsInside k bytes) (places l)) (sym kind)
-      (subst (λ f. All (IsInside (file_kind l.kind) f) (places l)) (sym is) (places_inside l given sound.limits)))
+      (subst (λ f. All (IsInside (file_kind l.kind) f) (places l)) (sym is) (places_inside l given (table_fits l given sound.limits))))

@@ -10,7 +10,7 @@ use Rattle.link_refusals.specs.Faults.{FitsKind, IsKindFault, IsStorageFault}
 use Rattle.tls_layout.specs.Faults.{IsLayoutFault}
 use Rattle.tls_layout.specs.Places.{tls_size}
 use Rattle.tls_symbols.specs.Faults.{AreResolved, IsFault}
-use Rattle.link_core.specs.Linking.{Linking, layout}
+use Rattle.link_needs.specs.Linking.{Linking, layout}
 use Rattle.link_core.specs.Faults.{FitsLimits, IsCrowded, IsLinkFault, IsSound, IsWordy, Links}
 use Rattle.link_core.specs.Overflows.{IsOverflowFault, NoOverflow}
 

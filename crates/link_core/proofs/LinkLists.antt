@@ -4,15 +4,15 @@ use Rattle.std.proofs.Common.{Bor, sym, ap, arith, add-one, append_assoc, drop-c
 use Rattle.std.proofs.lemmas.List.{append-nil, length-map, map-append}
 use Rattle.std.specs.Global.{Vec}
 use Rattle.dynamic_symbols.specs.Names.{imports as imports_of, name_size}
-use Rattle.dynamic_symbols.proofs.Adding.{own_sites}
-use Rattle.dynamic_symbols.proofs.OfSites.{sites_symbols}
-use Rattle.dynamic_symbols.specs.Walks.{HaveSymbols}
+use Rattle.sequence_match.proofs.OwnSites.{own_sites}
+use Rattle.sequence_match.proofs.SitesSymbols.{sites_symbols}
+use Rattle.sequence_match.specs.Sites.{HaveSymbols}
 use Rattle.relax_sites.specs.declared.choices.Choice.{Choice}
-use Rattle.sequence_match.specs.declared.places.Site.{Site}
-use Rattle.tls_symbols.specs.declared.symbols.SymbolRef.{SymbolRef}
-use Rattle.link_core.specs.Linking.{Linking, object, sites_at}
+use Rattle.sequence_forms.specs.declared.places.Site.{Site}
+use Rattle.link_faults.specs.declared.symbol_ref.SymbolRef.{SymbolRef}
+use Rattle.link_needs.specs.Linking.{Linking, object, sites_at}
 use Rattle.link_core.specs.Dynamic.{imports, own_symbols}
-use Rattle.link_core.specs.Faults.{IsGiven}
+use Rattle.link_needs.specs.Given.{IsGiven}
 use Rattle.link_core.specs.Images.{choices_from, choices_in}
 
 -- the sites of an object name its symbols

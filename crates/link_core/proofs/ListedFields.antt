@@ -17,9 +17,9 @@ use Rattle.elf_object.specs.Parts.{symbol_count}
 use Rattle.image_file.specs.declared.relocation.ImageRelocation.{ImageRelocation}
 use Rattle.link_refusals.proofs.Places.{range_first, range_none}
 use Rattle.tls_symbols.specs.Bindings.{object_at}
-use Rattle.link_core.specs.Linking.{Linking, object}
+use Rattle.link_needs.specs.Linking.{Linking, object}
 use Rattle.link_core.specs.Dynamic.{is_absolute, object_relocations, object_relocations_from}
-use Rattle.link_core.specs.Faults.{IsGiven}
+use Rattle.link_needs.specs.Given.{IsGiven}
 use Rattle.link_core.proofs.RelativesTables.{placed_section}
 
 -- ** one relocation

@@ -25,13 +25,14 @@ use Rattle.tls_layout.specs.Places.{tls_size}
 use Rattle.tls_layout.specs.Rounding.{page_up, round_up}
 use Rattle.tls_layout.proofs.LawsOfPlaces.{page_multiple}
 use Rattle.tls_layout.proofs.Together.{page_up-above}
-use Rattle.link_core.specs.Linking.{Linking, layout}
-use Rattle.link_core.specs.Needs.{got_size, got_start, has_stub, stub_start}
+use Rattle.link_needs.specs.Linking.{Linking, layout}
+use Rattle.link_needs.specs.Needs.{got_size, got_start, has_stub, stub_start}
 use Rattle.link_core.specs.Bytes.{file}
-use Rattle.link_core.specs.Faults.{FitsLimits, IsGiven}
+use Rattle.link_core.specs.Faults.{FitsLimits}
+use Rattle.link_needs.specs.Given.{IsGiven}
 use Rattle.link_core.specs.Images.{contents, file_kind, got_number, got_places, places, section_places, stub_places}
 use Rattle.link_core.specs.Images.{tls_part}
-use Rattle.link_core.proofs.Few.{few}
+use Rattle.link_core.proofs.Few.{few, table_fits}
 use Rattle.link_core.proofs.Lengths.{places_inside}
 use Rattle.link_core.proofs.LoadsChains.{Chain, last_end, chain-append, chain_right, chain_rises, parts_end-is}
 use Rattle.link_core.proofs.LoadsCounts.{last_written, many_written, one_if, written, written-append}
@@ -59,7 +60,7 @@ placed kind bytes (p ∷ xs) inside =
 -- the parts of the contents lie where they are said to
 pub contents_placed : (l : Linking) → IsGiven l → FitsLimits l → map place_of (contents l).parts ≡ places l
 unfolding contents
-contents_placed l given limits = placed (file_kind l.kind) (file l) (places l) (places_inside l given limits)
+contents_placed l given limits = placed (file_kind l.kind) (file l) (places l) (places_inside l given (table_fits l given limits))
 
 -- where the tables lie
 abbrev pub tables_place : Linking → PartPlace

@@ -12,8 +12,8 @@ use Rattle.tls_layout.specs.Rounding.{page_up}
 use Rattle.tls_layout.specs.Sections.{Layout}
 use Rattle.tls_layout.proofs.LawsOfPlaces.{classes_follow, page_multiple}
 use Rattle.tls_layout.proofs.Together.{page_up-above, page_limit, ascend, rise}
-use Rattle.link_core.specs.Linking.{Linking, layout}
-use Rattle.link_core.specs.Needs.{got_size, got_start, has_stub, stub_start}
+use Rattle.link_needs.specs.Linking.{Linking, layout}
+use Rattle.link_needs.specs.Needs.{got_size, got_start, has_stub, stub_start}
 use Rattle.link_core.specs.Images.{filled, section_places, got_places, stub_places, places}
 use Rattle.link_core.proofs.LoadsChains.{Lies, last_end, last_end-append, chain_rises, chain_lower, lies-append}
 use Rattle.link_core.proofs.LoadsChains.{lies_none, lies_one}

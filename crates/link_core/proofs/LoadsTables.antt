@@ -11,9 +11,9 @@ use Rattle.image_writer.specs.Contents.{Contents}
 use Rattle.image_writer.specs.Tables.{array_size, has_relocations, is_pie, name_bytes, strings}
 use Rattle.image_writer.specs.Tables.{tables}
 use Rattle.image_writer.proofs.TableSizes.{tables_long}
-use Rattle.tls_symbols.specs.declared.symbols.SymbolRef.{SymbolRef}
-use Rattle.link_core.specs.Linking.{Linking}
-use Rattle.link_core.specs.Needs.{uses_runtime}
+use Rattle.link_faults.specs.declared.symbol_ref.SymbolRef.{SymbolRef}
+use Rattle.link_needs.specs.Linking.{Linking}
+use Rattle.link_needs.specs.Needs.{uses_runtime}
 use Rattle.link_core.specs.Dynamic.{defined, foreign, image_relocations, imports, names, own_symbols, runtime_names}
 use Rattle.link_core.specs.Dynamic.{runtime_symbols, symbols}
 use Rattle.link_core.specs.Faults.{FitsLimits}

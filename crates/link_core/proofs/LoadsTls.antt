@@ -31,7 +31,7 @@ use Rattle.tls_layout.proofs.LawsOfPlaces.{classes_follow}
 use Rattle.tls_layout.proofs.LawsOfTls.{front_of_segment}
 use Rattle.tls_layout.proofs.Rounds.{power_divides}
 use Rattle.tls_layout.proofs.Together.{ascend, power_more, rise}
-use Rattle.link_core.specs.Linking.{Linking, layout}
+use Rattle.link_needs.specs.Linking.{Linking, layout}
 use Rattle.link_core.specs.Images.{file_kind, filled, got_number, got_places, places, section_places, stub_places}
 use Rattle.link_core.specs.Images.{tls_part}
 

@@ -5,16 +5,16 @@ use Rattle.std.specs.List.{All}
 use Rattle.std.proofs.lemmas.List.Elements.{All-nil, All-weaker}
 use Rattle.image_file.specs.declared.relocation.ImageRelocation.{ImageRelocation}
 use Rattle.image_writer.specs.Linkable.{AreRising, IsRightRelocation, width}
-use Rattle.link_refusals.specs.Refused.{is_moved}
+use Rattle.link_faults.specs.ImageKinds.{is_moved}
 use Rattle.tls_layout.specs.Laws.{LiesAt, extent_for}
 use Rattle.tls_layout.specs.Places.{section_named}
 use Rattle.tls_layout.proofs.LawsOfPlaces.{lie_in_classes}
-use Rattle.link_core.specs.Linking.{Linking, layout}
-use Rattle.link_core.specs.Needs.{got_start}
+use Rattle.link_needs.specs.Linking.{Linking, layout}
+use Rattle.link_needs.specs.Needs.{got_start}
 use Rattle.link_core.specs.Dynamic.{image_relocations, got_relocations, object_relocations_from, relatives}
-use Rattle.link_core.specs.Faults.{FitsLimits, IsGiven}
+use Rattle.link_needs.specs.Given.{FitsTable, IsGiven}
 use Rattle.link_core.specs.Images.{contents}
-use Rattle.link_core.specs.Sorting.{sorted_by}
+use Rattle.link_needs.specs.Sorting.{sorted_by}
 use Rattle.link_core.proofs.GotRelocations.{got_above, rising_got}
 use Rattle.link_core.proofs.RelativesApart.{IsRelative, all_sorted, rising_append, rising_from, sorted_rise, width_of}
 use Rattle.link_core.proofs.RelativesFields.{IsField, all_from, apart_from}
@@ -36,13 +36,13 @@ relative : (l : Linking) (r : ImageRelocation) → IsField l 0 r → IsRelative 
 relative l r is = is.lies.kind_is
 
 -- it lies in its class
-lies_at : (l : Linking) → FitsLimits l → (r : ImageRelocation) → (is : IsField l 0 r)
+lies_at : (l : Linking) → FitsTable l → (r : ImageRelocation) → (is : IsField l 0 r)
     → LiesAt (layout l) is.lies.class (section_named (layout l) is.object is.section) is.lies.address
 lies_at l limits r is =
     let x = is.lies in
     lie_in_classes (layout l) limits.lawful is.object is.section x.address x.class x.class_is x.at
 
-right_field : (l : Linking) → IsGiven l → FitsLimits l → (r : ImageRelocation) → IsField l 0 r
+right_field : (l : Linking) → IsGiven l → FitsTable l → (r : ImageRelocation) → IsField l 0 r
     → IsRightRelocation (contents l) r
 right_field l given limits r is =
     let lies = lies_at l limits r is in
@@ -57,12 +57,12 @@ right_field l given limits r is =
           (omega (arith, lies.begins, x.begins)) (omega (arith, wide, lies.ends, x.ends));
     }
 
-pub right_relatives : (l : Linking) → IsGiven l → FitsLimits l → All (IsRightRelocation (contents l)) (relatives l)
+pub right_relatives : (l : Linking) → IsGiven l → FitsTable l → All (IsRightRelocation (contents l)) (relatives l)
 right_relatives l given limits =
     All-weaker (IsField l 0) (IsRightRelocation (contents l)) (right_field l given limits) (relatives l)
     (are_fields l given)
 
-pub rising_relatives : (l : Linking) → IsGiven l → FitsLimits l → AreRising (relatives l)
+pub rising_relatives : (l : Linking) → IsGiven l → FitsTable l → AreRising (relatives l)
 unfolding relatives
 rising_relatives l given limits =
     of_test (is_moved l.kind) (All-weaker (IsField l 0) IsRelative (relative l) (relatives l) (are_fields l given))
@@ -76,17 +76,17 @@ rising_relatives l given limits =
     of_test false all = tt
 
 -- they lie before the table
-below_table : (l : Linking) → FitsLimits l → (r : ImageRelocation) → IsField l 0 r → r.place + 8 ≤ got_start l
+below_table : (l : Linking) → FitsTable l → (r : ImageRelocation) → IsField l 0 r → r.place + 8 ≤ got_start l
 below_table l limits r is =
     let lies = lies_at l limits r is in
     omega (arith, lies.below, is.lies.ends)
 
-pub relatives_below : (l : Linking) → IsGiven l → FitsLimits l → All (λ r. r.place + 8 ≤ got_start l) (relatives l)
+pub relatives_below : (l : Linking) → IsGiven l → FitsTable l → All (λ r. r.place + 8 ≤ got_start l) (relatives l)
 relatives_below l given limits =
     All-weaker (IsField l 0) (λ r. r.place + 8 ≤ got_start l) (below_table l limits) (relatives l) (are_fields l given)
 
 -- all relocations, those of the table behind
-pub rising_all : (l : Linking) → IsGiven l → FitsLimits l → AreRising (image_relocations l)
+pub rising_all : (l : Linking) → IsGiven l → FitsTable l → AreRising (image_relocations l)
 unfolding image_relocations
 rising_all l given limits =
     rising_append (got_start l) (relatives l) (got_relocations l) (rising_relatives l given limits) (rising_got l)

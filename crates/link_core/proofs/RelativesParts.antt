@@ -23,9 +23,9 @@ use Rattle.tls_layout.specs.declared.extent.Extent.{Extent}
 use Rattle.tls_layout.specs.Laws.{extent_for}
 use Rattle.tls_layout.specs.Places.{executable, read_only, tls_image, writable}
 use Rattle.tls_layout.specs.Sections.{Layout}
-use Rattle.link_core.specs.Linking.{Linking, layout}
+use Rattle.link_needs.specs.Linking.{Linking, layout}
 use Rattle.link_core.specs.Bytes.{file}
-use Rattle.link_core.specs.Faults.{FitsLimits, IsGiven}
+use Rattle.link_needs.specs.Given.{FitsTable, IsGiven}
 use Rattle.link_core.specs.Images.{contents, file_kind, filled, got_places, places, section_places, stub_places}
 use Rattle.link_core.proofs.Lengths.{places_inside}
 
@@ -99,7 +99,7 @@ class_part l c some =
 -- ** a part in the contents
 
 -- a part of the image lies where its place is
-pub place_is : (l : Linking) → IsGiven l → FitsLimits l → (i : ℕ) → i < length (places l)
+pub place_is : (l : Linking) → IsGiven l → FitsTable l → (i : ℕ) → i < length (places l)
     → part (outline_of (finished (contents l))) i ≡ get_or (places l) i no_part
 unfolding contents finished
 place_is l given limits i below =
@@ -122,7 +122,7 @@ place_is l given limits i below =
         (part_length p.size (file_offset (file_kind l.kind) p.address) (file l) inside)
 
 -- what lies in a class lies in a part
-pub held_in : (l : Linking) → IsGiven l → FitsLimits l → (extent : Extent) → IsPart (places l) extent
+pub held_in : (l : Linking) → IsGiven l → FitsTable l → (extent : Extent) → IsPart (places l) extent
     → (r : ImageRelocation) → extent.start ≤ r.place → r.place + width r.kind ≤ extent.end
     → (i : ℕ) × Holds (contents l) r i
 unfolding contents

@@ -20,11 +20,11 @@ use Rattle.got_pairs.specs.declared.need.Target.TheVariants.{Here, Import}
 use Rattle.got_pairs.specs.Entries.{by_kind, entry_of, words}
 use Rattle.got_pairs.specs.Needs.{size_of, total_size}
 use Rattle.got_pairs.specs.Plans.{starts_from}
-use Rattle.link_core.specs.Linking.{Linking, block_offset, layout}
-use Rattle.link_core.specs.Needs.{entries, got_size, got_start}
+use Rattle.link_needs.specs.Linking.{Linking, block_offset, layout}
+use Rattle.link_needs.specs.Needs.{entries, got_size, got_start}
 use Rattle.link_core.specs.Dynamic.{entry_relocations, imports, need_relocations, own_symbols}
-use Rattle.link_core.specs.Faults.{FitsLimits, IsGiven}
-use Rattle.link_core.proofs.Few.{few}
+use Rattle.link_core.specs.Faults.{FitsLimits}
+use Rattle.link_needs.specs.Given.{FitsTable}
 
 -- ** symbols
 
@@ -56,13 +56,13 @@ base_low Pie = omega arith
 base_low Start = omega arith
 base_low Late = omega arith
 
-pub table_low : (l : Linking) → IsGiven l → FitsLimits l → got_start l + got_size l ≤ 2 ^ 26
+pub table_low : (l : Linking) → FitsTable l → got_start l + got_size l ≤ 2 ^ 26
 unfolding room
-table_low l given limits =
+table_low l limits =
     let p = layout l in
     let low : (zero_data p.kind p.sections).end ≤ base_of p.kind + 2 ^ 24 = omega (arith, limits.lawful.small_span) in
     let start = page_limit p.kind (zero_data p.kind p.sections).end low in
-    omega (arith, start, base_low p.kind, (few l given limits).got)
+    omega (arith, start, base_low p.kind, limits.got)
 
 -- the relocations of the entries from number k on, the first of which begins at p
 abbrev pub left : Linking → ℕ → ℕ → List ImageRelocation

@@ -7,20 +7,22 @@ use Rattle.elf_object.specs.declared.relocation.Relocation.{Relocation}
 use Rattle.elf_object.specs.Lent.{relocations, section_bytes, section_size}
 use Rattle.section_file.specs.Files.{offset_of, sections_file}
 use Rattle.section_file.proofs.Told.{sections_fit, sections_stand}
-use Rattle.sequence_match.specs.declared.places.Site.{Site}
+use Rattle.sequence_forms.specs.declared.places.Site.{Site}
 use Rattle.tls_layout.specs.Places.{address_of}
 use Rattle.tls_relocs.specs.Elements.{slice_get-append}
-use Rattle.link_core.specs.Linking.{Linking, layout, object, sites_at}
-use Rattle.link_core.specs.Needs.{got_size, got_start, has_stub, stub_start}
+use Rattle.link_needs.specs.Linking.{Linking, layout, object, sites_at}
+use Rattle.link_needs.specs.Needs.{got_size, got_start, has_stub, stub_start}
 use Rattle.link_core.specs.Bytes.{file, got_bytes, raw_file, stub_bytes, with_fields_from, with_got, with_part}
 use Rattle.link_core.specs.Bytes.{with_sites_from, with_stub}
-use Rattle.link_core.specs.Faults.{IsGiven, Links}
+use Rattle.link_core.specs.Faults.{Links}
+use Rattle.link_needs.specs.Given.{IsGiven}
 use Rattle.link_core.specs.Meant.{field_byte, is_in_field, is_in_rewritten, meant_byte, site_byte}
 use Rattle.link_core.proofs.LengthsInside.{are_laid, got_longer}
 use Rattle.link_core.proofs.StandingSteps.{after}
 use Rattle.link_core.proofs.StandingPlaces.{Lies, lies_at}
 use Rattle.link_core.proofs.StandingFields.{field_change, fields_act}
 use Rattle.link_core.proofs.StandingSites.{site_change, sites_act}
+use Rattle.link_core.proofs.Few.{table_fits}
 
 -- what lies behind the sections leaves them
 got_leaves : (l : Linking) (q : ℕ) (file : List ℕ) → q < length file
@@ -49,8 +51,8 @@ module _ (l : Linking) (given : IsGiven l) (links : Links l) (o t k address : �
   unfolding raw_file
   raw_byte =
       let sections = sections_file (layout l) l.objects in
-      let laid = are_laid l given links.sound.limits in
-      let lies = lies_at l given links.sound.limits o t address there at in
+      let laid = are_laid l given (table_fits l given links.sound.limits) in
+      let lies = lies_at l given (table_fits l given links.sound.limits) o t address there at in
       let fits = sections_fit l.kind l.objects o t address laid (there, at) (omega arith) in
       let whole : offset_of (layout l) (address + k) ≡ offset_of (layout l) address + k = omega (arith, lies.above) in
       stub_leaves l (offset_of (layout l) (address + k)) (with_got l sections)
@@ -60,7 +62,7 @@ module _ (l : Linking) (given : IsGiven l) (links : Links l) (o t k address : �
       ∙ sections_stand l.kind l.objects o t address k laid (there, at) below
 
   lies : Lies l o t address
-  lies = lies_at l given links.sound.limits o t address there at
+  lies = lies_at l given (table_fits l given links.sound.limits) o t address there at
 
   -- the changes are what is meant
   as_meant : (site : Option Site) (r : Option Relocation) (own : ℕ)

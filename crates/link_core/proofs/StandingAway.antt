@@ -14,11 +14,11 @@ use Rattle.elf_object.specs.Object.{section_count}
 use Rattle.section_file.specs.Files.{offset_of}
 use Rattle.tls_relocs.specs.Elements.{slice_get-drop}
 use Rattle.tls_symbols.specs.Faults.{held_for, held_in}
-use Rattle.link_core.specs.Linking.{Linking, layout, object, sites_at}
-use Rattle.link_core.specs.Needs.{got_start}
+use Rattle.link_needs.specs.Linking.{Linking, layout, object, sites_at}
+use Rattle.link_needs.specs.Needs.{got_start}
 use Rattle.link_core.specs.Bytes.{file, raw_file, with_field, with_fields, with_fields_from, with_site, with_sites_from}
 use Rattle.link_core.specs.Bytes.{with_table}
-use Rattle.link_core.specs.Faults.{FitsLimits, IsGiven}
+use Rattle.link_needs.specs.Given.{FitsTable, IsGiven}
 use Rattle.link_core.proofs.StandingSteps.{Acts, after, always, fold_leaves, from_zero, numbered_acts, same}
 use Rattle.link_core.proofs.StandingPlaces.{IsAway, field_in, field_leaves, in_away, site_in, site_leaves}
 
@@ -33,7 +33,7 @@ held_of b t r has = of_target (nonzero t) refl has
         own : (t s : ℕ) → Some s ≡ nonzero t → s ≡ t
         own t s e = grind (arith, nat_tests)
 
-module _ (l : Linking) (given : IsGiven l) (limits : FitsLimits l) (q : ℕ) where
+module _ (l : Linking) (given : IsGiven l) (limits : FitsTable l) (q : ℕ) where
   abbrev Leaves : (List ℕ → List ℕ) → Type 0
   Leaves step = Acts (length (raw_file l)) q same step
 
@@ -100,7 +100,7 @@ same_take (suc n) (x ∷ xs) (y ∷ ys) agree =
     cc
 
 -- the table and what lies behind it stay as they were laid
-pub table_stays : (l : Linking) → IsGiven l → FitsLimits l → (n at : ℕ) → offset_of (layout l) (got_start l) ≤ at
+pub table_stays : (l : Linking) → IsGiven l → FitsTable l → (n at : ℕ) → offset_of (layout l) (got_start l) ≤ at
     → part_at n at (file l) ≡ part_at n at (raw_file l)
 unfolding part_at
 table_stays l given limits n at behind =

@@ -32,11 +32,12 @@ use Rattle.tls_relocs.specs.declared.fields.Field.TheVariants.{Empty}
 use Rattle.tls_relocs.specs.Fields.{field_bytes}
 use Rattle.tls_relocs.specs.Values.{fits_signed, fits_unsigned, signed_field, stored_field, word32}
 use Rattle.tls_symbols.specs.Faults.{held_for, held_in}
-use Rattle.link_core.specs.Linking.{Linking, layout, object, place}
+use Rattle.link_needs.specs.Linking.{Linking, layout, object, place}
 use Rattle.link_core.specs.Bytes.{raw_file, with_field, with_field_at, with_fields, with_fields_from, with_table}
-use Rattle.link_core.specs.Faults.{FitsLimits, IsGiven, Links, Overflows}
+use Rattle.link_core.specs.Faults.{Links, Overflows}
+use Rattle.link_needs.specs.Given.{FitsTable, IsGiven}
 use Rattle.link_core.specs.Meant.{is_in_field}
-use Rattle.link_core.specs.Values.{field, is_replaced}
+use Rattle.link_needs.specs.Values.{field, is_replaced}
 use Rattle.link_core.proofs.Lengths.{field_inside}
 use Rattle.link_core.proofs.LengthsInside.{is_object}
 use Rattle.link_core.proofs.StandingSteps.{Acts, always, any_range, fold_acts, from_zero, like, none_found}
@@ -44,6 +45,7 @@ use Rattle.link_core.proofs.StandingSteps.{number_is, number_not, number_same, n
 use Rattle.link_core.proofs.StandingSteps.{splice_fills, when}
 use Rattle.link_core.proofs.StandingPlaces.{IsAway, Lies, field_leaves}
 use Rattle.link_core.proofs.StandingAway.{object_away, table_away}
+use Rattle.link_core.proofs.Few.{table_fits}
 
 -- ** a field that holds its value is as wide as its type says
 
@@ -179,8 +181,8 @@ covers_false a w k e = elim (cases_lt k a) [
 
 module _ (l : Linking) (given : IsGiven l) (links : Links l) (o t address k : ℕ) (lies : Lies l o t address)
     (below : k < section_size (object l o) t) where
-  limits : FitsLimits l
-  limits = links.sound.limits
+  limits : FitsTable l
+  limits = table_fits l given links.sound.limits
 
   abbrev n : ℕ
   n = length (raw_file l)

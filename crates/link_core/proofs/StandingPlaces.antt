@@ -15,7 +15,7 @@ use Rattle.elf_object.specs.Relocations.{field_width}
 use Rattle.link_faults.specs.ImageKinds.{base_of}
 use Rattle.section_file.specs.Files.{offset_of}
 use Rattle.section_file.proofs.Standing.{has_place}
-use Rattle.sequence_match.specs.declared.places.Site.{Site}
+use Rattle.sequence_forms.specs.declared.places.Site.{Site}
 use Rattle.sequence_match.specs.Faults.{IsSite}
 use Rattle.tls_layout.specs.Places.{address_of, section_named}
 use Rattle.tls_layout.specs.Sections.{is_class}
@@ -23,8 +23,8 @@ use Rattle.tls_layout.proofs.LawsOfPlaces.{have_addresses, lie_in_classes}
 use Rattle.tls_layout.proofs.LawsOfSections.{finds_sections}
 use Rattle.tls_relocs.specs.declared.fields.Field.TheVariants.{Empty}
 use Rattle.tls_relocs.specs.Fields.{field_bytes}
-use Rattle.tls_symbols.specs.declared.binding.Binding.{Binding}
-use Rattle.dynamic_symbols.specs.Names.{first_of}
+use Rattle.link_faults.specs.declared.binding.Binding.{Binding}
+use Rattle.sequence_match.specs.Sites.{first_of}
 use Rattle.relax_sites.specs.declared.choices.Choice.{Choice}
 use Rattle.relax_sites.specs.declared.choices.Choice.TheVariants.{Keep}
 use Rattle.relax_sites.specs.declared.rows.NewField.{NewField}
@@ -32,11 +32,11 @@ use Rattle.relax_sites.specs.Choices.{IsChoiceOf}
 use Rattle.relax_sites.specs.Rewriting.{rewritten}
 use Rattle.relax_sites.specs.Rows.{form_length, new_bytes, new_field}
 use Rattle.relax_sites.proofs.Tables.{field_end, own_choice, row_length}
-use Rattle.link_core.specs.Linking.{Linking, binding, choice, chosen, layout, object, place, sites_at}
-use Rattle.link_core.specs.Needs.{got_start, new_relocation}
+use Rattle.link_needs.specs.Linking.{Linking, binding, choice, chosen, layout, object, place, sites_at}
+use Rattle.link_needs.specs.Needs.{got_start, new_relocation}
 use Rattle.link_core.specs.Bytes.{in_file, raw_file, with_field, with_field_at, with_new_field, with_site}
-use Rattle.link_core.specs.Faults.{FitsLimits, IsGiven}
-use Rattle.link_core.specs.Values.{field, is_replaced}
+use Rattle.link_needs.specs.Given.{FitsTable, IsGiven}
+use Rattle.link_needs.specs.Values.{field, is_replaced}
 use Rattle.link_core.proofs.Lengths.{field_inside, site_inside}
 use Rattle.link_core.proofs.LengthsInside.{form_some, is_code, is_object, is_relocated}
 use Rattle.link_core.proofs.LengthsKept.{IsAtMost, field_at_most, new_width}
@@ -59,7 +59,7 @@ IsAway l q o t =
     (address : ℕ) → Lies l o t address
     → (q < offset_of (layout l) address) ⊎ (offset_of (layout l) (address + section_size (object l o) t) ≤ q)
 
-module _ (l : Linking) (given : IsGiven l) (limits : FitsLimits l) where
+module _ (l : Linking) (given : IsGiven l) (limits : FitsTable l) where
   -- a section of a class that has an address
   lies_in : (o t address : ℕ) (class : SectionClass) → o < length l.objects → section_class (object l o) t ≡ Some class
       → address_of (layout l) o t ≡ Some address → Lies l o t address

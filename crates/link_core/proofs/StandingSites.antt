@@ -18,21 +18,22 @@ use Rattle.relax_sites.specs.Rows.{new_bytes, new_field}
 use Rattle.relax_sites.proofs.Parts.{part_at-splice_inside}
 use Rattle.relax_sites.proofs.Tables.{row_length}
 use Rattle.section_file.specs.Files.{offset_of}
-use Rattle.sequence_match.specs.declared.forms.Form.{Form}
-use Rattle.sequence_match.specs.declared.forms.Form.TheVariants.{Gd, Ld, IeMov, IeAdd, GdInd, LdInd, DescLea}
-use Rattle.sequence_match.specs.declared.forms.Form.TheVariants.{DescCall}
-use Rattle.sequence_match.specs.declared.places.Site.{Site}
+use Rattle.sequence_forms.specs.declared.forms.Form.{Form}
+use Rattle.sequence_forms.specs.declared.forms.Form.TheVariants.{Gd, Ld, IeMov, IeAdd, GdInd, LdInd, DescLea}
+use Rattle.sequence_forms.specs.declared.forms.Form.TheVariants.{DescCall}
+use Rattle.sequence_forms.specs.declared.places.Site.{Site}
 use Rattle.sequence_match.specs.Faults.{IsSite}
 use Rattle.sequence_match.proofs.ApartSites.{sites_apart}
 use Rattle.tls_relocs.specs.declared.fields.Field.TheVariants.{Empty}
 use Rattle.tls_relocs.specs.Elements.{slice_get-drop, slice_get-take}
 use Rattle.tls_relocs.specs.Fields.{field_bytes}
-use Rattle.link_core.specs.Linking.{Linking, choice, layout, object, place, sites_at}
-use Rattle.link_core.specs.Needs.{is_kept, new_relocation}
+use Rattle.link_needs.specs.Linking.{Linking, choice, layout, object, place, sites_at}
+use Rattle.link_needs.specs.Needs.{is_kept, new_relocation}
 use Rattle.link_core.specs.Bytes.{in_file, raw_file, with_new_field, with_site, with_sites_from}
-use Rattle.link_core.specs.Faults.{FitsLimits, IsGiven, Links}
+use Rattle.link_core.specs.Faults.{Links}
+use Rattle.link_needs.specs.Given.{FitsTable, IsGiven}
 use Rattle.link_core.specs.Meant.{is_in_rewritten, rewritten_bytes, row_with}
-use Rattle.link_core.specs.Values.{field}
+use Rattle.link_needs.specs.Values.{field}
 use Rattle.link_core.proofs.Lengths.{site_inside}
 use Rattle.link_core.proofs.LengthsKept.{splice_keeps}
 use Rattle.link_core.proofs.StandingSteps.{Acts, always, any_range, fold_acts, from_zero, like, none_found}
@@ -41,6 +42,7 @@ use Rattle.link_core.proofs.StandingSteps.{splice_fills, when}
 use Rattle.link_core.proofs.StandingPlaces.{Lies, in_away, new_field_in, own_choice_of, site_in, site_leaves}
 use Rattle.link_core.proofs.StandingAway.{own_sites_away}
 use Rattle.link_core.proofs.StandingFields.{other_away}
+use Rattle.link_core.proofs.Few.{table_fits}
 
 -- ** choices
 
@@ -126,8 +128,8 @@ covering l o t k site e =
 
 module _ (l : Linking) (given : IsGiven l) (links : Links l) (o t address k : ℕ) (lies : Lies l o t address)
     (below : k < section_size (object l o) t) where
-  limits : FitsLimits l
-  limits = links.sound.limits
+  limits : FitsTable l
+  limits = table_fits l given links.sound.limits
 
   abbrev n : ℕ
   n = length (raw_file l)

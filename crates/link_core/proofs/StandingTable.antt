@@ -28,11 +28,11 @@ use Rattle.tls_relocs.specs.declared.fields.Field.TheVariants.{Empty, Word32}
 use Rattle.tls_relocs.specs.Fields.{field_bytes}
 use Rattle.tls_relocs.specs.Laid.{zeros}
 use Rattle.tls_relocs.specs.Values.{signed_field}
-use Rattle.tls_symbols.specs.declared.symbols.SymbolRef.{SymbolRef}
-use Rattle.link_core.specs.Linking.{Linking, layout}
-use Rattle.link_core.specs.Needs.{entries, got_size, got_start, has_stub, need_address, stub_start}
+use Rattle.link_faults.specs.declared.symbol_ref.SymbolRef.{SymbolRef}
+use Rattle.link_needs.specs.Linking.{Linking, layout}
+use Rattle.link_needs.specs.Needs.{entries, got_size, got_start, has_stub, need_address, stub_start}
 use Rattle.link_core.specs.Bytes.{file, got_bytes, need_bytes, raw_file, stub_bytes, with_got, with_part, with_stub}
-use Rattle.link_core.specs.Faults.{FitsLimits, IsGiven}
+use Rattle.link_needs.specs.Given.{FitsTable, IsGiven}
 use Rattle.link_core.proofs.LengthsInside.{are_laid}
 use Rattle.link_core.proofs.LengthsPlaces.{base_before, got_end, got_end-before, got_start-after}
 use Rattle.link_core.proofs.LengthsRaw.{back_fits, need_length, stub_length, stub_small, with_got_length, word_before}
@@ -169,7 +169,7 @@ got_there l file some = of_test (got_size l == 0) (test (got_size l) some)
     of_test false e = (refl, refl)
 
 -- each entry, with the words of its need
-pub entry_stands : (l : Linking) → IsGiven l → FitsLimits l → (need : Need) (at : ℕ)
+pub entry_stands : (l : Linking) → IsGiven l → FitsTable l → (need : Need) (at : ℕ)
     → start_of (entries l) need ≡ Some at
     → part_at (length (need_bytes l need)) (offset_of (layout l) (got_start l + at)) (file l) ≡ need_bytes l need
 unfolding raw_file got_bytes
@@ -210,7 +210,7 @@ unfolding part_at
 whole_part n xs e = ap (take n) (sym (append-nil xs)) ∙ take_at xs [] n e
 
 -- the stub stands at its place
-pub stub_at : (l : Linking) → IsGiven l → FitsLimits l → has_stub l ≡ true
+pub stub_at : (l : Linking) → IsGiven l → FitsTable l → has_stub l ≡ true
     → part_at 6 (offset_of (layout l) (stub_start l)) (file l) ≡ stub_bytes l
 unfolding raw_file
 stub_at l given limits e =
@@ -273,7 +273,7 @@ jump_is g p below =
     ∙ sym (back g (p + 5) (omega arith)) ∙ ap (λ n. pos g -ℤ pos n) (sym far)
 
 -- its field holds how far the word lies behind the field's end
-pub stub_jumps : (l : Linking) → IsGiven l → FitsLimits l → part_at 4 2 (stub_bytes l)
+pub stub_jumps : (l : Linking) → IsGiven l → FitsTable l → part_at 4 2 (stub_bytes l)
     ≡ bytes_of 4 (cast_unsigned w32 (pos (need_address l (Some RuntimeWord)) -ℤ pos (stub_start l + 6)))
 unfolding stub_bytes
 stub_jumps l given limits =

@@ -4,9 +4,9 @@ use Rattle.std.proofs.Common.{refl, sym, subst, arith, length-append}
 use Rattle.std.proofs.lemmas.List.{length-map}
 use Rattle.image_writer.specs.Contents.{null_symbol}
 use Rattle.image_writer.specs.Linkable.{IsRightSymbol}
-use Rattle.link_core.specs.Linking.{Linking, layout}
+use Rattle.link_needs.specs.Linking.{Linking, layout}
 use Rattle.link_core.specs.Dynamic.{names, runtime_names, runtime_symbols, symbols}
-use Rattle.link_core.specs.Faults.{FitsLimits, IsGiven}
+use Rattle.link_needs.specs.Given.{FitsTable, IsGiven}
 use Rattle.link_core.specs.Images.{contents}
 use Rattle.link_core.proofs.SymbolsInside.{size_told, symbols_right}
 use Rattle.link_core.proofs.SymbolsNames.{names_clean}
@@ -19,7 +19,7 @@ pub named : (l : Linking) → length (names l) ≡ length (symbols l)
 unfolding names symbols
 named l = simp (length-append, length-map, named_runtime)
 
-pub right_symbols : (l : Linking) → IsGiven l → FitsLimits l
+pub right_symbols : (l : Linking) → IsGiven l → FitsTable l
     → (k : ℕ) → 0 < k → k ≤ length (symbols l) → IsRightSymbol (contents l) k
 unfolding contents
 right_symbols l given limits zero above there = absurd (omega arith)

@@ -34,12 +34,12 @@ use Rattle.tls_layout.proofs.LawsOfSections.{finds_sections}
 use Rattle.tls_layout.proofs.LawsOfTls.{have_offsets, lie_in_segment}
 use Rattle.tls_symbols.specs.Bindings.{is_tls_class, is_tls_place}
 use Rattle.tls_symbols.specs.Definitions.{same_binding}
-use Rattle.link_core.specs.Linking.{Linking, address, layout, object, offset, offset_in}
+use Rattle.link_needs.specs.Linking.{Linking, address, layout, object, offset, offset_in}
 use Rattle.link_core.specs.Dynamic.{binding_shown, defined, foreign, imports, own_symbols, runtime_symbols, symbols}
 use Rattle.link_core.specs.Dynamic.{type_shown}
-use Rattle.link_core.specs.Faults.{FitsLimits, IsGiven}
+use Rattle.link_needs.specs.Given.{FitsTable, IsGiven}
 use Rattle.link_core.specs.Images.{tls_part}
-use Rattle.link_core.specs.Needs.{uses_runtime}
+use Rattle.link_needs.specs.Needs.{uses_runtime}
 
 -- a symbol that is shared, and lies in a TLS segment of n bytes if it is thread-local here
 pub record IsRight (n : ℕ) (s : ImageSymbol) : Type 0 where
@@ -83,7 +83,7 @@ tls_class (Some (Writable initial)) h = absurd h
 
 -- ** what the image defines
 
-module _ (l : Linking) (given : IsGiven l) (limits : FitsLimits l) (o e : ℕ)
+module _ (l : Linking) (given : IsGiven l) (limits : FitsTable l) (o e : ℕ)
     (found : IsShared l.objects (record { object = o; symbol = e })) where
   is_object : IsObject (object l o)
   is_object = given.are_objects o [] found.within.object
@@ -151,7 +151,7 @@ module _ (l : Linking) (given : IsGiven l) (limits : FitsLimits l) (o e : ℕ)
 foreign_right : (n : ℕ) (kind : type_of_image.SymbolType) → IsRight n (foreign kind)
 foreign_right n kind = record { shared = λ h. cc; inside = λ shows is. absurd (cc) }
 
-own_right : (l : Linking) → IsGiven l → FitsLimits l
+own_right : (l : Linking) → IsGiven l → FitsTable l
     → All (IsRight (tls_size (layout l).sections)) (map (defined l) (own_symbols l))
 own_right l given limits =
     let n = tls_size (layout l).sections in
@@ -170,7 +170,7 @@ runtime_right n true =
     All-cons (IsRight n) (foreign type_in_image.NoType) [] (foreign_right n type_in_image.NoType) (All-nil (IsRight n))
 runtime_right n false = All-nil (IsRight n)
 
-pub symbols_right : (l : Linking) → IsGiven l → FitsLimits l → All (IsRight (tls_size (layout l).sections)) (symbols l)
+pub symbols_right : (l : Linking) → IsGiven l → FitsTable l → All (IsRight (tls_size (layout l).sections)) (symbols l)
 unfolding symbols
 symbols_right l given limits =
     let n = tls_size (layout l).sections in

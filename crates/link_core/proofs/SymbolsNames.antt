@@ -10,14 +10,14 @@ use Rattle.elf_records.specs.Strings.{text_at}
 use Rattle.elf_records.proofs.TextLengths.{length-text}
 use Rattle.elf_object.specs.Lent.{section_bytes, symbol_name}
 use Rattle.elf_object.specs.Parts.{section, symbol, symbol_table}
-use Rattle.sequence_match.specs.declared.places.Site.{Site}
-use Rattle.tls_symbols.specs.declared.symbols.SymbolRef.{SymbolRef}
+use Rattle.sequence_forms.specs.declared.places.Site.{Site}
+use Rattle.link_faults.specs.declared.symbol_ref.SymbolRef.{SymbolRef}
 use Rattle.tls_symbols.specs.Bindings.{get_address, object_at}
 use Rattle.dynamic_symbols.specs.Names.{imported_at, imported_from, imported_in, imports, is_import, name_of}
 use Rattle.dynamic_symbols.proofs.Lists.{all_distinct, all_flat}
-use Rattle.link_core.specs.Linking.{Linking}
+use Rattle.link_needs.specs.Linking.{Linking}
 use Rattle.link_core.specs.Dynamic.{names, own_symbols, runtime_names, imports as imported}
-use Rattle.link_core.specs.Needs.{uses_runtime}
+use Rattle.link_needs.specs.Needs.{uses_runtime}
 
 -- a name of no zero byte
 abbrev pub IsClean : List ℕ → Type 0

@@ -15,25 +15,25 @@ use Rattle.elf_object.specs.Parts.{symbol_count}
 use Rattle.elf_object.specs.Lent.{kept_relocation_table, relocations, relocations_in}
 use Rattle.elf_object.specs.Relocations.{field_width}
 use Rattle.link_faults.specs.declared.fault.LinkFaultKind.TheVariants.{NotTls, Undefined}
-use Rattle.sequence_match.specs.declared.forms.Call.{Call}
-use Rattle.sequence_match.specs.declared.forms.Second.{Second}
-use Rattle.sequence_match.specs.declared.places.Site.{Site}
+use Rattle.sequence_forms.specs.declared.forms.Call.{Call}
+use Rattle.sequence_forms.specs.declared.forms.Second.{Second}
+use Rattle.sequence_forms.specs.declared.places.Site.{Site}
 use Rattle.sequence_match.specs.Faults.{code_of, IsGetter, IsOfSequence, IsSite}
-use Rattle.sequence_match.specs.Forms.{row, IsCallKind}
-use Rattle.sequence_match.specs.Sites.{IsEntry, IsSecond, IsSiteOf}
+use Rattle.sequence_forms.specs.Forms.{row, IsCallKind}
+use Rattle.sequence_match.specs.Sites.{IsEntry, IsSecond, IsSiteOf, first_of}
 use Rattle.sequence_match.proofs.Entries.{same_entry}
 use Rattle.sequence_match.proofs.Rows.{first_of_sequence}
 use Rattle.sequence_match.proofs.Sections.{fields_apart}
-use Rattle.tls_symbols.specs.declared.binding.Binding.{Binding}
-use Rattle.tls_symbols.specs.declared.binding.Binding.TheVariants.{Here, Startup, Runtime}
+use Rattle.link_faults.specs.declared.binding.Binding.{Binding}
+use Rattle.link_faults.specs.declared.binding.Binding.TheVariants.{Here, Startup, Runtime}
 use Rattle.tls_symbols.specs.Faults.{is_faulty, is_mismatched, is_tls_kind, names_symbol, Stands}
-use Rattle.dynamic_symbols.specs.Names.{first_of}
 use Rattle.dynamic_symbols.proofs.Foreign.{bindings_by_use}
-use Rattle.link_core.specs.Linking.{Linking, binding, choice, chosen, object, sites_at}
-use Rattle.link_core.specs.Faults.{IsGiven, Links}
+use Rattle.link_needs.specs.Linking.{Linking, binding, choice, chosen, object, sites_at}
+use Rattle.link_core.specs.Faults.{Links}
+use Rattle.link_needs.specs.Given.{IsGiven}
 use Rattle.link_core.specs.Laws.{FieldsGoWithTheirSites, HasNoStray, IsCovered, IsInSite}
-use Rattle.link_core.specs.Needs.{is_kept}
-use Rattle.link_core.specs.Values.{goes, is_replaced, is_rewriting}
+use Rattle.link_needs.specs.Needs.{is_kept}
+use Rattle.link_needs.specs.Values.{goes, is_replaced, is_rewriting}
 use Rattle.link_core.proofs.GotRelocationsSites.{held, IsHeld, passes}
 use Rattle.link_core.proofs.TogetherFound.{Rewritten, rewritten_or_not}
 use Rattle.link_core.proofs.TogetherNames.{getter_bound, runtime_getter}

@@ -3,9 +3,9 @@ use Rattle.std.proofs.Common.{◌≡◌, ◌+◌, ◌<◌, ◌≤◌, ◌⊎◌,
 use Rattle.std.proofs.Common.{refl, sym, subst, inl, inr, arith}
 use Rattle.std.specs.Prelude.{slice_index_or}
 use Rattle.std.specs.List.{Contains}
-use Rattle.sequence_match.specs.declared.places.Site.{Site}
-use Rattle.link_core.specs.Linking.{Linking, choice}
-use Rattle.link_core.specs.Needs.{is_kept}
+use Rattle.sequence_forms.specs.declared.places.Site.{Site}
+use Rattle.link_needs.specs.Linking.{Linking, choice}
+use Rattle.link_needs.specs.Needs.{is_kept}
 
 module _ (l : Linking) (o t k : ℕ) where
   -- a site of these that is rewritten, and has byte k of section t

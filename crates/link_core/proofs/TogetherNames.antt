@@ -16,9 +16,9 @@ use Rattle.elf_object.specs.Lent.{place_numbered, symbol_binding, symbol_name, s
 use Rattle.elf_object.specs.Parts.{symbol, symbol_count, symbol_table}
 use Rattle.link_faults.specs.declared.fault.LinkFaultKind.TheVariants.{Duplicate}
 use Rattle.sequence_match.specs.Faults.{IsGetter}
-use Rattle.tls_symbols.specs.declared.binding.Binding.{Binding}
-use Rattle.tls_symbols.specs.declared.binding.Binding.TheVariants.{Here, Runtime}
-use Rattle.tls_symbols.specs.declared.symbols.SymbolRef.{SymbolRef}
+use Rattle.link_faults.specs.declared.binding.Binding.{Binding}
+use Rattle.link_faults.specs.declared.binding.Binding.TheVariants.{Here, Runtime}
+use Rattle.link_faults.specs.declared.symbol_ref.SymbolRef.{SymbolRef}
 use Rattle.tls_symbols.specs.Bindings.{binding_of, first_export, get_address, here_or, may_import, name_binding}
 use Rattle.tls_symbols.specs.Bindings.{object_at, of_startup}
 use Rattle.tls_symbols.specs.Definitions.{definition_of, is_defined, same_binding}

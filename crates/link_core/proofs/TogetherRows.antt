@@ -13,25 +13,25 @@ use Rattle.elf_object.specs.declared.relocation.Relocation.{Relocation}
 use Rattle.elf_object.specs.Relocations.{field_width}
 use Rattle.link_faults.specs.declared.image_kind.ImageKind.{ImageKind}
 use Rattle.link_faults.specs.declared.image_kind.ImageKind.TheVariants.{Exe, Pie, Start, Late}
-use Rattle.link_refusals.specs.Refused.{is_module}
-use Rattle.sequence_match.specs.declared.forms.Form.{Form}
-use Rattle.sequence_match.specs.declared.forms.Form.TheVariants.{Gd, Ld, IeMov, IeAdd, GdInd, LdInd, DescLea, DescCall}
-use Rattle.sequence_match.specs.declared.forms.Cell.{Cell}
-use Rattle.sequence_match.specs.declared.forms.Cell.TheVariants.{Is, Rex, ModRm, Field}
-use Rattle.sequence_match.specs.declared.forms.Call.{Call}
-use Rattle.sequence_match.specs.declared.forms.Call.TheVariants.{Direct, Indirect}
-use Rattle.sequence_match.specs.declared.forms.Second.{Second}
+use Rattle.link_faults.specs.ImageKinds.{is_module}
+use Rattle.sequence_forms.specs.declared.forms.Form.{Form}
+use Rattle.sequence_forms.specs.declared.forms.Form.TheVariants.{Gd, Ld, IeMov, IeAdd, GdInd, LdInd, DescLea, DescCall}
+use Rattle.sequence_forms.specs.declared.forms.Cell.{Cell}
+use Rattle.sequence_forms.specs.declared.forms.Cell.TheVariants.{Is, Rex, ModRm, Field}
+use Rattle.sequence_forms.specs.declared.forms.Call.{Call}
+use Rattle.sequence_forms.specs.declared.forms.Call.TheVariants.{Direct, Indirect}
+use Rattle.sequence_forms.specs.declared.forms.Second.{Second}
 use Rattle.sequence_match.specs.Faults.{IsOfSequence}
-use Rattle.sequence_match.specs.Forms.{row, IsCallKind, Sequence}
+use Rattle.sequence_forms.specs.Forms.{row, IsCallKind, Sequence}
 use Rattle.sequence_match.specs.Sites.{IsLiteral, IsSecond}
 use Rattle.relax_sites.specs.declared.choices.Choice.{Choice}
 use Rattle.relax_sites.specs.declared.choices.Choice.TheVariants.{Keep}
 use Rattle.relax_sites.specs.Choices.{choice_of, program_choice}
-use Rattle.tls_symbols.specs.declared.binding.Binding.{Binding}
-use Rattle.tls_symbols.specs.declared.binding.Binding.TheVariants.{Here, Startup, Runtime}
-use Rattle.link_core.specs.Linking.{Linking, chosen}
-use Rattle.link_core.specs.Needs.{is_kept}
-use Rattle.link_core.specs.Values.{goes, is_rewriting, is_runtime}
+use Rattle.link_faults.specs.declared.binding.Binding.{Binding}
+use Rattle.link_faults.specs.declared.binding.Binding.TheVariants.{Here, Startup, Runtime}
+use Rattle.link_needs.specs.Linking.{Linking, chosen}
+use Rattle.link_needs.specs.Needs.{is_kept}
+use Rattle.link_needs.specs.Values.{goes, is_rewriting, is_runtime}
 
 -- ** what a program rewrites
 

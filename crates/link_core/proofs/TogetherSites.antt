@@ -3,10 +3,10 @@ use Rattle.std.proofs.Common.{◌≡◌, ◌+◌, ◌-◌, ◌<◌, ◌≤◌, �
 use Rattle.std.proofs.Common.{sym, ap, subst, inl, inr, arith}
 use Rattle.elf_object.specs.declared.relocation.Relocation.{Relocation}
 use Rattle.elf_object.specs.Relocations.{field_width}
-use Rattle.sequence_match.specs.declared.forms.Second.{Second}
-use Rattle.sequence_match.specs.declared.places.Site.{Site}
+use Rattle.sequence_forms.specs.declared.forms.Second.{Second}
+use Rattle.sequence_forms.specs.declared.places.Site.{Site}
 use Rattle.sequence_match.specs.Code.{AreApart}
-use Rattle.sequence_match.specs.Forms.{row}
+use Rattle.sequence_forms.specs.Forms.{row}
 use Rattle.sequence_match.specs.Sites.{Covers, HasSecond, IsEntry, IsSecond, IsSiteOf}
 use Rattle.sequence_match.proofs.Entries.{same_entry}
 use Rattle.sequence_match.proofs.Rows.{call_width_is}

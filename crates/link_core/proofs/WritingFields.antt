@@ -16,15 +16,15 @@ use Rattle.tls_relocs.specs.declared.fields.Field.TheVariants.{Empty}
 use Rattle.tls_relocs.specs.Fields.{field_patch}
 use Rattle.tls_relocs.specs.Patches.{patched}
 use Rattle.tls_relocs.specs.Values.{stored_field}
-use Rattle.link_core.specs.declared.symbol_values.SymbolValue.{SymbolValue}
-use Rattle.link_core.specs.Linking.{Linking, binding, layout, object, place}
+use Rattle.link_needs.specs.declared.symbol_values.SymbolValue.{SymbolValue}
+use Rattle.link_needs.specs.Linking.{Linking, binding, layout, object, place}
 use Rattle.link_core.specs.Bytes.{with_field}
-use Rattle.link_core.specs.Faults.{IsGiven}
+use Rattle.link_needs.specs.Given.{IsGiven}
 use Rattle.link_core.specs.Overflows.{IsFilled, IsOverflow}
-use Rattle.link_core.specs.SymbolNumbers.{goes_by, value_of}
-use Rattle.link_core.specs.Values.{field, is_replaced, is_rewriting, other_number, own_number}
+use Rattle.link_needs.specs.SymbolNumbers.{goes_by, value_of}
+use Rattle.link_needs.specs.Values.{field, is_replaced, is_rewriting, other_number, own_number}
 use Rattle.link_core.proofs.LengthsInside.{is_object}
-use Rattle.link_core.proofs.ValueLemmas.{takes_part}
+use Rattle.link_needs.proofs.ValueLemmas.{takes_part}
 use Rattle.link_core.proofs.WritingRoom.{patched_nothing}
 
 -- a relocation that does something names a symbol of its object

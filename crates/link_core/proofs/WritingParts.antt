@@ -15,8 +15,8 @@ use Rattle.tls_relocs.specs.declared.fields.Field.TheVariants.{Empty}
 use Rattle.tls_relocs.specs.Fields.{field_bytes}
 use Rattle.tls_relocs.specs.Laid.{zeros}
 use Rattle.tls_relocs.specs.Values.{stored_field}
-use Rattle.link_core.specs.Linking.{Linking, layout}
-use Rattle.link_core.specs.Needs.{got_size, got_start, has_stub, need_address, stub_start, table}
+use Rattle.link_needs.specs.Linking.{Linking, layout}
+use Rattle.link_needs.specs.Needs.{got_size, got_start, has_stub, need_address, stub_start, table}
 use Rattle.link_core.specs.Bytes.{got_bytes, stub_bytes, table_bytes, with_got, with_stub}
 
 -- what follows from what holds where a step goes well

@@ -8,7 +8,7 @@ use Rattle.tls_relocs.specs.declared.fields.Field.{Field}
 use Rattle.tls_relocs.specs.declared.fields.Field.TheVariants.{Empty, Word32, Word64}
 use Rattle.tls_relocs.specs.Fields.{field_patch, width_of}
 use Rattle.tls_relocs.specs.Patches.{patched}
-use Rattle.link_core.specs.Needs.{got_size, got_start, stub_start}
+use Rattle.link_needs.specs.Needs.{got_size, got_start, stub_start}
 use Rattle.link_core.proofs.LengthsPlaces.{base_before}
 use Rattle.link_core.proofs.LengthsRaw.{stub_small}
 use Rattle.std.specs.Prelude.{unwrap_or}
@@ -24,27 +24,27 @@ use Rattle.elf_object.specs.Lent.{relocations, section_class}
 use Rattle.elf_object.specs.Relocations.{field_width}
 use Rattle.link_faults.specs.ImageKinds.{base_of}
 use Rattle.section_file.specs.Files.{offset_of}
-use Rattle.section_file.proofs.Bounds.{address_bounds}
+use Rattle.tls_layout.proofs.Bounds.{address_bounds}
 use Rattle.relax_sites.specs.declared.choices.Choice.{Choice}
 use Rattle.relax_sites.specs.declared.choices.Choice.TheVariants.{GdLe, GdIe, IeLe, DescLe, DescIe}
 use Rattle.relax_sites.specs.declared.rows.NewField.{NewField}
 use Rattle.relax_sites.specs.Rows.{new_field}
 use Rattle.relax_sites.proofs.Tables.{field_end}
-use Rattle.sequence_match.specs.declared.forms.Form.{Form}
-use Rattle.sequence_match.specs.declared.forms.Form.TheVariants.{Gd, IeMov, IeAdd, GdInd, DescLea}
-use Rattle.sequence_match.specs.declared.places.Site.{Site}
+use Rattle.sequence_forms.specs.declared.forms.Form.{Form}
+use Rattle.sequence_forms.specs.declared.forms.Form.TheVariants.{Gd, IeMov, IeAdd, GdInd, DescLea}
+use Rattle.sequence_forms.specs.declared.places.Site.{Site}
 use Rattle.sequence_match.specs.Faults.{IsSite}
 use Rattle.tls_layout.specs.Places.{address_of}
 use Rattle.tls_layout.proofs.LawsOfPlaces.{have_addresses}
 use Rattle.tls_layout.proofs.LawsOfSections.{finds_sections}
-use Rattle.link_core.specs.Linking.{Linking, layout, object, place, sites_at}
+use Rattle.link_needs.specs.Linking.{Linking, layout, object, place, sites_at}
 use Rattle.link_core.specs.Bytes.{raw_file}
-use Rattle.link_core.specs.Faults.{FitsLimits, IsGiven}
+use Rattle.link_needs.specs.Given.{FitsTable, IsGiven}
 use Rattle.link_core.specs.Room.{HasRoom}
-use Rattle.link_core.specs.Usable.{IsUsable}
+use Rattle.link_needs.specs.Usable.{IsUsable}
 use Rattle.link_core.proofs.Lengths.{field_inside, site_inside}
 use Rattle.link_core.proofs.LengthsInside.{form_some, is_code, is_object, is_relocated}
-use Rattle.link_core.proofs.UsableSites.{usable}
+use Rattle.link_needs.proofs.UsableSites.{usable}
 
 -- ** the table and the stub
 
@@ -54,7 +54,7 @@ pub record StandNear (l : Linking) : Type 0 where
   pub after : got_start l ≤ stub_start l
   pub near : stub_start l + 2 < 2 ^ 29
 
-pub stand_near : (l : Linking) → IsGiven l → FitsLimits l → StandNear l
+pub stand_near : (l : Linking) → IsGiven l → FitsTable l → StandNear l
 stand_near l given limits =
     let page = page_up-above (got_start l + got_size l) in
     record { above = base_before l; after = omega arith; near = stub_small l given limits }
@@ -70,7 +70,7 @@ patched_nothing at (Word32 word) file none = absurd (omega arith)
 patched_nothing at (Word64 word) file none = absurd (omega arith)
 
 -- where a section begins: nowhere below the base of its image, and not far above
-pub section_near : (l : Linking) (o t : ℕ) (class : SectionClass) → FitsLimits l → o < length l.objects
+pub section_near : (l : Linking) (o t : ℕ) (class : SectionClass) → FitsTable l → o < length l.objects
     → section_class (object l o) t ≡ Some class → class ≢ Tls false
     → (base_of l.kind ≤ place l o t 0) × (place l o t 0 ≤ 2 ^ 25)
 section_near l o t class limits there is other =
@@ -85,7 +85,7 @@ section_near l o t class limits there is other =
         (omega arith, omega arith)
 
 -- a relocation of a section has room for its field
-pub field_room : (l : Linking) (o t : ℕ) (r : Relocation) → IsGiven l → FitsLimits l → o < length l.objects
+pub field_room : (l : Linking) (o t : ℕ) (r : Relocation) → IsGiven l → FitsTable l → o < length l.objects
     → Contains (relocations (object l o) t) r
     → HasRoom l (place l o t r.offset) (field_width r.kind) (length (raw_file l))
 field_room l o t r given limits there is =
@@ -111,7 +111,7 @@ pub record IsRoomy (l : Linking) (o : ℕ) (site : Site) : Type 0 where
   pub near : place l o site.section site.start ≤ 2 ^ 26
   pub inside : offset_of (layout l) (place l o site.section site.start) + site.len ≤ length (raw_file l)
 
-pub site_room : (l : Linking) (o : ℕ) (site : Site) → IsGiven l → FitsLimits l → o < length l.objects
+pub site_room : (l : Linking) (o : ℕ) (site : Site) → IsGiven l → FitsTable l → o < length l.objects
     → Contains (sites_at l o) site → IsRoomy l o site
 site_room l o site given limits there is =
     let b = object l o in

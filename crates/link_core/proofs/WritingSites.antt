@@ -8,15 +8,15 @@ use Rattle.relax_sites.specs.declared.rows.NewField.{NewField}
 use Rattle.relax_sites.specs.Rewriting.{rewritten}
 use Rattle.relax_sites.specs.Rows.{new_field}
 use Rattle.section_file.specs.Files.{offset_of}
-use Rattle.sequence_match.specs.declared.places.Site.{Site}
+use Rattle.sequence_forms.specs.declared.places.Site.{Site}
 use Rattle.tls_relocs.specs.declared.fields.Field.{Field}
 use Rattle.tls_relocs.specs.declared.fields.Field.TheVariants.{Empty}
 use Rattle.tls_relocs.specs.Fields.{field_patch}
 use Rattle.tls_relocs.specs.Patches.{patched}
-use Rattle.link_core.specs.Linking.{Linking, choice, layout, place}
-use Rattle.link_core.specs.Needs.{new_relocation}
+use Rattle.link_needs.specs.Linking.{Linking, choice, layout, place}
+use Rattle.link_needs.specs.Needs.{new_relocation}
 use Rattle.link_core.specs.Bytes.{with_new_field, with_site, with_sites_from}
-use Rattle.link_core.specs.Values.{field}
+use Rattle.link_needs.specs.Values.{field}
 use Rattle.link_core.proofs.WritingRoom.{patched_nothing}
 
 module _ (l : Linking) (o : ℕ) (site : Site) (file : List ℕ) where

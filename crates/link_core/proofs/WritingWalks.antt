@@ -16,7 +16,7 @@ use Rattle.link_faults.specs.declared.fault.LinkFaultKind.{LinkFaultKind}
 use Rattle.link_faults.specs.declared.fault.LinkFaultKind.TheVariants as fault
 use Rattle.tls_symbols.specs.Faults.{Earlier, held_for, held_in}
 use Rattle.tls_symbols.proofs.Search.{range_first, range_none}
-use Rattle.link_core.specs.Linking.{Linking, object}
+use Rattle.link_needs.specs.Linking.{Linking, object}
 use Rattle.link_core.specs.Bytes.{with_field, with_fields, with_fields_from, with_table}
 use Rattle.link_core.specs.Faults.{Overflows}
 use Rattle.link_core.specs.Overflows.{IsFilled, IsFirstOverflow, IsFirstOverflowIn, IsFirstOverflowOf, IsOverflow}

@@ -17,16 +17,16 @@ use Rattle.relax_sites.specs.Rewriting.{rewritten}
 use Rattle.relax_sites.specs.Rows.{new_field}
 use Rattle.section_file.specs.Files.{offset_of, sections_file}
 use Rattle.section_file.specs.Laying.{with_section}
-use Rattle.sequence_match.specs.declared.places.Site.{Site}
+use Rattle.sequence_forms.specs.declared.places.Site.{Site}
 use Rattle.tls_relocs.specs.declared.fields.Field.{Field}
 use Rattle.tls_relocs.specs.declared.fields.Field.TheVariants.{Empty}
 use Rattle.tls_relocs.specs.Fields.{field_bytes, field_patch}
 use Rattle.tls_relocs.specs.Patches.{patched}
 use Rattle.tls_relocs.specs.Values.{stored_field}
 use Rattle.tls_symbols.specs.Faults.{held_in}
-use Rattle.link_core.specs.Linking.{Linking, block_offset, choice, layout, place}
-use Rattle.link_core.specs.Needs.{entries, got_size, got_start, has_stub, need_address, new_relocation, stub_start}
-use Rattle.link_core.specs.Values.{field, is_replaced}
+use Rattle.link_needs.specs.Linking.{Linking, block_offset, choice, layout, place}
+use Rattle.link_needs.specs.Needs.{entries, got_size, got_start, has_stub, need_address, new_relocation, stub_start}
+use Rattle.link_needs.specs.Values.{field, is_replaced}
 
 -- ** the table and the stub
 

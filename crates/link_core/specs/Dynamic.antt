@@ -37,17 +37,17 @@ use Rattle.image_file.specs.declared.symbol.SymbolType as type_of_image
 use Rattle.image_file.specs.declared.symbol.SymbolType.TheVariants as type_in_image
 use Rattle.image_file.specs.declared.symbol.Visibility as visibility_of_image
 use Rattle.image_file.specs.declared.symbol.Visibility.TheVariants as seen_in_image
-use Rattle.link_refusals.specs.Refused.{is_module, is_moved}
-use Rattle.sequence_match.specs.declared.forms.Form.{Form}
-use Rattle.sequence_match.specs.declared.forms.Form.TheVariants.{IeMov, IeAdd}
-use Rattle.sequence_match.specs.declared.places.Site.{Site}
+use Rattle.link_faults.specs.ImageKinds.{is_moved, is_module}
+use Rattle.sequence_forms.specs.declared.forms.Form.{Form}
+use Rattle.sequence_forms.specs.declared.forms.Form.TheVariants.{IeMov, IeAdd}
+use Rattle.sequence_forms.specs.declared.places.Site.{Site}
 use Rattle.tls_relocs.specs.Values.{modulo}
-use Rattle.tls_symbols.specs.declared.symbols.SymbolRef.{SymbolRef}
+use Rattle.link_faults.specs.declared.symbol_ref.SymbolRef.{SymbolRef}
 use Rattle.tls_symbols.specs.Bindings.{get_address, is_tls_symbol}
-use Rattle.link_core.specs.Linking.{Linking, address, binding, block_offset, object, offset, place}
-use Rattle.link_core.specs.Needs.{entries, got_start, uses_runtime}
-use Rattle.link_core.specs.Sorting.{sorted_by}
-use Rattle.link_core.specs.Values.{own_number}
+use Rattle.link_needs.specs.Linking.{Linking, address, binding, block_offset, object, offset, place}
+use Rattle.link_needs.specs.Needs.{entries, got_start, uses_runtime}
+use Rattle.link_needs.specs.Sorting.{sorted_by}
+use Rattle.link_needs.specs.Values.{own_number}
 
 -- ** symbols
 

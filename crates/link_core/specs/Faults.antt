@@ -1,8 +1,8 @@
 -- When objects do not link, and what is told.
-use Rattle.std.specs.Prelude.{◌≡◌, ◌-◌, ◌<◌, ◌≤◌, ◌^◌, ◌⊎◌, ℕ, List, Option, Some, None, IsNone, IsSomeAnd, false, length, slice_get}
+use Rattle.std.specs.Prelude.{◌≡◌, ◌<◌, ◌≤◌, ◌^◌, ◌⊎◌, ℕ, List, Option, Some, None, IsNone, IsSomeAnd, false}
+use Rattle.std.specs.Prelude.{length, slice_get}
 use Rattle.std.specs.List.{All}
 use Rattle.elf_object.specs.declared.relocation.Relocation.{Relocation}
-use Rattle.elf_object.specs.Faults.{IsObject}
 use Rattle.elf_object.specs.Lent.{relocation_target}
 use Rattle.elf_object.specs.Object.{section_count}
 use Rattle.dynamic_symbols.specs.Names.{name_size}
@@ -11,24 +11,14 @@ use Rattle.link_faults.specs.declared.fault.LinkFault.TheVariants.{OutOfMemory, 
 use Rattle.link_faults.specs.declared.fault.LinkFaultKind.TheVariants as fault
 use Rattle.link_refusals.specs.Counts.{relocation_count}
 use Rattle.link_refusals.specs.Faults.{FitsKind, FitsStorage, IsKindFault, IsStorageFault}
-use Rattle.sequence_match.specs.Faults.{AreSites}
 use Rattle.tls_layout.specs.Places.{span, tls_size, IsLawful}
-use Rattle.tls_symbols.specs.declared.symbols.SymbolRef.{SymbolRef}
+use Rattle.link_faults.specs.declared.symbol_ref.SymbolRef.{SymbolRef}
 use Rattle.tls_symbols.specs.Definitions.{IsWithin}
 use Rattle.tls_symbols.specs.Faults.{held_in, AreResolved, Earlier, IsFirst}
-use Rattle.tls_layout.specs.Sections.{Layout}
-use Rattle.link_core.specs.Linking.{Linking, block_offset, layout, object, sites_at}
+use Rattle.link_needs.specs.Given.{IsGiven}
+use Rattle.link_needs.specs.Linking.{Linking, layout, object}
+use Rattle.link_needs.specs.Values.{field, is_replaced}
 use Rattle.link_core.specs.Dynamic.{imports, own_symbols}
-use Rattle.link_core.specs.Values.{field, is_replaced}
-
--- ** what is given
-
--- the sequences are those of the objects
-pub record IsGiven (l : Linking) : Type 0 where
-  pub few_startup : length l.startup < 2 ^ 32 - 1
-  pub are_objects : All IsObject l.objects
-  pub each : length l.sites ≡ length l.objects
-  pub are_sites : (o : ℕ) → o < length l.objects → AreSites (object l o) (sites_at l o)
 
 -- ** limits
 
@@ -101,15 +91,10 @@ IsLinkFault l told = AreResolved l.objects l.startup × IsLaterFault l told
 
 -- ** what the linker keeps
 
--- these belong to the link: the objects of its bindings, where sections go, the distance of the program's block, the
--- symbols that it defines and the names that it imports
-pub record AreInputs (l : Linking) (objects : List (List ℕ)) (p : Layout) (distance : ℕ)
-    (own : List SymbolRef) (names : List (List ℕ)) : Type 0 where
+-- these belong to the link: the symbols that it defines and the names that it imports, all within the limits
+pub record ArePrepared (l : Linking) (own : List SymbolRef) (names : List (List ℕ)) : Type 0 where
   pub given : IsGiven l
-  pub objects_are : objects ≡ l.objects
-  pub placed : p ≡ layout l
-  pub lawful : IsLawful p
-  pub distance_is : distance ≡ block_offset l
+  pub limits : FitsLimits l
   pub own_are : own ≡ own_symbols l
   pub within : All (IsWithin l.objects) own
   pub imports_are : names ≡ imports l

@@ -16,9 +16,9 @@ use Rattle.tls_layout.specs.declared.extent.Extent.{Extent}
 use Rattle.tls_layout.specs.Places.{executable, read_only, tls_image, writable, initial_tls, tls_size, tls_alignment}
 use Rattle.tls_layout.specs.Sections.{Layout}
 use Rattle.relax_sites.specs.declared.choices.Choice.{Choice}
-use Rattle.sequence_match.specs.declared.places.Site.{Site}
-use Rattle.link_core.specs.Linking.{Linking, choice, layout}
-use Rattle.link_core.specs.Needs.{got_size, got_start, has_stub, stub_start}
+use Rattle.sequence_forms.specs.declared.places.Site.{Site}
+use Rattle.link_needs.specs.Linking.{Linking, choice, layout}
+use Rattle.link_needs.specs.Needs.{got_size, got_start, has_stub, stub_start}
 use Rattle.link_core.specs.Bytes.{file}
 use Rattle.link_core.specs.Dynamic.{image_relocations, is_flagged, names, symbols}
 

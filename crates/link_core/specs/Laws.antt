@@ -12,17 +12,18 @@ use Rattle.image_writer.specs.Loadable.{HoldsTls}
 use Rattle.image_writer.specs.Outlined.{outline_of}
 use Rattle.object_rules.specs.declared.fault.FaultKind.TheVariants.{Sequence, StrayCall}
 use Rattle.section_file.specs.Files.{offset_of}
-use Rattle.sequence_match.specs.declared.places.Site.{Site}
+use Rattle.sequence_forms.specs.declared.places.Site.{Site}
 use Rattle.sequence_match.specs.Faults.{Nowhere}
 use Rattle.std.specs.List.{Contains}
 use Rattle.tls_layout.specs.Places.{address_of}
 use Rattle.link_core.specs.Bytes.{file, need_bytes, stub_bytes}
-use Rattle.link_core.specs.Faults.{IsGiven, Links}
+use Rattle.link_core.specs.Faults.{Links}
+use Rattle.link_needs.specs.Given.{IsGiven}
 use Rattle.link_core.specs.Images.{image_of}
-use Rattle.link_core.specs.Linking.{Linking, choice, layout, object, sites_at}
+use Rattle.link_needs.specs.Linking.{Linking, choice, layout, object, sites_at}
 use Rattle.link_core.specs.Meant.{meant_byte}
-use Rattle.link_core.specs.Needs.{entries, got_start, has_stub, is_kept, need_address, stub_start}
-use Rattle.link_core.specs.Values.{is_replaced}
+use Rattle.link_needs.specs.Needs.{entries, got_start, has_stub, is_kept, need_address, stub_start}
+use Rattle.link_needs.specs.Values.{is_replaced}
 
 -- an image can be written: its TLS segment begins no further than its last part ends
 abbrev pub ImagesHoldTls : Type 0

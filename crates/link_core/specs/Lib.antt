@@ -3,14 +3,7 @@ pub mod Dynamic
 pub mod Faults
 pub mod Images
 pub mod Laws
-pub mod Linking
 pub mod Meant
 pub mod Named
-pub mod Needs
 pub mod Overflows
-pub mod Plans
 pub mod Room
-pub mod Sorting
-pub mod SymbolNumbers
-pub mod Usable
-pub mod Values

@@ -9,12 +9,12 @@ use Rattle.elf_object.specs.Lent.{relocations, section_bytes}
 use Rattle.elf_object.specs.Relocations.{field_width}
 use Rattle.relax_sites.specs.declared.rows.NewField.{NewField}
 use Rattle.relax_sites.specs.Rows.{new_bytes, new_field}
-use Rattle.sequence_match.specs.declared.places.Site.{Site}
+use Rattle.sequence_forms.specs.declared.places.Site.{Site}
 use Rattle.tls_relocs.specs.declared.fields.Field.TheVariants.{Empty}
 use Rattle.tls_relocs.specs.Fields.{field_bytes}
-use Rattle.link_core.specs.Linking.{Linking, choice, object, sites_at}
-use Rattle.link_core.specs.Needs.{is_kept, new_relocation}
-use Rattle.link_core.specs.Values.{field, is_replaced}
+use Rattle.link_needs.specs.Linking.{Linking, choice, object, sites_at}
+use Rattle.link_needs.specs.Needs.{is_kept, new_relocation}
+use Rattle.link_needs.specs.Values.{field, is_replaced}
 
 -- ** a rewritten sequence
 

@@ -5,9 +5,9 @@ use Rattle.link_faults.specs.declared.fault.LinkFault.{LinkFault}
 use Rattle.link_faults.specs.declared.fault.LinkFault.TheVariants.{OutOfMemory, At}
 use Rattle.link_faults.specs.declared.fault.LinkFaultKind.TheVariants as fault
 use Rattle.tls_symbols.specs.Faults.{Earlier}
-use Rattle.link_core.specs.Linking.{Linking}
+use Rattle.link_needs.specs.Linking.{Linking}
 use Rattle.link_core.specs.Faults.{Overflows}
-use Rattle.link_core.specs.Values.{field, is_replaced}
+use Rattle.link_needs.specs.Values.{field, is_replaced}
 
 -- a relocation of section t of object o has a field that does not hold its value
 abbrev pub IsOverflow : Linking → ℕ → ℕ → Relocation → Type 0

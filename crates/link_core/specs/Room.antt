@@ -2,7 +2,7 @@
 use Rattle.std.specs.Prelude.{◌+◌, ◌<◌, ◌≤◌, ◌^◌, ℕ}
 use Rattle.link_faults.specs.ImageKinds.{base_of}
 use Rattle.section_file.specs.Files.{offset_of}
-use Rattle.link_core.specs.Linking.{Linking, layout}
+use Rattle.link_needs.specs.Linking.{Linking, layout}
 
 -- a field of so many bytes, where it has some, lies at its address in a file of n bytes
 pub record HasRoom (l : Linking) (place width n : ℕ) : Type 0 where

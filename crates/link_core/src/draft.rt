@@ -2,17 +2,16 @@
 
 ghost use Rattle.std.specs.Prelude.{◌≡◌, ◌<◌, ◌++◌, IfOk, OnOk, length};
 ghost use Rattle.std.specs.List.{list_any};
-ghost use Rattle.sequence_match.specs.declared.places.Site.{Site};
+ghost use Rattle.sequence_forms.specs.declared.places.Site.{Site};
 ghost use Rattle.link_core.specs.Dynamic.{is_flagged, is_initial};
-ghost use Rattle.link_core.specs.Linking.{layout};
+ghost use Rattle.link_needs.specs.Linking.{layout};
 ghost use Rattle.link_core.specs.Images.{file_kind, filled, got_number, got_places, section_places};
 ghost use Rattle.link_core.specs.Images.{stub_places, tls_part};
 
-use crate::inputs::Inputs;
-use crate::plan::Plan;
 use image_file::{FileKind, PartClass, TlsPart};
 use image_writer::PartPlace;
 use link_faults::ImageKind;
+use link_needs::{Inputs, Plan};
 use sequence_match::{Form, Site};
 use std::alloc::{AllocError, Global};
 use tls_layout::{Extent, Placement};

@@ -10,11 +10,11 @@ ghost use Rattle.link_core.specs.Bytes.{file as file_of_link, raw_file as raw_fi
 ghost use Rattle.link_core.specs.Bytes.{table_bytes, with_got, with_stub};
 ghost use Rattle.link_core.specs.Overflows.{IsFirstOverflow, IsOverflowFault, NoOverflow};
 
-use crate::plan::Plan;
 use crate::writing::{place_in_file, write_fields, write_sites};
 use elf_object::RelocationKind;
 use got_pairs::{Entry, GotPlan, Need, Word};
 use link_faults::LinkFault;
+use link_needs::Plan;
 use section_file::lay_sections;
 use std::alloc::{AllocError, Global};
 use tls_relocs::{Field, value};

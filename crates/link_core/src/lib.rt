@@ -9,10 +9,10 @@
 //! names      what each relocation's symbol is bound to                       tls_symbols
 //! refusals   what the image's kind and its storage refuse                    link_refusals
 //! places     where each section goes, in memory and in the TLS segment       tls_layout
-//! choices    which sequence stands in the place of each                      relax_sites
-//! needs      what code needs of the global offset table, and its entries     got_pairs
+//! plan       the global offset table, and the value of each field            link_needs
 //! file       sections at their places, the table, the stub                   section_file, here
 //! fields     the value of each relocation, written                           tls_relocs, here
+//! sequences  those that stand in the place of others                         relax_sites, here
 //! tables     symbols and relocations for a loader                            dynamic_symbols, image_writer
 //! ```
 //!
@@ -41,8 +41,8 @@
 //! 403000  ff 25 0a f0 ff ff             jmp *0x402010(%rip)
 //! ```
 //!
-//! Names are compared by hash, each section is copied once, what a symbol stands for is found once, and each relocation
-//! is looked at by a fixed number of walks: time is linear in objects, symbols, relocations and bytes.
+//! Names are compared by hash, each section is copied once, and each relocation is looked at by a fixed number of walks:
+//! time is linear in objects, symbols, relocations and bytes.
 //!
 //! The rules are those of "ELF Handling For Thread-Local Storage" (Drepper), of the psABI ("Thread-Local Storage",
 //! "Relocation Types") and of the gABI ("Program Loading and Dynamic Linking").
@@ -50,15 +50,12 @@
 
 mod draft;
 mod file;
-mod inputs;
 pub mod laws;
 mod linked;
 mod linking;
-mod needs;
-mod plan;
+mod prepared;
 mod relocation_list;
 mod symbol_list;
-mod symbol_values;
 mod writing;
 
 pub use linked::Linked;

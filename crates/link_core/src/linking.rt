@@ -1,115 +1,34 @@
 //! Linking objects.
 
-ghost use Rattle.std.specs.Prelude.{◌≡◌, ◌-◌, ◌<◌, ◌^◌, ℕ, [], None, IfErr, IfOk, OnOk, length, map, slice_index_or};
-ghost use Rattle.dynamic_symbols.specs.Walks.{HaveSymbols};
+ghost use Rattle.std.specs.Prelude.{◌≡◌, ◌-◌, ◌<◌, ◌^◌, ℕ, [], IfErr, IfOk, OnOk, length, map, slice_index_or};
 ghost use Rattle.image_writer.specs.Contents.{contents_of};
 ghost use Rattle.sequence_match.specs.Faults.{AreSites};
+ghost use Rattle.sequence_match.specs.Sites.{HaveSymbols};
 ghost use Rattle.tls_symbols.specs.Bindings.{object_at};
-ghost use Rattle.link_core.specs.Faults.{IsLinkFault, IsSound, Links};
+ghost use Rattle.link_needs.specs.Linking.{link_of};
 ghost use Rattle.link_core.specs.Bytes.{file as file_of_link};
 ghost use Rattle.link_core.specs.Dynamic.{image_relocations, names, symbols as symbols_of_link};
+ghost use Rattle.link_core.specs.Faults.{IsLinkFault, IsSound, Links};
 ghost use Rattle.link_core.specs.Images.{choices_from, choices_in, contents, file_kind as file_kind_of, got_number};
 ghost use Rattle.link_core.specs.Images.{image_of as image_of_link, linked_of, places};
-ghost use Rattle.link_core.specs.Linking.{link_of};
 ghost use Rattle.link_core.specs.Named.{names_in, symbols_in};
 ghost use Rattle.link_core.specs.Overflows.{IsOverflowFault, NoOverflow};
-ghost use Rattle.tls_layout.specs.Rounding.{round_up};
-ghost use Rattle.tls_layout.specs.Places.{tls_alignment, tls_size};
 
 use crate::draft::{file_kind, is_flagged, push_made, section_places, tls_part};
 use crate::file::file_of;
-use crate::inputs::Inputs;
 use crate::linked::Linked;
-use crate::plan::{Plan, plan_of};
-use crate::relocation_list::relatives;
+use crate::prepared::{Prepared, prepare};
+use crate::relocation_list::relocations;
 use crate::symbol_list::symbols;
-use dynamic_symbols::{defined_symbols, imports, names_fit};
 use elf_object::Object;
 use image_file::{Image, ImageRelocation};
 use image_writer::{Draft, NamedSymbol, PartPlace, image_of};
-use link_faults::{ImageKind, LinkFault, LinkFaultKind};
-use link_refusals::{ask_kind, ask_tls, has_few_relocations};
+use link_faults::{ImageKind, LinkFault};
+use link_needs::{Inputs, Plan, plan_of};
 use relax_sites::Choice;
 use sequence_match::Site;
 use std::alloc::{AllocError, Global};
-use tls_layout::{Placement, TlsSize, place, static_offsets};
-use tls_symbols::{Exports, resolve};
-
-/// How far below the thread pointer the block of a program begins.
-fn block_offset(alloc: Global, placement: &Placement) -> Result<u64, AllocError>
-    ensures { IfOk result (λ offset. offset
-        ≡ round_up (tls_size placement.now.sections) (tls_alignment placement.now.sections)) }
-{
-    let segment = TlsSize {
-        size: placement.tls_size(),
-        alignment: placement.tls_alignment(),
-    };
-    let offsets = static_offsets(alloc, &[segment])?;
-    Ok(offsets[0])
-}
-
-/// The image as a whole is too large.
-fn too_large() -> LinkFault
-    ensures { result ≡ LinkFault.At LinkFaultKind.ImageTooLarge None 0 0 }
-{
-    LinkFault::At {
-        kind: LinkFaultKind::ImageTooLarge,
-        object: None,
-        section: 0,
-        entry: 0,
-    }
-}
-
-/// What the linker knows of an image before it fills in fields, or the first fault of another kind than `Overflow`.
-fn inputs_of<'l, 's, 'a>(
-    alloc: Global,
-    objects: &'l [Object<'a>],
-    sites: &'l [Vec<Site>],
-    kind: ImageKind,
-    startup: &'s [Exports<'a>],
-    relax: bool,
-) -> Result<Inputs<'l, 's, 'a>, LinkFault>
-    requires few { length startup.now < 2 ^ 32 - 1 }
-    requires each { length sites.now ≡ length objects.now }
-    requires sites { (o : ℕ) → o < length objects.now
-        → AreSites (object_at objects.now o) (slice_index_or (map (λ own. own.items) sites.now) o []) }
-    ensures inputs { IfOk result (λ inputs. inputs ≡ link_of objects.now sites.now kind startup.now relax) }
-    ensures sound { OnOk result (IsSound (link_of objects.now sites.now kind startup.now relax)) }
-    ensures fault { IfErr result (IsLinkFault (link_of objects.now sites.now kind startup.now relax)) }
-{
-    let few = has_few_relocations(objects);
-    let bindings = resolve(alloc, objects, startup)?;
-    ask_kind(objects, kind)?;
-    let placement = place(alloc, objects, kind)?;
-    let own = defined_symbols(alloc, objects, &bindings)?;
-    let imports = imports(alloc, objects, &bindings, sites)?;
-    if !few || !names_fit(objects, own.as_slice(), imports.as_slice()) {
-        return Err(too_large());
-    }
-    ask_tls(objects, &bindings, kind, placement.tls_size())?;
-    let block_offset = block_offset(alloc, &placement)?;
-    Ok(Inputs {
-        kind,
-        relax,
-        objects,
-        sites,
-        bindings,
-        placement,
-        block_offset,
-        own,
-        imports,
-    })
-}
-
-/// All relocations of an image, in the order of their places.
-#[tactic(auto, unfolding(crate::specs::Dynamic::image_relocations))]
-fn relocations(alloc: Global, plan: &Plan) -> Result<Vec<ImageRelocation>, AllocError>
-    ensures { IfOk result (λ all. all.items ≡ image_relocations plan.now) }
-{
-    let mut all = relatives(alloc, plan)?;
-    plan.push_got(&mut all)?;
-    Ok(all)
-}
+use tls_symbols::Exports;
 
 /// What is known of an image before its dynamic tables are laid.
 fn draft_of<'d>(
@@ -140,7 +59,13 @@ fn draft_of<'d>(
 }
 
 /// The image that a file becomes.
-fn finished(alloc: Global, plan: &Plan, file: Vec<u8>) -> Result<Image, AllocError>
+fn finished(
+    alloc: Global,
+    plan: &Plan,
+    prepared: &Prepared,
+    file: Vec<u8>,
+) -> Result<Image, AllocError>
+    requires same { plan.now ≡ prepared.now }
     requires sound { IsSound plan.now }
     requires file { file.items ≡ file_of_link plan.now }
     ensures { IfOk result (λ image. image ≡ image_of_link plan.now) }
@@ -148,8 +73,8 @@ fn finished(alloc: Global, plan: &Plan, file: Vec<u8>) -> Result<Image, AllocErr
     let inputs = plan.inputs;
     let mut parts = section_places(alloc, &inputs.placement)?;
     let got = push_made(plan, &mut parts)?;
-    let symbols = symbols(alloc, plan)?;
-    let relocations = relocations(alloc, plan)?;
+    let symbols = symbols(alloc, plan, prepared)?;
+    let relocations = relocations(alloc, plan, prepared)?;
     let draft = draft_of(
         inputs,
         parts.as_slice(),
@@ -161,14 +86,15 @@ fn finished(alloc: Global, plan: &Plan, file: Vec<u8>) -> Result<Image, AllocErr
 }
 
 /// The image of a link that no earlier fault stands in, or the first field that does not hold its value.
-fn image(alloc: Global, plan: &Plan) -> Result<Image, LinkFault>
-    requires { IsSound plan.now }
+fn image(alloc: Global, plan: &Plan, prepared: &Prepared) -> Result<Image, LinkFault>
+    requires same { plan.now ≡ prepared.now }
+    requires sound { IsSound plan.now }
     ensures image { IfOk result (λ image. image ≡ image_of_link plan.now) }
     ensures fits { OnOk result (NoOverflow plan.now) }
     ensures overflow { IfErr result (IsOverflowFault plan.now) }
 {
     let file = file_of(alloc, plan)?;
-    Ok(finished(alloc, plan, file)?)
+    Ok(finished(alloc, plan, prepared, file)?)
 }
 
 /// Which sequence stands in the place of each of an object's sites.
@@ -202,14 +128,15 @@ fn choices(alloc: Global, inputs: &Inputs) -> Result<Vec<Vec<Choice>>, AllocErro
 
 /// What a link that no earlier fault stands in gives, or the first field that does not hold its value.
 #[tactic(auto, unfolding(crate::specs::Images::linked_of))]
-fn linked(alloc: Global, inputs: &Inputs) -> Result<Linked, LinkFault>
-    requires { IsSound inputs.now }
-    ensures linked { IfOk result (λ linked. linked ≡ linked_of inputs.now) }
-    ensures fits { OnOk result (NoOverflow inputs.now) }
-    ensures overflow { IfErr result (IsOverflowFault inputs.now) }
+fn linked(alloc: Global, prepared: &Prepared) -> Result<Linked, LinkFault>
+    requires { IsSound prepared.now }
+    ensures linked { IfOk result (λ linked. linked ≡ linked_of prepared.now) }
+    ensures fits { OnOk result (NoOverflow prepared.now) }
+    ensures overflow { IfErr result (IsOverflowFault prepared.now) }
 {
+    let inputs = &prepared.inputs;
     let plan = plan_of(alloc, inputs)?;
-    let image = image(alloc, &plan)?;
+    let image = image(alloc, &plan, prepared)?;
     let choices = choices(alloc, inputs)?;
     Ok(Linked { image, choices })
 }
@@ -235,6 +162,6 @@ pub fn link<'a>(
     ensures links { OnOk result (Links (link_of objects.now sites.now kind startup.now relax)) }
     ensures fault { IfErr result (IsLinkFault (link_of objects.now sites.now kind startup.now relax)) }
 {
-    let inputs = inputs_of(alloc, objects, sites, kind, startup, relax)?;
-    linked(alloc, &inputs)
+    let prepared = prepare(alloc, objects, sites, kind, startup, relax)?;
+    linked(alloc, &prepared)
 }

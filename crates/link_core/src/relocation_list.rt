@@ -6,22 +6,23 @@ ghost use Rattle.std.specs.List.{Contains, position_from};
 ghost use Rattle.std.specs.Str.{bytes_eq};
 ghost use Rattle.elf_object.specs.Lent.{relocations};
 ghost use Rattle.got_pairs.specs.Entries.{entry_of, words};
-ghost use Rattle.link_refusals.specs.Refused.{is_moved};
+ghost use Rattle.link_faults.specs.ImageKinds.{is_moved};
 ghost use Rattle.tls_layout.specs.Places.{address_of};
 ghost use Rattle.tls_symbols.specs.Bindings.{object_at};
-ghost use Rattle.link_core.specs.Dynamic.{entry_relocations, field_relocations, got_relocations, imports, loader_kind};
+ghost use Rattle.link_core.specs.Dynamic.{entry_relocations, field_relocations, got_relocations, image_relocations};
+ghost use Rattle.link_core.specs.Dynamic.{imports, loader_kind};
 ghost use Rattle.link_core.specs.Dynamic.{is_absolute, number_of, own_symbols};
 ghost use Rattle.link_core.specs.Dynamic.{object_relocations, object_relocations_from, relatives, relocation_of};
 ghost use Rattle.link_core.specs.Dynamic.{section_relocations, word_relocations};
-ghost use Rattle.link_core.specs.Linking.{block_offset, layout};
-ghost use Rattle.link_core.specs.Needs.{entries, got_size, got_start};
+ghost use Rattle.link_needs.specs.Linking.{block_offset, layout};
+ghost use Rattle.link_needs.specs.Needs.{entries, got_size, got_start};
 
-use crate::inputs::Inputs;
-use crate::plan::Plan;
+use crate::prepared::Prepared;
 use elf_object::{Relocation, RelocationKind};
 use got_pairs::{DynamicKind, DynamicRelocation, DynamicSymbol, Entry, Word};
 use image_file::{ImageRelocation, LoaderKind};
 use link_faults::ImageKind;
+use link_needs::Plan;
 use std::alloc::{AllocError, Global};
 
 /// What a loader writes for a word of the table.
@@ -39,40 +40,41 @@ fn loader_kind(kind: DynamicKind) -> LoaderKind
 }
 
 /// How many symbols the image defines.
-fn own_count(inputs: &Inputs) -> usize
-    ensures { result ≡ length (own_symbols inputs.now) }
+#[tactic(auto, using(crate::proofs::RelocationListLemmas::few_symbols))]
+fn own_count(prepared: &Prepared) -> usize
+    ensures count { result ≡ length (own_symbols prepared.now) }
+    ensures few { length (own_symbols prepared.now) + length (imports prepared.now) ≤ 2 ^ 22 }
 {
-    inputs.own.len()
+    prepared.own.len()
 }
 
 /// How many names it imports.
-fn import_count(inputs: &Inputs) -> usize
-    ensures { result ≡ length (imports inputs.now) }
+fn import_count(prepared: &Prepared) -> usize
+    ensures { result ≡ length (imports prepared.now) }
 {
-    inputs.imports.len()
+    prepared.imports.len()
 }
 
 /// The number of an import among the imports; 0 where there is no such import.
-fn import_number(inputs: &Inputs, name: &[u8]) -> usize
-    ensures number { result ≡ unwrap_or (position_from (bytes_eq name.now) 0 (imports inputs.now)) 0 }
-    ensures small { result ≤ length (imports inputs.now) }
+fn import_number(prepared: &Prepared, name: &[u8]) -> usize
+    ensures number { result ≡ unwrap_or (position_from (bytes_eq name.now) 0 (imports prepared.now)) 0 }
+    ensures small { result ≤ length (imports prepared.now) }
 {
-    inputs.imports.get_index_of(name).unwrap_or(0)
+    prepared.imports.get_index_of(name).unwrap_or(0)
 }
 
-impl<'i, 'l, 's, 'a> Plan<'i, 'l, 's, 'a> {
+impl Prepared<'_, '_, '_> {
     /// The number of the symbol that a word of the table names.
-    #[tactic(auto, using(crate::proofs::RelocationListLemmas::few_symbols))]
     fn number_of(&self, symbol: &DynamicSymbol) -> u32
         ensures { result ≡ number_of self.now symbol.now }
     {
-        let own = own_count(self.inputs);
+        let own = own_count(self);
         match symbol {
             DynamicSymbol::Image => 0,
             DynamicSymbol::Imported(name) => {
-                (1 + own + import_number(self.inputs, name.as_bytes())) as u32
+                (1 + own + import_number(self, name.as_bytes())) as u32
             }
-            DynamicSymbol::Runtime => (1 + own + import_count(self.inputs)) as u32,
+            DynamicSymbol::Runtime => (1 + own + import_count(self)) as u32,
         }
     }
 
@@ -122,45 +124,30 @@ impl<'i, 'l, 's, 'a> Plan<'i, 'l, 's, 'a> {
             }
         }
     }
+}
 
-    /// Where the table begins.
-    #[tactic(auto, using(crate::proofs::RelocationListLemmas::table_low))]
-    fn table_start(&self) -> u64
-        ensures start { result ≡ got_start self.now }
-        ensures low { got_start self.now + got_size self.now ≤ 2 ^ 26 }
-    {
-        self.got_start
-    }
+/// Where the table begins.
+#[tactic(auto, using(crate::proofs::RelocationListLemmas::table_low))]
+fn table_start(plan: &Plan) -> u64
+    ensures start { result ≡ got_start plan.now }
+    ensures low { got_start plan.now + got_size plan.now ≤ 2 ^ 26 }
+{
+    plan.got_start
+}
 
-    /// How many entries it has.
-    fn entry_count(&self) -> usize
-        ensures { result ≡ length (entries self.now) }
-    {
-        self.got.entry_count()
-    }
+/// How many entries it has.
+fn entry_count(plan: &Plan) -> usize
+    ensures { result ≡ length (entries plan.now) }
+{
+    plan.got.entry_count()
+}
 
-    /// What an entry holds, by its number.
-    fn entry(&self, number: usize) -> Option<Entry<'a>>
-        ensures { result
-            ≡ option_map (entry_of self.now.kind (block_offset self.now)) (slice_get (entries self.now) number) }
-    {
-        self.got.entry(number)
-    }
-
-    /// Adds those of the table.
-    pub fn push_got(&self, all: &mut Vec<ImageRelocation>) -> Result<(), AllocError>
-        ensures { OnOk result (all.new.items ≡ all.old.items ++ got_relocations self.now) }
-    {
-        let mut place = self.table_start();
-        for number in 0..self.entry_count() {
-            let Some(entry) = self.entry(number) else {
-                return Ok(());
-            };
-            self.push_entry(place, &entry, all)?;
-            place += size_of(&entry);
-        }
-        Ok(())
-    }
+/// What an entry holds, by its number.
+fn entry<'a>(plan: &Plan<'_, '_, '_, 'a>, number: usize) -> Option<Entry<'a>>
+    ensures { result
+        ≡ option_map (entry_of plan.now.kind (block_offset plan.now)) (slice_get (entries plan.now) number) }
+{
+    plan.got.entry(number)
 }
 
 /// How many bytes an entry has.
@@ -171,6 +158,26 @@ fn size_of(entry: &Entry) -> u64
         Entry::One(_) => 8,
         Entry::Two(_, _) => 16,
     }
+}
+
+/// Adds those of the table.
+fn push_got(
+    plan: &Plan,
+    prepared: &Prepared,
+    all: &mut Vec<ImageRelocation>,
+) -> Result<(), AllocError>
+    requires { plan.now ≡ prepared.now }
+    ensures { OnOk result (all.new.items ≡ all.old.items ++ got_relocations prepared.now) }
+{
+    let mut place = table_start(plan);
+    for number in 0..entry_count(plan) {
+        let Some(entry) = entry(plan, number) else {
+            return Ok(());
+        };
+        prepared.push_entry(place, &entry, all)?;
+        place += size_of(&entry);
+    }
+    Ok(())
 }
 
 /// Whether a field of this type has an address of 8 bytes.
@@ -263,7 +270,7 @@ fn is_moved(plan: &Plan) -> bool
 }
 
 /// The relocations of fields with addresses by their places, in an image that may lie anywhere.
-pub fn relatives(alloc: Global, plan: &Plan) -> Result<Vec<ImageRelocation>, AllocError>
+fn relatives(alloc: Global, plan: &Plan) -> Result<Vec<ImageRelocation>, AllocError>
     ensures { IfOk result (λ all. all.items ≡ relatives plan.now) }
 {
     if !is_moved(plan) {
@@ -271,5 +278,20 @@ pub fn relatives(alloc: Global, plan: &Plan) -> Result<Vec<ImageRelocation>, All
     }
     let mut all = found_fields(alloc, plan)?;
     all.sort_by_key(|relocation| relocation.place)?;
+    Ok(all)
+}
+
+/// All relocations of an image, in the order of their places.
+#[tactic(auto, unfolding(crate::specs::Dynamic::image_relocations))]
+pub fn relocations(
+    alloc: Global,
+    plan: &Plan,
+    prepared: &Prepared,
+) -> Result<Vec<ImageRelocation>, AllocError>
+    requires { plan.now ≡ prepared.now }
+    ensures { IfOk result (λ all. all.items ≡ image_relocations prepared.now) }
+{
+    let mut all = relatives(alloc, plan)?;
+    push_got(plan, prepared, &mut all)?;
     Ok(all)
 }

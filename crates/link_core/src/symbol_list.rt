@@ -8,17 +8,17 @@ ghost use Rattle.dynamic_symbols.specs.Names.{name_of};
 ghost use Rattle.image_file.specs.declared.symbol.SymbolType.TheVariants as type_in_image;
 ghost use Rattle.link_core.specs.Dynamic.{binding_shown, defined, foreign, names, runtime_names, runtime_symbols};
 ghost use Rattle.link_core.specs.Dynamic.{symbols, type_shown, visibility_shown};
-ghost use Rattle.link_core.specs.Linking.{address, offset};
+ghost use Rattle.link_needs.specs.Linking.{address, offset};
 ghost use Rattle.link_core.specs.Named.{names_in, symbols_in};
 
-use crate::inputs::Inputs;
-use crate::plan::Plan;
+use crate::prepared::Prepared;
 use elf_object::{Object, SectionClass, SymbolPlace};
 use got_pairs::Need;
 use image_file::{ImageSymbol, SymbolBinding, SymbolType, Visibility};
 use image_writer::NamedSymbol;
+use link_faults::SymbolRef;
+use link_needs::{Inputs, Plan};
 use std::alloc::{AllocError, Global};
-use tls_symbols::SymbolRef;
 
 /// The name of the function of the run time.
 const GET_ADDRESS: &[u8] = b"__tls_get_addr";
@@ -137,15 +137,16 @@ fn defined(inputs: &Inputs, found: SymbolRef) -> ImageSymbol
 #[tactic(auto, unfolding(crate::specs::Dynamic::symbols, crate::specs::Dynamic::names))]
 pub fn symbols<'a>(
     alloc: Global,
-    plan: &Plan<'_, '_, '_, 'a>,
+    plan: &Plan,
+    prepared: &Prepared<'_, '_, 'a>,
 ) -> Result<Vec<NamedSymbol<'a>>, AllocError>
-    ensures symbols { IfOk result (λ all. symbols_in all.items ≡ symbols plan.now) }
-    ensures names { IfOk result (λ all. names_in all.items ≡ names plan.now) }
+    requires { plan.now ≡ prepared.now }
+    ensures symbols { IfOk result (λ all. symbols_in all.items ≡ symbols prepared.now) }
+    ensures names { IfOk result (λ all. names_in all.items ≡ names prepared.now) }
 {
-    let inputs = plan.inputs;
     let mut all = Vec::new(alloc);
-    push_own(inputs, inputs.own.as_slice(), &mut all)?;
-    push_imports(inputs.imports.as_slice(), &mut all)?;
+    push_own(&prepared.inputs, prepared.own.as_slice(), &mut all)?;
+    push_imports(prepared.imports.as_slice(), &mut all)?;
     push_runtime(plan.got.start(&Need::RuntimeWord).is_some(), &mut all)?;
     Ok(all)
 }

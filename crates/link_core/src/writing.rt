@@ -14,16 +14,15 @@ ghost use Rattle.tls_relocs.specs.Patches.{patched};
 ghost use Rattle.tls_symbols.specs.Bindings.{object_at};
 ghost use Rattle.link_core.specs.Bytes.{raw_file, with_field, with_fields, with_fields_from, with_table};
 ghost use Rattle.link_core.specs.Bytes.{with_new_field, with_site, with_sites_from};
-ghost use Rattle.link_core.specs.Linking.{choice, layout, sites_at};
+ghost use Rattle.link_needs.specs.Linking.{choice, layout, sites_at};
 ghost use Rattle.link_core.specs.Overflows.{IsFirstOverflow, IsFirstOverflowIn, IsFirstOverflowOf};
 ghost use Rattle.link_core.specs.Overflows.{IsFilled, IsOverflow, NoOverflow, NoOverflowIn, NoOverflowOf};
 ghost use Rattle.link_core.specs.Room.{HasRoom};
 ghost use Rattle.relax_sites.specs.Rows.{new_field as new_field_of};
 
-use crate::needs::new_relocation;
-use crate::plan::Plan;
 use elf_object::{Relocation, RelocationKind};
 use link_faults::{LinkFault, LinkFaultKind};
+use link_needs::{Plan, new_relocation};
 use relax_sites::{NewField, new_field, rewrite};
 use section_file::offset_of;
 use sequence_match::Site;

@@ -1,5 +1,5 @@
 -- What an image is linked as (gABI, "Program Loading": a program at a fixed address, or position-independent code).
-use Rattle.std.specs.Prelude.{ℕ}
+use Rattle.std.specs.Prelude.{ℕ, Bool, true, false}
 use Rattle.link_faults.specs.declared.image_kind.ImageKind.{ImageKind}
 use Rattle.link_faults.specs.declared.image_kind.ImageKind.TheVariants.{Exe, Pie, Start, Late}
 
@@ -9,6 +9,20 @@ IsModule Exe = ⊥
 IsModule Pie = ⊥
 IsModule Start = Unit {0}
 IsModule Late = Unit {0}
+
+-- whether the image is a module, which a program loads or a thread opens
+abbrev pub is_module : ImageKind → Bool
+is_module Exe = false
+is_module Pie = false
+is_module Start = true
+is_module Late = true
+
+-- whether it may lie at any address, as far up as 2^32 and more
+abbrev pub is_moved : ImageKind → Bool
+is_moved Exe = false
+is_moved Pie = true
+is_moved Start = true
+is_moved Late = true
 
 -- where an image begins, before the loader moves it
 abbrev pub base_of : ImageKind → ℕ

@@ -4,11 +4,13 @@ ghost use Rattle.std.specs.Prelude.{◌≡◌, ◌≢◌, ◌<◌, length};
 ghost use Rattle.elf_object.specs.Parts.{symbol_count};
 ghost use Rattle.tls_symbols.specs.Bindings.{binding_of, object_at};
 ghost use Rattle.link_refusals.specs.Faults.{test_of, IsAskedWithin};
-ghost use Rattle.link_refusals.specs.Refused.{asks_storage, is_here, is_moved, is_refused, is_refused_at_all};
+ghost use Rattle.link_refusals.specs.Refused.{asks_storage, is_refused, is_refused_at_all};
+ghost use Rattle.link_faults.specs.Bindings.{is_here};
+ghost use Rattle.link_faults.specs.ImageKinds.{is_moved};
 
 use elf_object::{Relocation, RelocationKind};
-use link_faults::{ImageKind, LinkFaultKind};
-use tls_symbols::{Binding, Bindings};
+use link_faults::{Binding, ImageKind, LinkFaultKind};
+use tls_symbols::Bindings;
 
 /// A question about the relocations of an image.
 #[derive(Clone, Copy)]

@@ -8,7 +8,7 @@ use Rattle.tls_layout.specs.Places.{address_of, executable}
 use Rattle.local_exec.specs.Parts.{object_at, is_of}
 use Rattle.local_exec.specs.declared.part.PartKind.TheVariants.{Code}
 use Rattle.tls_symbols.specs.Definitions.{definition_of}
-use Rattle.tls_symbols.specs.declared.symbols.SymbolRef.{SymbolRef}
+use Rattle.link_faults.specs.declared.symbol_ref.SymbolRef.{SymbolRef}
 
 abbrev pub below : ℕ → ℕ → Option ℕ
 below end place = if nat_lt place end then Some place else None

@@ -19,10 +19,12 @@ use Rattle.tls_layout.proofs.LawsOfPlaces.{have_addresses, lie_in_classes}
 use Rattle.tls_layout.proofs.LawsOfSections.{finds_sections}
 use Rattle.tls_symbols.proofs.Within.{find_found, find_nothing}
 use Rattle.link_core.specs.Bytes.{file, raw_file}
-use Rattle.link_core.specs.Faults.{FitsLimits, IsGiven, Links}
-use Rattle.link_core.specs.Linking.{Linking, layout, object}
+use Rattle.link_core.specs.Faults.{FitsLimits, Links}
+use Rattle.link_needs.specs.Given.{FitsTable, IsGiven}
+use Rattle.link_needs.specs.Linking.{Linking, layout, object}
 use Rattle.link_core.specs.Meant.{meant_byte}
-use Rattle.link_core.specs.Needs.{got_size, has_stub}
+use Rattle.link_needs.specs.Needs.{got_size, has_stub}
+use Rattle.link_core.proofs.Few.{table_fits}
 use Rattle.link_core.proofs.LengthsInside.{are_laid}
 use Rattle.link_core.proofs.Standing.{byte_stands}
 use Rattle.link_core.proofs.StandingAway.{file_away}
@@ -60,6 +62,9 @@ module _ (l : Linking) (given : IsGiven l) (links : Links l) (plain : is_plain l
     (to : address < (extent_for class (layout l)).end) where
   limits : FitsLimits l
   limits = links.sound.limits
+
+  fits : FitsTable l
+  fits = table_fits l given limits
 
   abbrev stands : ℕ → ℕ → Bool
   stands o s = stands_at l class o (object l o) address s
@@ -136,15 +141,15 @@ module _ (l : Linking) (given : IsGiven l) (links : Links l) (plain : is_plain l
 
   none_byte : NoneStands → slice_get (file l) (offset_of (layout l) address) ≡ Some 0
   none_byte none =
-      let laid = are_laid l given limits in
+      let laid = are_laid l given fits in
       let sections = sections_file (layout l) l.objects in
       let end = files_end l.kind l.objects laid in
       let last = class_ends (layout l) class held (omega (arith, from, to)) in
-      file_away l given limits (offset_of (layout l) address) away
+      file_away l given fits (offset_of (layout l) address) away
       ∙ ap (λ bytes. slice_get bytes (offset_of (layout l) address))
       (raw_is l (no_table l plain given) (no_stub l plain given))
       ∙ gaps_are_zero l.kind l.objects (offset_of (layout l) address) laid (omega (arith, end, last, to, above))
-      (λ o s begin at. moved o s begin (lies_at l given limits o s begin at.0 at.1).above (lies_apart none o s begin at.0 at.1))
+      (λ o s begin at. moved o s begin (lies_at l given fits o s begin at.0 at.1).above (lies_apart none o s begin at.0 at.1))
     where
       away : (o t begin : ℕ) → Lies l o t begin
           → (offset_of (layout l) address < offset_of (layout l) begin)

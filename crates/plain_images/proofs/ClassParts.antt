@@ -30,12 +30,14 @@ use Rattle.tls_layout.specs.Rounding.{page_up}
 use Rattle.tls_layout.proofs.Together.{rise}
 use Rattle.tls_relocs.specs.Elements.{slice_get-drop, slice_get-take}
 use Rattle.link_core.specs.Bytes.{file}
-use Rattle.link_core.specs.Faults.{FitsLimits, IsGiven, Links}
+use Rattle.link_core.specs.Faults.{FitsLimits, Links}
+use Rattle.link_needs.specs.Given.{FitsTable, IsGiven}
 use Rattle.link_core.specs.Images.{contents, file_kind, filled, got_number, image_of, places, section_places}
 use Rattle.link_core.specs.Images.{tls_part}
-use Rattle.link_core.specs.Linking.{Linking, layout}
-use Rattle.link_core.specs.Needs.{got_size}
+use Rattle.link_needs.specs.Linking.{Linking, layout}
+use Rattle.link_needs.specs.Needs.{got_size}
 use Rattle.link_core.proofs.Lengths.{file_keeps}
+use Rattle.link_core.proofs.Few.{table_fits}
 use Rattle.link_core.proofs.LengthsInside.{are_laid, raw_longer}
 use Rattle.link_core.proofs.Loads.{tabled}
 use Rattle.link_core.proofs.LoadsChains.{last_end, last_end-append}
@@ -81,6 +83,9 @@ module _ (l : Linking) (given : IsGiven l) (links : Links l) (plain : is_plain l
   limits : FitsLimits l
   limits = links.sound.limits
 
+  fits : FitsTable l
+  fits = table_fits l given limits
+
   module _ (c : SectionClass) (held : is_held c ≡ true) where
     abbrev x : Extent
     x = extent_for c (layout l)
@@ -110,10 +115,10 @@ module _ (l : Linking) (given : IsGiven l) (links : Links l) (plain : is_plain l
 
     long : x.start < x.end → length (part_at (x.end - x.start) at (file l)) ≡ x.end - x.start
     long some =
-        let end = files_end l.kind l.objects (are_laid l given limits) in
+        let end = files_end l.kind l.objects (are_laid l given fits) in
         let last = class_ends (layout l) c held some in
         part_length (x.end - x.start) at (file l)
-        (omega (arith, same_base l.kind, some, end, last, held_above (layout l) c held, file_keeps l given limits, raw_longer l))
+        (omega (arith, same_base l.kind, some, end, last, held_above (layout l) c held, file_keeps l given fits, raw_longer l))
 
     -- the part of the class
     pub part_is : x.start < x.end → part_at (x.end - x.start) at (file l) ≡ class_bytes l c

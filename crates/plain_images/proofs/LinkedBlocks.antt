@@ -26,7 +26,7 @@ use Rattle.tls_layout.proofs.LawsOfPlaces.{classes_follow}
 use Rattle.tls_layout.proofs.LawsOfTls.{front_of_segment}
 use Rattle.link_core.specs.Faults.{Links}
 use Rattle.link_core.specs.Images.{tls_part}
-use Rattle.link_core.specs.Linking.{Linking, block_offset, layout}
+use Rattle.link_needs.specs.Linking.{Linking, block_offset, layout}
 use Rattle.job_run.specs.Linked.{SameBytes}
 use Rattle.plain_images.specs.Meant.{block_range, blocks_if, class_bytes}
 use Rattle.plain_images.specs.Plain.{AreBytes}

@@ -17,9 +17,10 @@ use Rattle.job_meaning.specs.Marked.{code_byte}
 use Rattle.plain_images.specs.Found.{blocks_of, loaded_image, part_range, ranges_from}
 use Rattle.thread_blocks.specs.Spaces.{FoundAlike, SameRange}
 use Rattle.tls_layout.specs.Laws.{extent_for}
-use Rattle.link_core.specs.Faults.{IsGiven, Links}
+use Rattle.link_core.specs.Faults.{Links}
+use Rattle.link_needs.specs.Given.{IsGiven}
 use Rattle.link_core.specs.Images.{image_of}
-use Rattle.link_core.specs.Linking.{Linking, layout}
+use Rattle.link_needs.specs.Linking.{Linking, layout}
 use Rattle.job_run.specs.Linked.{SameBytes}
 use Rattle.plain_images.specs.Laws.{PlainImagesAreMeant}
 use Rattle.plain_images.specs.Meant.{class_bytes, constant_range, meaning_loaded, room_of}

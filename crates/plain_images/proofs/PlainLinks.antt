@@ -18,18 +18,18 @@ use Rattle.elf_object.specs.Object.{section_count}
 use Rattle.got_pairs.specs.Needs.{entries as entries_of, total_size}
 use Rattle.link_faults.specs.declared.image_kind.ImageKind.{ImageKind}
 use Rattle.link_faults.specs.declared.image_kind.ImageKind.TheVariants.{Exe, Pie, Start, Late}
-use Rattle.sequence_match.specs.declared.forms.Form.{Form}
-use Rattle.sequence_match.specs.declared.forms.Form.TheVariants.{Gd, Ld, IeMov, IeAdd, GdInd, LdInd, DescLea, DescCall}
-use Rattle.sequence_match.specs.declared.places.Site.{Site}
+use Rattle.sequence_forms.specs.declared.forms.Form.{Form}
+use Rattle.sequence_forms.specs.declared.forms.Form.TheVariants.{Gd, Ld, IeMov, IeAdd, GdInd, LdInd, DescLea, DescCall}
+use Rattle.sequence_forms.specs.declared.places.Site.{Site}
 use Rattle.sequence_match.specs.Faults.{IsSite}
-use Rattle.sequence_match.specs.Forms.{row}
+use Rattle.sequence_forms.specs.Forms.{row}
 use Rattle.tls_layout.specs.Places.{writable}
-use Rattle.link_core.specs.Faults.{IsGiven}
-use Rattle.link_core.specs.Linking.{Linking, layout, object, sites_at}
-use Rattle.link_core.specs.Needs.{address_needs, any_stub_call, entries, got_size, has_stub}
-use Rattle.link_core.specs.Needs.{is_address_kind, needs, object_needs, object_needs_from, section_needs}
-use Rattle.link_core.specs.Needs.{site_needs_from}
-use Rattle.link_core.specs.Sorting.{sorted_by}
+use Rattle.link_needs.specs.Given.{IsGiven}
+use Rattle.link_needs.specs.Linking.{Linking, layout, object, sites_at}
+use Rattle.link_needs.specs.Needs.{address_needs, any_stub_call, entries, got_size, has_stub}
+use Rattle.link_needs.specs.Needs.{is_address_kind, needs, object_needs, object_needs_from, section_needs}
+use Rattle.link_needs.specs.Needs.{site_needs_from}
+use Rattle.link_needs.specs.Sorting.{sorted_by}
 use Rattle.link_core.proofs.LengthsInside.{is_object, is_relocated}
 use Rattle.plain_images.specs.Plain.{has_bytes, is_exe, is_plain, is_plain_kind, object_is_plain, section_is_plain}
 

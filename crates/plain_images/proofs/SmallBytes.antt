@@ -16,10 +16,10 @@ use Rattle.tls_layout.specs.Laws.{extent_for}
 use Rattle.tls_relocs.specs.declared.fields.Field.{Field}
 use Rattle.tls_relocs.specs.declared.fields.Field.TheVariants.{Empty, Word32, Word64}
 use Rattle.tls_relocs.specs.Fields.{field_bytes}
-use Rattle.link_core.specs.Faults.{IsGiven}
-use Rattle.link_core.specs.Linking.{Linking, layout, object, sites_at}
+use Rattle.link_needs.specs.Given.{IsGiven}
+use Rattle.link_needs.specs.Linking.{Linking, layout, object, sites_at}
 use Rattle.link_core.specs.Meant.{field_byte, is_in_field, is_in_rewritten, meant_byte, site_byte}
-use Rattle.link_core.specs.Values.{field}
+use Rattle.link_needs.specs.Values.{field}
 use Rattle.plain_images.specs.Meant.{begin_of, byte_from, class_bytes, first_or, stands_at}
 use Rattle.plain_images.specs.Plain.{AreBytes, is_plain}
 use Rattle.plain_images.proofs.PlainLinks.{no_sites}

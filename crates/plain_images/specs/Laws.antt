@@ -10,9 +10,10 @@ use Rattle.job_meaning.specs.Code.{SameCodeByte}
 use Rattle.job_meaning.specs.Marked.{code_byte}
 use Rattle.job_run.specs.Linked.{SameBytes}
 use Rattle.job_run.specs.Meaning.{is_linkers}
-use Rattle.link_core.specs.Faults.{IsGiven, Links}
+use Rattle.link_core.specs.Faults.{Links}
+use Rattle.link_needs.specs.Given.{IsGiven}
 use Rattle.link_core.specs.Images.{image_of}
-use Rattle.link_core.specs.Linking.{Linking}
+use Rattle.link_needs.specs.Linking.{Linking}
 use Rattle.thread_blocks.specs.MachineTurns.{Loaded}
 use Rattle.thread_blocks.specs.Spaces.{FoundAlike, NoneRunnable, SameRange}
 use Rattle.plain_images.specs.Found.{loaded_image}

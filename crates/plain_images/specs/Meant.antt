@@ -17,10 +17,10 @@ use Rattle.thread_blocks.specs.MachineTurns.{Loaded, pointer_of, zeros}
 use Rattle.tls_layout.specs.Laws.{extent_for}
 use Rattle.tls_layout.specs.Places.{address_of, executable, room, tls_size}
 use Rattle.tls_layout.specs.Sections.{Layout, is_class}
-use Rattle.tls_symbols.specs.declared.symbols.SymbolRef.{SymbolRef}
+use Rattle.link_faults.specs.declared.symbol_ref.SymbolRef.{SymbolRef}
 use Rattle.tls_symbols.specs.Bindings.{object_at}
 use Rattle.tls_symbols.specs.Definitions.{definition_of}
-use Rattle.link_core.specs.Linking.{Linking, block_offset, layout}
+use Rattle.link_needs.specs.Linking.{Linking, block_offset, layout}
 use Rattle.link_core.specs.Meant.{meant_byte}
 
 -- ** bytes

@@ -1,7 +1,7 @@
 -- A section's bytes after a site in them was rewritten.
 use Rattle.std.specs.Prelude.{ℕ, List}
 use Rattle.elf_records.specs.Fields.{splice}
-use Rattle.sequence_match.specs.declared.places.Site.{Site}
+use Rattle.sequence_forms.specs.declared.places.Site.{Site}
 use Rattle.relax_sites.specs.declared.choices.Choice.{Choice}
 use Rattle.relax_sites.specs.declared.choices.Choice.TheVariants.{Keep}
 use Rattle.relax_sites.specs.Rows.{new_bytes}

@@ -4,9 +4,8 @@ ghost use Rattle.std.specs.Prelude.{◌≡◌};
 ghost use Rattle.relax_sites.specs.Choices.{choice_of, program_choice, IsChoiceOf};
 
 use crate::choices::Choice;
-use link_faults::ImageKind;
-use sequence_match::Form;
-use tls_symbols::Binding;
+use link_faults::{Binding, ImageKind};
+use sequence_forms::Form;
 
 /// What stands in the place of a site of this form, whose symbol is bound so, in an image of this kind. `relax` is
 /// false where the user asks for no rewriting.

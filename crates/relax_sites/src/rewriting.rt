@@ -8,12 +8,12 @@ ghost use Rattle.relax_sites.specs.Rewriting.{rewritten};
 
 use crate::choices::Choice;
 use crate::rows::{add_bytes, mov_bytes};
-use sequence_match::{Form, Site};
+use sequence_forms::{Form, Site};
 
 /// Writes the bytes of the choice over the site in a section's bytes: none where the site is kept. The field in them
 /// is left zero.
 #[rattlefmt::skip]
-#[tactic(auto, unfolding(sequence_match::specs::Forms::row))]
+#[tactic(auto, unfolding(sequence_forms::specs::Forms::row))]
 pub fn rewrite(bytes: &mut [u8], site: &Site, choice: Choice)
     requires inside { site.now.start + site.now.len ≤ length bytes.old }
     requires whole { site.now.len ≡ form_length site.now.form }

@@ -4,8 +4,8 @@ ghost use Rattle.std.specs.Prelude.{◌≡◌, ◌+◌, ◌≤◌};
 ghost use Rattle.relax_sites.specs.Rows.{new_field, tpoff, gottpoff, mov_bytes, add_bytes, rex_rm, rex_both};
 
 use crate::choices::Choice;
-use elf_object::RelocationKind;
-use sequence_match::Form;
+use elf_records::RelocationKind;
+use sequence_forms::Form;
 
 /// The field of new bytes, zero until it is written. It has four bytes and is about the site's symbol.
 #[derive(Clone, Copy, PartialEq, Eq, Debug)]

@@ -1,4 +1,3 @@
-pub mod Bounds
 pub mod Chains
 pub mod Filed
 pub mod Found

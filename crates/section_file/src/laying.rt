@@ -66,7 +66,7 @@ fn is_of(class: SectionClass, kept: Option<SectionClass>) -> bool
 }
 
 /// Where a section stands in the file. One without an address is never asked for: its answer is that of address 0.
-#[tactic(auto, using(crate::proofs::Bounds::address_bounds))]
+#[tactic(auto, using(tls_layout::proofs::Bounds::address_bounds))]
 fn section_offset(placement: &Placement, kind: ImageKind, number: usize, section: u32) -> u64
     requires kind { placement.now.kind ≡ kind }
     ensures offset { result ≡ file_offset placement.now (unwrap_or (address_of placement.now number section) 0) }
@@ -196,7 +196,7 @@ fn push_class(
 }
 
 /// The first page, where headers will stand, with memory for the whole file.
-#[tactic(auto, using(crate::proofs::Bounds::room_above))]
+#[tactic(auto, using(tls_layout::proofs::Bounds::room_above))]
 fn first_page(alloc: Global, placement: &Placement, kind: ImageKind) -> Result<Vec<u8>, AllocError>
     requires kind { placement.now.kind ≡ kind }
     ensures len { IfOk result (λ file. length file.items ≡ 4096) }

@@ -7,14 +7,14 @@ use Rattle.std.proofs.lemmas.Bool.Decides.{nat_tests}
 use Rattle.elf_object.specs.declared.relocation.Relocation.{Relocation}
 use Rattle.elf_object.specs.Relocations.{field_width}
 use Rattle.elf_object.specs.Lent.{relocations}
-use Rattle.sequence_match.specs.declared.forms.Form.{Form}
-use Rattle.sequence_match.specs.declared.forms.Form.TheVariants.{Gd, Ld, IeMov, IeAdd, GdInd, LdInd, DescLea, DescCall}
-use Rattle.sequence_match.specs.declared.forms.Cell.{Cell}
-use Rattle.sequence_match.specs.declared.forms.Cell.TheVariants.{Is, Rex}
-use Rattle.sequence_match.specs.declared.forms.Second.{Second}
-use Rattle.sequence_match.specs.declared.places.Site.{Site}
+use Rattle.sequence_forms.specs.declared.forms.Form.{Form}
+use Rattle.sequence_forms.specs.declared.forms.Form.TheVariants.{Gd, Ld, IeMov, IeAdd, GdInd, LdInd, DescLea, DescCall}
+use Rattle.sequence_forms.specs.declared.forms.Cell.{Cell}
+use Rattle.sequence_forms.specs.declared.forms.Cell.TheVariants.{Is, Rex}
+use Rattle.sequence_forms.specs.declared.forms.Second.{Second}
+use Rattle.sequence_forms.specs.declared.places.Site.{Site}
 use Rattle.sequence_match.specs.Faults.{code_of, IsGetter}
-use Rattle.sequence_match.specs.Forms.{row, fits, Sequence}
+use Rattle.sequence_forms.specs.Forms.{row, fits, Sequence}
 use Rattle.sequence_match.specs.Laws.{SitesAreApart}
 use Rattle.sequence_match.specs.Sites.{Covers, HasSecond, IsEntry, IsLiteral, IsSiteOf}
 use Rattle.sequence_match.proofs.Clashes.{all_clash, behind_first, clash, is_field, tails_clash}

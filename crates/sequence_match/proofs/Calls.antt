@@ -5,7 +5,7 @@ use Rattle.elf_records.specs.declared.relocation.RelocationKind.{RelocationKind}
 use Rattle.elf_records.specs.declared.relocation.RelocationKind.TheVariants.{TlsDescCall}
 use Rattle.elf_object.specs.declared.relocation.Relocation.{Relocation}
 use Rattle.elf_object.specs.Relocations.{field_width}
-use Rattle.sequence_match.specs.declared.forms.Second.{Second}
+use Rattle.sequence_forms.specs.declared.forms.Second.{Second}
 use Rattle.sequence_match.specs.declared.index.Reach.TheVariants.{OfField, OfCall}
 use Rattle.sequence_match.specs.Code.{AreApart, IsEarliest, ReachesAt, call_width}
 use Rattle.sequence_match.specs.Faults.{IsOfSequence}

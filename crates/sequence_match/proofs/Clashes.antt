@@ -2,11 +2,11 @@
 -- both and another one, or the second starts in a field of the first.
 use Rattle.std.proofs.Common.{◌≡◌, ◌==◌, ◌||◌, ◌&&◌, ◌%◌, ◌⊎◌, ℕ, Bool, true, false, not, List, [], ◌∷◌, refl, inl, inr, arith, nat_lt}
 use Rattle.std.proofs.lemmas.Bool.Decides.{nat_tests}
-use Rattle.sequence_match.specs.declared.forms.Form.{Form}
-use Rattle.sequence_match.specs.declared.forms.Form.TheVariants.{Gd, Ld, IeMov, IeAdd, GdInd, LdInd, DescLea, DescCall}
-use Rattle.sequence_match.specs.declared.forms.Cell.{Cell}
-use Rattle.sequence_match.specs.declared.forms.Cell.TheVariants.{Is, Rex, ModRm, Field}
-use Rattle.sequence_match.specs.Forms.{row, fits}
+use Rattle.sequence_forms.specs.declared.forms.Form.{Form}
+use Rattle.sequence_forms.specs.declared.forms.Form.TheVariants.{Gd, Ld, IeMov, IeAdd, GdInd, LdInd, DescLea, DescCall}
+use Rattle.sequence_forms.specs.declared.forms.Cell.{Cell}
+use Rattle.sequence_forms.specs.declared.forms.Cell.TheVariants.{Is, Rex, ModRm, Field}
+use Rattle.sequence_forms.specs.Forms.{row, fits}
 
 -- no byte may stand in both cells
 abbrev pub disjoint : Cell → Cell → Bool

@@ -7,14 +7,14 @@ use Rattle.std.proofs.lemmas.Option.{slice_get_within}
 use Rattle.object_rules.specs.declared.fault.FaultKind.{FaultKind}
 use Rattle.object_rules.specs.declared.fault.FaultKind.TheVariants.{Sequence, StrayCall}
 use Rattle.elf_object.specs.declared.relocation.Relocation.{Relocation}
-use Rattle.sequence_match.specs.declared.forms.Form.{Form}
-use Rattle.sequence_match.specs.declared.forms.Second.{Second}
+use Rattle.sequence_forms.specs.declared.forms.Form.{Form}
+use Rattle.sequence_forms.specs.declared.forms.Second.{Second}
 use Rattle.sequence_match.specs.declared.matching.Code.{Code}
-use Rattle.sequence_match.specs.declared.places.Site.{Site}
+use Rattle.sequence_forms.specs.declared.places.Site.{Site}
 use Rattle.sequence_match.specs.Code.{IsFound, IsNoFirst, IsSiteIn, Names}
 use Rattle.sequence_match.specs.Faults.{StandsAt}
 use Rattle.sequence_match.specs.Finding.{AreSitesIn}
-use Rattle.sequence_match.specs.Forms.{row, register}
+use Rattle.sequence_forms.specs.Forms.{row, register}
 use Rattle.sequence_match.specs.Sites.{Calls, HasSecond, IsSecond, IsSiteOf, IsSpelled}
 use Rattle.sequence_match.proofs.Entries.{same_entry}
 use Rattle.sequence_match.proofs.OneForm.{one_form}

@@ -6,10 +6,12 @@ pub mod Found
 pub mod Indexed
 pub mod OneForm
 pub mod Opened
+pub mod OwnSites
 pub mod Rising
 pub mod Rows
 pub mod Seconds
 pub mod Sections
+pub mod SitesSymbols
 pub mod Spans
 pub mod Surveys
 pub mod Tables

@@ -2,10 +2,10 @@
 use Rattle.std.proofs.Common.{◌≡◌, ◌+◌, ◌==◌, ◌||◌, ◌⊎◌, ℕ, suc, Bool, true, false, not, List, [], ◌∷◌, Some, slice_index, refl, subst, inl, inr, arith}
 use Rattle.std.specs.List.{slice_get}
 use Rattle.elf_object.specs.declared.relocation.Relocation.{Relocation}
-use Rattle.sequence_match.specs.declared.forms.Form.{Form}
-use Rattle.sequence_match.specs.declared.forms.Cell.{Cell}
-use Rattle.sequence_match.specs.declared.forms.Cell.TheVariants.{Is, Rex, ModRm, Field}
-use Rattle.sequence_match.specs.Forms.{row, fits}
+use Rattle.sequence_forms.specs.declared.forms.Form.{Form}
+use Rattle.sequence_forms.specs.declared.forms.Cell.{Cell}
+use Rattle.sequence_forms.specs.declared.forms.Cell.TheVariants.{Is, Rex, ModRm, Field}
+use Rattle.sequence_forms.specs.Forms.{row, fits}
 use Rattle.sequence_match.specs.Sites.{IsSpelled}
 use Rattle.sequence_match.proofs.Clashes.{disjoint, clash, same_or_clash, same_byte, rex_modrm}
 

@@ -3,12 +3,12 @@ use Rattle.std.proofs.Common.{◌≡◌, ◌+◌, ◌<◌, ◌≤◌, ℕ, lengt
 use Rattle.elf_object.specs.Relocations.{field_width}
 use Rattle.elf_records.specs.declared.relocation.RelocationKind.{RelocationKind}
 use Rattle.elf_records.specs.declared.relocation.RelocationKind.TheVariants.{Pc32, Plt32, GotPcRel, TlsGd, TlsLd, GotTpOff, GotPc32TlsDesc, TlsDescCall, GotPcRelX, RexGotPcRelX}
-use Rattle.sequence_match.specs.declared.forms.Form.{Form}
-use Rattle.sequence_match.specs.declared.forms.Form.TheVariants.{Gd, Ld, IeMov, IeAdd, GdInd, LdInd, DescLea, DescCall}
-use Rattle.sequence_match.specs.declared.forms.Call.{Call}
-use Rattle.sequence_match.specs.declared.forms.Call.TheVariants.{Direct, Indirect}
-use Rattle.sequence_match.specs.declared.forms.Second.{Second}
-use Rattle.sequence_match.specs.Forms.{row, IsCallKind}
+use Rattle.sequence_forms.specs.declared.forms.Form.{Form}
+use Rattle.sequence_forms.specs.declared.forms.Form.TheVariants.{Gd, Ld, IeMov, IeAdd, GdInd, LdInd, DescLea, DescCall}
+use Rattle.sequence_forms.specs.declared.forms.Call.{Call}
+use Rattle.sequence_forms.specs.declared.forms.Call.TheVariants.{Direct, Indirect}
+use Rattle.sequence_forms.specs.declared.forms.Second.{Second}
+use Rattle.sequence_forms.specs.Forms.{row, IsCallKind}
 use Rattle.sequence_match.specs.Faults.{IsOfSequence}
 
 -- a row has at most sixteen bytes

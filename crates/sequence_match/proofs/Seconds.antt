@@ -3,15 +3,15 @@ use Rattle.std.proofs.Common.{◌≡◌, ◌≢◌, ◌+◌, ◌<◌, ◌≤◌,
 use Rattle.elf_records.specs.declared.relocation.RelocationKind.TheVariants.{Nothing}
 use Rattle.elf_object.specs.declared.relocation.Relocation.{Relocation}
 use Rattle.elf_object.specs.Relocations.{field_width}
-use Rattle.sequence_match.specs.declared.forms.Form.{Form}
-use Rattle.sequence_match.specs.declared.forms.Form.TheVariants.{Gd, Ld, IeMov, IeAdd, GdInd, LdInd, DescLea, DescCall}
-use Rattle.sequence_match.specs.declared.forms.Second.{Second}
+use Rattle.sequence_forms.specs.declared.forms.Form.{Form}
+use Rattle.sequence_forms.specs.declared.forms.Form.TheVariants.{Gd, Ld, IeMov, IeAdd, GdInd, LdInd, DescLea, DescCall}
+use Rattle.sequence_forms.specs.declared.forms.Second.{Second}
 use Rattle.sequence_match.specs.declared.matching.Code.{Code}
-use Rattle.sequence_match.specs.declared.places.Site.{Site}
+use Rattle.sequence_forms.specs.declared.places.Site.{Site}
 use Rattle.sequence_match.specs.declared.index.Reach.TheVariants.{OfField}
 use Rattle.sequence_match.specs.Code.{IsFound, IsNoFirst, IsReady, IsSecondIn, IsSiteIn, Names, ReachesAt}
 use Rattle.sequence_match.specs.Faults.{IsStray}
-use Rattle.sequence_match.specs.Forms.{row}
+use Rattle.sequence_forms.specs.Forms.{row}
 use Rattle.sequence_match.specs.Sites.{Covers, IsEntry, IsSecond, IsSpelled, Opens}
 use Rattle.sequence_match.proofs.Entries.{bare_of, only_field, same_entry}
 use Rattle.sequence_match.proofs.OneForm.{one_form}

@@ -11,7 +11,7 @@ use Rattle.elf_object.specs.declared.relocation.Relocation.{Relocation}
 use Rattle.elf_object.specs.Lent.{relocations}
 use Rattle.elf_object.specs.Parts.{header}
 use Rattle.sequence_match.specs.declared.matching.Code.{Code}
-use Rattle.sequence_match.specs.declared.places.Site.{Site}
+use Rattle.sequence_forms.specs.declared.places.Site.{Site}
 use Rattle.sequence_match.specs.Code.{Names}
 use Rattle.sequence_match.specs.Faults.{code_of, AreSites, Before, IsGetter, IsSite}
 use Rattle.sequence_match.specs.Finding.{AreGetters, AreSitesFrom, AreSitesIn, IsOf}

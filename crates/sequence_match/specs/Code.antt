@@ -12,9 +12,9 @@ use Rattle.sequence_match.specs.declared.index.Span.{Span}
 use Rattle.sequence_match.specs.declared.index.Reach.{Reach}
 use Rattle.sequence_match.specs.declared.index.Reach.TheVariants.{OfField, OfCall}
 use Rattle.sequence_match.specs.declared.matching.Code.{Code}
-use Rattle.sequence_match.specs.declared.forms.Form.{Form}
-use Rattle.sequence_match.specs.declared.places.Site.{Site}
-use Rattle.sequence_match.specs.Forms.{row}
+use Rattle.sequence_forms.specs.declared.forms.Form.{Form}
+use Rattle.sequence_forms.specs.declared.places.Site.{Site}
+use Rattle.sequence_forms.specs.Forms.{row}
 use Rattle.sequence_match.specs.Sites.{Covers, HasSecond, IsEntry, IsSecond, IsSiteOf, IsSpelled}
 
 -- how many bytes a relocation of this type reaches: those of its field, or the place of a descriptor's call

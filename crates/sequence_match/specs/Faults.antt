@@ -16,8 +16,8 @@ use Rattle.elf_object.specs.Parts.{symbol_count}
 use Rattle.elf_object.specs.Faults.{number, Earlier}
 use Rattle.elf_object.specs.Lent.{section_bytes, section_class, relocations, kept_relocation_table, symbol_name}
 use Rattle.elf_object.specs.Lent.{symbol_place}
-use Rattle.sequence_match.specs.declared.places.Site.{Site}
-use Rattle.sequence_match.specs.Forms.{row}
+use Rattle.sequence_forms.specs.declared.places.Site.{Site}
+use Rattle.sequence_forms.specs.Forms.{row}
 use Rattle.sequence_match.specs.Sites.{IsEntry, IsSecond, IsSiteOf}
 
 -- the bytes of a section of this class, where it is executable

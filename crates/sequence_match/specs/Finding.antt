@@ -17,7 +17,7 @@ use Rattle.sequence_match.specs.declared.finding.Findings.{Findings}
 use Rattle.sequence_match.specs.declared.finding.Spot.{Spot}
 use Rattle.sequence_match.specs.declared.finding.Survey.{Survey}
 use Rattle.sequence_match.specs.declared.matching.Code.{Code}
-use Rattle.sequence_match.specs.declared.places.Site.{Site}
+use Rattle.sequence_forms.specs.declared.places.Site.{Site}
 use Rattle.sequence_match.specs.Code.{IsSiteIn, Names}
 use Rattle.sequence_match.specs.Faults.{AreSites, Before, IsGetter, IsLoose, IsSite, IsStray, Nowhere, Stands, StandsOf}
 

@@ -1,15 +1,16 @@
 -- Which sequences stand in code, by its bytes and its relocations. Which symbols are `__tls_get_addr`, the definitions
 -- are given.
 use Rattle.std.specs.Prelude.{◌≡◌, ◌+◌, ◌<◌, ◌≤◌, ℕ, negsuc, List, length, slice_index, IsTrue, IfSome}
-use Rattle.std.specs.Prelude.{Option, Some, None}
-use Rattle.std.specs.List.{slice_get}
+use Rattle.std.specs.Prelude.{Option, Some, None, pos}
+use Rattle.std.specs.List.{All, slice_get}
 use Rattle.elf_object.specs.declared.relocation.Relocation.{Relocation}
+use Rattle.elf_object.specs.Parts.{symbol_count}
 use Rattle.elf_object.specs.Relocations.{field_width}
-use Rattle.sequence_match.specs.declared.forms.Cell.{Cell}
-use Rattle.sequence_match.specs.declared.forms.Cell.TheVariants.{Field}
-use Rattle.sequence_match.specs.declared.forms.Second.{Second}
-use Rattle.sequence_match.specs.declared.places.Site.{Site}
-use Rattle.sequence_match.specs.Forms.{Sequence, fits, row, register, IsCallKind}
+use Rattle.sequence_forms.specs.declared.forms.Cell.{Cell}
+use Rattle.sequence_forms.specs.declared.forms.Cell.TheVariants.{Field}
+use Rattle.sequence_forms.specs.declared.forms.Second.{Second}
+use Rattle.sequence_forms.specs.declared.places.Site.{Site}
+use Rattle.sequence_forms.specs.Forms.{Sequence, fits, row, register, IsCallKind}
 
 -- byte k of the section lies in the relocation's field
 abbrev pub Covers : Relocation → ℕ → Type 0
@@ -70,3 +71,11 @@ pub record IsSiteOf (code : List ℕ) (xs : List Relocation) (getter : ℕ → T
   pub second : HasSecond (row site.form).second getter xs site.start
   pub len_is : site.len ≡ length (row site.form).cells
   pub reg_is : site.reg ≡ register site.form code site.start
+
+-- a relocation of the type of a site's first one that names the site's symbol; a binding depends on nothing else of it
+abbrev pub first_of : Site → Relocation
+first_of site = record { offset = 0; kind = (row site.form).first; symbol = site.symbol; addend = pos 0 }
+
+-- each site's symbol is one of the object's
+abbrev pub HaveSymbols : List ℕ → List Site → Type 0
+HaveSymbols b sites = All (λ site. site.symbol < symbol_count b) sites

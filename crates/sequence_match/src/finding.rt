@@ -16,8 +16,8 @@ ghost use Rattle.sequence_match.specs.Finding.{IsLower, IsSurvey, is_use, kind_o
 
 use crate::index::{Reach, index};
 use crate::matching::{Code, is_loose, is_of_sequence, is_stray, names_getter, site_of};
-use crate::places::Site;
 use elf_object::{FaultKind, Object, ObjectFault, Relocation, SectionClass, SymbolPlace};
+use sequence_forms::Site;
 use std::alloc::{AllocError, Global};
 
 /// The function that the run time offers for thread-local addresses.

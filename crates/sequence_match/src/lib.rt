@@ -10,7 +10,7 @@
 //! ```
 //!
 //! It is one *site* of the form [`Form::Gd`]: sixteen bytes, of which eight lie in the fields of two relocations and
-//! the others are as they are shown. [`Form::row`] has the whole table, a row a form.
+//! the others are as they are shown. [`Form::row`] has the whole table, a row a form (`sequence_forms`).
 //!
 //! The rule that the crate keeps: **a site is what the table says, and nothing else is taken for one.** Its bytes are
 //! those of the row, in code; its relocations stand where the row has them, with its addends; the second one names
@@ -34,12 +34,11 @@
 #![tactic(auto)]
 
 mod finding;
-mod forms;
+mod first;
 mod index;
 pub mod laws;
 mod matching;
-mod places;
 
 pub use finding::sites;
-pub use forms::{Call, Cell, Form, Row, Second};
-pub use places::Site;
+pub use first::first_of;
+pub use sequence_forms::{Call, Cell, Form, Row, Second, Site};

@@ -5,15 +5,14 @@ ghost use Rattle.sequence_match.specs.Code.{HasNoSiteOf, IsAt, IsEarliest, IsFou
 ghost use Rattle.sequence_match.specs.Code.{Names, ReachesAt};
 ghost use Rattle.elf_object.specs.Faults.{IsFirstAt};
 ghost use Rattle.sequence_match.specs.declared.index.Reach.TheVariants.{OfField, OfCall};
-ghost use Rattle.sequence_match.specs.declared.forms.Form.{Form};
-ghost use Rattle.sequence_match.specs.Forms.{IsCallKind, register, row};
+ghost use Rattle.sequence_forms.specs.declared.forms.Form.{Form};
+ghost use Rattle.sequence_forms.specs.Forms.{IsCallKind, register, row};
 ghost use Rattle.sequence_match.specs.Sites.{Calls, HasSecond, IsEntry, IsSecond, IsSpelled, StandsIn};
 ghost use Rattle.sequence_match.specs.Faults.{IsLoose, IsOfSequence, IsStray};
 
-use crate::forms::{Call, Cell, Form, Second, TO_END};
 use crate::index::{Span, count_below, first_from, last_below};
-use crate::places::Site;
 use elf_object::{Relocation, RelocationKind};
+use sequence_forms::{Call, Cell, Form, Second, Site, TO_END};
 
 /// The code of one section, and its relocations.
 #[derive(Clone, Copy)]
@@ -182,7 +181,7 @@ fn is_earliest(code: &Code, entry: u32, relocation: &Relocation) -> bool
 }
 
 /// The number of the register that a sequence names: bits 3 to 5 of ModRM, and 8 by bit R of REX.
-#[tactic(auto, unfolding(crate::specs::Forms::row, crate::specs::Forms::register))]
+#[tactic(auto, unfolding(sequence_forms::specs::Forms::row, sequence_forms::specs::Forms::register))]
 fn register(form: Form, bytes: &[u8], start: usize) -> u8
     requires { start + length (row form).cells ≤ length bytes.now }
     ensures { result ≡ register form bytes.now start }
@@ -282,7 +281,7 @@ fn relocation_at<'a>(code: &Code<'a>, entry: u32) -> &'a Relocation
 }
 
 /// The sequence whose first relocation is number `entry`.
-#[tactic(auto, unfolding(crate::specs::Forms::row))]
+#[tactic(auto, unfolding(sequence_forms::specs::Forms::row))]
 fn site_opened_by(code: &Code, entry: u32, first: &Relocation) -> Option<Site>
     requires ready { IsReady code.now }
     requires entry { IsEntry code.now.relocations.now entry first.now }

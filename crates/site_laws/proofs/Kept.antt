@@ -7,11 +7,11 @@ use Rattle.elf_records.specs.Fields.{part_at}
 use Rattle.elf_records.specs.Laws.{part_at-drop}
 use Rattle.amd64_subset.specs.Spelling.{field_of}
 use Rattle.amd64_subset.specs.Register.{register_of as numbered}
-use Rattle.sequence_match.specs.declared.forms.Form.{Form}
-use Rattle.sequence_match.specs.declared.forms.Form.TheVariants.{Gd, Ld, IeMov, IeAdd, GdInd, LdInd, DescLea, DescCall}
-use Rattle.sequence_match.specs.declared.forms.Cell.TheVariants.{Rex, ModRm}
-use Rattle.sequence_match.specs.declared.forms.Second.{Second}
-use Rattle.sequence_match.specs.Forms.{fits, register, register_of, row}
+use Rattle.sequence_forms.specs.declared.forms.Form.{Form}
+use Rattle.sequence_forms.specs.declared.forms.Form.TheVariants.{Gd, Ld, IeMov, IeAdd, GdInd, LdInd, DescLea, DescCall}
+use Rattle.sequence_forms.specs.declared.forms.Cell.TheVariants.{Rex, ModRm}
+use Rattle.sequence_forms.specs.declared.forms.Second.{Second}
+use Rattle.sequence_forms.specs.Forms.{fits, register, register_of, row}
 use Rattle.relax_sites.specs.Rows.{form_length}
 use Rattle.site_laws.specs.Instructions.{kept_instructions, displaced, load, add, of_next}
 use Rattle.site_laws.specs.Laws.{AreRead, HasCells, number_in, second_in, length_of}

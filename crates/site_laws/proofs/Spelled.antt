@@ -1,9 +1,9 @@
 -- Bytes that fit a form's cells are its literal bytes with others between them.
 use Rattle.std.proofs.Common.{◌≡◌, ℕ, suc, ◌≤◌, List, [], ◌∷◌, ◌++◌, length, drop, Some, refl, sym, ap, ◌∙◌, arith, rules}
 use Rattle.std.specs.Prelude.{IsTrue, slice_get, slice_index, ◌==◌}
-use Rattle.sequence_match.specs.declared.forms.Cell.{Cell}
-use Rattle.sequence_match.specs.declared.forms.Cell.TheVariants.{Is, Rex, ModRm, Field}
-use Rattle.sequence_match.specs.Forms.{fits}
+use Rattle.sequence_forms.specs.declared.forms.Cell.{Cell}
+use Rattle.sequence_forms.specs.declared.forms.Cell.TheVariants.{Is, Rex, ModRm, Field}
+use Rattle.sequence_forms.specs.Forms.{fits}
 
 -- the bytes that cells leave open
 abbrev pub open_in : List Cell → List ℕ → List ℕ

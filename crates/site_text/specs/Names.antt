@@ -1,7 +1,7 @@
 -- The names of forms and choices, as they are printed.
 use Rattle.std.specs.Prelude.{ℕ, List, codes}
-use Rattle.sequence_match.specs.declared.forms.Form.{Form}
-use Rattle.sequence_match.specs.declared.forms.Form.TheVariants.{Gd, Ld, IeMov, IeAdd, GdInd, LdInd, DescLea, DescCall}
+use Rattle.sequence_forms.specs.declared.forms.Form.{Form}
+use Rattle.sequence_forms.specs.declared.forms.Form.TheVariants.{Gd, Ld, IeMov, IeAdd, GdInd, LdInd, DescLea, DescCall}
 use Rattle.relax_sites.specs.declared.choices.Choice.{Choice}
 use Rattle.relax_sites.specs.declared.choices.Choice.TheVariants.{Keep, GdLe, GdIe, LdLe, IeLe, DescLe, DescIe}
 

@@ -7,3 +7,4 @@ pub mod LawsOfSections
 pub mod LawsOfPlaces
 pub mod LawsOfTls
 pub mod LawsOfBlocks
+pub mod Bounds

@@ -12,7 +12,7 @@ use Rattle.elf_object.specs.declared.symbol.SymbolBinding.{SymbolBinding}
 use Rattle.elf_object.specs.declared.symbol.SymbolBinding.TheVariants.{Local, Global, Weak}
 use Rattle.elf_object.specs.Lent.{symbol_binding, symbol_name, symbol_place, symbol_visibility}
 use Rattle.elf_object.specs.Parts.{symbol_count}
-use Rattle.tls_symbols.specs.declared.symbols.SymbolRef.{SymbolRef}
+use Rattle.link_faults.specs.declared.symbol_ref.SymbolRef.{SymbolRef}
 use Rattle.tls_symbols.specs.Bindings.{exported_at, exported_from, exported_in, exported_names, is_exported, is_symbol, is_tls_symbol, is_visible, object_at}
 use Rattle.tls_symbols.specs.Definitions.{defines, definition_of, first_from, first_in, found_or, is_defined, or_weak, same_binding}
 use Rattle.tls_symbols.specs.Laws.{is_exported_by, ExportsAreByName}

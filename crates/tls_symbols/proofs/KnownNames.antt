@@ -9,10 +9,10 @@ use Rattle.std.proofs.lemmas.Slice.Eq.{bytes_eq-Decides}
 use Rattle.elf_object.specs.declared.symbol.SymbolBinding.TheVariants.{Local, Global, Weak}
 use Rattle.elf_object.specs.Lent.{symbol_binding, symbol_name}
 use Rattle.elf_records.specs.declared.relocation.RelocationKind.{RelocationKind}
-use Rattle.tls_symbols.specs.declared.binding.Binding.{Binding}
-use Rattle.tls_symbols.specs.declared.binding.Binding.TheVariants.{Runtime}
+use Rattle.link_faults.specs.declared.binding.Binding.{Binding}
+use Rattle.link_faults.specs.declared.binding.Binding.TheVariants.{Runtime}
 use Rattle.tls_symbols.specs.declared.numbers.KnownSymbol.{KnownSymbol}
-use Rattle.tls_symbols.specs.declared.symbols.SymbolRef.{SymbolRef}
+use Rattle.link_faults.specs.declared.symbol_ref.SymbolRef.{SymbolRef}
 use Rattle.tls_symbols.specs.Bindings.{get_address, here_or, may_import, name_binding, of_startup}
 use Rattle.tls_symbols.specs.Definitions.{definition_of, first_from, or_weak, same_binding}
 use Rattle.tls_symbols.specs.Numbers.{Names, KnowsNames, IsNamed, IsNumbered, number_of, IsNumberOf, at_number, or_else, told}

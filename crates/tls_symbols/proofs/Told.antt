@@ -12,7 +12,7 @@ use Rattle.elf_object.specs.declared.symbol.SymbolBinding.{SymbolBinding}
 use Rattle.elf_object.specs.declared.symbol.SymbolBinding.TheVariants.{Local, Global, Weak}
 use Rattle.elf_object.specs.Lent.{symbol_binding, symbol_name, symbol_place}
 use Rattle.elf_object.specs.Parts.{symbol_count}
-use Rattle.tls_symbols.specs.declared.symbols.SymbolRef.{SymbolRef}
+use Rattle.link_faults.specs.declared.symbol_ref.SymbolRef.{SymbolRef}
 use Rattle.tls_symbols.specs.Definitions.{defines, found_or, is_defined, same_binding}
 use Rattle.tls_symbols.specs.Firsts.{export_in}
 use Rattle.tls_symbols.specs.Numbers.{Names, number_of, IsNamed, IsNumberOf, at_number, or_else, own_numbers, with_first, told}

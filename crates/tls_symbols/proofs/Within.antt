@@ -11,8 +11,8 @@ use Rattle.elf_object.specs.declared.symbol.SymbolBinding.{SymbolBinding}
 use Rattle.elf_object.specs.declared.symbol.SymbolBinding.TheVariants.{Local, Global, Weak}
 use Rattle.elf_object.specs.Lent.{symbol_binding, symbol_name}
 use Rattle.elf_object.specs.Parts.{symbol_count}
-use Rattle.tls_symbols.specs.declared.binding.Binding.TheVariants.{Here, Runtime}
-use Rattle.tls_symbols.specs.declared.symbols.SymbolRef.{SymbolRef}
+use Rattle.link_faults.specs.declared.binding.Binding.TheVariants.{Here, Runtime}
+use Rattle.link_faults.specs.declared.symbol_ref.SymbolRef.{SymbolRef}
 use Rattle.tls_symbols.specs.Bindings.{binding_of, first_export, get_address, here_or, may_import, name_binding, object_at, of_startup, IsBindingWithin}
 use Rattle.tls_symbols.specs.Definitions.{defines, definition_of, first_from, first_in, found_or, or_weak, same_binding, IsWithin}
 

@@ -17,9 +17,9 @@ use Rattle.elf_object.specs.declared.symbol.Visibility.{Visibility}
 use Rattle.elf_object.specs.declared.symbol.Visibility.TheVariants.{Default, Protected}
 use Rattle.elf_object.specs.Lent.{section_class, symbol_binding, symbol_name, symbol_place, symbol_visibility}
 use Rattle.elf_object.specs.Parts.{symbol_count}
-use Rattle.tls_symbols.specs.declared.binding.Binding.{Binding}
-use Rattle.tls_symbols.specs.declared.binding.Binding.TheVariants.{Here, Startup, Runtime}
-use Rattle.tls_symbols.specs.declared.symbols.SymbolRef.{SymbolRef}
+use Rattle.link_faults.specs.declared.binding.Binding.{Binding}
+use Rattle.link_faults.specs.declared.binding.Binding.TheVariants.{Here, Startup, Runtime}
+use Rattle.link_faults.specs.declared.symbol_ref.SymbolRef.{SymbolRef}
 use Rattle.tls_symbols.specs.Definitions.{definition_of, same_binding, IsWithin}
 
 -- the function of the run time, which no object defines (Drepper, section 3.4)

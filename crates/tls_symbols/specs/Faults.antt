@@ -16,7 +16,7 @@ use Rattle.link_faults.specs.declared.fault.LinkFault.{LinkFault}
 use Rattle.link_faults.specs.declared.fault.LinkFault.TheVariants.{OutOfMemory, At}
 use Rattle.link_faults.specs.declared.fault.LinkFaultKind.{LinkFaultKind}
 use Rattle.link_faults.specs.declared.fault.LinkFaultKind.TheVariants.{Undefined, Duplicate, NotTls}
-use Rattle.tls_symbols.specs.declared.binding.Binding.{Binding}
+use Rattle.link_faults.specs.declared.binding.Binding.{Binding}
 use Rattle.tls_symbols.specs.Definitions.{definition_of, is_defined, same_binding}
 use Rattle.tls_symbols.specs.Bindings.{binding_of, get_address, is_symbol, is_tls_binding, object_at}
 

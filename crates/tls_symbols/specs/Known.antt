@@ -1,10 +1,10 @@
 -- What is known of the names of an image, and what it tells by their numbers.
 use Rattle.std.specs.Prelude.{◌==◌, ℕ, Option, Some, None, map, if◌then◌else◌}
 use Rattle.elf_records.specs.declared.relocation.RelocationKind.{RelocationKind}
-use Rattle.tls_symbols.specs.declared.binding.Binding.{Binding}
-use Rattle.tls_symbols.specs.declared.binding.Binding.TheVariants.{Runtime}
+use Rattle.link_faults.specs.declared.binding.Binding.{Binding}
+use Rattle.link_faults.specs.declared.binding.Binding.TheVariants.{Runtime}
 use Rattle.tls_symbols.specs.declared.image_names.ImageNames.{ImageNames}
-use Rattle.tls_symbols.specs.declared.symbols.SymbolRef.{SymbolRef}
+use Rattle.link_faults.specs.declared.symbol_ref.SymbolRef.{SymbolRef}
 use Rattle.tls_symbols.specs.Bindings.{here_or, may_import, of_startup}
 use Rattle.tls_symbols.specs.Numbers.{KnowsNames, at_number, or_else}
 

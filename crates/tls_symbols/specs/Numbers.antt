@@ -10,7 +10,7 @@ use Rattle.elf_object.specs.declared.symbol.SymbolBinding.TheVariants.{Local, Gl
 use Rattle.elf_object.specs.Lent.{symbol_binding, symbol_name}
 use Rattle.elf_object.specs.Parts.{symbol_count}
 use Rattle.tls_symbols.specs.declared.numbers.KnownSymbol.{KnownSymbol}
-use Rattle.tls_symbols.specs.declared.symbols.SymbolRef.{SymbolRef}
+use Rattle.link_faults.specs.declared.symbol_ref.SymbolRef.{SymbolRef}
 use Rattle.tls_symbols.specs.Definitions.{first_from, same_binding}
 use Rattle.tls_symbols.specs.Bindings.{first_export, get_address, is_tls_symbol, object_at}
 

@@ -7,14 +7,12 @@ ghost use Rattle.tls_symbols.specs.Definitions.{definition_of, IsWithin};
 ghost use Rattle.tls_symbols.specs.Faults.{AreResolved, IsFault};
 ghost use Rattle.tls_symbols.specs.Known.{IsKnown};
 
-use crate::binding::Binding;
 use crate::duplicates::first_duplicate;
 use crate::export_list::Exports;
 use crate::image_names::{ImageNames, binding, definition_named, know_names};
-use crate::symbols::SymbolRef;
 use crate::uses::{Charge, first_charged, first_use};
 use elf_object::{Object, Relocation};
-use link_faults::{LinkFault, LinkFaultKind};
+use link_faults::{Binding, LinkFault, LinkFaultKind, SymbolRef};
 use std::alloc::Global;
 use std::marker::Model;
 

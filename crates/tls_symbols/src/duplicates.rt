@@ -12,8 +12,8 @@ ghost use Rattle.tls_symbols.specs.Searches.{first_duplicate_from, first_duplica
 
 use crate::image_names::{ImageNames, is_run_time, symbol_definition};
 use crate::place::Place;
-use crate::symbols::SymbolRef;
 use elf_object::{Object, SymbolBinding, SymbolPlace};
+use link_faults::SymbolRef;
 
 /// Whether the definition is this symbol of this object.
 pub fn is_symbol(definition: Option<SymbolRef>, object: usize, symbol: u32) -> bool

@@ -11,8 +11,8 @@ ghost use Rattle.tls_symbols.specs.Numbers.{TellsExports, own_numbers, with_firs
 
 use crate::export_list::Exports;
 use crate::numbers::Numbers;
-use crate::symbols::SymbolRef;
 use elf_object::{Object, SymbolBinding, SymbolPlace};
+use link_faults::SymbolRef;
 use std::alloc::{AllocError, Global};
 
 /// Notes a definition of a name, where the table has none of it yet. A LOCAL symbol's name has no number.

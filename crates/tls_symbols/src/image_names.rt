@@ -10,12 +10,11 @@ ghost use Rattle.tls_symbols.specs.Definitions.{definition_of, same_binding, IsW
 ghost use Rattle.tls_symbols.specs.Known.{IsKnown, binding_at, definition_at, imported_at};
 ghost use Rattle.tls_symbols.specs.Numbers.{IsNumbered};
 
-use crate::binding::Binding;
 use crate::export_list::Exports;
 use crate::firsts::{first_definitions, first_exports};
 use crate::numbers::{KnownSymbol, Numbers, number_names};
-use crate::symbols::SymbolRef;
 use elf_object::{Object, Relocation, RelocationKind, SymbolBinding};
+use link_faults::{Binding, SymbolRef};
 use std::alloc::{AllocError, Global};
 
 /// An image's names: their numbers, and by these what each stands for.

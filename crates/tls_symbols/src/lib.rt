@@ -41,7 +41,6 @@
 //! what the code keeps: numbers (`Numbers`), tables (`Firsts`, `Known`) and searches (`Searches`).
 #![tactic(auto)]
 
-mod binding;
 mod bindings;
 mod duplicates;
 mod export_list;
@@ -55,8 +54,7 @@ mod symbols;
 mod tls_place;
 mod uses;
 
-pub use binding::Binding;
 pub use bindings::{Bindings, resolve};
 pub use export_list::Exports;
 pub use exporting::exports;
-pub use symbols::{SymbolRef, definition};
+pub use symbols::definition;

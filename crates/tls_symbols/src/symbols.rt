@@ -6,15 +6,7 @@ ghost use Rattle.std.specs.Str.{bytes_eq};
 ghost use Rattle.tls_symbols.specs.Definitions.{IsWithin, defines, first_in, first_from, definition_of};
 
 use elf_object::{Object, SymbolBinding, SymbolPlace};
-
-/// A symbol of one of several objects.
-#[derive(Clone, Copy, PartialEq, Eq, Hash, Debug)]
-pub struct SymbolRef {
-    /// The object's place in the list, from 0.
-    pub object: u64,
-    /// Its number in the object's symbol table; 0 is reserved.
-    pub symbol: u32,
-}
+use link_faults::SymbolRef;
 
 /// The definition that a name binds to in an image of these objects: the first strong one, else the first weak one.
 #[tactic(auto, unfolding(crate::specs::Definitions::definition_of))]

@@ -10,10 +10,10 @@ ghost use Rattle.tls_symbols.specs.Faults.{is_mismatched, is_tls_kind};
 ghost use Rattle.tls_symbols.specs.Known.{IsKnown};
 ghost use Rattle.tls_symbols.specs.Searches.{first_entry, first_use_from, first_use_in, test_of};
 
-use crate::binding::Binding;
 use crate::image_names::{ImageNames, binding, is_tls};
 use crate::place::Place;
 use elf_object::{Object, Relocation, RelocationKind};
+use link_faults::Binding;
 
 /// A fault that a relocation may have by what its symbol is bound to.
 #[derive(Clone, Copy)]

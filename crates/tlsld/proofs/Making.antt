@@ -16,10 +16,11 @@ use Rattle.job_link.specs.Linked.{AllLink, exports_of, is_startup, link_in, link
 use Rattle.job_link.specs.Refusals.{IsImageRefusal}
 use Rattle.job_text.specs.declared.images.Image.{Image}
 use Rattle.job_text.specs.Jobs.{JobParts}
-use Rattle.link_core.specs.Faults.{IsGiven, Links}
+use Rattle.link_core.specs.Faults.{Links}
+use Rattle.link_needs.specs.Given.{IsGiven}
 use Rattle.link_core.specs.Images.{LinkedImage, choices_from, image_of, linked_of}
-use Rattle.link_core.specs.Linking.{Linking, choice}
-use Rattle.sequence_match.specs.declared.places.Site.{Site}
+use Rattle.link_needs.specs.Linking.{Linking, choice}
+use Rattle.sequence_forms.specs.declared.places.Site.{Site}
 use Rattle.tlsld.specs.declared.fault.CommandFault.{CommandFault}
 use Rattle.tlsld.specs.declared.fault.CommandFault.TheVariants as fault
 use Rattle.tlsld.specs.declared.wish.Wish.{Wish}

@@ -2,7 +2,7 @@
 use Rattle.std.proofs.Common.{◌≡◌, ◌∙◌, ◌+◌, ◌-◌, ◌<◌, ◌≤◌, ℕ, List, [], ◌++◌, length, refl, ap, arith}
 use Rattle.std.specs.List.{flat_map, range_with_len}
 use Rattle.relax_sites.specs.declared.choices.Choice.{Choice}
-use Rattle.sequence_match.specs.declared.places.Site.{Site}
+use Rattle.sequence_forms.specs.declared.places.Site.{Site}
 use Rattle.site_text.specs.Lines.{site_lines}
 use Rattle.tls_symbols.proofs.Search.{range_first, range_none}
 use Rattle.tlsld.specs.Wishes.{image_lines, lines_at}

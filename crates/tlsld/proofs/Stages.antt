@@ -7,7 +7,7 @@ use Rattle.job_link.specs.Linked.{link_in}
 use Rattle.job_link.specs.Mentions.{AreFilesOf, Fetched, bytes_at, bytes_in, object_names}
 use Rattle.job_text.specs.Jobs.{JobParts}
 use Rattle.link_core.specs.Images.{image_of}
-use Rattle.link_core.specs.Linking.{Linking}
+use Rattle.link_needs.specs.Linking.{Linking}
 use Rattle.ports.specs.Files.{Files, file_at, with_file}
 use Rattle.tlsld.specs.declared.fault.CommandFault.{CommandFault}
 use Rattle.tlsld.specs.declared.fault.CommandFault.TheVariants as fault

@@ -2,7 +2,7 @@
 use Rattle.std.specs.Prelude.{◌≡◌, ◌<◌, ℕ, Bool, true, List, [], length, slice_get, slice_index_or}
 use Rattle.std.specs.List.{flat_map, range_with_len}
 use Rattle.std.specs.Option.{option_map_or}
-use Rattle.dynamic_symbols.specs.Walks.{HaveSymbols}
+use Rattle.sequence_match.specs.Sites.{HaveSymbols}
 use Rattle.image_writer.specs.Loadable.{HoldsTls}
 use Rattle.image_writer.specs.Outlined.{outline_of}
 use Rattle.image_writer.specs.Written.{written}
@@ -10,7 +10,7 @@ use Rattle.job_link.specs.Given.{Given}
 use Rattle.job_text.specs.Jobs.{JobParts}
 use Rattle.link_core.specs.Images.{LinkedImage}
 use Rattle.relax_sites.specs.declared.choices.Choice.{Choice}
-use Rattle.sequence_match.specs.declared.places.Site.{Site}
+use Rattle.sequence_forms.specs.declared.places.Site.{Site}
 use Rattle.site_text.specs.Lines.{site_lines}
 use Rattle.tlsld.specs.declared.wish.Wish.{Wish}
 use Rattle.tlsld.specs.declared.wish.Wish.TheVariants.{File, Sites}

@@ -2,7 +2,8 @@ use Rattle.std.proofs.Common.{◌∙◌, ◌+◌, drop, map, ap}
 use Rattle.std.specs.List.{flat_map}
 use Rattle.dynamic_symbols.specs.Names.{defined_in, defined_names}
 use Rattle.dynamic_symbols.specs.Walks.{with_names}
-use Rattle.dynamic_symbols.proofs.Adding.{added, drop_here, ended, walk}
+use Rattle.dynamic_symbols.proofs.Adding.{added, ended, walk}
+use Rattle.sequence_match.proofs.OwnSites.{drop_here}
 use Rattle.dynamic_symbols.proofs.defining.defined_names.Goals as goal
 
 pub loop-object-preserved : goal.loop-object-preserved

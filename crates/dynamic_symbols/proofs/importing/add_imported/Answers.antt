@@ -2,12 +2,13 @@ use Rattle.std.proofs.Common.{◌∙◌, ◌+◌, drop, map, refl, sym, ap}
 use Rattle.std.specs.Prelude.{slice_index_or}
 use Rattle.std.specs.List.{flat_map}
 use Rattle.elf_object.specs.Lent.{symbol_name}
-use Rattle.sequence_match.specs.declared.forms.Form.TheVariants.{Gd}
-use Rattle.sequence_match.specs.declared.places.Site.{Site}
+use Rattle.sequence_forms.specs.declared.forms.Form.TheVariants.{Gd}
+use Rattle.sequence_forms.specs.declared.places.Site.{Site}
 use Rattle.tls_symbols.specs.Bindings.{object_at}
 use Rattle.dynamic_symbols.specs.Names.{imported_at, imported_in}
 use Rattle.dynamic_symbols.specs.Walks.{with_name, with_names}
-use Rattle.dynamic_symbols.proofs.Adding.{drop_at, imports_none, imports_one, inserted, walk_none, walk_one}
+use Rattle.dynamic_symbols.proofs.Adding.{imports_none, imports_one, inserted, walk_none, walk_one}
+use Rattle.sequence_match.proofs.OwnSites.{drop_at}
 use Rattle.dynamic_symbols.proofs.importing.add_imported.Goals as goal
 use Rattle.dynamic_symbols.proofs.importing.add_imported.Goals.{then-is_import+in_ok-insert, else-is_import}
 

@@ -1,10 +1,10 @@
-use Rattle.std.proofs.Common.{◌≡◌, ◌<◌, ◌∙◌, ◌+◌, ℕ, List, Bor, drop, length, map, sym, ap, subst, arith}
-use Rattle.std.specs.Global.{Vec}
-use Rattle.std.specs.Prelude.{Result, Ok, Err, IfOk}
+use Rattle.std.proofs.Common.{◌<◌, ◌∙◌, ◌+◌, drop, length, map, sym, ap, subst, arith}
 use Rattle.tls_symbols.specs.Bindings.{object_at}
 use Rattle.dynamic_symbols.specs.Names.{distinct, imported_from, imported_in, imports}
-use Rattle.dynamic_symbols.specs.Walks.{HaveSymbols, with_names}
-use Rattle.dynamic_symbols.proofs.Adding.{added, drop_here, ended_from, object_is, own_sites, walk_from}
+use Rattle.dynamic_symbols.specs.Walks.{with_names}
+use Rattle.sequence_match.specs.Sites.{HaveSymbols}
+use Rattle.dynamic_symbols.proofs.Adding.{added, ended_from, object_is, walk_from}
+use Rattle.sequence_match.proofs.OwnSites.{own_sites, drop_here}
 use Rattle.dynamic_symbols.proofs.importing.imports.Goals as goal
 
 pub add_imported-requires-clause-symbols : goal.add_imported-requires-clause-symbols

@@ -1,10 +1,10 @@
 use Rattle.std.proofs.Common.{◌≡◌, ◌∙◌, ◌+◌, ◌<◌, ℕ, List, [], ◌∷◌, map, sym, ap, subst, arith}
 use Rattle.std.specs.Prelude.{slice_index_or}
 use Rattle.std.proofs.lemmas.List.{length-map, map-append}
-use Rattle.sequence_match.specs.declared.places.Site.{Site}
+use Rattle.sequence_forms.specs.declared.places.Site.{Site}
 use Rattle.tls_symbols.specs.Bindings.{object_at}
 use Rattle.tls_symbols.proofs.Numbered.{each_push}
-use Rattle.dynamic_symbols.specs.Walks.{HaveSymbols}
+use Rattle.sequence_match.specs.Sites.{HaveSymbols}
 use Rattle.dynamic_symbols.proofs.Adding.{object_is}
 use Rattle.dynamic_tests.proofs.images.all_sites.Goals as goal
 

@@ -1,6 +1,6 @@
 use Rattle.std.proofs.Common.{◌≡◌, ◌<◌, ℕ, [], length, map, slice_index_or}
 use Rattle.tls_symbols.specs.Bindings.{object_at}
-use Rattle.dynamic_symbols.specs.Walks.{HaveSymbols}
+use Rattle.sequence_match.specs.Sites.{HaveSymbols}
 use Rattle.dynamic_tests.proofs.images.all_sites.Given as goal
 
 -- the sites of the objects so far have their symbols

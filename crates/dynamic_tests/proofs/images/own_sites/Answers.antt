@@ -1,4 +1,4 @@
-use Rattle.dynamic_symbols.proofs.OfSites.{sites_symbols}
+use Rattle.sequence_match.proofs.SitesSymbols.{sites_symbols}
 use Rattle.dynamic_tests.proofs.images.own_sites.Goals as goal
 
 pub returns : goal.returns

@@ -1,7 +1,7 @@
 use Rattle.std.proofs.Common.{◌∙◌, ◌∷◌, ◌++◌, [], List, length, map, take, sym, ap, subst, arith}
 use Rattle.link_core.specs.Faults.{IsLinkFault, Links}
 use Rattle.link_core.specs.Images.{linked_of, LinkedImage}
-use Rattle.link_core.specs.Linking.{Linking}
+use Rattle.link_needs.specs.Linking.{Linking}
 use Rattle.job_link.specs.Refusals.{IsImageRefusal}
 use Rattle.job_link.proofs.Exported.{all_link, beside, exports_few, first_refused, linked_as, linked_more, links_more}
 use Rattle.job_link.proofs.linked_images.link_images.Goals as goal

@@ -1,10 +1,10 @@
 use Rattle.std.proofs.Common.{◌≡◌, ℕ, ◌<◌, List, [], length, map, sym, subst}
 use Rattle.std.specs.Prelude.{slice_index_or, IfErr, IfOk, OnOk}
-use Rattle.sequence_match.specs.declared.places.Site.{Site}
+use Rattle.sequence_forms.specs.declared.places.Site.{Site}
 use Rattle.sequence_match.specs.Faults.{AreSites}
 use Rattle.link_core.specs.Faults.{IsLinkFault, Links}
 use Rattle.link_core.specs.Images.{linked_of}
-use Rattle.link_core.specs.Linking.{Linking}
+use Rattle.link_needs.specs.Linking.{Linking}
 use Rattle.job_link.proofs.Exported.{made_beside}
 use Rattle.job_link.proofs.linked_images.link_one.Goals as goal
 

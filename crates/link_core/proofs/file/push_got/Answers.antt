@@ -4,8 +4,8 @@ use Rattle.got_pairs.specs.Needs.{total_size}
 use Rattle.section_file.specs.Files.{offset_of}
 use Rattle.tls_relocs.specs.Laid.{zeros}
 use Rattle.link_core.specs.Bytes.{table_bytes}
-use Rattle.link_core.specs.Linking.{Linking, layout}
-use Rattle.link_core.specs.Needs.{got_size, got_start, table}
+use Rattle.link_needs.specs.Linking.{Linking, layout}
+use Rattle.link_needs.specs.Needs.{got_size, got_start, table}
 use Rattle.link_core.proofs.WritingRoom.{stand_near}
 use Rattle.link_core.proofs.WritingParts.{got_written, on_ok_then}
 use Rattle.link_core.proofs.file.push_got.Goals as goal

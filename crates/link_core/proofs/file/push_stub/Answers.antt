@@ -7,8 +7,8 @@ use Rattle.section_file.specs.Files.{offset_of}
 use Rattle.tls_relocs.specs.Fields.{field_bytes}
 use Rattle.tls_relocs.specs.Laid.{zeros}
 use Rattle.tls_relocs.specs.Values.{stored_field}
-use Rattle.link_core.specs.Linking.{Linking, layout}
-use Rattle.link_core.specs.Needs.{has_stub, need_address, stub_start}
+use Rattle.link_needs.specs.Linking.{Linking, layout}
+use Rattle.link_needs.specs.Needs.{has_stub, need_address, stub_start}
 use Rattle.link_core.proofs.WritingParts.{on_ok_then, stub_bare, stub_written}
 use Rattle.link_core.proofs.WritingRoom.{stand_near}
 use Rattle.link_core.proofs.file.push_stub.Goals as goal

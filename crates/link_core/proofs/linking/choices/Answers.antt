@@ -1,8 +1,8 @@
 use Rattle.std.proofs.Common.{◌∙◌, ◌<◌, length, sym, ap, subst, arith}
-use Rattle.dynamic_symbols.specs.Walks.{HaveSymbols}
+use Rattle.sequence_match.specs.Sites.{HaveSymbols}
 use Rattle.tls_symbols.specs.Bindings.{object_at}
-use Rattle.link_core.specs.Linking.{Linking}
-use Rattle.link_core.specs.Faults.{IsGiven}
+use Rattle.link_needs.specs.Linking.{Linking}
+use Rattle.link_needs.specs.Given.{IsGiven}
 use Rattle.link_core.specs.Images.{choices_in}
 use Rattle.link_core.proofs.LinkLists.{choices_next, have_symbols, own_is, sites_within}
 use Rattle.link_core.proofs.linking.choices.Goals as goal

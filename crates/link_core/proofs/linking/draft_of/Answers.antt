@@ -1,5 +1,5 @@
 use Rattle.std.proofs.Common.{◌∙◌, ap}
-use Rattle.link_core.specs.Linking.{Linking, layout}
+use Rattle.link_needs.specs.Linking.{Linking, layout}
 use Rattle.link_core.specs.Images.{file_kind, tls_part}
 use Rattle.link_core.proofs.LinkDrafts.{drafted}
 use Rattle.link_core.proofs.linking.draft_of.Goals as goal

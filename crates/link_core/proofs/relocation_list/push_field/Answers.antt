@@ -1,10 +1,10 @@
 use Rattle.std.proofs.Common.{◌≡◌, ◌∙◌, ap, sym, subst, arith, rules}
-use Rattle.link_core.specs.Linking.{binding}
-use Rattle.link_core.specs.Faults.{IsGiven}
-use Rattle.link_core.specs.SymbolNumbers.{number_by}
-use Rattle.link_core.specs.Values.{own_number}
+use Rattle.link_needs.specs.Linking.{binding}
+use Rattle.link_needs.specs.Given.{IsGiven}
+use Rattle.link_needs.specs.SymbolNumbers.{number_by}
+use Rattle.link_needs.specs.Values.{own_number}
 use Rattle.link_core.proofs.ListedFields.{near_of}
-use Rattle.link_core.proofs.ValueLemmas.{takes_number}
+use Rattle.link_needs.proofs.ValueLemmas.{takes_number}
 use Rattle.link_core.proofs.relocation_list.push_field.Goals as goal
 
 pub symbol_value-symbol-requires-clause-symbol : goal.symbol_value-symbol-requires-clause-symbol

@@ -1,9 +1,9 @@
 use Rattle.std.proofs.Common.{◌≡◌, ◌∙◌, true, false, sym, ap, rules}
 use Rattle.image_file.specs.declared.relocation.ImageRelocation.{ImageRelocation}
-use Rattle.link_refusals.specs.Refused.{is_moved}
+use Rattle.link_faults.specs.ImageKinds.{is_moved}
 use Rattle.link_core.specs.Dynamic.{relatives}
-use Rattle.link_core.specs.Sorting.{sorted_by}
-use Rattle.link_core.proofs.SortingLaws.{sorted_by_key}
+use Rattle.link_needs.specs.Sorting.{sorted_by}
+use Rattle.link_needs.proofs.SortingLaws.{sorted_by_key}
 use Rattle.link_core.proofs.relocation_list.relatives.Goals as goal
 
 pub returns-then-not-is_moved : goal.returns-then-not-is_moved

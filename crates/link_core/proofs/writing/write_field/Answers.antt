@@ -2,8 +2,8 @@ use Rattle.std.proofs.Common.{[], ◌∷◌, ◌∙◌, ap, arith, sym, subst, �
 use Rattle.section_file.specs.Files.{offset_of}
 use Rattle.tls_relocs.specs.Fields.{field_patch}
 use Rattle.tls_relocs.specs.Patches.{patched}
-use Rattle.link_core.specs.Faults.{FitsLimits, IsGiven}
-use Rattle.link_core.specs.Linking.{layout}
+use Rattle.link_needs.specs.Given.{FitsTable, IsGiven}
+use Rattle.link_needs.specs.Linking.{layout}
 use Rattle.link_core.proofs.WritingFields.{field_fills, field_overflows, field_writes, names_symbol, nothing_fills}
 use Rattle.link_core.proofs.WritingFields.{nothing_writes, replaced_as, replaced_fills, replaced_writes}
 use Rattle.link_core.proofs.WritingRoom.{field_room}
@@ -41,7 +41,7 @@ pub overflow_add-place : goal.overflow_add-place
 overflow_add-place c =
     let l = c.args.plan.now in
     let given = subst IsGiven c.plan.view_is c.plan.invariant.given in
-    let limits = subst FitsLimits c.plan.view_is c.plan.invariant.limits in
+    let limits = subst FitsTable c.plan.view_is c.plan.invariant.limits in
     let room = field_room l c.args.object c.args.section c.args.relocation.now given limits c.requires.object
     c.requires.own in
     omega (arith, room.near, c.requires.address)
@@ -57,7 +57,7 @@ put-requires c =
     let l = c.args.plan.now in
     let r = c.args.relocation.now in
     let given = subst IsGiven c.plan.view_is c.plan.invariant.given in
-    let limits = subst FitsLimits c.plan.view_is c.plan.invariant.limits in
+    let limits = subst FitsTable c.plan.view_is c.plan.invariant.limits in
     let room = field_room l c.args.object c.args.section r given limits c.requires.object c.requires.own in
     record { room = rw (c.in-Ok.ensures.width, c.requires.address, c.requires.filled) room }
 

@@ -1,7 +1,7 @@
 use Rattle.std.proofs.Common.{◌∙◌, fold, length, sym, ap, arith, subst}
 use Rattle.elf_object.specs.Lent.{relocations}
 use Rattle.link_core.specs.Bytes.{with_field}
-use Rattle.link_core.specs.Linking.{object}
+use Rattle.link_needs.specs.Linking.{object}
 use Rattle.link_core.specs.Overflows.{IsFirstOverflowIn}
 use Rattle.link_core.proofs.WritingWalks.{first_at, first_told, none_in, none_next, rest_after, table_written}
 use Rattle.link_core.proofs.writing.write_held.Goals as goal

@@ -1,7 +1,7 @@
 use Rattle.std.proofs.Common.{◌≡◌, ◌+◌, ◌≤◌, ◌^◌, drop, fold, length}
 use Rattle.elf_object.specs.Lent.{relocations}
 use Rattle.link_core.specs.Bytes.{raw_file, with_field}
-use Rattle.link_core.specs.Linking.{object}
+use Rattle.link_needs.specs.Linking.{object}
 use Rattle.link_core.proofs.WritingWalks.{NoneBefore}
 use Rattle.link_core.proofs.writing.write_held.Given as goal
 

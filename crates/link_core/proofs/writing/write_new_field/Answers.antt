@@ -3,9 +3,9 @@ use Rattle.elf_object.specs.declared.relocation.Relocation.{Relocation}
 use Rattle.section_file.specs.Files.{offset_of}
 use Rattle.tls_relocs.specs.Fields.{field_patch}
 use Rattle.tls_relocs.specs.Patches.{patched}
-use Rattle.link_core.specs.Faults.{FitsLimits, IsGiven}
-use Rattle.link_core.specs.Linking.{choice, layout, place}
-use Rattle.link_core.specs.Values.{field}
+use Rattle.link_needs.specs.Given.{FitsTable, IsGiven}
+use Rattle.link_needs.specs.Linking.{choice, layout, place}
+use Rattle.link_needs.specs.Values.{field}
 use Rattle.link_core.proofs.WritingRoom.{new_room, new_small, site_room}
 use Rattle.link_core.proofs.WritingSites.{new_skips, new_writes}
 use Rattle.link_core.proofs.writing.write_new_field.Goals as goal
@@ -14,7 +14,7 @@ pub new_relocation-relocation-requires : goal.new_relocation-relocation-requires
 new_relocation-relocation-requires c =
     let l = c.args.plan.now in
     let given = subst IsGiven c.plan.view_is c.plan.invariant.given in
-    let limits = subst FitsLimits c.plan.view_is c.plan.invariant.limits in
+    let limits = subst FitsTable c.plan.view_is c.plan.invariant.limits in
     let site = c.args.site.now in
     let room = site_room l c.args.object site given limits c.requires.object c.requires.own in
     new_small l c.args.object site (choice l c.args.object site) c.args.field.now room c.requires.field
@@ -23,7 +23,7 @@ pub overflow_add-place : goal.overflow_add-place
 overflow_add-place c =
     let l = c.args.plan.now in
     let given = subst IsGiven c.plan.view_is c.plan.invariant.given in
-    let limits = subst FitsLimits c.plan.view_is c.plan.invariant.limits in
+    let limits = subst FitsTable c.plan.view_is c.plan.invariant.limits in
     let site = c.args.site.now in
     let room = site_room l c.args.object site given limits c.requires.object c.requires.own in
     let fits = new_room l c.args.object site (choice l c.args.object site) c.args.field.now room c.requires.field in
@@ -34,7 +34,7 @@ pub symbol_value-symbol-requires-clause-symbol : goal.symbol_value-symbol-requir
 symbol_value-symbol-requires-clause-symbol c =
     let l = c.args.plan.now in
     let given = subst IsGiven c.plan.view_is c.plan.invariant.given in
-    let limits = subst FitsLimits c.plan.view_is c.plan.invariant.limits in
+    let limits = subst FitsTable c.plan.view_is c.plan.invariant.limits in
     let room = site_room l c.args.object c.args.site.now given limits c.requires.object c.requires.own in
     let same = ap (λ (r : Relocation). r.symbol) c.new_relocation-relocation.ensures in
     rw same room.usable.symbol
@@ -43,7 +43,7 @@ pub field-requires-clause-number : goal.field-requires-clause-number
 field-requires-clause-number c =
     let l = c.args.plan.now in
     let given = subst IsGiven c.plan.view_is c.plan.invariant.given in
-    let limits = subst FitsLimits c.plan.view_is c.plan.invariant.limits in
+    let limits = subst FitsTable c.plan.view_is c.plan.invariant.limits in
     let room = site_room l c.args.object c.args.site.now given limits c.requires.object c.requires.own in
     let same = ap (λ (r : Relocation). r.symbol) c.new_relocation-relocation.ensures in
     rw same room.usable.symbol
@@ -52,7 +52,7 @@ pub put-requires : goal.put-requires
 put-requires c =
     let l = c.args.plan.now in
     let given = subst IsGiven c.plan.view_is c.plan.invariant.given in
-    let limits = subst FitsLimits c.plan.view_is c.plan.invariant.limits in
+    let limits = subst FitsTable c.plan.view_is c.plan.invariant.limits in
     let site = c.args.site.now in
     let room = site_room l c.args.object site given limits c.requires.object c.requires.own in
     let fits = new_room l c.args.object site (choice l c.args.object site) c.args.field.now room c.requires.field in

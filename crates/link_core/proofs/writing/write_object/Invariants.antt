@@ -2,7 +2,7 @@ use Rattle.std.proofs.Common.{◌≡◌, ◌-◌, fold, length}
 use Rattle.std.specs.List.{range_with_len}
 use Rattle.elf_object.specs.Object.{section_count}
 use Rattle.link_core.specs.Bytes.{raw_file, with_fields, with_table}
-use Rattle.link_core.specs.Linking.{object}
+use Rattle.link_needs.specs.Linking.{object}
 use Rattle.link_core.proofs.WritingWalks.{NoneInTables}
 use Rattle.link_core.proofs.writing.write_object.Given as goal
 

@@ -3,8 +3,8 @@ use Rattle.section_file.specs.Files.{offset_of}
 use Rattle.std.specs.Prelude.{unwrap_or}
 use Rattle.tls_layout.specs.Places.{address_of}
 use Rattle.link_core.specs.Bytes.{with_new_field}
-use Rattle.link_core.specs.Faults.{FitsLimits, IsGiven}
-use Rattle.link_core.specs.Linking.{choice, layout}
+use Rattle.link_needs.specs.Given.{FitsTable, IsGiven}
+use Rattle.link_needs.specs.Linking.{choice, layout}
 use Rattle.link_core.proofs.WritingRoom.{site_room}
 use Rattle.link_core.proofs.WritingSites.{site_writes}
 use Rattle.link_core.proofs.writing.write_site.Goals as goal
@@ -13,7 +13,7 @@ pub choice-choice-requires-clause-symbol : goal.choice-choice-requires-clause-sy
 choice-choice-requires-clause-symbol c =
     let l = c.args.plan.now in
     let given = subst IsGiven c.plan.view_is c.plan.invariant.given in
-    let limits = subst FitsLimits c.plan.view_is c.plan.invariant.limits in
+    let limits = subst FitsTable c.plan.view_is c.plan.invariant.limits in
     let room = site_room l c.args.object c.args.site.now given limits c.requires.object c.requires.own in
     rw c.plan.view_is room.usable.symbol
 
@@ -21,7 +21,7 @@ pub overflow_add-address : goal.overflow_add-address
 overflow_add-address c =
     let l = c.args.plan.now in
     let given = subst IsGiven c.plan.view_is c.plan.invariant.given in
-    let limits = subst FitsLimits c.plan.view_is c.plan.invariant.limits in
+    let limits = subst FitsTable c.plan.view_is c.plan.invariant.limits in
     let room = site_room l c.args.object c.args.site.now given limits c.requires.object c.requires.own in
     let small = room.usable.small in
     omega (arith, small, c.section_address-address.ensures.small)
@@ -32,7 +32,7 @@ place_in_file-requires-clause-from_base c =
     let o = c.args.object in
     let site = c.args.site.now in
     let given = subst IsGiven c.plan.view_is c.plan.invariant.given in
-    let limits = subst FitsLimits c.plan.view_is c.plan.invariant.limits in
+    let limits = subst FitsTable c.plan.view_is c.plan.invariant.limits in
     let room = site_room l c.args.object c.args.site.now given limits c.requires.object c.requires.own in
     let at = c.section_address-address.ensures.address
     ∙ ap (λ l. unwrap_or (address_of (layout l) o site.section) 0) c.plan.view_is in
@@ -42,7 +42,7 @@ pub place_in_file-requires-clause-fits : goal.place_in_file-requires-clause-fits
 place_in_file-requires-clause-fits c =
     let l = c.args.plan.now in
     let given = subst IsGiven c.plan.view_is c.plan.invariant.given in
-    let limits = subst FitsLimits c.plan.view_is c.plan.invariant.limits in
+    let limits = subst FitsTable c.plan.view_is c.plan.invariant.limits in
     let room = site_room l c.args.object c.args.site.now given limits c.requires.object c.requires.own in
     let small = room.usable.small in
     omega (arith, small, c.section_address-address.ensures.small)
@@ -53,7 +53,7 @@ rewrite-requires c =
     let o = c.args.object in
     let site = c.args.site.now in
     let given = subst IsGiven c.plan.view_is c.plan.invariant.given in
-    let limits = subst FitsLimits c.plan.view_is c.plan.invariant.limits in
+    let limits = subst FitsTable c.plan.view_is c.plan.invariant.limits in
     let room = site_room l c.args.object site given limits c.requires.object c.requires.own in
     let begins = c.section_address-address.ensures.address
     ∙ ap (λ l. unwrap_or (address_of (layout l) o site.section) 0) c.plan.view_is in

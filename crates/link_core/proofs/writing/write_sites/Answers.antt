@@ -1,6 +1,6 @@
 use Rattle.std.proofs.Common.{◌∙◌, ◌+◌, drop, fold, ap}
 use Rattle.link_core.specs.Bytes.{with_site, with_sites_from}
-use Rattle.link_core.proofs.PlanLemmas.{own_left}
+use Rattle.link_needs.proofs.PlanLemmas.{own_left}
 use Rattle.link_core.proofs.WritingSites.{sites_step}
 use Rattle.link_core.proofs.writing.write_sites.Goals as goal
 

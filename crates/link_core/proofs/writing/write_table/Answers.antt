@@ -1,7 +1,7 @@
 use Rattle.std.proofs.Common.{◌∙◌, sym, ap}
 use Rattle.object_faults.specs.Firsts.{nonzero}
 use Rattle.elf_object.specs.Lent.{relocation_target}
-use Rattle.link_core.specs.Linking.{object}
+use Rattle.link_needs.specs.Linking.{object}
 use Rattle.link_core.proofs.WritingWalks.{none_held, nothing_held}
 use Rattle.link_core.proofs.writing.write_table.Goals as goal
 

@@ -1,6 +1,6 @@
 use Rattle.std.proofs.Common.{ap, arith}
 use Rattle.link_faults.specs.ImageKinds.{base_of}
-use Rattle.section_file.proofs.Bounds.{extent_bounds}
+use Rattle.tls_layout.proofs.Bounds.{extent_bounds}
 use Rattle.section_file.proofs.laying.push_end.Goals as goal
 
 pub offset_of-requires : goal.offset_of-requires

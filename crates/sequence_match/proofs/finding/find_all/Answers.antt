@@ -1,7 +1,7 @@
 use Rattle.std.proofs.Common.{◌+◌, ◌≤◌, ◌++◌, ◌∙◌, List, sym, ap, subst, arith}
 use Rattle.object_rules.specs.declared.fault.FaultKind.TheVariants.{Sequence, StrayCall}
 use Rattle.elf_object.specs.Parts.{header}
-use Rattle.sequence_match.specs.declared.places.Site.{Site}
+use Rattle.sequence_forms.specs.declared.places.Site.{Site}
 use Rattle.sequence_match.specs.Finding.{AreSitesFrom}
 use Rattle.sequence_match.proofs.Surveys.{below_all, below_first}
 use Rattle.sequence_match.proofs.Tables.{sites_append, sites_before, sites_done}

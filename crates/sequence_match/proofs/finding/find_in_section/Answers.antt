@@ -1,5 +1,5 @@
 use Rattle.std.proofs.Common.{◌+◌, ◌∙◌, List, sym, subst}
-use Rattle.sequence_match.specs.declared.places.Site.{Site}
+use Rattle.sequence_forms.specs.declared.places.Site.{Site}
 use Rattle.sequence_match.specs.Finding.{AreSitesFrom}
 use Rattle.sequence_match.proofs.Unused.{no_sites, none_loose, none_stray}
 use Rattle.sequence_match.proofs.finding.find_in_section.Goals as goal

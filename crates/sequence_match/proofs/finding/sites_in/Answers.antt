@@ -1,5 +1,5 @@
 use Rattle.std.proofs.Common.{◌+◌, ◌∙◌, List, sym, ap, subst, arith}
-use Rattle.sequence_match.specs.declared.places.Site.{Site}
+use Rattle.sequence_forms.specs.declared.places.Site.{Site}
 use Rattle.sequence_match.proofs.Found.{SitesBelow, sites_all, sites_more, sites_same}
 use Rattle.sequence_match.proofs.finding.sites_in.Goals as goal
 use Rattle.sequence_match.proofs.finding.sites_in.Goals.{in-Some+in_ok-push, in_default}

@@ -1,4 +1,4 @@
-use Rattle.sequence_match.specs.declared.forms.Form.TheVariants.{LdInd}
+use Rattle.sequence_forms.specs.declared.forms.Form.TheVariants.{LdInd}
 use Rattle.sequence_match.proofs.Seconds.{of_four, none_where_false}
 use Rattle.sequence_match.proofs.matching.is_second.Goals as goal
 

@@ -1,7 +1,7 @@
 use Rattle.std.proofs.Common.{◌-◌, ◌∙◌, Option, sym, subst, arith, rules}
-use Rattle.sequence_match.specs.declared.forms.Second.{Second}
+use Rattle.sequence_forms.specs.declared.forms.Second.{Second}
 use Rattle.sequence_match.specs.Code.{Names}
-use Rattle.sequence_match.specs.Forms.{row}
+use Rattle.sequence_forms.specs.Forms.{row}
 use Rattle.sequence_match.specs.Sites.{IsSecond}
 use Rattle.sequence_match.proofs.Seconds.{first_within, start_of_second}
 use Rattle.sequence_match.proofs.matching.is_second_of_form.Goals as goal

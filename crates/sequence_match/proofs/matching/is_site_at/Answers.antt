@@ -1,7 +1,7 @@
 use Rattle.std.proofs.Common.{◌+◌, ◌≤◌, length, ap, sym, subst, arith, rules}
 use Rattle.elf_records.specs.declared.relocation.RelocationKind.{RelocationKind}
 use Rattle.sequence_match.specs.Faults.{IsOfSequence}
-use Rattle.sequence_match.specs.Forms.{row}
+use Rattle.sequence_forms.specs.Forms.{row}
 use Rattle.sequence_match.proofs.Rows.{first_inside, first_of_sequence, second_inside, second_within}
 use Rattle.sequence_match.proofs.matching.is_site_at.Goals as goal
 

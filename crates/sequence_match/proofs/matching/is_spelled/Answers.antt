@@ -1,7 +1,7 @@
 use Rattle.std.proofs.Common.{◌≡◌, ◌+◌, ℕ, Some, subst, below_more, arith, rules}
 use Rattle.std.specs.List.{slice_get}
 use Rattle.std.proofs.lemmas.Option.{slice_get_within, get_or_from_slice_get}
-use Rattle.sequence_match.specs.declared.forms.Cell.{Cell}
+use Rattle.sequence_forms.specs.declared.forms.Cell.{Cell}
 use Rattle.sequence_match.specs.Sites.{StandsIn}
 use Rattle.sequence_match.proofs.matching.is_spelled.Goals as goal
 

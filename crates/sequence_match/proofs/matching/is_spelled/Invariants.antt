@@ -1,6 +1,6 @@
 use Rattle.std.proofs.Common.{◌≡◌, ◌+◌, ◌<◌, ◌≤◌, ℕ, Some, length}
 use Rattle.std.specs.List.{slice_get}
-use Rattle.sequence_match.specs.declared.forms.Cell.{Cell}
+use Rattle.sequence_forms.specs.declared.forms.Cell.{Cell}
 use Rattle.sequence_match.specs.Sites.{StandsIn}
 use Rattle.sequence_match.proofs.matching.is_spelled.Given as goal
 

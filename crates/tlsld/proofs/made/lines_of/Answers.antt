@@ -1,5 +1,5 @@
 use Rattle.std.proofs.Common.{◌∙◌, ◌+◌, ◌++◌, ◌<◌, [], length, get_or, sym, ap, subst, append_assoc, arith}
-use Rattle.dynamic_symbols.specs.Walks.{HaveSymbols}
+use Rattle.sequence_match.specs.Sites.{HaveSymbols}
 use Rattle.tlsld.proofs.Places.{at_any, row_is}
 use Rattle.tlsld.proofs.SiteLines.{all_left, left, one_less, same_lines}
 use Rattle.tlsld.proofs.made.lines_of.Goals as goal

@@ -1,6 +1,6 @@
 use Rattle.std.proofs.Common.{◌≡◌, ◌∷◌, ◌++◌, [], List, ℕ, rules, sym, subst}
 use Rattle.std.specs.Global.{Vec}
-use Rattle.sequence_match.specs.declared.places.Site.{Site}
+use Rattle.sequence_forms.specs.declared.places.Site.{Site}
 use Rattle.job_link.specs.Given.{IsGiven}
 use Rattle.job_link.proofs.Pushed.{given, pushed}
 use Rattle.job_link.proofs.images.ImageObjects.add.Goals as goal

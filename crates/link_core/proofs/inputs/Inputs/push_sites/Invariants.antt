@@ -1,8 +1,0 @@
-use Rattle.std.proofs.Common.{◌≡◌, ◌++◌, drop}
-use Rattle.link_core.specs.Needs.{site_needs_from}
-use Rattle.link_core.proofs.inputs.Inputs.push_sites.Given as goal
-
-abbrev pub invariant-loop-object : goal.invariant-loop-object
-invariant-loop-object l =
-    l.needs.items ++ site_needs_from l.self l.object (drop l.object l.self.sites)
-    ≡ l.fn.needs.items ++ site_needs_from l.self 0 l.self.sites

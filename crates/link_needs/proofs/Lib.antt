@@ -1,0 +1,6 @@
+pub mod InputsLemmas
+pub mod NeedsLemmas
+pub mod PlanLemmas
+pub mod SortingLaws
+pub mod UsableSites
+pub mod ValueLemmas

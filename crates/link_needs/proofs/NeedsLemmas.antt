@@ -1,0 +1,116 @@
+-- Walks that add what code needs, or look for a call of the stub: what is left of them.
+use Rattle.std.proofs.Common.{◌≡◌, ◌≢◌, ◌+◌, ◌-◌, ◌<◌, ◌≤◌, ◌∙◌, ◌||◌, ℕ, Bool, true, false, List, ◌∷◌, ◌++◌, drop}
+use Rattle.std.proofs.Common.{filter, length, sym, ap, append_assoc, append-nil}
+use Rattle.std.specs.Prelude.{slice_index_or, if◌then◌else◌}
+use Rattle.std.specs.List.{All, flat_map, list_any, range_with_len}
+use Rattle.std.proofs.Math.ListN.{drop_of_length-le}
+use Rattle.std.proofs.lemmas.List.Elements.{All-filter, filter_passes}
+use Rattle.elf_records.specs.declared.relocation.RelocationKind.{RelocationKind}
+use Rattle.elf_records.specs.declared.relocation.RelocationKind.TheVariants.{Nothing}
+use Rattle.elf_object.specs.declared.relocation.Relocation.{Relocation}
+use Rattle.elf_object.specs.Lawful.{IsLawful}
+use Rattle.elf_object.specs.Parts.{symbol_count}
+use Rattle.got_pairs.specs.declared.need.Need.{Need}
+use Rattle.sequence_forms.specs.declared.places.Site.{Site}
+use Rattle.tls_symbols.proofs.Search.{range_first, range_none}
+use Rattle.link_needs.specs.Linking.{Linking}
+use Rattle.link_needs.specs.Needs.{any_stub_call, is_address_kind, is_stub_call, object_needs, object_needs_from}
+use Rattle.link_needs.specs.Needs.{site_needs, site_needs_from}
+
+-- ** elements of a list
+
+module _ {X A : Type 0} (f : X → List A) (seen : List A) (xs : List X) (i : ℕ) where
+  pub walked : (x : X) → drop i xs ≡ x ∷ drop (i + 1) xs
+      → (seen ++ f x) ++ flat_map f (drop (i + 1) xs) ≡ seen ++ flat_map f (drop i xs)
+  walked x here =
+      append_assoc seen (f x) (flat_map f (drop (i + 1) xs)) ∙ ap (λ ys. seen ++ flat_map f ys) (sym here)
+
+  pub walked_all : length xs ≤ i → seen ≡ seen ++ flat_map f (drop i xs)
+  walked_all past =
+      sym (ap (λ ys. seen ++ flat_map f ys) (drop_of_length-le xs past) ∙ append-nil seen)
+
+-- ** numbers below an end
+
+module _ {A : Type 0} (f : ℕ → List A) (seen : List A) (a n : ℕ) where
+  pub counted : a < n
+      → (seen ++ f a) ++ flat_map f (range_with_len (a + 1) (n - (a + 1)))
+      ≡ seen ++ flat_map f (range_with_len a (n - a))
+  counted below =
+      append_assoc seen (f a) (flat_map f (range_with_len (a + 1) (n - (a + 1))))
+      ∙ ap (λ ys. seen ++ flat_map f ys) (sym (range_first a n below))
+
+  pub counted_all : n ≤ a → seen ≡ seen ++ flat_map f (range_with_len a (n - a))
+  counted_all past = sym (ap (λ ys. seen ++ flat_map f ys) (range_none a n past) ∙ append-nil seen)
+
+-- ** objects, and the sites of each
+
+module _ (l : Linking) (seen : List Need) (sites : List (List Site)) (i : ℕ) where
+  pub sites_walked : (own : List Site) → drop i sites ≡ own ∷ drop (i + 1) sites
+      → (seen ++ flat_map (site_needs l i) own) ++ site_needs_from l (i + 1) (drop (i + 1) sites)
+      ≡ seen ++ site_needs_from l i (drop i sites)
+  sites_walked own here =
+      append_assoc seen (flat_map (site_needs l i) own) (site_needs_from l (i + 1) (drop (i + 1) sites))
+      ∙ ap (λ vs. seen ++ site_needs_from l i vs) (sym here)
+
+  pub sites_walked_all : length sites ≤ i → seen ≡ seen ++ site_needs_from l i (drop i sites)
+  sites_walked_all past =
+      sym (ap (λ vs. seen ++ site_needs_from l i vs) (drop_of_length-le sites past) ∙ append-nil seen)
+
+module _ (l : Linking) (seen : List Need) (objects : List (List ℕ)) (i : ℕ) where
+  pub objects_walked : (b : List ℕ) → drop i objects ≡ b ∷ drop (i + 1) objects
+      → (seen ++ object_needs l i b) ++ object_needs_from l (i + 1) (drop (i + 1) objects)
+      ≡ seen ++ object_needs_from l i (drop i objects)
+  objects_walked b here =
+      append_assoc seen (object_needs l i b) (object_needs_from l (i + 1) (drop (i + 1) objects))
+      ∙ ap (λ bs. seen ++ object_needs_from l i bs) (sym here)
+
+  pub objects_walked_all : length objects ≤ i → seen ≡ seen ++ object_needs_from l i (drop i objects)
+  objects_walked_all past =
+      sym (ap (λ bs. seen ++ object_needs_from l i bs) (drop_of_length-le objects past) ∙ append-nil seen)
+
+-- ** calls of the stub
+
+module _ {X : Type 0} (test : X → Bool) (xs : List X) (i : ℕ) where
+  -- one is found, one is not, and none is left
+  pub any_here : (x : X) → drop i xs ≡ x ∷ drop (i + 1) xs → test x ≡ true → list_any test (drop i xs) ≡ true
+  any_here x here is = ap (list_any test) here ∙ ap (λ b. b || list_any test (drop (i + 1) xs)) is
+
+  pub any_later : (x : X) → drop i xs ≡ x ∷ drop (i + 1) xs → test x ≡ false
+      → list_any test (drop (i + 1) xs) ≡ list_any test (drop i xs)
+  any_later x here is = sym (ap (list_any test) here ∙ ap (λ b. b || list_any test (drop (i + 1) xs)) is)
+
+  pub any_none : length xs ≤ i → list_any test (drop i xs) ≡ false
+  any_none past = ap (list_any test) (drop_of_length-le xs past)
+
+module _ (l : Linking) (sites : List (List Site)) (i : ℕ) where
+  pub stub_here : (own : List Site) → drop i sites ≡ own ∷ drop (i + 1) sites
+      → list_any (is_stub_call l i) own ≡ true → any_stub_call l i (drop i sites) ≡ true
+  stub_here own here is =
+      ap (any_stub_call l i) here
+      ∙ ap (λ b. if b then true else any_stub_call l (i + 1) (drop (i + 1) sites)) is
+
+  pub stub_later : (own : List Site) → drop i sites ≡ own ∷ drop (i + 1) sites
+      → list_any (is_stub_call l i) own ≡ false
+      → any_stub_call l (i + 1) (drop (i + 1) sites) ≡ any_stub_call l i (drop i sites)
+  stub_later own here is =
+      sym (ap (any_stub_call l i) here
+      ∙ ap (λ b. if b then true else any_stub_call l (i + 1) (drop (i + 1) sites)) is)
+
+  pub stub_none : length sites ≤ i → any_stub_call l i (drop i sites) ≡ false
+  stub_none past = ap (any_stub_call l i) (drop_of_length-le sites past)
+
+-- ** address fields
+
+-- what is none of these types is of some type
+some_type : (kind : RelocationKind) → is_address_kind kind ≡ true → kind ≢ Nothing
+some_type Nothing is = λ _. absurd (cc)
+some_type kind is = λ nothing. absurd (cc)
+
+-- their symbols are the object's
+pub fields_symbols : (b : List ℕ) (t : ℕ) (xs : List Relocation) → All (IsLawful b t) xs
+    → All (λ r. r.symbol < symbol_count b) (filter (λ (r : Relocation). is_address_kind r.kind) xs)
+fields_symbols b t xs lawful = λ k d h.
+    let test : Relocation → Bool = λ r. is_address_kind r.kind in
+    let r = slice_index_or (filter test xs) k d in
+    let law : IsLawful b t r = All-filter test (IsLawful b t) xs lawful k d h in
+    (law.symbol (some_type r.kind (filter_passes test xs k d h))).1

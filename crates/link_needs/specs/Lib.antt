@@ -1,0 +1,8 @@
+pub mod Given
+pub mod Linking
+pub mod Needs
+pub mod Plans
+pub mod Sorting
+pub mod SymbolNumbers
+pub mod Usable
+pub mod Values

@@ -1,0 +1,183 @@
+-- What code needs of the global offset table, and where the table, the stub and each entry lie (Drepper, "ELF Handling
+-- For Thread-Local Storage", section 4; psABI, "Thread-Local Storage").
+use Rattle.std.specs.Prelude.{◌+◌, ◌&&◌, ◌++◌, ℕ, Bool, true, false, List, [], ◌∷◌, Option, Some, None, filter}
+use Rattle.std.specs.Prelude.{option_and_then, option_map, is_some, if◌then◌else◌}
+use Rattle.std.specs.List.{flat_map, list_any, range_with_len}
+use Rattle.elf_records.specs.declared.relocation.RelocationKind.{RelocationKind}
+use Rattle.elf_records.specs.declared.relocation.RelocationKind.TheVariants.{GotPcRel, TlsGd, TlsLd, GotTpOff}
+use Rattle.elf_records.specs.declared.relocation.RelocationKind.TheVariants.{GotPc32TlsDesc, GotPcRelX, RexGotPcRelX}
+use Rattle.elf_object.specs.declared.relocation.Relocation.{Relocation}
+use Rattle.elf_object.specs.Lent.{relocations, symbol_name}
+use Rattle.elf_object.specs.Object.{section_count}
+use Rattle.sequence_match.specs.Sites.{first_of}
+use Rattle.got_pairs.specs.declared.need.Need.{Need}
+use Rattle.got_pairs.specs.declared.need.Need.TheVariants.{ModulePair, SymbolPair, Descriptor, SymbolWord}
+use Rattle.got_pairs.specs.declared.need.Need.TheVariants.{AddressWord, RuntimeWord}
+use Rattle.got_pairs.specs.declared.need.Target.{Target}
+use Rattle.got_pairs.specs.declared.need.Target.TheVariants as target
+use Rattle.got_pairs.specs.Needs.{entries as entries_of, start_of, total_size}
+use Rattle.got_pairs.specs.Plans.{Table}
+use Rattle.relax_sites.specs.declared.choices.Choice.{Choice}
+use Rattle.relax_sites.specs.declared.choices.Choice.TheVariants.{Keep}
+use Rattle.relax_sites.specs.declared.rows.NewField.{NewField}
+use Rattle.relax_sites.specs.Rows.{new_field}
+use Rattle.sequence_forms.specs.declared.forms.Form.{Form}
+use Rattle.sequence_forms.specs.declared.forms.Form.TheVariants.{Gd, Ld, GdInd, LdInd}
+use Rattle.sequence_forms.specs.declared.places.Site.{Site}
+use Rattle.tls_layout.specs.Places.{room}
+use Rattle.tls_layout.specs.Rounding.{page_up}
+use Rattle.link_faults.specs.declared.binding.Binding.{Binding}
+use Rattle.link_faults.specs.declared.binding.Binding.TheVariants.{Here, Startup, Runtime}
+use Rattle.link_needs.specs.Linking.{Linking, address, binding, choice, layout, block_offset, object, offset}
+use Rattle.link_needs.specs.Sorting.{sorted_by}
+
+-- ** what a relocation reaches
+
+-- the variable that a relocation of object o names
+abbrev pub target_by : Linking → ℕ → ℕ → Option Binding → Option Target
+target_by l o e (Some (Here found)) = Some (target.Here found (offset l found))
+target_by l o e (Some (Startup image)) = Some (target.Import (symbol_name (object l o) e))
+target_by l o e bound = None
+
+-- the word with the address of a symbol of the image, or with that of the run time's function
+abbrev pub address_need : Linking → Option Binding → Option Need
+address_need l (Some (Here found)) = Some (AddressWord found (address l found))
+address_need l (Some Runtime) = Some RuntimeWord
+address_need l bound = None
+
+-- the entry that a relocation's field reaches, by its type; its symbol has number e in object o, and is bound so
+abbrev pub need_by : Linking → ℕ → ℕ → Option Binding → RelocationKind → Option Need
+need_by l o e bound TlsGd = option_map SymbolPair (target_by l o e bound)
+need_by l o e bound TlsLd = Some ModulePair
+need_by l o e bound GotTpOff = option_map SymbolWord (target_by l o e bound)
+need_by l o e bound GotPc32TlsDesc = option_map Descriptor (target_by l o e bound)
+need_by l o e bound GotPcRel = address_need l bound
+need_by l o e bound GotPcRelX = address_need l bound
+need_by l o e bound RexGotPcRelX = address_need l bound
+need_by l o e bound kind = None
+
+unfoldable pub relocation_need : Linking → ℕ → Relocation → Option Need
+relocation_need l o r = need_by l o r.symbol (binding l o r) r.kind
+
+-- ** what a sequence needs
+
+-- the relocation of a field that stands in a site's place; it names the site's symbol
+abbrev pub new_relocation : Site → NewField → Relocation
+new_relocation site f =
+    record { offset = site.start + f.at; kind = f.kind; symbol = site.symbol; addend = f.addend }
+
+-- the relocation by which a site reaches its entry: its first one where it is kept, else that of the new field
+abbrev pub reaching : Site → Choice → Option Relocation
+reaching site Keep = Some (first_of site)
+reaching site choice = option_map (new_relocation site) (new_field site.form choice)
+
+-- a sequence of the forms that call the run time, directly or through its word
+abbrev pub calls : Form → Bool
+calls Gd = true
+calls Ld = true
+calls GdInd = true
+calls LdInd = true
+calls form = false
+
+-- directly: by the stub
+abbrev pub calls_stub : Form → Bool
+calls_stub Gd = true
+calls_stub Ld = true
+calls_stub form = false
+
+abbrev pub is_kept : Choice → Bool
+is_kept Keep = true
+is_kept choice = false
+
+abbrev pub as_list : {X : Type 0} → Option X → List X
+as_list None = []
+as_list (Some x) = x ∷ []
+
+-- what a site of object o needs: its variable's entry, and where it stays the run time's word if it calls it
+unfoldable pub site_needs : Linking → ℕ → Site → List Need
+site_needs l o site =
+    as_list (option_and_then (relocation_need l o) (reaching site (choice l o site)))
+    ++ (if is_kept (choice l o site) && calls site.form then RuntimeWord ∷ [] else [])
+
+-- those of the objects from number o on have these sites
+abbrev pub site_needs_from : Linking → ℕ → List (List Site) → List Need
+site_needs_from l o [] = []
+site_needs_from l o (own ∷ more) = flat_map (site_needs l o) own ++ site_needs_from l (o + 1) more
+
+-- ** what other code needs: the addresses of symbols of the image
+
+-- the types whose field reaches a word with an address
+abbrev pub is_address_kind : RelocationKind → Bool
+is_address_kind GotPcRel = true
+is_address_kind GotPcRelX = true
+is_address_kind RexGotPcRelX = true
+is_address_kind kind = false
+
+-- of the image's own symbols alone: a call of the run time belongs to a site
+abbrev pub own_word : Linking → Option Binding → List Need
+own_word l (Some (Here found)) = AddressWord found (address l found) ∷ []
+own_word l bound = []
+
+abbrev pub address_needs : Linking → ℕ → Relocation → List Need
+address_needs l o r = own_word l (binding l o r)
+
+-- the address fields of section t, by their places
+abbrev pub address_fields : List ℕ → ℕ → List Relocation
+address_fields b t = sorted_by (λ r. r.offset) (filter (λ r. is_address_kind r.kind) (relocations b t))
+
+abbrev pub section_needs : Linking → ℕ → List ℕ → ℕ → List Need
+section_needs l o b t = flat_map (address_needs l o) (address_fields b t)
+
+unfoldable pub object_needs : Linking → ℕ → List ℕ → List Need
+object_needs l o b = flat_map (section_needs l o b) (range_with_len 0 (section_count b))
+
+abbrev pub object_needs_from : Linking → ℕ → List (List ℕ) → List Need
+object_needs_from l o [] = []
+object_needs_from l o (b ∷ more) = object_needs l o b ++ object_needs_from l (o + 1) more
+
+-- ** the table
+
+unfoldable pub needs : Linking → List Need
+needs l = site_needs_from l 0 l.sites ++ object_needs_from l 0 l.objects
+
+-- its entries
+unfoldable pub entries : Linking → List Need
+entries l = entries_of (needs l)
+
+abbrev pub table : Linking → Table
+table l = record { kind = l.kind; block_offset = block_offset l; entries = entries l }
+
+-- it begins behind all sections of objects, on a page of its own
+abbrev pub got_start : Linking → ℕ
+got_start l = room (layout l).kind (layout l).sections
+
+abbrev pub got_size : Linking → ℕ
+got_size l = total_size (entries l)
+
+-- where the entry of a need is; 0 where there is none
+abbrev pub entry_by : Linking → Option ℕ → ℕ
+entry_by l None = 0
+entry_by l (Some at) = got_start l + at
+
+abbrev pub need_address : Linking → Option Need → ℕ
+need_address l need = entry_by l (option_and_then (start_of (entries l)) need)
+
+-- whether the run time's function is called through its word
+abbrev pub uses_runtime : Linking → Bool
+uses_runtime l = is_some (start_of (entries l) RuntimeWord)
+
+-- ** the stub: a jump through the run time's word, which direct calls go to
+
+abbrev pub is_stub_call : Linking → ℕ → Site → Bool
+is_stub_call l o site = is_kept (choice l o site) && calls_stub site.form
+
+abbrev pub any_stub_call : Linking → ℕ → List (List Site) → Bool
+any_stub_call l o [] = false
+any_stub_call l o (own ∷ more) = if list_any (is_stub_call l o) own then true else any_stub_call l (o + 1) more
+
+unfoldable pub has_stub : Linking → Bool
+has_stub l = any_stub_call l 0 l.sites
+
+-- on the page behind the table
+abbrev pub stub_start : Linking → ℕ
+stub_start l = page_up (got_start l + got_size l)

@@ -1,0 +1,79 @@
+-- What each symbol that relocations name stands for, and what a relocation's field takes from it.
+use Rattle.std.specs.Prelude.{ℕ, pos, Bool, true, false, List, Option, Some, length, map}
+use Rattle.std.specs.List.{range_with_len}
+use Rattle.elf_records.specs.declared.relocation.RelocationKind.{RelocationKind}
+use Rattle.elf_records.specs.declared.relocation.RelocationKind.TheVariants.{Nothing, Pc32, Plt32, GotPcRel, TlsGd, TlsLd}
+use Rattle.elf_records.specs.declared.relocation.RelocationKind.TheVariants.{DtpOff32, GotTpOff, TpOff32}
+use Rattle.elf_records.specs.declared.relocation.RelocationKind.TheVariants.{GotPc32TlsDesc, GotPcRelX, RexGotPcRelX}
+use Rattle.elf_object.specs.declared.relocation.Relocation.{Relocation}
+use Rattle.elf_object.specs.Parts.{symbol_count}
+use Rattle.link_faults.specs.declared.binding.Binding.{Binding}
+use Rattle.link_faults.specs.declared.binding.Binding.TheVariants as bound
+use Rattle.link_needs.specs.declared.symbol_values.SymbolValue.{SymbolValue}
+use Rattle.link_needs.specs.declared.symbol_values.SymbolValue.TheVariants.{Here, Runtime, Elsewhere}
+use Rattle.link_needs.specs.Linking.{Linking, address, binding, object, offset}
+use Rattle.link_needs.specs.Needs.{stub_start}
+
+-- ** what a symbol stands for
+
+-- a relocation that names symbol e, and may not name another image's
+abbrev pub naming : ℕ → Relocation
+naming e = record { offset = 0; kind = Nothing; symbol = e; addend = pos 0 }
+
+abbrev pub value_by : Linking → Option Binding → SymbolValue
+value_by l (Some (bound.Here found)) = Here (address l found) (offset l found)
+value_by l (Some bound.Runtime) = Runtime
+value_by l other = Elsewhere
+
+-- symbol e of object o
+unfoldable pub value_of : Linking → ℕ → ℕ → SymbolValue
+value_of l o e = value_by l (binding l o (naming e))
+
+-- the symbols of object o, and those of all objects
+abbrev pub values_of : Linking → ℕ → List SymbolValue
+values_of l o = map (value_of l o) (range_with_len 0 (symbol_count (object l o)))
+
+abbrev pub all_values : Linking → List (List SymbolValue)
+all_values l = map (values_of l) (range_with_len 0 (length l.objects))
+
+-- ** what a field takes from it
+
+-- S, its place, or O, its offset in the TLS segment
+abbrev pub number_by : Linking → RelocationKind → SymbolValue → ℕ
+number_by l DtpOff32 (Here place within) = within
+number_by l TpOff32 (Here place within) = within
+number_by l kind (Here place within) = place
+number_by l kind Runtime = stub_start l
+number_by l kind Elsewhere = 0
+
+abbrev pub is_own : SymbolValue → Bool
+is_own (Here place within) = true
+is_own value = false
+
+abbrev pub is_run_time : SymbolValue → Bool
+is_run_time Runtime = true
+is_run_time value = false
+
+-- whether a type of relocation goes with its sequence, where its symbol stands for this
+abbrev pub goes_by : SymbolValue → RelocationKind → Bool
+goes_by value TlsGd = true
+goes_by value TlsLd = true
+goes_by value GotPc32TlsDesc = true
+goes_by value GotTpOff = is_own value
+goes_by value Pc32 = is_run_time value
+goes_by value Plt32 = is_run_time value
+goes_by value GotPcRel = is_run_time value
+goes_by value GotPcRelX = is_run_time value
+goes_by value RexGotPcRelX = is_run_time value
+goes_by value kind = false
+
+-- the types whose field reaches an entry of the table
+abbrev pub reaches_entry : RelocationKind → Bool
+reaches_entry TlsGd = true
+reaches_entry TlsLd = true
+reaches_entry GotTpOff = true
+reaches_entry GotPc32TlsDesc = true
+reaches_entry GotPcRel = true
+reaches_entry GotPcRelX = true
+reaches_entry RexGotPcRelX = true
+reaches_entry kind = false

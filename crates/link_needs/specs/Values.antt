@@ -1,0 +1,80 @@
+-- What the field of each relocation holds (psABI, "Relocation Types"): the numbers that the table of relocations is
+-- asked with.
+use Rattle.std.specs.Prelude.{◌&&◌, ℕ, Bool, true, false, Option, Some, if◌then◌else◌}
+use Rattle.std.specs.List.{list_any}
+use Rattle.elf_records.specs.declared.relocation.RelocationKind.{RelocationKind}
+use Rattle.elf_records.specs.declared.relocation.RelocationKind.TheVariants.{Pc32, Plt32, GotPcRel, TlsGd, TlsLd}
+use Rattle.elf_records.specs.declared.relocation.RelocationKind.TheVariants.{DtpOff32, GotTpOff, TpOff32}
+use Rattle.elf_records.specs.declared.relocation.RelocationKind.TheVariants.{GotPc32TlsDesc, GotPcRelX, RexGotPcRelX}
+use Rattle.elf_object.specs.declared.relocation.Relocation.{Relocation}
+use Rattle.link_faults.specs.Bindings.{is_here}
+use Rattle.link_faults.specs.ImageKinds.{is_module}
+use Rattle.sequence_forms.specs.declared.forms.Form.{Form}
+use Rattle.sequence_forms.specs.declared.forms.Form.TheVariants.{Ld, LdInd}
+use Rattle.sequence_forms.specs.declared.places.Site.{Site}
+use Rattle.tls_relocs.specs.declared.fields.Field.{Field}
+use Rattle.tls_relocs.specs.Values.{stored_field}
+use Rattle.link_faults.specs.declared.binding.Binding.{Binding}
+use Rattle.link_faults.specs.declared.binding.Binding.TheVariants.{Here, Runtime}
+use Rattle.link_needs.specs.Linking.{Linking, address, binding, block_offset, offset, place}
+use Rattle.link_needs.specs.Needs.{need_address, relocation_need, stub_start}
+
+-- ** rewriting
+
+-- a program that is linked with rewriting
+abbrev pub is_rewriting : Linking → Bool
+is_rewriting l = if is_module l.kind then false else l.relax
+
+abbrev pub is_runtime : Option Binding → Bool
+is_runtime (Some Runtime) = true
+is_runtime bound = false
+
+-- whether a type of relocation goes with the sequence that it belongs to, where programs are rewritten and its symbol
+-- is bound so
+abbrev pub goes : Option Binding → RelocationKind → Bool
+goes bound TlsGd = true
+goes bound TlsLd = true
+goes bound GotPc32TlsDesc = true
+goes bound GotTpOff = is_here bound
+goes bound Pc32 = is_runtime bound
+goes bound Plt32 = is_runtime bound
+goes bound GotPcRel = is_runtime bound
+goes bound GotPcRelX = is_runtime bound
+goes bound RexGotPcRelX = is_runtime bound
+goes bound kind = false
+
+-- whether a relocation has no field, since its sequence is rewritten
+unfoldable pub is_replaced : Linking → ℕ → Relocation → Bool
+is_replaced l o r = is_rewriting l && goes (binding l o r) r.kind
+
+-- ** the numbers
+
+abbrev pub is_local : Form → Bool
+is_local Ld = true
+is_local LdInd = true
+is_local form = false
+
+-- whether local dynamic code is rewritten: it then finds the thread pointer in place of the block's start, and offsets
+-- count from there
+unfoldable pub counts_from_thread_pointer : Linking → Bool
+counts_from_thread_pointer l =
+    is_rewriting l && list_any (λ own. list_any (λ (site : Site). is_local site.form) own) l.sites
+
+-- S, the symbol's place, or O, its offset in the TLS segment
+abbrev pub own_number : Linking → RelocationKind → Option Binding → ℕ
+own_number l DtpOff32 (Some (Here found)) = offset l found
+own_number l TpOff32 (Some (Here found)) = offset l found
+own_number l kind (Some (Here found)) = address l found
+own_number l kind (Some Runtime) = stub_start l
+own_number l kind bound = 0
+
+-- G, the place of the entry in the GOT, or what is subtracted from an offset
+abbrev pub other_number : Linking → ℕ → Relocation → RelocationKind → ℕ
+other_number l o r DtpOff32 = if counts_from_thread_pointer l then block_offset l else 0
+other_number l o r TpOff32 = block_offset l
+other_number l o r kind = need_address l (relocation_need l o r)
+
+-- what the field of a relocation of section t of object o holds, None where the value does not fit it
+unfoldable pub field : Linking → ℕ → ℕ → Relocation → Option Field
+field l o t r =
+    stored_field r.kind (own_number l r.kind (binding l o r)) r.addend (place l o t r.offset) (other_number l o r r.kind)

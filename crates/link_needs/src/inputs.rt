@@ -1,0 +1,168 @@
+//! What a link is given, and what each symbol and each sequence of it is.
+
+ghost use Rattle.std.specs.Prelude.{◌≡◌, ◌<◌, ◌≤◌, ◌^◌, ℕ, IfSome, IsSome, length, unwrap_or};
+ghost use Rattle.elf_object.specs.Parts.{symbol_count};
+ghost use Rattle.relax_sites.specs.Choices.{IsChoiceOf};
+ghost use Rattle.tls_layout.specs.Places.{address_of, tls_offset_of};
+ghost use Rattle.tls_symbols.specs.Bindings.{IsBindingWithin, object_at};
+ghost use Rattle.tls_symbols.specs.Definitions.{IsWithin};
+ghost use Rattle.link_needs.specs.Linking.{address, address_in, binding, choice, layout, offset, offset_in};
+
+use elf_object::{Object, Relocation, SymbolPlace};
+use link_faults::{Binding, ImageKind, SymbolRef};
+use relax_sites::{Choice, choice};
+use sequence_match::{Site, first_of};
+use std::marker::Model;
+use tls_layout::Placement;
+use tls_symbols::Bindings;
+
+/// Objects, what their names are bound to, and where their sections go. Contracts see what decides these.
+#[derive(Drop)]
+pub struct Inputs<'l, 's, 'a> {
+    pub kind: ImageKind,
+    /// Whether sequences may be rewritten.
+    pub relax: bool,
+    pub objects: &'l [Object<'a>],
+    /// The sequences of each object.
+    pub sites: &'l [Vec<Site>],
+    pub bindings: Bindings<'l, 's, 'a>,
+    pub placement: Placement,
+    /// How far below the thread pointer the block of a program begins.
+    pub block_offset: u64,
+}
+
+impl<'l, 's, 'a> Model for Inputs<'l, 's, 'a> {
+    ghost use Rattle.std.specs.Prelude.{map};
+    ghost use Rattle.link_needs.specs.Linking.{Linking};
+    ghost use Rattle.link_needs.specs.Given.{AreInputs};
+
+    ghost Value = { Linking };
+
+    ghost view = { λ inputs. record {
+      kind = inputs.kind;
+      objects = inputs.objects.now;
+      startup = inputs.bindings.startup;
+      sites = map (λ own. own.items) inputs.sites.now;
+      relax = inputs.relax;
+    } };
+
+    ghost invariant = { λ inputs. AreInputs
+        (record {
+          kind = inputs.kind;
+          objects = inputs.objects.now;
+          startup = inputs.bindings.startup;
+          sites = map (λ own. own.items) inputs.sites.now;
+          relax = inputs.relax;
+        })
+        inputs.bindings.objects inputs.placement inputs.block_offset };
+}
+
+impl<'l, 's, 'a> Inputs<'l, 's, 'a> {
+    /// An object, by its place in the list.
+    pub fn object(&self, number: usize) -> &'l Object<'a>
+        requires { number < length self.now.objects }
+        ensures { result.now ≡ object_at self.now.objects number }
+    {
+        let objects = self.objects;
+        &objects[number]
+    }
+
+    /// What the symbol is bound to that a relocation of an object names.
+    #[inline]
+    pub(crate) fn binding(&self, object: usize, relocation: &Relocation) -> Option<Binding>
+        requires object { object < length self.now.objects }
+        requires symbol { relocation.now.symbol < symbol_count (object_at self.now.objects object) }
+        ensures binding { result ≡ binding self.now object relocation.now }
+        ensures within { IfSome result (IsBindingWithin self.now.objects) }
+    {
+        self.bindings.binding(object, relocation)
+    }
+
+    /// Which sequence stands in a site's place.
+    #[tactic(auto, unfolding(crate::specs::Linking::choice))]
+    pub fn choice(&self, object: usize, site: &Site) -> Choice
+        requires object { object < length self.now.objects }
+        requires symbol { site.now.symbol < symbol_count (object_at self.now.objects object) }
+        ensures choice { result ≡ choice self.now object site.now }
+        ensures own { IsChoiceOf site.now.form result }
+    {
+        match self.binding(object, &first_of(site)) {
+            Some(bound) => choice(site.form, bound, self.kind, self.relax),
+            None => Choice::Keep,
+        }
+    }
+
+    /// Where a section of an object begins; 0 where it has no address.
+    #[tactic(auto, using(crate::proofs::InputsLemmas::address_small))]
+    pub fn section_address(&self, object: usize, section: u32) -> u64
+        ensures address { result ≡ unwrap_or (address_of (layout self.now) object section) 0 }
+        ensures small { result ≤ 2 ^ 25 }
+    {
+        match self.placement.address(object, section) {
+            Some(address) => address,
+            None => 0,
+        }
+    }
+
+    /// The address of a symbol of the image.
+    #[tactic(auto, unfolding(crate::specs::Linking::address))]
+    #[inline]
+    pub fn address(&self, symbol: SymbolRef) -> u64
+        requires { IsWithin self.now.objects symbol }
+        ensures { result ≡ address self.now symbol }
+    {
+        let number = symbol.object as usize;
+        match self.object(number).symbol(symbol.symbol) {
+            Some(part) => self.address_in(number, part.place, part.value),
+            None => 0,
+        }
+    }
+
+    /// The offset of a thread-local symbol of the image in its TLS segment.
+    #[tactic(auto, unfolding(crate::specs::Linking::offset))]
+    #[inline]
+    pub fn offset(&self, symbol: SymbolRef) -> u64
+        requires { IsWithin self.now.objects symbol }
+        ensures { result ≡ offset self.now symbol }
+    {
+        let number = symbol.object as usize;
+        match self.object(number).symbol(symbol.symbol) {
+            Some(part) => self.offset_in(number, part.place, part.value),
+            None => 0,
+        }
+    }
+
+    /// The address so far behind the start of a section; the value alone where it has no address.
+    #[tactic(auto, using(crate::proofs::InputsLemmas::address_small))]
+    #[inline]
+    fn address_in(&self, object: usize, place: SymbolPlace, value: u64) -> u64
+        requires small { (section : ℕ) → place ≡ SymbolPlace.InSection section
+            → IsSome (address_of (layout self.now) object section) → value ≤ 2 ^ 20 }
+        ensures { result ≡ address_in (layout self.now) object place value }
+    {
+        let SymbolPlace::InSection(section) = place else {
+            return value;
+        };
+        match self.placement.address(object, section) {
+            Some(address) => address + value,
+            None => value,
+        }
+    }
+
+    /// The offset so far behind the start of a section; the value alone where it has no offset.
+    #[tactic(auto, using(crate::proofs::InputsLemmas::offset_small))]
+    #[inline]
+    fn offset_in(&self, object: usize, place: SymbolPlace, value: u64) -> u64
+        requires small { (section : ℕ) → place ≡ SymbolPlace.InSection section
+            → IsSome (tls_offset_of (layout self.now) object section) → value ≤ 2 ^ 20 }
+        ensures { result ≡ offset_in (layout self.now) object place value }
+    {
+        let SymbolPlace::InSection(section) = place else {
+            return value;
+        };
+        match self.placement.tls_offset(object, section) {
+            Some(offset) => offset + value,
+            None => value,
+        }
+    }
+}

@@ -1,0 +1,346 @@
+//! What code needs of the global offset table.
+
+ghost use Rattle.std.specs.Prelude.{◌≡◌, ◌+◌, ◌<◌, ◌≤◌, ◌^◌, ◌++◌, ◌&&◌, [], ◌∷◌, IfOk, IfSome, OnOk, filter, length};
+ghost use Rattle.std.specs.Prelude.{option_and_then, if◌then◌else◌};
+ghost use Rattle.std.specs.List.{All, flat_map};
+ghost use Rattle.elf_object.specs.Lawful.{IsLawful};
+ghost use Rattle.elf_object.specs.Lent.{relocations};
+ghost use Rattle.elf_object.specs.Parts.{symbol_count};
+ghost use Rattle.tls_symbols.specs.Bindings.{IsBindingWithin, object_at};
+ghost use Rattle.link_needs.specs.Linking.{choice};
+ghost use Rattle.link_needs.specs.Needs.{address_fields, address_need, address_needs, as_list, calls, calls_stub};
+ghost use Rattle.link_needs.specs.Needs.{is_address_kind};
+ghost use Rattle.link_needs.specs.Needs.{is_kept, need_by, needs, new_relocation, object_needs, object_needs_from};
+ghost use Rattle.link_needs.specs.Needs.{own_word, reaching, relocation_need};
+ghost use Rattle.link_needs.specs.Needs.{section_needs, site_needs, site_needs_from, target_by};
+ghost use Rattle.link_needs.specs.Usable.{IsUsable};
+
+use crate::inputs::Inputs;
+use elf_object::{Object, Relocation, RelocationKind};
+use got_pairs::{Name, Need, Target};
+use link_faults::Binding;
+use relax_sites::{Choice, NewField, new_field};
+use sequence_match::{Form, Site, first_of};
+use std::alloc::{AllocError, Global};
+
+/// Whether a sequence of this form calls the run time, directly or through its word.
+fn calls(form: Form) -> bool
+    ensures { result ≡ calls form }
+{
+    matches!(form, Form::Gd | Form::Ld | Form::GdInd | Form::LdInd)
+}
+
+/// Whether it does so directly, by the stub.
+pub fn calls_stub(form: Form) -> bool
+    ensures { result ≡ calls_stub form }
+{
+    matches!(form, Form::Gd | Form::Ld)
+}
+
+/// Whether a sequence stays as it is.
+pub fn is_kept(choice: Choice) -> bool
+    ensures { result ≡ is_kept choice }
+{
+    matches!(choice, Choice::Keep)
+}
+
+/// The run time's word, where a sequence stays that calls it.
+fn word_of_call<'a>(form: Form, choice: Choice) -> Option<Need<'a>>
+    ensures { as_list result ≡ (if is_kept choice && calls form then Need.RuntimeWord ∷ [] else []) }
+{
+    if is_kept(choice) && calls(form) {
+        Some(Need::RuntimeWord)
+    } else {
+        None
+    }
+}
+
+/// Adds a need, if there is one.
+fn push_some<'a>(need: Option<Need<'a>>, needs: &mut Vec<Need<'a>>) -> Result<(), AllocError>
+    ensures { OnOk result (needs.new.items ≡ needs.old.items ++ as_list need.entry) }
+{
+    if let Some(need) = need {
+        needs.push(need)?;
+    }
+    Ok(())
+}
+
+/// Whether the field of a relocation of this type reaches a word with an address.
+fn is_address_kind(kind: RelocationKind) -> bool
+    ensures { result ≡ is_address_kind kind }
+{
+    matches!(
+        kind,
+        RelocationKind::GotPcRel | RelocationKind::GotPcRelX | RelocationKind::RexGotPcRelX
+    )
+}
+
+/// The relocation of a field that stands in a site's place; it names the site's symbol.
+pub fn new_relocation(site: &Site, field: &NewField) -> Relocation
+    requires { site.now.start + field.now.at < 2 ^ 64 }
+    ensures { result ≡ new_relocation site.now field.now }
+{
+    Relocation {
+        offset: site.start + field.at,
+        kind: field.kind,
+        symbol: site.symbol,
+        addend: field.addend,
+    }
+}
+
+/// The relocation by which a site reaches its entry, if it does.
+fn reaching(site: &Site, choice: Choice) -> Option<Relocation>
+    requires { site.now.start ≤ 2 ^ 20 }
+    ensures { result ≡ reaching site.now choice }
+{
+    match choice {
+        Choice::Keep => Some(first_of(site)),
+        _ => match new_field(site.form, choice) {
+            Some(field) => Some(new_relocation(site, &field)),
+            None => None,
+        },
+    }
+}
+
+impl<'l, 's, 'a> Inputs<'l, 's, 'a> {
+    /// The variable that symbol `symbol` of an object stands for, which is bound so.
+    fn target(&self, object: usize, symbol: u32, bound: Option<Binding>) -> Option<Target<'a>>
+        requires object { object < length self.now.objects }
+        requires symbol { symbol < symbol_count (object_at self.now.objects object) }
+        requires within { IfSome bound (IsBindingWithin self.now.objects) }
+        ensures { result ≡ target_by self.now object symbol bound }
+    {
+        match bound {
+            Some(Binding::Here(found)) => Some(Target::Here {
+                symbol: found,
+                offset: self.offset(found),
+            }),
+            Some(Binding::Startup(_)) => Some(Target::Import(Name::new(
+                self.object(object).symbol_name(symbol),
+            ))),
+            Some(Binding::Runtime) | None => None,
+        }
+    }
+
+    /// The word with the address of what is bound so.
+    fn address_need(&self, bound: Option<Binding>) -> Option<Need<'a>>
+        requires { IfSome bound (IsBindingWithin self.now.objects) }
+        ensures { result ≡ address_need self.now bound }
+    {
+        match bound {
+            Some(Binding::Here(found)) => Some(Need::AddressWord {
+                symbol: found,
+                place: self.address(found),
+            }),
+            Some(Binding::Runtime) => Some(Need::RuntimeWord),
+            Some(Binding::Startup(_)) | None => None,
+        }
+    }
+
+    /// The entry that the field of a relocation of this type reaches, whose symbol is bound so.
+    pub(crate) fn need(
+        &self,
+        object: usize,
+        symbol: u32,
+        bound: Option<Binding>,
+        kind: RelocationKind,
+    ) -> Option<Need<'a>>
+        requires object { object < length self.now.objects }
+        requires symbol { symbol < symbol_count (object_at self.now.objects object) }
+        requires within { IfSome bound (IsBindingWithin self.now.objects) }
+        ensures { result ≡ need_by self.now object symbol bound kind }
+    {
+        match kind {
+            RelocationKind::TlsLd => Some(Need::ModulePair),
+            RelocationKind::TlsGd => match self.target(object, symbol, bound) {
+                Some(target) => Some(Need::SymbolPair(target)),
+                None => None,
+            },
+            RelocationKind::GotTpOff => match self.target(object, symbol, bound) {
+                Some(target) => Some(Need::SymbolWord(target)),
+                None => None,
+            },
+            RelocationKind::GotPc32TlsDesc => match self.target(object, symbol, bound) {
+                Some(target) => Some(Need::Descriptor(target)),
+                None => None,
+            },
+            RelocationKind::GotPcRel | RelocationKind::GotPcRelX | RelocationKind::RexGotPcRelX =>
+                self.address_need(bound),
+            _ => None,
+        }
+    }
+
+    /// The entry that a site reaches in whose place this sequence stands.
+    #[tactic(auto, unfolding(crate::specs::Needs::relocation_need))]
+    fn reached(&self, object: usize, site: &Site, choice: Choice) -> Option<Need<'a>>
+        requires object { object < length self.now.objects }
+        requires site { IsUsable (object_at self.now.objects object) site.now }
+        ensures { result ≡ option_and_then (relocation_need self.now object) (reaching site.now choice) }
+    {
+        match reaching(site, choice) {
+            Some(relocation) => {
+                let bound = self.binding(object, &relocation);
+                self.need(object, relocation.symbol, bound, relocation.kind)
+            }
+            None => None,
+        }
+    }
+
+    /// Adds what a site needs.
+    #[tactic(auto, unfolding(crate::specs::Needs::site_needs))]
+    fn push_site(
+        &self,
+        object: usize,
+        site: &Site,
+        needs: &mut Vec<Need<'a>>,
+    ) -> Result<(), AllocError>
+        requires object { object < length self.now.objects }
+        requires site { IsUsable (object_at self.now.objects object) site.now }
+        ensures { OnOk result (needs.new.items ≡ needs.old.items ++ site_needs self.now object site.now) }
+    {
+        let choice = self.choice(object, site);
+        push_some(self.reached(object, site, choice), needs)?;
+        push_some(word_of_call(site.form, choice), needs)
+    }
+
+    /// Adds what the sites of an object need.
+    fn push_own_sites(
+        &self,
+        object: usize,
+        own: &[Site],
+        needs: &mut Vec<Need<'a>>,
+    ) -> Result<(), AllocError>
+        requires object { object < length self.now.objects }
+        requires sites { All (IsUsable (object_at self.now.objects object)) own.now }
+        ensures { OnOk result
+            (needs.new.items ≡ needs.old.items ++ flat_map (site_needs self.now object) own.now) }
+    {
+        for site in own {
+            self.push_site(object, site, needs)?;
+        }
+        Ok(())
+    }
+
+    /// Adds what all sites need.
+    fn push_sites(&self, needs: &mut Vec<Need<'a>>) -> Result<(), AllocError>
+        ensures { OnOk result
+            (needs.new.items ≡ needs.old.items ++ site_needs_from self.now 0 self.now.sites) }
+    {
+        for (object, own) in self.sites.iter().enumerate() {
+            self.push_own_sites(object, own.as_slice(), needs)?;
+        }
+        Ok(())
+    }
+
+    /// What an address field needs, whose symbol is bound so.
+    fn own_word(&self, bound: Option<Binding>) -> Option<Need<'a>>
+        requires { IfSome bound (IsBindingWithin self.now.objects) }
+        ensures { as_list result ≡ own_word self.now bound }
+    {
+        match bound {
+            Some(Binding::Here(found)) => Some(Need::AddressWord {
+                symbol: found,
+                place: self.address(found),
+            }),
+            _ => None,
+        }
+    }
+
+    /// Adds what an address field needs.
+    fn push_field(
+        &self,
+        object: usize,
+        relocation: &Relocation,
+        needs: &mut Vec<Need<'a>>,
+    ) -> Result<(), AllocError>
+        requires object { object < length self.now.objects }
+        requires symbol { relocation.now.symbol < symbol_count (object_at self.now.objects object) }
+        ensures { OnOk result (needs.new.items ≡ needs.old.items ++ address_needs self.now object relocation.now) }
+    {
+        let bound = self.binding(object, relocation);
+        push_some(self.own_word(bound), needs)
+    }
+
+    /// Adds what the address fields of a section need.
+    fn push_section(
+        &self,
+        alloc: Global,
+        object: usize,
+        section: u32,
+        needs: &mut Vec<Need<'a>>,
+    ) -> Result<(), AllocError>
+        requires object { object < length self.now.objects }
+        ensures { OnOk result (needs.new.items
+            ≡ needs.old.items ++ section_needs self.now object (object_at self.now.objects object) section) }
+    {
+        let fields = address_fields(alloc, self.object(object), section)?;
+        for relocation in &fields {
+            self.push_field(object, relocation, needs)?;
+        }
+        Ok(())
+    }
+
+    /// Adds what the address fields of an object need.
+    fn push_object(
+        &self,
+        alloc: Global,
+        object: usize,
+        needs: &mut Vec<Need<'a>>,
+    ) -> Result<(), AllocError>
+        requires { object < length self.now.objects }
+        ensures { OnOk result (needs.new.items
+            ≡ needs.old.items ++ object_needs self.now object (object_at self.now.objects object)) }
+    {
+        for section in 0..self.object(object).section_count() {
+            self.push_section(alloc, object, section, needs)?;
+        }
+        Ok(())
+    }
+
+    /// Adds what all address fields need.
+    fn push_objects(&self, alloc: Global, needs: &mut Vec<Need<'a>>) -> Result<(), AllocError>
+        ensures { OnOk result
+            (needs.new.items ≡ needs.old.items ++ object_needs_from self.now 0 self.now.objects) }
+    {
+        for object in 0..self.objects.len() {
+            self.push_object(alloc, object, needs)?;
+        }
+        Ok(())
+    }
+
+    /// What all code needs: sequences in the order of their sites, and then address fields in that of their places.
+    pub(crate) fn needs(&self, alloc: Global) -> Result<Vec<Need<'a>>, AllocError>
+        ensures { IfOk result (λ all. all.items ≡ needs self.now) }
+    {
+        let mut all = Vec::new(alloc);
+        self.push_sites(&mut all)?;
+        self.push_objects(alloc, &mut all)?;
+        Ok(all)
+    }
+}
+
+/// The address fields of a section, in the order of the file.
+fn found_fields(alloc: Global, object: &Object, section: u32) -> Result<Vec<Relocation>, AllocError>
+    ensures fields { IfOk result (λ fields.
+        fields.items ≡ filter (λ (r : Relocation). is_address_kind r.kind) (relocations object.now section)) }
+    ensures lawful { All (IsLawful object.now section) (relocations object.now section) }
+{
+    object
+        .relocs(section)
+        .filter(|relocation| is_address_kind(relocation.kind))
+        .collect(alloc)
+}
+
+/// The address fields of a section, by their places.
+fn address_fields(
+    alloc: Global,
+    object: &Object,
+    section: u32,
+) -> Result<Vec<Relocation>, AllocError>
+    ensures fields { IfOk result (λ fields. fields.items ≡ address_fields object.now section) }
+    ensures symbols { IfOk result (λ fields. All (λ r. r.symbol < symbol_count object.now) fields.items) }
+{
+    let mut fields = found_fields(alloc, object, section)?;
+    fields.sort_by_key(|relocation| relocation.offset)?;
+    Ok(fields)
+}

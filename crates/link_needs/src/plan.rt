@@ -1,0 +1,290 @@
+//! Where the global offset table and the stub of an image lie, and what the field of each relocation holds.
+
+ghost use Rattle.std.specs.Prelude.{◌≡◌, ◌<◌, ◌&&◌, ℕ, IfOk, length};
+ghost use Rattle.std.specs.List.{All, list_any};
+ghost use Rattle.std.specs.Result.{result_ok};
+ghost use Rattle.elf_object.specs.Parts.{symbol_count};
+ghost use Rattle.elf_object.specs.Relocations.{field_width};
+ghost use Rattle.tls_relocs.specs.Fields.{width_of};
+ghost use Rattle.tls_symbols.specs.Bindings.{object_at};
+ghost use Rattle.link_needs.specs.Given.{FitsTable};
+ghost use Rattle.link_needs.specs.Linking.{place as place_of};
+ghost use Rattle.link_needs.specs.Needs.{has_stub, is_stub_call, need_address, relocation_need};
+ghost use Rattle.link_needs.specs.SymbolNumbers.{goes_by, number_by, reaches_entry, value_of};
+ghost use Rattle.link_needs.specs.Usable.{IsUsable};
+ghost use Rattle.link_needs.specs.Values.{counts_from_thread_pointer, field, is_local, is_rewriting};
+ghost use Rattle.link_needs.specs.Values.{other_number};
+
+use crate::inputs::Inputs;
+use crate::needs::{calls_stub, is_kept};
+use crate::symbol_values::SymbolValue;
+use elf_object::{Relocation, RelocationKind};
+use got_pairs::{GotPlan, Need, plan};
+use sequence_match::{Form, Site};
+use std::alloc::{AllocError, Global};
+use std::marker::Model;
+use tls_layout::page_up;
+use tls_relocs::{Field, Overflow, value};
+
+/// A link whose table is laid out. Contracts see what decides it.
+#[derive(Drop)]
+pub struct Plan<'i, 'l, 's, 'a> {
+    pub inputs: &'i Inputs<'l, 's, 'a>,
+    /// What each symbol of each object stands for.
+    pub values: Vec<Vec<SymbolValue>>,
+    pub got: GotPlan<'a>,
+    /// Where the table begins.
+    pub got_start: u64,
+    /// Where the stub begins, if there is one.
+    pub stub_start: u64,
+    pub has_stub: bool,
+    /// Whether sequences are rewritten at all.
+    pub is_rewriting: bool,
+    /// Whether offsets of variables count from the thread pointer, since local dynamic code is rewritten.
+    pub counts_from_thread_pointer: bool,
+}
+
+impl<'i, 'l, 's, 'a> Model for Plan<'i, 'l, 's, 'a> {
+    ghost use Rattle.std.specs.Prelude.{map};
+    ghost use Rattle.link_needs.specs.Linking.{Linking};
+    ghost use Rattle.link_needs.specs.Plans.{IsPlan};
+
+    ghost Value = { Linking };
+
+    ghost view = { λ plan. plan.inputs.now };
+
+    ghost invariant = { λ plan. IsPlan
+        plan.inputs.now (map (λ own. own.items) plan.values.items) plan.got plan.got_start plan.stub_start plan.has_stub plan.is_rewriting
+        plan.counts_from_thread_pointer };
+}
+
+/// Whether a form is of local dynamic code.
+fn is_local(form: Form) -> bool
+    ensures { result ≡ is_local form }
+{
+    matches!(form, Form::Ld | Form::LdInd)
+}
+
+/// Whether an object has local dynamic code.
+fn has_local(own: &[Site]) -> bool
+    ensures { result ≡ list_any (λ (site : Site). is_local site.form) own.now }
+{
+    own.iter().any(|site| is_local(site.form))
+}
+
+/// Whether any object has local dynamic code.
+fn any_local(sites: &[Vec<Site>]) -> bool
+    ensures { result ≡ list_any (λ own. list_any (λ (site : Site). is_local site.form) own.items) sites.now }
+{
+    sites.iter().any(|own| has_local(own.as_slice()))
+}
+
+impl<'l, 's, 'a> Inputs<'l, 's, 'a> {
+    /// Whether sequences are rewritten: in a program, where it is asked for.
+    pub(crate) fn is_rewriting(&self) -> bool
+        ensures { result ≡ is_rewriting self.now }
+    {
+        !self.kind.is_module() && self.relax
+    }
+
+    /// Whether local dynamic code is rewritten, so that offsets count from the thread pointer.
+    #[tactic(auto, unfolding(crate::specs::Values::counts_from_thread_pointer))]
+    fn counts_from_thread_pointer(&self) -> bool
+        ensures { result ≡ counts_from_thread_pointer self.now }
+    {
+        self.is_rewriting() && any_local(self.sites)
+    }
+
+    /// Whether a site calls the stub.
+    fn is_stub_call(&self, object: usize, site: &Site) -> bool
+        requires object { object < length self.now.objects }
+        requires site { IsUsable (object_at self.now.objects object) site.now }
+        ensures { result ≡ is_stub_call self.now object site.now }
+    {
+        is_kept(self.choice(object, site)) && calls_stub(site.form)
+    }
+
+    /// Whether an object calls the stub.
+    fn calls_stub_in(&self, object: usize, own: &[Site]) -> bool
+        requires object { object < length self.now.objects }
+        requires sites { All (IsUsable (object_at self.now.objects object)) own.now }
+        ensures { result ≡ list_any (is_stub_call self.now object) own.now }
+    {
+        for site in own {
+            if self.is_stub_call(object, site) {
+                return true;
+            }
+        }
+        false
+    }
+
+    /// Whether there is a stub.
+    fn has_stub(&self) -> bool
+        ensures { result ≡ has_stub self.now }
+    {
+        for (object, own) in self.sites.iter().enumerate() {
+            if self.calls_stub_in(object, own.as_slice()) {
+                return true;
+            }
+        }
+        false
+    }
+}
+
+/// Lays out the table of a link behind its sections.
+pub fn plan_of<'i, 'l, 's, 'a>(
+    alloc: Global,
+    inputs: &'i Inputs<'l, 's, 'a>,
+) -> Result<Plan<'i, 'l, 's, 'a>, AllocError>
+    requires { FitsTable inputs.now }
+    ensures { IfOk result (λ plan. plan ≡ inputs.now) }
+{
+    let needs = inputs.needs(alloc)?;
+    let got = plan(alloc, needs.as_slice(), inputs.kind, inputs.block_offset)?;
+    let got_start = inputs.placement.room();
+    let stub_start = page_up(got_start + got.size());
+    Ok(Plan {
+        inputs,
+        values: inputs.symbol_values(alloc)?,
+        got,
+        got_start,
+        stub_start,
+        has_stub: inputs.has_stub(),
+        is_rewriting: inputs.is_rewriting(),
+        counts_from_thread_pointer: inputs.counts_from_thread_pointer(),
+    })
+}
+
+/// Whether a type of relocation goes with the sequence that it belongs to, where its symbol stands for this.
+#[inline(always)]
+fn goes(symbol: SymbolValue, kind: RelocationKind) -> bool
+    ensures { result ≡ goes_by symbol kind }
+{
+    match kind {
+        RelocationKind::TlsGd | RelocationKind::TlsLd | RelocationKind::GotPc32TlsDesc => true,
+        RelocationKind::GotTpOff => matches!(symbol, SymbolValue::Here { .. }),
+        RelocationKind::Pc32
+        | RelocationKind::Plt32
+        | RelocationKind::GotPcRel
+        | RelocationKind::GotPcRelX
+        | RelocationKind::RexGotPcRelX => matches!(symbol, SymbolValue::Runtime),
+        _ => false,
+    }
+}
+
+/// Whether the field of a relocation of this type reaches an entry of the table.
+fn reaches_entry(kind: RelocationKind) -> bool
+    ensures { result ≡ reaches_entry kind }
+{
+    matches!(
+        kind,
+        RelocationKind::TlsGd
+            | RelocationKind::TlsLd
+            | RelocationKind::GotTpOff
+            | RelocationKind::GotPc32TlsDesc
+            | RelocationKind::GotPcRel
+            | RelocationKind::GotPcRelX
+            | RelocationKind::RexGotPcRelX
+    )
+}
+
+impl<'i, 'l, 's, 'a> Plan<'i, 'l, 's, 'a> {
+    /// The address of the entry of a need; 0 where there is none.
+    pub fn need_address(&self, need: Option<Need<'a>>) -> u64
+        ensures { result ≡ need_address self.now need.entry }
+    {
+        let Some(need) = need else {
+            return 0;
+        };
+        match self.got.start(&need) {
+            Some(at) => self.got_start + at,
+            None => 0,
+        }
+    }
+
+    /// What a symbol of an object stands for.
+    #[inline(always)]
+    pub fn symbol_value(&self, object: usize, symbol: u32) -> SymbolValue
+        requires object { object < length self.now.objects }
+        requires symbol { symbol < symbol_count (object_at self.now.objects object) }
+        ensures { result ≡ value_of self.now object symbol }
+    {
+        let own = &self.values[object];
+        own[symbol as usize]
+    }
+
+    /// Whether a relocation has no field, since its sequence is rewritten; its symbol stands for this.
+    #[inline(always)]
+    pub fn is_replaced(&self, symbol: SymbolValue, kind: RelocationKind) -> bool
+        ensures { result ≡ (is_rewriting self.now && goes_by symbol kind) }
+    {
+        self.is_rewriting && goes(symbol, kind)
+    }
+
+    /// The symbol's place, or its offset in the TLS segment.
+    #[inline(always)]
+    pub fn own_number(&self, kind: RelocationKind, symbol: SymbolValue) -> u64
+        ensures { result ≡ number_by self.now kind symbol }
+    {
+        match symbol {
+            SymbolValue::Here { address, offset } => match kind {
+                RelocationKind::DtpOff32 | RelocationKind::TpOff32 => offset,
+                _ => address,
+            },
+            SymbolValue::Runtime => self.stub_start,
+            SymbolValue::Elsewhere => 0,
+        }
+    }
+
+    /// The place of the entry that the field of a relocation reaches; 0 where it reaches none.
+    fn entry_place(&self, object: usize, relocation: &Relocation) -> u64
+        requires object { object < length self.now.objects }
+        requires symbol { relocation.now.symbol < symbol_count (object_at self.now.objects object) }
+        ensures { result ≡ need_address self.now (relocation_need self.now object relocation.now) }
+    {
+        let inputs = self.inputs;
+        let bound = inputs.binding(object, relocation);
+        self.need_address(inputs.need(object, relocation.symbol, bound, relocation.kind))
+    }
+
+    /// The place of the entry in the table, or what is subtracted from an offset.
+    #[inline(always)]
+    fn other_number(&self, object: usize, relocation: &Relocation) -> u64
+        requires object { object < length self.now.objects }
+        requires symbol { relocation.now.symbol < symbol_count (object_at self.now.objects object) }
+        ensures { result ≡ other_number self.now object relocation.now relocation.now.kind }
+    {
+        let inputs = self.inputs;
+        match relocation.kind {
+            RelocationKind::DtpOff32 if !self.counts_from_thread_pointer => 0,
+            RelocationKind::DtpOff32 | RelocationKind::TpOff32 => inputs.block_offset,
+            kind if reaches_entry(kind) => self.entry_place(object, relocation),
+            _ => 0,
+        }
+    }
+
+    /// What the field of a relocation holds, which stands at this place; its symbol stands for this.
+    #[inline(always)]
+    pub fn field(
+        &self,
+        object: usize,
+        place: u64,
+        relocation: &Relocation,
+        symbol: SymbolValue,
+    ) -> Result<Field, Overflow>
+        requires object { object < length self.now.objects }
+        requires number { relocation.now.symbol < symbol_count (object_at self.now.objects object) }
+        requires symbol { symbol ≡ value_of self.now object relocation.now.symbol }
+        ensures field { (section : ℕ) → place ≡ place_of self.now object section relocation.now.offset
+            → result_ok result ≡ field self.now object section relocation.now }
+        ensures width { IfOk result (λ field. width_of field ≡ field_width relocation.now.kind) }
+    {
+        value(
+            relocation.kind,
+            self.own_number(relocation.kind, symbol),
+            relocation.addend,
+            place,
+            self.other_number(object, relocation),
+        )
+    }
+}
