@@ -1,0 +1,116 @@
+-- What a call makes of its pass, from what its steps made of the seat.
+use Rattle.std.proofs.Common.{◌≡◌, ℕ, ◌+◌, ◌<◌, ◌≤◌, List, [], ◌∷◌, ◌++◌, length, drop, sym, refl, ap, ◌∙◌, subst, Option, Some, None, Err, arith}
+use mathlib.Core.Option.{some, some-injective}
+use lib.ListN.{get_elem?}
+use Rattle.atomic_table.specs.Seated.{TableId}
+use Rattle.module_table.specs.declared.events.Event.{Event}
+use Rattle.module_table.specs.declared.events.OpenRefusal.{OpenRefusal}
+use Rattle.module_table.specs.declared.events.OpenRefusal.TheVariants.{Unknown, Full, StaticFull, OutOfMemory as NoRoomToOpen}
+use Rattle.module_table.specs.declared.events.CloseRefusal.{CloseRefusal}
+use Rattle.module_table.specs.declared.events.CloseRefusal.TheVariants.{Permanent, NotOpen, OutOfMemory as NoRoomToClose}
+use Rattle.module_table.specs.History.{History, IsLegal, Adds, left, opened_of, closed_of, open_answer, close_answer, OpenRefused, CloseRefused}
+use Rattle.shared_modules.specs.declared.board.Images.{Images}
+use Rattle.shared_modules.specs.declared.board.Turn.TheVariants.{Away, Holds}
+use Rattle.shared_modules.specs.declared.board.View.{View}
+use Rattle.shared_modules.specs.Views.{Knows, StartsWith, images_of, history_at, first_view, drew, holding, caught, published, away}
+use Rattle.shared_modules.specs.Rule.{Homes}
+use Rattle.shared_modules.specs.Plays.{Sat, Begun, Entered, Ending}
+use Rattle.shared_modules.specs.Passes.{PassView, pass_view, IsPass, IsCaught, IsAccepted, IsRefused, IsOpenRefused, IsCloseRefused}
+use Rattle.shared_modules.proofs.Known.{all_length}
+use Rattle.shared_modules.proofs.Ends.{Ended}
+
+-- ---- the start, and the end
+
+pub begun_pass : (h key : History) (seen : ℕ) (me : Sat) → key ≡ h → seen ≡ length h.events → IsLegal h.infos h.last_offset h.events → me ≡ (first_view (images_of key) key.events, []) → IsPass seen me
+begun_pass h key seen me key_is seen_is legal is =
+    subst (IsPass seen) (sym (is ∙ ap (λ (z : History). let m : Sat = (first_view (images_of z) z.events, []) in m) key_is)) record {
+      seen_is = seen_is;
+      idle = refl;
+      bare = refl;
+      speaks = let l = all_length in omega arith;
+      legal = legal;
+    }
+
+pub finished : (images : Images) (homes : Homes) (v : View) (slots : List (Option History)) (y : Option History) (e : Ended images homes v)
+    → ((k : ℕ) (z : Option History) → get_elem? homes k ≡ some (some z) → get_elem? slots k ≡ some z) → get_elem? slots 0 ≡ some y → y ≡ Some e.registry
+finished images homes v slots y e values taken =
+    some-injective y (Some e.registry) (sym taken ∙ values 0 (Some e.registry) (ap (λ (hs : Homes). get_elem? hs 0) e.there))
+
+-- ---- a turn
+
+-- all of the history was seen, and the turn is over
+abbrev pub seen_all : List Event → View → View
+seen_all h v = record v { seen = h; told = h; loads = v.loads + 1; turns = v.turns + 1; turn = Away }
+
+abbrev Read : ℕ → Sat → Sat → Type 0
+Read n me after = (ticket : ℕ) (note : List Event) → me.0.turn ≡ Holds ticket note → (n ≡ length note) × (after ≡ (caught note me.0, me.1))
+
+-- the load after a turn began
+pub record Looked (v : View) (h : History) (ticket n : ℕ) (after : Sat) : Type 0 where
+  pub count : n ≡ length h.events
+  pub after_is : after ≡ (caught h.events (holding ticket h.events (drew ticket v)), (0, None) ∷ [])
+
+pub looked : (v : View) (h : History) (n : ℕ) (me after : Sat) (b : Begun v h me) → Read n me after → Looked v h b.ticket n after
+looked v h n me after b read = let r = read b.ticket h.events (ap (λ (m : Sat). m.0.turn) b.after_is) in
+    record { count = r.0; after_is = r.1 ∙ ap (λ (m : Sat). let x : Sat = (caught h.events m.0, m.1) in x) b.after_is }
+
+pub looked_ending : (v : View) (h : History) (ticket n : ℕ) (after : Sat) → Looked v h ticket n after → images_of h ≡ v.images → 0 < length v.threads → Ending h after
+looked_ending v h ticket n after l images speaks = subst (Ending h) (sym l.after_is) record { ticket = ticket; turn = refl; empty = refl; images = images; speaks = speaks }
+
+pub caught_pass : (p : PassView) (z z' : TableId) (v : View) (h : History) (me : Sat) → pass_view z v ≡ p → z' ≡ z → me ≡ (seen_all h.events v, []) → Knows h.events v.threads v.seen → StartsWith h.events v.told
+    → images_of h ≡ v.images → IsLegal h.infos h.last_offset h.events → IsCaught p me.0.seen (pass_view z' me.0)
+caught_pass p z z' v h me p_is z_is me_is seen told images legal =
+    subst (λ (c : PassView × TableId × Sat). IsCaught c.0 c.2.0.seen (pass_view c.1 c.2.0)) (λ i. (p_is i, sym z_is i, sym me_is i))
+    record { rest = refl; seen = seen; told = told; legal = subst (λ (m : Images). IsLegal m.infos m.last_offset h.events) images legal }
+
+-- ---- an event, and refusals
+
+pub accepted_pass : (p : PassView) (z z' : TableId) (v : View) (h h' : History) (event : Event) (answers : History → Type 0) (me after : Sat) (before into : List Event)
+    → pass_view z v ≡ p → z' ≡ z → Entered v h me → Adds h event h' → IsLegal h'.infos h'.last_offset h'.events → after ≡ (away (published h'.events me.0), [])
+    → answers (history_at v.images h.events) → into ≡ before ++ drop (length v.seen) h.events → IsAccepted p event answers (pass_view z' after.0) before into
+accepted_pass p z z' v h h' event answers me after before into p_is z_is e adds legal after_is answer told =
+    let images : images_of h' ≡ v.images = (λ i. record { infos = adds.infos i; last_offset = adds.last_offset i }) ∙ e.images in
+    let now : after ≡ (seen_all h'.events v, []) = after_is ∙ ap (λ (m : Sat). let x : Sat = (away (published h'.events m.0), []) in x) e.after_is in
+    subst (λ (c : PassView × TableId × Sat). IsAccepted c.0 event answers (pass_view c.1 c.2.0) before into) (λ i. (p_is i, sym z_is i, sym now i))
+    record {
+      history = h.events;
+      caught = record { rest = refl; seen = e.seen; told = e.told; legal = subst (λ (m : Images). IsLegal m.infos m.last_offset h'.events) images legal };
+      added = adds.events;
+      answer = answer;
+      lacked = told;
+    }
+
+pub refused_pass : (p : PassView) (z z' : TableId) (v : View) (h : History) (answers : History → Type 0) (me after : Sat) (before into : List Event)
+    → pass_view z v ≡ p → z' ≡ z → Entered v h me → after ≡ (away me.0, [])
+    → answers (history_at v.images h.events) → into ≡ before ++ drop (length v.seen) h.events → IsRefused p answers (pass_view z' after.0) before into
+refused_pass p z z' v h answers me after before into p_is z_is e after_is answer told =
+    let now : after ≡ (seen_all h.events v, []) = after_is ∙ ap (λ (m : Sat). let x : Sat = (away m.0, []) in x) e.after_is in
+    subst (λ (c : PassView × TableId × Sat). IsRefused c.0 answers (pass_view c.1 c.2.0) before into) (λ i. (p_is i, sym z_is i, sym now i))
+    record {
+      caught = record { rest = refl; seen = e.seen; told = e.told; legal = subst (λ (m : Images). IsLegal m.infos m.last_offset h.events) e.images e.legal };
+      answer = answer;
+      lacked = told;
+    }
+
+-- an answer is one of the images and the events
+pub open_answer_at : (h : History) (images : Images) (image : ℕ) → images_of h ≡ images → open_answer h image ≡ open_answer (history_at images h.events) image
+unfolding open_answer opened_of left
+open_answer_at h images image is = subst (λ (m : Images). open_answer h image ≡ open_answer (history_at m h.events) image) is refl
+
+pub close_answer_at : (h : History) (images : Images) (image : ℕ) → images_of h ≡ images → close_answer h image ≡ close_answer (history_at images h.events) image
+unfolding close_answer closed_of left
+close_answer_at h images image is = subst (λ (m : Images). close_answer h image ≡ close_answer (history_at m h.events) image) is refl
+
+-- with memory for one event more the refusal is the history's
+pub open_refused : (p : PassView) (image : ℕ) (q : PassView) (before into : List Event) (h : History) (refusal : OpenRefusal) → OpenRefused h image refusal → 1 ≤ h.spare
+    → (open_answer h image ≡ Err refusal → IsRefused p (λ x. open_answer x image ≡ Err refusal) q before into) → IsOpenRefused p image q before into refusal
+open_refused p image q before into h Unknown o spare f = f o
+open_refused p image q before into h Full o spare f = f o
+open_refused p image q before into h StaticFull o spare f = f o
+open_refused p image q before into h NoRoomToOpen o spare f = let none = o.1 in absurd (omega arith)
+
+pub close_refused : (p : PassView) (image : ℕ) (q : PassView) (before into : List Event) (h : History) (refusal : CloseRefusal) → CloseRefused h image refusal → 1 ≤ h.spare
+    → (close_answer h image ≡ Err refusal → IsRefused p (λ x. close_answer x image ≡ Err refusal) q before into) → IsCloseRefused p image q before into refusal
+close_refused p image q before into h Permanent o spare f = f o
+close_refused p image q before into h NotOpen o spare f = f o
+close_refused p image q before into h NoRoomToClose o spare f = let none = o.1 in absurd (omega arith)

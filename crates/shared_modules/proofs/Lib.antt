@@ -1,0 +1,9 @@
+pub mod Calls
+pub mod Ends
+pub mod Grows
+pub mod Keeps
+pub mod Known
+pub mod Locks
+pub mod Parts
+pub mod Totals
+pub mod Turns

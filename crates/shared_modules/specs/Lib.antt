@@ -1,0 +1,7 @@
+pub mod Laws
+pub mod Passes
+pub mod Plays
+pub mod Rule
+pub mod Stable
+pub mod Threads
+pub mod Views

@@ -1,0 +1,74 @@
+//! What each step on the table tells, how a view is cut in two, and how two are made one.
+ghost use Rattle.shared_modules.specs.Plays.{Draws, Sees, Catches, Loads, Publishes, Leaves, Learns};
+ghost use Rattle.shared_modules.specs.Views.{left_of, right_of, both, spent};
+
+use crate::board::View;
+use atomic_table::{Join, Play, Split};
+use module_table::Registry;
+
+/// Draws a ticket.
+pub(crate) struct Draw;
+
+impl Play<Option<Registry>, View> for Draw {
+    ghost then = { λ _. Draws };
+}
+
+/// Sees which ticket is being served, and takes the registry where it is the seat's.
+pub(crate) struct See;
+
+impl Play<Option<Registry>, View> for See {
+    ghost then = { λ _. Sees };
+}
+
+/// Loads the length of the history with the registry in hand.
+pub(crate) struct Catch;
+
+impl Play<Option<Registry>, View> for Catch {
+    ghost then = { λ _. Catches };
+}
+
+/// Loads the length of the history.
+pub(crate) struct Load;
+
+impl Play<Option<Registry>, View> for Load {
+    ghost then = { λ _. Loads };
+}
+
+/// Makes the history longer by an event, which the registry in hand has.
+pub(crate) struct Publish;
+
+impl Play<Option<Registry>, View> for Publish {
+    ghost then = { λ _. Publishes };
+}
+
+/// Leaves the registry behind, and serves the next ticket.
+pub(crate) struct Leave;
+
+impl Play<Option<Registry>, View> for Leave {
+    ghost then = { λ _. Leaves };
+}
+
+/// Tells what was learnt where two seats were joined.
+pub(crate) struct Learn;
+
+impl Play<Option<Registry>, View> for Learn {
+    ghost then = { λ _. Learns };
+}
+
+/// Gives the first half of the threads to one seat, and the second to the other.
+pub(crate) struct Halves;
+
+impl Split<View> for Halves {
+    ghost left = { left_of };
+
+    ghost right = { right_of };
+}
+
+/// Puts two seats together.
+pub(crate) struct Both;
+
+impl Join<View> for Both {
+    ghost both = { both };
+
+    ghost spent = { spent };
+}
