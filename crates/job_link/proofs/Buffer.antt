@@ -1,15 +1,15 @@
 -- Files in one buffer, and one more of them.
-use Rattle.std.proofs.Common.{◌≡◌, ◌∙◌, ◌≤◌, ◌||◌, ℕ, Bool, true, false, cond, List, [], ◌∷◌, ◌++◌}
+use Rattle.std.proofs.Common.{◌≡◌, ◌∙◌, ◌≤◌, ◌<◌, ◌||◌, ℕ, Bool, true, false, cond, List, [], ◌∷◌, ◌++◌}
 use Rattle.std.proofs.Common.{Option, Some, None, is_some, IsSome, refl, sym, ap, subst, length, take, drop, arith, Bor}
 use Rattle.std.specs.Prelude.{◌-◌, if◌then◌else◌, unwrap_or, slice_range, OnOk, IsErr, MatchOption, IfSome, Result, Ok}
 use Rattle.std.specs.Prelude.{Err}
-use Rattle.std.specs.List.{find}
+use Rattle.std.specs.List.{All, find}
 use Rattle.std.specs.Map.{lookup}
 use Rattle.std.specs.Option.{option_map}
 use Rattle.std.specs.Str.{bytes_eq}
 use Rattle.std.proofs.lemmas.List.{append_cancel_left, drop-append-le, drop_at, length-append, length-drop, map-append}
 use Rattle.std.proofs.lemmas.List.{take-append-drop, take-append-le, take_all}
-use Rattle.std.proofs.lemmas.List.Elements.{All-cons, All-head, All-nil, All-push, All-tail, All-weaker}
+use Rattle.std.proofs.lemmas.List.Elements.{All-cons, All-drop, All-head, All-nil, All-push, All-tail, All-take, All-weaker}
 use Rattle.indexmap.specs.IndexMap.{insert_entry}
 use Rattle.ports.specs.Files.{Files, file_at}
 use Rattle.job_link.specs.declared.fetching.Extent.{Extent}
@@ -44,6 +44,23 @@ file_found bytes name (e ∷ es) =
       | true ↦ refl
       | false ↦ file_found bytes name es
     ]
+
+-- ** bytes
+
+abbrev pub Small : List ℕ → Type 0
+Small bytes = All (λ (byte : ℕ). byte < 256) bytes
+
+small_part : (bytes : List ℕ) (place : Option Extent) → Small bytes → Small (part_of bytes place)
+small_part bytes None small = All-nil (λ (byte : ℕ). byte < 256)
+small_part bytes (Some p) small =
+    All-take (λ (byte : ℕ). byte < 256) (p.end - p.start) (drop p.start bytes)
+    (All-drop (λ (byte : ℕ). byte < 256) p.start bytes small)
+
+-- the files of a buffer are bytes, as all of it is
+pub small_files : (bytes name : List ℕ) (es : Places) → Small bytes → Small (bytes_in (files_in bytes es) name)
+small_files bytes name es small = rw (file_found bytes name es) (small_part bytes (lookup (is_name name) es) small)
+
+-- ** what lies where
 
 -- what is found lies in the buffer
 pub found_within : (bytes name : List ℕ) (es : Places) (place : Extent) → AreWithin bytes es

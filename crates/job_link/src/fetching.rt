@@ -1,6 +1,6 @@
 //! Files of objects, fetched once each.
 
-ghost use Rattle.std.specs.Prelude.{◌≡◌, ◌∷◌, [], IfOk, IfSome, OnOk};
+ghost use Rattle.std.specs.Prelude.{◌≡◌, ◌<◌, ◌∷◌, [], ℕ, List, All, IfOk, IfSome, OnOk};
 ghost use Rattle.ports.specs.Counts.{FetchCounts};
 ghost use Rattle.job_link.specs.Mentions.{bytes_in, object_names, AreFilesOf, Fetches};
 ghost use Rattle.job_link.specs.Walks.{names_of, unseen, Grows};
@@ -17,6 +17,11 @@ struct Extent {
     start: usize,
     end: usize,
 }
+
+/// Bytes are numbers below 256. The call only tells a proof so.
+fn are_small(bytes: &[u8])
+    ensures { All (λ (byte : ℕ). byte < 256) bytes.now }
+{}
 
 /// The files of a job's objects, in one buffer. Contracts see each name with its bytes.
 #[derive(Drop)]
@@ -55,6 +60,13 @@ impl<'j> Files<'j> {
             Some(place) => &self.bytes[place.start..place.end],
             None => &[],
         }
+    }
+
+    /// Files hold bytes, numbers below 256. The call only tells a proof so.
+    pub fn are_bytes(&self)
+        ensures { (name : List ℕ) → All (λ (byte : ℕ). byte < 256) (bytes_in self.now name) }
+    {
+        are_small(self.bytes.as_slice());
     }
 
     /// Fetches a file, unless it is there.

@@ -16,28 +16,27 @@ use Rattle.guest_operands.specs.declared.stop.Stop.{Stop}
 use Rattle.guest_operands.specs.declared.stop.Stop.TheVariants.{Returned, Address, Code, Unclean}
 use Rattle.guest_machine.specs.Access.{fetch_of, load_of, store_of}
 use Rattle.guest_arithmetic.specs.Arithmetic.{product_fits, product_effect}
+use Rattle.guest_arithmetic.specs.Plain.{plain_operations}
 use Rattle.guest_arithmetic.specs.Flags.{with_changes, condition_of}
 use Rattle.guest_machine.specs.Operand.{base_of, index_of, address_of, kept, carried, number_at, taken_at, taken, put}
 use Rattle.guest_machine.specs.State.{register_of, with_register, start_of}
 use Rattle.guest_machine.specs.Frame.{frame_of}
-use Rattle.guest_machine.specs.Step.{act, move_of, move_in, stored, multiply_of, finished, pushed, push_of, call_of, return_of, jump_of, jump_if}
-use Rattle.job_meaning.specs.declared.values.Byte.TheVariants.{Value}
+use Rattle.guest_machine.specs.Run.{machine}
+use Rattle.guest_machine.specs.Step.{act, step_of, move_of, move_in, stored, multiply_of, finished, pushed, push_of, call_of, return_of, jump_of, jump_if}
 use Rattle.guest_machine.specs.Touch.{touches_of, next_touches, touched}
 use Rattle.job_meaning.specs.Marked.{marked_operations}
 use Rattle.job_meaning.specs.Owner.{owner_at}
 use Rattle.job_meaning.specs.Reading.{completed, hindrance, read_step, reaches_linker, meaning_step}
 use Rattle.job_meaning.specs.Running.{meaning}
 use Rattle.module_table.specs.declared.events.Event.{Event}
-use Rattle.local_exec.specs.Parts.{Image}
-use Rattle.thread_blocks.specs.MachineTurns.{CallLine, call_said, zeros}
+use Rattle.thread_blocks.specs.MachineTurns.{CallLine, alone, call_said, machine_turns, zeros}
 use Rattle.thread_blocks.specs.Spaces.{space_accesses}
 use Rattle.thread_blocks.specs.Turns.{Said, Stopped}
 use Rattle.thread_blocks.specs.TurnsAlike.{HasUnclean}
-use Rattle.job_run.specs.Loading.{loaded_by, machine_loaded, HasBytes}
 use Rattle.job_run.specs.Meaning.{meant_accesses, meant_turns, meant_said}
 use Rattle.thread_blocks.specs.Worlds.{threads_from, said_by_each}
 use Rattle.job_run.specs.Worlds.{meant_world, meant_by, AreClean}
-use Rattle.job_run.proofs.Loaded.{seen_both}
+use Rattle.job_run.proofs.ExampleLoads.{Image, HasBytes, meaning_loaded, machine_loaded, seen_both}
 use Rattle.job_run.proofs.Said.{call_says}
 
 -- an image whose one block, of every thread, is the four bytes below the thread pointer
@@ -73,7 +72,7 @@ unfolding
     displacement_size memory_in sib_at selectors_at fetch_of load_of store_of space_accesses marked_operations register_of with_register start_of
     base_of index_of address_of kept carried number_at taken_at taken put product_fits product_effect with_changes condition_of move_of move_in stored
     multiply_of finished pushed push_of call_of return_of jump_of jump_if act frame_of zeros owner_at threads_from
-said room fuel code = meant_said Event room (loaded_by Value (image code) entry) 1 fuel line
+said room fuel code = meant_said Event room (meaning_loaded (image code) entry) 1 fuel line
 
 abbrev ends : Stop → List Said
 ends stop = record { points = 0 ∷ []; ending = Stopped stop } ∷ []
@@ -111,7 +110,7 @@ unfolding said
 goes_nowhere = refl
 
 -- a page of code: 4,095 nops and a REX prefix, at which the call begins, right before the room
-page : meant_said Event 0x401000 (loaded_by Value (code_alone (replicate 4095 0x90 ++ 0x48 ∷ [])) (λ symbol. Some 0x400fff)) 1 1 line
+page : meant_said Event 0x401000 (meaning_loaded (code_alone (replicate 4095 0x90 ++ 0x48 ∷ [])) (λ symbol. Some 0x400fff)) 1 1 line
     ≡ ends (Code 0x400fff)
 unfolding said
 page = refl
@@ -159,18 +158,18 @@ jumps_out = refl
 -- ** lines and threads
 
 -- mov %fs:-4, %eax; mov %edi, %fs:-4; ret, called with 3 and then with 5: a block keeps its bytes from line to line
-keeps : meant_by 0x402000 (loaded_by Value (image (0x64 ∷ 0x8b ∷ 0x04 ∷ 0x25 ∷ 0xfc ∷ 0xff ∷ 0xff ∷ 0xff ∷ 0x64 ∷ 0x89 ∷ 0x3c ∷ 0x25 ∷ 0xfc ∷ 0xff ∷ 0xff ∷ 0xff ∷ 0xc3 ∷ [])) entry) 1 3
+keeps : meant_by 0x402000 (meaning_loaded (image (0x64 ∷ 0x8b ∷ 0x04 ∷ 0x25 ∷ 0xfc ∷ 0xff ∷ 0xff ∷ 0xff ∷ 0x64 ∷ 0x89 ∷ 0x3c ∷ 0x25 ∷ 0xfc ∷ 0xff ∷ 0xff ∷ 0xff ∷ 0xc3 ∷ [])) entry) 1 3
     (record line { a = 3 } ∷ record line { a = 5 } ∷ []) ([] ∷ [] ∷ []) ≡ ends (Returned 0x2a) ++ ends (Returned 3)
 unfolding said
 keeps = refl
 
 -- the same of two threads, of which the second takes the first turn: each has a block of its own
-apart : said_by_each (meant_world 0x402000 (loaded_by Value (image (0x64 ∷ 0x8b ∷ 0x04 ∷ 0x25 ∷ 0xfc ∷ 0xff ∷ 0xff ∷ 0xff ∷ 0x64 ∷ 0x89 ∷ 0x3c ∷ 0x25 ∷ 0xfc ∷ 0xff ∷ 0xff ∷ 0xff ∷ 0xc3 ∷ [])) entry) 3
+apart : said_by_each (meant_world 0x402000 (meaning_loaded (image (0x64 ∷ 0x8b ∷ 0x04 ∷ 0x25 ∷ 0xfc ∷ 0xff ∷ 0xff ∷ 0xff ∷ 0x64 ∷ 0x89 ∷ 0x3c ∷ 0x25 ∷ 0xfc ∷ 0xff ∷ 0xff ∷ 0xff ∷ 0xc3 ∷ [])) entry) 3
     ((record line { a = 3 } ∷ []) ∷ (record line { a = 5 } ∷ []) ∷ []) (2 ∷ 1 ∷ [])) ≡ ends (Returned 0x2a) ∷ ends (Returned 0x2a) ∷ []
 unfolding said
 apart = refl
 
--- ** and so the machine prints the same
+-- ** and so the machine prints the same, with bytes of the linker's own in the room
 
 all-one : (byte : ℕ) → byte < 256 → (bytes : List ℕ) → All (λ (byte : ℕ). byte < 256) bytes → All (λ (byte : ℕ). byte < 256) (byte ∷ bytes)
 all-one byte small bytes rest zero d within = small
@@ -190,7 +189,14 @@ is_clean : HasUnclean (ends (Returned 0)) → ⊥
 is_clean (inl unclean) = absurd unclean
 is_clean (inr unclean) = absurd unclean
 
-prints : call_said Event (machine_loaded (image (0xc3 ∷ [])) entry) 1 1 line ≡ ends (Returned 0)
+-- ret, where the room is one byte, 9
+prints : call_said Event (machine_loaded 0x400001 (9 ∷ []) (image (0xc3 ∷ [])) entry) 1 1 line ≡ ends (Returned 0)
 unfolding said
-prints = call_says (loaded_by Value (image (0xc3 ∷ [])) entry) (machine_loaded (image (0xc3 ∷ [])) entry) (seen_both (image (0xc3 ∷ [])) entry has_bytes) 0x400001 1 1 line
-    (subst AreClean (sym returns) is_clean) ∙ returns
+prints = call_says (meaning_loaded (image (0xc3 ∷ [])) entry) (machine_loaded 0x400001 (9 ∷ []) (image (0xc3 ∷ [])) entry) 0x400001
+    (seen_both 0x400001 (9 ∷ []) (image (0xc3 ∷ [])) entry has_bytes (omega arith)) 1 1 line (subst AreClean (sym returns) is_clean) ∙ returns
+
+-- mov 0x402000, %eax; ret, which is unclean: the machine loads what it finds in the room
+finds : call_said Event (machine_loaded 0x402000 (9 ∷ 0 ∷ 0 ∷ 0 ∷ []) (image (0x8b ∷ 0x04 ∷ 0x25 ∷ 0x00 ∷ 0x20 ∷ 0x40 ∷ 0x00 ∷ 0xc3 ∷ [])) entry) 1 2 line
+    ≡ ends (Returned 9)
+unfolding said call_said machine_turns machine alone step_of plain_operations
+finds = refl

@@ -1,4 +1,4 @@
--- The meaning's memory and the machine's: byte by byte the same, also under writes, and as code the same but where the linker's own stands.
+-- The meaning's memory and the machine's: byte by byte the same but where the linker's own stands, also under writes, and as code the same.
 use Rattle.std.proofs.Common.{◌≡◌, ℕ, Bool, true, false, List, [], ◌∷◌, ◌++◌, Option, Some, None, refl, sym, ap, ◌∙◌, arith}
 use Rattle.std.specs.Prelude.{if◌then◌else◌, option_and_then}
 use Rattle.guest_operands.specs.declared.space.Access.{Access}
@@ -18,10 +18,9 @@ use Rattle.job_meaning.proofs.Same.{marked_follows}
 use Rattle.thread_blocks.specs.MachineTurns.{Loaded, stack_start, fixed_of}
 use Rattle.thread_blocks.specs.Spaces.{Space, FoundAlike, NoneRunnable, SameRange, SameSpace, space_accesses, open_everywhere, ranges_of, stack_range}
 use Rattle.thread_blocks.proofs.Begin.{fixed_alike}
-use Rattle.guest_machine.proofs.Closed.{closed_kept}
 use Rattle.thread_blocks.proofs.Spaces.{spaces_kept}
 use Rattle.job_run.specs.Linked.{nothing, SameBytes, IsLinked}
-use Rattle.job_run.specs.Meaning.{meant_accesses, meant_mark, meant_shut}
+use Rattle.job_run.specs.Meaning.{is_linkers, meant_accesses, meant_mark, meant_shut}
 
 -- ** what can be run
 
@@ -71,25 +70,29 @@ unfolding same marked_operations plain_operations
 zero-byte = (refl, omega arith)
 
 module _ {E : Type 0} (room thread : ℕ) (loaded : Loaded Byte) (loaded' : Loaded ℕ)
-    (linked : IsLinked loaded loaded') where
+    (linked : IsLinked room loaded loaded') where
   abbrev pub acc : Accesses (Space E Byte) Byte
   acc = meant_accesses loaded thread
 
   abbrev pub acc' : Accesses (Space E ℕ) ℕ
   acc' = space_accesses plain_operations (stack_start thread) (fixed_of plain_operations loaded' thread) open_everywhere
 
-  fixed-same : (access : Access) → ((place : ℕ) → FoundAlike SameBytes (byte_in access loaded.fixed place) (byte_in access loaded'.fixed place)) → (seen : List E) (place : ℕ)
+  fixed-same : (access : Access) (seen : List E) (place : ℕ) → FoundAlike SameBytes (byte_in access loaded.fixed place) (byte_in access loaded'.fixed place)
       → FoundAlike SameBytes (byte_in access (fixed_of (marked_operations owner_at) loaded thread seen) place) (byte_in access (fixed_of plain_operations loaded' thread seen) place)
   unfolding same
-  fixed-same access parts seen place =
+  fixed-same access seen place alike =
       fixed_alike (same nothing owner_at nothing nothing) (marked_operations owner_at) plain_operations
-      (marked_follows nothing owner_at nothing nothing) zero-byte loaded loaded' thread access parts seen place
+      (marked_follows nothing owner_at nothing nothing) zero-byte loaded loaded' thread access seen place alike
 
-  whole_kept : IsKept (same nothing owner_at nothing nothing) acc acc' (SameSpace {E = E} SameBytes)
-  unfolding same meant_accesses
+  -- what the meaning may reach where the linker's own is closed
+  whole_kept : IsKept (same nothing owner_at nothing nothing)
+      (space_accesses (marked_operations owner_at) (stack_start thread) (fixed_of (marked_operations owner_at) loaded thread) (λ seen place. is_linkers room place))
+      acc' (SameSpace {E = E} SameBytes)
+  unfolding same
   whole_kept =
       spaces_kept (same nothing owner_at nothing nothing) (marked_operations owner_at) plain_operations (stack_start thread) (fixed_of (marked_operations owner_at) loaded thread)
-      (fixed_of plain_operations loaded' thread) open_everywhere (fixed-same Read linked.reads) (fixed-same Write linked.writes)
+      (fixed_of plain_operations loaded' thread) (λ seen place. is_linkers room place) (λ seen place other. fixed-same Read seen place (linked.reads place other))
+      (λ seen place other. fixed-same Write seen place (linked.writes place other))
 
   put_seen : (m : Space E Byte) (place : ℕ) (byte : Byte) → (acc.put m place byte).seen ≡ m.seen
   unfolding space_accesses meant_accesses
@@ -99,10 +102,10 @@ module _ {E : Type 0} (room thread : ℕ) (loaded : Loaded Byte) (loaded' : Load
   unfolding space_accesses meant_accesses
   put_none m place byte h = own-either (grants Write (stack_range (stack_start thread) m.stack) place) m _ (with_byte m.own place byte) h (none-with m.own place byte h)
 
-  -- reads and writes
-  all_kept : (seen : List E) → IsKept (same nothing owner_at nothing nothing) acc acc' (SameAt seen)
-  unfolding same
-  all_kept seen = record {
+  -- reads and writes, where the linker's own is closed: that is the same of the accesses as of the space
+  pub memory_kept : (seen : List E) → IsKept (same nothing owner_at nothing nothing) (closed (meant_shut room) acc) acc' (SameAt seen)
+  unfolding same meant_accesses space_accesses
+  memory_kept seen = record {
     byte = λ m m' h place. whole_kept.byte m m' h.space place;
     writes = λ m m' h place. whole_kept.writes m m' h.space place;
     put = λ m m' h place b b' k allowed. record {
@@ -112,10 +115,6 @@ module _ {E : Type 0} (room thread : ℕ) (loaded : Loaded Byte) (loaded' : Load
     };
     still = λ m place at b. whole_kept.still m place at b;
   }
-
-  -- the same where the linker's own is closed
-  pub memory_kept : (seen : List E) → IsKept (same nothing owner_at nothing nothing) (closed (meant_shut room) acc) acc' (SameAt seen)
-  memory_kept seen = closed_kept (same nothing owner_at nothing nothing) acc acc' (SameAt seen) (all_kept seen) (meant_shut room) (λ m place at b. refl)
 
   -- where the linker's functions are called is the linker's own
   pub are_shut : AreShut (meant_shut {E = E} room)

@@ -70,7 +70,7 @@ zero-byte : Values.byte ((marked_operations owner_at).byte 0) (plain_operations.
 unfolding same marked_operations plain_operations
 zero-byte = (refl, omega arith)
 
-module _ (loaded : Loaded Byte) (loaded' : Loaded ℕ) (linked : IsLinked loaded loaded') (room fuel : ℕ) (E : Type 0) where
+module _ (loaded : Loaded Byte) (loaded' : Loaded ℕ) (room : ℕ) (linked : IsLinked room loaded loaded') (fuel : ℕ) (E : Type 0) where
   module _ (thread : ℕ) where
     start-same : Between {E = E} [] (meant_start loaded thread) (printed_start loaded' thread)
     unfolding same
@@ -135,7 +135,7 @@ module _ (loaded : Loaded Byte) (loaded' : Loaded ℕ) (linked : IsLinked loaded
   levels number [] = tt
   levels number (first ∷ lines) = (record { todo = refl; said = refl; seen = refl; phase = record { number = refl; state = start-same number } }, levels (suc number) lines)
 
-module _ (loaded : Loaded Byte) (loaded' : Loaded ℕ) (linked : IsLinked loaded loaded') (room fuel : ℕ) where
+module _ (loaded : Loaded Byte) (loaded' : Loaded ℕ) (room : ℕ) (linked : IsLinked room loaded loaded') (fuel : ℕ) where
   one-said : (t : Thread (Meant Event) CallLine Event) (t' : Thread (Printed Event) CallLine Event)
       → SameThread AtLook Between t t' → AreClean t.said → t'.said ≡ t.said
   one-said t t' (inl unclean) clean = absurd (clean unclean)
@@ -148,8 +148,8 @@ module _ (loaded : Loaded Byte) (loaded' : Loaded ℕ) (linked : IsLinked loaded
       one-said (turns (meant_turns room loaded thread fuel) (ready (meant_start loaded thread) lines) points)
       (turns (machine_turns loaded' thread fuel) (ready (printed_start loaded' thread) lines) points)
       (turns_alike InCall AtLook Between Any (meant_turns room loaded thread fuel) (machine_turns loaded' thread fuel)
-      (thread_alike loaded loaded' linked room fuel Event thread) points (ready (meant_start loaded thread) lines) (ready (printed_start loaded' thread) lines)
-      (any-rises [] points) (inr (level loaded loaded' linked room fuel Event thread lines))) clean
+      (thread_alike loaded loaded' room linked fuel Event thread) points (ready (meant_start loaded thread) lines) (ready (printed_start loaded' thread) lines)
+      (any-rises [] points) (inr (level loaded loaded' room linked fuel Event thread lines))) clean
 
   -- the law of one call
   pub call_says : (thread : ℕ) (line : CallLine) → AreClean (meant_said Event room loaded thread fuel line)
@@ -163,6 +163,6 @@ module _ (loaded : Loaded Byte) (loaded' : Loaded ℕ) (linked : IsLinked loaded
       × (said_by_each (printed_world loaded' fuel lines order) ≡ said_by_each (meant_world room loaded fuel lines order))
   worlds_say lines order clean =
       order_says (Each InCall) (Each AtLook) (Each Between) Any (each fuel (λ thread. meant_turns room loaded thread fuel))
-      (each (4 * fuel) (λ thread. machine_turns loaded' thread fuel)) (worlds_alike loaded loaded' linked room fuel Event) adds_none growing order
+      (each (4 * fuel) (λ thread. machine_turns loaded' thread fuel)) (worlds_alike loaded loaded' room linked fuel Event) adds_none growing order
       (first_world (meant_start loaded) lines) (first_world (printed_start loaded') lines)
-      (any-fine [] (threads_from (meant_start loaded) 1 lines)) (record { events = refl; threads = levels loaded loaded' linked room fuel Event 1 lines }) clean
+      (any-fine [] (threads_from (meant_start loaded) 1 lines)) (record { events = refl; threads = levels loaded loaded' room linked fuel Event 1 lines }) clean

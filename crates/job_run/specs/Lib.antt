@@ -1,5 +1,7 @@
+pub mod Images
 pub mod Linked
-pub mod Loading
 pub mod Meaning
+pub mod Objects
+pub mod Plain
 pub mod Statements
 pub mod Worlds

@@ -1,32 +1,20 @@
 -- That the machine over a linked image prints what the objects mean, wherever that is clean.
-use Rattle.std.specs.Prelude.{◌≡◌, ℕ, List, [], Option, Some}
+use Rattle.std.specs.Prelude.{◌≡◌, ℕ, List, [], Some}
 use Rattle.job_meaning.specs.declared.values.Byte.{Byte}
 use Rattle.module_table.specs.declared.events.Event.{Event}
-use Rattle.local_exec.specs.Laws.{AreLinked}
-use Rattle.local_exec.specs.Parts.{image_of}
-use Rattle.link_faults.specs.declared.image_kind.ImageKind.{ImageKind}
-use Rattle.tls_layout.specs.Sections.{layout_of}
 use Rattle.thread_blocks.specs.MachineTurns.{Loaded, CallLine, call_said}
 use Rattle.thread_blocks.specs.Turns.{at_number}
 use Rattle.thread_blocks.specs.TurnsAlike.{AllFronts, IsFront, Rises}
 use Rattle.job_run.specs.Linked.{IsLinked}
-use Rattle.job_run.specs.Loading.{machine_loaded, meaning_loaded, HasBytes}
 use Rattle.job_run.specs.Meaning.{meant_said}
 use Rattle.thread_blocks.specs.Worlds.{printed_by, printed_world, said_by_each}
 use Rattle.job_run.specs.Worlds.{meant_world, IsCleanWorld, meant_by, AreClean}
-
--- an image stands to its objects as it should: what is loaded of it, and what they mean
-abbrev pub ImagesAreLinked : Type 0
-ImagesAreLinked = (kind : ImageKind) (objects : List (List ℕ)) (entry : List ℕ → Option ℕ) → AreLinked kind objects
-    → HasBytes (image_of (layout_of kind objects) objects)
-    → IsLinked (meaning_loaded (layout_of kind objects) objects entry)
-    (machine_loaded (image_of (layout_of kind objects) objects) entry)
 
 -- all threads, in any order of their turns: the history is the same, and each thread says the same of each line, the
 -- events that its looks saw included
 abbrev pub PrintsItsMeanings : Type 0
 PrintsItsMeanings = (p : Loaded Byte) (q : Loaded ℕ) (room fuel : ℕ) (lines : List (List CallLine)) (order : List ℕ)
-    → IsLinked p q
+    → IsLinked room p q
     → IsCleanWorld (meant_world room p fuel lines order)
     → ((printed_world q fuel lines order).events ≡ (meant_world room p fuel lines order).events)
     × (said_by_each (printed_world q fuel lines order) ≡ said_by_each (meant_world room p fuel lines order))
@@ -35,14 +23,14 @@ PrintsItsMeanings = (p : Loaded Byte) (q : Loaded ℕ) (room fuel : ℕ) (lines 
 abbrev pub PrintsItsMeaning : Type 0
 PrintsItsMeaning = (p : Loaded Byte) (q : Loaded ℕ) (room thread fuel : ℕ)
     → (lines : List CallLine) (points : List (List Event))
-    → IsLinked p q
+    → IsLinked room p q
     → AreClean (meant_by room p thread fuel lines points)
     → printed_by q thread fuel lines points ≡ meant_by room p thread fuel lines points
 
 -- one thread with one line
 abbrev pub CallMeans : Type 0
 CallMeans = (p : Loaded Byte) (q : Loaded ℕ) (room thread fuel : ℕ) (line : CallLine)
-    → IsLinked p q
+    → IsLinked room p q
     → AreClean (meant_said Event room p thread fuel line)
     → call_said Event q thread fuel line ≡ meant_said Event room p thread fuel line
 

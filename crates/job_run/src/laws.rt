@@ -1,13 +1,7 @@
 //! Laws of jobs. The functions do nothing: what they ensure is the law.
 
-ghost use Rattle.job_run.specs.Statements.{ImagesAreLinked, PrintsItsMeanings, PrintsItsMeaning, CallMeans, ThreadsMeanTheirOwn};
-
-/// A linked image stands to its objects as it should: what is loaded of it is what they mean, byte by byte
-/// and as code.
-#[tactic(auto, using(crate::proofs::Loaded::images_linked))]
-pub fn images_are_linked()
-    ensures { ImagesAreLinked }
-{}
+ghost use Rattle.job_run.specs.Images.{PlainImagesAreLinked, PlainImagesAreStill};
+ghost use Rattle.job_run.specs.Statements.{PrintsItsMeanings, PrintsItsMeaning, CallMeans, ThreadsMeanTheirOwn};
 
 /// Where the meaning of no line is unclean, the machine over the linked image prints what all threads
 /// mean, in any order of their turns: the same history, and of each line the same.
@@ -30,4 +24,17 @@ pub fn call_means()
 /// history.
 pub fn threads_mean_their_own()
     ensures { ThreadsMeanTheirOwn }
+{}
+
+/// What a thread finds of the image of a plain link is what its objects mean: the functions that it calls, the bytes that
+/// it reads, the code that it runs, and the block that it begins with.
+#[tactic(auto, using(crate::proofs::LinkedImages::images_linked))]
+pub fn plain_images_are_linked()
+    ensures { PlainImagesAreLinked }
+{}
+
+/// Of what all threads find of such an image, none writes a byte.
+#[tactic(auto, using(crate::proofs::LinkedImages::images_still))]
+pub fn plain_images_are_still()
+    ensures { PlainImagesAreStill }
 {}

@@ -8,30 +8,45 @@
 //! stub or a table, a program can read those bytes, or jump into them.
 //!
 //! **The meaning's.** Run the calls over the bytes of the objects' own sections, each at its place, with
-//! marked values (`job_meaning`). What stands at an address is said by `local_exec`'s `specs/Meant`: the
-//! byte of the section that stands there, in a relocation's field the byte of the value that the psABI's
-//! table gives, and between sections zero; nothing of it is taken from a linked image. Some places are the
-//! linker's own and no program's: the room behind the last section, up to the end of the image, and the
-//! places at which the functions of the run time are called, 0x1000 and 0x1800 (`is_linkers`,
-//! `specs/Meaning.antt`). What stands there is nothing that a job can mean, so a line that reads, writes or
-//! runs one of these bytes is **unclean**, with the cause `Linker`; so is a line that uses what is unknown,
-//! such as a flag that an instruction leaves undefined (Intel's manual, volume 1, appendix A), and one whose
-//! steps are used up.
+//! marked values (`job_meaning`). What stands at an address is the byte of the section that stands there, in
+//! a relocation's field the byte of the value that the psABI's table gives, and between sections zero;
+//! nothing of it is taken from a linked image. Some places are the linker's own and no program's: the room
+//! behind the last section, up to the end of the image, and the places at which the functions of the run
+//! time are called, 0x1000 and 0x1800 (`is_linkers`, `specs/Meaning.antt`). What stands there is nothing that
+//! a job can mean, so a line that reads, writes or runs one of these bytes is **unclean**, with the cause
+//! `Linker`; so is a line that uses what is unknown, such as a flag that an instruction leaves undefined
+//! (Intel's manual, volume 1, appendix A), and one whose steps are used up.
 //!
 //! A line that is clean has one answer, which no linker can change. The laws (`laws`) are over two loads,
-//! the meaning's and the image's, and say that it is the machine's wherever the two are **linked**
-//! (`IsLinked`, `specs/Linked.antt`: the same functions, data alike byte by byte, the same code, fresh
-//! blocks alike):
+//! the meaning's and the image's, and say that it is the machine's wherever the two are **linked below the
+//! room** (`IsLinked`, `specs/Linked.antt`): they have the same functions, the same code, fresh blocks that
+//! are alike, and, at each place that is not the linker's own, data that is alike byte by byte. Of data at
+//! the linker's places nothing is asked: an image has its dynamic tables there, and no object means them.
 //!
-//! - `images_are_linked`: what is loaded of a linked image stands so to what its objects mean;
+//! - `plain_images_are_linked`: what is loaded of the image that `link_core` makes of a plain link stands so to what
+//!   its objects mean;
 //! - `call_means`: one thread with one line;
 //! - `prints_its_meaning`: one thread with any lines, whatever events its looks see;
 //! - `prints_its_meanings`: all threads in any order of their turns. Then each thread says the same of each
 //!   line, the numbers of events that its looks saw included, and the histories are the same;
 //! - `threads_mean_their_own`: what a thread means in an order it means alone.
 //!
-//! The first is a law of the link alone, with no thread in it, and rests on `local_exec`'s
-//! `images_are_meant`: a wrong field in an image fails there.
+//! **The first is a law of the link alone**, with no thread in it. What the objects mean is said address by address
+//! (`specs/Objects.antt`), by the sections and the psABI's table, and what a thread finds of an image by the image's
+//! parts (`thread_blocks`, `specs/Loading.antt`), so a wrong field, or a part at a wrong place, fails there. A link is
+//! **plain** (`specs/Plain.antt`) if it makes a program at fixed addresses, without data that the program writes, of
+//! objects whose relocations all hold numbers that need no table. Its image has the parts of its sections, and one more,
+//! for the loader alone:
+//!
+//! ```text
+//! 0x400000  x   the code                     what the objects mean is here
+//! 0x401000  r   the constants
+//! 0x402000  r   the initial image
+//! 0x403000  r   the dynamic tables           the room: the linker's own, which no program of the objects means
+//! ```
+//!
+//! Addresses and parts are those of the gABI ("Program Loading"), blocks those of "ELF Handling For Thread-Local
+//! Storage" (Drepper, section 3, variant II).
 //!
 //! Where a line is unclean the laws promise nothing of the whole job, and they could not: what a program
 //! makes of the linker's bytes it may store, in its block of thread-local storage, and so the next line,
@@ -47,9 +62,9 @@
 //! the machine may load what it finds there. `proofs/Examples.antt` computes both, and more.
 //!
 //! **How the two are related** (`proofs/Memory.antt`). From two loads that are linked on, registers, stacks
-//! and blocks stay related byte by byte, what can be fetched is the same wherever it is not the linker's,
-//! and no block can be run, since writes keep rights. One step of the meaning is one step of the machine,
-//! so four times the meaning's steps are more than enough for it.
+//! and blocks stay related byte by byte, so does what is read and written wherever it is not the linker's,
+//! what can be fetched is the same, and no block can be run, since writes keep rights. One step of the
+//! meaning is one step of the machine, so four times the meaning's steps are more than enough for it.
 //!
 //! **What grows later.** No byte of these images is a token, and no sequence is rewritten. Where one is, its
 //! places get marks of their own, a base gets a number by the function `base` of `job_meaning`'s relation,

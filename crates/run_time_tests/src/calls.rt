@@ -1,12 +1,10 @@
 //! Calls of small functions, and what comes of them.
 
-use link_faults::Part;
-use std::alloc::{AllocError, Global};
+use crate::programs::{CODE, program};
+use std::alloc::Global;
 use std::process::Abort;
 use std::test::Fail;
-use thread_blocks::{BlockImage, Call, Executable, ThreadMemory, run_call};
-
-const CODE: u64 = 0x40_0000;
+use thread_blocks::{Call, ThreadMemory, entry_place, run_call};
 
 /// Each line: the code of a function, and what comes of a call of it by thread 2 with 3, 10 and 0 in 5 steps.
 const CALLS: &str = "\
@@ -22,42 +20,20 @@ const CALLS: &str = "\
 0f0b Fault(Code)
 // jmp to itself
 ebfe Fault(Steps)
+// mov 0x401000, %eax; ret: the initial image where it lies in the file
+8b042500104000c3 Returned(42)
+// mov 0x400000, %eax; ret: code cannot be read
+8b042500004000c3 Fault(Address)
 // mov %rax, 0x400000: code cannot be written
 4889042500004000c3 Fault(Address)
+// mov %rax, 0x401000: constants cannot be written
+4889042500104000c3 Fault(Address)
 // call 0x1000, 0x3ff005 bytes before the next instruction: nobody answers
 e8fb0fc0ffc3 Fault(Address)
 ";
 
 /// mov %edi, %fs:-8; ret, and behind it mov %fs:-8, %eax; ret
 const KEEPING: &str = "64893c25f8ffffffc3648b0425f8ffffffc3";
-
-/// A program of this code.
-fn executable(alloc: Global, code: Vec<u8>) -> Result<Executable, AllocError> {
-    Ok(Executable {
-        code: Part {
-            address: CODE,
-            bytes: code,
-        },
-        constants: Part {
-            address: 0x40_1000,
-            bytes: [7, 0, 0, 0].to_vec(alloc)?,
-        },
-        block: BlockImage {
-            initial: Part {
-                address: 0x40_2000,
-                bytes: [0x2a, 0, 0, 0].to_vec(alloc)?,
-            },
-            size: 8,
-            offset: 8,
-        },
-    })
-}
-
-/// The program whose code has these hexadecimal digits.
-fn program(alloc: Global, digits: &str) -> Result<Executable, Fail> {
-    let code = hex::decode(alloc, digits).ok().ok_or("digits")?;
-    Ok(executable(alloc, code)?)
-}
 
 fn call_at(place: u64) -> Call {
     Call {
@@ -110,5 +86,23 @@ fn called_twice(alloc: Global) -> Result<String, Fail> {
 fn a_block_keeps_its_bytes(rt: HostRuntime) -> Result<(), Fail> {
     let found = called_twice(rt.alloc())?;
     same(&rt, found.as_str(), "Returned(0) Returned(3)", KEEPING);
+    Ok(())
+}
+
+/// Where functions of these names are.
+fn entries(alloc: Global) -> Result<String, Fail> {
+    let program = program(alloc, KEEPING)?;
+    let function = entry_place(&program, b"f");
+    let variable = entry_place(&program, b"x");
+    let reserved = entry_place(&program, b"");
+    let unknown = entry_place(&program, b"g");
+    Ok(format!(in alloc; "{function:?} {variable:?} {reserved:?} {unknown:?}")?)
+}
+
+#[test]
+fn finds_functions(rt: HostRuntime) -> Result<(), Fail> {
+    let found = entries(rt.alloc())?;
+    // 4,194,304 is 0x400000.
+    same(&rt, found.as_str(), "Some(4194304) None None None", "names");
     Ok(())
 }

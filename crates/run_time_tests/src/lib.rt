@@ -12,4 +12,6 @@ mod calls;
 mod histories;
 mod limits;
 #[cfg(test)]
+mod programs;
+#[cfg(test)]
 mod transcripts;

@@ -65,11 +65,12 @@ module _ {W F B W' F' B' : Type 0} (same : Alike W F B W' F' B') (ops : Operatio
   }
 
   module _ {E : Type 0} (loaded : Loaded B) (loaded' : Loaded B') (thread : ℕ) where
-    -- what stands there to be read and to be run
-    pub fixed_alike : (access : Access) → ((place : ℕ) → FoundAlike same.byte (byte_in access loaded.fixed place) (byte_in access loaded'.fixed place))
-        → (seen : List E) (place : ℕ) → FoundAlike same.byte (byte_in access (fixed_of ops loaded thread seen) place) (byte_in access (fixed_of ops' loaded' thread seen) place)
-    fixed_alike access h seen place =
-        byte_in-front same.byte access (pointer_word ops thread ∷ []) loaded.fixed (pointer_word ops' thread ∷ []) loaded'.fixed place (pointer_word_alike thread, tt) (h place)
+    -- what stands at a place to be read and to be run
+    pub fixed_alike : (access : Access) (seen : List E) (place : ℕ)
+        → FoundAlike same.byte (byte_in access loaded.fixed place) (byte_in access loaded'.fixed place)
+        → FoundAlike same.byte (byte_in access (fixed_of ops loaded thread seen) place) (byte_in access (fixed_of ops' loaded' thread seen) place)
+    fixed_alike access seen place h =
+        byte_in-front same.byte access (pointer_word ops thread ∷ []) loaded.fixed (pointer_word ops' thread ∷ []) loaded'.fixed place (pointer_word_alike thread, tt) h
 
     -- a thread before its first line
     pub thread_start_alike : All2 (SameRange same.byte) (loaded.blocks thread) (loaded'.blocks thread) → SameRest same {E = E} (thread_start ops loaded thread) (thread_start ops' loaded' thread)

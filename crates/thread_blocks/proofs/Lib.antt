@@ -5,6 +5,8 @@ pub mod Calls
 pub mod Finish
 pub mod Begin
 pub mod Calling
+pub mod Finding
+pub mod Bounds
 pub mod Examples
 pub mod Alone
 pub mod Each

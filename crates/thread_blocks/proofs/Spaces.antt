@@ -161,19 +161,21 @@ module _ {B B' : Type 0} (R : B → B' → Type 0) where
 
   -- ** reaches
 
-  reach-byte : (shut : Bool) (o : Option B) (o' : Option B') → FoundAlike R o o' → Reaches R (unless_shut shut (ok_or o Refused)) (ok_or o' Refused)
+  -- of the linker's own nothing is asked
+  reach-byte : (shut : Bool) (o : Option B) (o' : Option B') → (shut ≡ false → FoundAlike R o o')
+      → Reaches R (unless_shut shut (ok_or o Refused)) (ok_or o' Refused)
   reach-byte true o o' h = tt
   reach-byte false None None h = tt
-  reach-byte false None (Some b') h = absurd h
-  reach-byte false (Some b) None h = absurd h
-  reach-byte false (Some b) (Some b') h = h
+  reach-byte false None (Some b') h = absurd (h refl)
+  reach-byte false (Some b) None h = absurd (h refl)
+  reach-byte false (Some b) (Some b') h = h refl
 
-  reach-write : (shut : Bool) (o : Option B) (o' : Option B') → FoundAlike R o o'
+  reach-write : (shut : Bool) (o : Option B) (o' : Option B') → (shut ≡ false → FoundAlike R o o')
       → Reaches (λ (a : Unit {0}) (b : Unit {0}). Unit {0}) (unless_shut shut (reached (λ byte. tt) (ok_or o Refused))) (reached (λ byte. tt) (ok_or o' Refused))
   reach-write true o o' h = tt
   reach-write false None None h = tt
-  reach-write false None (Some b') h = absurd h
-  reach-write false (Some b) None h = absurd h
+  reach-write false None (Some b') h = absurd (h refl)
+  reach-write false (Some b) None h = absurd (h refl)
   reach-write false (Some b) (Some b') h = tt
 
 -- ** a write changes no rights
@@ -238,15 +240,15 @@ module _ {E B : Type 0} (start : ℕ) (fixed : List E → List (Range B)) (shut 
 
 module _ {W F E B W' F' B' : Type 0} (same : Alike W F B W' F' B') (ops : Operations W F B) (ops' : Operations W' F' B') (start : ℕ)
     (fixed : List E → List (Range B)) (fixed' : List E → List (Range B')) (shut : List E → ℕ → Bool)
-    (reads : (seen : List E) (place : ℕ) → FoundAlike same.byte (byte_in Read (fixed seen) place) (byte_in Read (fixed' seen) place))
-    (writes : (seen : List E) (place : ℕ) → FoundAlike same.byte (byte_in Write (fixed seen) place) (byte_in Write (fixed' seen) place)) where
-  found-same : (access : Access) → ((seen : List E) (place : ℕ) → FoundAlike same.byte (byte_in access (fixed seen) place) (byte_in access (fixed' seen) place))
-      → (space : Space E B) (space' : Space E B') (place : ℕ) → SameSpace same.byte space space'
+    (reads : (seen : List E) (place : ℕ) → shut seen place ≡ false → FoundAlike same.byte (byte_in Read (fixed seen) place) (byte_in Read (fixed' seen) place))
+    (writes : (seen : List E) (place : ℕ) → shut seen place ≡ false → FoundAlike same.byte (byte_in Write (fixed seen) place) (byte_in Write (fixed' seen) place)) where
+  found-same : (access : Access) (space : Space E B) (space' : Space E B') (place : ℕ) → SameSpace same.byte space space'
+      → FoundAlike same.byte (byte_in access (fixed space.seen) place) (byte_in access (fixed' space.seen) place)
       → FoundAlike same.byte (byte_in access (ranges_of start fixed space) place) (byte_in access (ranges_of start fixed' space') place)
-  found-same access alike space space' place h =
+  found-same access space space' place h alike =
       byte_in-front same.byte access (stack_range start space.stack ∷ space.own) (fixed space.seen) (stack_range start space'.stack ∷ space'.own) (fixed' space'.seen) place
       (stack-same same.byte start space.stack space'.stack h.stack, h.own)
-      (subst (λ seen. FoundAlike same.byte (byte_in access (fixed space.seen) place) (byte_in access (fixed' seen) place)) (sym h.seen) (alike space.seen place))
+      (subst (λ seen. FoundAlike same.byte (byte_in access (fixed space.seen) place) (byte_in access (fixed' seen) place)) (sym h.seen) alike)
 
   put-same : (g g' : Bool) (space : Space E B) (space' : Space E B') (place : ℕ) (b : B) (b' : B') → g' ≡ g → SameSpace same.byte space space' → same.byte b b'
       → SameSpace same.byte (if g then record space { stack = slice_set space.stack (place - start) b } else record space { own = with_byte space.own place b })
@@ -255,12 +257,13 @@ module _ {W F E B W' F' B' : Type 0} (same : Alike W F B W' F' B') (ops : Operat
       rw e (record { seen = h.seen; stack = all2-set same.byte space.stack space'.stack (place - start) b b' h.stack k; own = h.own })
   put-same false g' space space' place b b' e h k = rw e (record { seen = h.seen; stack = h.stack; own = with_byte-same same.byte space.own space'.own place b b' h.own k })
 
-  -- the law: spaces that are related part by part are related under reads and writes, where what no thread writes is alike at each place
+  -- the law: spaces that are related part by part are related under reads and writes, where what no thread writes is alike at each place that is not the
+  -- linker's own
   pub spaces_kept : IsKept same (space_accesses ops start fixed shut) (space_accesses ops' start fixed' open_everywhere) (SameSpace {E = E} same.byte)
   unfolding space_accesses
   spaces_kept = record {
-    byte = λ space space' h place. reach-byte same.byte (shut space.seen place) _ _ (found-same Read reads space space' place h);
-    writes = λ space space' h place. reach-write same.byte (shut space.seen place) _ _ (found-same Write writes space space' place h);
+    byte = λ space space' h place. reach-byte same.byte (shut space.seen place) _ _ (λ other. found-same Read space space' place h (reads space.seen place other));
+    writes = λ space space' h place. reach-write same.byte (shut space.seen place) _ _ (λ other. found-same Write space space' place h (writes space.seen place other));
     put = λ space space' h place b b' k allowed. put-same (grants Write (stack_range start space.stack) place) (grants Write (stack_range start space'.stack) place) space space' place b b'
         (grants-same same.byte Write (stack_range start space.stack) (stack_range start space'.stack) place (stack-same same.byte start space.stack space'.stack h.stack)) h k;
     still = λ space place at b. put-still start fixed shut (grants Write (stack_range start space.stack) place) space place at b (put_byte start space place b) refl;

@@ -2,7 +2,7 @@ pub mod Turns
 pub mod TurnsAlike
 pub mod Spaces
 pub mod MachineTurns
-pub mod Parts
+pub mod Loading
 pub mod Calling
 pub mod Numbered
 pub mod Worlds

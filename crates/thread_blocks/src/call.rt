@@ -2,16 +2,16 @@
 
 ghost use Rattle.std.specs.Prelude.{◌≡◌, ◌≤◌, ◌<◌, ◌^◌, [], Some, IfOk, OnErr};
 ghost use Rattle.guest_machine.specs.Clean.{IsClean};
-ghost use Rattle.thread_blocks.specs.Calling.{IsCall};
+ghost use Rattle.thread_blocks.specs.Calling.{IsCall, IsCallOutcome, call_ranges};
+ghost use Rattle.thread_blocks.specs.Loading.{loaded_image};
 ghost use Rattle.thread_blocks.specs.MachineTurns.{answer_of_stop};
-ghost use Rattle.thread_blocks.specs.Parts.{IsCallOutcome, call_ranges};
 
 use crate::memory::{end_of_stack, rest_of, stack_of, thread_pointer};
-use crate::parts::Executable;
 use crate::reach::Reach;
 use guest_arithmetic::Plain;
 use guest_machine::laws::plain_is_clean;
 use guest_machine::{Machine, Stop};
+use image_file::Image;
 use std::alloc::{AllocError, Global};
 use std::marker::Model;
 use transcript_text::{LineFault, Outcome};
@@ -62,18 +62,14 @@ impl Model for ThreadMemory {
 
 impl ThreadMemory {
     /// The memory of a thread, from 1 to 64, before its first line.
-    pub fn new(
-        alloc: Global,
-        executable: &Executable,
-        thread: u32,
-    ) -> Result<ThreadMemory, AllocError>
+    pub fn new(alloc: Global, image: &Image, thread: u32) -> Result<ThreadMemory, AllocError>
         requires { thread ≤ 64 }
         ensures { IfOk result (λ memory. memory ≡ record {
           thread = thread;
-          memory = record { ranges = call_ranges executable.now thread; fields = [] };
+          memory = record { ranges = call_ranges (loaded_image image.now) thread; fields = [] };
         }) }
     {
-        let rest = rest_of(alloc, executable, thread)?;
+        let rest = rest_of(alloc, image, thread)?;
         let stack = stack_of(alloc, thread)?;
         Ok(ThreadMemory {
             thread,
@@ -103,15 +99,15 @@ impl ThreadMemory {
 /// What comes of the one line of a thread that makes this call, of at most four times `fuel` steps.
 pub fn run_call(
     alloc: Global,
-    executable: &Executable,
+    image: &Image,
     thread: u32,
     call: Call,
     fuel: u64,
 ) -> Result<Outcome, AllocError>
     requires thread { thread ≤ 64 }
     requires fuel { fuel < 2 ^ 62 }
-    ensures { IfOk result (λ outcome. IsCallOutcome executable.now thread fuel call outcome) }
+    ensures { IfOk result (λ outcome. IsCallOutcome image.now thread fuel call outcome) }
 {
-    let mut memory = ThreadMemory::new(alloc, executable, thread)?;
+    let mut memory = ThreadMemory::new(alloc, image, thread)?;
     memory.call(alloc, call, fuel)
 }

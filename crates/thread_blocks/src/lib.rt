@@ -29,31 +29,47 @@
 //! list of their ranges (`space_image`, `space_run`), and memories that are related part by part stay so
 //! (`spaces_kept`).
 //!
-//! **Where the parts lie.** Thread t has its thread pointer at t * 2^40 + 2^38, and its stack is the
+//! **What an image's parts become** (`specs/Loading.antt`). `image_file` reads an image, whoever linked it.
+//! Each part of it lies at its address in every thread's memory, with the rights of its class: code can be
+//! fetched and not be read, constants can be read, data can be read and written, but for the part that the
+//! loader alone writes (GNU_RELRO), which can be read. The TLS segment is no part: it says how each thread's
+//! block begins, with the initial image, which lies in the first part that holds it whole, and zeros behind
+//! it. A function is found by the first symbol of its name (`entry_place`).
+//!
+//! **Where the rest lies.** Thread t has its thread pointer at t * 2^40 + 2^38, and its stack is the
 //! 65,536 bytes before t * 2^40 + 2^39. By variant II of Drepper's "ELF Handling For Thread-Local
-//! Storage" (section 3) the block of an executable lies below the thread pointer. Say its TLS segment has
-//! 8 bytes, of which the file gives four:
+//! Storage" (section 3) the block of a program lies below the thread pointer: it begins there less the
+//! block's size, rounded up to its alignment. Say its TLS segment has 8 bytes, aligned to 4, of which the
+//! file gives four:
 //!
-//!     thread 2:   0x23ffffffff8   2a 00 00 00 00 00 00 00    the block: initial image, zeros
-//!                 0x24000000000   00 00 00 00 40 02 00 00    the thread pointer's own word
+//! ```text
+//! the image:  x  0x400000        64 8b 04 25 f8 ff ff ff     mov %fs:-8, %eax
+//!                                c3                          ret
+//!             r  0x401000        2a 00 00 00                 the initial image
 //!
-//!     64 8b 04 25 f8 ff ff ff     mov %fs:-8, %eax
-//!     c3                          ret
+//! thread 2:   rw 0x23ffffffff8   2a 00 00 00 00 00 00 00     the block: initial image, zeros
+//!             r  0x24000000000   00 00 00 00 40 02 00 00     the thread pointer's own word
+//!             x  0x400000        64 8b 04 25 f8 ff ff ff c3  the parts of the image, in their order
+//!             r  0x401000        2a 00 00 00
+//! ```
 //!
 //! `ThreadMemory` is such a memory, from call to call: its blocks keep their bytes, and each call has a
 //! fresh stack. Its contract is that a call is a turn of the thread (`machine_turns`,
-//! `specs/MachineTurns.antt`) whose line calls the function. `run_call` runs the one call of a thread that
-//! has no other; for the function above it answers `Returned(0x2a)`.
+//! `specs/MachineTurns.antt`) whose line calls the function, over anything loaded of which no thread writes
+//! a part. So images with data that programs write are loaded, but nothing is said of their calls yet.
+//! `run_call` runs the one call of a thread that has no other; for the function above it answers
+//! `Returned(0x2a)`.
 //!
 //! What a call begins with is one definition for any kind of values, so that a meaning over marked
 //! values begins as the machine does (`begin_call_alike`, `proofs/Begin.antt`).
 #![tactic(auto)]
 
 mod call;
+mod entry;
 pub mod laws;
+mod loading;
 mod memory;
-mod parts;
 mod reach;
 
 pub use call::{Call, ThreadMemory, run_call};
-pub use parts::{BlockImage, Executable};
+pub use entry::entry_place;

@@ -3,31 +3,31 @@
 ghost use Rattle.std.specs.Prelude.{◌≡◌, ◌≤◌, [], IfOk};
 ghost use Rattle.guest_arithmetic.specs.Plain.{plain_operations};
 ghost use Rattle.thread_blocks.specs.MachineTurns.{pointer_of, stack_start, stack_end, zeros, word_bytes, fresh_stack, pointer_word};
-ghost use Rattle.thread_blocks.specs.Parts.{block_bytes, block_range, call_ranges, code_range, constant_range};
-ghost use Rattle.thread_blocks.specs.Calling.{behind_stack};
+ghost use Rattle.thread_blocks.specs.Calling.{behind_stack, call_ranges};
+ghost use Rattle.thread_blocks.specs.Loading.{loaded_image};
 ghost use Rattle.thread_blocks.specs.Spaces.{stack_range};
 
-use crate::parts::{BlockImage, Executable};
+use crate::loading::{add_block, add_parts};
 use guest_machine::RETURN;
 use guest_memory::{GuestMemory, GuestRange, Rights};
-use link_faults::Part;
+use image_file::Image;
 use std::alloc::{AllocError, Global};
 
 const STACK_SIZE: u64 = 65_536;
 
-const CODE: Rights = Rights {
+pub(crate) const CODE: Rights = Rights {
     readable: false,
     writable: false,
     runnable: true,
 };
 
-const CONSTANT: Rights = Rights {
+pub(crate) const CONSTANT: Rights = Rights {
     readable: true,
     writable: false,
     runnable: false,
 };
 
-const VARIABLE: Rights = Rights {
+pub(crate) const VARIABLE: Rights = Rights {
     readable: true,
     writable: true,
     runnable: false,
@@ -51,7 +51,7 @@ pub(crate) fn end_of_stack(thread: u32) -> u64
 
 /// So many zeros.
 #[tactic(auto, unfolding(crate::specs::MachineTurns::zeros))]
-fn zeros(alloc: Global, count: usize) -> Result<Vec<u8>, AllocError>
+pub(crate) fn zeros(alloc: Global, count: usize) -> Result<Vec<u8>, AllocError>
     ensures { IfOk result (λ bytes. bytes.items ≡ zeros 0 count) }
 {
     let mut bytes = Vec::new(alloc);
@@ -89,47 +89,21 @@ fn pointer_word(alloc: Global, thread: u32) -> Result<GuestRange<u8>, AllocError
     Ok(GuestRange::new(pointer, bytes, CONSTANT))
 }
 
-/// The thread's block: the initial image and then zeros.
-fn block_of(alloc: Global, block: &BlockImage, thread: u32) -> Result<GuestRange<u8>, AllocError>
-    requires { thread ≤ 64 }
-    ensures { IfOk result (λ range. range ≡ block_range block.now thread) }
-{
-    let mut bytes = Vec::from_slice(alloc, block.initial.bytes.as_slice())?;
-    let rest = block.size.saturating_sub(bytes.len() as u64);
-    bytes.extend_from_slice(zeros(alloc, rest as usize)?.as_slice())?;
-    let start = thread_pointer(thread).saturating_sub(block.offset);
-    Ok(GuestRange::new(start, bytes, VARIABLE))
-}
-
-fn code_of(alloc: Global, part: &Part) -> Result<GuestRange<u8>, AllocError>
-    ensures { IfOk result (λ range. range ≡ code_range part.now) }
-{
-    let bytes = Vec::from_slice(alloc, part.bytes.as_slice())?;
-    Ok(GuestRange::new(part.address, bytes, CODE))
-}
-
-fn constants_of(alloc: Global, part: &Part) -> Result<GuestRange<u8>, AllocError>
-    ensures { IfOk result (λ range. range ≡ constant_range part.now) }
-{
-    let bytes = Vec::from_slice(alloc, part.bytes.as_slice())?;
-    Ok(GuestRange::new(part.address, bytes, CONSTANT))
-}
-
 /// All that a thread may reach before its first line, but for its stack.
+#[tactic(auto, unfolding(crate::specs::Loading::loaded_image))]
 pub(crate) fn rest_of(
     alloc: Global,
-    executable: &Executable,
+    image: &Image,
     thread: u32,
 ) -> Result<GuestMemory<u8>, AllocError>
     requires { thread ≤ 64 }
     ensures { IfOk result
-        (λ memory. memory ≡ record { ranges = behind_stack (call_ranges executable.now thread); fields = [] }) }
+        (λ memory. memory
+        ≡ record { ranges = behind_stack (call_ranges (loaded_image image.now) thread); fields = [] }) }
 {
     let mut memory = GuestMemory::new(alloc);
-    memory.add_range(block_of(alloc, &executable.block, thread)?)?;
+    add_block(alloc, image, thread, &mut memory)?;
     memory.add_range(pointer_word(alloc, thread)?)?;
-    memory.add_range(code_of(alloc, &executable.code)?)?;
-    memory.add_range(constants_of(alloc, &executable.constants)?)?;
-    memory.add_range(constants_of(alloc, &executable.block.initial)?)?;
+    add_parts(alloc, image, &mut memory)?;
     Ok(memory)
 }

@@ -1,21 +1,23 @@
 -- Names asked for, one after another.
 use Rattle.std.proofs.Common.{◌≡◌, ◌∙◌, ℕ, suc, List, [], ◌∷◌, length, take, Option, Some, None, IfSome, Result, Ok, Err, ◌⊎◌, inl, inr, ◌≤◌, refl, sym, ap, subst, append_assoc, arith}
 use Rattle.command_line.specs.declared.tasks.Task.{Task}
-use Rattle.tlsld.specs.declared.reply.Answer.{Answer}
-use Rattle.tlsld.specs.declared.reply.Answer.TheVariants.{Replies, StoreFails, NoMemory}
-use Rattle.tlsld.specs.Replies.{Asked, AsksOfAnswer, IsDelivered}
+use Rattle.command_replies.specs.declared.replies.Answer.{Answer}
+use Rattle.command_replies.specs.declared.replies.Answer.TheVariants.{Replies, StoreFails, NoMemory}
+use Rattle.command_replies.specs.Replies.{IsDelivered}
+use Rattle.command_replies.specs.Statuses.{IsLate}
+use Rattle.tlsld.specs.Replies.{Asked, AsksOfAnswer}
 use Rattle.tlsld.specs.Tasks.{task_names}
-use Rattle.tlsld.specs.Statuses.{IsLate}
 use Rattle.std.proofs.Math.Seq.{take-length}
+use Rattle.command_replies.specs.FetchFaults.{fault_of_fetch}
+use Rattle.command_replies.specs.Steps.{Asks, AsksFront, with_names}
+use Rattle.command_replies.specs.declared.fault.CommandFault.{CommandFault}
+use Rattle.command_replies.specs.declared.fault.CommandFault.TheVariants as fault
 use Rattle.job_text.specs.Jobs.{job_of}
 use Rattle.ports.specs.declared.faults.FetchFault.{FetchFault}
 use Rattle.ports.specs.declared.faults.FetchFault.TheVariants as fetch
 use Rattle.ports.specs.Files.{Files, file_at, with_name}
-use Rattle.tlsld.specs.FetchFaults.{fault_of_fetch}
 use Rattle.tlsld.specs.Links.{image_job_names, image_names}
-use Rattle.tlsld.specs.Steps.{Asks, AsksFront, with_names, job_names, run_names}
-use Rattle.tlsld.specs.declared.fault.CommandFault.{CommandFault}
-use Rattle.tlsld.specs.declared.fault.CommandFault.TheVariants as fault
+use Rattle.tlsld.specs.RunJobs.{job_names, run_names}
 
 abbrev Names : Type 0
 Names = List (List ℕ)

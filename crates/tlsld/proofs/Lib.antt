@@ -1,10 +1,11 @@
 mod Asked
-mod Counted
+mod Kept
 mod Lines
 mod Making
 mod Membership
 mod Mentioned
 mod Places
+mod Programs
 mod Running
 mod Shown
 mod SiteLines

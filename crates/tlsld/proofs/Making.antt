@@ -5,6 +5,9 @@ use Rattle.std.specs.Option.{option_map_or}
 use Rattle.std.proofs.lemmas.List.{length-map}
 use Rattle.std.proofs.lemmas.List.Elements.{All-weaker}
 use Rattle.std.proofs.lemmas.Option.{slice_get_within}
+use Rattle.command_replies.specs.declared.fault.CommandFault.{CommandFault}
+use Rattle.command_replies.specs.declared.fault.CommandFault.TheVariants as fault
+use Rattle.command_replies.specs.Steps.{Comes}
 use Rattle.dynamic_symbols.specs.Laws.{SitesHaveSymbols}
 use Rattle.elf_object.specs.Faults.{IsObject}
 use Rattle.image_writer.specs.Loadable.{HoldsTls}
@@ -21,13 +24,10 @@ use Rattle.link_needs.specs.Given.{IsGiven}
 use Rattle.link_core.specs.Images.{LinkedImage, choices_from, image_of, linked_of}
 use Rattle.link_needs.specs.Linking.{Linking, choice}
 use Rattle.sequence_forms.specs.declared.places.Site.{Site}
-use Rattle.tlsld.specs.declared.fault.CommandFault.{CommandFault}
-use Rattle.tlsld.specs.declared.fault.CommandFault.TheVariants as fault
 use Rattle.tlsld.specs.declared.wish.Wish.{Wish}
 use Rattle.tlsld.specs.declared.wish.Wish.TheVariants.{File, Sites}
 use Rattle.tlsld.specs.Links.{Output, ImagesSay}
 use Rattle.tlsld.specs.LinkSteps.{IsImageRefusalOf, NamesImage, made_of}
-use Rattle.tlsld.specs.Steps.{Comes}
 use Rattle.image_writer.specs.Written.{written}
 use Rattle.tls_symbols.specs.Bindings.{exported_names}
 use Rattle.tlsld.specs.Wishes.{CanMake, image_lines, objects_of, relax_of, wished_bytes}
@@ -61,7 +61,7 @@ few_exports images few =
     let some = fewer (λ (g : Given). is_startup g.kind) images in
     omega (arith, all, some)
 
-is_given : (images : List Given) (relax : Bool) (g : Given) → length images ≤ 64 → IsGivenImage g → IsGiven (link_in images relax g)
+pub is_given : (images : List Given) (relax : Bool) (g : Given) → length images ≤ 64 → IsGivenImage g → IsGiven (link_in images relax g)
 unfolding link_in
 is_given images relax g few given = record {
   few_startup = few_exports images few;

@@ -1,15 +1,16 @@
 -- What an answer shows.
 use Rattle.std.proofs.Common.{◌≡◌, ◌≤◌, ℕ, List, Option, Some, None, IfSome, ◌⊎◌, inl, inr, refl, sym, subst, arith}
 use Rattle.command_line.specs.declared.tasks.Task.{Task}
+use Rattle.command_replies.specs.Delivery.{Delivered}
+use Rattle.command_replies.specs.Replies.{AnswerCounts, IsAnswer, IsOfFiles}
+use Rattle.command_replies.specs.Statuses.{code_of}
+use Rattle.command_replies.specs.declared.replies.Answer.{Answer}
+use Rattle.command_replies.specs.declared.replies.Answer.TheVariants.{Replies, StoreFails, NoMemory}
+use Rattle.command_replies.specs.declared.statuses.Status.{Status}
+use Rattle.command_replies.specs.declared.statuses.Status.TheVariants as status
 use Rattle.ports.specs.Files.{Files}
 use Rattle.ports.specs.Sinks.{SinkView}
-use Rattle.tlsld.specs.Delivery.{Delivered}
-use Rattle.tlsld.specs.Replies.{AnswerCounts, AnswerSays, IsAnswer, IsOfFiles, MaySay, Shows}
-use Rattle.tlsld.specs.Statuses.{code_of}
-use Rattle.tlsld.specs.declared.reply.Answer.{Answer}
-use Rattle.tlsld.specs.declared.reply.Answer.TheVariants.{Replies, StoreFails, NoMemory}
-use Rattle.tlsld.specs.declared.status.Status.{Status}
-use Rattle.tlsld.specs.declared.status.Status.TheVariants as status
+use Rattle.tlsld.specs.Replies.{AnswerSays, MaySay, Shows}
 
 -- what may say more says as much
 delivered_weaker : (P Q : ℕ → List ℕ → Type 0) (old new : SinkView) (code : ℕ) → ((own : ℕ) (text : List ℕ) → P own text → Q own text) → Delivered P old new code → Delivered Q old new code

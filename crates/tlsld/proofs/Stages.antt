@@ -2,6 +2,13 @@
 use Rattle.std.proofs.Common.{◌≡◌, ◌∙◌, ◌+◌, ◌-◌, ◌≤◌, ℕ, Bool, List, length, Vec, Global, Option, Some, None, IfSome, IfOk, Result, Ok, Err, inl, inr, refl, sym, ap, subst, arith, lit≤}
 use Rattle.std.specs.Prelude.{IfErr}
 use Rattle.std.specs.List.{Contains}
+use Rattle.command_replies.specs.declared.fault.CommandFault.{CommandFault}
+use Rattle.command_replies.specs.declared.fault.CommandFault.TheVariants as fault
+use Rattle.command_replies.specs.declared.fault.InputRefusal.{InputRefusal}
+use Rattle.command_replies.specs.declared.fault.InputRefusal.TheVariants.{Job, JobNotYet, Object, Link, Image}
+use Rattle.command_replies.specs.Faults.{IsFetchFault}
+use Rattle.command_replies.specs.Says.{HasFile}
+use Rattle.command_replies.specs.Steps.{Comes, refusal_code, refusal_text}
 use Rattle.image_writer.specs.Written.{written}
 use Rattle.job_link.specs.Linked.{link_in}
 use Rattle.job_link.specs.Mentions.{AreFilesOf, Fetched, bytes_at, bytes_in, object_names}
@@ -9,18 +16,11 @@ use Rattle.job_text.specs.Jobs.{JobParts}
 use Rattle.link_core.specs.Images.{image_of}
 use Rattle.link_needs.specs.Linking.{Linking}
 use Rattle.ports.specs.Files.{Files, file_at, with_file}
-use Rattle.tlsld.specs.declared.fault.CommandFault.{CommandFault}
-use Rattle.tlsld.specs.declared.fault.CommandFault.TheVariants as fault
-use Rattle.tlsld.specs.declared.fault.InputRefusal.{InputRefusal}
-use Rattle.tlsld.specs.declared.fault.InputRefusal.TheVariants.{Job, JobNotYet, Object, Link, Image}
 use Rattle.tlsld.specs.declared.wish.Wish.{Wish}
 use Rattle.tlsld.specs.declared.wish.Wish.TheVariants.{File, Sites}
-use Rattle.tlsld.specs.Faults.{IsFetchFault}
 use Rattle.job_text.specs.Images.{image_number}
 use Rattle.tlsld.specs.Links.{Output, BytesSay, ImageSays, ImagesSay, ObjectsSay, linked_text}
 use Rattle.tlsld.specs.LinkSteps.{IsFinished, LeavesBy, MayPut, made_of, output_of}
-use Rattle.tlsld.specs.Says.{HasFile}
-use Rattle.tlsld.specs.Steps.{Comes, refusal_code, refusal_text}
 use Rattle.tlsld.specs.Wishes.{relax_of}
 use Rattle.tlsld.proofs.Mentioned.{given_at, faulty_at}
 

@@ -5,11 +5,11 @@ use Rattle.command_line.specs.Words.{asked, takes_words}
 use Rattle.ports.specs.Files.{Files, untold_files}
 use Rattle.ports.specs.Sinks.{SinkView}
 use Rattle.command_line.specs.declared.tasks.Task.TheVariants.{Run, Link, Sites, Show}
+use Rattle.command_replies.specs.Statuses.{IsLate}
+use Rattle.command_replies.specs.Steps.{with_names}
 use Rattle.tlsld.specs.Links.{LinkSays, Leaves}
 use Rattle.tlsld.specs.Tasks.{TaskLeaves}
 use Rattle.tlsld.specs.Replies.{Shows, ShowsWords, Asked, AskedWords, WordsLeave}
-use Rattle.tlsld.specs.Statuses.{IsLate}
-use Rattle.tlsld.specs.Steps.{with_names}
 use Rattle.tlsld.proofs.Asked.{answered}
 
 abbrev Names : Type 0

@@ -1,5 +1,9 @@
 -- The steps of `link`, `sites` and `run`: what each makes, and what its refusals say.
-use Rattle.std.specs.Prelude.{◌≡◌, ◌<◌, ◌⊎◌, ℕ, List, Option, Some, None, length}
+use Rattle.std.specs.Prelude.{◌≡◌, ◌<◌, ◌⊎◌, ℕ, List, Option, length}
+use Rattle.command_replies.specs.declared.fault.CommandFault.{CommandFault}
+use Rattle.command_replies.specs.declared.fault.CommandFault.TheVariants as fault
+use Rattle.command_replies.specs.Says.{Is, fault_text}
+use Rattle.command_replies.specs.Steps.{IsRefusalWith}
 use Rattle.job_link.specs.declared.linked_images.ImageRefusal.{ImageRefusal}
 use Rattle.job_link.specs.declared.linked_images.ImageRefusal.TheVariants as unlinked
 use Rattle.job_link.specs.declared.reading.ReadRefusal.{ReadRefusal}
@@ -8,15 +12,9 @@ use Rattle.job_text.specs.Jobs.{JobParts}
 use Rattle.image_writer.specs.Written.{written}
 use Rattle.link_core.specs.Images.{image_of}
 use Rattle.ports.specs.Files.{Files, with_file}
-use Rattle.tlsld.specs.declared.fault.CommandFault.{CommandFault}
-use Rattle.tlsld.specs.declared.fault.CommandFault.TheVariants as fault
-use Rattle.tlsld.specs.declared.fault.InputRefusal.TheVariants.{Job}
-use Rattle.job_text.specs.declared.fault.JobFaultKind.TheVariants.{Name}
 use Rattle.tlsld.specs.declared.wish.Wish.{Wish}
 use Rattle.tlsld.specs.declared.wish.Wish.TheVariants.{File, Sites}
 use Rattle.tlsld.specs.Links.{Output, LinkOutput, SitesOutput, LinkedSays, Leaves, link_fault_text, linked_text}
-use Rattle.tlsld.specs.Says.{Is, fault_text}
-use Rattle.tlsld.specs.Steps.{refusal_code, refusal_text}
 use Rattle.tlsld.specs.Wishes.{relax_of}
 
 -- what is said of an image
@@ -59,12 +57,6 @@ MayPut Sites made before after = after ≡ before
 
 -- ---- refusals, as the command has them
 
--- a refusal of this status and this text
-abbrev pub IsRefusalWith : ℕ → List ℕ → CommandFault → Type 0
-IsRefusalWith code text fault.Store = ⊥
-IsRefusalWith code text fault.OutOfMemory = Unit {0}
-IsRefusalWith code text (fault.Refused refusal) = (refusal_code refusal ≡ code) × (refusal_text refusal ≡ text)
-
 abbrev pub IsReadRefusalOf : ReadRefusal → CommandFault → Type 0
 IsReadRefusalOf unread.OutOfMemory f = f ≡ fault.OutOfMemory
 IsReadRefusalOf (unread.At name section entry kind) f = IsRefusalWith 6 (fault_text name.now section entry kind) f
@@ -78,8 +70,3 @@ IsImageRefusalOf job (unlinked.At number kind object section entry) f =
 abbrev pub NamesImage : JobParts → ImageRefusal → Type 0
 NamesImage job unlinked.OutOfMemory = Unit {0}
 NamesImage job (unlinked.At number kind object section entry) = number < length job.images
-
--- the job has no image of the name
-abbrev pub IsNoImage : Option ℕ → CommandFault → Type 0
-IsNoImage (Some number) f = ⊥
-IsNoImage None f = f ≡ fault.Refused (Job 0 Name)

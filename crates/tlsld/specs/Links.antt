@@ -1,10 +1,11 @@
 -- What `link` and `sites` say over the files of a store: of images that all link, and of jobs, objects and images that
 -- are refused.
 use Rattle.std.specs.Prelude.{◌≡◌, ◌-◌, ◌⊎◌, ℕ, Bool, true, not, List, [], ◌∷◌, ◌++◌, codes, length, slice_get}
-use Rattle.std.specs.Prelude.{unwrap_or, Option, Some, None, IsSome, Result, Ok, Err}
+use Rattle.std.specs.Prelude.{Option, Some, None, IsSome, Result, Ok, Err}
 use Rattle.std.specs.Fmt.{decimal}
 use Rattle.std.specs.List.{All}
 use Rattle.std.specs.Option.{option_map_or}
+use Rattle.command_replies.specs.Says.{HasFile, Is, JobFaultSays, fault_text, job_fault_text, link_line, shown_object}
 use Rattle.image_writer.specs.Written.{written}
 use Rattle.job_link.specs.Given.{Given, AreGiven, IsFirstFaulty}
 use Rattle.job_link.specs.Linked.{AllLink, IsFirstUnlinked, link_in}
@@ -16,23 +17,11 @@ use Rattle.job_text.specs.Jobs.{JobParts, job_of}
 use Rattle.link_core.specs.Images.{choices_from, image_of}
 use Rattle.link_needs.specs.Linking.{Linking}
 use Rattle.link_faults.specs.declared.fault.LinkFaultKind.{LinkFaultKind}
-use Rattle.link_faults.specs.FaultNames.{kind_name}
 use Rattle.object_rules.specs.declared.fault.FaultKind.{FaultKind}
 use Rattle.ports.specs.Files.{Files, file_at, with_file}
-use Rattle.tlsld.specs.Says.{HasFile, Is, JobFaultSays, fault_text, job_fault_text}
 use Rattle.tlsld.specs.Wishes.{image_lines, objects_of}
 
 -- ---- the texts
-
--- the object of a fault of linking: `-` where it stands at none
-abbrev pub shown_object : List (List ℕ) → Option ℕ → List ℕ
-shown_object names None = codes "-"
-shown_object names (Some o) = unwrap_or (slice_get names o) (codes "-")
-
-abbrev pub link_line : List ℕ → LinkFaultKind → List ℕ → ℕ → ℕ → List ℕ
-link_line image kind object section entry =
-    codes "link " ++ image ++ codes " " ++ kind_name kind ++ codes " " ++ object ++ codes " section "
-    ++ decimal section ++ codes " entry " ++ decimal entry ++ codes "\n"
 
 -- an image of the job that does not link, by its number from 0
 abbrev pub link_fault_text : JobParts → ℕ → LinkFaultKind → Option ℕ → ℕ → ℕ → List ℕ

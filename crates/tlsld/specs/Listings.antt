@@ -1,15 +1,10 @@
 -- What `show FILE` says of the bytes of its file: the image that they spell, or where they are none.
-use Rattle.std.specs.Prelude.{◌≡◌, ◌⊎◌, ◌++◌, ℕ, List, codes}
-use Rattle.std.specs.Fmt.{decimal}
+use Rattle.std.specs.Prelude.{◌≡◌, ◌⊎◌, ℕ, List}
+use Rattle.command_replies.specs.Says.{image_fault_text}
 use Rattle.image_rules.specs.declared.fault.FaultKind.{FaultKind}
-use Rattle.image_rules.specs.FaultNames.{kind_name}
 use Rattle.image_faults.specs.Faults.{IsImage, IsFirstFault}
 use Rattle.image_file.specs.Spelled.{spelled}
 use Rattle.image_text.specs.Shown.{shown}
-
--- an image that is refused, by an offset in its file
-abbrev pub image_fault_text : ℕ → FaultKind → List ℕ
-image_fault_text offset kind = codes "image " ++ decimal offset ++ codes " " ++ kind_name kind ++ codes "\n"
 
 -- where the bytes stand for an image: 0, and what it says
 pub record IsListed (b : List ℕ) (status : ℕ) (text : List ℕ) : Type 0 where

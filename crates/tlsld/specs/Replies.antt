@@ -1,39 +1,14 @@
--- What a command answers, what the top calls show of it, and what that has to do with the store.
+-- What the answer of a command has to do with the store's files, and what the top calls show of it.
 use Rattle.std.specs.Prelude.{◌≡◌, ◌≤◌, ℕ, ◌⊎◌, List, Option, Some, None}
 use Rattle.command_line.specs.declared.tasks.Task.{Task}
+use Rattle.command_replies.specs.Steps.{AsksFront, with_names}
+use Rattle.command_replies.specs.Statuses.{code_of}
+use Rattle.command_replies.specs.Delivery.{Delivered, store_line, usage_line}
+use Rattle.command_replies.specs.declared.replies.Answer.{Answer}
+use Rattle.command_replies.specs.declared.replies.Answer.TheVariants.{Replies, StoreFails, NoMemory}
 use Rattle.ports.specs.Files.{Files}
 use Rattle.ports.specs.Sinks.{SinkView}
 use Rattle.tlsld.specs.Tasks.{TaskLeaves, TaskSays, task_names}
-use Rattle.tlsld.specs.Steps.{AsksFront, with_names}
-use Rattle.tlsld.specs.Statuses.{code_of, IsLate}
-use Rattle.tlsld.specs.Delivery.{Delivered, store_line, usage_line}
-use Rattle.ports.specs.Counts.{Counted}
-use Rattle.tlsld.specs.declared.status.Status.{Status}
-use Rattle.tlsld.specs.declared.status.Status.TheVariants as status
-use Rattle.tlsld.specs.declared.reply.Answer.{Answer}
-use Rattle.tlsld.specs.declared.reply.Answer.TheVariants.{Replies, StoreFails, NoMemory}
-
--- a status that a command gives over files that it got: not that of the words, nor that of a store that failed
-abbrev pub IsOfFiles : Status → Type 0
-IsOfFiles status.Done = Unit {0}
-IsOfFiles status.Usage = ⊥
-IsOfFiles status.Store = ⊥
-IsOfFiles status.Job = Unit {0}
-IsOfFiles status.Object = Unit {0}
-IsOfFiles status.Link = Unit {0}
-IsOfFiles status.Image = Unit {0}
-
--- the store's count of faults rose where the answer is that the store failed, and only there
-abbrev pub AnswerCounts : ℕ → ℕ → Answer → Type 0
-AnswerCounts before now (Replies reply) = (now ≡ before) × IsOfFiles reply.status
-AnswerCounts before now StoreFails = Counted before now
-AnswerCounts before now NoMemory = now ≡ before
-
--- the number that the program ends with is that of the answer, or a late one
-abbrev pub IsDelivered : Answer → ℕ → Type 0
-IsDelivered (Replies reply) code = (code ≡ code_of reply.status) ⊎ IsLate code
-IsDelivered StoreFails code = (code ≡ 3) ⊎ IsLate code
-IsDelivered NoMemory code = IsLate code
 
 -- the answer is what the command says over these files, with those after it, but that the store may fail, and memory
 -- may be wanting
@@ -47,12 +22,6 @@ abbrev pub AsksOfAnswer : Files → Task → Option (List (List ℕ)) → Option
 AsksOfAnswer fs asked old new (Replies reply) = new ≡ with_names (task_names fs asked) old
 AsksOfAnswer fs asked old new StoreFails = AsksFront (task_names fs asked) old new
 AsksOfAnswer fs asked old new NoMemory = AsksFront (task_names fs asked) old new
-
--- the status and the text of an answer
-abbrev pub IsAnswer : Answer → ℕ → List ℕ → Type 0
-IsAnswer (Replies reply) own text = (own ≡ code_of reply.status) × (text ≡ reply.text.items)
-IsAnswer StoreFails own text = (own ≡ 3) × (text ≡ store_line)
-IsAnswer NoMemory own text = ⊥
 
 -- ---- the whole command
 

@@ -2,12 +2,11 @@
 use Rattle.std.specs.Prelude.{◌≡◌, ℕ, List, [], ◌∷◌, Option}
 use Rattle.command_line.specs.declared.tasks.Task.{Task}
 use Rattle.command_line.specs.declared.tasks.Task.TheVariants.{Run, Link, Sites, Show}
+use Rattle.command_replies.specs.Says.{HasFile}
 use Rattle.ports.specs.Files.{Files, file_at}
-use Rattle.tlsld.specs.Says.{HasFile}
-use Rattle.tlsld.specs.RunJobs.{RunSays}
+use Rattle.tlsld.specs.RunJobs.{RunSays, run_names}
 use Rattle.tlsld.specs.Links.{LinkSays, SitesSays, Leaves, image_names}
 use Rattle.tlsld.specs.Listings.{ListingSays}
-use Rattle.tlsld.specs.Steps.{run_names}
 
 -- `show FILE`
 abbrev pub ShowSays : Files → List ℕ → ℕ → List ℕ → Type 0

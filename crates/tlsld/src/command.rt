@@ -1,20 +1,17 @@
 //! The commands: for each one the steps from its words to its output, in the order in which their faults come.
 ghost use Rattle.std.specs.Prelude.{◌≡◌, [], ◌∷◌, IfOk, IfSome};
+ghost use Rattle.command_replies.specs.Faults.{StoreCounts, NoStoreFault, KeepsFiles};
+ghost use Rattle.command_replies.specs.Replies.{AnswerCounts, AnswerKeeps};
+ghost use Rattle.command_replies.specs.Steps.{Asks, Comes};
 ghost use Rattle.image_text.specs.Shown.{shown};
-ghost use Rattle.tlsld.specs.Faults.{StoreCounts, NoStoreFault};
-ghost use Rattle.tlsld.specs.Replies.{AnswerCounts, AnswerSays, AsksOfAnswer};
+ghost use Rattle.tlsld.specs.Replies.{AnswerSays, AsksOfAnswer};
 ghost use Rattle.tlsld.specs.Listings.{ListingSays};
 ghost use Rattle.tlsld.specs.Tasks.{ShowSays, TaskLeaves, TaskSays, task_names};
-ghost use Rattle.tlsld.specs.Steps.{Asks, Comes};
 
-use crate::fault::{CommandFault, InputRefusal};
-use crate::fetched::whole_file;
 use crate::links::{link, sites};
-use crate::refusal::reply_of;
-use crate::reply::{Answer, Reply};
 use crate::runs::run;
-use crate::status::Status;
 use command_line::Task;
+use command_replies::{Answer, CommandFault, InputRefusal, Reply, Status, reply_of, whole_file};
 use image_file::{Image, ImageFault, read_owned};
 use image_text::push_shown;
 use ports::Store;
@@ -24,6 +21,7 @@ use std::alloc::{AllocError, Global};
 #[tactic(auto, using(crate::proofs::Asked::asks_all))]
 pub fn answer<S: Store>(alloc: Global, task: &Task, store: &mut S) -> Answer
     ensures files { TaskLeaves (S.files store.old) (S.files store.new) task.now }
+    ensures kept { AnswerKeeps (S.files store.old) (S.files store.new) result }
     ensures cause { AnswerCounts (S.faults store.old) (S.faults store.new) result }
     ensures says { IfSome (S.files store.old) (λ fs. AnswerSays fs (S.files store.new) task.now result) }
     ensures asks { IfSome (S.files store.old) (λ fs. AsksOfAnswer fs task.now
@@ -44,8 +42,10 @@ pub fn answer<S: Store>(alloc: Global, task: &Task, store: &mut S) -> Answer
 }
 
 /// What a command puts where nothing is wrong.
+#[tactic(auto, using(crate::proofs::Kept::keeps_same))]
 fn output<S: Store>(alloc: Global, task: &Task, store: &mut S) -> Result<Vec<u8>, CommandFault>
     ensures files { TaskLeaves (S.files store.old) (S.files store.new) task.now }
+    ensures kept { KeepsFiles (S.files store.old) (S.files store.new) result }
     ensures cause { StoreCounts (S.faults store.old) (S.faults store.new) result }
     ensures says { IfSome (S.files store.old) (λ fs. Comes (λ text. text.items)
         (TaskSays fs (S.files store.new) task.now) result) }

@@ -1,22 +1,20 @@
 //! `link` and `sites`: what is made of an image of a job, whose images are all linked.
 ghost use Rattle.std.specs.Prelude.{◌≡◌, ◌<◌, ℕ, List, length};
 ghost use Rattle.std.specs.Prelude.{Ok, IfSome};
+ghost use Rattle.command_replies.specs.Faults.{NoStoreFault, StoreCounts, KeepsFiles};
+ghost use Rattle.command_replies.specs.Steps.{Asks, Comes};
 ghost use Rattle.job_link.specs.Given.{AreGiven};
 ghost use Rattle.job_link.specs.Mentions.{bytes_in, object_names};
 ghost use Rattle.job_text.specs.Jobs.{job_of as job_of_text};
-ghost use Rattle.tlsld.specs.Faults.{NoStoreFault, StoreCounts};
 ghost use Rattle.tlsld.specs.Links.{Leaves, LinkSays, SitesSays};
 ghost use Rattle.tlsld.specs.Links.{BytesSay, ImageSays, ImagesSay, ObjectsSay, image_job_names, image_names};
 ghost use Rattle.tlsld.specs.LinkSteps.{LeavesBy, WishSays, made_of, output_of};
-ghost use Rattle.tlsld.specs.Steps.{Asks, Comes};
 ghost use Rattle.tlsld.specs.Wishes.{relax_of};
 
-use crate::fault::CommandFault;
-use crate::fetched::whole_file;
-use crate::jobs::{image_place, job_of};
 use crate::made::{put_image, wished};
 use crate::unlinked::{unlinked, unread};
 use crate::wish::Wish;
+use command_replies::{CommandFault, image_place, job_of, whole_file};
 use dynamic_symbols::laws::sites_have_symbols;
 use job_link::{Files, ImageObjects, fetch_objects, link_images, read_objects};
 use job_text::Job;
@@ -35,6 +33,7 @@ pub fn link<S: Store>(
 ) -> Result<Vec<u8>, CommandFault>
     ensures files { Leaves (S.files store.old) (S.files store.new)
         (λ fs. LinkSays fs (S.files store.new) job.now image.now out.now no_relax) }
+    ensures kept { KeepsFiles (S.files store.old) (S.files store.new) result }
     ensures cause { StoreCounts (S.faults store.old) (S.faults store.new) result }
     ensures says { IfSome (S.files store.old) (λ fs. Comes (λ text. text.items)
         (LinkSays fs (S.files store.new) job.now image.now out.now no_relax) result) }
@@ -72,6 +71,7 @@ fn image_command<S: Store>(
 ) -> Result<Vec<u8>, CommandFault>
     ensures files { LeavesBy wish.entry (S.files store.old) (S.files store.new)
         (λ fs. WishSays wish.entry fs (S.files store.new) name.now image.now) }
+    ensures kept { KeepsFiles (S.files store.old) (S.files store.new) result }
     ensures cause { StoreCounts (S.faults store.old) (S.faults store.new) result }
     ensures says { IfSome (S.files store.old) (λ fs. Comes (λ text. text.items)
         (WishSays wish.entry fs (S.files store.new) name.now image.now) result) }
@@ -94,6 +94,7 @@ fn image_of_text<S: Store>(
 ) -> Result<Vec<u8>, CommandFault>
     ensures files { LeavesBy wish.entry (S.files store.old) (S.files store.new) (λ fs. ImageSays (relax_of wish.entry)
         (output_of fs (S.files store.new) image.now wish.entry) fs image.now (job_of_text text.now)) }
+    ensures kept { KeepsFiles (S.files store.old) (S.files store.new) result }
     ensures cause { StoreCounts (S.faults store.old) (S.faults store.new) result }
     ensures says { IfSome (S.files store.old) (λ fs. Comes (λ text. text.items) (ImageSays (relax_of wish.entry)
         (output_of fs (S.files store.new) image.now wish.entry) fs image.now (job_of_text text.now)) result) }
@@ -116,6 +117,7 @@ fn image_of_name<S: Store>(
 ) -> Result<Vec<u8>, CommandFault>
     ensures files { LeavesBy wish.entry (S.files store.old) (S.files store.new) (λ fs. ImageSays (relax_of wish.entry)
         (output_of fs (S.files store.new) image.now wish.entry) fs image.now (Ok job.now)) }
+    ensures kept { KeepsFiles (S.files store.old) (S.files store.new) result }
     ensures cause { StoreCounts (S.faults store.old) (S.faults store.new) result }
     ensures says { IfSome (S.files store.old) (λ fs. Comes (λ text. text.items) (ImageSays (relax_of wish.entry)
         (output_of fs (S.files store.new) image.now wish.entry) fs image.now (Ok job.now)) result) }
@@ -139,6 +141,7 @@ fn image_of_job<S: Store>(
     requires { place < length job.now.images }
     ensures files { LeavesBy wish.entry (S.files store.old) (S.files store.new) (λ fs. ObjectsSay (relax_of wish.entry)
         (output_of fs (S.files store.new) image.now wish.entry) fs job.now place) }
+    ensures kept { KeepsFiles (S.files store.old) (S.files store.new) result }
     ensures cause { StoreCounts (S.faults store.old) (S.faults store.new) result }
     ensures says { IfSome (S.files store.old) (λ fs. Comes (λ text. text.items) (ObjectsSay (relax_of wish.entry)
         (output_of fs (S.files store.new) image.now wish.entry) fs job.now place) result) }

@@ -1,12 +1,12 @@
 //! What is made of a linked image: its file, or the lines of its sites.
 ghost use Rattle.std.specs.Prelude.{◌≡◌, IfOk, IfErr};
-ghost use Rattle.tlsld.specs.Faults.{IsFetchFault, StoreCounts};
+ghost use Rattle.command_replies.specs.Faults.{IsFetchFault, StoreCounts, KeepsFiles};
 ghost use Rattle.tlsld.specs.Links.{linked_text};
 ghost use Rattle.tlsld.specs.LinkSteps.{IsFinished, MayPut};
 ghost use Rattle.tlsld.specs.Wishes.{CanMake, image_lines, wished_bytes};
 
-use crate::fault::CommandFault;
 use crate::wish::Wish;
+use command_replies::CommandFault;
 use image_writer::into_file;
 use job_link::ImageObjects;
 use job_text::Name;
@@ -70,6 +70,7 @@ pub fn put_image<S: Store>(
     ensures files { MayPut wish.entry made.items (S.files store.old) (S.files store.new) }
     ensures text { IfOk result (λ text.
         IsFinished wish.entry image.now made.items (S.files store.old) (S.files store.new) text.items) }
+    ensures kept { KeepsFiles (S.files store.old) (S.files store.new) result }
     ensures unrefused { IfErr result IsFetchFault }
     ensures cause { StoreCounts (S.faults store.old) (S.faults store.new) result }
     ensures asked { S.asked store.new ≡ S.asked store.old }

@@ -13,7 +13,7 @@
 //!
 //! A command is read from top to bottom in `command`. For `show` the file is fetched, read as an image, and what it
 //! says is written. The other three are about a job, and refuse it for the same reasons, in the same order: the job is
-//! fetched and read (`jobs`), the objects of all its images are fetched and read, and all images are linked. Only then
+//! fetched and read, the objects of all its images are fetched and read, and all images are linked. Only then
 //! does a command go its own way. `link` and `sites` (`links`) name an image, which must be one of the job's before any
 //! object is fetched, and make something of it (`made`): its file, which is put into the store whole, or the lines of
 //! its sites. `run` (`runs`) calls what the job says in a thread, and writes the transcript.
@@ -22,25 +22,17 @@
 //!     sites a.job app             main.o 1 0000000000000000 gd gd-le x
 //!
 //! Each step may end the command; what it ends with is a `CommandFault`, and what is said of it a `Reply`, which
-//! reaches the sink in one piece (`reply`). Which of the jobs that link `run` takes so far is said by `not_yet`;
-//! `small_run` links the object and runs the call.
+//! reaches the sink in one piece (`command_replies`). Which of the jobs that link `run` takes so far is said by `not_yet`.
 //!
 //! Only `link` changes the store's files, and only by one put, of whole bytes, when all else is done: a command that is
 //! refused leaves them as they were, and one that says so has put all that it says.
 #![tactic(auto)]
 
 mod command;
-mod fault;
-mod fetched;
-mod jobs;
 mod links;
 mod made;
 mod not_yet;
-mod refusal;
-mod reply;
 mod runs;
-mod small_run;
-mod status;
 #[cfg(test)]
 mod tests;
 mod top;

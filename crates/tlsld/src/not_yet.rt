@@ -1,41 +1,35 @@
-//! Which jobs and which objects the program takes so far.
+//! Which jobs and which programs `run` takes so far.
 //!
-//! A linker in growth has to say where it ends. Whoever gives it more than it can do is told so, and is never handed a
-//! result that may be wrong: that is this module's use, and the reason for its name. What it takes is small enough
-//! that the later steps need no refusals of their own, and each limit is stated once, here.
+//! A run time in growth has to say where it ends. Whoever gives it more than it can do is told so, and is never handed
+//! a result that may be wrong: that is this module's use, and the reason for its name. Each limit is stated once, here.
 //!
 //! **A job is taken** if its lines are one image and one call, with any `fuel` and `order` beside them:
 //!
 //! ```text
-//! image app exe a.o          an executable of one object
+//! image app exe a.o b.o      a program, of any number of objects
 //! 1 call app f 0 0 0         the only line of its only thread: a function and three arguments
 //! ```
 //!
-//! [`small_job`] answers the object's name `a.o`, the symbol `f`, the arguments 0, 0 and 0 and the fuel. A second
-//! image, a second object, another kind of image, a second thread or a second line makes it another job, which is not
-//! taken.
+//! [`small_job`] answers the symbol `f`, the arguments 0, 0 and 0 and the fuel. A second image, a second thread, a second
+//! line or another action makes it another job, which is not taken.
 //!
-//! **An object is taken** if all of this holds:
+//! **A program is taken** ([`is_plain`]) if all of this holds:
 //!
-//! - It has at most 1,024 symbols beside the reserved one (gABI, "Symbol Table"), each with a name of at most 255
-//!   bytes.
-//! - No two of its GLOBAL symbols have the same name. WEAK names may come again, since the first of them is meant.
-//! - None is `__tls_get_addr`, the run time's function (Drepper, "ELF Handling For Thread-Local Storage", section
-//!   4.1).
-//! - The sections that linking keeps have at most 2^19 relocations, and `local_exec` takes each: an `R_X86_64_TPOFF32`
-//!   of the object's own GLOBAL variable, with an addend of at most 2^20 either way (psABI AMD64, "Relocation
-//!   Types").
-//! - It has no data that programs write, a TLS segment of at most 2^20 bytes, and sections that span at most 2^24.
+//! - It lies at fixed addresses: `exe`, and not `pie`.
+//! - It has no data that it writes, thread-local storage apart.
+//! - Each relocation of a section that linking keeps holds a number that needs no table: `R_X86_64_NONE`, `64`, `32`, `32S`,
+//!   `PC32`, `PLT32` or `TPOFF32` (psABI, "Relocation Types"). So no sequence has to be rewritten, and no thread has to
+//!   ask the run time where a variable is.
 //!
 //! An example: an object whose one field stands in the instruction `64 8b 04 25 00 00 00 00`, `mov %fs:x@tpoff, %eax`,
-//! is taken, if it defines `x`. One with `e8 00 00 00 00`, `call g`, is not: its relocation is an `R_X86_64_PLT32`.
+//! is taken, if it defines `x`. One with `48 8b 05 00 00 00 00`, `mov x@gottpoff(%rip), %rax`, is not: its relocation is an
+//! `R_X86_64_GOTTPOFF`, which wants a word of the global offset table unless the sequence is rewritten.
 //!
-//! A job that is not taken, or whose object is not, has no fault. Faults of objects, and images that do not link, are
-//! found first, so that they are the answer for any job; what links and is not taken is answered `job 0 NotYet`.
-//! `specs/SmallJobs` says which jobs are taken, `specs/SmallObjects` and `specs/Narrow` which objects. Names are
-//! compared by a hash index, so that no walk over symbols is quadratic.
+//! A job that is not taken has no fault. Faults of objects, and images that do not link, are found first, so that they are
+//! the answer for any job; what links and is not taken is answered `job 0 NotYet`. `specs/SmallJobs` says which jobs are
+//! taken, and `job_run`'s `specs/Plain` which programs.
 mod job;
-mod object;
+mod program;
 
 pub use job::{SmallJob, small_job};
-pub use object::is_small_object;
+pub use program::is_plain;

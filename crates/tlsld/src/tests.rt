@@ -1,17 +1,24 @@
 //! Whole commands over a store and a sink in memory: the words, the files, the output and the status.
 
-mod images;
 mod links;
 mod objects;
 
 use crate::tlsld;
-use objects::{function, reader};
+use objects::{callee, caller, function, reader};
 use ports::{MemorySink, MemoryStore};
 use std::alloc::Global;
 use std::process::Abort;
 use std::sync::Wait;
 use std::test::Fail;
 use std::thread::Threads;
+
+/// What `run` says of a function that returns 42.
+const ANSWER: &[u8] = b"t1 l1 g0 = 000000000000002a\n";
+
+/// What `show` says of the program of a reader: its code, its variable, the dynamic tables, and its two symbols.
+const LISTING: &[u8] =
+    b"kind exe\npart x 0000000000400000 9\npart r 0000000000401000 4\npart r 0000000000402000 197\n\
+    tls 0000000000401000 4 4 1\nsymbol 0000000000400000 2 f\nsymbol 0000000000000000 6 x\n";
 
 const JOB: &[u8] = b"image app exe a.o\n1 call app f 0 0 0\n";
 
@@ -39,20 +46,30 @@ fn ends<R: Threads + Wait + Sync>(
     Ok((status, Vec::from_slice(alloc, out.bytes())?))
 }
 
+/// Compares what a command ends with and what it puts, where the sink takes all.
+fn check<R: Threads + Wait + Sync + Abort>(
+    rt: &R,
+    alloc: Global,
+    line: &[&str],
+    store: &mut MemoryStore,
+    status: u8,
+    text: &[u8],
+) -> Result<(), Fail> {
+    let (ended, put) = ends(rt, alloc, line, store, MemorySink::new(alloc))?;
+    assert_eq!(rt; ended, status, "{line:?}");
+    assert_eq!(rt; put.as_slice(), text, "{line:?}");
+    Ok(())
+}
+
 #[test]
 fn each_status_has_its_line(rt: HostRuntime) -> Result<(), Fail> {
     let alloc = rt.alloc();
     // A call that always wants memory is proved as well: with ample memory the answer is none.
     let rows: [(&[&str], u64, u8, &[u8]); 8] = [
-        (&["run", "job"], 0, 0, b"t1 l1 g0 = 000000000000002a\n"),
+        (&["run", "job"], 0, 0, ANSWER),
         (&["link", "job", "plug", "app"], 0, 5, b"job 0 Name\n"),
         (&["sites", "job", "plug"], 0, 5, b"job 0 Name\n"),
-        (
-            &["run", "job", "--no-relax"],
-            0,
-            0,
-            b"t1 l1 g0 = 000000000000002a\n",
-        ),
+        (&["run", "job", "--no-relax"], 0, 0, ANSWER),
         (&["run"], 0, 2, b"usage\n"),
         (&["run", "nojob"], 0, 3, b"store fault\n"),
         (&["run", "job"], 1, 4, b"t1 l1 "),
@@ -113,15 +130,7 @@ fn refuses_jobs(rt: HostRuntime) -> Result<(), Fail> {
     ];
     for (job, status, text) in rows {
         let mut store = store_of(alloc, job, object.as_slice())?;
-        let (ended, put) = ends(
-            &rt,
-            alloc,
-            &["run", "job"],
-            &mut store,
-            MemorySink::new(alloc),
-        )?;
-        assert_eq!(rt; ended, status, "{text:?}");
-        assert_eq!(rt; put.as_slice(), text);
+        check(&rt, alloc, &["run", "job"], &mut store, status, text)?;
     }
     Ok(())
 }
@@ -131,15 +140,26 @@ fn runs_or_refuses_objects(rt: HostRuntime) -> Result<(), Fail> {
     let alloc = rt.alloc();
     for (object, status, text) in objects::rows(alloc)? {
         let mut store = store_of(alloc, JOB, object.as_slice())?;
-        let (ended, put) = ends(
-            &rt,
-            alloc,
-            &["run", "job"],
-            &mut store,
-            MemorySink::new(alloc),
-        )?;
-        assert_eq!(rt; ended, status);
-        assert_eq!(rt; put.as_slice(), text);
+        check(&rt, alloc, &["run", "job"], &mut store, status, text)?;
+    }
+    Ok(())
+}
+
+#[test]
+fn runs_several_objects(rt: HostRuntime) -> Result<(), Fail> {
+    let alloc = rt.alloc();
+    for setting in ["--no-relax", ""] {
+        let object = caller(alloc)?;
+        let job = b"image app exe a.o b.o\n1 call app f 0 0 0\n";
+        let mut store = store_of(alloc, job, object.as_slice())?;
+        store.add("b.o", callee(alloc)?.as_slice())?;
+        let line = ["run", "job", setting];
+        let words = if setting.is_empty() {
+            &line[..2]
+        } else {
+            &line[..]
+        };
+        check(&rt, alloc, words, &mut store, 0, ANSWER)?;
     }
     Ok(())
 }
@@ -147,28 +167,26 @@ fn runs_or_refuses_objects(rt: HostRuntime) -> Result<(), Fail> {
 #[test]
 fn shows_images(rt: HostRuntime) -> Result<(), Fail> {
     let alloc = rt.alloc();
-    let rows: [(Vec<u8>, u8, &[u8]); 3] = [
-        (
-            images::module(alloc)?,
-            0,
-            b"kind module\npart r 0000000000000000 137\n",
-        ),
-        (vec![in alloc; 0u8; 63]?, 8, b"image 63 Truncated\n"),
+    let object = reader(alloc, 0)?;
+    let mut store = store_of(alloc, b"image app exe a.o\n", object.as_slice())?;
+    store.add("short", [0u8; 63].as_slice())?;
+    let linked = b"linked app 12485\n";
+    check(
+        &rt,
+        alloc,
+        &["link", "job", "app", "out"],
+        &mut store,
+        0,
+        linked,
+    )?;
+    let rows: [(&str, u8, &[u8]); 3] = [
+        ("out", 0, LISTING),
+        ("short", 8, b"image 63 Truncated\n"),
         // an object is no image
-        (reader(alloc, 0)?, 8, b"image 16 Header\n"),
+        ("a.o", 8, b"image 16 Header\n"),
     ];
-    for (image, status, text) in rows {
-        let mut store = MemoryStore::new(alloc);
-        store.add("app", image.as_slice())?;
-        let (ended, put) = ends(
-            &rt,
-            alloc,
-            &["show", "app"],
-            &mut store,
-            MemorySink::new(alloc),
-        )?;
-        assert_eq!(rt; ended, status);
-        assert_eq!(rt; put.as_slice(), text);
+    for (file, status, text) in rows {
+        check(&rt, alloc, &["show", file], &mut store, status, text)?;
     }
     Ok(())
 }
@@ -186,16 +204,9 @@ fn check_call<R: Threads + Wait + Sync + Abort>(
     job.extend_from_slice(lines)?;
     let object = function(alloc, code)?;
     let mut store = store_of(alloc, job.as_slice(), object.as_slice())?;
-    let (ended, put) = ends(
-        rt,
-        alloc,
-        &["run", "job"],
-        &mut store,
-        MemorySink::new(alloc),
-    )?;
-    assert_eq!(rt; ended, 0);
-    assert_eq!(rt; put.as_slice().strip_prefix(b"t1 l1 g0 "), Some(outcome));
-    Ok(())
+    let mut text = b"t1 l1 g0 ".to_vec(alloc)?;
+    text.extend_from_slice(outcome)?;
+    check(rt, alloc, &["run", "job"], &mut store, 0, text.as_slice())
 }
 
 #[test]

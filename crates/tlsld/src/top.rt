@@ -1,15 +1,14 @@
 //! The top calls, which `main` makes.
 ghost use Rattle.std.specs.Prelude.{◌≢◌, IfSome, None, false, map, string_bytes};
 ghost use Rattle.command_line.specs.Words.{asked, takes_words};
+ghost use Rattle.command_replies.specs.Statuses.{FilesShown, UsageShown, StoreShown, SinkShown};
 ghost use Rattle.ports.specs.Files.{untold_files};
 ghost use Rattle.tlsld.specs.Replies.{Asked, AskedWords, Shows, ShowsWords, WordsLeave};
 ghost use Rattle.tlsld.specs.Tasks.{TaskLeaves};
-ghost use Rattle.tlsld.specs.Statuses.{UsageShown, StoreShown, SinkShown};
 
 use crate::command::answer;
-use crate::reply::{deliver, say, say_no_memory};
-use crate::status::Status;
 use command_line::{Task, WordsFault, read_words};
+use command_replies::{Status, deliver, say, say_no_memory};
 use ports::{Sink, Store};
 use std::alloc::Global;
 use std::sync::Wait;
@@ -28,6 +27,7 @@ pub fn tlsld<R: Threads + Wait + Sync, S: Store, K: Sink>(
     ensures usage { UsageShown (takes_words (map string_bytes words.now)) result }
     ensures store { StoreShown (S.faults store.old) (S.faults store.new) result }
     ensures sink { SinkShown (K.view out.old).faults (K.view out.new).faults result }
+    ensures kept { FilesShown (S.files store.old) (S.files store.new) result }
     ensures files { WordsLeave (S.files store.old) (S.files store.new) (asked (map string_bytes words.now)) }
     ensures shows { ShowsWords (S.files store.old) (S.files store.new) (asked (map string_bytes words.now))
         (K.view out.old) (K.view out.new) result }
@@ -42,10 +42,12 @@ pub fn tlsld<R: Threads + Wait + Sync, S: Store, K: Sink>(
 }
 
 /// Answers a command that waits for nobody.
+#[tactic(auto, using(crate::proofs::Kept::answer_kept))]
 pub fn tlsld_plain<S: Store, K: Sink>(alloc: Global, task: &Task, store: &mut S, out: &mut K) -> u8
     ensures taken { result ≢ 2 }
     ensures store { StoreShown (S.faults store.old) (S.faults store.new) result }
     ensures sink { SinkShown (K.view out.old).faults (K.view out.new).faults result }
+    ensures kept { FilesShown (S.files store.old) (S.files store.new) result }
     ensures files { TaskLeaves (S.files store.old) (S.files store.new) task.now }
     ensures shows { Shows (S.files store.old) (S.files store.new) task.now (K.view out.old) (K.view out.new) result }
     ensures asked { IfSome (S.files store.old)

@@ -1,17 +1,14 @@
 //! Jobs that are taken.
 ghost use Rattle.std.specs.Prelude.{◌≡◌, ◌<◌, ◌≤◌, ◌^◌, length, IfSome};
 ghost use Rattle.std.specs.Option.{option_map};
-ghost use Rattle.tlsld.specs.SmallJobs.{exe_object, only_object, called, small_job, small_of};
+ghost use Rattle.tlsld.specs.SmallJobs.{called, only_call, small_job};
 
-use job_text::{Action, Image, Job, Name, ThreadLine};
-use link_faults::ImageKind;
+use job_text::{Action, Job, ThreadLine};
 use std::marker::Model;
 
-/// A job that is taken: an executable of one object, and one function that its only thread calls.
+/// A job that is taken: one image, and one function that its only thread calls.
 #[derive(Drop)]
 pub struct SmallJob<'a> {
-    /// The name of the executable's one object.
-    pub object: &'a str,
     /// The function that is called.
     pub symbol: &'a str,
     /// The first argument.
@@ -30,7 +27,6 @@ impl<'a> Model for SmallJob<'a> {
     ghost Value = { Small };
 
     ghost view = { λ job. record {
-      object = job.object.now;
       symbol = job.symbol.now;
       a = job.a;
       b = job.b;
@@ -39,33 +35,22 @@ impl<'a> Model for SmallJob<'a> {
     } };
 }
 
-/// The small job that this is, if it is one: its lines are `image NAME exe OBJ` and `1 call NAME SYM A B C`, with any
-/// `fuel` and `order`.
+/// The small job that this is, if it is one: its lines are one image and `1 call NAME SYM A B C`, with any `fuel` and
+/// `order`.
 #[tactic(auto, unfolding(crate::specs::SmallJobs::small_job))]
 pub fn small_job(job: &Job) -> Option<SmallJob<'_>>
     ensures small { result ≡ small_job job.now }
     ensures little { IfSome result (λ small. small.fuel < 2 ^ 32) }
 {
-    let object = only_object(job.images())?;
-    only_call(job.fuel(), object, job)
-}
-
-/// The name of the object of an executable that has one.
-fn only_object(images: &[Image]) -> Option<&str>
-    ensures { option_map (λ name. name.now) result ≡ only_object images.now }
-{
-    let [image] = images else {
-        return None;
-    };
-    match (image.kind, image.objects.as_slice()) {
-        (ImageKind::Exe, [object]) => Some(object.as_str()),
+    match job.images() {
+        [_] => only_call(job.fuel(), job),
         _ => None,
     }
 }
 
 /// The call, where the job has one thread with one line.
-fn only_call<'a>(fuel: u64, object: &'a str, job: &'a Job) -> Option<SmallJob<'a>>
-    ensures small { result ≡ small_of (Some object.now) fuel job.now.lines }
+fn only_call(fuel: u64, job: &Job) -> Option<SmallJob<'_>>
+    ensures small { result ≡ only_call fuel job.now.lines }
     ensures fuel { IfSome result (λ small. small.fuel ≡ fuel) }
 {
     if job.threads() != 1 {
@@ -74,17 +59,16 @@ fn only_call<'a>(fuel: u64, object: &'a str, job: &'a Job) -> Option<SmallJob<'a
     let [line] = job.lines(1) else {
         return None;
     };
-    called(fuel, object, line)
+    called(fuel, line)
 }
 
 /// The job of a line that calls.
-fn called<'a>(fuel: u64, object: &'a str, line: &'a ThreadLine) -> Option<SmallJob<'a>>
-    ensures small { result ≡ called fuel object.now line.now.action }
+fn called(fuel: u64, line: &ThreadLine) -> Option<SmallJob<'_>>
+    ensures small { result ≡ called fuel line.now.action }
     ensures fuel { IfSome result (λ small. small.fuel ≡ fuel) }
 {
     match &line.action {
         Action::Call { symbol, a, b, c } => Some(SmallJob {
-            object,
             symbol: symbol.as_str(),
             a: *a,
             b: *b,

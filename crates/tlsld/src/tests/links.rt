@@ -1,7 +1,7 @@
 //! `link` and `sites` over a store in memory: what a failing call leaves, and a job of as many images as one may have.
 
 use super::objects::{function, reader};
-use super::{ends, store_of};
+use super::{check, ends, store_of};
 use ports::MemorySink;
 use std::alloc::{AllocError, Global};
 use std::test::Fail;
@@ -58,9 +58,7 @@ fn links_sixty_four_images(rt: HostRuntime) -> Result<(), Fail> {
     for (modules, words, status, text) in rows {
         let job = job_of(alloc, modules)?;
         let mut store = store_of(alloc, job.as_slice(), object.as_slice())?;
-        let (ended, said) = ends(&rt, alloc, words, &mut store, MemorySink::new(alloc))?;
-        assert_eq!(rt; ended, status);
-        assert_eq!(rt; said.as_slice(), text);
+        check(&rt, alloc, words, &mut store, status, text)?;
     }
     Ok(())
 }

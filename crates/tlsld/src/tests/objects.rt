@@ -1,8 +1,11 @@
 //! Objects of one function, `f`.
 
+use super::ANSWER;
 use elf_records::Rela;
-use elf_records::relocation::{R_X86_64_PC32, R_X86_64_TLSGD, R_X86_64_TPOFF32};
-use elf_records::symbol::{STT_FUNC, STT_TLS};
+use elf_records::relocation::{
+    R_X86_64_GOTTPOFF, R_X86_64_PC32, R_X86_64_PLT32, R_X86_64_TLSGD, R_X86_64_TPOFF32,
+};
+use elf_records::symbol::{STT_FUNC, STT_NOTYPE, STT_OBJECT, STT_TLS};
 use object_builder::{Section, Symbol, object_of, rela};
 use std::alloc::{AllocError, Global};
 
@@ -34,6 +37,60 @@ fn reader_with(alloc: Global, relocations: &[Rela], zeros: u64) -> Result<Vec<u8
     object_of(alloc, &sections, &symbols)
 }
 
+/// An object whose function reads a constant, which holds 42: mov c(%rip), %eax; ret.
+fn constant_reader(alloc: Global) -> Result<Vec<u8>, AllocError> {
+    let relocations = [rela(2, R_X86_64_PC32, 2, -4)];
+    let sections = [
+        Section::code(b"\x8b\x05\0\0\0\0\xc3").with(&relocations),
+        Section::constants(b"\x2a\0\0\0"),
+    ];
+    let symbols = [
+        Symbol::global(b"f", STT_FUNC, 1, 0, 7),
+        Symbol::global(b"c", STT_OBJECT, 3, 0, 4),
+    ];
+    object_of(alloc, &sections, &symbols)
+}
+
+/// An object whose function asks for the address of `x` by an initial executable sequence: mov x@gottpoff(%rip), %rax;
+/// ret.
+fn initial_reader(alloc: Global) -> Result<Vec<u8>, AllocError> {
+    let relocations = [rela(3, R_X86_64_GOTTPOFF, 2, -4)];
+    let sections = [
+        Section::code(b"\x48\x8b\x05\0\0\0\0\xc3").with(&relocations),
+        Section::variables(b"\x2a\0\0\0"),
+    ];
+    let symbols = [
+        Symbol::global(b"f", STT_FUNC, 1, 0, 8),
+        Symbol::global(b"x", STT_TLS, 3, 0, 4),
+    ];
+    object_of(alloc, &sections, &symbols)
+}
+
+/// An object whose `f` calls `g`, which another object has, and adds 1 to what it returns: call g; add $1, %eax; ret.
+pub fn caller(alloc: Global) -> Result<Vec<u8>, AllocError> {
+    let relocations = [rela(1, R_X86_64_PLT32, 2, -4)];
+    let sections = [Section::code(b"\xe8\0\0\0\0\x83\xc0\x01\xc3").with(&relocations)];
+    let symbols = [
+        Symbol::global(b"f", STT_FUNC, 1, 0, 9),
+        Symbol::global(b"g", STT_NOTYPE, 0, 0, 0),
+    ];
+    object_of(alloc, &sections, &symbols)
+}
+
+/// The other object: mov %fs:y@tpoff, %eax; ret, for a variable that holds 41.
+pub fn callee(alloc: Global) -> Result<Vec<u8>, AllocError> {
+    let relocations = [rela(4, R_X86_64_TPOFF32, 2, 0)];
+    let sections = [
+        Section::code(READER).with(&relocations),
+        Section::variables(b"\x29\0\0\0"),
+    ];
+    let symbols = [
+        Symbol::global(b"g", STT_FUNC, 1, 0, 9),
+        Symbol::global(b"y", STT_TLS, 3, 0, 4),
+    ];
+    object_of(alloc, &sections, &symbols)
+}
+
 /// An object whose `f` is a section of constants, and one with data.
 fn without_code(alloc: Global) -> Result<Vec<u8>, AllocError> {
     let symbols = [Symbol::global(b"f", STT_FUNC, 1, 0, 1)];
@@ -58,21 +115,14 @@ pub fn rows(alloc: Global) -> Result<Vec<Row>, AllocError> {
     let not_yet = b"job 0 NotYet\n".as_slice();
     let mut rows = Vec::new(alloc);
     // The TLS segment has at most 2^20 bytes.
-    rows.push((
-        reader(alloc, 0xffffc)?,
-        0,
-        b"t1 l1 g0 = 000000000000002a\n".as_slice(),
-    ))?;
+    rows.push((reader(alloc, 0xffffc)?, 0, ANSWER))?;
     rows.push((
         reader(alloc, 0xffffd)?,
         7,
         b"link app TlsTooLarge - section 0 entry 0\n".as_slice(),
     ))?;
-    rows.push((
-        reader_with(alloc, &[rela(4, R_X86_64_PC32, 1, 0)], 0)?,
-        5,
-        not_yet,
-    ))?;
+    rows.push((constant_reader(alloc)?, 0, ANSWER))?;
+    rows.push((initial_reader(alloc)?, 5, not_yet))?;
     rows.push((without_code(alloc)?, 0, no_function))?;
     rows.push((with_data(alloc)?, 5, not_yet))?;
     // The relocation is that of an address, and no instruction for one is there.

@@ -1,5 +1,5 @@
 -- The images so far fit, and once one is late, all later ones are.
-use Rattle.std.proofs.Common.{◌≡◌, ℕ, ◌<◌, true, take, get_or}
+use Rattle.std.proofs.Common.{◌≡◌, true, take}
 use Rattle.std.specs.Prelude.{All, AllPairs}
 use Rattle.module_table.specs.declared.modules.ImageInfo.{ImageInfo}
 use Rattle.module_table.specs.Modules.{IsInfo}

@@ -1,0 +1,53 @@
+-- What a command answers, and what that has to do with the store and with the number that the program ends with.
+use Rattle.std.specs.Prelude.{◌≡◌, ℕ, ◌⊎◌, List, Option}
+use Rattle.ports.specs.Counts.{Counted}
+use Rattle.ports.specs.Files.{Files}
+use Rattle.command_replies.specs.declared.replies.Answer.{Answer}
+use Rattle.command_replies.specs.declared.replies.Answer.TheVariants.{Replies, StoreFails, NoMemory}
+use Rattle.command_replies.specs.declared.statuses.Status.{Status}
+use Rattle.command_replies.specs.declared.statuses.Status.TheVariants as status
+use Rattle.command_replies.specs.Delivery.{store_line}
+use Rattle.command_replies.specs.Statuses.{code_of, IsLate}
+
+-- a status that a command gives over files that it got: not that of the words, nor that of a store that failed
+abbrev pub IsOfFiles : Status → Type 0
+IsOfFiles status.Done = Unit {0}
+IsOfFiles status.Usage = ⊥
+IsOfFiles status.Store = ⊥
+IsOfFiles status.Job = Unit {0}
+IsOfFiles status.Object = Unit {0}
+IsOfFiles status.Link = Unit {0}
+IsOfFiles status.Image = Unit {0}
+
+-- the store's count of faults rose where the answer is that the store failed, and only there
+abbrev pub AnswerCounts : ℕ → ℕ → Answer → Type 0
+AnswerCounts before now (Replies reply) = (now ≡ before) × IsOfFiles reply.status
+AnswerCounts before now StoreFails = Counted before now
+AnswerCounts before now NoMemory = now ≡ before
+
+-- the files are as before, but where the answer has the command's own output, or memory was wanting
+abbrev pub IsOutput : Status → Type 0
+IsOutput status.Done = Unit {0}
+IsOutput status.Usage = ⊥
+IsOutput status.Store = ⊥
+IsOutput status.Job = ⊥
+IsOutput status.Object = ⊥
+IsOutput status.Link = ⊥
+IsOutput status.Image = ⊥
+
+abbrev pub AnswerKeeps : Option Files → Option Files → Answer → Type 0
+AnswerKeeps before after (Replies reply) = IsOutput reply.status ⊎ (after ≡ before)
+AnswerKeeps before after StoreFails = after ≡ before
+AnswerKeeps before after NoMemory = Unit {0}
+
+-- the number that the program ends with is that of the answer, or a late one
+abbrev pub IsDelivered : Answer → ℕ → Type 0
+IsDelivered (Replies reply) code = (code ≡ code_of reply.status) ⊎ IsLate code
+IsDelivered StoreFails code = (code ≡ 3) ⊎ IsLate code
+IsDelivered NoMemory code = IsLate code
+
+-- the status and the text of an answer
+abbrev pub IsAnswer : Answer → ℕ → List ℕ → Type 0
+IsAnswer (Replies reply) own text = (own ≡ code_of reply.status) × (text ≡ reply.text.items)
+IsAnswer StoreFails own text = (own ≡ 3) × (text ≡ store_line)
+IsAnswer NoMemory own text = ⊥

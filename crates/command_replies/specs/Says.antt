@@ -1,0 +1,60 @@
+-- What a command says, a status and a text: the lines of refusals, and what is said of a job that has a fault.
+use Rattle.std.specs.Prelude.{◌≡◌, ℕ, List, ◌++◌, codes, slice_get, unwrap_or, Option, Some, None}
+use Rattle.std.specs.Fmt.{decimal}
+use Rattle.image_rules.specs.declared.fault.FaultKind.{FaultKind as ImageFaultKind}
+use Rattle.image_rules.specs.FaultNames.{kind_name as image_kind_name}
+use Rattle.job_text.specs.declared.fault.JobFault.{JobFault}
+use Rattle.job_text.specs.declared.fault.JobFault.TheVariants.{OutOfMemory, At}
+use Rattle.job_text.specs.declared.fault.JobFaultKind.{JobFaultKind}
+use Rattle.job_text.specs.Kinds.{kind_text}
+use Rattle.link_faults.specs.declared.fault.LinkFaultKind.{LinkFaultKind}
+use Rattle.link_faults.specs.FaultNames.{kind_name as link_kind_name}
+use Rattle.object_rules.specs.declared.fault.FaultKind.{FaultKind as ObjectFaultKind}
+use Rattle.object_rules.specs.FaultNames.{kind_name as object_kind_name}
+
+-- ---- the lines
+
+-- a job with a fault
+abbrev pub job_fault_text : ℕ → JobFaultKind → List ℕ
+job_fault_text line kind = codes "job " ++ decimal line ++ codes " " ++ kind_text kind ++ codes "\n"
+
+-- a job that is not taken yet
+abbrev pub job_not_yet : List ℕ
+job_not_yet = codes "job 0 NotYet\n"
+
+-- an object with a fault, by its name in the job
+abbrev pub fault_text : List ℕ → ℕ → ℕ → ObjectFaultKind → List ℕ
+fault_text name section entry kind =
+    codes "object " ++ name ++ codes " section " ++ decimal section
+    ++ codes " entry " ++ decimal entry ++ codes " " ++ object_kind_name kind ++ codes "\n"
+
+-- the object of a fault of linking: `-` where it stands at none
+abbrev pub shown_object : List (List ℕ) → Option ℕ → List ℕ
+shown_object names None = codes "-"
+shown_object names (Some o) = unwrap_or (slice_get names o) (codes "-")
+
+-- an image that does not link, by its name in the job
+abbrev pub link_line : List ℕ → LinkFaultKind → List ℕ → ℕ → ℕ → List ℕ
+link_line image kind object section entry =
+    codes "link " ++ image ++ codes " " ++ link_kind_name kind ++ codes " " ++ object ++ codes " section "
+    ++ decimal section ++ codes " entry " ++ decimal entry ++ codes "\n"
+
+-- an image that is refused, by an offset in its file
+abbrev pub image_fault_text : ℕ → ImageFaultKind → List ℕ
+image_fault_text offset kind = codes "image " ++ decimal offset ++ codes " " ++ image_kind_name kind ++ codes "\n"
+
+-- ---- the command
+
+-- the file is there, and its bytes are so
+abbrev pub HasFile : Option (List ℕ) → (List ℕ → Type 0) → Type 0
+HasFile None P = ⊥
+HasFile (Some bytes) P = P bytes
+
+-- a status and a text
+abbrev pub Is : ℕ → List ℕ → ℕ → List ℕ → Type 0
+Is own words status text = (status ≡ own) × (text ≡ words)
+
+-- where the job has a fault: 5, and the first one; want of memory is none
+abbrev pub JobFaultSays : JobFault → ℕ → List ℕ → Type 0
+JobFaultSays OutOfMemory status text = ⊥
+JobFaultSays (At line kind) status text = Is 5 (job_fault_text line kind) status text

@@ -1,0 +1,42 @@
+//! What a command ends in, whichever command it is.
+//!
+//! Who runs a command sees two things of it once it has ended: its exit status, a number, and a text. A script
+//! decides by the number and a person reads the text, so success over a text that was cut off is a wrong answer,
+//! however right the work behind it was.
+//!
+//! The rule that the crate keeps: **a command ends in exactly one of its output, a refusal of its input with a
+//! status and a line of its own, a fault of its store or of its sink, and want of memory; and its text goes to the
+//! sink in one piece.** Two statuses are no command's own, since they come of putting a text: 4, the sink failed,
+//! and 1, memory was wanting, whose line is `out of memory`.
+//!
+//! ```text
+//! 0  linked app 12417                              the output, whatever the command makes
+//! 2  usage                                         the words are no command
+//! 3  store fault                                   a file was not got, or not put
+//! 5  job 3 Number                                  line 3 of the job; 0 stands for the job as a whole
+//! 6  object b.o section 2 entry 0 RelocRange       relocation 0 in section 2 of b.o
+//! 7  link app Undefined b.o section 2 entry 1      the image app, at relocation 1 there
+//! 8  image 12456 TlsPlace                          the offset in an image's file
+//! ```
+//!
+//! A step of a command answers a value or a [`CommandFault`], as [`whole_file`], [`job_of`] and [`image_place`] do.
+//! All that comes of the steps is an [`Answer`], which [`deliver`] puts; [`reply_of`] makes the reply of a refusal.
+//! In `specs/` stand the lines (`Says`), what a step may answer (`Steps`, `Faults`) and what a status tells
+//! (`Statuses`, `Delivery`).
+#![tactic(auto)]
+
+mod fault;
+mod fetched;
+mod jobs;
+mod refusal;
+mod replies;
+mod statuses;
+mod unlinked;
+
+pub use fault::{CommandFault, InputRefusal};
+pub use fetched::whole_file;
+pub use jobs::{image_place, job_of};
+pub use refusal::reply_of;
+pub use replies::{Answer, Reply, deliver, say, say_no_memory};
+pub use statuses::Status;
+pub use unlinked::link_refusal;

@@ -1,0 +1,68 @@
+//! What a command answers, and how it reaches the sink.
+ghost use Rattle.command_replies.specs.Delivery.{Says, Delivers, Delivered, memory_line};
+ghost use Rattle.command_replies.specs.Statuses.{IsLate, SinkShown, code_of};
+ghost use Rattle.command_replies.specs.Replies.{IsDelivered, IsAnswer};
+
+use crate::statuses::Status;
+use ports::{PutFault, Sink};
+
+/// The line of a command that ran out of memory.
+const OUT_OF_MEMORY: &[u8] = b"out of memory\n";
+
+/// The line of a command whose store failed.
+const STORE_FAULT: &[u8] = b"store fault\n";
+
+/// What a command answers: a status for the system, and a text for the sink.
+#[derive(Drop)]
+pub struct Reply {
+    pub status: Status,
+    pub text: Vec<u8>,
+}
+
+/// What a command answers in all.
+#[derive(Drop)]
+pub enum Answer {
+    Replies(Reply),
+    /// The store failed.
+    StoreFails,
+    /// There was no memory.
+    NoMemory,
+}
+
+/// Puts the text, and gives the status to end with: its own; 4 where the sink failed; where the sink had no memory,
+/// what saying so gives.
+pub fn say<K: Sink>(out: &mut K, status: Status, text: &[u8]) -> u8
+    ensures delivers { Delivers text.now (code_of status) (K.view out.old) (K.view out.new) result }
+    ensures sink { SinkShown (K.view out.old).faults (K.view out.new).faults result }
+{
+    match out.put(text) {
+        Ok(()) => status.code(),
+        Err(PutFault::Failed) => 4,
+        Err(PutFault::OutOfMemory) => say_no_memory(out),
+    }
+}
+
+/// Puts the line for want of memory, and gives 1, or 4 where the sink failed.
+pub fn say_no_memory<K: Sink>(out: &mut K) -> u8
+    ensures says { Says memory_line 1 (K.view out.old) (K.view out.new) result }
+    ensures sink { SinkShown (K.view out.old).faults (K.view out.new).faults result }
+    ensures late { IsLate result }
+{
+    match out.put(OUT_OF_MEMORY) {
+        Ok(()) | Err(PutFault::OutOfMemory) => 1,
+        Err(PutFault::Failed) => 4,
+    }
+}
+
+/// Puts the answer's text, and gives the status to end with.
+pub fn deliver<K: Sink>(out: &mut K, answer: &Answer) -> u8
+    ensures delivered { Delivered (IsAnswer answer.now) (K.view out.old) (K.view out.new) result }
+    ensures sink { SinkShown (K.view out.old).faults (K.view out.new).faults result }
+    ensures own { IsDelivered answer.now result }
+{
+    match answer {
+        Answer::Replies(reply) => say(out, reply.status, reply.text.as_slice()),
+        Answer::StoreFails => say(out, Status::Store, STORE_FAULT),
+        Answer::NoMemory => say_no_memory(out),
+    }
+}

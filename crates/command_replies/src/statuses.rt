@@ -1,0 +1,40 @@
+//! The statuses that the program ends with.
+ghost use Rattle.std.specs.Prelude.{◌≡◌};
+
+/// What a command ended in. Two more statuses come only of putting its text: 1, want of memory, and 4, the sink failed.
+#[derive(Clone, Copy)]
+pub enum Status {
+    /// 0: the command's output.
+    Done,
+    /// 2: the words are not of the command set.
+    Usage,
+    /// 3: the store failed.
+    Store,
+    /// 5: the job has a fault.
+    Job,
+    /// 6: an object has a fault.
+    Object,
+    /// 7: the images of a job do not link.
+    Link,
+    /// 8: an image has a fault.
+    Image,
+}
+
+impl Status {
+    ghost use Rattle.command_replies.specs.Statuses.{code_of};
+
+    /// The status as the system sees it.
+    pub fn code(self) -> u8
+        ensures { result ≡ code_of self }
+    {
+        match self {
+            Status::Done => 0,
+            Status::Usage => 2,
+            Status::Store => 3,
+            Status::Job => 5,
+            Status::Object => 6,
+            Status::Link => 7,
+            Status::Image => 8,
+        }
+    }
+}
