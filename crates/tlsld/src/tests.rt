@@ -148,17 +148,13 @@ fn runs_or_refuses_objects(rt: HostRuntime) -> Result<(), Fail> {
 #[test]
 fn runs_several_objects(rt: HostRuntime) -> Result<(), Fail> {
     let alloc = rt.alloc();
-    for setting in ["--no-relax", ""] {
-        let object = caller(alloc)?;
-        let job = b"image app exe a.o b.o\n1 call app f 0 0 0\n";
+    let rows: [&[&str]; 2] = [&["run", "job"], &["run", "job", "--no-relax"]];
+    let job = b"image app exe a.o b.o\n1 call app f 0 0 0\n";
+    let object = caller(alloc)?;
+    let other = callee(alloc)?;
+    for words in rows {
         let mut store = store_of(alloc, job, object.as_slice())?;
-        store.add("b.o", callee(alloc)?.as_slice())?;
-        let line = ["run", "job", setting];
-        let words = if setting.is_empty() {
-            &line[..2]
-        } else {
-            &line[..]
-        };
+        store.add("b.o", other.as_slice())?;
         check(&rt, alloc, words, &mut store, 0, ANSWER)?;
     }
     Ok(())
