@@ -1,0 +1,61 @@
+-- The images of a job, and what is known of them before anything is loaded: when each is loaded, its TLS segment
+-- (gABI, "Program Header": PT_TLS), whether it wants its blocks at a fixed distance from the thread pointer (gABI,
+-- "Dynamic Section": DF_STATIC_TLS), and where the blocks of the images that start with the program lie (Drepper,
+-- "ELF Handling For Thread-Local Storage", section 3, variant II).
+use Rattle.std.specs.Prelude.{ℕ, zero, suc, Bool, true, false, List, [], ◌∷◌, take, Option, Some, None, slice_get}
+use Rattle.image_file.specs.declared.part.TlsPart.{TlsPart}
+use Rattle.image_file.specs.Spelled.{Spelled}
+use Rattle.link_faults.specs.declared.image_kind.ImageKind.{ImageKind}
+use Rattle.link_faults.specs.declared.image_kind.ImageKind.TheVariants.{Exe, Pie, Start, Late}
+use Rattle.module_table.specs.declared.modules.ImageInfo.{ImageInfo}
+use Rattle.module_table.specs.Laws.{startup_end}
+
+-- the images of a job in image order, each with the kind that the job gives it: image 1 is the program
+pub record JobImages : Type 0 where
+  pub kinds : List ImageKind
+  pub images : List Spelled
+
+-- an image is loaded by an open, and else starts with the program
+abbrev pub is_late : ImageKind → Bool
+is_late Exe = false
+is_late Pie = false
+is_late Start = false
+is_late Late = true
+
+-- how many bytes each thread's block has, and what its address is a multiple of
+abbrev pub block_size : Option TlsPart → ℕ
+block_size None = 0
+block_size (Some tls) = tls.size
+
+abbrev pub block_alignment : Option TlsPart → ℕ
+block_alignment None = 1
+block_alignment (Some tls) = tls.alignment
+
+abbrev pub info_of : ImageKind → Spelled → ImageInfo
+info_of kind image = record {
+  late = is_late kind;
+  statics = image.is_flagged;
+  size = block_size image.tls;
+  align = block_alignment image.tls;
+}
+
+abbrev pub infos_of : List ImageKind → List Spelled → List ImageInfo
+infos_of [] images = []
+infos_of (kind ∷ kinds) [] = []
+infos_of (kind ∷ kinds) (image ∷ images) = info_of kind image ∷ infos_of kinds images
+
+unfoldable pub infos : JobImages → List ImageInfo
+infos m = infos_of m.kinds m.images
+
+-- how far below the thread pointer the block of the last startup image begins
+unfoldable pub last_offset : JobImages → ℕ
+last_offset m = startup_end (infos m) 0
+
+-- how far below it the block of a startup image begins, by the image's number
+unfoldable pub static_offset : JobImages → ℕ → ℕ
+static_offset m number = startup_end (take number (infos m)) 0
+
+-- an image and its kind, by its number from 1
+unfoldable pub image_at : JobImages → ℕ → Option Spelled
+image_at m zero = None
+image_at m (suc index) = slice_get m.images index
