@@ -8,6 +8,7 @@ pub mod Calling
 pub mod Finding
 pub mod Bounds
 pub mod Examples
+mod JobExamples
 pub mod Alone
 pub mod Each
 pub mod Own

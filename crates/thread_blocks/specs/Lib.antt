@@ -4,6 +4,12 @@ pub mod Spaces
 pub mod MachineTurns
 pub mod Loading
 pub mod Calling
+pub mod Held
+pub mod Instances
+pub mod JobLoads
+pub mod JobWorlds
+pub mod Lines
+pub mod RunTime
 pub mod Numbered
 pub mod Worlds
 pub mod Statements

@@ -1,0 +1,96 @@
+-- The instances of images that are live where the events were seen, and what is loaded of each.
+use Rattle.std.specs.Prelude.{◌+◌, ◌-◌, ◌*◌, ◌^◌, ◌==◌, ℕ, Bool, true, false, zero, suc, List, [], ◌∷◌, ◌++◌, length, take, Option, Some, None, nat_le, option_map, if◌then◌else◌}
+use Rattle.std.specs.Prelude.{option_to_list}
+use Rattle.std.specs.List.{find, flat_map}
+use Rattle.guest_machine.specs.Ranges.{Range}
+use Rattle.loaded_modules.specs.declared.instance.Instance.{Instance}
+use Rattle.module_table.specs.declared.events.Event.{Event}
+use Rattle.module_table.specs.declared.modules.ImageInfo.{ImageInfo}
+use Rattle.module_table.specs.declared.modules.Module.{Module}
+use Rattle.module_table.specs.Laws.{startup_end}
+use Rattle.module_table.specs.Modules.{is_loaded}
+use Rattle.module_table.specs.Past.{Past, module_of, past, startup_count}
+use Rattle.thread_blocks.specs.MachineTurns.{pointer_of}
+
+-- B: a byte
+pub record Loads (B : Type 0) : Type 0 where
+  pub infos : List ImageInfo
+  -- how far below the thread pointer the block of the last startup image begins
+  pub last_offset : ℕ
+  -- where the function of a name begins in an instance, where there is one that can be called
+  pub function : Instance → List ℕ → Option ℕ
+  -- the offset of the thread-local variable of a name in the blocks of an image, where there is one
+  pub variable : ℕ → List ℕ → Option ℕ
+  -- what is there to be read and to be run of an instance, and that no thread writes
+  pub fixed : Instance → List (Range B)
+  -- the parts of it that are written, by the loader or by threads: where the words stand that the run time is asked by
+  pub tables : Instance → List (Range B)
+  -- the data that threads write, as a load makes it
+  pub shared : Instance → List (Range B)
+  -- a thread's block of an instance before any write
+  pub block : Instance → List B
+
+-- ---- instances
+
+-- the loaded instance of an image, of this number
+abbrev pub loaded_instance : List ImageInfo → ℕ → Module → Option Instance
+loaded_instance infos image m = if is_loaded m
+    then Some (record {
+      image = image;
+      number = m.instance;
+      id = m.id;
+      offset = if m.info.late then m.offset else Some (startup_end (take image infos) 0);
+    })
+    else None
+
+abbrev pub instances_from : List ImageInfo → ℕ → List Module → List Instance
+instances_from infos image [] = []
+instances_from infos image (m ∷ ms) = option_to_list (loaded_instance infos image m) ++ instances_from infos (suc image) ms
+
+module _ {B : Type 0} (l : Loads B) where
+  -- what the events leave
+  abbrev pub left_by : List Event → Past
+  left_by seen = past l.infos l.last_offset seen
+
+  -- the live instances, in the order of their images
+  unfoldable pub instances : List Event → List Instance
+  instances seen = instances_from l.infos 0 (left_by seen).modules
+
+  -- the live instance of an image
+  unfoldable pub instance_at : List Event → ℕ → Option Instance
+  instance_at seen image = loaded_instance l.infos image (module_of (left_by seen) image)
+
+  -- the live instance of a number, and that of a module id
+  abbrev pub numbered_instance : List Event → ℕ → Option Instance
+  numbered_instance seen number = find (λ (x : Instance). x.number == number) (instances seen)
+
+  abbrev pub instance_with_id : List Event → ℕ → Option Instance
+  instance_with_id seen id = find (λ (x : Instance). x.id == id) (instances seen)
+
+  -- the images that start with the program have the first ids, which never change
+  abbrev pub is_startup_id : ℕ → Bool
+  is_startup_id id = if id == 0 then false else nat_le id (startup_count l.infos)
+
+  -- all that is loaded and that no thread writes
+  unfoldable pub fixed_at : List Event → List (Range B)
+  fixed_at seen = flat_map l.fixed (instances seen)
+
+-- ---- blocks
+
+-- where a thread's block of an instance begins: so far below the thread pointer as the instance's offset says, or at a
+-- place of its own for each instance
+abbrev pub block_start : ℕ → Instance → ℕ
+block_start thread x = begins_at x.offset
+  where
+    begins_at : Option ℕ → ℕ
+    begins_at (Some offset) = pointer_of thread - offset
+    begins_at None = thread * 2 ^ 40 + x.number * 2 ^ 24
+
+abbrev pub fresh_range : {B : Type 0} → Loads B → ℕ → Instance → Range B
+fresh_range l thread x = record {
+  start = block_start thread x;
+  bytes = l.block x;
+  readable = true;
+  writable = true;
+  runnable = false;
+}

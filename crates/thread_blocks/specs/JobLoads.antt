@@ -1,0 +1,69 @@
+-- What is loaded of a job's images: each part of a live instance at its place, as the loader leaves it, with the rights
+-- of its class (gABI, "Program Loading").
+use Rattle.std.specs.Prelude.{◌+◌, ◌&&◌, ◌==◌, ℕ, Bool, not, suc, List, [], ◌∷◌, ◌++◌, drop, map, Option, Some, None, option_and_then, option_map, slice_get, if◌then◌else◌}
+use Rattle.std.specs.List.{filter, position_from}
+use Rattle.std.specs.Str.{bytes_eq}
+use Rattle.guest_machine.specs.Ranges.{Range}
+use Rattle.image_file.specs.declared.symbol.ImageSymbol.{ImageSymbol}
+use Rattle.image_file.specs.Spelled.{Part, Spelled}
+use Rattle.loaded_modules.specs.declared.instance.Instance.{Instance}
+use Rattle.loaded_modules.specs.Images.{JobImages, image_at, infos, last_offset}
+use Rattle.loaded_modules.specs.Loader.{bias, fresh_block, part_bytes}
+use Rattle.thread_blocks.specs.Instances.{Loads}
+use Rattle.thread_blocks.specs.Loading.{entry_in, is_code, is_loaders, is_tls, is_written}
+
+-- part i of an image, as an instance has it
+abbrev pub instance_part : JobImages → Spelled → Instance → ℕ → Part → Range ℕ
+instance_part m image x i part = record {
+  start = part.address + bias image.kind x.number;
+  bytes = part_bytes m image x part;
+  readable = not (is_code part.class);
+  writable = is_written part.class && not (is_loaders image.got i);
+  runnable = is_code part.class;
+}
+
+abbrev pub parts_from : JobImages → Spelled → Instance → ℕ → List Part → List (Range ℕ)
+parts_from m image x i [] = []
+parts_from m image x i (part ∷ more) = instance_part m image x i part ∷ parts_from m image x (suc i) more
+
+abbrev pub parts_of : JobImages → Instance → Option Spelled → List (Range ℕ)
+parts_of m x None = []
+parts_of m x (Some image) = parts_from m image x 0 image.parts
+
+abbrev pub loaded_parts : JobImages → Instance → List (Range ℕ)
+loaded_parts m x = parts_of m x (image_at m x.image)
+
+-- the parts that are written, by the loader or by threads
+abbrev pub written_from : List Part → List (Range ℕ) → List (Range ℕ)
+written_from [] ranges = []
+written_from (part ∷ parts) [] = []
+written_from (part ∷ parts) (range ∷ ranges) =
+    if is_written part.class then range ∷ written_from parts ranges else written_from parts ranges
+
+abbrev pub tables_in : JobImages → Instance → Option Spelled → List (Range ℕ)
+tables_in m x None = []
+tables_in m x (Some image) = written_from image.parts (parts_from m image x 0 image.parts)
+
+-- the offset of a thread-local variable in its image's blocks, if that is what the symbol names
+abbrev pub variable_place : ImageSymbol → Option ℕ
+variable_place symbol = if symbol.is_defined && is_tls symbol.kind then Some symbol.value else None
+
+-- by the first symbol of the name; symbol 0 is reserved
+unfoldable pub variable_in : Spelled → List ℕ → Option ℕ
+variable_in image name =
+    option_and_then variable_place
+    (option_and_then (slice_get image.symbols) (position_from (bytes_eq name) 1 (drop 1 image.names)))
+
+-- all that is loaded of a job's images
+unfoldable pub job_loads : JobImages → Loads ℕ
+job_loads m = record {
+  infos = infos m;
+  last_offset = last_offset m;
+  function = λ x name. option_and_then (λ image. option_map (λ place. place + bias image.kind x.number)
+      (entry_in image name)) (image_at m x.image);
+  variable = λ image name. option_and_then (λ found. variable_in found name) (image_at m image);
+  fixed = λ x. filter (λ (range : Range ℕ). not range.writable) (loaded_parts m x);
+  tables = λ x. tables_in m x (image_at m x.image);
+  shared = λ x. filter (λ (range : Range ℕ). range.writable) (loaded_parts m x);
+  block = λ x. fresh_block m x;
+}

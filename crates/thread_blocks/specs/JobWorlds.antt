@@ -1,0 +1,91 @@
+-- All threads of a job, and the data that they share: each turn begins with the data as the turn before left it.
+use Rattle.std.specs.Prelude.{ℕ, ◌*◌, Bool, suc, not, List, [], ◌∷◌, ◌++◌, Option, Some, None}
+use Rattle.std.specs.List.{filter, flat_map}
+use Rattle.guest_machine.specs.Use.{After, left}
+use Rattle.guest_arithmetic.specs.Plain.{plain_operations}
+use Rattle.guest_machine.specs.State.{start_of}
+use Rattle.job_text.specs.declared.thread_lines.ThreadLine.{ThreadLine}
+use Rattle.module_table.specs.declared.events.Event.{Event}
+use Rattle.thread_blocks.specs.Held.{Held, Kind, Owned, owned_by, with_owned, fresh_data, is_block, looked_at}
+use Rattle.thread_blocks.specs.Instances.{Loads, instances}
+use Rattle.thread_blocks.specs.Lines.{Line, event_by}
+use Rattle.thread_blocks.specs.RunTime.{Runs, thread_turns}
+use Rattle.thread_blocks.specs.Turns.{Phase, Idle, Mid, Said, Thread, Turns, at_number, with_number, event_of, ready, turn, whole_order, with_event}
+
+-- B: a byte
+pub record Shared (W F B L : Type 0) : Type 0 where
+  pub threads : List (Thread (Held W F B) L Event)
+  pub events : List Event
+  pub shared : List (Owned B)
+
+abbrev pub blocks_in : {B : Type 0} → List (Owned B) → List (Owned B)
+blocks_in xs = filter (λ x. is_block x.owner.kind) xs
+
+abbrev pub data_in : {B : Type 0} → List (Owned B) → List (Owned B)
+data_in xs = filter (λ x. not (is_block x.owner.kind)) xs
+
+module _ {W F B : Type 0} where
+  abbrev pub changed : (Held W F B → Held W F B) → Phase (Held W F B) → Phase (Held W F B)
+  changed f (Idle h) = Idle (f h)
+  changed f (Mid steps points h) = Mid steps points (f h)
+
+  abbrev pub held_in : Phase (Held W F B) → Held W F B
+  held_in (Idle h) = h
+  held_in (Mid steps points h) = h
+
+  -- a thread with the shared data in its hands, and without
+  abbrev pub with_data : {L : Type 0} → List (Owned B) → Thread (Held W F B) L Event → Thread (Held W F B) L Event
+  with_data xs t = record t { phase = changed (λ h. with_owned h (owned_by h ++ xs)) t.phase }
+
+  abbrev pub without_data : {L : Type 0} → Thread (Held W F B) L Event → Thread (Held W F B) L Event
+  without_data t = record t { phase = changed (λ h. with_owned h (blocks_in (owned_by h))) t.phase }
+
+  module _ {L : Type 0} (x : ℕ → Turns (Held W F B) L Event) (event : ℕ → L → List Event → Option Event) where
+    -- a turn of thread i with the data in its hands
+    abbrev pub shared_after : Shared W F B L → ℕ → Thread (Held W F B) L Event → Option Event
+        → Thread (Held W F B) L Event → Shared W F B L
+    shared_after w i t e after = record {
+      threads = with_number w.threads i (without_data after);
+      events = with_event w.events e;
+      shared = data_in (owned_by (held_in after.phase));
+    }
+
+    abbrev pub shared_turn : Shared W F B L → ℕ → Option (Thread (Held W F B) L Event) → Shared W F B L
+    shared_turn w i None = w
+    shared_turn w i (Some t) =
+        shared_after w i t (event_of (event i) t w.events) (turn (x i) (with_data w.shared t) w.events)
+
+    abbrev pub shared_order : List ℕ → Shared W F B L → Shared W F B L
+    shared_order [] w = w
+    shared_order (i ∷ order) w = shared_order order (shared_turn w i (at_number w.threads i))
+
+-- ---- the machine's threads
+
+abbrev pub numbered_lines : ℕ → List ThreadLine → List Line
+numbered_lines number [] = []
+numbered_lines number (line ∷ lines) = record { number = number; told = line } ∷ numbered_lines (suc number) lines
+
+-- a thread before its first line: no block yet, since a look comes first
+abbrev pub thread_ready : Loads ℕ → ℕ → Runs
+thread_ready l thread = record {
+  after = left (start_of plain_operations 0 0 0 0 0) (record { seen = []; stack = []; own = [] });
+  owners = [];
+  asked = None;
+}
+
+abbrev pub ready_from : Loads ℕ → ℕ → List (List ThreadLine) → List (Thread Runs Line Event)
+ready_from l thread [] = []
+ready_from l thread (lines ∷ more) =
+    ready (thread_ready l thread) (numbered_lines 1 lines) ∷ ready_from l (suc thread) more
+
+-- before the first turn the data is that of the images that start with the program
+abbrev pub first_data : Loads ℕ → List (Owned ℕ)
+first_data l = flat_map (λ x. fresh_data l x) (instances l [])
+
+abbrev pub job_start : Loads ℕ → List (List ThreadLine) → Shared ℕ Bool ℕ Line
+job_start l lines = record { threads = ready_from l 1 lines; events = []; shared = first_data l }
+
+-- all turns of a job: those of its order, and then each thread to its end
+unfoldable pub job_world : Loads ℕ → ℕ → List (List ThreadLine) → List ℕ → Shared ℕ Bool ℕ Line
+job_world l fuel lines order = shared_order (λ thread. thread_turns l thread fuel) (λ thread. event_by l thread)
+    (whole_order (4 * fuel) lines order) (job_start l lines)

@@ -1,0 +1,143 @@
+-- Lines of all kinds: a call of a function, an open or a close of an image, and a look at the bytes of a variable.
+use Rattle.std.specs.Prelude.{◌+◌, ◌-◌, ◌*◌, ◌/◌, ◌%◌, ◌^◌, ◌==◌, ◌&&◌, ℕ, Bool, true, false, zero, suc, List, [], ◌∷◌, ◌++◌, length, fold, Option, Some, None, Result, Ok, Err, nat_le, nat_lt, is_none, option_map, slice_range, if◌then◌else◌}
+use Rattle.std.specs.List.{filter, find, flat_map, list_any}
+use Rattle.guest_arithmetic.specs.Plain.{plain_operations}
+use Rattle.guest_arithmetic.specs.Values.{Operations, number_from}
+use Rattle.guest_operands.specs.declared.state.State.{State}
+use Rattle.guest_operands.specs.declared.stop.Stop.{Stop}
+use Rattle.guest_operands.specs.declared.stop.Stop.TheVariants.{Address}
+use Rattle.guest_machine.specs.Access.{Accesses, Refusal, bytes_at}
+use Rattle.guest_machine.specs.Machine.{answer_of}
+use Rattle.guest_machine.specs.Ranges.{Range}
+use Rattle.guest_machine.specs.Run.{Next, Goes, Ends, Looks, Stepping, machine}
+use Rattle.guest_machine.specs.State.{start_of}
+use Rattle.guest_machine.specs.Use.{After, left}
+use Rattle.job_text.specs.declared.thread_lines.Action.{Action}
+use Rattle.job_text.specs.declared.thread_lines.Action.TheVariants.{Call, Open, Close, Peek}
+use Rattle.job_text.specs.declared.thread_lines.ThreadLine.{ThreadLine}
+use Rattle.loaded_modules.specs.declared.instance.Instance.{Instance}
+use Rattle.module_table.specs.declared.events.CloseRefusal.{CloseRefusal}
+use Rattle.module_table.specs.declared.events.CloseRefusal.TheVariants.{Permanent, NotOpen, OutOfMemory as NoRoomToClose}
+use Rattle.module_table.specs.declared.events.Event.{Event}
+use Rattle.module_table.specs.declared.events.OpenRefusal.{OpenRefusal}
+use Rattle.module_table.specs.declared.events.OpenRefusal.TheVariants.{Unknown, Full, StaticFull, OutOfMemory as NoRoomToOpen}
+use Rattle.module_table.specs.Modules.{is_loaded}
+use Rattle.module_table.specs.Past.{open_refusal, close_refusal, module_of}
+use Rattle.transcript_text.specs.declared.outcomes.LineFault.TheVariants.{Unloaded}
+use Rattle.transcript_text.specs.declared.outcomes.LineRefusal.{LineRefusal}
+use Rattle.transcript_text.specs.declared.outcomes.LineRefusal.TheVariants.{Unknown as UnknownImage, Full as TooMany, StaticFull as NoSurplus, Permanent as Stays, NotOpen as IsClosed, Symbol as NoSymbol, Length as TooLong}
+use Rattle.transcript_text.specs.declared.outcomes.Outcome.TheVariants.{Opened, Closed, Bytes, Refused, Fault}
+use Rattle.thread_blocks.specs.Instances.{Loads, fixed_at, instance_at, instances, instance_with_id, is_startup_id, left_by, numbered_instance, block_start}
+use Rattle.thread_blocks.specs.Held.{Held, Asked, Owned, Owner, owned_by, ranges_in, with_owned, is_block_of, fresh_data, looked, reached}
+use Rattle.thread_blocks.specs.MachineTurns.{call_start, fresh_space, pointer_of, pointer_word, stack_end, stack_start}
+use Rattle.thread_blocks.specs.Spaces.{Space, space_accesses, open_everywhere, no_field}
+use Rattle.thread_blocks.specs.Turns.{Ending, Answered, Stopped, Begun, Says, Calls, Turns, with_last}
+
+-- a line of a thread, with its number, from 1
+pub record Line : Type 0 where
+  pub number : ℕ
+  pub told : ThreadLine
+
+-- ---- opens and closes
+
+abbrev pub refused_open : OpenRefusal → LineRefusal
+refused_open Unknown = UnknownImage
+refused_open Full = TooMany
+refused_open StaticFull = NoSurplus
+refused_open NoRoomToOpen = TooMany
+
+abbrev pub refused_close : CloseRefusal → LineRefusal
+refused_close Permanent = Stays
+refused_close NotOpen = IsClosed
+refused_close NoRoomToClose = IsClosed
+
+abbrev pub unless_refused : {R : Type 0} → Option R → Event → Option Event
+unless_refused None e = Some e
+unless_refused (Some refusal) e = None
+
+abbrev pub event_at : ℕ → ℕ → Bool → ℕ → Event
+event_at thread number opens image = record { thread = thread; line = number; opens = opens; image = image }
+
+-- the event that a line adds after the events that its first look sees, if it adds one
+abbrev pub event_by : {B : Type 0} → Loads B → ℕ → Line → List Event → Option Event
+event_by l thread line seen = added line.told.action
+  where
+    added : Action → Option Event
+    added (Call symbol a b c) = None
+    added Open = unless_refused (open_refusal (left_by l seen) line.told.image)
+        (event_at thread line.number true line.told.image)
+    added Close = unless_refused (close_refusal (left_by l seen) line.told.image)
+        (event_at thread line.number false line.told.image)
+    added (Peek symbol size) = None
+
+-- ---- what a line begins with
+
+-- show: what is said of bytes that a line shows
+module _ {W F B : Type 0} (ops : Operations W F B) (l : Loads B) (show : List B → Ending) (thread : ℕ) where
+  abbrev pub refused : LineRefusal → Held W F B → Begun (Held W F B)
+  refused refusal h = Says (Answered (Refused refusal)) h
+
+  -- a call of the function at a place, with a fresh stack, and the blocks as the line before left them
+  abbrev pub begun_at : List ℕ → ℕ → ℕ → ℕ → Held W F B → Option ℕ → Begun (Held W F B)
+  begun_at symbol a b c h None = refused NoSymbol h
+  begun_at symbol a b c h (Some place) = Calls (record h {
+    after = left (call_start ops thread place (record { symbol = symbol; a = a; b = b; c = c }))
+        (fresh_space ops h.after.memory.seen h.after.memory.own);
+  })
+
+  abbrev pub begun_in : List ℕ → ℕ → ℕ → ℕ → Held W F B → Option Instance → Begun (Held W F B)
+  begun_in symbol a b c h None = refused IsClosed h
+  begun_in symbol a b c h (Some x) = begun_at symbol a b c h (l.function x symbol)
+
+  -- an accepted event is seen at once, and a load fills the data of its instance
+  abbrev pub with_data : Bool → Option Instance → Held W F B → Held W F B
+  with_data true x h = h
+  with_data false None h = h
+  with_data false (Some x) h = with_owned h (owned_by h ++ fresh_data l x)
+
+  abbrev pub opened_as : Option Instance → ℕ
+  opened_as None = 0
+  opened_as (Some x) = x.number
+
+  abbrev pub begun_open : Line → List Event → Held W F B → Option OpenRefusal → Begun (Held W F B)
+  begun_open line seen h (Some refusal) = refused (refused_open refusal) h
+  begun_open line seen h None =
+      let all = with_last seen (event_at thread line.number true line.told.image) in
+      let x = instance_at l all line.told.image in
+      let was = is_loaded (module_of (left_by l seen) line.told.image) in
+      Says (Answered (Opened (opened_as x))) (with_data was x (looked l thread all h))
+
+  abbrev pub begun_close : Line → List Event → Held W F B → Option CloseRefusal → Begun (Held W F B)
+  begun_close line seen h (Some refusal) = refused (refused_close refusal) h
+  begun_close line seen h None =
+      Says (Answered Closed)
+      (looked l thread (with_last seen (event_at thread line.number false line.told.image)) h)
+
+  -- the bytes of a block, which is there
+  abbrev pub block_bytes : ℕ → List (Owned B) → List B
+  block_bytes instance [] = []
+  block_bytes instance (x ∷ xs) =
+      if is_block_of instance x.owner then x.range.bytes else block_bytes instance xs
+
+  abbrev pub shown_from : Held W F B → ℕ → Instance → Option ℕ → Begun (Held W F B)
+  shown_from h size x None = refused NoSymbol h
+  shown_from h size x (Some offset) = let bytes = block_bytes x.number (owned_by h) in
+      if nat_le (offset + size) (length bytes)
+      then Says (show (slice_range bytes offset (offset + size))) h
+      else refused TooLong h
+
+  -- a line that is refused for its symbol or its length has reached the block
+  abbrev pub begun_peek : Line → List ℕ → ℕ → Held W F B → Option Instance → Begun (Held W F B)
+  begun_peek line symbol size h None = refused IsClosed h
+  begun_peek line symbol size h (Some x) =
+      shown_from (reached l thread x h) size x (l.variable line.told.image symbol)
+
+  abbrev pub begun_by : Line → List Event → Held W F B → Action → Begun (Held W F B)
+  begun_by line seen h (Call symbol a b c) = begun_in symbol a b c h (instance_at l seen line.told.image)
+  begun_by line seen h Open = begun_open line seen h (open_refusal (left_by l seen) line.told.image)
+  begun_by line seen h Close = begun_close line seen h (close_refusal (left_by l seen) line.told.image)
+  begun_by line seen h (Peek symbol size) = begun_peek line symbol size h (instance_at l seen line.told.image)
+
+  -- a line's first look
+  unfoldable pub begin_line : Line → List Event → Held W F B → Begun (Held W F B)
+  begin_line line seen h = begun_by line seen (looked l thread seen h) line.told.action

@@ -1,0 +1,150 @@
+-- The run time that the machine's code calls: `__tls_get_addr`, and the function of TLS descriptors (Drepper, "ELF
+-- Handling For Thread-Local Storage", section 3.4.6; psABI, "TLS Descriptors").
+use Rattle.std.specs.Prelude.{◌+◌, ◌-◌, ◌*◌, ◌/◌, ◌%◌, ◌^◌, ◌==◌, ◌&&◌, ℕ, Bool, true, false, List, [], ◌∷◌, length, Option, Some, None, Result, Ok, Err, nat_le, is_none, if◌then◌else◌}
+use Rattle.std.specs.List.{find, list_any}
+use Rattle.guest_arithmetic.specs.Plain.{plain_operations}
+use Rattle.guest_arithmetic.specs.Values.{number_from}
+use Rattle.guest_operands.specs.declared.state.State.{State}
+use Rattle.guest_operands.specs.declared.stop.Stop.{Stop}
+use Rattle.guest_operands.specs.declared.stop.Stop.TheVariants.{Address}
+use Rattle.guest_machine.specs.Access.{Accesses, Refusal, bytes_at, both_reached}
+use Rattle.guest_machine.specs.Machine.{answer_of}
+use Rattle.guest_machine.specs.Ranges.{Range}
+use Rattle.guest_machine.specs.Run.{Next, Goes, Ends, Looks, Stepping, machine}
+use Rattle.guest_machine.specs.Use.{After, left}
+use Rattle.loaded_modules.specs.declared.instance.Instance.{Instance}
+use Rattle.module_table.specs.declared.events.Event.{Event}
+use Rattle.transcript_text.specs.declared.outcomes.Bytes.{Bytes as ShownBytes}
+use Rattle.transcript_text.specs.declared.outcomes.LineFault.TheVariants.{Unloaded}
+use Rattle.transcript_text.specs.declared.outcomes.Outcome.TheVariants.{Bytes, Fault}
+use Rattle.thread_blocks.specs.Held.{Held, Asked, looked, reached}
+use Rattle.thread_blocks.specs.Instances.{Loads, fixed_at, instances, instance_with_id, is_startup_id, numbered_instance, block_start}
+use Rattle.thread_blocks.specs.Lines.{Line, begin_line}
+use Rattle.thread_blocks.specs.MachineTurns.{pointer_of, pointer_word, stack_start}
+use Rattle.thread_blocks.specs.Spaces.{Space, space_accesses, open_everywhere, no_field}
+use Rattle.thread_blocks.specs.Turns.{Ending, Answered, Stopped, Begun, Says, Calls, Turns}
+
+-- what a thread of the machine holds
+abbrev pub Runs : Type 0
+Runs = Held ℕ Bool ℕ
+
+-- whether 16 bytes from an address on lie in a range
+abbrev pub has_words : ℕ → Range ℕ → Bool
+has_words address range = nat_le range.start address && nat_le (address + 16) (range.start + length range.bytes)
+
+abbrev pub pair : ℕ → ℕ → ℕ × ℕ
+pair a b = (a, b)
+
+abbrev pub word_of : Result (List ℕ) Refusal → Result ℕ Refusal
+word_of (Ok bytes) = Ok (number_from bytes)
+word_of (Err refusal) = Err refusal
+
+module _ (l : Loads ℕ) (thread : ℕ) where
+  -- what a thread's memory lets its machine do
+  unfoldable pub thread_accesses : Accesses (Space Event ℕ) ℕ
+  thread_accesses =
+      space_accesses plain_operations (stack_start thread)
+      (λ seen. pointer_word plain_operations thread ∷ fixed_at l seen) open_everywhere
+
+  abbrev pub word_at : Space Event ℕ → ℕ → Result ℕ Refusal
+  word_at space address = word_of (bytes_at thread_accesses space address 8)
+
+  -- ---- what is asked for
+
+  -- the live instance that asks: the one in whose tables the two words stand
+  abbrev pub asker : List Event → ℕ → Option Instance
+  asker seen address = find (λ x. list_any (has_words address) (l.tables x)) (instances l seen)
+
+  -- a module id and an offset; a descriptor has both in its second word
+  abbrev pub asked_by : Instance → Bool → Result (ℕ × ℕ) Refusal → Option Asked
+  asked_by x is_descriptor (Err refusal) = None
+  asked_by x false (Ok words) =
+      Some (record { asking = x.number; id = words.0; offset = words.1; is_descriptor = false })
+  asked_by x true (Ok words) =
+      Some (record { asking = x.number; id = words.1 / 2 ^ 32; offset = words.1 % 2 ^ 32; is_descriptor = true })
+
+  abbrev pub asked_of : Space Event ℕ → Bool → ℕ → Option Instance → Option Asked
+  asked_of space is_descriptor address None = None
+  asked_of space is_descriptor address (Some x) = asked_by x is_descriptor
+      (both_reached pair (word_at space address) (word_at space (address + 8)))
+
+  -- %rdi holds the address of the words of `__tls_get_addr`, %rax that of a descriptor
+  abbrev pub asked_at : After ℕ Bool (Space Event ℕ) → Option Asked
+  asked_at at =
+      let is_descriptor = at.state.place == 0x1800 in
+      let address = if is_descriptor then at.state.registers.rax else at.state.registers.rdi in
+      asked_of at.memory is_descriptor address (asker at.memory.seen address)
+
+  -- ---- what is answered
+
+  abbrev pub answer_word : Asked → Instance → ℕ
+  answer_word asked x = let address = block_start thread x + asked.offset in
+      if asked.is_descriptor then (address + (2 ^ 64 - pointer_of thread)) % 2 ^ 64 else address % 2 ^ 64
+
+  -- a word in %rax, and the return address popped
+  abbrev pub answered : Asked → Instance → Runs → Result (After ℕ Bool (Space Event ℕ)) Stop
+  answered asked x h =
+      answer_of plain_operations thread_accesses (answer_word asked x) h.after.state h.after.memory
+
+  abbrev pub goes_answered : Runs → Result (After ℕ Bool (Space Event ℕ)) Stop → Next Runs
+  goes_answered h (Ok after) = Goes (record h { after = after })
+  goes_answered h (Err stop) = Ends stop
+
+  abbrev pub found_at_once : Asked → Runs → Option Instance → Next Runs
+  found_at_once asked h None = Ends (Address h.after.state.place)
+  found_at_once asked h (Some x) = goes_answered h (answered asked x h)
+
+  -- the id of an image that started with the program is answered at once, and any other after a look; where no live
+  -- instance asks, the access is refused
+  abbrev pub asked_next : Runs → Option Asked → Next Runs
+  asked_next h None = Ends (Address h.after.state.place)
+  asked_next h (Some asked) = if is_startup_id l asked.id
+      then found_at_once asked h (instance_with_id l h.after.memory.seen asked.id)
+      else Looks (record h { asked = Some asked })
+
+  abbrev pub thread_next : Runs → Next (After ℕ Bool (Space Event ℕ)) → Next Runs
+  thread_next h (Goes at) = Goes (record h { after = at })
+  thread_next h (Ends stop) = Ends stop
+  thread_next h (Looks at) = asked_next h (asked_at at)
+
+  -- the machine of a thread with its run time
+  unfoldable pub thread_steps : Stepping Runs
+  thread_steps = let bare = machine plain_operations thread_accesses no_field in record {
+    over = λ h. bare.over h.after;
+    step = λ h. thread_next h (bare.step h.after);
+    spent = λ h. bare.spent h.after;
+  }
+
+  -- ---- a look in the middle of a line
+
+  abbrev pub resumed : Runs → Result (After ℕ Bool (Space Event ℕ)) Stop → Begun Runs
+  resumed h (Ok after) = Calls (record h { after = after })
+  resumed h (Err stop) = Says (Stopped stop) h
+
+  abbrev pub resumed_in : Asked → Runs → Option Instance → Begun Runs
+  resumed_in asked h None = Says (Stopped (Address h.after.state.place)) h
+  resumed_in asked h (Some x) = let h = reached l thread x h in resumed h (answered asked x h)
+
+  -- the instance that asks may be gone, and then nothing is asked for any more
+  abbrev pub resumed_by : List Event → Runs → Option Asked → Begun Runs
+  resumed_by seen h None = Calls h
+  resumed_by seen h (Some asked) = if is_none (numbered_instance l seen asked.asking)
+      then Says (Answered (Fault Unloaded)) h
+      else resumed_in asked h (instance_with_id l seen asked.id)
+
+  unfoldable pub resume_line : List Event → Runs → Begun Runs
+  resume_line seen h = resumed_by seen (looked l thread seen (record h { asked = None })) h.asked
+
+  -- ---- the machine's lines
+
+  abbrev pub shows : List ℕ → Ending
+  shows bytes = Answered (Bytes bytes)
+
+  -- a call's machine takes at most four times `fuel` steps
+  unfoldable pub thread_turns : ℕ → Turns Runs Line Event
+  thread_turns fuel = record {
+    steps = thread_steps;
+    fuel = 4 * fuel;
+    begin = λ line seen h. begin_line plain_operations l shows thread line seen h;
+    resume = λ seen h. resume_line seen h;
+  }
