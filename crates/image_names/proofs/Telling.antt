@@ -1,5 +1,5 @@
 -- A table of names, symbol by symbol: with those that are left, it tells what it is to tell.
-use Rattle.std.proofs.Common.{◌≡◌, ◌∙◌, ◌<◌, ◌≤◌, ℕ, zero, suc, ◌+◌, Bool, true, false, cond, not, ◌&&◌, List, [], ◌∷◌, drop, length, Option, Some, None, refl, sym, ap, subst, Bor, arith}
+use Rattle.std.proofs.Common.{◌≡◌, ◌∙◌, ◌<◌, ◌≤◌, ℕ, zero, suc, ◌+◌, Bool, true, false, cond, not, ◌&&◌, List, [], ◌∷◌, length, Option, Some, None, refl, sym, ap, Bor, arith}
 use Rattle.std.specs.Prelude.{if◌then◌else◌, option_and_then}
 use Rattle.std.specs.List.{list_any, position_from, slice_get}
 use Rattle.std.specs.Option.{option_map, unwrap_or}
@@ -11,9 +11,9 @@ use Rattle.image_file.specs.Spelled.{Part, Spelled}
 use Rattle.image_names.specs.declared.meaning.Meaning.{Meaning}
 use Rattle.image_names.specs.declared.meaning.Meaning.TheVariants.{Function, Other, Variable}
 use Rattle.image_names.specs.Functions.{entry_in, function_place, is_tls, runs_at}
-use Rattle.image_names.specs.Meanings.{Meanings, Tells, TellsWith, first_from, function_of, meaning_at, meaning_in, meaning_of, noted, or_else, same_names, told, variable_of}
+use Rattle.image_names.specs.Meanings.{Meanings, TellsWith, first_from, function_of, meaning_at, meaning_in, meaning_of, noted, or_else, same_names, told, variable_of}
 use Rattle.image_names.specs.Variables.{variable_in, variable_place}
-use Rattle.image_names.proofs.Finding.{left_at, left_none}
+use Rattle.image_names.proofs.Finding.{left_at}
 
 -- ** what is told
 
