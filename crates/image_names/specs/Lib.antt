@@ -1,0 +1,3 @@
+pub mod Functions
+pub mod Variables
+pub mod Meanings
