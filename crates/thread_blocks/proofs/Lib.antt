@@ -8,7 +8,10 @@ pub mod Calling
 pub mod Finding
 pub mod Bounds
 pub mod Examples
+mod JobRuns
 mod JobExamples
+mod DataExamples
+mod StaticExamples
 pub mod Alone
 pub mod Each
 pub mod Own

@@ -10,7 +10,9 @@ use Rattle.loaded_modules.specs.declared.instance.Instance.{Instance}
 use Rattle.loaded_modules.specs.Images.{JobImages, image_at, infos, last_offset}
 use Rattle.loaded_modules.specs.Loader.{bias, fresh_block, part_bytes}
 use Rattle.thread_blocks.specs.Instances.{Loads}
-use Rattle.thread_blocks.specs.Loading.{entry_in, is_code, is_loaders, is_tls, is_written}
+use Rattle.image_names.specs.declared.variable.Variable.{Variable}
+use Rattle.image_names.specs.Variables.{variable_in}
+use Rattle.thread_blocks.specs.Loading.{entry_in, is_code, is_loaders, is_written}
 
 -- part i of an image, as an instance has it
 abbrev pub instance_part : JobImages → Spelled → Instance → ℕ → Part → Range ℕ
@@ -44,16 +46,6 @@ abbrev pub tables_in : JobImages → Instance → Option Spelled → List (Range
 tables_in m x None = []
 tables_in m x (Some image) = written_from image.parts (parts_from m image x 0 image.parts)
 
--- the offset of a thread-local variable in its image's blocks, if that is what the symbol names
-abbrev pub variable_place : ImageSymbol → Option ℕ
-variable_place symbol = if symbol.is_defined && is_tls symbol.kind then Some symbol.value else None
-
--- by the first symbol of the name; symbol 0 is reserved
-unfoldable pub variable_in : Spelled → List ℕ → Option ℕ
-variable_in image name =
-    option_and_then variable_place
-    (option_and_then (slice_get image.symbols) (position_from (bytes_eq name) 1 (drop 1 image.names)))
-
 -- all that is loaded of a job's images
 unfoldable pub job_loads : JobImages → Loads ℕ
 job_loads m = record {
@@ -61,7 +53,8 @@ job_loads m = record {
   last_offset = last_offset m;
   function = λ x name. option_and_then (λ image. option_map (λ place. place + bias image.kind x.number)
       (entry_in image name)) (image_at m x.image);
-  variable = λ image name. option_and_then (λ found. variable_in found name) (image_at m image);
+  variable = λ image name. option_map (λ (v : Variable). v.offset)
+      (option_and_then (λ found. variable_in found name) (image_at m image));
   fixed = λ x. filter (λ (range : Range ℕ). not range.writable) (loaded_parts m x);
   tables = λ x. tables_in m x (image_at m x.image);
   shared = λ x. filter (λ (range : Range ℕ). range.writable) (loaded_parts m x);

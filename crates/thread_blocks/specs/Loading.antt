@@ -14,20 +14,12 @@ use Rattle.image_file.specs.declared.symbol.ImageSymbol.{ImageSymbol}
 use Rattle.image_file.specs.declared.symbol.SymbolType.{SymbolType}
 use Rattle.image_file.specs.declared.symbol.SymbolType.TheVariants.{Tls}
 use Rattle.image_file.specs.Spelled.{Part, Spelled}
+pub use Rattle.image_names.specs.Functions.{function_place, is_code, is_tls, lent_part, runs_at}
+unfoldable pub use Rattle.image_names.specs.Functions.{entry_in}
 use Rattle.thread_blocks.specs.MachineTurns.{Loaded, pointer_of, zeros}
 use Rattle.tls_layout.specs.Rounding.{round_up}
 
 -- ** parts
-
--- what is lent of a part, without the loan
-abbrev pub lent_part : ImagePart → Part
-lent_part lent = record { class = lent.class; address = lent.address; bytes = lent.bytes.now }
-
--- code can be fetched, and not be read
-abbrev pub is_code : PartClass → Bool
-is_code Executable = true
-is_code ReadOnly = false
-is_code Writable = false
 
 abbrev pub is_written : PartClass → Bool
 is_written Executable = false
@@ -85,28 +77,6 @@ blocks_of parts None thread = []
 blocks_of parts (Some tls) thread = block_range tls (initial_in tls (find (holds tls) parts)) thread ∷ []
 
 -- ** functions
-
--- whether a byte of a part that is executed stands at an address
-abbrev pub runs_at : ℕ → Part → Bool
-runs_at address part =
-    is_code part.class && (nat_le part.address address && nat_lt address (part.address + length part.bytes))
-
-abbrev pub is_tls : SymbolType → Bool
-is_tls Tls = true
-is_tls kind = false
-
--- where a symbol stands, if it is defined, is no variable of threads, and names a byte that is executed
-abbrev pub function_place : List Part → ImageSymbol → Option ℕ
-function_place parts symbol =
-    if (symbol.is_defined && not (is_tls symbol.kind)) && list_any (runs_at symbol.value) parts
-    then Some symbol.value
-    else None
-
--- where the function of a name begins, by the first symbol of the name; symbol 0 is reserved
-unfoldable pub entry_in : Spelled → List ℕ → Option ℕ
-entry_in image name =
-    option_and_then (function_place image.parts)
-    (option_and_then (slice_get image.symbols) (position_from (bytes_eq name) 1 (drop 1 image.names)))
 
 -- ** all that is loaded
 
