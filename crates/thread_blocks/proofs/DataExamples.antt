@@ -1,27 +1,16 @@
 -- Data that threads share, and data of a late module, which begins anew at each load.
-use Rattle.std.proofs.Common.{◌≡◌, ℕ, List, [], ◌∷◌, map, Option, Some, None, Bool, true, false, refl}
-use Rattle.std.specs.Prelude.{pos, negsuc}
-use Rattle.guest_operands.specs.declared.stop.Stop.TheVariants.{Returned, Address}
-use Rattle.image_faults.specs.declared.loader_kind.LoaderKind.TheVariants.{JumpSlot, Relative, Module, ModuleOffset, ThreadOffset, Descriptor}
+use Rattle.std.proofs.Common.{◌≡◌, [], ◌∷◌, Some, None, true, false, refl}
+use Rattle.guest_operands.specs.declared.stop.Stop.TheVariants.{Returned}
 use Rattle.image_file.specs.Spelled.{Spelled}
 use Rattle.image_file.specs.declared.part.PartClass.TheVariants.{Executable, ReadOnly, Writable}
-use Rattle.image_file.specs.declared.symbol.SymbolBinding.TheVariants.{Local, Global, Weak}
+use Rattle.image_file.specs.declared.symbol.SymbolBinding.TheVariants.{Local, Global}
 use Rattle.image_file.specs.declared.symbol.SymbolType.TheVariants.{NoType, Object, Func, Tls}
 use Rattle.image_file.specs.declared.symbol.Visibility.TheVariants.{Default}
-use Rattle.image_rules.specs.declared.places.FileKind.TheVariants.{Exe as ExeFile, Pie as PieFile, Module as ModuleFile}
-use Rattle.job_text.specs.declared.thread_lines.Action.TheVariants.{Call, Open, Close, Peek}
-use Rattle.link_faults.specs.declared.image_kind.ImageKind.TheVariants.{Exe, Pie, Start, Late}
-use Rattle.module_table.specs.declared.events.Event.{Event}
-use Rattle.transcript_text.specs.declared.outcomes.LineFault.TheVariants.{Unloaded}
-use Rattle.transcript_text.specs.declared.outcomes.LineRefusal.TheVariants.{Unknown as UnknownImage, Full as TooMany, StaticFull as NoSurplus, Permanent as Stays, NotOpen as IsClosed, Symbol as NoSymbol, Length as TooLong}
-use Rattle.transcript_text.specs.declared.outcomes.Outcome.TheVariants.{Opened, Closed, Bytes, Refused, Fault}
-use Rattle.thread_blocks.specs.JobWorlds.{Shared}
-use Rattle.thread_blocks.specs.Lines.{Line}
-use Rattle.thread_blocks.specs.RunTime.{Runs}
-use Rattle.thread_blocks.specs.Turns.{Answered, Said, Stopped, Thread}
-
-use Rattle.job_text.specs.declared.thread_lines.ThreadLine.{ThreadLine}
-use Rattle.link_faults.specs.declared.image_kind.ImageKind.{ImageKind}
+use Rattle.image_rules.specs.declared.places.FileKind.TheVariants.{Exe as ExeFile, Module as ModuleFile}
+use Rattle.job_text.specs.declared.thread_lines.Action.TheVariants.{Call, Open, Close}
+use Rattle.link_faults.specs.declared.image_kind.ImageKind.TheVariants.{Exe, Late}
+use Rattle.transcript_text.specs.declared.outcomes.Outcome.TheVariants.{Opened, Closed}
+use Rattle.thread_blocks.specs.Turns.{Answered, Stopped}
 use Rattle.thread_blocks.proofs.JobRuns.{said, told}
 
 -- ** two threads add 1 to one counter, in turns
@@ -30,20 +19,20 @@ abbrev shared_counter_app : Spelled
 shared_counter_app = record {
   kind = ExeFile;
   parts = record { class = Executable; address = 4194304; bytes = 139 ∷ 5 ∷ 250 ∷ 15 ∷ 0 ∷ 0 ∷ 131 ∷ 192 ∷ 1 ∷ 137 ∷ 5 ∷ 241 ∷ 15 ∷ 0 ∷ 0 ∷ 195 ∷ [] }
-    ∷ record { class = Writable; address = 4198400; bytes = 5 ∷ 0 ∷ 0 ∷ 0 ∷ [] }
-    ∷ record { class = ReadOnly; address = 4202496; bytes = [] }
-    ∷ [];
+      ∷ record { class = Writable; address = 4198400; bytes = 5 ∷ 0 ∷ 0 ∷ 0 ∷ [] }
+      ∷ record { class = ReadOnly; address = 4202496; bytes = [] }
+      ∷ [];
   array_size = 0;
   got = None;
   tls = None;
   symbols = record { binding = Local; kind = NoType; visibility = Default; is_defined = false; value = 0; size = 0 }
-    ∷ record { binding = Global; kind = Func; visibility = Default; is_defined = true; value = 4194304; size = 16 }
-    ∷ record { binding = Global; kind = Object; visibility = Default; is_defined = true; value = 4198400; size = 4 }
-    ∷ [];
+      ∷ record { binding = Global; kind = Func; visibility = Default; is_defined = true; value = 4194304; size = 16 }
+      ∷ record { binding = Global; kind = Object; visibility = Default; is_defined = true; value = 4198400; size = 4 }
+      ∷ [];
   names = []
-    ∷ (102 ∷ [])
-    ∷ (110 ∷ [])
-    ∷ [];
+      ∷ (102 ∷ [])
+      ∷ (110 ∷ [])
+      ∷ [];
   relocations = [];
   is_flagged = false;
 }
@@ -51,8 +40,10 @@ shared_counter_app = record {
 shared_counter : told (said (Exe ∷ []) (shared_counter_app ∷ []) 4
     ((record { image = 1; action = Call (102 ∷ []) 0 0 0 } ∷ record { image = 1; action = Call (102 ∷ []) 0 0 0 } ∷ []) ∷ (record { image = 1; action = Call (102 ∷ []) 0 0 0 } ∷ []) ∷ [])
     (1 ∷ 2 ∷ 1 ∷ []))
-    ≡ (((record { points = 0 ∷ []; ending = Stopped (Returned 0x6) }) ∷ (record { points = 0 ∷ []; ending = Stopped (Returned 0x8) }) ∷ []) ∷ ((record { points = 0 ∷ []; ending = Stopped (Returned 0x7) }) ∷ []) ∷ []
-    , [])
+    ≡ (
+      ((record { points = 0 ∷ []; ending = Stopped (Returned 0x6) }) ∷ (record { points = 0 ∷ []; ending = Stopped (Returned 0x8) }) ∷ []) ∷ ((record { points = 0 ∷ []; ending = Stopped (Returned 0x7) }) ∷ []) ∷ [],
+      [],
+    )
 unfolding said
 shared_counter = refl
 
@@ -62,20 +53,20 @@ abbrev fresh_counter_app : Spelled
 fresh_counter_app = record {
   kind = ExeFile;
   parts = record { class = Executable; address = 4194304; bytes = 100 ∷ 139 ∷ 4 ∷ 37 ∷ 252 ∷ 255 ∷ 255 ∷ 255 ∷ 195 ∷ [] }
-    ∷ record { class = ReadOnly; address = 4198400; bytes = 42 ∷ 0 ∷ 0 ∷ 0 ∷ [] }
-    ∷ record { class = ReadOnly; address = 4202496; bytes = [] }
-    ∷ [];
+      ∷ record { class = ReadOnly; address = 4198400; bytes = 42 ∷ 0 ∷ 0 ∷ 0 ∷ [] }
+      ∷ record { class = ReadOnly; address = 4202496; bytes = [] }
+      ∷ [];
   array_size = 0;
   got = None;
   tls = Some (record { address = 4198400; initial = 4; size = 4; alignment = 4 });
   symbols = record { binding = Local; kind = NoType; visibility = Default; is_defined = false; value = 0; size = 0 }
-    ∷ record { binding = Global; kind = Func; visibility = Default; is_defined = true; value = 4194304; size = 9 }
-    ∷ record { binding = Global; kind = Tls; visibility = Default; is_defined = true; value = 0; size = 4 }
-    ∷ [];
+      ∷ record { binding = Global; kind = Func; visibility = Default; is_defined = true; value = 4194304; size = 9 }
+      ∷ record { binding = Global; kind = Tls; visibility = Default; is_defined = true; value = 0; size = 4 }
+      ∷ [];
   names = []
-    ∷ (102 ∷ [])
-    ∷ (120 ∷ [])
-    ∷ [];
+      ∷ (102 ∷ [])
+      ∷ (120 ∷ [])
+      ∷ [];
   relocations = [];
   is_flagged = false;
 }
@@ -84,20 +75,20 @@ abbrev fresh_counter_plug : Spelled
 fresh_counter_plug = record {
   kind = ModuleFile;
   parts = record { class = Executable; address = 0; bytes = 139 ∷ 5 ∷ 250 ∷ 15 ∷ 0 ∷ 0 ∷ 131 ∷ 192 ∷ 1 ∷ 137 ∷ 5 ∷ 241 ∷ 15 ∷ 0 ∷ 0 ∷ 195 ∷ [] }
-    ∷ record { class = Writable; address = 4096; bytes = 5 ∷ 0 ∷ 0 ∷ 0 ∷ [] }
-    ∷ record { class = ReadOnly; address = 8192; bytes = [] }
-    ∷ [];
+      ∷ record { class = Writable; address = 4096; bytes = 5 ∷ 0 ∷ 0 ∷ 0 ∷ [] }
+      ∷ record { class = ReadOnly; address = 8192; bytes = [] }
+      ∷ [];
   array_size = 0;
   got = None;
   tls = None;
   symbols = record { binding = Local; kind = NoType; visibility = Default; is_defined = false; value = 0; size = 0 }
-    ∷ record { binding = Global; kind = Func; visibility = Default; is_defined = true; value = 0; size = 16 }
-    ∷ record { binding = Global; kind = Object; visibility = Default; is_defined = true; value = 4096; size = 4 }
-    ∷ [];
+      ∷ record { binding = Global; kind = Func; visibility = Default; is_defined = true; value = 0; size = 16 }
+      ∷ record { binding = Global; kind = Object; visibility = Default; is_defined = true; value = 4096; size = 4 }
+      ∷ [];
   names = []
-    ∷ (102 ∷ [])
-    ∷ (110 ∷ [])
-    ∷ [];
+      ∷ (102 ∷ [])
+      ∷ (110 ∷ [])
+      ∷ [];
   relocations = [];
   is_flagged = false;
 }
@@ -105,7 +96,9 @@ fresh_counter_plug = record {
 fresh_counter : told (said (Exe ∷ Late ∷ []) (fresh_counter_app ∷ fresh_counter_plug ∷ []) 4
     ((record { image = 2; action = Open } ∷ record { image = 2; action = Call (102 ∷ []) 0 0 0 } ∷ record { image = 2; action = Close } ∷ record { image = 2; action = Open } ∷ record { image = 2; action = Call (102 ∷ []) 0 0 0 } ∷ []) ∷ [])
     ([]))
-    ≡ (((record { points = 0 ∷ []; ending = Answered (Opened 2) }) ∷ (record { points = 1 ∷ []; ending = Stopped (Returned 0x6) }) ∷ (record { points = 1 ∷ []; ending = Answered Closed }) ∷ (record { points = 2 ∷ []; ending = Answered (Opened 3) }) ∷ (record { points = 3 ∷ []; ending = Stopped (Returned 0x6) }) ∷ []) ∷ []
-    , (record { thread = 1; line = 1; opens = true; image = 2 }) ∷ (record { thread = 1; line = 3; opens = false; image = 2 }) ∷ (record { thread = 1; line = 4; opens = true; image = 2 }) ∷ [])
+    ≡ (
+      ((record { points = 0 ∷ []; ending = Answered (Opened 2) }) ∷ (record { points = 1 ∷ []; ending = Stopped (Returned 0x6) }) ∷ (record { points = 1 ∷ []; ending = Answered Closed }) ∷ (record { points = 2 ∷ []; ending = Answered (Opened 3) }) ∷ (record { points = 3 ∷ []; ending = Stopped (Returned 0x6) }) ∷ []) ∷ [],
+      (record { thread = 1; line = 1; opens = true; image = 2 }) ∷ (record { thread = 1; line = 3; opens = false; image = 2 }) ∷ (record { thread = 1; line = 4; opens = true; image = 2 }) ∷ [],
+    )
 unfolding said
 fresh_counter = refl

@@ -1,20 +1,7 @@
 -- What the threads of a whole job say, with all that it is computed by open.
-use Rattle.std.proofs.Common.{◌≡◌, ℕ, List, [], ◌∷◌, map, Option, Some, None, Bool, true, false, refl}
-use Rattle.std.specs.Prelude.{pos, negsuc}
-use Rattle.guest_operands.specs.declared.stop.Stop.TheVariants.{Returned, Address}
-use Rattle.image_faults.specs.declared.loader_kind.LoaderKind.TheVariants.{JumpSlot, Relative, Module, ModuleOffset, ThreadOffset, Descriptor}
+use Rattle.std.proofs.Common.{ℕ, List, map, Bool}
 use Rattle.image_file.specs.Spelled.{Spelled}
-use Rattle.image_file.specs.declared.part.PartClass.TheVariants.{Executable, ReadOnly, Writable}
-use Rattle.image_file.specs.declared.symbol.SymbolBinding.TheVariants.{Local, Global, Weak}
-use Rattle.image_file.specs.declared.symbol.SymbolType.TheVariants.{NoType, Object, Func, Tls}
-use Rattle.image_file.specs.declared.symbol.Visibility.TheVariants.{Default}
-use Rattle.image_rules.specs.declared.places.FileKind.TheVariants.{Exe as ExeFile, Pie as PieFile, Module as ModuleFile}
-use Rattle.job_text.specs.declared.thread_lines.Action.TheVariants.{Call, Open, Close, Peek}
-use Rattle.link_faults.specs.declared.image_kind.ImageKind.TheVariants.{Exe, Pie, Start, Late}
 use Rattle.module_table.specs.declared.events.Event.{Event}
-use Rattle.transcript_text.specs.declared.outcomes.LineFault.TheVariants.{Unloaded}
-use Rattle.transcript_text.specs.declared.outcomes.LineRefusal.TheVariants.{Unknown as UnknownImage, Full as TooMany, StaticFull as NoSurplus, Permanent as Stays, NotOpen as IsClosed, Symbol as NoSymbol, Length as TooLong}
-use Rattle.transcript_text.specs.declared.outcomes.Outcome.TheVariants.{Opened, Closed, Bytes, Refused, Fault}
 use Rattle.amd64_subset.specs.Beginning.{begins_of}
 use Rattle.amd64_subset.specs.Decoding.{end_branch_at, escaped_at, row_at, operated_at, body_at, instruction_at, decoded}
 use Rattle.amd64_subset.specs.Meaning.{numbered_body, operation_of, operand_body}
@@ -46,9 +33,8 @@ use Rattle.image_names.specs.Variables.{variable_in}
 use Rattle.thread_blocks.specs.JobLoads.{job_loads}
 use Rattle.thread_blocks.specs.JobWorlds.{Shared, job_world}
 use Rattle.thread_blocks.specs.Lines.{Line, begin_line}
-use Rattle.thread_blocks.specs.RunTime.{Runs, thread_accesses, thread_steps, resume_line, thread_turns}
-use Rattle.thread_blocks.specs.Turns.{Answered, Said, Stopped, Thread}
-
+use Rattle.thread_blocks.specs.RunTime.{thread_accesses, thread_steps, resume_line, thread_turns}
+use Rattle.thread_blocks.specs.Turns.{Said}
 use Rattle.job_text.specs.declared.thread_lines.ThreadLine.{ThreadLine}
 use Rattle.link_faults.specs.declared.image_kind.ImageKind.{ImageKind}
 

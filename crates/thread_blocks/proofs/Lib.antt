@@ -8,6 +8,7 @@ pub mod Calling
 pub mod Finding
 pub mod Bounds
 pub mod Examples
+pub mod Histories
 mod JobRuns
 mod JobExamples
 mod DataExamples

@@ -1,27 +1,18 @@
 -- Blocks at fixed distances from the thread pointer: of startup modules, of a program that may lie anywhere, and of the static surplus; and a descriptor.
-use Rattle.std.proofs.Common.{◌≡◌, ℕ, List, [], ◌∷◌, map, Option, Some, None, Bool, true, false, refl}
-use Rattle.std.specs.Prelude.{pos, negsuc}
+use Rattle.std.proofs.Common.{◌≡◌, [], ◌∷◌, Some, None, true, false, refl}
+use Rattle.std.specs.Prelude.{pos}
 use Rattle.guest_operands.specs.declared.stop.Stop.TheVariants.{Returned, Address}
-use Rattle.image_faults.specs.declared.loader_kind.LoaderKind.TheVariants.{JumpSlot, Relative, Module, ModuleOffset, ThreadOffset, Descriptor}
+use Rattle.image_faults.specs.declared.loader_kind.LoaderKind.TheVariants.{ThreadOffset, Descriptor}
 use Rattle.image_file.specs.Spelled.{Spelled}
 use Rattle.image_file.specs.declared.part.PartClass.TheVariants.{Executable, ReadOnly, Writable}
-use Rattle.image_file.specs.declared.symbol.SymbolBinding.TheVariants.{Local, Global, Weak}
-use Rattle.image_file.specs.declared.symbol.SymbolType.TheVariants.{NoType, Object, Func, Tls}
+use Rattle.image_file.specs.declared.symbol.SymbolBinding.TheVariants.{Local, Global}
+use Rattle.image_file.specs.declared.symbol.SymbolType.TheVariants.{NoType, Func, Tls}
 use Rattle.image_file.specs.declared.symbol.Visibility.TheVariants.{Default}
 use Rattle.image_rules.specs.declared.places.FileKind.TheVariants.{Exe as ExeFile, Pie as PieFile, Module as ModuleFile}
 use Rattle.job_text.specs.declared.thread_lines.Action.TheVariants.{Call, Open, Close, Peek}
 use Rattle.link_faults.specs.declared.image_kind.ImageKind.TheVariants.{Exe, Pie, Start, Late}
-use Rattle.module_table.specs.declared.events.Event.{Event}
-use Rattle.transcript_text.specs.declared.outcomes.LineFault.TheVariants.{Unloaded}
-use Rattle.transcript_text.specs.declared.outcomes.LineRefusal.TheVariants.{Unknown as UnknownImage, Full as TooMany, StaticFull as NoSurplus, Permanent as Stays, NotOpen as IsClosed, Symbol as NoSymbol, Length as TooLong}
-use Rattle.transcript_text.specs.declared.outcomes.Outcome.TheVariants.{Opened, Closed, Bytes, Refused, Fault}
-use Rattle.thread_blocks.specs.JobWorlds.{Shared}
-use Rattle.thread_blocks.specs.Lines.{Line}
-use Rattle.thread_blocks.specs.RunTime.{Runs}
-use Rattle.thread_blocks.specs.Turns.{Answered, Said, Stopped, Thread}
-
-use Rattle.job_text.specs.declared.thread_lines.ThreadLine.{ThreadLine}
-use Rattle.link_faults.specs.declared.image_kind.ImageKind.{ImageKind}
+use Rattle.transcript_text.specs.declared.outcomes.Outcome.TheVariants.{Opened, Closed, Bytes}
+use Rattle.thread_blocks.specs.Turns.{Answered, Stopped}
 use Rattle.thread_blocks.proofs.JobRuns.{said, told}
 
 -- ** a program reads the distance of a startup module's variable
@@ -30,22 +21,22 @@ abbrev of_startup_app : Spelled
 of_startup_app = record {
   kind = ExeFile;
   parts = record { class = Executable; address = 4194304; bytes = 100 ∷ 72 ∷ 139 ∷ 4 ∷ 37 ∷ 0 ∷ 0 ∷ 0 ∷ 0 ∷ 72 ∷ 3 ∷ 5 ∷ 240 ∷ 15 ∷ 0 ∷ 0 ∷ 195 ∷ [] }
-    ∷ record { class = Writable; address = 4198400; bytes = 0 ∷ 0 ∷ 0 ∷ 0 ∷ 0 ∷ 0 ∷ 0 ∷ 0 ∷ [] }
-    ∷ record { class = ReadOnly; address = 4202496; bytes = [] }
-    ∷ [];
+      ∷ record { class = Writable; address = 4198400; bytes = 0 ∷ 0 ∷ 0 ∷ 0 ∷ 0 ∷ 0 ∷ 0 ∷ 0 ∷ [] }
+      ∷ record { class = ReadOnly; address = 4202496; bytes = [] }
+      ∷ [];
   array_size = 0;
   got = Some 1;
   tls = None;
   symbols = record { binding = Local; kind = NoType; visibility = Default; is_defined = false; value = 0; size = 0 }
-    ∷ record { binding = Global; kind = Func; visibility = Default; is_defined = true; value = 4194304; size = 17 }
-    ∷ record { binding = Global; kind = Tls; visibility = Default; is_defined = false; value = 0; size = 0 }
-    ∷ [];
+      ∷ record { binding = Global; kind = Func; visibility = Default; is_defined = true; value = 4194304; size = 17 }
+      ∷ record { binding = Global; kind = Tls; visibility = Default; is_defined = false; value = 0; size = 0 }
+      ∷ [];
   names = []
-    ∷ (102 ∷ [])
-    ∷ (120 ∷ [])
-    ∷ [];
+      ∷ (102 ∷ [])
+      ∷ (120 ∷ [])
+      ∷ [];
   relocations = record { place = 4198400; kind = ThreadOffset; symbol = 2; addend = pos 0 }
-    ∷ [];
+      ∷ [];
   is_flagged = false;
 }
 
@@ -53,17 +44,17 @@ abbrev of_startup_lib : Spelled
 of_startup_lib = record {
   kind = ModuleFile;
   parts = record { class = ReadOnly; address = 0; bytes = 0 ∷ 0 ∷ 0 ∷ 0 ∷ 0 ∷ 0 ∷ 0 ∷ 0 ∷ 42 ∷ 0 ∷ 0 ∷ 0 ∷ 0 ∷ 0 ∷ 0 ∷ 0 ∷ 0 ∷ 0 ∷ 0 ∷ 0 ∷ [] }
-    ∷ record { class = ReadOnly; address = 4096; bytes = [] }
-    ∷ [];
+      ∷ record { class = ReadOnly; address = 4096; bytes = [] }
+      ∷ [];
   array_size = 0;
   got = None;
   tls = Some (record { address = 0; initial = 20; size = 20; alignment = 8 });
   symbols = record { binding = Local; kind = NoType; visibility = Default; is_defined = false; value = 0; size = 0 }
-    ∷ record { binding = Global; kind = Tls; visibility = Default; is_defined = true; value = 8; size = 4 }
-    ∷ [];
+      ∷ record { binding = Global; kind = Tls; visibility = Default; is_defined = true; value = 8; size = 4 }
+      ∷ [];
   names = []
-    ∷ (120 ∷ [])
-    ∷ [];
+      ∷ (120 ∷ [])
+      ∷ [];
   relocations = [];
   is_flagged = false;
 }
@@ -71,8 +62,10 @@ of_startup_lib = record {
 of_startup : told (said (Exe ∷ Start ∷ []) (of_startup_app ∷ of_startup_lib ∷ []) 4
     ((record { image = 1; action = Call (102 ∷ []) 0 0 0 } ∷ []) ∷ [])
     ([]))
-    ≡ (((record { points = 0 ∷ []; ending = Stopped (Returned 0x13ffffffff0) }) ∷ []) ∷ []
-    , [])
+    ≡ (
+      ((record { points = 0 ∷ []; ending = Stopped (Returned 0x13ffffffff0) }) ∷ []) ∷ [],
+      [],
+    )
 unfolding said
 of_startup = refl
 
@@ -82,20 +75,20 @@ abbrev of_pie_app : Spelled
 of_pie_app = record {
   kind = PieFile;
   parts = record { class = Executable; address = 0; bytes = 100 ∷ 72 ∷ 139 ∷ 4 ∷ 37 ∷ 0 ∷ 0 ∷ 0 ∷ 0 ∷ 72 ∷ 141 ∷ 128 ∷ 240 ∷ 255 ∷ 255 ∷ 255 ∷ 195 ∷ [] }
-    ∷ record { class = ReadOnly; address = 4096; bytes = 0 ∷ 0 ∷ 0 ∷ 0 ∷ 0 ∷ 0 ∷ 0 ∷ 0 ∷ 42 ∷ 0 ∷ 0 ∷ 0 ∷ 0 ∷ 0 ∷ 0 ∷ 0 ∷ 0 ∷ 0 ∷ 0 ∷ 0 ∷ [] }
-    ∷ record { class = ReadOnly; address = 8192; bytes = [] }
-    ∷ [];
+      ∷ record { class = ReadOnly; address = 4096; bytes = 0 ∷ 0 ∷ 0 ∷ 0 ∷ 0 ∷ 0 ∷ 0 ∷ 0 ∷ 42 ∷ 0 ∷ 0 ∷ 0 ∷ 0 ∷ 0 ∷ 0 ∷ 0 ∷ 0 ∷ 0 ∷ 0 ∷ 0 ∷ [] }
+      ∷ record { class = ReadOnly; address = 8192; bytes = [] }
+      ∷ [];
   array_size = 0;
   got = None;
   tls = Some (record { address = 4096; initial = 20; size = 20; alignment = 8 });
   symbols = record { binding = Local; kind = NoType; visibility = Default; is_defined = false; value = 0; size = 0 }
-    ∷ record { binding = Global; kind = Func; visibility = Default; is_defined = true; value = 0; size = 17 }
-    ∷ record { binding = Global; kind = Tls; visibility = Default; is_defined = true; value = 8; size = 4 }
-    ∷ [];
+      ∷ record { binding = Global; kind = Func; visibility = Default; is_defined = true; value = 0; size = 17 }
+      ∷ record { binding = Global; kind = Tls; visibility = Default; is_defined = true; value = 8; size = 4 }
+      ∷ [];
   names = []
-    ∷ (102 ∷ [])
-    ∷ (120 ∷ [])
-    ∷ [];
+      ∷ (102 ∷ [])
+      ∷ (120 ∷ [])
+      ∷ [];
   relocations = [];
   is_flagged = false;
 }
@@ -103,8 +96,10 @@ of_pie_app = record {
 of_pie : told (said (Pie ∷ []) (of_pie_app ∷ []) 4
     ((record { image = 1; action = Call (102 ∷ []) 0 0 0 } ∷ []) ∷ [])
     ([]))
-    ≡ (((record { points = 0 ∷ []; ending = Stopped (Returned 0x13ffffffff0) }) ∷ []) ∷ []
-    , [])
+    ≡ (
+      ((record { points = 0 ∷ []; ending = Stopped (Returned 0x13ffffffff0) }) ∷ []) ∷ [],
+      [],
+    )
 unfolding said
 of_pie = refl
 
@@ -114,20 +109,20 @@ abbrev of_surplus_app : Spelled
 of_surplus_app = record {
   kind = ExeFile;
   parts = record { class = Executable; address = 4194304; bytes = 100 ∷ 139 ∷ 4 ∷ 37 ∷ 252 ∷ 255 ∷ 255 ∷ 255 ∷ 195 ∷ [] }
-    ∷ record { class = ReadOnly; address = 4198400; bytes = 42 ∷ 0 ∷ 0 ∷ 0 ∷ [] }
-    ∷ record { class = ReadOnly; address = 4202496; bytes = [] }
-    ∷ [];
+      ∷ record { class = ReadOnly; address = 4198400; bytes = 42 ∷ 0 ∷ 0 ∷ 0 ∷ [] }
+      ∷ record { class = ReadOnly; address = 4202496; bytes = [] }
+      ∷ [];
   array_size = 0;
   got = None;
   tls = Some (record { address = 4198400; initial = 4; size = 4; alignment = 4 });
   symbols = record { binding = Local; kind = NoType; visibility = Default; is_defined = false; value = 0; size = 0 }
-    ∷ record { binding = Global; kind = Func; visibility = Default; is_defined = true; value = 4194304; size = 9 }
-    ∷ record { binding = Global; kind = Tls; visibility = Default; is_defined = true; value = 0; size = 4 }
-    ∷ [];
+      ∷ record { binding = Global; kind = Func; visibility = Default; is_defined = true; value = 4194304; size = 9 }
+      ∷ record { binding = Global; kind = Tls; visibility = Default; is_defined = true; value = 0; size = 4 }
+      ∷ [];
   names = []
-    ∷ (102 ∷ [])
-    ∷ (120 ∷ [])
-    ∷ [];
+      ∷ (102 ∷ [])
+      ∷ (120 ∷ [])
+      ∷ [];
   relocations = [];
   is_flagged = false;
 }
@@ -136,31 +131,33 @@ abbrev of_surplus_plug : Spelled
 of_surplus_plug = record {
   kind = ModuleFile;
   parts = record { class = Executable; address = 0; bytes = 72 ∷ 139 ∷ 5 ∷ 249 ∷ 31 ∷ 0 ∷ 0 ∷ 195 ∷ [] }
-    ∷ record { class = ReadOnly; address = 4096; bytes = 5 ∷ 0 ∷ 0 ∷ 0 ∷ [] }
-    ∷ record { class = Writable; address = 8192; bytes = 0 ∷ 0 ∷ 0 ∷ 0 ∷ 0 ∷ 0 ∷ 0 ∷ 0 ∷ [] }
-    ∷ record { class = ReadOnly; address = 12288; bytes = [] }
-    ∷ [];
+      ∷ record { class = ReadOnly; address = 4096; bytes = 5 ∷ 0 ∷ 0 ∷ 0 ∷ [] }
+      ∷ record { class = Writable; address = 8192; bytes = 0 ∷ 0 ∷ 0 ∷ 0 ∷ 0 ∷ 0 ∷ 0 ∷ 0 ∷ [] }
+      ∷ record { class = ReadOnly; address = 12288; bytes = [] }
+      ∷ [];
   array_size = 0;
   got = Some 2;
   tls = Some (record { address = 4096; initial = 4; size = 8; alignment = 4 });
   symbols = record { binding = Local; kind = NoType; visibility = Default; is_defined = false; value = 0; size = 0 }
-    ∷ record { binding = Global; kind = Func; visibility = Default; is_defined = true; value = 0; size = 8 }
-    ∷ record { binding = Global; kind = Tls; visibility = Default; is_defined = true; value = 0; size = 4 }
-    ∷ [];
+      ∷ record { binding = Global; kind = Func; visibility = Default; is_defined = true; value = 0; size = 8 }
+      ∷ record { binding = Global; kind = Tls; visibility = Default; is_defined = true; value = 0; size = 4 }
+      ∷ [];
   names = []
-    ∷ (102 ∷ [])
-    ∷ (118 ∷ [])
-    ∷ [];
+      ∷ (102 ∷ [])
+      ∷ (118 ∷ [])
+      ∷ [];
   relocations = record { place = 8192; kind = ThreadOffset; symbol = 0; addend = pos 0 }
-    ∷ [];
+      ∷ [];
   is_flagged = true;
 }
 
 of_surplus : told (said (Exe ∷ Late ∷ []) (of_surplus_app ∷ of_surplus_plug ∷ []) 4
     ((record { image = 2; action = Open } ∷ record { image = 2; action = Call (102 ∷ []) 0 0 0 } ∷ record { image = 2; action = Peek (118 ∷ []) 8 } ∷ record { image = 2; action = Close } ∷ record { image = 2; action = Open } ∷ record { image = 2; action = Call (102 ∷ []) 0 0 0 } ∷ []) ∷ [])
     ([]))
-    ≡ (((record { points = 0 ∷ []; ending = Answered (Opened 2) }) ∷ (record { points = 1 ∷ []; ending = Stopped (Returned 0xfffffffffffffff4) }) ∷ (record { points = 1 ∷ []; ending = Answered (Bytes (5 ∷ 0 ∷ 0 ∷ 0 ∷ 0 ∷ 0 ∷ 0 ∷ 0 ∷ [])) }) ∷ (record { points = 1 ∷ []; ending = Answered Closed }) ∷ (record { points = 2 ∷ []; ending = Answered (Opened 3) }) ∷ (record { points = 3 ∷ []; ending = Stopped (Returned 0xffffffffffffffec) }) ∷ []) ∷ []
-    , (record { thread = 1; line = 1; opens = true; image = 2 }) ∷ (record { thread = 1; line = 4; opens = false; image = 2 }) ∷ (record { thread = 1; line = 5; opens = true; image = 2 }) ∷ [])
+    ≡ (
+      ((record { points = 0 ∷ []; ending = Answered (Opened 2) }) ∷ (record { points = 1 ∷ []; ending = Stopped (Returned 0xfffffffffffffff4) }) ∷ (record { points = 1 ∷ []; ending = Answered (Bytes (5 ∷ 0 ∷ 0 ∷ 0 ∷ 0 ∷ 0 ∷ 0 ∷ 0 ∷ [])) }) ∷ (record { points = 1 ∷ []; ending = Answered Closed }) ∷ (record { points = 2 ∷ []; ending = Answered (Opened 3) }) ∷ (record { points = 3 ∷ []; ending = Stopped (Returned 0xffffffffffffffec) }) ∷ []) ∷ [],
+      (record { thread = 1; line = 1; opens = true; image = 2 }) ∷ (record { thread = 1; line = 4; opens = false; image = 2 }) ∷ (record { thread = 1; line = 5; opens = true; image = 2 }) ∷ [],
+    )
 unfolding said
 of_surplus = refl
 
@@ -170,20 +167,20 @@ abbrev by_descriptor_app : Spelled
 by_descriptor_app = record {
   kind = ExeFile;
   parts = record { class = Executable; address = 4194304; bytes = 100 ∷ 139 ∷ 4 ∷ 37 ∷ 252 ∷ 255 ∷ 255 ∷ 255 ∷ 195 ∷ [] }
-    ∷ record { class = ReadOnly; address = 4198400; bytes = 42 ∷ 0 ∷ 0 ∷ 0 ∷ [] }
-    ∷ record { class = ReadOnly; address = 4202496; bytes = [] }
-    ∷ [];
+      ∷ record { class = ReadOnly; address = 4198400; bytes = 42 ∷ 0 ∷ 0 ∷ 0 ∷ [] }
+      ∷ record { class = ReadOnly; address = 4202496; bytes = [] }
+      ∷ [];
   array_size = 0;
   got = None;
   tls = Some (record { address = 4198400; initial = 4; size = 4; alignment = 4 });
   symbols = record { binding = Local; kind = NoType; visibility = Default; is_defined = false; value = 0; size = 0 }
-    ∷ record { binding = Global; kind = Func; visibility = Default; is_defined = true; value = 4194304; size = 9 }
-    ∷ record { binding = Global; kind = Tls; visibility = Default; is_defined = true; value = 0; size = 4 }
-    ∷ [];
+      ∷ record { binding = Global; kind = Func; visibility = Default; is_defined = true; value = 4194304; size = 9 }
+      ∷ record { binding = Global; kind = Tls; visibility = Default; is_defined = true; value = 0; size = 4 }
+      ∷ [];
   names = []
-    ∷ (102 ∷ [])
-    ∷ (120 ∷ [])
-    ∷ [];
+      ∷ (102 ∷ [])
+      ∷ (120 ∷ [])
+      ∷ [];
   relocations = [];
   is_flagged = false;
 }
@@ -192,31 +189,33 @@ abbrev by_descriptor_plug : Spelled
 by_descriptor_plug = record {
   kind = ModuleFile;
   parts = record { class = Executable; address = 0; bytes = 72 ∷ 141 ∷ 5 ∷ 249 ∷ 31 ∷ 0 ∷ 0 ∷ 255 ∷ 16 ∷ 195 ∷ [] }
-    ∷ record { class = ReadOnly; address = 4096; bytes = 0 ∷ 0 ∷ 0 ∷ 0 ∷ 0 ∷ 0 ∷ 0 ∷ 0 ∷ 42 ∷ 0 ∷ 0 ∷ 0 ∷ 0 ∷ 0 ∷ 0 ∷ 0 ∷ 0 ∷ 0 ∷ 0 ∷ 0 ∷ [] }
-    ∷ record { class = Writable; address = 8192; bytes = 0 ∷ 0 ∷ 0 ∷ 0 ∷ 0 ∷ 0 ∷ 0 ∷ 0 ∷ 0 ∷ 0 ∷ 0 ∷ 0 ∷ 0 ∷ 0 ∷ 0 ∷ 0 ∷ [] }
-    ∷ record { class = ReadOnly; address = 12288; bytes = [] }
-    ∷ [];
+      ∷ record { class = ReadOnly; address = 4096; bytes = 0 ∷ 0 ∷ 0 ∷ 0 ∷ 0 ∷ 0 ∷ 0 ∷ 0 ∷ 42 ∷ 0 ∷ 0 ∷ 0 ∷ 0 ∷ 0 ∷ 0 ∷ 0 ∷ 0 ∷ 0 ∷ 0 ∷ 0 ∷ [] }
+      ∷ record { class = Writable; address = 8192; bytes = 0 ∷ 0 ∷ 0 ∷ 0 ∷ 0 ∷ 0 ∷ 0 ∷ 0 ∷ 0 ∷ 0 ∷ 0 ∷ 0 ∷ 0 ∷ 0 ∷ 0 ∷ 0 ∷ [] }
+      ∷ record { class = ReadOnly; address = 12288; bytes = [] }
+      ∷ [];
   array_size = 0;
   got = Some 2;
   tls = Some (record { address = 4096; initial = 20; size = 20; alignment = 8 });
   symbols = record { binding = Local; kind = NoType; visibility = Default; is_defined = false; value = 0; size = 0 }
-    ∷ record { binding = Global; kind = Func; visibility = Default; is_defined = true; value = 0; size = 10 }
-    ∷ record { binding = Global; kind = Tls; visibility = Default; is_defined = true; value = 8; size = 4 }
-    ∷ [];
+      ∷ record { binding = Global; kind = Func; visibility = Default; is_defined = true; value = 0; size = 10 }
+      ∷ record { binding = Global; kind = Tls; visibility = Default; is_defined = true; value = 8; size = 4 }
+      ∷ [];
   names = []
-    ∷ (102 ∷ [])
-    ∷ (120 ∷ [])
-    ∷ [];
+      ∷ (102 ∷ [])
+      ∷ (120 ∷ [])
+      ∷ [];
   relocations = record { place = 8192; kind = Descriptor; symbol = 0; addend = pos 8 }
-    ∷ [];
+      ∷ [];
   is_flagged = false;
 }
 
 by_descriptor : told (said (Exe ∷ Late ∷ []) (by_descriptor_app ∷ by_descriptor_plug ∷ []) 4
     ((record { image = 2; action = Open } ∷ record { image = 2; action = Call (102 ∷ []) 0 0 0 } ∷ []) ∷ [])
     ([]))
-    ≡ (((record { points = 0 ∷ []; ending = Answered (Opened 2) }) ∷ (record { points = 1 ∷ 1 ∷ []; ending = Stopped (Returned 0xffffffc002000008) }) ∷ []) ∷ []
-    , (record { thread = 1; line = 1; opens = true; image = 2 }) ∷ [])
+    ≡ (
+      ((record { points = 0 ∷ []; ending = Answered (Opened 2) }) ∷ (record { points = 1 ∷ 1 ∷ []; ending = Stopped (Returned 0xffffffc002000008) }) ∷ []) ∷ [],
+      (record { thread = 1; line = 1; opens = true; image = 2 }) ∷ [],
+    )
 unfolding said
 by_descriptor = refl
 
@@ -226,17 +225,17 @@ abbrev not_readable_app : Spelled
 not_readable_app = record {
   kind = ExeFile;
   parts = record { class = Executable; address = 4194304; bytes = 139 ∷ 7 ∷ 195 ∷ [] }
-    ∷ record { class = ReadOnly; address = 4198400; bytes = [] }
-    ∷ [];
+      ∷ record { class = ReadOnly; address = 4198400; bytes = [] }
+      ∷ [];
   array_size = 0;
   got = None;
   tls = None;
   symbols = record { binding = Local; kind = NoType; visibility = Default; is_defined = false; value = 0; size = 0 }
-    ∷ record { binding = Global; kind = Func; visibility = Default; is_defined = true; value = 4194304; size = 3 }
-    ∷ [];
+      ∷ record { binding = Global; kind = Func; visibility = Default; is_defined = true; value = 4194304; size = 3 }
+      ∷ [];
   names = []
-    ∷ (102 ∷ [])
-    ∷ [];
+      ∷ (102 ∷ [])
+      ∷ [];
   relocations = [];
   is_flagged = false;
 }
@@ -244,7 +243,9 @@ not_readable_app = record {
 not_readable : told (said (Exe ∷ []) (not_readable_app ∷ []) 4
     ((record { image = 1; action = Call (102 ∷ []) 4194304 0 0 } ∷ record { image = 1; action = Call (102 ∷ []) 1374389534720 0 0 } ∷ []) ∷ [])
     ([]))
-    ≡ (((record { points = 0 ∷ []; ending = Stopped (Address 0x400000) }) ∷ (record { points = 0 ∷ []; ending = Stopped (Returned 0x0) }) ∷ []) ∷ []
-    , [])
+    ≡ (
+      ((record { points = 0 ∷ []; ending = Stopped (Address 0x400000) }) ∷ (record { points = 0 ∷ []; ending = Stopped (Returned 0x0) }) ∷ []) ∷ [],
+      [],
+    )
 unfolding said
 not_readable = refl

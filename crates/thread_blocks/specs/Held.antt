@@ -1,11 +1,10 @@
 -- What a thread holds from line to line, and what a look makes of it.
-use Rattle.std.specs.Prelude.{ℕ, ◌==◌, ◌&&◌, Bool, true, false, not, List, [], ◌∷◌, ◌++◌, Option, Some, None, is_some, fold, map, if◌then◌else◌}
+use Rattle.std.specs.Prelude.{ℕ, ◌==◌, ◌&&◌, Bool, true, false, List, [], ◌∷◌, Option, is_some, fold, map, if◌then◌else◌}
 use Rattle.std.specs.List.{filter, list_any}
 use Rattle.guest_machine.specs.Ranges.{Range}
 use Rattle.guest_machine.specs.Use.{After, left}
 use Rattle.loaded_modules.specs.declared.instance.Instance.{Instance}
 use Rattle.module_table.specs.declared.events.Event.{Event}
-use Rattle.module_table.specs.declared.modules.Module.{Module}
 use Rattle.thread_blocks.specs.Instances.{Loads, instances, numbered_instance, fresh_range}
 use Rattle.thread_blocks.specs.Spaces.{Space}
 

@@ -1,10 +1,8 @@
 -- What is loaded of a job's images: each part of a live instance at its place, as the loader leaves it, with the rights
 -- of its class (gABI, "Program Loading").
-use Rattle.std.specs.Prelude.{◌+◌, ◌&&◌, ◌==◌, ℕ, Bool, not, suc, List, [], ◌∷◌, ◌++◌, drop, map, Option, Some, None, option_and_then, option_map, slice_get, if◌then◌else◌}
-use Rattle.std.specs.List.{filter, position_from}
-use Rattle.std.specs.Str.{bytes_eq}
+use Rattle.std.specs.Prelude.{◌+◌, ◌&&◌, ℕ, not, suc, List, [], ◌∷◌, Option, Some, None, option_and_then, option_map, if◌then◌else◌}
+use Rattle.std.specs.List.{filter}
 use Rattle.guest_machine.specs.Ranges.{Range}
-use Rattle.image_file.specs.declared.symbol.ImageSymbol.{ImageSymbol}
 use Rattle.image_file.specs.Spelled.{Part, Spelled}
 use Rattle.loaded_modules.specs.declared.instance.Instance.{Instance}
 use Rattle.loaded_modules.specs.Images.{JobImages, image_at, infos, last_offset}

@@ -1,16 +1,16 @@
 -- All threads of a job, and the data that they share: each turn begins with the data as the turn before left it.
 use Rattle.std.specs.Prelude.{ℕ, ◌*◌, Bool, suc, not, List, [], ◌∷◌, ◌++◌, Option, Some, None}
 use Rattle.std.specs.List.{filter, flat_map}
-use Rattle.guest_machine.specs.Use.{After, left}
+use Rattle.guest_machine.specs.Use.{left}
 use Rattle.guest_arithmetic.specs.Plain.{plain_operations}
 use Rattle.guest_machine.specs.State.{start_of}
 use Rattle.job_text.specs.declared.thread_lines.ThreadLine.{ThreadLine}
 use Rattle.module_table.specs.declared.events.Event.{Event}
-use Rattle.thread_blocks.specs.Held.{Held, Kind, Owned, owned_by, with_owned, fresh_data, is_block, looked_at}
+use Rattle.thread_blocks.specs.Held.{Held, Owned, owned_by, with_owned, fresh_data, is_block}
 use Rattle.thread_blocks.specs.Instances.{Loads, instances}
 use Rattle.thread_blocks.specs.Lines.{Line, event_by}
 use Rattle.thread_blocks.specs.RunTime.{Runs, thread_turns}
-use Rattle.thread_blocks.specs.Turns.{Phase, Idle, Mid, Said, Thread, Turns, at_number, with_number, event_of, ready, turn, whole_order, with_event}
+use Rattle.thread_blocks.specs.Turns.{Phase, Idle, Mid, Thread, Turns, at_number, with_number, event_of, ready, turn, whole_order, with_event}
 
 -- B: a byte
 pub record Shared (W F B L : Type 0) : Type 0 where

@@ -7,6 +7,7 @@ pub mod Calling
 pub mod Held
 pub mod Instances
 pub mod JobLoads
+pub mod JobStatements
 pub mod JobWorlds
 pub mod Lines
 pub mod RunTime

@@ -1,17 +1,7 @@
 -- Lines of all kinds: a call of a function, an open or a close of an image, and a look at the bytes of a variable.
-use Rattle.std.specs.Prelude.{◌+◌, ◌-◌, ◌*◌, ◌/◌, ◌%◌, ◌^◌, ◌==◌, ◌&&◌, ℕ, Bool, true, false, zero, suc, List, [], ◌∷◌, ◌++◌, length, fold, Option, Some, None, Result, Ok, Err, nat_le, nat_lt, is_none, option_map, slice_range, if◌then◌else◌}
-use Rattle.std.specs.List.{filter, find, flat_map, list_any}
-use Rattle.guest_arithmetic.specs.Plain.{plain_operations}
-use Rattle.guest_arithmetic.specs.Values.{Operations, number_from}
-use Rattle.guest_operands.specs.declared.state.State.{State}
-use Rattle.guest_operands.specs.declared.stop.Stop.{Stop}
-use Rattle.guest_operands.specs.declared.stop.Stop.TheVariants.{Address}
-use Rattle.guest_machine.specs.Access.{Accesses, Refusal, bytes_at}
-use Rattle.guest_machine.specs.Machine.{answer_of}
-use Rattle.guest_machine.specs.Ranges.{Range}
-use Rattle.guest_machine.specs.Run.{Next, Goes, Ends, Looks, Stepping, machine}
-use Rattle.guest_machine.specs.State.{start_of}
-use Rattle.guest_machine.specs.Use.{After, left}
+use Rattle.std.specs.Prelude.{◌+◌, ℕ, Bool, true, false, List, [], ◌∷◌, ◌++◌, length, Option, Some, None, nat_le, slice_range, if◌then◌else◌}
+use Rattle.guest_arithmetic.specs.Values.{Operations}
+use Rattle.guest_machine.specs.Use.{left}
 use Rattle.job_text.specs.declared.thread_lines.Action.{Action}
 use Rattle.job_text.specs.declared.thread_lines.Action.TheVariants.{Call, Open, Close, Peek}
 use Rattle.job_text.specs.declared.thread_lines.ThreadLine.{ThreadLine}
@@ -23,15 +13,13 @@ use Rattle.module_table.specs.declared.events.OpenRefusal.{OpenRefusal}
 use Rattle.module_table.specs.declared.events.OpenRefusal.TheVariants.{Unknown, Full, StaticFull, OutOfMemory as NoRoomToOpen}
 use Rattle.module_table.specs.Modules.{is_loaded}
 use Rattle.module_table.specs.Past.{open_refusal, close_refusal, module_of}
-use Rattle.transcript_text.specs.declared.outcomes.LineFault.TheVariants.{Unloaded}
 use Rattle.transcript_text.specs.declared.outcomes.LineRefusal.{LineRefusal}
 use Rattle.transcript_text.specs.declared.outcomes.LineRefusal.TheVariants.{Unknown as UnknownImage, Full as TooMany, StaticFull as NoSurplus, Permanent as Stays, NotOpen as IsClosed, Symbol as NoSymbol, Length as TooLong}
-use Rattle.transcript_text.specs.declared.outcomes.Outcome.TheVariants.{Opened, Closed, Bytes, Refused, Fault}
-use Rattle.thread_blocks.specs.Instances.{Loads, fixed_at, instance_at, instances, instance_with_id, is_startup_id, left_by, numbered_instance, block_start}
-use Rattle.thread_blocks.specs.Held.{Held, Asked, Owned, Owner, owned_by, ranges_in, with_owned, is_block_of, fresh_data, looked, reached}
-use Rattle.thread_blocks.specs.MachineTurns.{call_start, fresh_space, pointer_of, pointer_word, stack_end, stack_start}
-use Rattle.thread_blocks.specs.Spaces.{Space, space_accesses, open_everywhere, no_field}
-use Rattle.thread_blocks.specs.Turns.{Ending, Answered, Stopped, Begun, Says, Calls, Turns, with_last}
+use Rattle.transcript_text.specs.declared.outcomes.Outcome.TheVariants.{Opened, Closed, Refused}
+use Rattle.thread_blocks.specs.Instances.{Loads, instance_at, left_by}
+use Rattle.thread_blocks.specs.Held.{Held, Owned, owned_by, with_owned, is_block_of, fresh_data, looked, reached}
+use Rattle.thread_blocks.specs.MachineTurns.{call_start, fresh_space}
+use Rattle.thread_blocks.specs.Turns.{Ending, Answered, Begun, Says, Calls, with_last}
 
 -- a line of a thread, with its number, from 1
 pub record Line : Type 0 where

@@ -1,18 +1,12 @@
 -- What a thread finds of a program that was read: its parts with their rights, what its blocks begin as, and where
 -- its functions are (gABI, "Program Loading"; Drepper, "ELF Handling For Thread-Local Storage", section 3).
-use Rattle.std.specs.Prelude.{◌+◌, ◌-◌, ◌&&◌, ◌==◌, ℕ, Bool, true, false, not, suc, List, [], ◌∷◌, ◌++◌, drop, length}
-use Rattle.std.specs.Prelude.{Option, Some, None, nat_le, nat_lt, option_and_then, slice_get, slice_range}
-use Rattle.std.specs.Prelude.{if◌then◌else◌}
-use Rattle.std.specs.List.{find, list_any, position_from}
-use Rattle.std.specs.Str.{bytes_eq}
+use Rattle.std.specs.Prelude.{◌+◌, ◌-◌, ◌&&◌, ◌==◌, ℕ, Bool, true, false, not, suc, List, [], ◌∷◌, ◌++◌, length}
+use Rattle.std.specs.Prelude.{Option, Some, None, nat_le, slice_range}
+use Rattle.std.specs.List.{find}
 use Rattle.guest_machine.specs.Ranges.{Range}
-use Rattle.image_file.specs.declared.part.ImagePart.{ImagePart}
 use Rattle.image_file.specs.declared.part.PartClass.{PartClass}
 use Rattle.image_file.specs.declared.part.PartClass.TheVariants.{Executable, ReadOnly, Writable}
 use Rattle.image_file.specs.declared.part.TlsPart.{TlsPart}
-use Rattle.image_file.specs.declared.symbol.ImageSymbol.{ImageSymbol}
-use Rattle.image_file.specs.declared.symbol.SymbolType.{SymbolType}
-use Rattle.image_file.specs.declared.symbol.SymbolType.TheVariants.{Tls}
 use Rattle.image_file.specs.Spelled.{Part, Spelled}
 pub use Rattle.image_names.specs.Functions.{function_place, is_code, is_tls, lent_part, runs_at}
 unfoldable pub use Rattle.image_names.specs.Functions.{entry_in}

@@ -1,20 +1,18 @@
 -- The run time that the machine's code calls: `__tls_get_addr`, and the function of TLS descriptors (Drepper, "ELF
 -- Handling For Thread-Local Storage", section 3.4.6; psABI, "TLS Descriptors").
-use Rattle.std.specs.Prelude.{◌+◌, ◌-◌, ◌*◌, ◌/◌, ◌%◌, ◌^◌, ◌==◌, ◌&&◌, ℕ, Bool, true, false, List, [], ◌∷◌, length, Option, Some, None, Result, Ok, Err, nat_le, is_none, if◌then◌else◌}
+use Rattle.std.specs.Prelude.{◌+◌, ◌-◌, ◌*◌, ◌/◌, ◌%◌, ◌^◌, ◌==◌, ◌&&◌, ℕ, Bool, true, false, List, ◌∷◌, length, Option, Some, None, Result, Ok, Err, nat_le, is_none, if◌then◌else◌}
 use Rattle.std.specs.List.{find, list_any}
 use Rattle.guest_arithmetic.specs.Plain.{plain_operations}
 use Rattle.guest_arithmetic.specs.Values.{number_from}
-use Rattle.guest_operands.specs.declared.state.State.{State}
 use Rattle.guest_operands.specs.declared.stop.Stop.{Stop}
 use Rattle.guest_operands.specs.declared.stop.Stop.TheVariants.{Address}
 use Rattle.guest_machine.specs.Access.{Accesses, Refusal, bytes_at, both_reached}
 use Rattle.guest_machine.specs.Machine.{answer_of}
 use Rattle.guest_machine.specs.Ranges.{Range}
 use Rattle.guest_machine.specs.Run.{Next, Goes, Ends, Looks, Stepping, machine}
-use Rattle.guest_machine.specs.Use.{After, left}
+use Rattle.guest_machine.specs.Use.{After}
 use Rattle.loaded_modules.specs.declared.instance.Instance.{Instance}
 use Rattle.module_table.specs.declared.events.Event.{Event}
-use Rattle.transcript_text.specs.declared.outcomes.Bytes.{Bytes as ShownBytes}
 use Rattle.transcript_text.specs.declared.outcomes.LineFault.TheVariants.{Unloaded}
 use Rattle.transcript_text.specs.declared.outcomes.Outcome.TheVariants.{Bytes, Fault}
 use Rattle.thread_blocks.specs.Held.{Held, Asked, looked, reached}

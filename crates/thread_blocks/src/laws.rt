@@ -1,5 +1,6 @@
 //! Laws of threads among others. The functions do nothing: what they ensure is the law.
 
+ghost use Rattle.thread_blocks.specs.JobStatements.{HistoriesAreLegal};
 ghost use Rattle.thread_blocks.specs.Statements.{ThreadsTakeTheirOwnTurns, ThreadsSayTheirOwn};
 
 /// Among others a thread of the machine takes the turns that it would take alone.
@@ -11,4 +12,10 @@ pub fn threads_take_their_own_turns()
 /// the history, each of which the next one continues.
 pub fn threads_say_their_own()
     ensures { ThreadsSayTheirOwn }
+{}
+
+/// Each open and close of a job is one that was accepted after those before it, in any order of the threads' turns.
+#[tactic(auto, using(crate::proofs::Histories::histories_legal))]
+pub fn histories_are_legal()
+    ensures { HistoriesAreLegal }
 {}
