@@ -18,27 +18,27 @@ use Rattle.thread_blocks.proofs.JobRuns.{said, told}
 abbrev shared_counter_app : Spelled
 shared_counter_app = record {
   kind = ExeFile;
-  parts = record { class = Executable; address = 4194304; bytes = 139 ∷ 5 ∷ 250 ∷ 15 ∷ 0 ∷ 0 ∷ 131 ∷ 192 ∷ 1 ∷ 137 ∷ 5 ∷ 241 ∷ 15 ∷ 0 ∷ 0 ∷ 195 ∷ [] }
-      ∷ record { class = Writable; address = 4198400; bytes = 5 ∷ 0 ∷ 0 ∷ 0 ∷ [] }
-      ∷ record { class = ReadOnly; address = 4202496; bytes = [] }
+  parts = record { class = Executable; address = 0x400000; bytes = 0x8b ∷ 0x05 ∷ 0xfa ∷ 0x0f ∷ 0x00 ∷ 0x00 ∷ 0x83 ∷ 0xc0 ∷ 0x01 ∷ 0x89 ∷ 0x05 ∷ 0xf1 ∷ 0x0f ∷ 0x00 ∷ 0x00 ∷ 0xc3 ∷ [] }
+      ∷ record { class = Writable; address = 0x401000; bytes = 0x05 ∷ 0x00 ∷ 0x00 ∷ 0x00 ∷ [] }
+      ∷ record { class = ReadOnly; address = 0x402000; bytes = [] }
       ∷ [];
   array_size = 0;
   got = None;
   tls = None;
-  symbols = record { binding = Local; kind = NoType; visibility = Default; is_defined = false; value = 0; size = 0 }
-      ∷ record { binding = Global; kind = Func; visibility = Default; is_defined = true; value = 4194304; size = 16 }
-      ∷ record { binding = Global; kind = Object; visibility = Default; is_defined = true; value = 4198400; size = 4 }
+  symbols = record { binding = Local; kind = NoType; visibility = Default; is_defined = false; value = 0x0; size = 0 }
+      ∷ record { binding = Global; kind = Func; visibility = Default; is_defined = true; value = 0x400000; size = 16 }
+      ∷ record { binding = Global; kind = Object; visibility = Default; is_defined = true; value = 0x401000; size = 4 }
       ∷ [];
   names = []
-      ∷ (102 ∷ [])
-      ∷ (110 ∷ [])
+      ∷ (0x66 ∷ [])
+      ∷ (0x6e ∷ [])
       ∷ [];
   relocations = [];
   is_flagged = false;
 }
 
 shared_counter : told (said (Exe ∷ []) (shared_counter_app ∷ []) 4
-    ((record { image = 1; action = Call (102 ∷ []) 0 0 0 } ∷ record { image = 1; action = Call (102 ∷ []) 0 0 0 } ∷ []) ∷ (record { image = 1; action = Call (102 ∷ []) 0 0 0 } ∷ []) ∷ [])
+    ((record { image = 1; action = Call (0x66 ∷ []) 0 0 0 } ∷ record { image = 1; action = Call (0x66 ∷ []) 0 0 0 } ∷ []) ∷ (record { image = 1; action = Call (0x66 ∷ []) 0 0 0 } ∷ []) ∷ [])
     (1 ∷ 2 ∷ 1 ∷ []))
     ≡ (
       ((record { points = 0 ∷ []; ending = Stopped (Returned 0x6) }) ∷ (record { points = 0 ∷ []; ending = Stopped (Returned 0x8) }) ∷ []) ∷ ((record { points = 0 ∷ []; ending = Stopped (Returned 0x7) }) ∷ []) ∷ [],
@@ -52,20 +52,20 @@ shared_counter = refl
 abbrev fresh_counter_app : Spelled
 fresh_counter_app = record {
   kind = ExeFile;
-  parts = record { class = Executable; address = 4194304; bytes = 100 ∷ 139 ∷ 4 ∷ 37 ∷ 252 ∷ 255 ∷ 255 ∷ 255 ∷ 195 ∷ [] }
-      ∷ record { class = ReadOnly; address = 4198400; bytes = 42 ∷ 0 ∷ 0 ∷ 0 ∷ [] }
-      ∷ record { class = ReadOnly; address = 4202496; bytes = [] }
+  parts = record { class = Executable; address = 0x400000; bytes = 0x64 ∷ 0x8b ∷ 0x04 ∷ 0x25 ∷ 0xfc ∷ 0xff ∷ 0xff ∷ 0xff ∷ 0xc3 ∷ [] }
+      ∷ record { class = ReadOnly; address = 0x401000; bytes = 0x2a ∷ 0x00 ∷ 0x00 ∷ 0x00 ∷ [] }
+      ∷ record { class = ReadOnly; address = 0x402000; bytes = [] }
       ∷ [];
   array_size = 0;
   got = None;
   tls = Some (record { address = 4198400; initial = 4; size = 4; alignment = 4 });
-  symbols = record { binding = Local; kind = NoType; visibility = Default; is_defined = false; value = 0; size = 0 }
-      ∷ record { binding = Global; kind = Func; visibility = Default; is_defined = true; value = 4194304; size = 9 }
-      ∷ record { binding = Global; kind = Tls; visibility = Default; is_defined = true; value = 0; size = 4 }
+  symbols = record { binding = Local; kind = NoType; visibility = Default; is_defined = false; value = 0x0; size = 0 }
+      ∷ record { binding = Global; kind = Func; visibility = Default; is_defined = true; value = 0x400000; size = 9 }
+      ∷ record { binding = Global; kind = Tls; visibility = Default; is_defined = true; value = 0x0; size = 4 }
       ∷ [];
   names = []
-      ∷ (102 ∷ [])
-      ∷ (120 ∷ [])
+      ∷ (0x66 ∷ [])
+      ∷ (0x78 ∷ [])
       ∷ [];
   relocations = [];
   is_flagged = false;
@@ -74,27 +74,27 @@ fresh_counter_app = record {
 abbrev fresh_counter_plug : Spelled
 fresh_counter_plug = record {
   kind = ModuleFile;
-  parts = record { class = Executable; address = 0; bytes = 139 ∷ 5 ∷ 250 ∷ 15 ∷ 0 ∷ 0 ∷ 131 ∷ 192 ∷ 1 ∷ 137 ∷ 5 ∷ 241 ∷ 15 ∷ 0 ∷ 0 ∷ 195 ∷ [] }
-      ∷ record { class = Writable; address = 4096; bytes = 5 ∷ 0 ∷ 0 ∷ 0 ∷ [] }
-      ∷ record { class = ReadOnly; address = 8192; bytes = [] }
+  parts = record { class = Executable; address = 0x0; bytes = 0x8b ∷ 0x05 ∷ 0xfa ∷ 0x0f ∷ 0x00 ∷ 0x00 ∷ 0x83 ∷ 0xc0 ∷ 0x01 ∷ 0x89 ∷ 0x05 ∷ 0xf1 ∷ 0x0f ∷ 0x00 ∷ 0x00 ∷ 0xc3 ∷ [] }
+      ∷ record { class = Writable; address = 0x1000; bytes = 0x05 ∷ 0x00 ∷ 0x00 ∷ 0x00 ∷ [] }
+      ∷ record { class = ReadOnly; address = 0x2000; bytes = [] }
       ∷ [];
   array_size = 0;
   got = None;
   tls = None;
-  symbols = record { binding = Local; kind = NoType; visibility = Default; is_defined = false; value = 0; size = 0 }
-      ∷ record { binding = Global; kind = Func; visibility = Default; is_defined = true; value = 0; size = 16 }
-      ∷ record { binding = Global; kind = Object; visibility = Default; is_defined = true; value = 4096; size = 4 }
+  symbols = record { binding = Local; kind = NoType; visibility = Default; is_defined = false; value = 0x0; size = 0 }
+      ∷ record { binding = Global; kind = Func; visibility = Default; is_defined = true; value = 0x0; size = 16 }
+      ∷ record { binding = Global; kind = Object; visibility = Default; is_defined = true; value = 0x1000; size = 4 }
       ∷ [];
   names = []
-      ∷ (102 ∷ [])
-      ∷ (110 ∷ [])
+      ∷ (0x66 ∷ [])
+      ∷ (0x6e ∷ [])
       ∷ [];
   relocations = [];
   is_flagged = false;
 }
 
 fresh_counter : told (said (Exe ∷ Late ∷ []) (fresh_counter_app ∷ fresh_counter_plug ∷ []) 4
-    ((record { image = 2; action = Open } ∷ record { image = 2; action = Call (102 ∷ []) 0 0 0 } ∷ record { image = 2; action = Close } ∷ record { image = 2; action = Open } ∷ record { image = 2; action = Call (102 ∷ []) 0 0 0 } ∷ []) ∷ [])
+    ((record { image = 2; action = Open } ∷ record { image = 2; action = Call (0x66 ∷ []) 0 0 0 } ∷ record { image = 2; action = Close } ∷ record { image = 2; action = Open } ∷ record { image = 2; action = Call (0x66 ∷ []) 0 0 0 } ∷ []) ∷ [])
     ([]))
     ≡ (
       ((record { points = 0 ∷ []; ending = Answered (Opened 2) }) ∷ (record { points = 1 ∷ []; ending = Stopped (Returned 0x6) }) ∷ (record { points = 1 ∷ []; ending = Answered Closed }) ∷ (record { points = 2 ∷ []; ending = Answered (Opened 3) }) ∷ (record { points = 3 ∷ []; ending = Stopped (Returned 0x6) }) ∷ []) ∷ [],

@@ -21,20 +21,20 @@ use Rattle.thread_blocks.proofs.JobRuns.{said, told}
 abbrev opened_again_app : Spelled
 opened_again_app = record {
   kind = ExeFile;
-  parts = record { class = Executable; address = 4194304; bytes = 100 ∷ 139 ∷ 4 ∷ 37 ∷ 252 ∷ 255 ∷ 255 ∷ 255 ∷ 195 ∷ [] }
-      ∷ record { class = ReadOnly; address = 4198400; bytes = 42 ∷ 0 ∷ 0 ∷ 0 ∷ [] }
-      ∷ record { class = ReadOnly; address = 4202496; bytes = [] }
+  parts = record { class = Executable; address = 0x400000; bytes = 0x64 ∷ 0x8b ∷ 0x04 ∷ 0x25 ∷ 0xfc ∷ 0xff ∷ 0xff ∷ 0xff ∷ 0xc3 ∷ [] }
+      ∷ record { class = ReadOnly; address = 0x401000; bytes = 0x2a ∷ 0x00 ∷ 0x00 ∷ 0x00 ∷ [] }
+      ∷ record { class = ReadOnly; address = 0x402000; bytes = [] }
       ∷ [];
   array_size = 0;
   got = None;
   tls = Some (record { address = 4198400; initial = 4; size = 4; alignment = 4 });
-  symbols = record { binding = Local; kind = NoType; visibility = Default; is_defined = false; value = 0; size = 0 }
-      ∷ record { binding = Global; kind = Func; visibility = Default; is_defined = true; value = 4194304; size = 9 }
-      ∷ record { binding = Global; kind = Tls; visibility = Default; is_defined = true; value = 0; size = 4 }
+  symbols = record { binding = Local; kind = NoType; visibility = Default; is_defined = false; value = 0x0; size = 0 }
+      ∷ record { binding = Global; kind = Func; visibility = Default; is_defined = true; value = 0x400000; size = 9 }
+      ∷ record { binding = Global; kind = Tls; visibility = Default; is_defined = true; value = 0x0; size = 4 }
       ∷ [];
   names = []
-      ∷ (102 ∷ [])
-      ∷ (120 ∷ [])
+      ∷ (0x66 ∷ [])
+      ∷ (0x78 ∷ [])
       ∷ [];
   relocations = [];
   is_flagged = false;
@@ -43,36 +43,36 @@ opened_again_app = record {
 abbrev opened_again_plug : Spelled
 opened_again_plug = record {
   kind = ModuleFile;
-  parts = record { class = Executable; address = 0; bytes = 87 ∷ 102 ∷ 72 ∷ 141 ∷ 61 ∷ 247 ∷ 31 ∷ 0 ∷ 0 ∷ 102 ∷ 102 ∷ 72 ∷ 232 ∷ 239 ∷ 47 ∷ 0 ∷ 0 ∷ 89 ∷ 137 ∷ 8 ∷ 195 ∷ [] }
-      ∷ record { class = ReadOnly; address = 4096; bytes = 5 ∷ 0 ∷ 0 ∷ 0 ∷ [] }
-      ∷ record { class = Writable; address = 8192; bytes = 0 ∷ 0 ∷ 0 ∷ 0 ∷ 0 ∷ 0 ∷ 0 ∷ 0 ∷ 0 ∷ 0 ∷ 0 ∷ 0 ∷ 0 ∷ 0 ∷ 0 ∷ 0 ∷ 0 ∷ 0 ∷ 0 ∷ 0 ∷ 0 ∷ 0 ∷ 0 ∷ 0 ∷ [] }
-      ∷ record { class = Executable; address = 12288; bytes = 255 ∷ 37 ∷ 10 ∷ 240 ∷ 255 ∷ 255 ∷ [] }
-      ∷ record { class = ReadOnly; address = 16384; bytes = [] }
+  parts = record { class = Executable; address = 0x0; bytes = 0x57 ∷ 0x66 ∷ 0x48 ∷ 0x8d ∷ 0x3d ∷ 0xf7 ∷ 0x1f ∷ 0x00 ∷ 0x00 ∷ 0x66 ∷ 0x66 ∷ 0x48 ∷ 0xe8 ∷ 0xef ∷ 0x2f ∷ 0x00 ∷ 0x00 ∷ 0x59 ∷ 0x89 ∷ 0x08 ∷ 0xc3 ∷ [] }
+      ∷ record { class = ReadOnly; address = 0x1000; bytes = 0x05 ∷ 0x00 ∷ 0x00 ∷ 0x00 ∷ [] }
+      ∷ record { class = Writable; address = 0x2000; bytes = 0x00 ∷ 0x00 ∷ 0x00 ∷ 0x00 ∷ 0x00 ∷ 0x00 ∷ 0x00 ∷ 0x00 ∷ 0x00 ∷ 0x00 ∷ 0x00 ∷ 0x00 ∷ 0x00 ∷ 0x00 ∷ 0x00 ∷ 0x00 ∷ 0x00 ∷ 0x00 ∷ 0x00 ∷ 0x00 ∷ 0x00 ∷ 0x00 ∷ 0x00 ∷ 0x00 ∷ [] }
+      ∷ record { class = Executable; address = 0x3000; bytes = 0xff ∷ 0x25 ∷ 0x0a ∷ 0xf0 ∷ 0xff ∷ 0xff ∷ [] }
+      ∷ record { class = ReadOnly; address = 0x4000; bytes = [] }
       ∷ [];
   array_size = 0;
   got = Some 2;
   tls = Some (record { address = 4096; initial = 4; size = 8; alignment = 4 });
-  symbols = record { binding = Local; kind = NoType; visibility = Default; is_defined = false; value = 0; size = 0 }
-      ∷ record { binding = Global; kind = Func; visibility = Default; is_defined = true; value = 0; size = 21 }
-      ∷ record { binding = Global; kind = Tls; visibility = Default; is_defined = true; value = 0; size = 4 }
-      ∷ record { binding = Global; kind = NoType; visibility = Default; is_defined = false; value = 0; size = 0 }
+  symbols = record { binding = Local; kind = NoType; visibility = Default; is_defined = false; value = 0x0; size = 0 }
+      ∷ record { binding = Global; kind = Func; visibility = Default; is_defined = true; value = 0x0; size = 21 }
+      ∷ record { binding = Global; kind = Tls; visibility = Default; is_defined = true; value = 0x0; size = 4 }
+      ∷ record { binding = Global; kind = NoType; visibility = Default; is_defined = false; value = 0x0; size = 0 }
       ∷ [];
   names = []
-      ∷ (102 ∷ [])
-      ∷ (118 ∷ [])
-      ∷ (95 ∷ 95 ∷ 116 ∷ 108 ∷ 115 ∷ 95 ∷ 103 ∷ 101 ∷ 116 ∷ 95 ∷ 97 ∷ 100 ∷ 100 ∷ 114 ∷ [])
+      ∷ (0x66 ∷ [])
+      ∷ (0x76 ∷ [])
+      ∷ (0x5f ∷ 0x5f ∷ 0x74 ∷ 0x6c ∷ 0x73 ∷ 0x5f ∷ 0x67 ∷ 0x65 ∷ 0x74 ∷ 0x5f ∷ 0x61 ∷ 0x64 ∷ 0x64 ∷ 0x72 ∷ [])
       ∷ [];
-  relocations = record { place = 8192; kind = Module; symbol = 0; addend = pos 0 }
-      ∷ record { place = 8208; kind = JumpSlot; symbol = 3; addend = pos 0 }
+  relocations = record { place = 0x2000; kind = Module; symbol = 0; addend = pos 0 }
+      ∷ record { place = 0x2010; kind = JumpSlot; symbol = 3; addend = pos 0 }
       ∷ [];
   is_flagged = false;
 }
 
 opened_again : told (said (Exe ∷ Late ∷ []) (opened_again_app ∷ opened_again_plug ∷ []) 4
-    ((record { image = 2; action = Open } ∷ record { image = 2; action = Call (102 ∷ []) 7 0 0 } ∷ record { image = 2; action = Peek (118 ∷ []) 4 } ∷ record { image = 2; action = Close } ∷ record { image = 2; action = Open } ∷ record { image = 2; action = Peek (118 ∷ []) 4 } ∷ []) ∷ [])
+    ((record { image = 2; action = Open } ∷ record { image = 2; action = Call (0x66 ∷ []) 7 0 0 } ∷ record { image = 2; action = Peek (0x76 ∷ []) 4 } ∷ record { image = 2; action = Close } ∷ record { image = 2; action = Open } ∷ record { image = 2; action = Peek (0x76 ∷ []) 4 } ∷ []) ∷ [])
     ([]))
     ≡ (
-      ((record { points = 0 ∷ []; ending = Answered (Opened 2) }) ∷ (record { points = 1 ∷ 1 ∷ []; ending = Stopped (Returned 0x10002000000) }) ∷ (record { points = 1 ∷ []; ending = Answered (Bytes (7 ∷ 0 ∷ 0 ∷ 0 ∷ [])) }) ∷ (record { points = 1 ∷ []; ending = Answered Closed }) ∷ (record { points = 2 ∷ []; ending = Answered (Opened 3) }) ∷ (record { points = 3 ∷ []; ending = Answered (Bytes (5 ∷ 0 ∷ 0 ∷ 0 ∷ [])) }) ∷ []) ∷ [],
+      ((record { points = 0 ∷ []; ending = Answered (Opened 2) }) ∷ (record { points = 1 ∷ 1 ∷ []; ending = Stopped (Returned 0x10002000000) }) ∷ (record { points = 1 ∷ []; ending = Answered (Bytes (0x07 ∷ 0x00 ∷ 0x00 ∷ 0x00 ∷ [])) }) ∷ (record { points = 1 ∷ []; ending = Answered Closed }) ∷ (record { points = 2 ∷ []; ending = Answered (Opened 3) }) ∷ (record { points = 3 ∷ []; ending = Answered (Bytes (0x05 ∷ 0x00 ∷ 0x00 ∷ 0x00 ∷ [])) }) ∷ []) ∷ [],
       (record { thread = 1; line = 1; opens = true; image = 2 }) ∷ (record { thread = 1; line = 4; opens = false; image = 2 }) ∷ (record { thread = 1; line = 5; opens = true; image = 2 }) ∷ [],
     )
 unfolding said
@@ -83,20 +83,20 @@ opened_again = refl
 abbrev unloaded_app : Spelled
 unloaded_app = record {
   kind = ExeFile;
-  parts = record { class = Executable; address = 4194304; bytes = 100 ∷ 139 ∷ 4 ∷ 37 ∷ 252 ∷ 255 ∷ 255 ∷ 255 ∷ 195 ∷ [] }
-      ∷ record { class = ReadOnly; address = 4198400; bytes = 42 ∷ 0 ∷ 0 ∷ 0 ∷ [] }
-      ∷ record { class = ReadOnly; address = 4202496; bytes = [] }
+  parts = record { class = Executable; address = 0x400000; bytes = 0x64 ∷ 0x8b ∷ 0x04 ∷ 0x25 ∷ 0xfc ∷ 0xff ∷ 0xff ∷ 0xff ∷ 0xc3 ∷ [] }
+      ∷ record { class = ReadOnly; address = 0x401000; bytes = 0x2a ∷ 0x00 ∷ 0x00 ∷ 0x00 ∷ [] }
+      ∷ record { class = ReadOnly; address = 0x402000; bytes = [] }
       ∷ [];
   array_size = 0;
   got = None;
   tls = Some (record { address = 4198400; initial = 4; size = 4; alignment = 4 });
-  symbols = record { binding = Local; kind = NoType; visibility = Default; is_defined = false; value = 0; size = 0 }
-      ∷ record { binding = Global; kind = Func; visibility = Default; is_defined = true; value = 4194304; size = 9 }
-      ∷ record { binding = Global; kind = Tls; visibility = Default; is_defined = true; value = 0; size = 4 }
+  symbols = record { binding = Local; kind = NoType; visibility = Default; is_defined = false; value = 0x0; size = 0 }
+      ∷ record { binding = Global; kind = Func; visibility = Default; is_defined = true; value = 0x400000; size = 9 }
+      ∷ record { binding = Global; kind = Tls; visibility = Default; is_defined = true; value = 0x0; size = 4 }
       ∷ [];
   names = []
-      ∷ (102 ∷ [])
-      ∷ (120 ∷ [])
+      ∷ (0x66 ∷ [])
+      ∷ (0x78 ∷ [])
       ∷ [];
   relocations = [];
   is_flagged = false;
@@ -105,33 +105,33 @@ unloaded_app = record {
 abbrev unloaded_plug : Spelled
 unloaded_plug = record {
   kind = ModuleFile;
-  parts = record { class = Executable; address = 0; bytes = 102 ∷ 72 ∷ 141 ∷ 61 ∷ 248 ∷ 31 ∷ 0 ∷ 0 ∷ 102 ∷ 102 ∷ 72 ∷ 232 ∷ 240 ∷ 47 ∷ 0 ∷ 0 ∷ 102 ∷ 72 ∷ 141 ∷ 61 ∷ 232 ∷ 31 ∷ 0 ∷ 0 ∷ 102 ∷ 102 ∷ 72 ∷ 232 ∷ 224 ∷ 47 ∷ 0 ∷ 0 ∷ 195 ∷ [] }
-      ∷ record { class = ReadOnly; address = 4096; bytes = 5 ∷ 0 ∷ 0 ∷ 0 ∷ [] }
-      ∷ record { class = Writable; address = 8192; bytes = 0 ∷ 0 ∷ 0 ∷ 0 ∷ 0 ∷ 0 ∷ 0 ∷ 0 ∷ 0 ∷ 0 ∷ 0 ∷ 0 ∷ 0 ∷ 0 ∷ 0 ∷ 0 ∷ 0 ∷ 0 ∷ 0 ∷ 0 ∷ 0 ∷ 0 ∷ 0 ∷ 0 ∷ [] }
-      ∷ record { class = Executable; address = 12288; bytes = 255 ∷ 37 ∷ 10 ∷ 240 ∷ 255 ∷ 255 ∷ [] }
-      ∷ record { class = ReadOnly; address = 16384; bytes = [] }
+  parts = record { class = Executable; address = 0x0; bytes = 0x66 ∷ 0x48 ∷ 0x8d ∷ 0x3d ∷ 0xf8 ∷ 0x1f ∷ 0x00 ∷ 0x00 ∷ 0x66 ∷ 0x66 ∷ 0x48 ∷ 0xe8 ∷ 0xf0 ∷ 0x2f ∷ 0x00 ∷ 0x00 ∷ 0x66 ∷ 0x48 ∷ 0x8d ∷ 0x3d ∷ 0xe8 ∷ 0x1f ∷ 0x00 ∷ 0x00 ∷ 0x66 ∷ 0x66 ∷ 0x48 ∷ 0xe8 ∷ 0xe0 ∷ 0x2f ∷ 0x00 ∷ 0x00 ∷ 0xc3 ∷ [] }
+      ∷ record { class = ReadOnly; address = 0x1000; bytes = 0x05 ∷ 0x00 ∷ 0x00 ∷ 0x00 ∷ [] }
+      ∷ record { class = Writable; address = 0x2000; bytes = 0x00 ∷ 0x00 ∷ 0x00 ∷ 0x00 ∷ 0x00 ∷ 0x00 ∷ 0x00 ∷ 0x00 ∷ 0x00 ∷ 0x00 ∷ 0x00 ∷ 0x00 ∷ 0x00 ∷ 0x00 ∷ 0x00 ∷ 0x00 ∷ 0x00 ∷ 0x00 ∷ 0x00 ∷ 0x00 ∷ 0x00 ∷ 0x00 ∷ 0x00 ∷ 0x00 ∷ [] }
+      ∷ record { class = Executable; address = 0x3000; bytes = 0xff ∷ 0x25 ∷ 0x0a ∷ 0xf0 ∷ 0xff ∷ 0xff ∷ [] }
+      ∷ record { class = ReadOnly; address = 0x4000; bytes = [] }
       ∷ [];
   array_size = 0;
   got = Some 2;
   tls = Some (record { address = 4096; initial = 4; size = 8; alignment = 4 });
-  symbols = record { binding = Local; kind = NoType; visibility = Default; is_defined = false; value = 0; size = 0 }
-      ∷ record { binding = Global; kind = Func; visibility = Default; is_defined = true; value = 0; size = 33 }
-      ∷ record { binding = Global; kind = Tls; visibility = Default; is_defined = true; value = 0; size = 4 }
-      ∷ record { binding = Global; kind = NoType; visibility = Default; is_defined = false; value = 0; size = 0 }
+  symbols = record { binding = Local; kind = NoType; visibility = Default; is_defined = false; value = 0x0; size = 0 }
+      ∷ record { binding = Global; kind = Func; visibility = Default; is_defined = true; value = 0x0; size = 33 }
+      ∷ record { binding = Global; kind = Tls; visibility = Default; is_defined = true; value = 0x0; size = 4 }
+      ∷ record { binding = Global; kind = NoType; visibility = Default; is_defined = false; value = 0x0; size = 0 }
       ∷ [];
   names = []
-      ∷ (102 ∷ [])
-      ∷ (118 ∷ [])
-      ∷ (95 ∷ 95 ∷ 116 ∷ 108 ∷ 115 ∷ 95 ∷ 103 ∷ 101 ∷ 116 ∷ 95 ∷ 97 ∷ 100 ∷ 100 ∷ 114 ∷ [])
+      ∷ (0x66 ∷ [])
+      ∷ (0x76 ∷ [])
+      ∷ (0x5f ∷ 0x5f ∷ 0x74 ∷ 0x6c ∷ 0x73 ∷ 0x5f ∷ 0x67 ∷ 0x65 ∷ 0x74 ∷ 0x5f ∷ 0x61 ∷ 0x64 ∷ 0x64 ∷ 0x72 ∷ [])
       ∷ [];
-  relocations = record { place = 8192; kind = Module; symbol = 0; addend = pos 0 }
-      ∷ record { place = 8208; kind = JumpSlot; symbol = 3; addend = pos 0 }
+  relocations = record { place = 0x2000; kind = Module; symbol = 0; addend = pos 0 }
+      ∷ record { place = 0x2010; kind = JumpSlot; symbol = 3; addend = pos 0 }
       ∷ [];
   is_flagged = false;
 }
 
 unloaded : told (said (Exe ∷ Late ∷ []) (unloaded_app ∷ unloaded_plug ∷ []) 4
-    ((record { image = 2; action = Open } ∷ record { image = 2; action = Call (102 ∷ []) 0 0 0 } ∷ []) ∷ (record { image = 2; action = Close } ∷ []) ∷ [])
+    ((record { image = 2; action = Open } ∷ record { image = 2; action = Call (0x66 ∷ []) 0 0 0 } ∷ []) ∷ (record { image = 2; action = Close } ∷ []) ∷ [])
     (1 ∷ 1 ∷ 1 ∷ 2 ∷ 1 ∷ []))
     ≡ (
       ((record { points = 0 ∷ []; ending = Answered (Opened 2) }) ∷ (record { points = 1 ∷ 1 ∷ 2 ∷ []; ending = Answered (Fault Unloaded) }) ∷ []) ∷ ((record { points = 1 ∷ []; ending = Answered Closed }) ∷ []) ∷ [],

@@ -20,22 +20,22 @@ use Rattle.thread_blocks.proofs.JobRuns.{said, told}
 abbrev of_startup_app : Spelled
 of_startup_app = record {
   kind = ExeFile;
-  parts = record { class = Executable; address = 4194304; bytes = 100 ∷ 72 ∷ 139 ∷ 4 ∷ 37 ∷ 0 ∷ 0 ∷ 0 ∷ 0 ∷ 72 ∷ 3 ∷ 5 ∷ 240 ∷ 15 ∷ 0 ∷ 0 ∷ 195 ∷ [] }
-      ∷ record { class = Writable; address = 4198400; bytes = 0 ∷ 0 ∷ 0 ∷ 0 ∷ 0 ∷ 0 ∷ 0 ∷ 0 ∷ [] }
-      ∷ record { class = ReadOnly; address = 4202496; bytes = [] }
+  parts = record { class = Executable; address = 0x400000; bytes = 0x64 ∷ 0x48 ∷ 0x8b ∷ 0x04 ∷ 0x25 ∷ 0x00 ∷ 0x00 ∷ 0x00 ∷ 0x00 ∷ 0x48 ∷ 0x03 ∷ 0x05 ∷ 0xf0 ∷ 0x0f ∷ 0x00 ∷ 0x00 ∷ 0xc3 ∷ [] }
+      ∷ record { class = Writable; address = 0x401000; bytes = 0x00 ∷ 0x00 ∷ 0x00 ∷ 0x00 ∷ 0x00 ∷ 0x00 ∷ 0x00 ∷ 0x00 ∷ [] }
+      ∷ record { class = ReadOnly; address = 0x402000; bytes = [] }
       ∷ [];
   array_size = 0;
   got = Some 1;
   tls = None;
-  symbols = record { binding = Local; kind = NoType; visibility = Default; is_defined = false; value = 0; size = 0 }
-      ∷ record { binding = Global; kind = Func; visibility = Default; is_defined = true; value = 4194304; size = 17 }
-      ∷ record { binding = Global; kind = Tls; visibility = Default; is_defined = false; value = 0; size = 0 }
+  symbols = record { binding = Local; kind = NoType; visibility = Default; is_defined = false; value = 0x0; size = 0 }
+      ∷ record { binding = Global; kind = Func; visibility = Default; is_defined = true; value = 0x400000; size = 17 }
+      ∷ record { binding = Global; kind = Tls; visibility = Default; is_defined = false; value = 0x0; size = 0 }
       ∷ [];
   names = []
-      ∷ (102 ∷ [])
-      ∷ (120 ∷ [])
+      ∷ (0x66 ∷ [])
+      ∷ (0x78 ∷ [])
       ∷ [];
-  relocations = record { place = 4198400; kind = ThreadOffset; symbol = 2; addend = pos 0 }
+  relocations = record { place = 0x401000; kind = ThreadOffset; symbol = 2; addend = pos 0 }
       ∷ [];
   is_flagged = false;
 }
@@ -43,24 +43,24 @@ of_startup_app = record {
 abbrev of_startup_lib : Spelled
 of_startup_lib = record {
   kind = ModuleFile;
-  parts = record { class = ReadOnly; address = 0; bytes = 0 ∷ 0 ∷ 0 ∷ 0 ∷ 0 ∷ 0 ∷ 0 ∷ 0 ∷ 42 ∷ 0 ∷ 0 ∷ 0 ∷ 0 ∷ 0 ∷ 0 ∷ 0 ∷ 0 ∷ 0 ∷ 0 ∷ 0 ∷ [] }
-      ∷ record { class = ReadOnly; address = 4096; bytes = [] }
+  parts = record { class = ReadOnly; address = 0x0; bytes = 0x00 ∷ 0x00 ∷ 0x00 ∷ 0x00 ∷ 0x00 ∷ 0x00 ∷ 0x00 ∷ 0x00 ∷ 0x2a ∷ 0x00 ∷ 0x00 ∷ 0x00 ∷ 0x00 ∷ 0x00 ∷ 0x00 ∷ 0x00 ∷ 0x00 ∷ 0x00 ∷ 0x00 ∷ 0x00 ∷ [] }
+      ∷ record { class = ReadOnly; address = 0x1000; bytes = [] }
       ∷ [];
   array_size = 0;
   got = None;
   tls = Some (record { address = 0; initial = 20; size = 20; alignment = 8 });
-  symbols = record { binding = Local; kind = NoType; visibility = Default; is_defined = false; value = 0; size = 0 }
-      ∷ record { binding = Global; kind = Tls; visibility = Default; is_defined = true; value = 8; size = 4 }
+  symbols = record { binding = Local; kind = NoType; visibility = Default; is_defined = false; value = 0x0; size = 0 }
+      ∷ record { binding = Global; kind = Tls; visibility = Default; is_defined = true; value = 0x8; size = 4 }
       ∷ [];
   names = []
-      ∷ (120 ∷ [])
+      ∷ (0x78 ∷ [])
       ∷ [];
   relocations = [];
   is_flagged = false;
 }
 
 of_startup : told (said (Exe ∷ Start ∷ []) (of_startup_app ∷ of_startup_lib ∷ []) 4
-    ((record { image = 1; action = Call (102 ∷ []) 0 0 0 } ∷ []) ∷ [])
+    ((record { image = 1; action = Call (0x66 ∷ []) 0 0 0 } ∷ []) ∷ [])
     ([]))
     ≡ (
       ((record { points = 0 ∷ []; ending = Stopped (Returned 0x13ffffffff0) }) ∷ []) ∷ [],
@@ -74,27 +74,27 @@ of_startup = refl
 abbrev of_pie_app : Spelled
 of_pie_app = record {
   kind = PieFile;
-  parts = record { class = Executable; address = 0; bytes = 100 ∷ 72 ∷ 139 ∷ 4 ∷ 37 ∷ 0 ∷ 0 ∷ 0 ∷ 0 ∷ 72 ∷ 141 ∷ 128 ∷ 240 ∷ 255 ∷ 255 ∷ 255 ∷ 195 ∷ [] }
-      ∷ record { class = ReadOnly; address = 4096; bytes = 0 ∷ 0 ∷ 0 ∷ 0 ∷ 0 ∷ 0 ∷ 0 ∷ 0 ∷ 42 ∷ 0 ∷ 0 ∷ 0 ∷ 0 ∷ 0 ∷ 0 ∷ 0 ∷ 0 ∷ 0 ∷ 0 ∷ 0 ∷ [] }
-      ∷ record { class = ReadOnly; address = 8192; bytes = [] }
+  parts = record { class = Executable; address = 0x0; bytes = 0x64 ∷ 0x48 ∷ 0x8b ∷ 0x04 ∷ 0x25 ∷ 0x00 ∷ 0x00 ∷ 0x00 ∷ 0x00 ∷ 0x48 ∷ 0x8d ∷ 0x80 ∷ 0xf0 ∷ 0xff ∷ 0xff ∷ 0xff ∷ 0xc3 ∷ [] }
+      ∷ record { class = ReadOnly; address = 0x1000; bytes = 0x00 ∷ 0x00 ∷ 0x00 ∷ 0x00 ∷ 0x00 ∷ 0x00 ∷ 0x00 ∷ 0x00 ∷ 0x2a ∷ 0x00 ∷ 0x00 ∷ 0x00 ∷ 0x00 ∷ 0x00 ∷ 0x00 ∷ 0x00 ∷ 0x00 ∷ 0x00 ∷ 0x00 ∷ 0x00 ∷ [] }
+      ∷ record { class = ReadOnly; address = 0x2000; bytes = [] }
       ∷ [];
   array_size = 0;
   got = None;
   tls = Some (record { address = 4096; initial = 20; size = 20; alignment = 8 });
-  symbols = record { binding = Local; kind = NoType; visibility = Default; is_defined = false; value = 0; size = 0 }
-      ∷ record { binding = Global; kind = Func; visibility = Default; is_defined = true; value = 0; size = 17 }
-      ∷ record { binding = Global; kind = Tls; visibility = Default; is_defined = true; value = 8; size = 4 }
+  symbols = record { binding = Local; kind = NoType; visibility = Default; is_defined = false; value = 0x0; size = 0 }
+      ∷ record { binding = Global; kind = Func; visibility = Default; is_defined = true; value = 0x0; size = 17 }
+      ∷ record { binding = Global; kind = Tls; visibility = Default; is_defined = true; value = 0x8; size = 4 }
       ∷ [];
   names = []
-      ∷ (102 ∷ [])
-      ∷ (120 ∷ [])
+      ∷ (0x66 ∷ [])
+      ∷ (0x78 ∷ [])
       ∷ [];
   relocations = [];
   is_flagged = false;
 }
 
 of_pie : told (said (Pie ∷ []) (of_pie_app ∷ []) 4
-    ((record { image = 1; action = Call (102 ∷ []) 0 0 0 } ∷ []) ∷ [])
+    ((record { image = 1; action = Call (0x66 ∷ []) 0 0 0 } ∷ []) ∷ [])
     ([]))
     ≡ (
       ((record { points = 0 ∷ []; ending = Stopped (Returned 0x13ffffffff0) }) ∷ []) ∷ [],
@@ -108,20 +108,20 @@ of_pie = refl
 abbrev of_surplus_app : Spelled
 of_surplus_app = record {
   kind = ExeFile;
-  parts = record { class = Executable; address = 4194304; bytes = 100 ∷ 139 ∷ 4 ∷ 37 ∷ 252 ∷ 255 ∷ 255 ∷ 255 ∷ 195 ∷ [] }
-      ∷ record { class = ReadOnly; address = 4198400; bytes = 42 ∷ 0 ∷ 0 ∷ 0 ∷ [] }
-      ∷ record { class = ReadOnly; address = 4202496; bytes = [] }
+  parts = record { class = Executable; address = 0x400000; bytes = 0x64 ∷ 0x8b ∷ 0x04 ∷ 0x25 ∷ 0xfc ∷ 0xff ∷ 0xff ∷ 0xff ∷ 0xc3 ∷ [] }
+      ∷ record { class = ReadOnly; address = 0x401000; bytes = 0x2a ∷ 0x00 ∷ 0x00 ∷ 0x00 ∷ [] }
+      ∷ record { class = ReadOnly; address = 0x402000; bytes = [] }
       ∷ [];
   array_size = 0;
   got = None;
   tls = Some (record { address = 4198400; initial = 4; size = 4; alignment = 4 });
-  symbols = record { binding = Local; kind = NoType; visibility = Default; is_defined = false; value = 0; size = 0 }
-      ∷ record { binding = Global; kind = Func; visibility = Default; is_defined = true; value = 4194304; size = 9 }
-      ∷ record { binding = Global; kind = Tls; visibility = Default; is_defined = true; value = 0; size = 4 }
+  symbols = record { binding = Local; kind = NoType; visibility = Default; is_defined = false; value = 0x0; size = 0 }
+      ∷ record { binding = Global; kind = Func; visibility = Default; is_defined = true; value = 0x400000; size = 9 }
+      ∷ record { binding = Global; kind = Tls; visibility = Default; is_defined = true; value = 0x0; size = 4 }
       ∷ [];
   names = []
-      ∷ (102 ∷ [])
-      ∷ (120 ∷ [])
+      ∷ (0x66 ∷ [])
+      ∷ (0x78 ∷ [])
       ∷ [];
   relocations = [];
   is_flagged = false;
@@ -130,32 +130,32 @@ of_surplus_app = record {
 abbrev of_surplus_plug : Spelled
 of_surplus_plug = record {
   kind = ModuleFile;
-  parts = record { class = Executable; address = 0; bytes = 72 ∷ 139 ∷ 5 ∷ 249 ∷ 31 ∷ 0 ∷ 0 ∷ 195 ∷ [] }
-      ∷ record { class = ReadOnly; address = 4096; bytes = 5 ∷ 0 ∷ 0 ∷ 0 ∷ [] }
-      ∷ record { class = Writable; address = 8192; bytes = 0 ∷ 0 ∷ 0 ∷ 0 ∷ 0 ∷ 0 ∷ 0 ∷ 0 ∷ [] }
-      ∷ record { class = ReadOnly; address = 12288; bytes = [] }
+  parts = record { class = Executable; address = 0x0; bytes = 0x48 ∷ 0x8b ∷ 0x05 ∷ 0xf9 ∷ 0x1f ∷ 0x00 ∷ 0x00 ∷ 0xc3 ∷ [] }
+      ∷ record { class = ReadOnly; address = 0x1000; bytes = 0x05 ∷ 0x00 ∷ 0x00 ∷ 0x00 ∷ [] }
+      ∷ record { class = Writable; address = 0x2000; bytes = 0x00 ∷ 0x00 ∷ 0x00 ∷ 0x00 ∷ 0x00 ∷ 0x00 ∷ 0x00 ∷ 0x00 ∷ [] }
+      ∷ record { class = ReadOnly; address = 0x3000; bytes = [] }
       ∷ [];
   array_size = 0;
   got = Some 2;
   tls = Some (record { address = 4096; initial = 4; size = 8; alignment = 4 });
-  symbols = record { binding = Local; kind = NoType; visibility = Default; is_defined = false; value = 0; size = 0 }
-      ∷ record { binding = Global; kind = Func; visibility = Default; is_defined = true; value = 0; size = 8 }
-      ∷ record { binding = Global; kind = Tls; visibility = Default; is_defined = true; value = 0; size = 4 }
+  symbols = record { binding = Local; kind = NoType; visibility = Default; is_defined = false; value = 0x0; size = 0 }
+      ∷ record { binding = Global; kind = Func; visibility = Default; is_defined = true; value = 0x0; size = 8 }
+      ∷ record { binding = Global; kind = Tls; visibility = Default; is_defined = true; value = 0x0; size = 4 }
       ∷ [];
   names = []
-      ∷ (102 ∷ [])
-      ∷ (118 ∷ [])
+      ∷ (0x66 ∷ [])
+      ∷ (0x76 ∷ [])
       ∷ [];
-  relocations = record { place = 8192; kind = ThreadOffset; symbol = 0; addend = pos 0 }
+  relocations = record { place = 0x2000; kind = ThreadOffset; symbol = 0; addend = pos 0 }
       ∷ [];
   is_flagged = true;
 }
 
 of_surplus : told (said (Exe ∷ Late ∷ []) (of_surplus_app ∷ of_surplus_plug ∷ []) 4
-    ((record { image = 2; action = Open } ∷ record { image = 2; action = Call (102 ∷ []) 0 0 0 } ∷ record { image = 2; action = Peek (118 ∷ []) 8 } ∷ record { image = 2; action = Close } ∷ record { image = 2; action = Open } ∷ record { image = 2; action = Call (102 ∷ []) 0 0 0 } ∷ []) ∷ [])
+    ((record { image = 2; action = Open } ∷ record { image = 2; action = Call (0x66 ∷ []) 0 0 0 } ∷ record { image = 2; action = Peek (0x76 ∷ []) 8 } ∷ record { image = 2; action = Close } ∷ record { image = 2; action = Open } ∷ record { image = 2; action = Call (0x66 ∷ []) 0 0 0 } ∷ []) ∷ [])
     ([]))
     ≡ (
-      ((record { points = 0 ∷ []; ending = Answered (Opened 2) }) ∷ (record { points = 1 ∷ []; ending = Stopped (Returned 0xfffffffffffffff4) }) ∷ (record { points = 1 ∷ []; ending = Answered (Bytes (5 ∷ 0 ∷ 0 ∷ 0 ∷ 0 ∷ 0 ∷ 0 ∷ 0 ∷ [])) }) ∷ (record { points = 1 ∷ []; ending = Answered Closed }) ∷ (record { points = 2 ∷ []; ending = Answered (Opened 3) }) ∷ (record { points = 3 ∷ []; ending = Stopped (Returned 0xffffffffffffffec) }) ∷ []) ∷ [],
+      ((record { points = 0 ∷ []; ending = Answered (Opened 2) }) ∷ (record { points = 1 ∷ []; ending = Stopped (Returned 0xfffffffffffffff4) }) ∷ (record { points = 1 ∷ []; ending = Answered (Bytes (0x05 ∷ 0x00 ∷ 0x00 ∷ 0x00 ∷ 0x00 ∷ 0x00 ∷ 0x00 ∷ 0x00 ∷ [])) }) ∷ (record { points = 1 ∷ []; ending = Answered Closed }) ∷ (record { points = 2 ∷ []; ending = Answered (Opened 3) }) ∷ (record { points = 3 ∷ []; ending = Stopped (Returned 0xffffffffffffffec) }) ∷ []) ∷ [],
       (record { thread = 1; line = 1; opens = true; image = 2 }) ∷ (record { thread = 1; line = 4; opens = false; image = 2 }) ∷ (record { thread = 1; line = 5; opens = true; image = 2 }) ∷ [],
     )
 unfolding said
@@ -166,20 +166,20 @@ of_surplus = refl
 abbrev by_descriptor_app : Spelled
 by_descriptor_app = record {
   kind = ExeFile;
-  parts = record { class = Executable; address = 4194304; bytes = 100 ∷ 139 ∷ 4 ∷ 37 ∷ 252 ∷ 255 ∷ 255 ∷ 255 ∷ 195 ∷ [] }
-      ∷ record { class = ReadOnly; address = 4198400; bytes = 42 ∷ 0 ∷ 0 ∷ 0 ∷ [] }
-      ∷ record { class = ReadOnly; address = 4202496; bytes = [] }
+  parts = record { class = Executable; address = 0x400000; bytes = 0x64 ∷ 0x8b ∷ 0x04 ∷ 0x25 ∷ 0xfc ∷ 0xff ∷ 0xff ∷ 0xff ∷ 0xc3 ∷ [] }
+      ∷ record { class = ReadOnly; address = 0x401000; bytes = 0x2a ∷ 0x00 ∷ 0x00 ∷ 0x00 ∷ [] }
+      ∷ record { class = ReadOnly; address = 0x402000; bytes = [] }
       ∷ [];
   array_size = 0;
   got = None;
   tls = Some (record { address = 4198400; initial = 4; size = 4; alignment = 4 });
-  symbols = record { binding = Local; kind = NoType; visibility = Default; is_defined = false; value = 0; size = 0 }
-      ∷ record { binding = Global; kind = Func; visibility = Default; is_defined = true; value = 4194304; size = 9 }
-      ∷ record { binding = Global; kind = Tls; visibility = Default; is_defined = true; value = 0; size = 4 }
+  symbols = record { binding = Local; kind = NoType; visibility = Default; is_defined = false; value = 0x0; size = 0 }
+      ∷ record { binding = Global; kind = Func; visibility = Default; is_defined = true; value = 0x400000; size = 9 }
+      ∷ record { binding = Global; kind = Tls; visibility = Default; is_defined = true; value = 0x0; size = 4 }
       ∷ [];
   names = []
-      ∷ (102 ∷ [])
-      ∷ (120 ∷ [])
+      ∷ (0x66 ∷ [])
+      ∷ (0x78 ∷ [])
       ∷ [];
   relocations = [];
   is_flagged = false;
@@ -188,29 +188,29 @@ by_descriptor_app = record {
 abbrev by_descriptor_plug : Spelled
 by_descriptor_plug = record {
   kind = ModuleFile;
-  parts = record { class = Executable; address = 0; bytes = 72 ∷ 141 ∷ 5 ∷ 249 ∷ 31 ∷ 0 ∷ 0 ∷ 255 ∷ 16 ∷ 195 ∷ [] }
-      ∷ record { class = ReadOnly; address = 4096; bytes = 0 ∷ 0 ∷ 0 ∷ 0 ∷ 0 ∷ 0 ∷ 0 ∷ 0 ∷ 42 ∷ 0 ∷ 0 ∷ 0 ∷ 0 ∷ 0 ∷ 0 ∷ 0 ∷ 0 ∷ 0 ∷ 0 ∷ 0 ∷ [] }
-      ∷ record { class = Writable; address = 8192; bytes = 0 ∷ 0 ∷ 0 ∷ 0 ∷ 0 ∷ 0 ∷ 0 ∷ 0 ∷ 0 ∷ 0 ∷ 0 ∷ 0 ∷ 0 ∷ 0 ∷ 0 ∷ 0 ∷ [] }
-      ∷ record { class = ReadOnly; address = 12288; bytes = [] }
+  parts = record { class = Executable; address = 0x0; bytes = 0x48 ∷ 0x8d ∷ 0x05 ∷ 0xf9 ∷ 0x1f ∷ 0x00 ∷ 0x00 ∷ 0xff ∷ 0x10 ∷ 0xc3 ∷ [] }
+      ∷ record { class = ReadOnly; address = 0x1000; bytes = 0x00 ∷ 0x00 ∷ 0x00 ∷ 0x00 ∷ 0x00 ∷ 0x00 ∷ 0x00 ∷ 0x00 ∷ 0x2a ∷ 0x00 ∷ 0x00 ∷ 0x00 ∷ 0x00 ∷ 0x00 ∷ 0x00 ∷ 0x00 ∷ 0x00 ∷ 0x00 ∷ 0x00 ∷ 0x00 ∷ [] }
+      ∷ record { class = Writable; address = 0x2000; bytes = 0x00 ∷ 0x00 ∷ 0x00 ∷ 0x00 ∷ 0x00 ∷ 0x00 ∷ 0x00 ∷ 0x00 ∷ 0x00 ∷ 0x00 ∷ 0x00 ∷ 0x00 ∷ 0x00 ∷ 0x00 ∷ 0x00 ∷ 0x00 ∷ [] }
+      ∷ record { class = ReadOnly; address = 0x3000; bytes = [] }
       ∷ [];
   array_size = 0;
   got = Some 2;
   tls = Some (record { address = 4096; initial = 20; size = 20; alignment = 8 });
-  symbols = record { binding = Local; kind = NoType; visibility = Default; is_defined = false; value = 0; size = 0 }
-      ∷ record { binding = Global; kind = Func; visibility = Default; is_defined = true; value = 0; size = 10 }
-      ∷ record { binding = Global; kind = Tls; visibility = Default; is_defined = true; value = 8; size = 4 }
+  symbols = record { binding = Local; kind = NoType; visibility = Default; is_defined = false; value = 0x0; size = 0 }
+      ∷ record { binding = Global; kind = Func; visibility = Default; is_defined = true; value = 0x0; size = 10 }
+      ∷ record { binding = Global; kind = Tls; visibility = Default; is_defined = true; value = 0x8; size = 4 }
       ∷ [];
   names = []
-      ∷ (102 ∷ [])
-      ∷ (120 ∷ [])
+      ∷ (0x66 ∷ [])
+      ∷ (0x78 ∷ [])
       ∷ [];
-  relocations = record { place = 8192; kind = Descriptor; symbol = 0; addend = pos 8 }
+  relocations = record { place = 0x2000; kind = Descriptor; symbol = 0; addend = pos 8 }
       ∷ [];
   is_flagged = false;
 }
 
 by_descriptor : told (said (Exe ∷ Late ∷ []) (by_descriptor_app ∷ by_descriptor_plug ∷ []) 4
-    ((record { image = 2; action = Open } ∷ record { image = 2; action = Call (102 ∷ []) 0 0 0 } ∷ []) ∷ [])
+    ((record { image = 2; action = Open } ∷ record { image = 2; action = Call (0x66 ∷ []) 0 0 0 } ∷ []) ∷ [])
     ([]))
     ≡ (
       ((record { points = 0 ∷ []; ending = Answered (Opened 2) }) ∷ (record { points = 1 ∷ 1 ∷ []; ending = Stopped (Returned 0xffffffc002000008) }) ∷ []) ∷ [],
@@ -224,24 +224,24 @@ by_descriptor = refl
 abbrev not_readable_app : Spelled
 not_readable_app = record {
   kind = ExeFile;
-  parts = record { class = Executable; address = 4194304; bytes = 139 ∷ 7 ∷ 195 ∷ [] }
-      ∷ record { class = ReadOnly; address = 4198400; bytes = [] }
+  parts = record { class = Executable; address = 0x400000; bytes = 0x8b ∷ 0x07 ∷ 0xc3 ∷ [] }
+      ∷ record { class = ReadOnly; address = 0x401000; bytes = [] }
       ∷ [];
   array_size = 0;
   got = None;
   tls = None;
-  symbols = record { binding = Local; kind = NoType; visibility = Default; is_defined = false; value = 0; size = 0 }
-      ∷ record { binding = Global; kind = Func; visibility = Default; is_defined = true; value = 4194304; size = 3 }
+  symbols = record { binding = Local; kind = NoType; visibility = Default; is_defined = false; value = 0x0; size = 0 }
+      ∷ record { binding = Global; kind = Func; visibility = Default; is_defined = true; value = 0x400000; size = 3 }
       ∷ [];
   names = []
-      ∷ (102 ∷ [])
+      ∷ (0x66 ∷ [])
       ∷ [];
   relocations = [];
   is_flagged = false;
 }
 
 not_readable : told (said (Exe ∷ []) (not_readable_app ∷ []) 4
-    ((record { image = 1; action = Call (102 ∷ []) 4194304 0 0 } ∷ record { image = 1; action = Call (102 ∷ []) 1374389534720 0 0 } ∷ []) ∷ [])
+    ((record { image = 1; action = Call (0x66 ∷ []) 4194304 0 0 } ∷ record { image = 1; action = Call (0x66 ∷ []) 1374389534720 0 0 } ∷ []) ∷ [])
     ([]))
     ≡ (
       ((record { points = 0 ∷ []; ending = Stopped (Address 0x400000) }) ∷ (record { points = 0 ∷ []; ending = Stopped (Returned 0x0) }) ∷ []) ∷ [],
