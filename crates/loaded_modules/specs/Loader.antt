@@ -23,6 +23,7 @@ use Rattle.image_file.specs.Spelled.{Part, Spelled}
 use Rattle.image_rules.specs.declared.places.FileKind.{FileKind}
 use Rattle.image_rules.specs.declared.places.FileKind.TheVariants.{Exe, Pie, Module as ModuleFile}
 use Rattle.link_faults.specs.declared.image_kind.ImageKind.{ImageKind}
+use Rattle.loaded_modules.specs.declared.exports.Export.{Export}
 use Rattle.loaded_modules.specs.declared.instance.Instance.{Instance}
 use Rattle.loaded_modules.specs.declared.TheConstants.{TLS_GET_ADDR, TLS_DESCRIPTOR}
 use Rattle.loaded_modules.specs.Images.{JobImages, image_at, is_late, static_offset}
@@ -61,16 +62,13 @@ shared_among name (symbol ∷ symbols) (own ∷ names) =
 abbrev pub shared_offset : List ℕ → Spelled → Option ℕ
 shared_offset name image = shared_among name (drop 1 image.symbols) (drop 1 image.names)
 
--- where other images find a symbol: the number of the image that has it, and the symbol's offset in its blocks
-pub record Export : Type 0 where
-  pub image : ℕ
-  pub offset : ℕ
+abbrev pub export_in : ℕ → ℕ → Export
+export_in number offset = record { image = number; offset = offset }
 
 -- what a startup image shares under the name
 abbrev pub export_here : List ℕ → ℕ → ImageKind → Spelled → Option Export
 export_here name number kind image =
-    if is_late kind then None else option_map (λ offset. record { image = number; offset = offset })
-    (shared_offset name image)
+    if is_late kind then None else option_map (export_in number) (shared_offset name image)
 
 -- the first startup image that shares the name, by its number, and the symbol's offset there
 abbrev pub shared_from : List ℕ → ℕ → List ImageKind → List Spelled → Option Export

@@ -1,9 +1,12 @@
 //! What a loader leaves of the images of a job.
 #![tactic(auto)]
 
+mod exports;
+mod infos;
 mod instance;
 mod modules;
 
+pub use exports::Export;
 pub use instance::Instance;
 pub use modules::Modules;
 

@@ -1,0 +1,4 @@
+mod Kept
+mod Left
+mod Sharing
+mod TlsKept
