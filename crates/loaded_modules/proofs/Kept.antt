@@ -3,10 +3,10 @@ use Rattle.std.proofs.Common.{◌≡◌, ◌∙◌, ℕ, zero, suc, ◌+◌, ◌
 use Rattle.job_text.specs.Jobs.{JobParts}
 use Rattle.loaded_modules.specs.Given.{AreModules}
 use Rattle.std.specs.Slice.{IsItemAt}
-use Rattle.std.proofs.lemmas.Option.{slice_get_past, slice_get_read}
+use Rattle.std.proofs.lemmas.Option.{slice_get_past, slice_get_read, slice_get_within, get_or_from_slice_get, unwrap_or-slice_get}
 use Rattle.std.specs.List.{slice_get}
 use Rattle.std.proofs.Math.Nat.{mod-lt}
-use Rattle.std.proofs.lemmas.List.{get_or_default, length-map}
+use Rattle.std.proofs.lemmas.List.{get_or_default, length-map, get_or-map}
 use Rattle.std.specs.List.{AllPairs}
 use Rattle.std.specs.Int.{next_multiple_of}
 use Rattle.std.proofs.lemmas.Bool.{cases_lt}
@@ -16,6 +16,8 @@ use Rattle.link_faults.specs.declared.image_kind.ImageKind.TheVariants.{Exe}
 use Rattle.module_table.specs.declared.modules.ImageInfo.{ImageInfo}
 use Rattle.module_table.specs.Laws.{startup_end}
 use Rattle.module_table.specs.Modules.{AreInfos, IsInfo}
+use Rattle.loaded_modules.specs.declared.exports.Export.{Export}
+use Rattle.loaded_modules.specs.Loader.{export_of, name_of}
 use Rattle.loaded_modules.specs.Ends.{end_behind, ends_behind}
 use Rattle.loaded_modules.specs.Images.{JobImages, image_at, info_of, infos, infos_of, is_late, last_offset, static_offset}
 
@@ -146,3 +148,35 @@ infos_are job images kinds same are some few kept =
 pub seen : {X : Type 0} (xs : List X) (i : ℕ) (r : Option (Bor X)) → IsItemAt xs i r → option_map (λ (b : Bor X). b.now) r ≡ slice_get xs i
 seen xs i None is = sym (slice_get_past xs i is.3)
 seen xs i (Some b) is = sym (slice_get_read xs (length xs) i b.now refl is.3.0 is.1)
+
+-- ** the rows of imports
+
+pub at_is : (m : JobImages) (number : ℕ) (image : Spelled) → image_at m number ≡ Some image → (1 ≤ number) × (slice_get m.images (number - 1) ≡ Some image)
+unfolding image_at
+at_is m zero image is = absurd (cc is)
+at_is m (suc n) image is = (omega arith, ap (slice_get m.images) (omega arith) ∙ is)
+
+module _ {V : Type 0} {T : Type 0} (items : V → List T) (f : Spelled → List T) (rows : List V) (images : List Spelled) (made : map items rows ≡ map f images) (i : ℕ) (image : Spelled) (is : slice_get images i ≡ Some image) where
+  pub row_within : i < length rows
+  row_within =
+      let within = slice_get_within images i image is in
+      let one = length-map rows items in
+      let two = length-map images f in
+      let same : length (map items rows) ≡ length (map f images) = ap length made in
+      omega (arith, within, one, two, same)
+
+  pub row_is : (row : V) → row ≡ get_or rows i row → items row ≡ f image
+  row_is row reads =
+      ap items reads
+      ∙ sym (get_or-map items rows i row (f image) row_within)
+      ∙ ap (λ (xs : List (List T)). get_or xs i (f image)) made
+      ∙ get_or-map f images i image (f image) (slice_get_within images i image is)
+      ∙ ap f (get_or_from_slice_get images i image image is)
+
+-- a symbol's place in a row
+pub symbol_is : (m : JobImages) (image : Spelled) (row : List (Option Export)) (symbol : ℕ) → row ≡ map (λ name. export_of m name) image.names → symbol < length image.names
+    → get_or row symbol None ≡ export_of m (name_of image symbol)
+symbol_is m image row symbol is within =
+    ap (λ (xs : List (Option Export)). get_or xs symbol None) is
+    ∙ get_or-map (λ name. export_of m name) image.names symbol [] None within
+    ∙ ap (λ name. export_of m name) (sym (unwrap_or-slice_get image.names symbol []))

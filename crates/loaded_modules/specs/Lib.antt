@@ -4,3 +4,4 @@ pub mod Given
 pub mod Holding
 pub mod Images
 pub mod Loader
+pub mod Words

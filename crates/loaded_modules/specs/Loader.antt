@@ -25,6 +25,7 @@ use Rattle.image_rules.specs.declared.places.FileKind.TheVariants.{Exe, Pie, Mod
 use Rattle.link_faults.specs.declared.image_kind.ImageKind.{ImageKind}
 use Rattle.loaded_modules.specs.declared.exports.Export.{Export}
 use Rattle.loaded_modules.specs.declared.instance.Instance.{Instance}
+use Rattle.loaded_modules.specs.declared.relocating.Target.{Target}
 use Rattle.loaded_modules.specs.declared.TheConstants.{TLS_GET_ADDR, TLS_DESCRIPTOR}
 use Rattle.loaded_modules.specs.Images.{JobImages, image_at, is_late, static_offset}
 
@@ -82,13 +83,6 @@ export_of m name = shared_from name 1 m.kinds m.images
 
 -- ---- what a relocation asks for
 
--- a thread-local symbol as the loader finds it: the module id of the image that has it, its offset in that image's
--- blocks, and how far below the thread pointer those begin, if that is fixed
-pub record Target : Type 0 where
-  pub id : ℕ
-  pub offset : ℕ
-  pub distance : ℕ
-
 -- a relocation without a symbol means the image itself, and its addend is the offset
 abbrev pub own_target : Instance → ImageRelocation → Target
 own_target x r =
@@ -117,7 +111,7 @@ written_bytes kind x t Relative addend = bytes_of 8 ((bias kind x.number + cast_
 written_bytes kind x t Module addend = bytes_of 8 t.id
 written_bytes kind x t ModuleOffset addend = bytes_of 8 t.offset
 written_bytes kind x t ThreadOffset addend = bytes_of 8 (word_difference t.offset t.distance)
-written_bytes kind x t Descriptor addend = bytes_of 8 TLS_DESCRIPTOR ++ bytes_of 8 (t.id * 2 ^ 32 + t.offset)
+written_bytes kind x t Descriptor addend = bytes_of 8 TLS_DESCRIPTOR ++ bytes_of 8 ((t.id * 2 ^ 32 + t.offset) % 2 ^ 64)
 
 unfoldable pub relocation_bytes : JobImages → Spelled → Instance → ImageRelocation → List ℕ
 relocation_bytes m image x r = written_bytes image.kind x (target_of m image x r) r.kind r.addend
@@ -128,12 +122,13 @@ relocation_bytes m image x r = written_bytes image.kind x (target_of m image x r
 abbrev pub lies_in : Part → ℕ → ℕ → Bool
 lies_in part place count = nat_le part.address place && nat_le (place + count) (part.address + length part.bytes)
 
--- the bytes of a part with those of a relocation in their place, if they lie in it
+-- the bytes of a part with others, those of a relocation, in their place, if they lie in it
+abbrev pub with_written : Part → List ℕ → ℕ → List ℕ → List ℕ
+with_written part bytes place written =
+    if lies_in part place (length written) then splice (place - part.address) written bytes else bytes
+
 abbrev pub with_relocation : JobImages → Spelled → Instance → Part → List ℕ → ImageRelocation → List ℕ
-with_relocation m image x part bytes r =
-    if lies_in part r.place (length (relocation_bytes m image x r))
-    then splice (r.place - part.address) (relocation_bytes m image x r) bytes
-    else bytes
+with_relocation m image x part bytes r = with_written part bytes r.place (relocation_bytes m image x r)
 
 -- the bytes of a part as an instance has them
 unfoldable pub part_bytes : JobImages → Spelled → Instance → Part → List ℕ

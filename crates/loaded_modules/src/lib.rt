@@ -1,10 +1,13 @@
 //! What a loader leaves of the images of a job.
 #![tactic(auto)]
 
+mod blocks;
 mod exports;
 mod infos;
 mod instance;
 mod modules;
+mod parts;
+mod relocating;
 
 pub use exports::Export;
 pub use instance::Instance;

@@ -1,8 +1,9 @@
 //! The images of a job.
 
-ghost use Rattle.std.specs.Prelude.{◌≡◌, ◌<◌, ◌≤◌, ◌^◌, IfOk, length, map, option_map};
+ghost use Rattle.std.specs.Prelude.{◌≡◌, ◌<◌, ◌≤◌, ◌^◌, Some, IfOk, length, map, option_map};
 ghost use Rattle.module_table.specs.Modules.{AreInfos};
 ghost use Rattle.loaded_modules.specs.Given.{AreModules, of_job};
+ghost use Rattle.loaded_modules.specs.Loader.{export_of, name_of};
 ghost use Rattle.loaded_modules.specs.Images.{image_at, infos, last_offset, static_offset};
 
 use crate::exports::{Export, imports_of};
@@ -75,6 +76,16 @@ impl Modules {
             return None;
         }
         self.images.as_slice().get(number as usize - 1)
+    }
+
+    /// Where a symbol of an image is found, if an image that starts with the program shares its name.
+    pub(crate) fn import(&self, number: u32, image: &Image, symbol: u32) -> Option<Export>
+        requires there { image_at self.now number ≡ Some image.now }
+        requires symbol { symbol < length image.now.names }
+        ensures { result ≡ export_of self.now (name_of image.now symbol) }
+    {
+        let row = self.imports[number as usize - 1].as_slice();
+        row[symbol as usize]
     }
 
     /// What is known of each image before anything is loaded, in image order.

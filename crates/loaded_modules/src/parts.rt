@@ -1,0 +1,85 @@
+//! The parts of an image as an instance has them.
+
+ghost use Rattle.std.specs.Prelude.{◌≡◌, ◌<◌, ◌≤◌, ◌+◌, ℕ, List, Some, length, slice_get, slice_range};
+ghost use Rattle.loaded_modules.specs.Images.{image_at};
+ghost use Rattle.loaded_modules.specs.Loader.{part_bytes, target_of};
+ghost use Rattle.loaded_modules.specs.Words.{lent_part, with_numbered, IsWindow};
+
+use crate::instance::Instance;
+use crate::modules::Modules;
+use crate::relocating::{Target, own_target, relocate, words_of};
+use image_file::{Image, ImagePart, ImageRelocation};
+
+impl Modules {
+    /// What a relocation of an image means to an instance of it.
+    #[tactic(auto, unfolding(crate::specs::Loader::target_of))]
+    fn target(&self, image: &Image, instance: &Instance, relocation: ImageRelocation) -> Target
+        requires there { image_at self.now instance.now.image ≡ Some image.now }
+        requires symbol { relocation.symbol < length image.now.names }
+        ensures { result ≡ target_of self.now image.now instance.now relocation }
+    {
+        if relocation.symbol == 0 {
+            return own_target(instance, relocation);
+        }
+        match self.import(instance.image, image, relocation.symbol) {
+            Some(export) => Target {
+                id: u64::from(export.image),
+                offset: export.offset,
+                distance: self.static_offset(export.image),
+            },
+            None => Target {
+                id: 0,
+                offset: 0,
+                distance: 0,
+            },
+        }
+    }
+
+    /// Writes what the relocation of a number asks for, as far as a window of a part shows it. The window begins `from`
+    /// bytes behind the part's start.
+    fn relocate(
+        &self,
+        image: &Image,
+        instance: &Instance,
+        part: ImagePart,
+        number: u64,
+        from: u64,
+        window: &mut [u8],
+    )
+        requires there { image_at self.now instance.now.image ≡ Some image.now }
+        requires inside { from + length window.old ≤ length part.bytes.now }
+        ensures len { length window.new ≡ length window.old }
+        ensures shows { (bytes : List ℕ) → length bytes ≡ length part.entry.bytes.now → IsWindow bytes from window.old
+            → IsWindow (with_numbered self.now image.now instance.now (lent_part part.entry) bytes
+            (slice_get image.now.relocations number)) from window.new }
+    {
+        let _symbols = image.symbol_count();
+        if let Some(relocation) = image.relocation(number) {
+            let target = self.target(image, instance, relocation);
+            let words = words_of(image.kind(), instance, target, relocation);
+            relocate(window, from, part, relocation.place, words);
+        }
+    }
+
+    /// Reads a window of a part as an instance has it.
+    pub(crate) fn read_window(
+        &self,
+        image: &Image,
+        instance: &Instance,
+        part: ImagePart,
+        from: u64,
+        window: &mut [u8],
+    )
+        requires there { image_at self.now instance.now.image ≡ Some image.now }
+        requires inside { from + length window.old ≤ length part.bytes.now }
+        ensures len { length window.new ≡ length window.old }
+        ensures shows { window.new ≡ slice_range (part_bytes self.now image.now instance.now (lent_part part.entry))
+            from (from + length window.old) }
+    {
+        let end = from as usize + window.len();
+        window.copy_from_slice(&part.bytes[from as usize..end]);
+        for number in 0..image.relocation_count() {
+            self.relocate(image, instance, part, number, from, window);
+        }
+    }
+}
