@@ -1,6 +1,7 @@
 mod FreshBlocks
 mod Kept
 mod Left
+mod PartReads
 mod Relocated
 mod Sharing
 mod TlsKept

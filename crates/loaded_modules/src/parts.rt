@@ -2,12 +2,12 @@
 
 ghost use Rattle.std.specs.Prelude.{◌≡◌, ◌<◌, ◌≤◌, ◌+◌, ℕ, List, Some, length, slice_get, slice_range};
 ghost use Rattle.loaded_modules.specs.Images.{image_at};
-ghost use Rattle.loaded_modules.specs.Loader.{part_bytes, target_of};
+ghost use Rattle.loaded_modules.specs.Loader.{bias_of, loaded_part, part_bytes, parts_of, target_of};
 ghost use Rattle.loaded_modules.specs.Words.{lent_part, with_numbered, IsWindow};
 
 use crate::instance::Instance;
 use crate::modules::Modules;
-use crate::relocating::{Target, own_target, relocate, words_of};
+use crate::relocating::{Target, bias, own_target, relocate, words_of};
 use image_file::{Image, ImagePart, ImageRelocation};
 
 impl Modules {
@@ -80,6 +80,55 @@ impl Modules {
         window.copy_from_slice(&part.bytes[from as usize..end]);
         for number in 0..image.relocation_count() {
             self.relocate(image, instance, part, number, from, window);
+        }
+    }
+
+    /// How far the image of an instance is moved: what is added to each address of its file.
+    #[tactic(auto, unfolding(crate::specs::Loader::bias_of))]
+    pub fn bias(&self, instance: &Instance) -> u64
+        ensures { result ≡ bias_of self.now instance.now }
+    {
+        match self.image(instance.image) {
+            Some(image) => bias(image.kind(), instance.number),
+            None => 0,
+        }
+    }
+
+    /// How many parts the image of an instance has.
+    #[tactic(auto, unfolding(crate::specs::Loader::parts_of))]
+    pub fn part_count(&self, instance: &Instance) -> u64
+        ensures { result ≡ length (parts_of self.now instance.now) }
+    {
+        match self.image(instance.image) {
+            Some(image) => image.part_count(),
+            None => 0,
+        }
+    }
+
+    /// How many bytes a part of an instance has, by its number from 0; 0 where there is no such part.
+    pub fn part_size(&self, instance: &Instance, part: u64) -> u64
+        ensures { result ≡ length (loaded_part self.now instance.now part) }
+    {
+        let Some(image) = self.image(instance.image) else {
+            return 0;
+        };
+        match image.part(part) {
+            Some(part) => part.bytes.len() as u64,
+            None => 0,
+        }
+    }
+
+    /// Copies bytes of a part of an instance as the loader leaves them, from an offset in the part on. They lie in the
+    /// part.
+    pub fn copy_bytes(&self, instance: &Instance, part: u64, from: u64, into: &mut [u8])
+        requires { from + length into.old ≤ length (loaded_part self.now instance.now part) }
+        ensures value { into.new ≡ slice_range (loaded_part self.now instance.now part) from (from + length into.old) }
+        ensures len { length into.new ≡ length into.old }
+    {
+        if let Some(image) = self.image(instance.image) {
+            if let Some(part) = image.part(part) {
+                self.read_window(image, instance, part, from, into);
+            }
         }
     }
 }
