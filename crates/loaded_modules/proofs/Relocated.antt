@@ -19,7 +19,7 @@ use Rattle.loaded_modules.specs.Words.{with_numbered, IsWindow}
 abbrev pub relocated : JobImages → Spelled → Instance → Part → ℕ → List ℕ
 relocated m image x part n = fold (with_relocation m image x part) part.bytes (take n image.relocations)
 
-none_past : {X : Type 0} (xs : List X) (n : ℕ) → slice_get xs n ≡ None → length xs ≤ n
+pub none_past : {X : Type 0} (xs : List X) (n : ℕ) → slice_get xs n ≡ None → length xs ≤ n
 none_past xs n is = elim (cases_lt n (length xs)) [
   | inl lt ↦ absurd (within xs n lt is)
   | inr past ↦ past

@@ -3,5 +3,7 @@ pub mod Exported
 pub mod Given
 pub mod Holding
 pub mod Images
+pub mod Laws
 pub mod Loader
+pub mod Places
 pub mod Words

@@ -44,9 +44,11 @@ mod blocks;
 mod exports;
 mod infos;
 mod instance;
+pub mod laws;
 mod modules;
 mod parts;
 mod relocating;
+mod searches;
 
 pub use exports::Export;
 pub use instance::Instance;

@@ -8,6 +8,7 @@ ghost use Rattle.loaded_modules.specs.Words.{lent_part, with_numbered, IsWindow}
 use crate::instance::Instance;
 use crate::modules::Modules;
 use crate::relocating::{Target, bias, own_target, relocate, words_of};
+use crate::searches::relocations_below;
 use image_file::{Image, ImagePart, ImageRelocation};
 
 impl Modules {
@@ -78,7 +79,11 @@ impl Modules {
     {
         let end = from as usize + window.len();
         window.copy_from_slice(&part.bytes[from as usize..end]);
-        for number in 0..image.relocation_count() {
+        // A relocation writes at most 16 bytes, and their places rise: the others do not reach the window.
+        let start = u128::from(part.address) + u128::from(from);
+        let first = relocations_below(image, start.saturating_sub(15));
+        let last = relocations_below(image, start + window.len() as u128);
+        for number in first..last {
             self.relocate(image, instance, part, number, from, window);
         }
     }
