@@ -59,3 +59,11 @@ static_offset m number = startup_end (take number (infos m)) 0
 unfoldable pub image_at : JobImages → ℕ → Option Spelled
 image_at m zero = None
 image_at m (suc index) = slice_get m.images index
+
+-- how many bytes each thread's block of an image has, by the image's number
+abbrev pub size_of : Option Spelled → ℕ
+size_of None = 0
+size_of (Some image) = block_size image.tls
+
+unfoldable pub size_at : JobImages → ℕ → ℕ
+size_at m number = size_of (image_at m number)

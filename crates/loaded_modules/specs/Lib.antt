@@ -1,3 +1,9 @@
+pub mod Ends
+pub mod Exported
+pub mod Given
 pub mod Holding
 pub mod Images
+pub mod Laws
 pub mod Loader
+pub mod Places
+pub mod Words

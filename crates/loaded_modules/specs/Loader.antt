@@ -23,7 +23,9 @@ use Rattle.image_file.specs.Spelled.{Part, Spelled}
 use Rattle.image_rules.specs.declared.places.FileKind.{FileKind}
 use Rattle.image_rules.specs.declared.places.FileKind.TheVariants.{Exe, Pie, Module as ModuleFile}
 use Rattle.link_faults.specs.declared.image_kind.ImageKind.{ImageKind}
+use Rattle.loaded_modules.specs.declared.exports.Export.{Export}
 use Rattle.loaded_modules.specs.declared.instance.Instance.{Instance}
+use Rattle.loaded_modules.specs.declared.relocating.Target.{Target}
 use Rattle.loaded_modules.specs.declared.TheConstants.{TLS_GET_ADDR, TLS_DESCRIPTOR}
 use Rattle.loaded_modules.specs.Images.{JobImages, image_at, is_late, static_offset}
 
@@ -61,16 +63,13 @@ shared_among name (symbol ∷ symbols) (own ∷ names) =
 abbrev pub shared_offset : List ℕ → Spelled → Option ℕ
 shared_offset name image = shared_among name (drop 1 image.symbols) (drop 1 image.names)
 
--- where other images find a symbol: the number of the image that has it, and the symbol's offset in its blocks
-pub record Export : Type 0 where
-  pub image : ℕ
-  pub offset : ℕ
+abbrev pub export_in : ℕ → ℕ → Export
+export_in number offset = record { image = number; offset = offset }
 
 -- what a startup image shares under the name
 abbrev pub export_here : List ℕ → ℕ → ImageKind → Spelled → Option Export
 export_here name number kind image =
-    if is_late kind then None else option_map (λ offset. record { image = number; offset = offset })
-    (shared_offset name image)
+    if is_late kind then None else option_map (export_in number) (shared_offset name image)
 
 -- the first startup image that shares the name, by its number, and the symbol's offset there
 abbrev pub shared_from : List ℕ → ℕ → List ImageKind → List Spelled → Option Export
@@ -83,13 +82,6 @@ unfoldable pub export_of : JobImages → List ℕ → Option Export
 export_of m name = shared_from name 1 m.kinds m.images
 
 -- ---- what a relocation asks for
-
--- a thread-local symbol as the loader finds it: the module id of the image that has it, its offset in that image's
--- blocks, and how far below the thread pointer those begin, if that is fixed
-pub record Target : Type 0 where
-  pub id : ℕ
-  pub offset : ℕ
-  pub distance : ℕ
 
 -- a relocation without a symbol means the image itself, and its addend is the offset
 abbrev pub own_target : Instance → ImageRelocation → Target
@@ -119,7 +111,7 @@ written_bytes kind x t Relative addend = bytes_of 8 ((bias kind x.number + cast_
 written_bytes kind x t Module addend = bytes_of 8 t.id
 written_bytes kind x t ModuleOffset addend = bytes_of 8 t.offset
 written_bytes kind x t ThreadOffset addend = bytes_of 8 (word_difference t.offset t.distance)
-written_bytes kind x t Descriptor addend = bytes_of 8 TLS_DESCRIPTOR ++ bytes_of 8 (t.id * 2 ^ 32 + t.offset)
+written_bytes kind x t Descriptor addend = bytes_of 8 TLS_DESCRIPTOR ++ bytes_of 8 ((t.id * 2 ^ 32 + t.offset) % 2 ^ 64)
 
 unfoldable pub relocation_bytes : JobImages → Spelled → Instance → ImageRelocation → List ℕ
 relocation_bytes m image x r = written_bytes image.kind x (target_of m image x r) r.kind r.addend
@@ -130,16 +122,45 @@ relocation_bytes m image x r = written_bytes image.kind x (target_of m image x r
 abbrev pub lies_in : Part → ℕ → ℕ → Bool
 lies_in part place count = nat_le part.address place && nat_le (place + count) (part.address + length part.bytes)
 
--- the bytes of a part with those of a relocation in their place, if they lie in it
+-- the bytes of a part with others, those of a relocation, in their place, if they lie in it
+abbrev pub with_written : Part → List ℕ → ℕ → List ℕ → List ℕ
+with_written part bytes place written =
+    if lies_in part place (length written) then splice (place - part.address) written bytes else bytes
+
 abbrev pub with_relocation : JobImages → Spelled → Instance → Part → List ℕ → ImageRelocation → List ℕ
-with_relocation m image x part bytes r =
-    if lies_in part r.place (length (relocation_bytes m image x r))
-    then splice (r.place - part.address) (relocation_bytes m image x r) bytes
-    else bytes
+with_relocation m image x part bytes r = with_written part bytes r.place (relocation_bytes m image x r)
 
 -- the bytes of a part as an instance has them
 unfoldable pub part_bytes : JobImages → Spelled → Instance → Part → List ℕ
 part_bytes m image x part = fold (with_relocation m image x part) part.bytes image.relocations
+
+-- the same of a part by its number, from 0; none where there is no such part
+abbrev pub bytes_or_none : JobImages → Spelled → Instance → Option Part → List ℕ
+bytes_or_none m image x None = []
+bytes_or_none m image x (Some part) = part_bytes m image x part
+
+abbrev pub loaded_in : JobImages → Instance → Option Spelled → ℕ → List ℕ
+loaded_in m x None part = []
+loaded_in m x (Some image) part = bytes_or_none m image x (slice_get image.parts part)
+
+unfoldable pub loaded_part : JobImages → Instance → ℕ → List ℕ
+loaded_part m x part = loaded_in m x (image_at m x.image) part
+
+-- how far an instance's image is moved
+abbrev pub bias_in : Instance → Option Spelled → ℕ
+bias_in x None = 0
+bias_in x (Some image) = bias image.kind x.number
+
+unfoldable pub bias_of : JobImages → Instance → ℕ
+bias_of m x = bias_in x (image_at m x.image)
+
+-- how many parts its image has
+abbrev pub parts_in : Option Spelled → List Part
+parts_in None = []
+parts_in (Some image) = image.parts
+
+unfoldable pub parts_of : JobImages → Instance → List Part
+parts_of m x = parts_in (image_at m x.image)
 
 -- ---- blocks
 

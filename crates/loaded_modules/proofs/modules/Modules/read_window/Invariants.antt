@@ -1,0 +1,10 @@
+-- What the relocations so far make of the part, and that the window shows it.
+use Rattle.std.proofs.Common.{◌≡◌, length}
+use Rattle.loaded_modules.specs.Words.{lent_part, IsWindow}
+use Rattle.loaded_modules.proofs.Relocated.{relocated}
+use Rattle.loaded_modules.proofs.modules.Modules.read_window.Given as goal
+
+abbrev pub invariant-loop-number : goal.invariant-loop-number
+invariant-loop-number l =
+    IsWindow (relocated l.self l.image l.instance (lent_part l.part) l.number) l.from l.window
+    × (length l.window ≡ length l.fn.window)

@@ -1,0 +1,41 @@
+-- When images are those of a job: a linker that links the job gives such images, and whoever does.
+use Rattle.std.specs.Prelude.{◌≡◌, ◌≢◌, ℕ, Bool, true, false, List, length, map, All, AllPairs, is_some, slice_get, Some}
+use Rattle.image_file.specs.declared.relocation.ImageRelocation.{ImageRelocation}
+use Rattle.image_file.specs.Spelled.{Spelled}
+use Rattle.image_faults.specs.declared.loader_kind.LoaderKind.TheVariants.{JumpSlot, ThreadOffset}
+use Rattle.image_rules.specs.declared.places.FileKind.{FileKind}
+use Rattle.image_rules.specs.declared.places.FileKind.TheVariants.{Exe as ExeFile, Pie as PieFile, Module as ModuleFile}
+use Rattle.job_text.specs.Jobs.{JobParts}
+use Rattle.link_faults.specs.declared.image_kind.ImageKind.{ImageKind}
+use Rattle.link_faults.specs.declared.image_kind.ImageKind.TheVariants.{Exe, Pie, Start, Late}
+use Rattle.loaded_modules.specs.Images.{JobImages, is_late}
+use Rattle.loaded_modules.specs.Loader.{export_of, name_of}
+
+-- what the file of an image of each kind says that it is
+abbrev pub file_kind_of : ImageKind → FileKind
+file_kind_of Exe = ExeFile
+file_kind_of Pie = PieFile
+file_kind_of Start = ModuleFile
+file_kind_of Late = ModuleFile
+
+-- the images of a job, with the job's kinds
+abbrev pub of_job : JobParts → List Spelled → JobImages
+of_job job images = record { kinds = map (λ image. image.kind) job.images; images = images }
+
+-- a symbol that the relocation names is shared by a startup image; the function that finds thread-local data, which
+-- JUMP_SLOT names, is the run time's
+abbrev pub NamesShared : JobImages → Spelled → ImageRelocation → Type 0
+NamesShared m image r = r.symbol ≢ 0 → r.kind ≢ JumpSlot → is_some (export_of m (name_of image r.symbol)) ≡ true
+
+-- it does not want a block of its own image at a fixed distance from the thread pointer
+abbrev pub IsDynamic : ImageRelocation → Type 0
+IsDynamic r = r.symbol ≡ 0 → r.kind ≢ ThreadOffset
+
+pub record AreModules (job : JobParts) (images : List Spelled) : Type 0 where
+  pub each : length images ≡ length job.images
+  pub kinds : map (λ image. image.kind) images ≡ map (λ image. file_kind_of image.kind) job.images
+  pub late_last : AllPairs (λ (a b : ImageKind). is_late a ≡ true → is_late b ≡ true) (of_job job images).kinds
+  pub shared : All (λ image. All (NamesShared (of_job job images) image) image.relocations) images
+  pub flagged : (index : ℕ) (kind : ImageKind) (image : Spelled) → slice_get (of_job job images).kinds index ≡ Some kind
+      → slice_get images index ≡ Some image → is_late kind ≡ true → image.is_flagged ≡ false
+      → All IsDynamic image.relocations

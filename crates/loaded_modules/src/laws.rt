@@ -1,0 +1,25 @@
+//! Laws of instances: each function's contract is the law, and its body says only what is known of an image.
+
+ghost use Rattle.loaded_modules.specs.Laws.{InstancesApart};
+
+use crate::instance::Instance;
+use crate::modules::Modules;
+use image_file::{Image, image_is_spelled};
+
+/// The parts of two instances under different numbers share no address, unless both are programs at fixed addresses,
+/// of which a job has one, loaded once. Instance numbers 1 to 4,095 lie below 2^39.
+pub fn instances_lie_apart(first: &Image, second: &Image)
+    ensures { InstancesApart first.now second.now }
+{
+    image_is_spelled(first);
+    image_is_spelled(second);
+}
+
+/// Asks that threads may move a type's values, and share them.
+fn crosses_threads<T: Send + Sync>() {}
+
+/// Threads may move and share the images of a job, and read any instance of them.
+pub fn modules_cross_threads() {
+    crosses_threads::<Modules>();
+    crosses_threads::<Instance>();
+}

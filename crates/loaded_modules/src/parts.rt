@@ -1,0 +1,139 @@
+//! The parts of an image as an instance has them.
+
+ghost use Rattle.std.specs.Prelude.{◌≡◌, ◌<◌, ◌≤◌, ◌+◌, ℕ, List, Some, length, slice_get, slice_range};
+ghost use Rattle.loaded_modules.specs.Images.{image_at};
+ghost use Rattle.loaded_modules.specs.Loader.{bias_of, loaded_part, part_bytes, parts_of, target_of};
+ghost use Rattle.loaded_modules.specs.Words.{lent_part, with_numbered, IsWindow};
+
+use crate::instance::Instance;
+use crate::modules::Modules;
+use crate::relocating::{Target, bias, own_target, relocate, words_of};
+use crate::searches::relocations_below;
+use image_file::{Image, ImagePart, ImageRelocation};
+
+impl Modules {
+    /// What a relocation of an image means to an instance of it.
+    #[tactic(auto, unfolding(crate::specs::Loader::target_of))]
+    fn target(&self, image: &Image, instance: &Instance, relocation: ImageRelocation) -> Target
+        requires there { image_at self.now instance.now.image ≡ Some image.now }
+        requires symbol { relocation.symbol < length image.now.names }
+        ensures { result ≡ target_of self.now image.now instance.now relocation }
+    {
+        if relocation.symbol == 0 {
+            return own_target(instance, relocation);
+        }
+        match self.import(instance.image, image, relocation.symbol) {
+            Some(export) => Target {
+                id: u64::from(export.image),
+                offset: export.offset,
+                distance: self.static_offset(export.image),
+            },
+            None => Target {
+                id: 0,
+                offset: 0,
+                distance: 0,
+            },
+        }
+    }
+
+    /// Writes what the relocation of a number asks for, as far as a window of a part shows it. The window begins `from`
+    /// bytes behind the part's start.
+    fn relocate(
+        &self,
+        image: &Image,
+        instance: &Instance,
+        part: ImagePart,
+        number: u64,
+        from: u64,
+        window: &mut [u8],
+    )
+        requires there { image_at self.now instance.now.image ≡ Some image.now }
+        requires inside { from + length window.old ≤ length part.bytes.now }
+        ensures len { length window.new ≡ length window.old }
+        ensures shows { (bytes : List ℕ) → length bytes ≡ length part.entry.bytes.now → IsWindow bytes from window.old
+            → IsWindow (with_numbered self.now image.now instance.now (lent_part part.entry) bytes
+            (slice_get image.now.relocations number)) from window.new }
+    {
+        let _symbols = image.symbol_count();
+        if let Some(relocation) = image.relocation(number) {
+            let target = self.target(image, instance, relocation);
+            let words = words_of(image.kind(), instance, target, relocation);
+            relocate(window, from, part, relocation.place, words);
+        }
+    }
+
+    /// Reads a window of a part as an instance has it.
+    pub(crate) fn read_window(
+        &self,
+        image: &Image,
+        instance: &Instance,
+        part: ImagePart,
+        from: u64,
+        window: &mut [u8],
+    )
+        requires there { image_at self.now instance.now.image ≡ Some image.now }
+        requires inside { from + length window.old ≤ length part.bytes.now }
+        ensures len { length window.new ≡ length window.old }
+        ensures shows { window.new ≡ slice_range (part_bytes self.now image.now instance.now (lent_part part.entry))
+            from (from + length window.old) }
+    {
+        let end = from as usize + window.len();
+        window.copy_from_slice(&part.bytes[from as usize..end]);
+        // A relocation writes at most 16 bytes, and their places rise: the others do not reach the window.
+        let start = u128::from(part.address) + u128::from(from);
+        let first = relocations_below(image, start.saturating_sub(15));
+        let last = relocations_below(image, start + window.len() as u128);
+        for number in first..last {
+            self.relocate(image, instance, part, number, from, window);
+        }
+    }
+
+    /// How far the image of an instance is moved: what is added to each address of its file.
+    #[tactic(auto, unfolding(crate::specs::Loader::bias_of))]
+    pub fn bias(&self, instance: &Instance) -> u64
+        ensures { result ≡ bias_of self.now instance.now }
+    {
+        match self.image(instance.image) {
+            Some(image) => bias(image.kind(), instance.number),
+            None => 0,
+        }
+    }
+
+    /// How many parts the image of an instance has.
+    #[tactic(auto, unfolding(crate::specs::Loader::parts_of))]
+    pub fn part_count(&self, instance: &Instance) -> u64
+        ensures { result ≡ length (parts_of self.now instance.now) }
+    {
+        match self.image(instance.image) {
+            Some(image) => image.part_count(),
+            None => 0,
+        }
+    }
+
+    /// How many bytes a part of an instance has, by its number from 0; 0 where there is no such part.
+    pub fn part_size(&self, instance: &Instance, part: u64) -> u64
+        ensures { result ≡ length (loaded_part self.now instance.now part) }
+    {
+        let Some(image) = self.image(instance.image) else {
+            return 0;
+        };
+        match image.part(part) {
+            Some(part) => part.bytes.len() as u64,
+            None => 0,
+        }
+    }
+
+    /// Copies bytes of a part of an instance as the loader leaves them, from an offset in the part on. They lie in the
+    /// part.
+    pub fn copy_bytes(&self, instance: &Instance, part: u64, from: u64, into: &mut [u8])
+        requires { from + length into.old ≤ length (loaded_part self.now instance.now part) }
+        ensures value { into.new ≡ slice_range (loaded_part self.now instance.now part) from (from + length into.old) }
+        ensures len { length into.new ≡ length into.old }
+    {
+        if let Some(image) = self.image(instance.image) {
+            if let Some(part) = image.part(part) {
+                self.read_window(image, instance, part, from, into);
+            }
+        }
+    }
+}
