@@ -1,3 +1,4 @@
+pub mod Crossing
 pub mod Laws
 pub mod Passes
 pub mod Plays

@@ -6,6 +6,7 @@ ghost use Rattle.module_table.specs.declared.events.Event.{Event};
 ghost use Rattle.shared_modules.specs.Views.{times, Knows};
 ghost use Rattle.shared_modules.specs.Laws.{own_events};
 
+use crate::board::Place;
 use crate::shared::{Pass, Shared};
 
 /// A thread's own events, and their places in the history, stay as they are in the seen list of its pass.
@@ -31,11 +32,9 @@ pub fn knowledge_stays()
 /// Asks that threads may move a type's values, and share them.
 fn crosses_threads<T: Send + Sync>() {}
 
-/// Asks that threads may move a type's values.
-fn moves_to_threads<T: Send>() {}
-
-/// Threads share a shared history, and a pass goes to the thread that uses it.
+/// Threads may move and share a shared history, its passes and what they hold. A `&` to a pass gives its length alone.
 pub fn passes_cross_threads() {
     crosses_threads::<Shared>();
-    moves_to_threads::<Pass>();
+    crosses_threads::<Pass>();
+    crosses_threads::<Place>();
 }

@@ -1,6 +1,6 @@
 //! Threads that open and close at once.
 
-ghost use Rattle.std.specs.Prelude.{◌≡◌, ◌≤◌, ◌+◌, ◌-◌, ◌*◌, ◌/◌, ℕ};
+ghost use Rattle.std.specs.Prelude.{◌≡◌, ◌≤◌, ◌+◌, ◌-◌, ◌*◌, ◌/◌, ℕ, length};
 ghost use Rattle.std.specs.Thread.{IsSync};
 ghost use Rattle.shared_tests.specs.Races.{IsReady};
 
@@ -145,15 +145,24 @@ fn watch<R: Threads + Wait + Sync>(
     );
     (shared.join(left, right), events)
 }
+
+/// Two threads read one pass at once.
+fn read_at_once<R: Threads>(rt: &R, pass: &Pass) -> (u64, u64)
+    ensures first { result.0 ≡ length pass.now.seen }
+    ensures second { result.1 ≡ length pass.now.seen }
+{
+    join(rt, || pass.seen(), || pass.seen())
+}
+
 // Each open is accepted, and so is the close of a thread that opened; then all is as at the start.
 #[test]
 fn threads_open_and_close_at_once(rt: HostRuntime) -> Result<(), Fail> {
     let (shared, pass) = started(rt.alloc())?;
     let (mut pass, accepted) = race(&rt, rt.alloc(), &shared, pass, 1, 64);
     let newer = shared.newer(&mut pass);
-    let seen = pass.seen();
+    let seen = read_at_once(&rt, &pass);
     let registry = shared.finish(pass);
-    assert!(rt; accepted == 128 && seen == 128 && !newer);
+    assert!(rt; accepted == 128 && seen == (128, 128) && !newer);
     assert!(rt; registry.len() == 128 && registry.current(2).is_none());
     Ok(())
 }
