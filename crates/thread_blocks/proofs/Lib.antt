@@ -9,6 +9,7 @@ pub mod Finding
 pub mod Bounds
 pub mod Examples
 pub mod Histories
+pub mod Looks
 mod JobRuns
 mod JobExamples
 mod DataExamples

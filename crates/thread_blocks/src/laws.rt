@@ -1,6 +1,6 @@
 //! Laws of threads among others. The functions do nothing: what they ensure is the law.
 
-ghost use Rattle.thread_blocks.specs.JobStatements.{HistoriesAreLegal};
+ghost use Rattle.thread_blocks.specs.JobStatements.{HistoriesAreLegal, HoldsLive};
 ghost use Rattle.thread_blocks.specs.Statements.{ThreadsTakeTheirOwnTurns, ThreadsSayTheirOwn};
 
 /// Among others a thread of the machine takes the turns that it would take alone.
@@ -18,4 +18,10 @@ pub fn threads_say_their_own()
 #[tactic(auto, using(crate::proofs::Histories::histories_legal))]
 pub fn histories_are_legal()
     ensures { HistoriesAreLegal }
+{}
+
+/// After a look a thread holds no block and no data of an instance that is gone.
+#[tactic(auto, using(crate::proofs::Looks::looks_leave_live))]
+pub fn looks_leave_what_is_live()
+    ensures { HoldsLive }
 {}
