@@ -5,6 +5,7 @@ pub mod Grammar
 pub mod Images
 pub mod Jobs
 pub mod Kinds
+pub mod LateImages
 pub mod LineAnswers
 pub mod LineEffects
 pub mod LineFaults

@@ -1,5 +1,5 @@
 -- What is known of images: late ones come last, and the blocks of all lie close together.
-use Rattle.std.proofs.Common.{◌≡◌, ◌∙◌, ℕ, zero, suc, ◌+◌, ◌*◌, ◌^◌, ◌<◌, ◌≤◌, Bool, true, false, cond, List, [], ◌∷◌, All, length, take, get_or, refl, sym, ap, subst, arith, inl, inr, ◌-◌, ◌%◌, ◌≢◌, Option, Some, None, map, option_map, Bor}
+use Rattle.std.proofs.Common.{◌≡◌, ◌∙◌, ℕ, zero, suc, ◌+◌, ◌*◌, ◌^◌, ◌<◌, ◌≤◌, Bool, true, false, List, [], ◌∷◌, All, length, take, get_or, refl, sym, ap, subst, arith, inl, inr, ◌-◌, ◌%◌, ◌≢◌, Option, Some, None, map, option_map, Bor}
 use Rattle.job_text.specs.Jobs.{JobParts}
 use Rattle.loaded_modules.specs.Given.{AreModules}
 use Rattle.std.specs.Slice.{IsItemAt}
@@ -19,7 +19,7 @@ use Rattle.module_table.specs.Modules.{AreInfos, IsInfo}
 use Rattle.loaded_modules.specs.declared.exports.Export.{Export}
 use Rattle.loaded_modules.specs.Loader.{export_of, name_of}
 use Rattle.loaded_modules.specs.Ends.{end_behind, ends_behind}
-use Rattle.loaded_modules.specs.Images.{JobImages, image_at, info_of, infos, infos_of, is_late, last_offset, static_offset}
+use Rattle.loaded_modules.specs.Images.{JobImages, image_at, infos, infos_of, is_late, last_offset, static_offset}
 
 pub length-infos_of : (kinds : List ImageKind) (images : List Spelled) → length kinds ≡ length images → length (infos_of kinds images) ≡ length kinds
 length-infos_of [] images same = refl
@@ -111,6 +111,7 @@ end_low (info ∷ infos) taken each =
   where
     all_head : All IsInfo (info ∷ infos) → IsInfo info
     all_head all = all 0 info (omega arith)
+
     all_tail : All IsInfo (info ∷ infos) → All IsInfo infos
     all_tail all i d inside = all (suc i) d (omega (arith, inside))
 

@@ -1,6 +1,5 @@
 -- Where the parts of an image lie.
-use Rattle.std.proofs.Common.{◌≡◌, ◌∙◌, ◌≢◌, ◌+◌, ◌-◌, ◌*◌, ◌^◌, ◌<◌, ◌≤◌, ◌⊎◌, ◌==◌, drop, min, ℕ, Bool, true, false, cond, List, Some, None, length, sym, ap, subst, inl, inr, refl, arith}
-use Rattle.std.specs.Prelude.{slice_range, if◌then◌else◌}
+use Rattle.std.proofs.Common.{◌≡◌, ◌∙◌, ◌≢◌, ◌+◌, ◌-◌, ◌*◌, ◌^◌, ◌<◌, ◌≤◌, ◌⊎◌, ◌==◌, drop, ℕ, Bool, true, false, cond, List, Some, length, sym, ap, subst, inl, inr, refl, arith}
 use Rattle.std.specs.List.{slice_get}
 use Rattle.std.proofs.lemmas.Bool.{cases_lt, eqb-true}
 use Rattle.std.proofs.lemmas.List.{length-take}
@@ -57,6 +56,7 @@ module _ (b : List ℕ) (image : IsImage b) where
     where
       some_is : (x y : Part) → Some x ≡ Some y → x ≡ y
       some_is x y e = cc
+
       short : length (part b i).bytes ≤ (segment b i).filesz
       short = omega (arith, length-take ((segment b i).offset + (segment b i).filesz - (segment b i).offset) (drop (segment b i).offset b))
 

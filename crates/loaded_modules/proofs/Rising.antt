@@ -1,5 +1,5 @@
 -- The places of an image's relocations rise.
-use Rattle.std.proofs.Common.{◌≡◌, ◌∙◌, ◌+◌, ◌-◌, ◌<◌, ◌≤◌, ℕ, zero, suc, List, Some, sym, ap, subst, inl, inr, refl, arith, nat_lt, true, false}
+use Rattle.std.proofs.Common.{◌≡◌, ◌∙◌, ◌+◌, ◌-◌, ◌<◌, ◌≤◌, ℕ, zero, suc, List, Some, sym, ap, subst, inl, inr, arith, nat_lt, true, false}
 use Rattle.std.proofs.lemmas.Bool.Decides.{nat_tests}
 use Rattle.std.specs.List.{slice_get}
 use Rattle.std.proofs.lemmas.Bool.{cases_lt}
@@ -12,7 +12,7 @@ use Rattle.elf_records.specs.Records.{rela_kind}
 use Rattle.image_faults.specs.Relocations.{IsBehindLast, field_width, rela}
 use Rattle.image_file.specs.declared.relocation.ImageRelocation.{ImageRelocation}
 use Rattle.image_file.specs.Spelled.{Spelled, relocation_of, relocations, spelled}
-use Rattle.image_file.specs.Tabled.{length-tabled, tabled, tabled_at}
+use Rattle.image_file.specs.Tabled.{length-tabled, tabled_at}
 use Rattle.loaded_modules.specs.Places.{AllBelow, NoneBelow}
 
 pub not_past : (m n : ℕ) → ((m ≤ n → ⊥) → ⊥) → m ≤ n

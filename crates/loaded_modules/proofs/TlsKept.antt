@@ -1,5 +1,5 @@
 -- What an image keeps of its TLS segment.
-use Rattle.std.proofs.Common.{◌≡◌, ◌∙◌, ◌+◌, ◌^◌, ◌<◌, ◌≤◌, ℕ, Bool, true, false, List, Some, None, Option, sym, ap, subst, inl, inr, refl, arith}
+use Rattle.std.proofs.Common.{◌≡◌, ◌+◌, ◌^◌, ◌<◌, ◌≤◌, ℕ, Bool, true, false, List, Some, None, sym, subst, inl, inr, refl, arith}
 use Rattle.std.proofs.Common.{◌==◌, ◌&&◌, nat_lt, if◌then◌else◌}
 use Rattle.std.specs.Option.{IfSome}
 use Rattle.std.proofs.lemmas.Bool.{cases_lt}
@@ -12,7 +12,6 @@ use Rattle.image_rules.specs.declared.rule.Rule.TheVariants.{Segment as SegmentR
 use Rattle.image_faults.specs.Faults.{Breaks, IsImage}
 use Rattle.image_faults.specs.Parts.{count, segment, loads, has_tls}
 use Rattle.image_faults.specs.Segments.{IsAlignment, IsRightTls}
-use Rattle.image_file.specs.declared.part.TlsPart.{TlsPart}
 use Rattle.image_file.specs.Spelled.{Spelled, spelled, tls_of, tls_part}
 use Rattle.loaded_modules.specs.Ends.{IsTls}
 

@@ -1,5 +1,5 @@
 -- Relocations that write nothing that a window shows.
-use Rattle.std.proofs.Common.{◌≡◌, ◌∙◌, ◌+◌, ◌-◌, ◌<◌, ◌≤◌, ◌⊎◌, ◌*◌, ◌^◌, ◌%◌, ℕ, ℤ, zero, suc, Bool, true, false, List, length, Option, Some, None, sym, ap, subst, inl, inr, refl, arith, length-append}
+use Rattle.std.proofs.Common.{◌≡◌, ◌+◌, ◌-◌, ◌<◌, ◌≤◌, ◌⊎◌, ◌*◌, ◌^◌, ◌%◌, ℕ, ℤ, zero, suc, Bool, true, false, List, length, Option, Some, None, subst, inl, inr, refl, arith, length-append}
 use Rattle.std.specs.List.{slice_get}
 use Rattle.elf_records.specs.Fields.{bytes_of}
 use Rattle.elf_records.specs.Laws.{length-bytes_of}

@@ -1,7 +1,7 @@
 -- Windows of a list of bytes, in which others are written.
 use Rattle.std.proofs.Common.{◌≡◌, ◌∙◌, ℕ, ◌+◌, ◌-◌, ◌<◌, ◌≤◌, List, ◌++◌, take, drop, get_or, length, refl, sym, ap, arith, inl, inr, length-append, ◌⊎◌}
 use Rattle.std.proofs.lemmas.Bool.{cases_lt}
-use Rattle.std.proofs.lemmas.List.{get_or-take, get_or-drop, get_or-append_right, get_or_append_left, length-take-le, length-drop, same_lists}
+use Rattle.std.proofs.lemmas.List.{get_or-take, get_or-drop, get_or-append_right, get_or_append_left, length-take-le, length-drop}
 use borrow.Rule.Slice.PartMut.{put_mid}
 use Rattle.std.specs.Prelude.{slice_range}
 use Rattle.elf_records.specs.Fields.{splice}
@@ -56,7 +56,7 @@ module _ (whole bytes window ys : List ℕ) (from place start end : ℕ) (shows 
   }
 
   module _ (bounds : (place ≤ start) × (from ≤ start) × (end ≤ place + length bytes) × (end ≤ from + length window) × (start < end)) (tight : ((start ≡ place) ⊎ (start ≡ from)) × ((end ≡ place + length bytes) ⊎ (end ≡ from + length window)))
-    (is : ys ≡ slice_range bytes (start - place) (end - place)) where
+      (is : ys ≡ slice_range bytes (start - place) (end - place)) where
     abbrev a : ℕ
     a = start - from
 
@@ -104,6 +104,7 @@ module _ (whole bytes window ys : List ℕ) (from place start end : ℕ) (shows 
         low : j < a → (start ≡ place) ⊎ (start ≡ from) → from + j < place
         low before (inl here) = omega (arith, before, here)
         low before (inr there) = absurd (omega (arith, before, there))
+
         high : a + length ys ≤ j → (end ≡ place + length bytes) ⊎ (end ≡ from + length window) → place + length bytes ≤ from + j
         high behind (inl here) = omega (arith, behind, here, count, bounds.1, bounds.4)
         high behind (inr there) = absurd (omega (arith, behind, there, count, lt, bounds.1, bounds.4))

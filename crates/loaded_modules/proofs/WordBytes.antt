@@ -1,7 +1,7 @@
 -- The bytes of one word or two.
-use Rattle.std.proofs.Common.{◌≡◌, ◌∙◌, ◌+◌, ◌≤◌, ℕ, List, ◌++◌, length, Option, Some, None, sym, ap, subst, refl, arith, length-append, append-nil}
+use Rattle.std.proofs.Common.{◌≡◌, ◌∙◌, ◌+◌, ◌≤◌, ℕ, List, ◌++◌, length, Option, Some, None, sym, ap, subst, arith, length-append, append-nil}
 use Rattle.elf_records.specs.Fields.{bytes_of, splice}
-use Rattle.elf_records.specs.Laws.{length-bytes_of, length-splice, splice_more}
+use Rattle.elf_records.specs.Laws.{length-bytes_of, splice_more}
 use Rattle.loaded_modules.specs.declared.relocating.Words.{Words}
 use Rattle.loaded_modules.specs.Words.{words_bytes, second_bytes, IsWindow}
 

@@ -1,6 +1,6 @@
 -- How far below the thread pointer the blocks of startup images begin, one behind another, and what each image keeps of
 -- its TLS segment.
-use Rattle.std.specs.Prelude.{◌≡◌, ◌≤◌, ◌<◌, ◌+◌, ◌^◌, ℕ, List, [], ◌∷◌, if◌then◌else◌}
+use Rattle.std.specs.Prelude.{◌≤◌, ◌<◌, ◌+◌, ◌^◌, ℕ, List, [], ◌∷◌, if◌then◌else◌}
 use Rattle.std.specs.Int.{next_multiple_of}
 use Rattle.image_file.specs.declared.part.TlsPart.{TlsPart}
 use Rattle.module_table.specs.declared.modules.ImageInfo.{ImageInfo}

@@ -1,11 +1,12 @@
 -- When images are those of a job: a linker that links the job gives such images, and whoever does.
-use Rattle.std.specs.Prelude.{◌≡◌, ◌≢◌, ℕ, Bool, true, false, List, length, map, All, AllPairs, is_some, slice_get, Some}
+use Rattle.std.specs.Prelude.{◌≡◌, ◌≢◌, ℕ, true, false, List, length, map, All, is_some, slice_get, Some}
 use Rattle.image_file.specs.declared.relocation.ImageRelocation.{ImageRelocation}
 use Rattle.image_file.specs.Spelled.{Spelled}
 use Rattle.image_faults.specs.declared.loader_kind.LoaderKind.TheVariants.{JumpSlot, ThreadOffset}
 use Rattle.image_rules.specs.declared.places.FileKind.{FileKind}
 use Rattle.image_rules.specs.declared.places.FileKind.TheVariants.{Exe as ExeFile, Pie as PieFile, Module as ModuleFile}
 use Rattle.job_text.specs.Jobs.{JobParts}
+pub use Rattle.job_text.specs.LateImages.{LateLast}
 use Rattle.link_faults.specs.declared.image_kind.ImageKind.{ImageKind}
 use Rattle.link_faults.specs.declared.image_kind.ImageKind.TheVariants.{Exe, Pie, Start, Late}
 use Rattle.loaded_modules.specs.Images.{JobImages, is_late}
@@ -34,7 +35,7 @@ IsDynamic r = r.symbol ≡ 0 → r.kind ≢ ThreadOffset
 pub record AreModules (job : JobParts) (images : List Spelled) : Type 0 where
   pub each : length images ≡ length job.images
   pub kinds : map (λ image. image.kind) images ≡ map (λ image. file_kind_of image.kind) job.images
-  pub late_last : AllPairs (λ (a b : ImageKind). is_late a ≡ true → is_late b ≡ true) (of_job job images).kinds
+  pub late_last : LateLast (of_job job images).kinds
   pub shared : All (λ image. All (NamesShared (of_job job images) image) image.relocations) images
   pub flagged : (index : ℕ) (kind : ImageKind) (image : Spelled) → slice_get (of_job job images).kinds index ≡ Some kind
       → slice_get images index ≡ Some image → is_late kind ≡ true → image.is_flagged ≡ false

@@ -2,11 +2,11 @@
 -- (gABI, "Program Header": PT_TLS), whether it wants its blocks at a fixed distance from the thread pointer (gABI,
 -- "Dynamic Section": DF_STATIC_TLS), and where the blocks of the images that start with the program lie (Drepper,
 -- "ELF Handling For Thread-Local Storage", section 3, variant II).
-use Rattle.std.specs.Prelude.{ℕ, zero, suc, Bool, true, false, List, [], ◌∷◌, take, Option, Some, None, slice_get}
+use Rattle.std.specs.Prelude.{ℕ, zero, suc, List, [], ◌∷◌, take, Option, Some, None, slice_get}
 use Rattle.image_file.specs.declared.part.TlsPart.{TlsPart}
 use Rattle.image_file.specs.Spelled.{Spelled}
+pub use Rattle.job_text.specs.LateImages.{is_late}
 use Rattle.link_faults.specs.declared.image_kind.ImageKind.{ImageKind}
-use Rattle.link_faults.specs.declared.image_kind.ImageKind.TheVariants.{Exe, Pie, Start, Late}
 use Rattle.module_table.specs.declared.modules.ImageInfo.{ImageInfo}
 use Rattle.module_table.specs.Laws.{startup_end}
 
@@ -14,13 +14,6 @@ use Rattle.module_table.specs.Laws.{startup_end}
 pub record JobImages : Type 0 where
   pub kinds : List ImageKind
   pub images : List Spelled
-
--- an image is loaded by an open, and else starts with the program
-abbrev pub is_late : ImageKind → Bool
-is_late Exe = false
-is_late Pie = false
-is_late Start = false
-is_late Late = true
 
 -- how many bytes each thread's block has, and what its address is a multiple of
 abbrev pub block_size : Option TlsPart → ℕ

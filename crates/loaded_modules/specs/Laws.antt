@@ -1,8 +1,10 @@
 -- Laws of instances.
-use Rattle.std.specs.Prelude.{◌≡◌, ◌≢◌, ◌+◌, ◌≤◌, ◌<◌, ◌⊎◌, ℕ, List, Some, length, slice_get}
+use Rattle.std.specs.Prelude.{◌≡◌, ◌≢◌, ◌+◌, ◌≤◌, ◌⊎◌, ℕ, Some, length, map, slice_get, Ok, List}
 use Rattle.image_file.specs.Spelled.{Part, Spelled}
 use Rattle.image_rules.specs.declared.places.FileKind.{FileKind}
 use Rattle.image_rules.specs.declared.places.FileKind.TheVariants.{Exe}
+use Rattle.job_text.specs.Jobs.{JobParts, job_of}
+use Rattle.loaded_modules.specs.Given.{LateLast}
 use Rattle.loaded_modules.specs.Loader.{bias}
 
 -- where a part of an image lies that is loaded under this number
@@ -20,3 +22,7 @@ abbrev pub InstancesApart : Spelled → Spelled → Type 0
 InstancesApart first second =
     (a b i j : ℕ) (p q : Part) → a ≢ b → (first.kind ≢ Exe) ⊎ (second.kind ≢ Exe) → slice_get first.parts i ≡ Some p
     → slice_get second.parts j ≡ Some q → LieApart first.kind a p second.kind b q
+
+-- a job that is read names its late images last, as `LateLast` asks
+abbrev pub ReadLateLast : List ℕ → JobParts → Type 0
+ReadLateLast text job = job_of text ≡ Ok job → LateLast (map (λ image. image.kind) job.images)

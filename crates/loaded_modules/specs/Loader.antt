@@ -2,7 +2,7 @@
 -- "Relocation Types"; Drepper, "ELF Handling For Thread-Local Storage", section 4.4), and the block of thread-local
 -- storage that each thread begins with (gABI, "Program Loading").
 use Rattle.std.specs.Prelude.{◌+◌, ◌-◌, ◌*◌, ◌%◌, ◌^◌, ◌==◌, ◌&&◌, ℕ, Bool, true, false, suc, List, [], ◌∷◌, ◌++◌}
-use Rattle.std.specs.Prelude.{drop, fold, length, replicate, nat_le, nat_lt, Option, Some, None, slice_get, slice_range}
+use Rattle.std.specs.Prelude.{drop, fold, length, replicate, nat_le, Option, Some, None, slice_get, slice_range}
 use Rattle.std.specs.Prelude.{ℤ, option_map, unwrap_or, if◌then◌else◌}
 use Rattle.std.specs.Int.{w64, cast_unsigned}
 use Rattle.std.specs.List.{find}

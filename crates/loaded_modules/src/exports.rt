@@ -29,7 +29,10 @@ fn is_shared(symbol: ImageSymbol) -> bool
 {
     symbol.is_defined
         && matches!(symbol.kind, SymbolType::Tls)
-        && matches!(symbol.visibility, Visibility::Default | Visibility::Protected)
+        && matches!(
+            symbol.visibility,
+            Visibility::Default | Visibility::Protected
+        )
 }
 
 /// The symbols that startup images share, by their names: of each name the first.
@@ -67,12 +70,7 @@ impl<'a> Exports<'a> {
     }
 
     /// Adds a symbol of a startup image, if it shares that.
-    fn add_symbol(
-        &mut self,
-        number: u32,
-        image: &'a Image,
-        symbol: u64,
-    ) -> Result<(), AllocError>
+    fn add_symbol(&mut self, number: u32, image: &'a Image, symbol: u64) -> Result<(), AllocError>
         ensures { OnOk result ((q : List ℕ) → found self.new.by_name q ≡ option_or (found self.old.by_name q)
             (option_map (export_in number)
             (shared_at q (slice_get image.now.symbols symbol) (slice_get image.now.names symbol)))) }
@@ -139,11 +137,7 @@ impl<'a> Exports<'a> {
     }
 
     /// Where each symbol of an image is found, if it is shared, by the symbol's number.
-    fn for_image(
-        &self,
-        alloc: Global,
-        image: &Image,
-    ) -> Result<Vec<Option<Export>>, AllocError>
+    fn for_image(&self, alloc: Global, image: &Image) -> Result<Vec<Option<Export>>, AllocError>
         ensures { IfOk result (λ row. row.items ≡ map (found self.now.by_name) image.now.names) }
     {
         let mut row = Vec::new(alloc);

@@ -1,6 +1,8 @@
-//! Laws of instances: each function's contract is the law, and its body says only what is known of an image.
+//! Laws of instances: each function's contract is the law.
 
-ghost use Rattle.loaded_modules.specs.Laws.{InstancesApart};
+ghost use Rattle.std.specs.Prelude.{ℕ, List};
+ghost use Rattle.job_text.specs.Jobs.{JobParts};
+ghost use Rattle.loaded_modules.specs.Laws.{InstancesApart, ReadLateLast};
 
 use crate::instance::Instance;
 use crate::modules::Modules;
@@ -14,6 +16,12 @@ pub fn instances_lie_apart(first: &Image, second: &Image)
     image_is_spelled(first);
     image_is_spelled(second);
 }
+
+/// The images of a job that is read from a text are in image order: late ones come last, as `AreModules` asks.
+#[tactic(auto, using(job_text::specs::LateImages::late_last))]
+pub fn late_images_come_last()
+    ensures { (text : List ℕ) (job : JobParts) → ReadLateLast text job }
+{}
 
 /// Asks that threads may move a type's values, and share them.
 fn crosses_threads<T: Send + Sync>() {}

@@ -8,9 +8,9 @@
 //!
 //! The rule that it keeps: **the bytes of an instance are a function of the images and the instance alone**. Nothing
 //! is loaded, kept or copied: the parts stay as the files have them, and the loader's words are put into what is read
-//! of them. Taking the images looks up each imported name once, by its hash, in time linear in the symbols; no later
-//! call takes memory. What a relocation writes is, modulo 2^64 and the lowest byte first (psABI, "Relocation Types";
-//! Drepper, "ELF Handling For Thread-Local Storage"):
+//! of them, found by a binary search among relocations, whose places rise. Taking the images looks up each name once, by
+//! its hash, in time linear in the symbols; no later call takes memory. What a relocation writes is, modulo 2^64 and
+//! the lowest byte first (psABI, "Relocation Types"; Drepper, "ELF Handling For Thread-Local Storage"):
 //!
 //! ```text
 //! JUMP_SLOT   where the run time's function is called, 0x1000

@@ -1,4 +1,4 @@
-use Rattle.std.proofs.Common.{◌∙◌, sym}
+use Rattle.std.proofs.Common.{sym}
 use Rattle.loaded_modules.specs.Loader.{holds}
 use Rattle.loaded_modules.specs.Words.{lent_part}
 use Rattle.loaded_modules.proofs.Left.{find_here, find_on, find_past}

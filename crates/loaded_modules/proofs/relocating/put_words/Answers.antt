@@ -1,7 +1,7 @@
 use Rattle.std.proofs.Common.{◌≡◌, ◌+◌, List, ℕ, arith, length, subst, ap, ◌∙◌}
 use Rattle.elf_records.specs.Fields.{bytes_of, splice}
 use Rattle.elf_records.specs.Laws.{length-bytes_of, length-splice}
-use Rattle.loaded_modules.specs.Words.{words_bytes, IsWindow}
+use Rattle.loaded_modules.specs.Words.{IsWindow}
 use Rattle.loaded_modules.proofs.WordBytes.{both_shown, two_words}
 use Rattle.loaded_modules.proofs.relocating.put_words.Goals as goal
 

@@ -1,4 +1,3 @@
-use Rattle.std.proofs.Common.{◌≡◌, ◌∙◌, ◌++◌, ◌∷◌, [], map, drop, ◌+◌, rules}
 use Rattle.loaded_modules.specs.Exported.{found}
 use Rattle.loaded_modules.proofs.Left.{row_on, row_same}
 use Rattle.loaded_modules.proofs.exports.Exports.for_image.Goals as goal

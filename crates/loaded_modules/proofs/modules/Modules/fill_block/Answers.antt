@@ -1,4 +1,4 @@
-use Rattle.std.proofs.Common.{◌≡◌, ◌∙◌, length, sym, ap}
+use Rattle.std.proofs.Common.{◌∙◌, length, sym, ap}
 use Rattle.loaded_modules.proofs.FreshBlocks.{fresh_nowhere, fresh_some, fresh_without, size_some}
 use Rattle.loaded_modules.proofs.modules.Modules.fill_block.Goals as goal
 

@@ -1,6 +1,5 @@
-use Rattle.std.proofs.Common.{◌≡◌, ◌-◌, arith, ◌∙◌, sym, ap, rules}
+use Rattle.std.proofs.Common.{◌-◌, ◌∙◌, ap}
 use Rattle.std.specs.List.{slice_get}
-use Rattle.loaded_modules.specs.Images.{image_at}
 use Rattle.loaded_modules.proofs.Kept.{at_none, at_some, seen}
 use Rattle.loaded_modules.proofs.modules.Modules.image.Goals as goal
 

@@ -1,8 +1,7 @@
-use Rattle.std.proofs.Common.{◌≡◌, ◌∙◌, ◌-◌, sym, ap, arith, length, map, subst, Some, Option, List}
+use Rattle.std.proofs.Common.{◌≡◌, ◌∙◌, ◌-◌, ap, arith, length, map, Some}
 use Rattle.std.specs.List.{slice_get}
 use Rattle.std.proofs.lemmas.List.{length-map}
 use Rattle.image_file.specs.Spelled.{Spelled}
-use Rattle.loaded_modules.specs.declared.exports.Export.{Export}
 use Rattle.loaded_modules.specs.Holding.{images_of}
 use Rattle.loaded_modules.specs.Loader.{export_of, name_of}
 use Rattle.loaded_modules.proofs.Kept.{at_is, row_is, row_within, symbol_is}

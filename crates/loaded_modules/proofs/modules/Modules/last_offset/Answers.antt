@@ -1,6 +1,5 @@
-use Rattle.std.proofs.Common.{arith, ◌∙◌, sym, ap, rules, ◌≡◌, subst, length, ◌<◌, ◌^◌}
+use Rattle.std.proofs.Common.{◌∙◌, sym, ap, subst, length, ◌<◌, ◌^◌}
 use Rattle.module_table.specs.Modules.{AreInfos}
-use Rattle.loaded_modules.specs.Images.{infos, last_offset}
 use Rattle.loaded_modules.proofs.Kept.{last_is, last_low}
 use Rattle.loaded_modules.proofs.modules.Modules.last_offset.Goals as goal
 

@@ -1,4 +1,4 @@
-use Rattle.std.proofs.Common.{◌≡◌, ◌∙◌, ◌+◌, arith, length, subst, List, ℕ, sym, ap}
+use Rattle.std.proofs.Common.{◌∙◌, ◌+◌, arith, length, subst, List, ℕ}
 use Rattle.loaded_modules.specs.Words.{lent_part, IsWindow}
 use Rattle.loaded_modules.proofs.Relocated.{length-relocated, relocated, relocated_all, relocated_on, is_window, window_is}
 use Rattle.loaded_modules.proofs.Untouched.{untouched}
@@ -14,8 +14,8 @@ loop-number-preserved c =
     let part = lent_part c.args.part in
     let n = c.loop-number.number in (
       subst (λ (b : List ℕ). IsWindow b c.args.from c.relocate.new.window)
-      (relocated_on m image x part n (slice_get image.relocations n) refl)
-      (c.relocate.ensures.shows (relocated m image x part n) (length-relocated m image x part n) c.loop-number.invariant.0),
+          (relocated_on m image x part n (slice_get image.relocations n) refl)
+          (c.relocate.ensures.shows (relocated m image x part n) (length-relocated m image x part n) c.loop-number.invariant.0),
       c.relocate.ensures.len ∙ c.loop-number.invariant.1,
     )
 
@@ -29,9 +29,9 @@ loop-number-init c =
     let first = c.relocations_below-first.result in
     let raw : IsWindow part.bytes c.args.from w = is_window part.bytes c.args.from (length c.args.window.now) w c.requires.inside c.copy_from_slice.ensures.after in (
       subst (λ k. IsWindow (relocated m image x part k) c.args.from w) (omega arith)
-      (untouched m image x part c.args.from w first 0
-      (λ k r ge lt at. let low = c.relocations_below-first.ensures.below k r (omega (arith, lt)) at in let a = c.saturating_sub.ensures in let b = c.from.ensures in let d = c.from-2.ensures in inl (omega (arith, low, a, b, d)))
-      raw),
+          (untouched m image x part c.args.from w first 0
+          (λ k r ge lt at. let low = c.relocations_below-first.ensures.below k r (omega (arith, lt)) at in let a = c.saturating_sub.ensures in let b = c.from.ensures in let d = c.from-2.ensures in inl (omega (arith, low, a, b, d)))
+          raw),
       c.copy_from_slice.ensures.len,
     )
 

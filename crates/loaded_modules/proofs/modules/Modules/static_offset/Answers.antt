@@ -1,4 +1,4 @@
-use Rattle.std.proofs.Common.{arith, ◌∙◌, ◌+◌, sym, ap, rules, ◌≡◌, length}
+use Rattle.std.proofs.Common.{arith, ◌∙◌, ◌+◌, ap, ◌≡◌, length}
 use Rattle.loaded_modules.specs.Ends.{ends_behind}
 use Rattle.loaded_modules.specs.Holding.{images_of}
 use Rattle.loaded_modules.specs.Images.{infos, static_offset}

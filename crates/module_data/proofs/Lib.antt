@@ -1,0 +1,6 @@
+mod Held
+mod LastBytes
+mod Low
+mod Refilled
+mod Searching
+mod Written

@@ -1,0 +1,4 @@
+pub mod Parts
+pub mod Pieces
+pub mod Lending
+pub mod Laws

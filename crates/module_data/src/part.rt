@@ -1,0 +1,85 @@
+//! Which part of an image is data.
+
+ghost use Rattle.std.specs.Prelude.{◌≡◌, ◌<◌, ◌^◌, IfSome, option_map, slice_get};
+ghost use Rattle.loaded_modules.specs.Loader.{bias_of};
+ghost use Rattle.module_data.specs.Parts.{data_number, data_part, data_start, is_data_part, is_number, is_writable};
+
+use image_file::{Image, PartClass, image_is_spelled};
+use loaded_modules::{Instance, Modules};
+
+fn is_writable(class: PartClass) -> bool
+    ensures { result ≡ is_writable class }
+{
+    matches!(class, PartClass::Writable)
+}
+
+fn is_number(part: Option<u64>, number: u64) -> bool
+    ensures { result ≡ is_number part number }
+{
+    match part {
+        Some(other) => other == number,
+        None => false,
+    }
+}
+
+/// Whether programs write a part: it is writable, and not the one that the loader alone writes.
+#[tactic(auto, unfolding(crate::specs::Parts::is_data_part))]
+fn is_data_part(image: &Image, number: u64) -> bool
+    ensures { result ≡ is_data_part image.now number }
+{
+    match image.part(number) {
+        Some(part) => is_writable(part.class) && !is_number(image.got(), number),
+        None => false,
+    }
+}
+
+/// The number of the first part that programs write, if there is one.
+#[tactic(auto, unfolding(crate::specs::Parts::data_part))]
+pub fn data_part(image: &Image) -> Option<u64>
+    ensures { result ≡ data_part image.now }
+{
+    for number in 0..image.part_count() {
+        if is_data_part(image, number) {
+            return Some(number);
+        }
+    }
+    None
+}
+
+/// The same of the image that an instance is of.
+pub(crate) fn data_number(modules: &Modules, instance: &Instance) -> Option<u64>
+    ensures { result ≡ data_number modules.now instance.now }
+{
+    data_part(modules.image(instance.image)?)
+}
+
+/// The address of a part of an image, before the image is moved.
+fn address_of(image: &Image, part: u64) -> Option<u64>
+    ensures value { result ≡ option_map (λ part. part.address) (slice_get image.now.parts part) }
+    ensures low { IfSome result (λ address. address < 2 ^ 32) }
+{
+    image_is_spelled(image);
+    let part = image.part(part)?;
+    let address = part.address;
+    Some(address)
+}
+
+/// How far the image of an instance is moved: less than 2^59 bytes.
+#[tactic(auto, using(crate::proofs::Low::bias_low))]
+fn bias_of(modules: &Modules, instance: &Instance) -> u64
+    ensures value { result ≡ bias_of modules.now instance.now }
+    ensures low { result < 2 ^ 59 }
+{
+    let _number = instance.number;
+    modules.bias(instance)
+}
+
+/// The address of the first byte of an instance's data, if its image has any.
+#[tactic(auto, unfolding(crate::specs::Parts::data_start, loaded_modules::specs::Loader::bias_of))]
+pub(crate) fn data_start(modules: &Modules, instance: &Instance) -> Option<u64>
+    ensures { result ≡ data_start modules.now instance.now }
+{
+    let image = modules.image(instance.image)?;
+    let address = address_of(image, data_part(image)?)?;
+    Some(bias_of(modules, instance) + address)
+}

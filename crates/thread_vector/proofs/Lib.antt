@@ -1,0 +1,9 @@
+pub mod Blocks
+pub mod Events
+pub mod Facts
+pub mod First
+pub mod LawsOfPlaces
+pub mod Lending
+pub mod Ranges
+pub mod Starts
+pub mod Stepping

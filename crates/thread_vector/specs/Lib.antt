@@ -1,0 +1,10 @@
+pub mod Addresses
+pub mod DtvLends
+pub mod Holding
+pub mod Laws
+pub mod Places
+pub mod SlotLends
+pub mod Starting
+pub mod Statements
+pub mod Vectors
+pub mod Views
