@@ -9,4 +9,6 @@ mod images;
 #[cfg(test)]
 mod names;
 #[cfg(test)]
+mod places;
+#[cfg(test)]
 mod reading;
