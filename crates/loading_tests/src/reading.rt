@@ -16,7 +16,7 @@ fn put(alloc: Global, bytes: &mut Vec<u8>, at: &str, digits: &str) -> Result<(),
 }
 
 /// The image of a text: its size, and then lines of an offset and bytes; a comment begins with two slashes.
-pub fn image_of(alloc: Global, text: &str) -> Result<Image, Fail> {
+pub(crate) fn image_of(alloc: Global, text: &str) -> Result<Image, Fail> {
     let (size, pieces) = text.split_once('\n').ok_or("a size")?;
     let size: usize = size.parse()?;
     let mut bytes = vec![in alloc; 0u8; size]?;
