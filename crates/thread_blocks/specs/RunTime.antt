@@ -35,7 +35,7 @@ pair a b = (a, b)
 
 abbrev pub word_of : Result (List ℕ) Refusal → Result ℕ Refusal
 word_of (Ok bytes) = Ok (number_from bytes)
-word_of (Err refusal) = Err refusal
+word_of (Err why) = Err why
 
 module _ (l : Loads ℕ) (thread : ℕ) where
   -- what a thread's memory lets its machine do
@@ -55,7 +55,7 @@ module _ (l : Loads ℕ) (thread : ℕ) where
 
   -- a module id and an offset; a descriptor has both in its second word
   abbrev pub asked_by : Instance → Bool → Result (ℕ × ℕ) Refusal → Option Asked
-  asked_by x is_descriptor (Err refusal) = None
+  asked_by x is_descriptor (Err why) = None
   asked_by x false (Ok words) =
       Some (record { asking = x.number; id = words.0; offset = words.1; is_descriptor = false })
   asked_by x true (Ok words) =
