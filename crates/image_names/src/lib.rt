@@ -41,5 +41,6 @@ mod names;
 mod table;
 mod variable;
 
+pub use meaning::{is_executed, is_tls};
 pub use names::ImageNames;
 pub use variable::{PeekRefusal, Variable};

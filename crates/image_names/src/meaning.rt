@@ -67,7 +67,8 @@ fn defined_meaning(image: &Image, symbol: ImageSymbol) -> Meaning
     }
 }
 
-fn is_tls(kind: SymbolType) -> bool
+/// Whether a symbol of this type names a variable of threads.
+pub fn is_tls(kind: SymbolType) -> bool
     ensures { result ≡ is_tls kind }
 {
     match kind {
@@ -77,7 +78,7 @@ fn is_tls(kind: SymbolType) -> bool
 }
 
 /// Whether a byte of some part that is executed stands at an address.
-fn is_executed(image: &Image, address: u64) -> bool
+pub fn is_executed(image: &Image, address: u64) -> bool
     ensures { result ≡ list_any (runs_at address) image.now.parts }
 {
     for number in 0..image.part_count() {

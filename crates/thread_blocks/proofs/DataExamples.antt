@@ -1,16 +1,17 @@
 -- Data that threads share, and data of a late module, which begins anew at each load.
-use Rattle.std.proofs.Common.{◌≡◌, [], ◌∷◌, Some, None, true, false, refl}
+use Rattle.std.proofs.Common.{◌≡◌, [], ◌∷◌, None, true, false, refl}
 use Rattle.guest_operands.specs.declared.stop.Stop.TheVariants.{Returned}
 use Rattle.image_file.specs.Spelled.{Spelled}
 use Rattle.image_file.specs.declared.part.PartClass.TheVariants.{Executable, ReadOnly, Writable}
 use Rattle.image_file.specs.declared.symbol.SymbolBinding.TheVariants.{Local, Global}
-use Rattle.image_file.specs.declared.symbol.SymbolType.TheVariants.{NoType, Object, Func, Tls}
+use Rattle.image_file.specs.declared.symbol.SymbolType.TheVariants.{NoType, Object, Func}
 use Rattle.image_file.specs.declared.symbol.Visibility.TheVariants.{Default}
 use Rattle.image_rules.specs.declared.places.FileKind.TheVariants.{Exe as ExeFile, Module as ModuleFile}
 use Rattle.job_text.specs.declared.thread_lines.Action.TheVariants.{Call, Open, Close}
 use Rattle.link_faults.specs.declared.image_kind.ImageKind.TheVariants.{Exe, Late}
 use Rattle.transcript_text.specs.declared.outcomes.Outcome.TheVariants.{Opened, Closed}
 use Rattle.thread_blocks.specs.Turns.{Answered, Stopped}
+use Rattle.thread_blocks.proofs.ExampleImages.{variable_app}
 use Rattle.thread_blocks.proofs.JobRuns.{said, told}
 
 -- ** two threads add 1 to one counter, in turns
@@ -49,28 +50,6 @@ shared_counter = refl
 
 -- ** a counter of a late module, over a close and a second load
 
-abbrev fresh_counter_app : Spelled
-fresh_counter_app = record {
-  kind = ExeFile;
-  parts = record { class = Executable; address = 0x400000; bytes = 0x64 ∷ 0x8b ∷ 0x04 ∷ 0x25 ∷ 0xfc ∷ 0xff ∷ 0xff ∷ 0xff ∷ 0xc3 ∷ [] }
-      ∷ record { class = ReadOnly; address = 0x401000; bytes = 0x2a ∷ 0x00 ∷ 0x00 ∷ 0x00 ∷ [] }
-      ∷ record { class = ReadOnly; address = 0x402000; bytes = [] }
-      ∷ [];
-  array_size = 0;
-  got = None;
-  tls = Some (record { address = 4198400; initial = 4; size = 4; alignment = 4 });
-  symbols = record { binding = Local; kind = NoType; visibility = Default; is_defined = false; value = 0x0; size = 0 }
-      ∷ record { binding = Global; kind = Func; visibility = Default; is_defined = true; value = 0x400000; size = 9 }
-      ∷ record { binding = Global; kind = Tls; visibility = Default; is_defined = true; value = 0x0; size = 4 }
-      ∷ [];
-  names = []
-      ∷ (0x66 ∷ [])
-      ∷ (0x78 ∷ [])
-      ∷ [];
-  relocations = [];
-  is_flagged = false;
-}
-
 abbrev fresh_counter_plug : Spelled
 fresh_counter_plug = record {
   kind = ModuleFile;
@@ -93,7 +72,7 @@ fresh_counter_plug = record {
   is_flagged = false;
 }
 
-fresh_counter : told (said (Exe ∷ Late ∷ []) (fresh_counter_app ∷ fresh_counter_plug ∷ []) 4
+fresh_counter : told (said (Exe ∷ Late ∷ []) (variable_app ∷ fresh_counter_plug ∷ []) 4
     ((record { image = 2; action = Open } ∷ record { image = 2; action = Call (0x66 ∷ []) 0 0 0 } ∷ record { image = 2; action = Close } ∷ record { image = 2; action = Open } ∷ record { image = 2; action = Call (0x66 ∷ []) 0 0 0 } ∷ []) ∷ [])
     ([]))
     ≡ (

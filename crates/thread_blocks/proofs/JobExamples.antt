@@ -1,5 +1,5 @@
 -- A late module that a thread opens, calls, shows, closes and opens again; and one that is closed by another thread while a call in it waits.
-use Rattle.std.proofs.Common.{◌≡◌, [], ◌∷◌, Some, None, true, false, refl}
+use Rattle.std.proofs.Common.{◌≡◌, [], ◌∷◌, Some, true, false, refl}
 use Rattle.std.specs.Prelude.{pos}
 use Rattle.guest_operands.specs.declared.stop.Stop.TheVariants.{Returned}
 use Rattle.image_faults.specs.declared.loader_kind.LoaderKind.TheVariants.{JumpSlot, Module}
@@ -8,37 +8,16 @@ use Rattle.image_file.specs.declared.part.PartClass.TheVariants.{Executable, Rea
 use Rattle.image_file.specs.declared.symbol.SymbolBinding.TheVariants.{Local, Global}
 use Rattle.image_file.specs.declared.symbol.SymbolType.TheVariants.{NoType, Func, Tls}
 use Rattle.image_file.specs.declared.symbol.Visibility.TheVariants.{Default}
-use Rattle.image_rules.specs.declared.places.FileKind.TheVariants.{Exe as ExeFile, Module as ModuleFile}
+use Rattle.image_rules.specs.declared.places.FileKind.TheVariants.{Module as ModuleFile}
 use Rattle.job_text.specs.declared.thread_lines.Action.TheVariants.{Call, Open, Close, Peek}
 use Rattle.link_faults.specs.declared.image_kind.ImageKind.TheVariants.{Exe, Late}
 use Rattle.transcript_text.specs.declared.outcomes.LineFault.TheVariants.{Unloaded}
 use Rattle.transcript_text.specs.declared.outcomes.Outcome.TheVariants.{Opened, Closed, Bytes, Fault}
 use Rattle.thread_blocks.specs.Turns.{Answered, Stopped}
+use Rattle.thread_blocks.proofs.ExampleImages.{variable_app}
 use Rattle.thread_blocks.proofs.JobRuns.{said, told}
 
 -- ** a job whose thread opens a module twice: the second instance begins anew, under the id of the first
-
-abbrev opened_again_app : Spelled
-opened_again_app = record {
-  kind = ExeFile;
-  parts = record { class = Executable; address = 0x400000; bytes = 0x64 ∷ 0x8b ∷ 0x04 ∷ 0x25 ∷ 0xfc ∷ 0xff ∷ 0xff ∷ 0xff ∷ 0xc3 ∷ [] }
-      ∷ record { class = ReadOnly; address = 0x401000; bytes = 0x2a ∷ 0x00 ∷ 0x00 ∷ 0x00 ∷ [] }
-      ∷ record { class = ReadOnly; address = 0x402000; bytes = [] }
-      ∷ [];
-  array_size = 0;
-  got = None;
-  tls = Some (record { address = 4198400; initial = 4; size = 4; alignment = 4 });
-  symbols = record { binding = Local; kind = NoType; visibility = Default; is_defined = false; value = 0x0; size = 0 }
-      ∷ record { binding = Global; kind = Func; visibility = Default; is_defined = true; value = 0x400000; size = 9 }
-      ∷ record { binding = Global; kind = Tls; visibility = Default; is_defined = true; value = 0x0; size = 4 }
-      ∷ [];
-  names = []
-      ∷ (0x66 ∷ [])
-      ∷ (0x78 ∷ [])
-      ∷ [];
-  relocations = [];
-  is_flagged = false;
-}
 
 abbrev opened_again_plug : Spelled
 opened_again_plug = record {
@@ -68,7 +47,7 @@ opened_again_plug = record {
   is_flagged = false;
 }
 
-opened_again : told (said (Exe ∷ Late ∷ []) (opened_again_app ∷ opened_again_plug ∷ []) 4
+opened_again : told (said (Exe ∷ Late ∷ []) (variable_app ∷ opened_again_plug ∷ []) 4
     ((record { image = 2; action = Open } ∷ record { image = 2; action = Call (0x66 ∷ []) 7 0 0 } ∷ record { image = 2; action = Peek (0x76 ∷ []) 4 } ∷ record { image = 2; action = Close } ∷ record { image = 2; action = Open } ∷ record { image = 2; action = Peek (0x76 ∷ []) 4 } ∷ []) ∷ [])
     ([]))
     ≡ (
@@ -79,28 +58,6 @@ unfolding said
 opened_again = refl
 
 -- ** thread 2 closes the module while a call of thread 1 waits for its block
-
-abbrev unloaded_app : Spelled
-unloaded_app = record {
-  kind = ExeFile;
-  parts = record { class = Executable; address = 0x400000; bytes = 0x64 ∷ 0x8b ∷ 0x04 ∷ 0x25 ∷ 0xfc ∷ 0xff ∷ 0xff ∷ 0xff ∷ 0xc3 ∷ [] }
-      ∷ record { class = ReadOnly; address = 0x401000; bytes = 0x2a ∷ 0x00 ∷ 0x00 ∷ 0x00 ∷ [] }
-      ∷ record { class = ReadOnly; address = 0x402000; bytes = [] }
-      ∷ [];
-  array_size = 0;
-  got = None;
-  tls = Some (record { address = 4198400; initial = 4; size = 4; alignment = 4 });
-  symbols = record { binding = Local; kind = NoType; visibility = Default; is_defined = false; value = 0x0; size = 0 }
-      ∷ record { binding = Global; kind = Func; visibility = Default; is_defined = true; value = 0x400000; size = 9 }
-      ∷ record { binding = Global; kind = Tls; visibility = Default; is_defined = true; value = 0x0; size = 4 }
-      ∷ [];
-  names = []
-      ∷ (0x66 ∷ [])
-      ∷ (0x78 ∷ [])
-      ∷ [];
-  relocations = [];
-  is_flagged = false;
-}
 
 abbrev unloaded_plug : Spelled
 unloaded_plug = record {
@@ -130,7 +87,7 @@ unloaded_plug = record {
   is_flagged = false;
 }
 
-unloaded : told (said (Exe ∷ Late ∷ []) (unloaded_app ∷ unloaded_plug ∷ []) 4
+unloaded : told (said (Exe ∷ Late ∷ []) (variable_app ∷ unloaded_plug ∷ []) 4
     ((record { image = 2; action = Open } ∷ record { image = 2; action = Call (0x66 ∷ []) 0 0 0 } ∷ []) ∷ (record { image = 2; action = Close } ∷ []) ∷ [])
     (1 ∷ 1 ∷ 1 ∷ 2 ∷ 1 ∷ []))
     ≡ (

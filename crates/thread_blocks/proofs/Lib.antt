@@ -11,6 +11,7 @@ pub mod Examples
 pub mod Histories
 pub mod Looks
 mod JobRuns
+mod ExampleImages
 mod JobExamples
 mod DataExamples
 mod StaticExamples

@@ -1,5 +1,5 @@
 -- After a look a thread holds nothing of an instance that is gone.
-use Rattle.std.proofs.Common.{◌≡◌, ◌==◌, ℕ, List, [], ◌∷◌, ◌++◌, Option, Some, None, Bool, true, false, if◌then◌else◌, refl, sym, subst, ap, ◌∙◌, arith}
+use Rattle.std.proofs.Common.{◌≡◌, ◌==◌, ℕ, List, [], ◌∷◌, ◌++◌, Some, Bool, true, false, if◌then◌else◌, refl, sym, subst, ap, ◌∙◌, arith}
 use Rattle.std.specs.Prelude.{is_some, fold}
 use Rattle.std.specs.List.{All, filter, find}
 use Rattle.std.proofs.lemmas.Bool.Decides.{nat_tests}

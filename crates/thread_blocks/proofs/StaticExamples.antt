@@ -13,6 +13,7 @@ use Rattle.job_text.specs.declared.thread_lines.Action.TheVariants.{Call, Open, 
 use Rattle.link_faults.specs.declared.image_kind.ImageKind.TheVariants.{Exe, Pie, Start, Late}
 use Rattle.transcript_text.specs.declared.outcomes.Outcome.TheVariants.{Opened, Closed, Bytes}
 use Rattle.thread_blocks.specs.Turns.{Answered, Stopped}
+use Rattle.thread_blocks.proofs.ExampleImages.{variable_app}
 use Rattle.thread_blocks.proofs.JobRuns.{said, told}
 
 -- ** a program reads the distance of a startup module's variable
@@ -105,28 +106,6 @@ of_pie = refl
 
 -- ** a late module that wants its blocks at a fixed distance, loaded twice
 
-abbrev of_surplus_app : Spelled
-of_surplus_app = record {
-  kind = ExeFile;
-  parts = record { class = Executable; address = 0x400000; bytes = 0x64 ∷ 0x8b ∷ 0x04 ∷ 0x25 ∷ 0xfc ∷ 0xff ∷ 0xff ∷ 0xff ∷ 0xc3 ∷ [] }
-      ∷ record { class = ReadOnly; address = 0x401000; bytes = 0x2a ∷ 0x00 ∷ 0x00 ∷ 0x00 ∷ [] }
-      ∷ record { class = ReadOnly; address = 0x402000; bytes = [] }
-      ∷ [];
-  array_size = 0;
-  got = None;
-  tls = Some (record { address = 4198400; initial = 4; size = 4; alignment = 4 });
-  symbols = record { binding = Local; kind = NoType; visibility = Default; is_defined = false; value = 0x0; size = 0 }
-      ∷ record { binding = Global; kind = Func; visibility = Default; is_defined = true; value = 0x400000; size = 9 }
-      ∷ record { binding = Global; kind = Tls; visibility = Default; is_defined = true; value = 0x0; size = 4 }
-      ∷ [];
-  names = []
-      ∷ (0x66 ∷ [])
-      ∷ (0x78 ∷ [])
-      ∷ [];
-  relocations = [];
-  is_flagged = false;
-}
-
 abbrev of_surplus_plug : Spelled
 of_surplus_plug = record {
   kind = ModuleFile;
@@ -151,7 +130,7 @@ of_surplus_plug = record {
   is_flagged = true;
 }
 
-of_surplus : told (said (Exe ∷ Late ∷ []) (of_surplus_app ∷ of_surplus_plug ∷ []) 4
+of_surplus : told (said (Exe ∷ Late ∷ []) (variable_app ∷ of_surplus_plug ∷ []) 4
     ((record { image = 2; action = Open } ∷ record { image = 2; action = Call (0x66 ∷ []) 0 0 0 } ∷ record { image = 2; action = Peek (0x76 ∷ []) 8 } ∷ record { image = 2; action = Close } ∷ record { image = 2; action = Open } ∷ record { image = 2; action = Call (0x66 ∷ []) 0 0 0 } ∷ []) ∷ [])
     ([]))
     ≡ (
@@ -162,28 +141,6 @@ unfolding said
 of_surplus = refl
 
 -- ** a late module asks by a descriptor
-
-abbrev by_descriptor_app : Spelled
-by_descriptor_app = record {
-  kind = ExeFile;
-  parts = record { class = Executable; address = 0x400000; bytes = 0x64 ∷ 0x8b ∷ 0x04 ∷ 0x25 ∷ 0xfc ∷ 0xff ∷ 0xff ∷ 0xff ∷ 0xc3 ∷ [] }
-      ∷ record { class = ReadOnly; address = 0x401000; bytes = 0x2a ∷ 0x00 ∷ 0x00 ∷ 0x00 ∷ [] }
-      ∷ record { class = ReadOnly; address = 0x402000; bytes = [] }
-      ∷ [];
-  array_size = 0;
-  got = None;
-  tls = Some (record { address = 4198400; initial = 4; size = 4; alignment = 4 });
-  symbols = record { binding = Local; kind = NoType; visibility = Default; is_defined = false; value = 0x0; size = 0 }
-      ∷ record { binding = Global; kind = Func; visibility = Default; is_defined = true; value = 0x400000; size = 9 }
-      ∷ record { binding = Global; kind = Tls; visibility = Default; is_defined = true; value = 0x0; size = 4 }
-      ∷ [];
-  names = []
-      ∷ (0x66 ∷ [])
-      ∷ (0x78 ∷ [])
-      ∷ [];
-  relocations = [];
-  is_flagged = false;
-}
 
 abbrev by_descriptor_plug : Spelled
 by_descriptor_plug = record {
@@ -209,7 +166,7 @@ by_descriptor_plug = record {
   is_flagged = false;
 }
 
-by_descriptor : told (said (Exe ∷ Late ∷ []) (by_descriptor_app ∷ by_descriptor_plug ∷ []) 4
+by_descriptor : told (said (Exe ∷ Late ∷ []) (variable_app ∷ by_descriptor_plug ∷ []) 4
     ((record { image = 2; action = Open } ∷ record { image = 2; action = Call (0x66 ∷ []) 0 0 0 } ∷ []) ∷ [])
     ([]))
     ≡ (

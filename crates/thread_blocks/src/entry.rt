@@ -1,11 +1,12 @@
 //! Where a function of an image begins, by its name.
 
 ghost use Rattle.std.specs.Prelude.{◌≡◌, drop};
-ghost use Rattle.std.specs.List.{list_any, position_from};
+ghost use Rattle.std.specs.List.{position_from};
 ghost use Rattle.std.specs.Str.{bytes_eq};
-ghost use Rattle.thread_blocks.specs.Loading.{entry_in, function_place, is_code, is_tls, lent_part, runs_at};
+ghost use Rattle.thread_blocks.specs.Loading.{entry_in, function_place};
 
-use image_file::{Image, ImagePart, ImageSymbol, PartClass, SymbolType};
+use image_file::{Image, ImageSymbol};
+use image_names::{is_executed, is_tls};
 
 /// Where the function of a name begins, by the first symbol of the name.
 #[tactic(auto, unfolding(crate::specs::Loading::entry_in))]
@@ -37,46 +38,5 @@ fn function_place(image: &Image, symbol: ImageSymbol) -> Option<u64>
         Some(symbol.value)
     } else {
         None
-    }
-}
-
-fn is_tls(kind: SymbolType) -> bool
-    ensures { result ≡ is_tls kind }
-{
-    match kind {
-        SymbolType::Tls => true,
-        _ => false,
-    }
-}
-
-/// Whether a byte of some part that is executed stands at an address.
-fn is_executed(image: &Image, address: u64) -> bool
-    ensures { result ≡ list_any (runs_at address) image.now.parts }
-{
-    for number in 0..image.part_count() {
-        if let Some(part) = image.part(number) {
-            if runs_at(address, part) {
-                return true;
-            }
-        }
-    }
-    false
-}
-
-/// Whether a byte of this part stands at an address, and is executed.
-fn runs_at(address: u64, part: ImagePart) -> bool
-    ensures { result ≡ runs_at address (lent_part part.entry) }
-{
-    is_code(part.class)
-        && part.address <= address
-        && address - part.address < part.bytes.len() as u64
-}
-
-fn is_code(class: PartClass) -> bool
-    ensures { result ≡ is_code class }
-{
-    match class {
-        PartClass::Executable => true,
-        PartClass::ReadOnly | PartClass::Writable => false,
     }
 }

@@ -60,6 +60,13 @@
 //! `run_call` runs the one call of a thread that has no other; for the function above it answers
 //! `Returned(0x2a)`.
 //!
+//! **Lines of all kinds** are defined beside these, and no code runs them yet. A line calls, opens, closes, or shows
+//! bytes of a variable (`specs/Lines.antt`), over the instances that are live where its look saw the history
+//! (`specs/Instances.antt`). A look drops what is gone and finds the blocks at fixed distances (`specs/Held.antt`); the
+//! machine's calls of `__tls_get_addr` and of a descriptor's function are steps of their own (`specs/RunTime.antt`); and
+//! the data that all threads share goes from turn to turn (`specs/JobWorlds.antt`). The checker computes whole jobs by
+//! them, from the bytes of their images (`proofs/JobExamples.antt` and two more files there).
+//!
 //! What a call begins with is one definition for any kind of values, so that a meaning over marked
 //! values begins as the machine does (`begin_call_alike`, `proofs/Begin.antt`).
 #![tactic(auto)]
