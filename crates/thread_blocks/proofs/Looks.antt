@@ -1,13 +1,14 @@
 -- After a look a thread holds nothing of an instance that is gone.
-use Rattle.std.proofs.Common.{◌≡◌, ◌==◌, ℕ, List, [], ◌∷◌, ◌++◌, Some, Bool, true, false, if◌then◌else◌, refl, sym, subst, ap, ◌∙◌, arith}
-use Rattle.std.specs.Prelude.{is_some, fold}
-use Rattle.std.specs.List.{All, filter, find}
+use Rattle.std.proofs.Common.{◌≡◌, ◌==◌, ℕ, List, [], ◌∷◌, ◌++◌, Option, Some, None, Bool, true, false, if◌then◌else◌, refl, sym, subst, ap, arith}
+use Rattle.std.specs.Prelude.{is_some}
+use Rattle.std.specs.List.{All, find, flat_map}
 use Rattle.std.proofs.lemmas.Bool.Decides.{nat_tests}
-use Rattle.std.proofs.lemmas.List.Elements.{All-cons, filter_passes}
+use Rattle.std.proofs.lemmas.List.Elements.{All-nil, All-cons, All-append}
+use Rattle.guest_machine.specs.Ranges.{Range}
 use Rattle.loaded_modules.specs.declared.instance.Instance.{Instance}
 use Rattle.module_table.specs.declared.events.Event.{Event}
-use Rattle.thread_blocks.specs.Held.{Owned, has_block, looked_at, reach, reach_static, block_owner}
-use Rattle.thread_blocks.specs.Instances.{Loads, fresh_range, instances, numbered_instance}
+use Rattle.thread_blocks.specs.Held.{Owned, Block, Data, block_with, data_with, block_after, data_after, looked_at}
+use Rattle.thread_blocks.specs.Instances.{Loads, block_range, instances, numbered_instance}
 use Rattle.thread_blocks.specs.JobStatements.{HoldsLive, is_held_live}
 
 number_same : (m n : ℕ) → m ≡ n → (m == n) ≡ true
@@ -28,41 +29,42 @@ append_one [] x rest = refl
 append_one (y ∷ front) x rest = ap (λ ys. y ∷ ys) (append_one front x rest)
 
 module _ (l : Loads ℕ) (thread : ℕ) (seen : List Event) where
-  -- a block that is reached is of the instance
-  reach_live : (x : Instance) (xs : List (Owned ℕ)) → is_some (numbered_instance l seen x.number) ≡ true
-      → All (λ y. is_held_live l seen y ≡ true) xs → All (λ y. is_held_live l seen y ≡ true) (reach l thread x xs)
-  reach_live x xs live held = elim (has_block x.number xs) as (λ b. All (λ y. is_held_live l seen y ≡ true)
-      (if b then xs else record { owner = block_owner x.number; range = fresh_range l thread x } ∷ xs)) [
-        | true ↦ held
-        | false ↦ All-cons (λ y. is_held_live l seen y ≡ true)
-            (record { owner = block_owner x.number; range = fresh_range l thread x }) xs live held
-      ]
+  abbrev IsLive : Owned ℕ → Type 0
+  IsLive y = is_held_live l seen y ≡ true
 
-  static_live : (x : Instance) (xs : List (Owned ℕ)) → is_some (numbered_instance l seen x.number) ≡ true
-      → All (λ y. is_held_live l seen y ≡ true) xs
-      → All (λ y. is_held_live l seen y ≡ true) (reach_static l thread xs x)
-  static_live x xs live held =
-      elim (is_some x.offset) as (λ b. All (λ y. is_held_live l seen y ≡ true) (if b then reach l thread x xs else xs)) [
-        | true ↦ reach_live x xs live held
-        | false ↦ held
-      ]
+  block_live : (x : Instance) (bytes : Option (List ℕ)) → is_some (numbered_instance l seen x.number) ≡ true
+      → All IsLive (block_with thread x bytes)
+  block_live x None live = All-nil IsLive
+  block_live x (Some bytes) live = All-cons IsLive
+      (record { owner = record { kind = Block; instance = x.number }; range = block_range thread x bytes }) [] live
+      (All-nil IsLive)
 
-  all_live : (front rest : List Instance) (xs : List (Owned ℕ)) → instances l seen ≡ front ++ rest
-      → All (λ y. is_held_live l seen y ≡ true) xs
-      → All (λ y. is_held_live l seen y ≡ true) (fold (reach_static l thread) xs rest)
-  all_live front [] xs all held = held
-  all_live front (x ∷ rest) xs all held =
-      all_live (front ++ x ∷ []) rest (reach_static l thread xs x) (all ∙ sym (append_one front x rest))
-      (static_live x xs
+  data_live : (x : Instance) (range : Option (Range ℕ)) (bytes : Option (List ℕ))
+      → is_some (numbered_instance l seen x.number) ≡ true → All IsLive (data_with x range bytes)
+  data_live x None bytes live = All-nil IsLive
+  data_live x (Some range) None live = All-nil IsLive
+  data_live x (Some range) (Some bytes) live =
+      All-cons IsLive (record { owner = record { kind = Data; instance = x.number }; range = record range { bytes = bytes } }) [] live (All-nil IsLive)
+
+  -- what is made of each live instance
+  all_live : (made : Instance → List (Owned ℕ))
+      → ((x : Instance) → is_some (numbered_instance l seen x.number) ≡ true → All IsLive (made x))
+      → (front rest : List Instance) → instances l seen ≡ front ++ rest → All IsLive (flat_map made rest)
+  all_live made each front [] all = All-nil IsLive
+  all_live made each front (x ∷ rest) all =
+      All-append IsLive (made x) (flat_map made rest)
+      (each x
       (let P : List Instance → Type 0 = λ ys. is_some (find (λ (y : Instance). y.number == x.number) ys) ≡ true in
-      subst P (sym all) (found_behind (λ (y : Instance). y.number == x.number) front x rest (number_same x.number x.number refl)))
-      held)
+      subst P (sym all) (found_behind (λ (y : Instance). y.number == x.number) front x rest (number_same x.number x.number refl))))
+      (all_live made each (front ++ x ∷ []) rest (subst (λ ys. instances l seen ≡ ys) (sym (append_one front x rest)) all))
 
   -- all that is held after a look is of live instances
-  pub look_live : (xs : List (Owned ℕ)) → All (λ y. is_held_live l seen y ≡ true) (looked_at l thread seen xs)
+  pub look_live : (xs : List (Owned ℕ)) → All IsLive (looked_at l thread seen xs)
   unfolding looked_at
-  look_live xs = all_live [] (instances l seen) (filter (is_held_live l seen) xs) refl
-      (filter_passes (is_held_live l seen) xs)
+  look_live xs = All-append IsLive (flat_map (block_after l thread (λ x. is_some x.offset) xs) (instances l seen))
+      (flat_map (data_after l (λ x. false) xs) (instances l seen))
+      (all_live (block_after l thread (λ x. is_some x.offset) xs) (λ x live. block_live x _ live) [] (instances l seen) refl)
+      (all_live (data_after l (λ x. false) xs) (λ x live. data_live x (l.shared x) _ live) [] (instances l seen) refl)
 
 pub looks_leave_live : HoldsLive
 looks_leave_live l thread seen xs = look_live l thread seen xs

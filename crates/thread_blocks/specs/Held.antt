@@ -1,11 +1,12 @@
 -- What a thread holds from line to line, and what a look makes of it.
-use Rattle.std.specs.Prelude.{ℕ, ◌==◌, ◌&&◌, Bool, true, false, List, [], ◌∷◌, Option, is_some, fold, map, if◌then◌else◌}
-use Rattle.std.specs.List.{filter, list_any}
+use Rattle.std.specs.Prelude.{ℕ, ◌==◌, ◌&&◌, ◌++◌, Bool, true, false, not, List, [], ◌∷◌, Option, Some, None, is_some, map, option_map, if◌then◌else◌}
+use Rattle.std.specs.List.{find, flat_map}
+use Rattle.std.specs.Option.{option_or}
 use Rattle.guest_machine.specs.Ranges.{Range}
 use Rattle.guest_machine.specs.Use.{After, left}
 use Rattle.loaded_modules.specs.declared.instance.Instance.{Instance}
 use Rattle.module_table.specs.declared.events.Event.{Event}
-use Rattle.thread_blocks.specs.Instances.{Loads, instances, numbered_instance, fresh_range}
+use Rattle.thread_blocks.specs.Instances.{Loads, instances, block_range}
 use Rattle.thread_blocks.specs.Spaces.{Space}
 
 -- what is written: a thread's block of an instance, or an instance's data
@@ -70,37 +71,70 @@ module _ {W F B : Type 0} where
 abbrev pub is_block_of : ℕ → Owner → Bool
 is_block_of instance o = is_block o.kind && (o.instance == instance)
 
-abbrev pub has_block : {B : Type 0} → ℕ → List (Owned B) → Bool
-has_block instance xs = list_any (λ x. is_block_of instance x.owner) xs
+abbrev pub is_data_of : ℕ → Owner → Bool
+is_data_of instance o = not (is_block o.kind) && (o.instance == instance)
 
-abbrev pub block_owner : ℕ → Owner
-block_owner instance = record { kind = Block; instance = instance }
+-- the bytes of the block of an instance, and those of its data, if they are held
+abbrev pub block_bytes : {B : Type 0} → ℕ → List (Owned B) → Option (List B)
+block_bytes instance xs = option_map (λ x. x.range.bytes) (find (λ x. is_block_of instance x.owner) xs)
 
-abbrev pub data_owner : ℕ → Owner
-data_owner instance = record { kind = Data; instance = instance }
+abbrev pub data_bytes : {B : Type 0} → ℕ → List (Owned B) → Option (List B)
+data_bytes instance xs = option_map (λ x. x.range.bytes) (find (λ x. is_data_of instance x.owner) xs)
 
--- ---- looks
+-- ---- what is held of an instance
+
+-- its block with these bytes, if there is one
+abbrev pub block_with : {B : Type 0} → ℕ → Instance → Option (List B) → List (Owned B)
+block_with thread x None = []
+block_with thread x (Some bytes) =
+    record { owner = record { kind = Block; instance = x.number }; range = block_range thread x bytes } ∷ []
+
+-- its data with these bytes, at their place, if there are any
+abbrev pub data_with : {B : Type 0} → Instance → Option (Range B) → Option (List B) → List (Owned B)
+data_with x None bytes = []
+data_with x (Some range) None = []
+data_with x (Some range) (Some bytes) =
+    record { owner = record { kind = Data; instance = x.number }; range = record range { bytes = bytes } } ∷ []
+
+abbrev pub fresh_if : {A : Type 0} → Bool → A → Option A
+fresh_if true fresh = Some fresh
+fresh_if false fresh = None
+
+abbrev pub fresh_data : {B : Type 0} → Option (Range B) → Bool → Option (List B)
+fresh_data None wanted = None
+fresh_data (Some range) wanted = fresh_if wanted range.bytes
+
+module _ {B : Type 0} (l : Loads B) where
+  -- the data as they were, or as a load makes them
+  abbrev pub data_after : (Instance → Bool) → List (Owned B) → Instance → List (Owned B)
+  data_after loads xs x = data_with x (l.shared x)
+      (option_or (fresh_data (l.shared x) (loads x)) (data_bytes x.number xs))
 
 module _ {B : Type 0} (l : Loads B) (thread : ℕ) where
-  -- the block of an instance is there after it is reached: as it was, or fresh
-  abbrev pub reach : Instance → List (Owned B) → List (Owned B)
-  reach x xs = if has_block x.number xs
-      then xs
-      else record { owner = block_owner x.number; range = fresh_range l thread x } ∷ xs
+  -- the block as it was, and where there was none a fresh one, if it is wanted
+  abbrev pub block_after : (Instance → Bool) → List (Owned B) → Instance → List (Owned B)
+  block_after wanted xs x =
+      block_with thread x (option_or (block_bytes x.number xs) (fresh_if (wanted x) (l.block x)))
 
-  -- the blocks that lie at a fixed distance from the thread pointer are there from a look on
-  abbrev pub reach_static : List (Owned B) → Instance → List (Owned B)
-  reach_static xs x = if is_some x.offset then reach x xs else xs
+  -- what is held of the instances that are live where the events were seen, in the order of their images: blocks, and
+  -- behind them data. Of any other instance nothing is held
+  abbrev pub held_of : (Instance → Bool) → (Instance → Bool) → List Instance → List (Owned B) → List (Owned B)
+  held_of reaches loads live xs =
+      flat_map (block_after reaches xs) live ++ flat_map (data_after l loads xs) live
 
-  -- what a look leaves: nothing of an instance that is gone, and all blocks at fixed distances
+  -- ---- looks
+
+  -- blocks at a fixed distance from the thread pointer are there from a look on
   unfoldable pub looked_at : List Event → List (Owned B) → List (Owned B)
-  looked_at seen xs =
-      fold reach_static (filter (λ (x : Owned B). is_some (numbered_instance l seen x.owner.instance)) xs)
-      (instances l seen)
+  looked_at seen xs = held_of (λ x. is_some x.offset) (λ x. false) (instances l seen) xs
 
--- data of an instance, as a load makes it
-abbrev pub fresh_data : {B : Type 0} → Loads B → Instance → List (Owned B)
-fresh_data l x = map (λ r. record { owner = data_owner x.number; range = r }) (l.shared x)
+  -- a block that is reached
+  unfoldable pub reached_at : List Event → Instance → List (Owned B) → List (Owned B)
+  reached_at seen x xs = held_of (λ y. y.number == x.number) (λ y. false) (instances l seen) xs
+
+  -- an instance that is loaded: its data are as the loader left them
+  unfoldable pub loaded_at : List Event → Instance → List (Owned B) → List (Owned B)
+  loaded_at seen x xs = held_of (λ y. false) (λ y. y.number == x.number) (instances l seen) xs
 
 module _ {W F B : Type 0} (l : Loads B) (thread : ℕ) where
   -- a thread that looks
@@ -109,4 +143,7 @@ module _ {W F B : Type 0} (l : Loads B) (thread : ℕ) where
       record h { after = left h.after.state (record h.after.memory { seen = seen }) }
 
   abbrev pub reached : Instance → Held W F B → Held W F B
-  reached x h = with_owned h (reach l thread x (owned_by h))
+  reached x h = with_owned h (reached_at l thread h.after.memory.seen x (owned_by h))
+
+  abbrev pub loaded : Instance → Held W F B → Held W F B
+  loaded x h = with_owned h (loaded_at l thread h.after.memory.seen x (owned_by h))

@@ -25,8 +25,8 @@ pub record Loads (B : Type 0) : Type 0 where
   pub fixed : Instance → List (Range B)
   -- the parts of it that are written, by the loader or by threads: where the words stand that the run time is asked by
   pub tables : Instance → List (Range B)
-  -- the data that threads write, as a load makes it
-  pub shared : Instance → List (Range B)
+  -- the data that threads write, as a load makes it, if the image has any
+  pub shared : Instance → Option (Range B)
   -- a thread's block of an instance before any write
   pub block : Instance → List B
 
@@ -47,14 +47,18 @@ abbrev pub instances_from : List ImageInfo → ℕ → List Module → List Inst
 instances_from infos image [] = []
 instances_from infos image (m ∷ ms) = option_to_list (loaded_instance infos image m) ++ instances_from infos (suc image) ms
 
+-- the live instances that a history leaves, in the order of their images
+unfoldable pub instances_in : List ImageInfo → Past → List Instance
+instances_in infos p = instances_from infos 0 p.modules
+
 module _ {B : Type 0} (l : Loads B) where
   -- what the events leave
   abbrev pub left_by : List Event → Past
   left_by seen = past l.infos l.last_offset seen
 
-  -- the live instances, in the order of their images
-  unfoldable pub instances : List Event → List Instance
-  instances seen = instances_from l.infos 0 (left_by seen).modules
+  -- the live instances where the events were seen
+  abbrev pub instances : List Event → List Instance
+  instances seen = instances_in l.infos (left_by seen)
 
   -- the live instance of an image
   unfoldable pub instance_at : List Event → ℕ → Option Instance
@@ -71,9 +75,12 @@ module _ {B : Type 0} (l : Loads B) where
   abbrev pub is_startup_id : ℕ → Bool
   is_startup_id id = if id == 0 then false else nat_le id (startup_count l.infos)
 
-  -- all that is loaded and that no thread writes
+  -- all that is loaded of these instances and that no thread writes
+  abbrev pub fixed_of : List Instance → List (Range B)
+  fixed_of xs = flat_map l.fixed xs
+
   unfoldable pub fixed_at : List Event → List (Range B)
-  fixed_at seen = flat_map l.fixed (instances seen)
+  fixed_at seen = fixed_of (instances seen)
 
 -- ---- blocks
 
@@ -86,10 +93,11 @@ block_start thread x = begins_at x.offset
     begins_at (Some offset) = pointer_of thread - offset
     begins_at None = thread * 2 ^ 40 + x.number * 2 ^ 24
 
-abbrev pub fresh_range : {B : Type 0} → Loads B → ℕ → Instance → Range B
-fresh_range l thread x = record {
+-- a thread's block of an instance that holds these bytes
+abbrev pub block_range : {B : Type 0} → ℕ → Instance → List B → Range B
+block_range thread x bytes = record {
   start = block_start thread x;
-  bytes = l.block x;
+  bytes = bytes;
   readable = true;
   writable = true;
   runnable = false;

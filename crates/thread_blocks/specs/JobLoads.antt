@@ -1,7 +1,7 @@
 -- What is loaded of a job's images: each part of a live instance at its place, as the loader leaves it, with the rights
 -- of its class (gABI, "Program Loading").
 use Rattle.std.specs.Prelude.{◌+◌, ◌&&◌, ℕ, not, suc, List, [], ◌∷◌, Option, Some, None, option_and_then, option_map, if◌then◌else◌}
-use Rattle.std.specs.List.{filter}
+use Rattle.std.specs.List.{filter, find}
 use Rattle.guest_machine.specs.Ranges.{Range}
 use Rattle.image_file.specs.Spelled.{Part, Spelled}
 use Rattle.loaded_modules.specs.declared.instance.Instance.{Instance}
@@ -55,6 +55,6 @@ job_loads m = record {
       (option_and_then (λ found. variable_in found name) (image_at m image));
   fixed = λ x. filter (λ (range : Range ℕ). not range.writable) (loaded_parts m x);
   tables = λ x. tables_in m x (image_at m x.image);
-  shared = λ x. filter (λ (range : Range ℕ). range.writable) (loaded_parts m x);
+  shared = λ x. find (λ (range : Range ℕ). range.writable) (loaded_parts m x);
   block = λ x. fresh_block m x;
 }

@@ -1,12 +1,12 @@
 -- All threads of a job, and the data that they share: each turn begins with the data as the turn before left it.
-use Rattle.std.specs.Prelude.{ℕ, ◌*◌, Bool, suc, not, List, [], ◌∷◌, ◌++◌, Option, Some, None}
+use Rattle.std.specs.Prelude.{ℕ, ◌*◌, Bool, true, suc, not, List, [], ◌∷◌, ◌++◌, Option, Some, None}
 use Rattle.std.specs.List.{filter, flat_map}
 use Rattle.guest_machine.specs.Use.{left}
 use Rattle.guest_arithmetic.specs.Plain.{plain_operations}
 use Rattle.guest_machine.specs.State.{start_of}
 use Rattle.job_text.specs.declared.thread_lines.ThreadLine.{ThreadLine}
 use Rattle.module_table.specs.declared.events.Event.{Event}
-use Rattle.thread_blocks.specs.Held.{Held, Owned, owned_by, with_owned, fresh_data, is_block}
+use Rattle.thread_blocks.specs.Held.{Held, Owned, owned_by, with_owned, data_after, is_block, looked}
 use Rattle.thread_blocks.specs.Instances.{Loads, instances}
 use Rattle.thread_blocks.specs.Lines.{Line, event_by}
 use Rattle.thread_blocks.specs.RunTime.{Runs, thread_turns}
@@ -65,13 +65,13 @@ abbrev pub numbered_lines : ℕ → List ThreadLine → List Line
 numbered_lines number [] = []
 numbered_lines number (line ∷ lines) = record { number = number; told = line } ∷ numbered_lines (suc number) lines
 
--- a thread before its first line: no block yet, since a look comes first
+-- a thread before its first line: it has the blocks of the images that start with the program
 abbrev pub thread_ready : Loads ℕ → ℕ → Runs
-thread_ready l thread = record {
+thread_ready l thread = looked l thread [] (record {
   after = left (start_of plain_operations 0 0 0 0 0) (record { seen = []; stack = []; own = [] });
   owners = [];
   asked = None;
-}
+})
 
 abbrev pub ready_from : Loads ℕ → ℕ → List (List ThreadLine) → List (Thread Runs Line Event)
 ready_from l thread [] = []
@@ -80,7 +80,7 @@ ready_from l thread (lines ∷ more) =
 
 -- before the first turn the data is that of the images that start with the program
 abbrev pub first_data : Loads ℕ → List (Owned ℕ)
-first_data l = flat_map (λ x. fresh_data l x) (instances l [])
+first_data l = flat_map (data_after l (λ x. true) []) (instances l [])
 
 abbrev pub job_start : Loads ℕ → List (List ThreadLine) → Shared ℕ Bool ℕ Line
 job_start l lines = record { threads = ready_from l 1 lines; events = []; shared = first_data l }

@@ -1,5 +1,5 @@
 -- Lines of all kinds: a call of a function, an open or a close of an image, and a look at the bytes of a variable.
-use Rattle.std.specs.Prelude.{◌+◌, ℕ, Bool, true, false, List, [], ◌∷◌, ◌++◌, length, Option, Some, None, nat_le, slice_range, if◌then◌else◌}
+use Rattle.std.specs.Prelude.{◌+◌, ℕ, Bool, true, false, List, length, Option, Some, None, nat_le, slice_range, if◌then◌else◌}
 use Rattle.guest_arithmetic.specs.Values.{Operations}
 use Rattle.guest_machine.specs.Use.{left}
 use Rattle.job_text.specs.declared.thread_lines.Action.{Action}
@@ -17,7 +17,7 @@ use Rattle.transcript_text.specs.declared.outcomes.LineRefusal.{LineRefusal}
 use Rattle.transcript_text.specs.declared.outcomes.LineRefusal.TheVariants.{Unknown as UnknownImage, Full as TooMany, StaticFull as NoSurplus, Permanent as Stays, NotOpen as IsClosed, Symbol as NoSymbol, Length as TooLong}
 use Rattle.transcript_text.specs.declared.outcomes.Outcome.TheVariants.{Opened, Closed, Refused}
 use Rattle.thread_blocks.specs.Instances.{Loads, instance_at, left_by}
-use Rattle.thread_blocks.specs.Held.{Held, Owned, owned_by, with_owned, is_block_of, fresh_data, looked, reached}
+use Rattle.thread_blocks.specs.Held.{Held, block_bytes, owned_by, loaded, looked, reached}
 use Rattle.thread_blocks.specs.MachineTurns.{call_start, fresh_space}
 use Rattle.thread_blocks.specs.Turns.{Ending, Answered, Begun, Says, Calls, with_last}
 
@@ -78,10 +78,10 @@ module _ {W F B : Type 0} (ops : Operations W F B) (l : Loads B) (show : List B 
   begun_in symbol a b c h (Some x) = begun_at symbol a b c h (l.function x symbol)
 
   -- an accepted event is seen at once, and a load fills the data of its instance
-  abbrev pub with_data : Bool → Option Instance → Held W F B → Held W F B
-  with_data true x h = h
-  with_data false None h = h
-  with_data false (Some x) h = with_owned h (owned_by h ++ fresh_data l x)
+  abbrev pub with_load : Bool → Option Instance → Held W F B → Held W F B
+  with_load true x h = h
+  with_load false None h = h
+  with_load false (Some x) h = loaded l thread x h
 
   abbrev pub opened_as : Option Instance → ℕ
   opened_as None = 0
@@ -93,7 +93,7 @@ module _ {W F B : Type 0} (ops : Operations W F B) (l : Loads B) (show : List B 
       let all = with_last seen (event_at thread line.number true line.told.image) in
       let x = instance_at l all line.told.image in
       let was = is_loaded (module_of (left_by l seen) line.told.image) in
-      Says (Answered (Opened (opened_as x))) (with_data was x (looked l thread all h))
+      Says (Answered (Opened (opened_as x))) (with_load was x (looked l thread all h))
 
   abbrev pub begun_close : Line → List Event → Held W F B → Option CloseRefusal → Begun (Held W F B)
   begun_close line seen h (Some refusal) = refused (refused_close refusal) h
@@ -101,18 +101,16 @@ module _ {W F B : Type 0} (ops : Operations W F B) (l : Loads B) (show : List B 
       Says (Answered Closed)
       (looked l thread (with_last seen (event_at thread line.number false line.told.image)) h)
 
-  -- the bytes of a block, which is there
-  abbrev pub block_bytes : ℕ → List (Owned B) → List B
-  block_bytes instance [] = []
-  block_bytes instance (x ∷ xs) =
-      if is_block_of instance x.owner then x.range.bytes else block_bytes instance xs
+  -- bytes of a block, if it holds them all
+  abbrev pub shown_in : Held W F B → ℕ → ℕ → Option (List B) → Begun (Held W F B)
+  shown_in h size offset None = refused TooLong h
+  shown_in h size offset (Some bytes) = if nat_le (offset + size) (length bytes)
+      then Says (show (slice_range bytes offset (offset + size))) h
+      else refused TooLong h
 
   abbrev pub shown_from : Held W F B → ℕ → Instance → Option ℕ → Begun (Held W F B)
   shown_from h size x None = refused NoSymbol h
-  shown_from h size x (Some offset) = let bytes = block_bytes x.number (owned_by h) in
-      if nat_le (offset + size) (length bytes)
-      then Says (show (slice_range bytes offset (offset + size))) h
-      else refused TooLong h
+  shown_from h size x (Some offset) = shown_in h size offset (block_bytes x.number (owned_by h))
 
   -- a line that is refused for its symbol or its length has reached the block
   abbrev pub begun_peek : Line → List ℕ → ℕ → Held W F B → Option Instance → Begun (Held W F B)

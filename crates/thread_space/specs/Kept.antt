@@ -1,0 +1,92 @@
+-- What a thread's code keeps, as the ranges that its machine finds: its stack, its blocks, data, and behind them what no
+-- thread writes. Blocks and data stand in the order of the images of their instances, as a look leaves them.
+use Rattle.std.specs.Prelude.{◌≡◌, ℕ, Bool, List, [], ◌∷◌, ◌++◌, Option}
+use Rattle.std.specs.List.{flat_map}
+use Rattle.guest_arithmetic.specs.Plain.{plain_operations}
+use Rattle.guest_operands.specs.declared.state.State.{State}
+use Rattle.guest_operands.specs.Ranges.{AddressSpace, Range}
+use Rattle.guest_operands.specs.Use.{left}
+use Rattle.loaded_modules.specs.declared.instance.Instance.{Instance}
+use Rattle.loaded_modules.specs.Images.{JobImages, infos, last_offset}
+use Rattle.module_data.specs.Pieces.{Piece, data_of}
+use Rattle.module_table.specs.declared.events.Event.{Event}
+use Rattle.module_table.specs.Past.{Past, past}
+use Rattle.thread_blocks.specs.Held.{Asked, Owned, Owner, block_with, data_with, owners_of, ranges_in}
+use Rattle.thread_blocks.specs.Instances.{Loads, fixed_of, instances_in}
+use Rattle.thread_blocks.specs.JobLoads.{job_loads}
+use Rattle.thread_blocks.specs.MachineTurns.{pointer_word, stack_start}
+use Rattle.thread_blocks.specs.RunTime.{Runs}
+use Rattle.thread_blocks.specs.Spaces.{stack_range}
+use Rattle.thread_vector.specs.Vectors.{Vector, held}
+
+-- the thread's vector, the data of all instances, and the stack's bytes
+pub record Kept : Type 0 where
+  pub vector : Vector
+  pub data : List Piece
+  pub stack : List ℕ
+
+-- ---- what is written
+
+-- the instances that are live where the thread looked last
+abbrev pub live_in : JobImages → Past → List Instance
+live_in m p = instances_in (infos m) p
+
+-- the thread's blocks
+unfoldable pub blocks_of : Vector → List (Owned ℕ)
+blocks_of v = flat_map (λ (x : Instance). block_with v.thread x (held v x.number)) (live_in v.images v.past)
+
+-- the data of an instance, if its image has any
+abbrev pub data_in : JobImages → List Piece → Instance → List (Owned ℕ)
+data_in m d x = data_with x ((job_loads m).shared x) (data_of d x.number x.image)
+
+-- the data of the instances that a history leaves
+unfoldable pub shared_of : JobImages → Past → List Piece → List (Owned ℕ)
+shared_of m p d = flat_map (data_in m d) (live_in m p)
+
+abbrev pub owned_of : Vector → List Piece → List (Owned ℕ)
+owned_of v d = blocks_of v ++ shared_of v.images v.past d
+
+-- ---- what is not
+
+unfoldable pub fixed_in : JobImages → Past → ℕ → List (Range ℕ)
+fixed_in m p thread = pointer_word plain_operations thread ∷ fixed_of (job_loads m) (live_in m p)
+
+-- ---- all of it
+
+abbrev pub ranges_of_kept : Kept → List (Range ℕ)
+ranges_of_kept k = stack_range (stack_start k.vector.thread) k.stack ∷
+    (ranges_in (owned_of k.vector k.data) ++ fixed_in k.vector.images k.vector.past k.vector.thread)
+
+unfoldable pub memory_of : Kept → AddressSpace ℕ
+memory_of k = record { ranges = ranges_of_kept k; fields = [] }
+
+-- ---- what no access changes
+
+pub record Shape : Type 0 where
+  pub thread : ℕ
+  pub images : JobImages
+  pub past : Past
+  -- whose the written ranges are, in their order
+  pub owners : List Owner
+
+unfoldable pub shape_of : Kept → Shape
+shape_of k = record {
+  thread = k.vector.thread;
+  images = k.vector.images;
+  past = k.vector.past;
+  owners = owners_of (owned_of k.vector k.data);
+}
+
+-- ---- as the definitions of lines have it
+
+-- the events leave what the thread has seen
+abbrev pub HasSeen : Vector → List Event → Type 0
+HasSeen v seen = past (infos v.images) (last_offset v.images) seen ≡ v.past
+
+-- a thread that keeps this, with its machine in this state, where it saw these events
+abbrev pub held_at : List Event → State ℕ Bool → Option Asked → Kept → Runs
+held_at seen state asked k = record {
+  after = left state (record { seen = seen; stack = k.stack; own = ranges_in (owned_of k.vector k.data) });
+  owners = owners_of (owned_of k.vector k.data);
+  asked = asked;
+}
