@@ -1,6 +1,6 @@
 //! The data of all images of a job.
 
-ghost use Rattle.std.specs.Prelude.{◌≡◌, true, IfOk, OnOk, OnErr, Some, is_some, option_map};
+ghost use Rattle.std.specs.Prelude.{◌≡◌, true, [], IfOk, OnOk, OnErr, Some, is_some, option_map};
 ghost use Rattle.std.specs.Borrow.{sem};
 ghost use Rattle.module_data.specs.Laws.{byte_read, written};
 ghost use Rattle.module_data.specs.Parts.{data_start};
@@ -65,6 +65,15 @@ fn first_piece(alloc: Global, modules: &Modules, number: u32) -> Result<ImageDat
 
 impl Data {
     ghost use Rattle.module_data.specs.Lending.{LendsData};
+
+    /// The data of no image, which stands where there are none yet, or while another holds them. It takes no memory.
+    pub fn none(alloc: Global) -> Data
+        ensures { result ≡ [] }
+    {
+        Data {
+            pieces: Vec::new(alloc),
+        }
+    }
 
     /// The data of a program that begins: each image that starts with it has its own, and a late image none.
     pub fn new(alloc: Global, modules: &Modules) -> Result<Data, AllocError>

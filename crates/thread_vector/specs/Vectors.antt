@@ -4,6 +4,7 @@ use Rattle.std.specs.Prelude.{◌+◌, ◌-◌, ◌==◌, ℕ, Bool, false, if�
 use Rattle.std.specs.Prelude.{◌++◌, length, take, drop, slice_set, slice_range, Option, Some, None, is_some, option_map, option_and_then}
 use Rattle.std.specs.Option.{option_or}
 use Rattle.module_table.specs.declared.modules.Module.{Module}
+use Rattle.module_table.specs.Modules.{is_loaded}
 use Rattle.module_table.specs.Past.{Past, module_of, image_of, live, offset}
 use Rattle.loaded_modules.specs.declared.instance.Instance.{Instance}
 use Rattle.loaded_modules.specs.Images.{JobImages}
@@ -58,6 +59,11 @@ held v instance = option_and_then (block_in v.slots v.past) (image_of v.past ins
 abbrev pub loaded_as : JobImages → Past → ℕ → Instance
 loaded_as images p image = let m = module_of p image in
     record { image = image; number = m.instance; id = m.id; offset = distance_of images image m }
+
+-- the live instance of an image
+abbrev pub instance_at : JobImages → Past → ℕ → Option Instance
+instance_at images p image =
+    if is_loaded (module_of p image) then Some (loaded_as images p image) else None
 
 -- the block of a live instance before any write
 unfoldable pub fresh : JobImages → Past → ℕ → Option (List ℕ)

@@ -8,7 +8,7 @@ ghost use Rattle.thread_vector.specs.Addresses.{distance_of, start_of};
 ghost use Rattle.thread_vector.specs.Holding.{IsLeftBy, IsVector};
 ghost use Rattle.thread_vector.specs.Laws.{block_length};
 ghost use Rattle.thread_vector.specs.Statements.{FilledAt, IsAddress, IsRefused, Leaves, MadeAt};
-ghost use Rattle.thread_vector.specs.Vectors.{block_in, held, slot_of, fresh, caught_up, reached, loaded_as};
+ghost use Rattle.thread_vector.specs.Vectors.{block_in, held, slot_of, fresh, caught_up, reached, instance_at, loaded_as};
 
 use crate::slot::Slot;
 use crate::start::first_slots;
@@ -165,6 +165,17 @@ impl<'m> Dtv<'m> {
         ensures { result ≡ is_loaded (module_of self.now.past image) }
     {
         self.table.module(image).is_loaded()
+    }
+
+    /// The live instance of an image, as a loader knows it; `None` exactly where the image is not loaded.
+    pub fn instance(&self, image: u32) -> Option<Instance>
+        ensures { result ≡ instance_at self.now.images self.now.past image }
+    {
+        if self.is_loaded(image) {
+            Some(self.loaded_as(image))
+        } else {
+            None
+        }
     }
 
     /// Fills the block of a loaded image in the static surplus, if it has one there.
