@@ -45,8 +45,9 @@ fn finish<V: Values, S: Space<V>>(
     state: &mut State<V::Word, V::Flag>,
     space: &mut S,
 ) -> Result<(), Stop>
-    ensures { Does V.operations result state.old (S.memory space.old) state.new (S.memory space.new)
+    ensures does { Does V.operations result state.old (S.memory space.old) state.new (S.memory space.new)
         (λ ops acc s m. finished ops acc width slot effect.now frame.now s m) }
+    ensures rest { S.rest space.new ≡ S.rest space.old }
 {
     put::<V, S>(width, slot, V::word(effect.number), state, space)?;
     settle::<V>(&effect.changes, frame, state);
@@ -64,8 +65,9 @@ fn conclude<V: Values, S: Space<V>>(
     state: &mut State<V::Word, V::Flag>,
     space: &mut S,
 ) -> Result<(), Stop>
-    ensures { Does V.operations result state.old (S.memory space.old) state.new (S.memory space.new)
+    ensures does { Does V.operations result state.old (S.memory space.old) state.new (S.memory space.new)
         (λ ops acc s m. concluded ops acc arithmetic width slot effect.now frame.now s m) }
+    ensures rest { S.rest space.new ≡ S.rest space.old }
 {
     match arithmetic {
         Arithmetic::Compare => {
@@ -87,8 +89,9 @@ fn compute_in<V: Values, S: Space<V>>(
     state: &mut State<V::Word, V::Flag>,
     space: &mut S,
 ) -> Result<(), Stop>
-    ensures { Does V.operations result state.old (S.memory space.old) state.new (S.memory space.new)
+    ensures does { Does V.operations result state.old (S.memory space.old) state.new (S.memory space.new)
         (λ ops acc s m. compute_in ops acc arithmetic width frame.now s m to from.now) }
+    ensures rest { S.rest space.new ≡ S.rest space.old }
 {
     if is_cleared(arithmetic, to, from) {
         let effect = compute(arithmetic, width, 0, 0);
@@ -119,8 +122,9 @@ fn compute_out<V: Values, S: Space<V>>(
     state: &mut State<V::Word, V::Flag>,
     space: &mut S,
 ) -> Result<(), Stop>
-    ensures { Does V.operations result state.old (S.memory space.old) state.new (S.memory space.new)
+    ensures does { Does V.operations result state.old (S.memory space.old) state.new (S.memory space.new)
         (λ ops acc s m. compute_out ops acc arithmetic width frame.now s m to.now from) }
+    ensures rest { S.rest space.new ≡ S.rest space.old }
 {
     let right = number_at::<V>(width, register(&state.registers, from));
     let to = Operand::InMemory(*to);
@@ -138,8 +142,9 @@ fn add_field<V: Values, S: Space<V>>(
     state: &mut State<V::Word, V::Flag>,
     space: &mut S,
 ) -> Result<(), Stop>
-    ensures { Does V.operations result state.old (S.memory space.old) state.new (S.memory space.new)
+    ensures does { Does V.operations result state.old (S.memory space.old) state.new (S.memory space.new)
         (λ ops acc s m. add_field ops acc frame.now s m to at) }
+    ensures rest { S.rest space.new ≡ S.rest space.old }
 {
     let moved = V::moved(register(&state.registers, to), frame.immediate, at);
     let number = used(state.place, charged(Some(at), moved))?;
@@ -170,8 +175,9 @@ fn compute_plain<V: Values, S: Space<V>>(
     state: &mut State<V::Word, V::Flag>,
     space: &mut S,
 ) -> Result<(), Stop>
-    ensures { Does V.operations result state.old (S.memory space.old) state.new (S.memory space.new)
+    ensures does { Does V.operations result state.old (S.memory space.old) state.new (S.memory space.new)
         (λ ops acc s m. compute_plain ops acc arithmetic width frame.now.immediate_field frame.now s m to.now) }
+    ensures rest { S.rest space.new ≡ S.rest space.old }
 {
     let right = immediate::<V>(width, frame);
     let it = take_operand::<V, S>(width, frame, state, space, to, right)?;
@@ -189,8 +195,9 @@ fn compute_number<V: Values, S: Space<V>>(
     state: &mut State<V::Word, V::Flag>,
     space: &mut S,
 ) -> Result<(), Stop>
-    ensures { Does V.operations result state.old (S.memory space.old) state.new (S.memory space.new)
+    ensures does { Does V.operations result state.old (S.memory space.old) state.new (S.memory space.new)
         (λ ops acc s m. compute_number ops acc arithmetic width frame.now.immediate_field frame.now s m to.now) }
+    ensures rest { S.rest space.new ≡ S.rest space.old }
 {
     match (arithmetic, width, frame.immediate_field, to) {
         (Arithmetic::Add, Width::Quad, Some(at), Operand::Register(to)) => {
@@ -210,8 +217,9 @@ pub(crate) fn compute_operands<V: Values, S: Space<V>>(
     state: &mut State<V::Word, V::Flag>,
     space: &mut S,
 ) -> Result<(), Stop>
-    ensures { Does V.operations result state.old (S.memory space.old) state.new (S.memory space.new)
+    ensures does { Does V.operations result state.old (S.memory space.old) state.new (S.memory space.new)
         (λ ops acc s m. compute_of ops acc arithmetic width frame.now s m operands.now) }
+    ensures rest { S.rest space.new ≡ S.rest space.old }
 {
     match operands {
         Operands::IntoRegister { to, from } => {
@@ -256,8 +264,9 @@ pub(crate) fn multiply<V: Values, S: Space<V>>(
     state: &mut State<V::Word, V::Flag>,
     space: &mut S,
 ) -> Result<(), Stop>
-    ensures { Does V.operations result state.old (S.memory space.old) state.new (S.memory space.new)
+    ensures does { Does V.operations result state.old (S.memory space.old) state.new (S.memory space.new)
         (λ ops acc s m. multiply_of ops acc width frame.now s m to from.now) }
+    ensures rest { S.rest space.new ≡ S.rest space.old }
 {
     let left = number_at::<V>(width, register(&state.registers, to));
     let it = take_operand::<V, S>(width, frame, state, space, from, left)?;
@@ -276,8 +285,9 @@ pub(crate) fn shift_operand<V: Values, S: Space<V>>(
     state: &mut State<V::Word, V::Flag>,
     space: &mut S,
 ) -> Result<(), Stop>
-    ensures { Does V.operations result state.old (S.memory space.old) state.new (S.memory space.new)
+    ensures does { Does V.operations result state.old (S.memory space.old) state.new (S.memory space.new)
         (λ ops acc s m. shift_of ops acc kind width frame.now s m to.now count) }
+    ensures rest { S.rest space.new ≡ S.rest space.old }
 {
     let it = take_operand::<V, S>(width, frame, state, space, to, Ok(0))?;
     let effect = shift(kind, width, it.number, count);

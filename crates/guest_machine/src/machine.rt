@@ -58,6 +58,7 @@ impl<V: Values> Machine<V> {
         ensures runs { Runs V.operations limit result self.old (S.memory space.old) self.new (S.memory space.new) }
         // No step is made past the limit.
         ensures within { self.new.taken ≤ max self.old.taken limit }
+        ensures rest { S.rest space.new ≡ S.rest space.old }
     {
         run::<V, S>(&mut self.state, &mut self.taken, space, limit)
     }
@@ -147,8 +148,9 @@ impl<V: Values> Machine<V> {
     /// Answers false where it cannot be, and then nothing has changed.
     pub fn answer<S: Space<V>>(&mut self, space: &mut S, word: V::Word) -> bool
         requires { self.old.taken < 2 ^ 64 - 1 }
-        ensures { Answers result self.old (S.memory space.old) self.new (S.memory space.new)
+        ensures answers { Answers result self.old (S.memory space.old) self.new (S.memory space.new)
             (answer_of V.operations (range_accesses V.operations) word self.old.state (S.memory space.old)) }
+        ensures rest { S.rest space.new ≡ S.rest space.old }
     {
         let mut state = self.state;
         state.registers.rax = word;

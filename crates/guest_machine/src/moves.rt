@@ -65,8 +65,9 @@ fn stored<V: Values, S: Space<V>>(
     state: &mut State<V::Word, V::Flag>,
     space: &mut S,
 ) -> Result<(), Stop>
-    ensures { Does V.operations result state.old (S.memory space.old) state.new (S.memory space.new)
+    ensures does { Does V.operations result state.old (S.memory space.old) state.new (S.memory space.new)
         (λ ops acc s m. stored ops acc (bytes_in size) frame.now s m to.now word) }
+    ensures rest { S.rest space.new ≡ S.rest space.old }
 {
     let place = used(state.place, address::<V>(frame, state, to))?;
     store::<V, S>(space, state.place, place, size, word)?;
@@ -83,8 +84,9 @@ pub(crate) fn store_byte<V: Values, S: Space<V>>(
     state: &mut State<V::Word, V::Flag>,
     space: &mut S,
 ) -> Result<(), Stop>
-    ensures { Does V.operations result state.old (S.memory space.old) state.new (S.memory space.new)
+    ensures does { Does V.operations result state.old (S.memory space.old) state.new (S.memory space.new)
         (λ ops acc s m. store_byte ops acc frame.now s m to.now from) }
+    ensures rest { S.rest space.new ≡ S.rest space.old }
 {
     let byte = kept_byte::<V>(register(&state.registers, from));
     stored::<V, S>(Size::Byte, frame, to, byte, state, space)
@@ -99,8 +101,9 @@ fn move_number<V: Values, S: Space<V>>(
     state: &mut State<V::Word, V::Flag>,
     space: &mut S,
 ) -> Result<(), Stop>
-    ensures { Does V.operations result state.old (S.memory space.old) state.new (S.memory space.new)
+    ensures does { Does V.operations result state.old (S.memory space.old) state.new (S.memory space.new)
         (λ ops acc s m. move_number ops acc width frame.now s m to.now) }
+    ensures rest { S.rest space.new ≡ S.rest space.old }
 {
     let number = used(state.place, immediate::<V>(width, frame))?;
     match to {
@@ -124,8 +127,9 @@ pub(crate) fn move_operands<V: Values, S: Space<V>>(
     state: &mut State<V::Word, V::Flag>,
     space: &mut S,
 ) -> Result<(), Stop>
-    ensures { Does V.operations result state.old (S.memory space.old) state.new (S.memory space.new)
+    ensures does { Does V.operations result state.old (S.memory space.old) state.new (S.memory space.new)
         (λ ops acc s m. move_of ops acc width frame.now s m operands.now) }
+    ensures rest { S.rest space.new ≡ S.rest space.old }
 {
     match operands {
         Operands::IntoRegister { to, from } => {

@@ -40,8 +40,9 @@ pub(crate) fn run<V: Values, S: Space<V>>(
     space: &mut S,
     limit: u64,
 ) -> Stop
-    ensures { Runs V.operations limit result (record { state = state.old; taken = taken.old }) (S.memory space.old)
+    ensures runs { Runs V.operations limit result (record { state = state.old; taken = taken.old }) (S.memory space.old)
         (record { state = state.new; taken = taken.new }) (S.memory space.new) }
+    ensures rest { S.rest space.new ≡ S.rest space.old }
 {
     loop {
         if state.place == RETURN {

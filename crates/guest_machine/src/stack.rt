@@ -19,8 +19,9 @@ fn push_word<V: Values, S: Space<V>>(
     state: &mut State<V::Word, V::Flag>,
     space: &mut S,
 ) -> Result<(), Stop>
-    ensures { Does V.operations result state.old (S.memory space.old) state.new (S.memory space.new)
+    ensures does { Does V.operations result state.old (S.memory space.old) state.new (S.memory space.new)
         (λ ops acc s m. pushed ops acc stack word s m) }
+    ensures rest { S.rest space.new ≡ S.rest space.old }
 {
     let place = stack.wrapping_sub(8);
     store::<V, S>(space, state.place, place, Size::Quad, word)?;
@@ -36,8 +37,9 @@ pub(crate) fn push<V: Values, S: Space<V>>(
     state: &mut State<V::Word, V::Flag>,
     space: &mut S,
 ) -> Result<(), Stop>
-    ensures { Does V.operations result state.old (S.memory space.old) state.new (S.memory space.new)
+    ensures does { Does V.operations result state.old (S.memory space.old) state.new (S.memory space.new)
         (λ ops acc s m. push_of ops acc frame.now s m from) }
+    ensures rest { S.rest space.new ≡ S.rest space.old }
 {
     let stack = used(state.place, V::number_of(state.registers.rsp))?;
     let word = register(&state.registers, from);
@@ -108,8 +110,9 @@ pub(crate) fn call<V: Values, S: Space<V>>(
     state: &mut State<V::Word, V::Flag>,
     space: &mut S,
 ) -> Result<(), Stop>
-    ensures { Does V.operations result state.old (S.memory space.old) state.new (S.memory space.new)
+    ensures does { Does V.operations result state.old (S.memory space.old) state.new (S.memory space.new)
         (λ ops acc s m. call_of ops acc frame.now s m target.now) }
+    ensures rest { S.rest space.new ≡ S.rest space.old }
 {
     match target {
         Target::Relative(distance) => {
@@ -130,8 +133,9 @@ fn call_at<V: Values, S: Space<V>>(
     state: &mut State<V::Word, V::Flag>,
     space: &mut S,
 ) -> Result<(), Stop>
-    ensures { Does V.operations result state.old (S.memory space.old) state.new (S.memory space.new)
+    ensures does { Does V.operations result state.old (S.memory space.old) state.new (S.memory space.new)
         (λ ops acc s m. call_of ops acc frame.now s m (Indirect operand.now)) }
+    ensures rest { S.rest space.new ≡ S.rest space.old }
 {
     let stack = V::number_of(state.registers.rsp);
     let it = take_operand::<V, S>(Width::Quad, frame, state, space, operand, stack)?;

@@ -27,8 +27,9 @@ fn act<V: Values, S: Space<V>>(
     state: &mut State<V::Word, V::Flag>,
     space: &mut S,
 ) -> Result<(), Stop>
-    ensures { Does V.operations result state.old (S.memory space.old) state.new (S.memory space.new)
+    ensures does { Does V.operations result state.old (S.memory space.old) state.new (S.memory space.new)
         (λ ops acc s m. act ops acc frame.now operation.now s m) }
+    ensures rest { S.rest space.new ≡ S.rest space.old }
 {
     match operation {
         Move { width, operands } => move_operands::<V, S>(*width, frame, operands, state, space),
@@ -81,8 +82,9 @@ pub(crate) fn step<V: Values, S: Space<V>>(
     state: &mut State<V::Word, V::Flag>,
     space: &mut S,
 ) -> Result<(), Stop>
-    ensures { Does V.operations result state.old (S.memory space.old) state.new (S.memory space.new)
+    ensures does { Does V.operations result state.old (S.memory space.old) state.new (S.memory space.new)
         (λ ops acc s m. step_of ops acc (is_field_of m) s m) }
+    ensures rest { S.rest space.new ≡ S.rest space.old }
 {
     match instruction::<V, S>(space, state.place) {
         None => Err(Stop::Code(state.place)),

@@ -13,7 +13,11 @@ use guest_operands::Size;
 /// A memory that is reached one byte at a time. Where it can do this, `load`, `store` and `fetch`
 /// below do the rest of a `Space`.
 pub trait Bytes<V: Values> {
+    type Rest;
+
     ghost memory: { Self → AddressSpace V.Byte };
+
+    ghost rest: { Self → Self.Rest };
 
     /// The byte at a place, where it may be read.
     fn read(&self, place: u64) -> Option<V::Byte>
@@ -29,8 +33,9 @@ pub trait Bytes<V: Values> {
 
     /// Writes the byte at a place, or nothing where it may not be written.
     fn write(&mut self, place: u64, byte: V::Byte)
-        ensures { memory self.new ≡
-            record (memory self.old) { ranges = with_byte (memory self.old).ranges place byte } };
+        ensures written { memory self.new ≡
+            record (memory self.old) { ranges = with_byte (memory self.old).ranges place byte } }
+        ensures rest { rest self.new ≡ rest self.old };
 
     /// Whether an offset field begins at a place.
     fn is_field(&self, place: u64) -> bool
@@ -96,7 +101,8 @@ pub fn store<V: Values, M: Bytes<V>>(
     size: Size,
     word: V::Word,
 ) -> bool
-    ensures { Stores V.operations result (M.memory memory.old) (M.memory memory.new) address size word }
+    ensures stores { Stores V.operations result (M.memory memory.old) (M.memory memory.new) address size word }
+    ensures rest { M.rest memory.new ≡ M.rest memory.old }
 {
     store_bytes::<V, M>(memory, address, size.bytes(), word)
 }
@@ -104,8 +110,9 @@ pub fn store<V: Values, M: Bytes<V>>(
 /// Writes so many bytes of a word.
 fn store_bytes<V: Values, M: Bytes<V>>(memory: &mut M, place: u64, size: u8, word: V::Word) -> bool
     requires { size ≤ 8 }
-    ensures { StoresAs result (M.memory memory.old) (M.memory memory.new)
+    ensures stores { StoresAs result (M.memory memory.old) (M.memory memory.new)
         (store_of V.operations (range_accesses V.operations) (M.memory memory.old) place size word) }
+    ensures rest { M.rest memory.new ≡ M.rest memory.old }
 {
     if !may_write_all::<V, M>(memory, place, size) {
         return false;

@@ -103,7 +103,11 @@ fn is_among(fields: &[u64], place: u64) -> bool
 }
 
 impl<V: Values> Bytes<V> for GuestMemory<V::Byte> {
+    type Rest = ();
+
     ghost memory = { λ memory. memory };
+
+    ghost rest = { λ _. tt };
 
     fn read(&self, place: u64) -> Option<V::Byte> {
         byte_of(&self.ranges, Access::Read, place)
@@ -128,7 +132,11 @@ impl<V: Values> Bytes<V> for GuestMemory<V::Byte> {
 }
 
 impl<V: Values> Space<V> for GuestMemory<V::Byte> {
+    type Rest = ();
+
     ghost memory = { λ memory. memory };
+
+    ghost rest = { λ _. tt };
 
     fn fetch(&self, place: u64, into: &mut [u8; 15]) -> u8 {
         fetch::<V, GuestMemory<V::Byte>>(self, place, into)

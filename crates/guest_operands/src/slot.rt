@@ -140,8 +140,9 @@ pub fn put<V: Values, S: Space<V>>(
     state: &mut State<V::Word, V::Flag>,
     space: &mut S,
 ) -> Result<(), Stop>
-    ensures { Does V.operations result state.old (S.memory space.old) state.new (S.memory space.new)
+    ensures does { Does V.operations result state.old (S.memory space.old) state.new (S.memory space.new)
         (λ ops acc s m. put ops acc width slot word s m) }
+    ensures rest { S.rest space.new ≡ S.rest space.old }
 {
     match slot {
         Slot::Register(name) => {

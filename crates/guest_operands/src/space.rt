@@ -38,7 +38,11 @@ impl Size {
 /// A thread's memory. It stands for two finite lists: ranges of bytes with their rights, and the
 /// places where offset fields begin.
 pub trait Space<V: Values> {
+    type Rest;
+
     ghost memory: { Self → AddressSpace V.Byte };
+
+    ghost rest: { Self → Self.Rest };
 
     /// The next 15 bytes of code, or those up to the first that may not be run. Answers how many.
     fn fetch(&self, address: u64, into: &mut [u8; 15]) -> u8
@@ -51,7 +55,8 @@ pub trait Space<V: Values> {
 
     /// Writes the word's lowest bytes, unless one of them may not be written: then none is.
     fn store(&mut self, address: u64, size: Size, word: V::Word) -> bool
-        ensures { Stores V.operations result (memory self.old) (memory self.new) address size word };
+        ensures stores { Stores V.operations result (memory self.old) (memory self.new) address size word }
+        ensures rest { rest self.new ≡ rest self.old };
 
     /// Whether an offset field begins there.
     fn is_field(&self, address: u64) -> bool

@@ -43,8 +43,9 @@ pub fn store<V: Values, S: Space<V>>(
     size: Size,
     word: V::Word,
 ) -> Result<(), Stop>
-    ensures { LeavesMemory result (S.memory space.old) (S.memory space.new) (there here
+    ensures leaves { LeavesMemory result (S.memory space.old) (S.memory space.new) (there here
         (store_of V.operations (range_accesses V.operations) (S.memory space.old) address (bytes_in size) word)) }
+    ensures rest { S.rest space.new ≡ S.rest space.old }
 {
     if space.store(address, size, word) {
         return Ok(());

@@ -11,6 +11,7 @@ invariant-loop-state g l =
     record {
       same : run machine (l.limit - l.taken) (left l.state (memory l.space)) ≡ run machine (l.limit - l.fn.taken) (left l.fn.state (memory l.fn.space));
       counted : l.taken + (l.limit - l.taken) ≡ l.fn.taken + (l.limit - l.fn.taken);
+      rest : g.S.Space.rest l.space ≡ g.S.Space.rest l.fn.space;
     }
 
 abbrev pub decreases-loop-state : goal.decreases-loop-state
