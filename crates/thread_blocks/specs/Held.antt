@@ -6,6 +6,7 @@ use Rattle.guest_machine.specs.Ranges.{Range}
 use Rattle.guest_machine.specs.Use.{After, left}
 use Rattle.loaded_modules.specs.declared.instance.Instance.{Instance}
 use Rattle.module_table.specs.declared.events.Event.{Event}
+use Rattle.thread_blocks.specs.declared.asked.Asked.{Asked}
 use Rattle.thread_blocks.specs.Instances.{Loads, instances, block_range}
 use Rattle.thread_blocks.specs.Spaces.{Space}
 
@@ -26,15 +27,6 @@ is_block Data = false
 pub record Owned (B : Type 0) : Type 0 where
   pub owner : Owner
   pub range : Range B
-
--- what a thread asks the run time for, while it looks: the block of the module id, from the offset on; `asking` is the
--- instance whose words say so
-pub record Asked : Type 0 where
-  pub asking : ℕ
-  pub id : ℕ
-  pub offset : ℕ
-  -- a descriptor's function answers the distance from the thread pointer, and not an address
-  pub is_descriptor : Bool
 
 -- what a thread holds: registers and memory, whose ranges that are written have these owners, in their order; and what
 -- it waits for, in the middle of a line

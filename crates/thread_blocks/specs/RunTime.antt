@@ -15,7 +15,8 @@ use Rattle.loaded_modules.specs.declared.instance.Instance.{Instance}
 use Rattle.module_table.specs.declared.events.Event.{Event}
 use Rattle.transcript_text.specs.declared.outcomes.LineFault.TheVariants.{Unloaded}
 use Rattle.transcript_text.specs.declared.outcomes.Outcome.TheVariants.{Bytes, Fault}
-use Rattle.thread_blocks.specs.Held.{Held, Asked, looked, reached}
+use Rattle.thread_blocks.specs.declared.asked.Asked.{Asked}
+use Rattle.thread_blocks.specs.Held.{Held, looked, reached}
 use Rattle.thread_blocks.specs.Instances.{Loads, fixed_at, instances, instance_with_id, is_startup_id, numbered_instance, block_start}
 use Rattle.thread_blocks.specs.Lines.{Line, begin_line}
 use Rattle.thread_blocks.specs.MachineTurns.{pointer_of, pointer_word, stack_start}

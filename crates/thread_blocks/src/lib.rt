@@ -71,6 +71,7 @@
 //! values begins as the machine does (`begin_call_alike`, `proofs/Begin.antt`).
 #![tactic(auto)]
 
+mod asked;
 mod call;
 mod entry;
 pub mod laws;
@@ -78,5 +79,6 @@ mod loading;
 mod memory;
 mod reach;
 
+pub use asked::Asked;
 pub use call::{Call, ThreadMemory, run_call};
 pub use entry::entry_place;

@@ -11,7 +11,8 @@ use Rattle.loaded_modules.specs.Images.{JobImages, infos, last_offset}
 use Rattle.module_data.specs.Pieces.{Piece, data_of}
 use Rattle.module_table.specs.declared.events.Event.{Event}
 use Rattle.module_table.specs.Past.{Past, past}
-use Rattle.thread_blocks.specs.Held.{Asked, Owned, Owner, block_with, data_with, owners_of, ranges_in}
+use Rattle.thread_blocks.specs.declared.asked.Asked.{Asked}
+use Rattle.thread_blocks.specs.Held.{Owned, Owner, block_with, data_with, owners_of, ranges_in}
 use Rattle.thread_blocks.specs.Instances.{Loads, fixed_of, instances_in}
 use Rattle.thread_blocks.specs.JobLoads.{job_loads}
 use Rattle.thread_blocks.specs.MachineTurns.{pointer_word, stack_start}
