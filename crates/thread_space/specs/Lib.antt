@@ -1,3 +1,4 @@
 pub mod Holding
 pub mod Kept
+pub mod Live
 pub mod Steps
