@@ -1,3 +1,4 @@
 pub mod Live
 pub mod Owners
 pub mod SharedIs
+pub mod Taking

@@ -46,10 +46,11 @@ waits_at seen state asked k = record {
   asked = Some asked;
 }
 
--- between two lines only the blocks count
+-- between two lines its registers do not count
 pub record IsIdle (k : Kept) (h : Runs) : Type 0 where
   pub seen : HasSeen k.vector h.after.memory.seen
   pub blocks : owned_by h ≡ blocks_of k.vector
+  pub stack : h.after.memory.stack ≡ k.stack
 
 -- in the middle of a call
 pub record IsMid (k : Kept) (fuel : ℕ) (c : Waiting) (steps : ℕ) (points : List ℕ) (h : Runs) : Type 0 where

@@ -1,0 +1,87 @@
+-- What a turn comes to behind its look: a line that is over, or a call that waits for the next look.
+use Rattle.std.specs.Prelude.{◌≡◌, ◌-◌, ◌*◌, ℕ, Bool, List, [], ◌∷◌, length, Option, Some, None}
+use Rattle.guest_arithmetic.specs.Plain.{plain_operations}
+use Rattle.guest_machine.specs.Machine.{Standing}
+use Rattle.guest_machine.specs.Run.{run}
+use Rattle.guest_operands.specs.declared.state.State.{State}
+use Rattle.module_table.specs.declared.events.Event.{Event}
+use Rattle.transcript_text.specs.declared.outcomes.Outcome.{Outcome}
+use Rattle.thread_blocks.specs.declared.asked.Asked.{Asked}
+use Rattle.thread_blocks.specs.Held.{owned_by}
+use Rattle.thread_blocks.specs.Instances.{Loads}
+use Rattle.thread_blocks.specs.JobLoads.{job_loads}
+use Rattle.thread_blocks.specs.Lines.{Line, begun_by, event_by}
+use Rattle.thread_blocks.specs.MachineTurns.{answer_of}
+use Rattle.thread_blocks.specs.RunTime.{Runs, resumed_by, shows, thread_steps, thread_turns}
+use Rattle.thread_blocks.specs.Turns.{Ending, Mid, Said, Thread, after_look, after_run, over_with, with_event}
+use Rattle.thread_space.specs.declared.taking.Taken.{Taken}
+use Rattle.thread_space.specs.declared.taking.Taken.TheVariants as taken
+use Rattle.thread_space.specs.Kept.{HasSeen, Kept, held_at, owned_of}
+use Rattle.thread_space.specs.Live.{HasStartups}
+
+-- a thread whose line is over with this outcome, and that keeps this where it saw these events
+pub record IsOver (k : Kept) (outcome : Outcome) (points : List ℕ) (now : List Event) (todo : List Line) (said : List Said)
+    (seen : List Event) (t : Thread Runs Line Event) : Type 0 where
+  pub ending : Ending
+  pub held : Runs
+  pub is : t ≡ over_with todo said seen points ending held
+  pub outcome_is : answer_of ending ≡ Some outcome
+  pub owned_is : owned_by held ≡ owned_of k.vector k.pieces
+  pub events : held.after.memory.seen ≡ now
+  pub stack : held.after.memory.stack ≡ k.stack
+
+-- limit: the most steps of a call's machine
+abbrev pub TookAs : ℕ → Kept → Taken → List ℕ → List Event → List Line → List Said → List Event → Thread Runs Line Event
+    → Type 0
+TookAs limit k (taken.Over outcome) points now todo said seen t = IsOver k outcome points now todo said seen t
+TookAs limit k (taken.Waits machine asked) points now todo said seen t = t ≡ record {
+  todo = todo;
+  phase = Mid (limit - machine.taken) points (held_at now machine.state (Some asked) k);
+  said = said;
+  seen = seen;
+}
+
+-- ---- what the parts of a turn do, of every thread that keeps the same where it saw these events
+
+abbrev pub loads_in : Kept → Loads ℕ
+loads_in k = job_loads k.vector.images
+
+-- what no part of a turn changes; seeing events is a part of its own
+pub record KeepsJob (old new : Kept) : Type 0 where
+  pub thread : new.vector.thread ≡ old.vector.thread
+  pub images : new.vector.images ≡ old.vector.images
+  pub startups : HasStartups old.vector → HasStartups new.vector
+  pub pieces : length new.pieces ≡ length old.pieces
+
+-- a call runs, from its machine's steps so far up to its end or its next look
+pub record RunsTo (limit : ℕ) (m : Standing ℕ Bool) (k : Kept) (result : Taken) (new : Kept) : Type 0 where
+  pub keeps : KeepsJob k new
+  pub past : new.vector.past ≡ k.vector.past
+  pub runs : (now seen : List Event) (asked : Option Asked) (points : List ℕ) (todo : List Line) (said : List Said)
+      → HasSeen k.vector now
+      → TookAs limit new result points now todo said seen
+      (after_run todo said seen points
+      (run (thread_steps (loads_in k) k.vector.thread) (limit - m.taken) (held_at now m.state asked k)))
+
+-- a line begins, which looked already
+pub record BeginsTo (fuel : ℕ) (line : Line) (k : Kept) (result : Taken) (new : Kept) : Type 0 where
+  pub keeps : KeepsJob k new
+  pub begins : (seen : List Event) (state : State ℕ Bool) (asked : Option Asked) (todo : List Line) (said : List Said)
+      → HasSeen k.vector seen
+      → let l = loads_in k in
+        let now = with_event seen (event_by l k.vector.thread line seen) in
+        HasSeen new.vector now
+        × TookAs (4 * fuel) new result (length seen ∷ []) now todo said seen
+        (after_look (thread_turns l k.vector.thread fuel) (4 * fuel) todo said seen (length seen ∷ [])
+        (begun_by plain_operations l shows k.vector.thread line seen (held_at seen state asked k) line.told.action))
+
+-- a call that waited goes on, which looked already
+pub record ResumesTo (fuel : ℕ) (m : Standing ℕ Bool) (asked : Asked) (k : Kept) (result : Taken) (new : Kept) : Type 0 where
+  pub keeps : KeepsJob k new
+  pub resumes : (seen : List Event) (points : List ℕ) (todo : List Line) (said : List Said)
+      → HasSeen k.vector seen
+      → let l = loads_in k in
+        HasSeen new.vector seen
+        × TookAs (4 * fuel) new result points seen todo said seen
+        (after_look (thread_turns l k.vector.thread fuel) (4 * fuel - m.taken - 1) todo said seen points
+        (resumed_by l k.vector.thread seen (held_at seen m.state None k) (Some asked)))
