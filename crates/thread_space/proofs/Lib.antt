@@ -1,3 +1,4 @@
+pub mod BytesHeld
 pub mod Live
 pub mod Owners
 pub mod SharedIs
