@@ -2,3 +2,4 @@ pub mod BytesHeld
 pub mod Live
 pub mod Owners
 pub mod SharedIs
+pub mod Startups
