@@ -1,4 +1,6 @@
+pub mod BytesHeld
 pub mod Live
 pub mod Owners
 pub mod SharedIs
+pub mod Startups
 pub mod Taking

@@ -1,5 +1,6 @@
 pub mod Holding
 pub mod Kept
 pub mod Live
-pub mod Steps
 pub mod Standing
+pub mod Steps
+pub mod Taking
