@@ -3,4 +3,5 @@ pub mod Live
 pub mod Owners
 pub mod SharedIs
 pub mod Startups
-pub mod Taking
+pub mod TurnsTaken
+pub mod TurnsBegun

@@ -73,7 +73,7 @@ pub record BeginsTo (fuel : ℕ) (line : Line) (k : Kept) (result : Taken) (new 
         HasSeen new.vector now
         × TookAs (4 * fuel) new result (length seen ∷ []) now todo said seen
         (after_look (thread_turns l k.vector.thread fuel) (4 * fuel) todo said seen (length seen ∷ [])
-        (begun_by plain_operations l shows k.vector.thread line seen (held_at seen state asked k) line.told.action))
+        (begun_by plain_operations l (shows l k.vector.thread) k.vector.thread line seen (held_at seen state asked k) line.told.action))
 
 -- a call that waited goes on, which looked already
 pub record ResumesTo (fuel : ℕ) (m : Standing ℕ Bool) (asked : Asked) (k : Kept) (result : Taken) (new : Kept) : Type 0 where

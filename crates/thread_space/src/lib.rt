@@ -2,5 +2,7 @@
 #![tactic(auto)]
 
 mod space;
+mod taking;
 
 pub use space::ThreadSpace;
+pub use taking::Taken;

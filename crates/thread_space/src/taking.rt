@@ -1,20 +1,9 @@
 //! What a turn comes to behind its look.
 
-ghost use Rattle.std.specs.Prelude.{◌≡◌, ◌<◌, ◌+◌, ◌*◌, ◌^◌, IfOk, Some};
-ghost use Rattle.guest_machine.specs.Clean.{IsClean};
-ghost use Rattle.thread_blocks.specs.MachineTurns.{answer_of_stop};
-ghost use Rattle.thread_space.specs.Taking.{RunsTo, BeginsTo, ResumesTo};
-
-use crate::lines::{LineAnswer, Started, begin};
-use crate::names::JobNames;
-use crate::running::{Ran, Resumed, answer_asked, run_on};
-use crate::space::ThreadSpace;
 use guest_arithmetic::Plain;
-use guest_machine::{Machine, Stop};
-use job_text::ThreadLine;
-use std::alloc::{AllocError, Global};
+use guest_machine::Machine;
 use thread_blocks::Asked;
-use transcript_text::{LineFault, Outcome};
+use transcript_text::Outcome;
 
 /// What a turn comes to behind its look.
 #[derive(Drop)]
@@ -23,29 +12,4 @@ pub enum Taken {
     Over(Outcome),
     /// The call waits for its next look.
     Waits(Machine<Plain>, Asked),
-}
-
-/// A stop as the transcript has it.
-fn outcome_of(stop: Stop) -> Outcome
-    requires { IsClean stop }
-    ensures { answer_of_stop stop ≡ Some result }
-{
-    match stop {
-        Stop::Returned(number) => Outcome::Returned(number),
-        Stop::Address(_) | Stop::Look(_) => Outcome::Fault(LineFault::Address),
-        // Plain numbers have no step without a meaning.
-        Stop::Code(_) | Stop::Unclean(_, _) => Outcome::Fault(LineFault::Code),
-        Stop::Steps(_) => Outcome::Fault(LineFault::Steps),
-    }
-}
-
-/// Runs a call, for at most `limit` steps since it began.
-fn run_to(space: &mut ThreadSpace, mut machine: Machine<Plain>, limit: u64) -> Taken
-    requires { machine.taken ≤ limit }
-    ensures { RunsTo limit machine.entry space.old result space.new }
-{
-    match run_on(space, &mut machine, limit) {
-        Ran::Over(stop) => Taken::Over(outcome_of(stop)),
-        Ran::Waits(asked) => Taken::Waits(machine, asked),
-    }
 }
