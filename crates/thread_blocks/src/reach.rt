@@ -40,7 +40,11 @@ impl Reach {
 }
 
 impl Bytes<Plain> for Reach {
+    type Rest = ();
+
     ghost memory = { λ memory. memory };
+
+    ghost rest = { λ _. tt };
 
     fn read(&self, place: u64) -> Option<u8> {
         if self.stack.grants(Access::Read, place) {
@@ -78,7 +82,11 @@ impl Bytes<Plain> for Reach {
 }
 
 impl Space<Plain> for Reach {
+    type Rest = ();
+
     ghost memory = { λ memory. memory };
+
+    ghost rest = { λ _. tt };
 
     fn fetch(&self, place: u64, into: &mut [u8; 15]) -> u8 {
         fetch::<Plain, Reach>(self, place, into)
