@@ -5,4 +5,6 @@ pub mod Looks
 pub mod Owners
 pub mod PiecesHeld
 pub mod SharedIs
+pub mod StartKept
+pub mod StartupBlocks
 pub mod Startups
