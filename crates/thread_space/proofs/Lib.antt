@@ -1,7 +1,12 @@
 pub mod BytesHeld
 pub mod Live
+pub mod LoadKept
+pub mod Looks
 pub mod Owners
+pub mod PiecesHeld
 pub mod SharedIs
+pub mod StartKept
+pub mod StartupBlocks
 pub mod Startups
 pub mod TurnsTaken
 pub mod TurnsBegun

@@ -12,7 +12,7 @@ use Rattle.module_table.specs.declared.events.Event.{Event}
 use Rattle.module_table.specs.declared.modules.ImageInfo.{ImageInfo}
 use Rattle.module_table.specs.declared.modules.Module.{Module}
 use Rattle.module_table.specs.Modules.{AreInfos, is_loaded, no_module}
-use Rattle.module_table.specs.Past.{Past, accepts, after, after_one, close_refusal, first_module, first_modules, is_legal, module_of, opened, past, released, retained, start, startup_count}
+use Rattle.module_table.specs.Past.{Past, accepts, after, after_one, close_refusal, first_module, first_modules, image_of, is_legal, module_of, opened, past, released, retained, start, startup_count}
 use Rattle.module_table.specs.Tables.{IsPast}
 use Rattle.module_table.proofs.Along.{past_step}
 use Rattle.module_table.proofs.LawsOfNumbers.{others_stay}
@@ -22,6 +22,7 @@ use Rattle.module_table.proofs.Steps.{loaded_within}
 use Rattle.std.proofs.lemmas.Bool.{and_parts}
 use Rattle.thread_vector.specs.Holding.{IsLeftBy}
 use Rattle.thread_vector.proofs.Events.{Keeps, Loads, shape_of}
+use Rattle.thread_vector.proofs.Facts.{facts, image_is}
 
 pub record StartupsStay (xs : List ImageInfo) (p : Past) : Type 0 where
   -- an image that is loaded, and not late, is one of those, as the instance of its number
@@ -66,15 +67,19 @@ started : (info : ImageInfo) (image : ℕ) → info.late ≡ false
     → (is_loaded (first_module info image) ≡ true) × ((first_module info image).info.late ≡ false)
 started info image early = rw early (refl, refl)
 
+-- the first images are those
+pub early_info : (xs : List ImageInfo) (k : ℕ) (d : ImageInfo) → AreInfos xs → k < startup_count xs → (k < length xs) × ((get_or xs k d).late ≡ false)
+early_info xs k d are few =
+    let l : k < length xs = omega (arith, few, count_by-le-length (λ (i : ImageInfo). not i.late) xs) in
+    (l, false_from_ne_true _ (λ late. absurd (let more = few_before xs k d are.late_last l late in omega (arith, few, more))))
+
 at_first : (xs : List ImageInfo) (last_offset image : ℕ) → AreInfos xs → 1 ≤ image → image ≤ startup_count xs
     → (is_loaded (module_of (start xs last_offset) image) ≡ true) × ((module_of (start xs last_offset) image).info.late ≡ false)
 unfolding start
 at_first xs last_offset zero are low high = absurd (omega (arith, low))
 at_first xs last_offset (suc k) are low high =
-    let l : k < length xs = omega (arith, high, count_by-le-length (λ (i : ImageInfo). not i.late) xs) in
-    let early : (get_or xs k no_module.info).late ≡ false =
-        false_from_ne_true _ (λ late. absurd (let few = few_before xs k no_module.info are.late_last l late in omega (arith, few, high))) in
-    subst (λ (m : Module). (is_loaded m ≡ true) × (m.info.late ≡ false)) (sym (first_at xs 1 k no_module.info l)) (started (get_or xs k no_module.info) (1 + k) early)
+    let early = early_info xs k no_module.info are (omega (arith, high)) in
+    subst (λ (m : Module). (is_loaded m ≡ true) × (m.info.late ≡ false)) (sym (first_at xs 1 k no_module.info early.0)) (started (get_or xs k no_module.info) (1 + k) early.1)
 
 pub stay_start : (xs : List ImageInfo) (last_offset : ℕ) → AreInfos xs → StartupsStay xs (start xs last_offset)
 unfolding start
@@ -145,3 +150,10 @@ pub startups_stay_in : (m : JobImages) (p : Past) → IsLeftBy m p → StartupsS
 startups_stay_in m p left =
     subst (StartupsStay (infos m)) (sym left.left)
     (stay_past (infos m) (last_offset m) left.events left.legal.images left.legal.low left.legal.each)
+
+-- each of them is the image of its number
+pub startup_image : (m : JobImages) (p : Past) (number : ℕ) → IsLeftBy m p → 1 ≤ number → number ≤ startup_count (infos m) → image_of p number ≡ Some number
+startup_image m p number left low high =
+    let is = startups_stay_in m p left in
+    let here = is.stay number low high in
+    subst (λ n. image_of p n ≡ Some number) (is.early number here.0 here.1).0 (image_is p number (facts m p left).own here.0)
