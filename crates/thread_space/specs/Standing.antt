@@ -1,10 +1,12 @@
 -- Which threads of the definitions a runner stands for.
-use Rattle.std.specs.Prelude.{◌≡◌, ◌+◌, ◌-◌, ◌*◌, ℕ, Bool, List, Option, Some, None, drop, map}
+use Rattle.std.specs.Prelude.{◌≡◌, ◌+◌, ◌-◌, ◌*◌, ℕ, Bool, List, [], Option, Some, None, drop, map, slice_get}
 use Rattle.guest_machine.specs.Machine.{Standing}
 use Rattle.guest_operands.specs.declared.state.State.{State}
 use Rattle.guest_operands.specs.Use.{left}
 use Rattle.job_text.specs.declared.thread_lines.ThreadLine.{ThreadLine}
-use Rattle.loaded_modules.specs.Images.{infos, last_offset}
+use Rattle.job_text.specs.Jobs.{JobParts}
+use Rattle.job_text.specs.Threads.{of_thread}
+use Rattle.loaded_modules.specs.Images.{JobImages, infos, last_offset}
 use Rattle.module_data.specs.Pieces.{Piece}
 use Rattle.module_table.specs.declared.events.Event.{Event}
 use Rattle.module_table.specs.Past.{after, past}
@@ -17,6 +19,10 @@ use Rattle.thread_blocks.specs.Lines.{Line, event_by}
 use Rattle.thread_blocks.specs.MachineTurns.{shown}
 use Rattle.thread_blocks.specs.RunTime.{Runs, thread_turns}
 use Rattle.thread_blocks.specs.Turns.{Idle, Mid, Phase, Thread, event_of, turn, with_event}
+use Rattle.thread_space.specs.declared.asking.Ask.{Ask}
+use Rattle.thread_space.specs.declared.asking.Ask.TheVariants.{Done, Look, Opens, Closes}
+use Rattle.thread_space.specs.Asking.{ask_next}
+use Rattle.thread_space.specs.Steps.{IsNew}
 use Rattle.thread_space.specs.Kept.{HasSeen, Kept, blocks_of, shared_of}
 use Rattle.thread_space.specs.Live.{HasStartups}
 
@@ -98,3 +104,28 @@ pub record TakesTurn (old : Run) (events : List Event) (d : List Piece) (new : R
         StandsAfter new d' (with_event seen (event_of (event_by l thread) t seen))
         (turn (thread_turns l thread old.fuel)
         (with_data (shared_of old.kept.vector.images (after old.kept.vector.past events) d) t) seen)
+
+-- ---- a runner before its first turn
+
+pub record IsFirstRun (thread : ℕ) (m : JobImages) (job : JobParts) (r : Run) : Type 0 where
+  pub lines : r.lines ≡ of_thread job.lines thread
+  pub begun : r.begun ≡ 0
+  pub fuel : r.fuel ≡ job.fuel
+  pub kept : IsNew thread m r.kept
+  pub call : r.call ≡ None
+  pub said : r.said ≡ []
+
+-- ---- what it does next
+
+abbrev pub ask_now : ℕ → List ThreadLine → Option Waiting → Ask
+ask_now begun lines (Some call) = Look begun
+ask_now begun lines None = ask_next (begun + 1) (slice_get lines begun)
+
+abbrev pub ask_of : Run → Ask
+ask_of r = ask_now r.begun r.lines r.call
+
+abbrev pub IsGoing : Ask → Type 0
+IsGoing Done = ⊥
+IsGoing (Look line) = Unit {0}
+IsGoing (Opens line image) = Unit {0}
+IsGoing (Closes line image) = Unit {0}
