@@ -1,0 +1,4 @@
+//! Linked.
+#![tactic(auto)]
+
+pub mod laws;
