@@ -16,7 +16,7 @@ use Rattle.tls_symbols.specs.Bindings.{object_at, of_startup}
 use Rattle.tls_symbols.specs.Definitions.{definition_of, same_binding}
 use Rattle.dynamic_symbols.specs.Names.{imported_at, imported_from, imported_in, imports, is_import, is_startup}
 use Rattle.dynamic_symbols.proofs.Lists.{all_append, all_cons, all_distinct, all_flat, all_nil}
-use Rattle.linked_modules.proofs.Shared.{IsAmong}
+use Rattle.linked_modules.proofs.Listed.{IsAmong}
 
 first_found : (name : List ℕ) (k : ℕ) (startup : List (List (List ℕ)))
     → is_startup (of_startup (first_export name k startup)) ≡ true → IsAmong startup name

@@ -23,6 +23,10 @@ or_right false t e = e
 
 -- ** one name
 
+-- one of these lists has the name
+abbrev pub IsAmong : List (List (List ℕ)) → List ℕ → Type 0
+IsAmong lists name = list_any (λ names. list_any (bytes_eq name) names) lists ≡ true
+
 -- what holds of all names holds of one that is among them
 pub all_named : (P : List ℕ → Type 0) (name : List ℕ) (names : List (List ℕ)) → All P names
     → list_any (bytes_eq name) names ≡ true → P name

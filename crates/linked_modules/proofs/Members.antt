@@ -25,8 +25,9 @@ use Rattle.loaded_modules.specs.Loader.{export_of, shared_from}
 use Rattle.linked_modules.specs.Together.{AreTogether, LinkedImagesAreModules, exports_among}
 use Rattle.linked_modules.proofs.Flagged.{late_free}
 use Rattle.linked_modules.proofs.Imported.{imports_among}
+use Rattle.linked_modules.proofs.Listed.{IsAmong}
 use Rattle.linked_modules.proofs.Named.{relocations_named}
-use Rattle.linked_modules.proofs.Shared.{IsAmong, export_found}
+use Rattle.linked_modules.proofs.Shared.{export_found}
 
 -- ** kinds
 

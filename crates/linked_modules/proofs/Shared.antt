@@ -24,7 +24,7 @@ use Rattle.loaded_modules.specs.Loader.{export_in, is_shared, shared_among, shar
 use Rattle.loaded_modules.specs.Loader.{is_visible as is_seen}
 use Rattle.linked_modules.specs.Together.{exports_among}
 use Rattle.linked_modules.proofs.Exports.{all_exported, is_own, seen}
-use Rattle.linked_modules.proofs.Listed.{all_named}
+use Rattle.linked_modules.proofs.Listed.{IsAmong, all_named}
 
 -- ** one image
 
@@ -81,10 +81,6 @@ module _ (l : Linking) where
       (all_exported l.objects (λ n. is_some (shared_offset n (image_of l)) ≡ true) symbol_found) is
 
 -- ** the startup images
-
--- one of these lists has the name
-abbrev pub IsAmong : List (List (List ℕ)) → List ℕ → Type 0
-IsAmong lists name = list_any (λ names. list_any (bytes_eq name) names) lists ≡ true
 
 found_here : (number : ℕ) (offset : Option ℕ) (rest : Option Export) → is_some offset ≡ true
     → is_some (option_or (option_map (export_in number) offset) rest) ≡ true
