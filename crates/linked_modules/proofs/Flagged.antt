@@ -181,12 +181,14 @@ module _ (l : Linking) where
   free_one : (r : ImageRelocation) → IsFree r → All IsFree (r ∷ [])
   free_one r free = All-cons IsFree r [] free (All-nil IsFree)
 
+  free_two : (r s : ImageRelocation) → IsFree r → IsFree s → All IsFree (r ∷ s ∷ [])
+  free_two r s first second = All-cons IsFree r (s ∷ []) first (free_one s second)
+
   entry_free : (block : ℕ) (need : Need) (at : ℕ) → IsOther need
       → All IsFree (entry_relocations l at (entry_of Late block need))
   entry_free block ModulePair at other = free_one _ (λ h. cc)
   entry_free block (SymbolPair (target.Here s o)) at other = free_one _ (λ h. cc)
-  entry_free block (SymbolPair (target.Import n)) at other =
-      All-cons IsFree _ _ (λ h. cc) (free_one _ (λ h. cc))
+  entry_free block (SymbolPair (target.Import n)) at other = free_two _ _ (λ h. cc) (λ h. cc)
   entry_free block (Descriptor (target.Here s o)) at other = free_one _ (λ h. cc)
   entry_free block (Descriptor (target.Import n)) at other = free_one _ (λ h. cc)
   entry_free block (SymbolWord x) at other = absurd other

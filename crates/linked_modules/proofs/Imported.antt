@@ -37,7 +37,7 @@ module _ (objects : List (List ℕ)) (startup : List (List (List ℕ))) where
   unfolding binding_of
   bound_among o r is = of_local (same_binding Local (symbol_binding (object_at objects o) r.symbol)) is
     where
-      abbrev name : List ℕ
+      name : List ℕ
       name = symbol_name (object_at objects o) r.symbol
 
       of_import : (t : Bool) → is_startup (if t then of_startup (first_export name 1 startup) else None) ≡ true

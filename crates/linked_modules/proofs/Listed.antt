@@ -55,7 +55,7 @@ pub any_distinct : (name : List ℕ) (xs : List (List ℕ)) → list_any (bytes_
 any_distinct name [] is = is
 any_distinct name (x ∷ xs) is = of_test (bytes_eq name x) refl is (any_distinct name xs)
   where
-    abbrev kept : List (List ℕ)
+    kept : List (List ℕ)
     kept = filter (λ y. not (bytes_eq x y)) (distinct xs)
 
     -- another name is kept
@@ -83,7 +83,7 @@ any_bound test bind name found [] is passes there = absurd (cc)
 any_bound test bind name found (x ∷ xs) is passes there =
     of_test (bytes_eq name x) refl there (any_bound test bind name found xs is passes)
   where
-    abbrev bound : List SymbolRef
+    bound : List SymbolRef
     bound = filter_map bind xs
 
     behind : (first : Option SymbolRef) → list_any test bound ≡ true → list_any test (cons_option first bound) ≡ true

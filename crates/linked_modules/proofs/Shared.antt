@@ -52,7 +52,7 @@ module _ (l : Linking) where
   among_own name (found ∷ own) more others is =
       of_test (shares name found) is (among_own name own more others)
     where
-      abbrev rest : Option ℕ
+      rest : Option ℕ
       rest = shared_among name (map (defined l) own ++ more) (map (name_of l.objects) own ++ others)
 
       of_test : (t : Bool) → (t || list_any (shares name) own) ≡ true
@@ -96,10 +96,10 @@ pub export_found : (name : List ℕ) (number : ℕ) (ls : List Linking) → IsAm
 export_found name number [] is = absurd (cc)
 export_found name number (l ∷ ls) is = of_late (is_late l.kind) is (export_found name (suc number) ls)
   where
-    abbrev startup : List Linking
+    startup : List Linking
     startup = filter (λ x. not (is_late x.kind)) ls
 
-    abbrev rest : Option Export
+    rest : Option Export
     rest = shared_from name (suc number) (map (λ x. x.kind) ls) (map image_of ls)
 
     of_export : (t : Bool) → list_any (bytes_eq name) (exported_names l.objects) ≡ t
