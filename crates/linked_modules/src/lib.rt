@@ -1,9 +1,9 @@
 //! That images which are linked together can be loaded together: a law, and no code that runs.
 //!
-//! A loader takes the images of a job, and some things it can't ask of each image alone (`loaded_modules`,
+//! A loader takes the images of a job, and some of what it needs no image tells alone (`loaded_modules`,
 //! `AreModules`): that a name which one image asks for is shared by another, and that an image which comes late, when
-//! the thread pointer's surroundings are laid out, wants no place among them. That condition names no linker; whoever
-//! makes images may show it. This crate shows it of the linker (`link_core`).
+//! the blocks below the thread pointer are laid out, wants none there. That condition names no linker: whoever makes
+//! images may show it. This crate shows it of the linker (`link_core`).
 //!
 //! Links are **linked together** (`AreTogether`, `specs/Together`) if each links, and each is told as the exports of
 //! startup images those of the startup images among them. The rule of the crate: **what is linked together is loaded
