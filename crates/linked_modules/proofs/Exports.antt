@@ -1,6 +1,6 @@
 -- A name that an image exports is that of one of its own symbols, which is thread-local and seen by other images.
 use Rattle.std.proofs.Common.{◌≡◌, ◌+◌, ◌-◌, ◌<◌, ◌≤◌, ◌∙◌, ℕ, Bool, true, false, not, List, [], ◌∷◌, Option, Some}
-use Rattle.std.proofs.Common.{None, length, drop, nat_eq, refl, sym, ap, subst, arith}
+use Rattle.std.proofs.Common.{None, length, drop, nat_eq, refl, ap, subst, arith}
 use Rattle.std.specs.Prelude.{◌&&◌, if◌then◌else◌}
 use Rattle.std.specs.List.{All, flat_map, list_any, range_with_len}
 use Rattle.std.specs.Str.{bytes_eq}

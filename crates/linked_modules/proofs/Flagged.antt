@@ -1,5 +1,5 @@
 -- A late image that is not flagged wants no offset from the thread pointer.
-use Rattle.std.proofs.Common.{◌≡◌, ◌≢◌, ◌+◌, ◌&&◌, ◌||◌, ◌∙◌, ℕ, Bool, true, false, not, List, [], ◌∷◌, ◌++◌, Option}
+use Rattle.std.proofs.Common.{◌≡◌, ◌≢◌, ◌+◌, ◌&&◌, ◌||◌, ◌∙◌, ℕ, Bool, true, false, not, List, [], ◌∷◌, Option}
 use Rattle.std.proofs.Common.{Some, None, filter, refl, sym, ap, subst}
 use Rattle.std.specs.Prelude.{option_and_then, option_map, if◌then◌else◌}
 use Rattle.std.specs.List.{All, flat_map, list_any, range_with_len}
@@ -27,11 +27,10 @@ use Rattle.got_pairs.specs.declared.need.Target.TheVariants as target
 use Rattle.got_pairs.specs.Entries.{entry_of}
 use Rattle.got_pairs.specs.Needs.{by_group, distinct, entries as entries_of, group_of, groups, of_group, same_group}
 use Rattle.got_pairs.specs.Needs.{same_need}
-use Rattle.relax_sites.specs.declared.choices.Choice.{Choice}
 use Rattle.relax_sites.specs.declared.choices.Choice.TheVariants.{Keep}
 use Rattle.relax_sites.specs.Choices.{choice_of}
 use Rattle.dynamic_symbols.proofs.Lists.{all_flat}
-use Rattle.link_needs.specs.Linking.{Linking, address, binding, block_offset, choice, chosen, offset, place}
+use Rattle.link_needs.specs.Linking.{Linking, address, binding, block_offset, choice, chosen, place}
 use Rattle.link_needs.specs.Needs.{address_fields, address_needs, as_list, calls, entries, got_start, is_kept, need_by}
 use Rattle.link_needs.specs.Needs.{needs, object_needs, object_needs_from, own_word, reaching, relocation_need}
 use Rattle.link_needs.specs.Needs.{section_needs, site_needs, site_needs_from, target_by}

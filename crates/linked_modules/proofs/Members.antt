@@ -1,5 +1,5 @@
 -- Images that are linked together are images of a job.
-use Rattle.std.proofs.Common.{◌≡◌, ◌≢◌, ◌<◌, ◌∙◌, ℕ, true, false, List, [], ◌∷◌, Option, Some, None, is_some, length}
+use Rattle.std.proofs.Common.{◌≡◌, ◌≢◌, ◌∙◌, ℕ, true, false, List, [], ◌∷◌, Option, Some, None, is_some, length}
 use Rattle.std.proofs.Common.{map, refl, sym, ap, subst}
 use Rattle.std.specs.Prelude.{option_map, slice_get, slice_index_or}
 use Rattle.std.specs.List.{All}
@@ -8,7 +8,6 @@ use Rattle.std.proofs.lemmas.List.Elements.{All-map, All-weaker}
 use Rattle.std.proofs.lemmas.Option.{same_Some, slice_get-map}
 use Rattle.image_faults.specs.declared.loader_kind.LoaderKind.TheVariants.{ThreadOffset}
 use Rattle.image_file.specs.Spelled.{Spelled}
-use Rattle.image_rules.specs.declared.places.FileKind.{FileKind}
 use Rattle.image_writer.specs.Tables.{finished}
 use Rattle.job_text.specs.declared.images.Image.{Image}
 use Rattle.job_text.specs.Jobs.{JobParts}
@@ -19,8 +18,8 @@ use Rattle.link_needs.specs.Linking.{Linking}
 use Rattle.link_core.specs.Dynamic.{imports}
 use Rattle.link_core.specs.Faults.{Links}
 use Rattle.link_core.specs.Images.{contents, file_kind, image_of}
-use Rattle.loaded_modules.specs.Given.{AreModules, IsDynamic, LateLast, NamesShared, file_kind_of, of_job}
-use Rattle.loaded_modules.specs.Images.{JobImages, is_late}
+use Rattle.loaded_modules.specs.Given.{IsDynamic, NamesShared, file_kind_of, of_job}
+use Rattle.loaded_modules.specs.Images.{is_late}
 use Rattle.loaded_modules.specs.Loader.{export_of, shared_from}
 use Rattle.linked_modules.specs.Together.{AreTogether, LinkedImagesAreModules, exports_among}
 use Rattle.linked_modules.proofs.Flagged.{late_free}

@@ -1,6 +1,6 @@
 -- A name that one of the startup images exports is shared by one of them.
 use Rattle.std.proofs.Common.{◌≡◌, ◌||◌, ◌<◌, ◌≤◌, ◌∙◌, ℕ, suc, Bool, true, false, not, List, [], ◌∷◌, ◌++◌, Option}
-use Rattle.std.proofs.Common.{Some, None, is_some, length, filter, map, refl, sym, ap}
+use Rattle.std.proofs.Common.{Some, None, is_some, length, filter, map, refl, ap}
 use Rattle.std.specs.Prelude.{◌&&◌, cond, option_map, if◌then◌else◌}
 use Rattle.std.specs.List.{list_any}
 use Rattle.std.specs.Option.{option_or}
@@ -13,7 +13,7 @@ use Rattle.elf_object.specs.Parts.{symbol_count}
 use Rattle.image_file.specs.declared.symbol.ImageSymbol.{ImageSymbol}
 use Rattle.image_writer.specs.Tables.{finished}
 use Rattle.link_faults.specs.declared.symbol_ref.SymbolRef.{SymbolRef}
-use Rattle.tls_symbols.specs.Bindings.{exported_names, is_exported, is_tls_symbol, is_visible, object_at}
+use Rattle.tls_symbols.specs.Bindings.{exported_names, is_exported, is_tls_symbol, is_visible}
 use Rattle.dynamic_symbols.specs.Names.{name_of}
 use Rattle.link_needs.specs.Linking.{Linking, object}
 use Rattle.link_core.specs.Dynamic.{defined, names, own_symbols, symbols, visibility_shown}
