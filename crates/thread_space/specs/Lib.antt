@@ -1,3 +1,5 @@
 pub mod Holding
 pub mod Kept
+pub mod Places
 pub mod Steps
+pub mod Writing
