@@ -1,0 +1,2 @@
+pub mod PartBytes
+pub mod Sought
