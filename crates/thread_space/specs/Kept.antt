@@ -78,6 +78,15 @@ shape_of k = record {
   owners = owners_of (owned_of k.vector k.pieces);
 }
 
+-- the shape of a thread that knows of no image
+abbrev pub shape_with : ℕ → Shape
+shape_with thread = record {
+  thread = thread;
+  images = record { kinds = []; images = [] };
+  past = record { seen = 0; made = 0; taken = 0; limit = 0; modules = [] };
+  owners = [];
+}
+
 -- ---- as the definitions of lines have it
 
 -- the events leave what the thread has seen

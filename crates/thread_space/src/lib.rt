@@ -2,11 +2,18 @@
 #![tactic(auto)]
 
 mod asking;
+mod blocks;
+mod bytes;
+mod finding;
+mod parts;
 mod runner;
+mod shared;
 mod space;
 mod taking;
+mod words;
 
 pub use asking::{Ask, LineAnswer};
+pub use bytes::Outline;
 pub use runner::Runner;
 pub use space::ThreadSpace;
 pub use taking::Taken;
