@@ -12,3 +12,4 @@ pub mod StartupBlocks
 pub mod Startups
 pub mod TurnsBegun
 pub mod TurnsTaken
+pub mod Entries

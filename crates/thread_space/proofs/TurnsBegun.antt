@@ -15,9 +15,9 @@ use Rattle.thread_blocks.specs.Turns.{Idle, Mid, Phase, Said, Thread, after_look
 use Rattle.thread_space.specs.declared.taking.Taken.{Taken}
 use Rattle.thread_space.specs.Kept.{HasSeen, Kept, blocks_of, held_at, owned_of}
 use Rattle.thread_space.specs.Standing.{IsIdle, IsMid, PhaseIs, StandsAfter, Waiting, waits_at}
-use Rattle.thread_space.specs.Taking.{BeginsTo, ResumesTo, loads_in}
+use Rattle.thread_space.specs.Taking.{BeginsTo, ResumesTo, emptied, loads_in, run_after}
 use Rattle.thread_space.proofs.Owners.{blocks_of_owned, owned_again}
-use Rattle.thread_space.proofs.TurnsTaken.{look_held, run_after, took_stands}
+use Rattle.thread_space.proofs.TurnsTaken.{look_held, took_stands}
 
 module _ (lines : List ThreadLine) (fuel : ℕ) (said : List Printed) (k k1 k2 : Kept) (taken : Taken) (seen : List Event)
     (xs : List (Owned ℕ)) (has_seen : HasSeen k1.vector seen) (stack : k.stack ≡ k1.stack)
@@ -35,14 +35,14 @@ module _ (lines : List ThreadLine) (fuel : ℕ) (said : List Printed) (k k1 k2 :
   begun_turn : (begun : ℕ) (line : Line) (rest : List Line) (before : List Said) (old : List Event) (h : Runs)
       → BeginsTo fuel line k1 taken k2 → IsIdle k h
       → rest ≡ numbered_lines (begun + 1) (drop begun lines) → map shown before ≡ map Some said
-      → StandsAfter (run_after lines begun fuel said (length seen ∷ []) taken k2) k2.pieces
+      → StandsAfter (run_after lines begun fuel said (length seen ∷ []) taken (emptied k2)) k2.pieces
       (with_event seen (event_by (loads_in k1) k1.vector.thread line seen))
       (turn_at (thread_turns (loads_in k1) k1.vector.thread fuel) (line ∷ rest) (Idle (in_hands h)) before old seen)
   unfolding thread_turns begin_line
   begun_turn begun line rest before old h begins idle left same =
       let now = with_event seen (event_by (loads_in k1) k1.vector.thread line seen) in
       let facts = begins.begins seen h.after.state h.asked rest before has_seen in
-      let P : Runs → Type 0 = λ held. StandsAfter (run_after lines begun fuel said (length seen ∷ []) taken k2) k2.pieces now
+      let P : Runs → Type 0 = λ held. StandsAfter (run_after lines begun fuel said (length seen ∷ []) taken (emptied k2)) k2.pieces now
           (after_look (thread_turns (loads_in k1) k1.vector.thread fuel) (4 * fuel) rest before seen (length seen ∷ [])
           (begun_by plain_operations (loads_in k1) (shows (loads_in k1) k1.vector.thread) k1.vector.thread line seen held line.told.action)) in
       subst P (sym (idle_looks h idle))
@@ -52,12 +52,12 @@ module _ (lines : List ThreadLine) (fuel : ℕ) (said : List Printed) (k k1 k2 :
       → BeginsTo fuel (record { number = begun + 1; told = line }) k1 taken k2
       → todo ≡ record { number = begun + 1; told = line } ∷ numbered_lines (begun + 1 + 1) (drop (begun + 1) lines)
       → PhaseIs k fuel None phase → map shown before ≡ map Some said
-      → StandsAfter (run_after lines (begun + 1) fuel said (length seen ∷ []) taken k2) k2.pieces
+      → StandsAfter (run_after lines (begun + 1) fuel said (length seen ∷ []) taken (emptied k2)) k2.pieces
       (with_event seen (option_and_then (λ x. event_by (loads_in k1) k1.vector.thread x seen) (next_line todo phase)))
       (turn_at (thread_turns (loads_in k1) k1.vector.thread fuel) todo (changed in_hands phase) before old seen)
   begins_turn begun line todo (Idle h) before old begins is idle same =
       let first : Line = record { number = begun + 1; told = line } in
-      let P : List Line → Type 0 = λ ys. StandsAfter (run_after lines (begun + 1) fuel said (length seen ∷ []) taken k2) k2.pieces
+      let P : List Line → Type 0 = λ ys. StandsAfter (run_after lines (begun + 1) fuel said (length seen ∷ []) taken (emptied k2)) k2.pieces
           (with_event seen (option_and_then (λ x. event_by (loads_in k1) k1.vector.thread x seen) (next_line ys (Idle h))))
           (turn_at (thread_turns (loads_in k1) k1.vector.thread fuel) ys (Idle (in_hands h)) before old seen) in
       subst P (sym is) (begun_turn (begun + 1) first _ before old h begins idle refl same)
@@ -99,7 +99,7 @@ module _ (lines : List ThreadLine) (fuel : ℕ) (said : List Printed) (k k1 k2 :
   resumed_turn : (begun : ℕ) (c : Waiting) (todo : List Line) (steps : ℕ) (points : List ℕ) (h : Runs) (before : List Said)
       → ResumesTo fuel c.machine c.asked k1 taken k2 → IsMid k fuel c steps points h
       → todo ≡ numbered_lines (begun + 1) (drop begun lines) → map shown before ≡ map Some said
-      → StandsAfter (run_after lines begun fuel said (with_last c.points (length seen)) taken k2) k2.pieces seen
+      → StandsAfter (run_after lines begun fuel said (with_last c.points (length seen)) taken (emptied k2)) k2.pieces seen
       (after_look (thread_turns (loads_in k1) k1.vector.thread fuel) (steps - 1) todo before seen
       (with_last points (length seen)) (resume_line (loads_in k1) k1.vector.thread seen (in_hands h)))
   unfolding resume_line
@@ -113,7 +113,7 @@ module _ (lines : List ThreadLine) (fuel : ℕ) (said : List Printed) (k k1 k2 :
       → ResumesTo fuel c.machine c.asked k1 taken k2
       → todo ≡ numbered_lines (begun + 1) (drop begun lines)
       → PhaseIs k fuel (Some c) phase → map shown before ≡ map Some said
-      → StandsAfter (run_after lines begun fuel said (with_last c.points (length seen)) taken k2) k2.pieces
+      → StandsAfter (run_after lines begun fuel said (with_last c.points (length seen)) taken (emptied k2)) k2.pieces
       (with_event seen (option_and_then (λ x. event_by (loads_in k1) k1.vector.thread x seen) (next_line todo phase)))
       (turn_at (thread_turns (loads_in k1) k1.vector.thread fuel) todo (changed in_hands phase) before old seen)
   resumes_turn begun c todo (Idle h) before old resumes is mid same = absurd mid

@@ -18,7 +18,7 @@ use Rattle.thread_space.specs.Kept.{HasSeen, Kept, blocks_of, held_at, owned_of,
 use Rattle.thread_space.specs.Standing.{IsIdle, Run, StandsAfter, StandsFor, Waiting}
 use Rattle.thread_space.specs.declared.taking.Taken.{Taken}
 use Rattle.thread_space.specs.declared.taking.Taken.TheVariants.{Over, Waits}
-use Rattle.thread_space.specs.Taking.{IsOver, TookAs}
+use Rattle.thread_space.specs.Taking.{IsOver, TookAs, emptied, run_after}
 use Rattle.thread_space.proofs.Owners.{blocks_of_owned, data_of_owned, owned_again}
 
 -- what is put into a thread's hands is in them
@@ -114,18 +114,11 @@ module _ (lines : List ThreadLine) (begun fuel : ℕ) (said : List Printed) wher
         has_seen = has_seen;
       })
 
--- what a runner is once a turn came to this, of a line whose looks so far have these points
-abbrev pub run_after : List ThreadLine → ℕ → ℕ → List Printed → List ℕ → Taken → Kept → Run
-run_after lines begun fuel said points (Over outcome) k =
-    left_with lines begun fuel said None (said ++ record { points = points; outcome = outcome } ∷ []) k
-run_after lines begun fuel said points (Waits machine asked) k =
-    left_with lines begun fuel said (Some (record { machine = machine; asked = asked; points = points })) said k
-
 pub took_stands : (lines : List ThreadLine) (begun fuel : ℕ) (said : List Printed) (taken : Taken) (k : Kept) (points : List ℕ)
     (now : List Event) (todo : List Line) (before : List Said) (seen : List Event) (t : Thread Runs Line Event)
     → TookAs (4 * fuel) k taken points now todo before seen t → HasSeen k.vector now
     → todo ≡ numbered_lines (begun + 1) (drop begun lines) → map shown before ≡ map Some said
-    → StandsAfter (run_after lines begun fuel said points taken k) k.pieces now t
+    → StandsAfter (run_after lines begun fuel said points taken (emptied k)) k.pieces now t
 took_stands lines begun fuel said (Over outcome) k points now todo before seen t took has_seen rest same =
     over_stands lines begun fuel said k outcome points now todo before seen t took has_seen rest same
 took_stands lines begun fuel said (Waits machine asked) k points now todo before seen t took has_seen rest same =

@@ -23,6 +23,6 @@ pub record HoldsRun (r : Inside) : Type 0 where
   pub names : r.names.now ≡ r.space.vector.images
   pub startups : HasStartups r.space.vector
   pub fuel : r.fuel < 2 ^ 32
-  pub lines : length r.lines.now < 2 ^ 32
+  pub lines : length r.lines.now < 2 ^ 31
   pub begun : r.begun ≤ length r.lines.now
   pub steps : HasSteps r.fuel r.call

@@ -5,6 +5,7 @@ mod asking;
 mod blocks;
 mod bytes;
 mod finding;
+mod names;
 mod parts;
 mod runner;
 mod shared;
@@ -14,6 +15,7 @@ mod words;
 
 pub use asking::{Ask, LineAnswer};
 pub use bytes::Outline;
+pub use names::JobNames;
 pub use runner::Runner;
 pub use space::ThreadSpace;
 pub use taking::Taken;
