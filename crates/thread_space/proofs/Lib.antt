@@ -1,2 +1,12 @@
+pub mod BytesHeld
+pub mod Live
+pub mod LoadKept
+pub mod Looks
+pub mod Owners
 pub mod PartBytes
+pub mod PiecesHeld
+pub mod SharedIs
 pub mod Sought
+pub mod StartKept
+pub mod StartupBlocks
+pub mod Startups
