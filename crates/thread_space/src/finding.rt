@@ -65,6 +65,7 @@ impl<'m> ThreadSpace<'m> {
     }
 
     /// Whether a module id is that of an image that starts with the program.
+    #[tactic(auto, unfolding(thread_blocks::specs::JobLoads::job_loads))]
     pub fn is_startup(&self, id: u64) -> bool
         ensures { result ≡ is_startup_id (job_loads self.now.vector.images) id }
     {
