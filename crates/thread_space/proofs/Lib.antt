@@ -1,4 +1,5 @@
 pub mod BytesHeld
+pub mod Entries
 pub mod Live
 pub mod LoadKept
 pub mod Looks
@@ -12,4 +13,3 @@ pub mod StartupBlocks
 pub mod Startups
 pub mod TurnsBegun
 pub mod TurnsTaken
-pub mod Entries

@@ -4,7 +4,7 @@ use Rattle.std.specs.Prelude.{◌&&◌, not, nat_le, nat_lt, option_and_then, sl
 use Rattle.std.specs.List.{list_any}
 use Rattle.std.specs.Option.{option_or}
 use Rattle.std.proofs.lemmas.Bool.{cases_Bool, leb-true, leb-false, le-leb, lt-leb, ltb-false, ltb-true}
-use Rattle.std.proofs.lemmas.Option.{same_Some, none-some, slice_get-get_or, slice_get_past}
+use Rattle.std.proofs.lemmas.Option.{cond_some, none-some, slice_get-get_or, slice_get_past}
 use Rattle.std.proofs.Math.Seq.{drop-cons}
 use Rattle.guest_operands.specs.declared.space.Access.{Access}
 use Rattle.guest_operands.specs.declared.space.Access.TheVariants.{Read, Run, Write}
@@ -86,3 +86,71 @@ module _ (m : JobImages) (image : Spelled) (x : Instance) where
           → list_any (has_words address) (cond b (range ∷ rest) rest) ≡ ((b && has_words address range) || list_any (has_words address) rest)
       by_written true range rest = refl
       by_written false range rest = refl
+
+-- ** what the code reads
+
+behind_some : (start address at : ℕ) → behind start address ≡ Some at → (nat_le start address ≡ true) × (address - start ≡ at)
+behind_some start address at begins = cond_some (nat_le start address) (address - start) at begins
+
+behind_none : (start address : ℕ) → behind start address ≡ None → nat_le start address ≡ false
+behind_none start address begins = elim (cases_Bool (nat_le start address)) [
+  | inl t ↦ absurd (none-some (address - start) (sym (sym (rw t refl) ∙ begins)))
+  | inr f ↦ f
+]
+
+-- so many bytes from a start on have two words at an address
+room_is : (start address at count : ℕ) → behind start address ≡ Some at
+    → nat_le (at + 16) count ≡ (nat_le start address && nat_le (address + 16) (start + count))
+room_is start address at count begins =
+    let here = behind_some start address at begins in
+    let low : start ≤ address = leb-true start address here.0 in
+    rw here.0 (elim (cases_Bool (nat_le (at + 16) count)) [
+      | inl t ↦
+        let room : at + 16 ≤ count = leb-true (at + 16) count t in
+        t ∙ sym (le-leb (address + 16) (start + count) (omega (arith, here.1, room, low)))
+      | inr f ↦
+        let full : count < at + 16 = leb-false (at + 16) count f in
+        f ∙ sym (lt-leb (address + 16) (start + count) (omega (arith, here.1, full, low)))
+    ])
+
+before_is : (b : Bool) (start address count : ℕ) → behind start address ≡ None
+    → false ≡ (b && (nat_le start address && nat_le (address + 16) (start + count)))
+before_is true start address count begins = rw (behind_none start address begins) refl
+before_is false start address count begins = refl
+
+module _ (m : JobImages) (image : Spelled) (x : Instance) (i : ℕ) (there : image_at m x.image ≡ Some image) where
+  bias_here : bias_of m x ≡ bias image.kind x.number
+  unfolding bias_of
+  bias_here = rw there refl
+
+  part_here : (part : Part) → slice_get image.parts i ≡ Some part → loaded_part m x i ≡ part_bytes m image x part
+  unfolding loaded_part
+  part_here part is = rw (there, is) refl
+
+  pub byte_read : (access : Access) (place at : ℕ) (part : Part) → slice_get image.parts i ≡ Some part
+      → allows_fixed access part.class (is_loaders image.got i) ≡ true → behind (part.address + bias_of m x) place ≡ Some at
+      → slice_get (loaded_part m x i) at ≡ byte_of_part m image x i access place (slice_get image.parts i)
+  byte_read access place at part is allowed begins =
+      let begins' : behind (part.address + bias image.kind x.number) place ≡ Some at = rw bias_here at begins in
+      rw (part_here part is, is, allowed, begins') refl
+
+  pub none_read : (access : Access) (place : ℕ) (part : Part) → slice_get image.parts i ≡ Some part
+      → behind (part.address + bias_of m x) place ≡ None → None ≡ byte_of_part m image x i access place (slice_get image.parts i)
+  none_read access place part is begins =
+      let begins' : behind (part.address + bias image.kind x.number) place ≡ None = rw bias_here at begins in
+      rw (is, begins') (by_test (allows_fixed access part.class (is_loaders image.got i)))
+    where
+      by_test : (b : Bool) → None ≡ cond {A = Option ℕ} b None None
+      by_test true = refl
+      by_test false = refl
+
+  pub words_read : (address at : ℕ) (part : Part) → slice_get image.parts i ≡ Some part → is_written part.class ≡ true
+      → behind (part.address + bias_of m x) address ≡ Some at
+      → nat_le (at + 16) (length (loaded_part m x i)) ≡ part_has_words m image x i address (slice_get image.parts i)
+  words_read address at part is written begins =
+      rw (part_here part is, is, written) (room_is (part.address + bias image.kind x.number) address at (length (part_bytes m image x part)) (rw bias_here at begins))
+
+  pub no_words_read : (address : ℕ) (part : Part) → slice_get image.parts i ≡ Some part
+      → behind (part.address + bias_of m x) address ≡ None → false ≡ part_has_words m image x i address (slice_get image.parts i)
+  no_words_read address part is begins =
+      rw is (before_is (is_written part.class) (part.address + bias image.kind x.number) address (length (part_bytes m image x part)) (rw bias_here at begins))

@@ -1,28 +1,26 @@
 -- The first range that allows an access, in ranges of which each instance has some.
-use Rattle.std.proofs.Common.{◌≡◌, ◌≢◌, ◌∙◌, ◌-◌, ◌<◌, ◌≤◌, ◌++◌, ℕ, suc, Bool, true, false, List, [], ◌∷◌, length, map, Option, Some, None, refl, sym, ap, subst, arith, inl, inr, cond}
+use Rattle.std.proofs.Common.{◌≡◌, ◌≢◌, ◌∙◌, ◌-◌, ◌<◌, ◌≤◌, ◌++◌, ℕ, zero, suc, Bool, true, false, List, [], ◌∷◌, length, map, Option, Some, None, refl, sym, ap, subst, arith, inl, inr, cond}
 use Rattle.std.specs.Prelude.{◌&&◌, All, is_some, nat_le, nat_lt, option_and_then, slice_get, slice_set}
 use Rattle.std.specs.List.{find, flat_map}
 use Rattle.std.specs.Option.{option_or}
 use Rattle.std.proofs.lemmas.Bool.{cases_Bool, ltb-true, false≢true}
 use Rattle.std.proofs.lemmas.List.{append_assoc, append-nil, map-append}
 use Rattle.std.proofs.lemmas.List.Elements.{All-head, All-tail}
-use Rattle.std.proofs.lemmas.Option.{none-some, same_Some, slice_get_cases}
+use Rattle.std.proofs.lemmas.Option.{none-some, same_Some}
 use Rattle.guest_operands.specs.declared.space.Access.{Access}
 use Rattle.guest_operands.specs.declared.space.Access.TheVariants.{Write}
 use Rattle.guest_operands.specs.Ranges.{Range, allows, byte_in, grants, holds, with_byte}
 use Rattle.thread_space.specs.Places.{takes}
 
-is_byte : {B : Type 0} (xs : List B) (i : ℕ) (o : Option B) → i < length xs → slice_get xs i ≡ option_or (slice_get xs i) o
-is_byte xs i o within = elim (slice_get_cases xs i).1 [
-  | inl there ↦ rw there.2.1 refl
-  | inr past ↦ absurd (omega (arith, past.0))
-]
+pub is_byte : {B : Type 0} (xs : List B) (i : ℕ) (o : Option B) → i < length xs → slice_get xs i ≡ option_or (slice_get xs i) o
+is_byte [] i o within = absurd (omega arith)
+is_byte (x ∷ xs) zero o within = refl
+is_byte (x ∷ xs) (suc i) o within = is_byte xs i o (omega arith)
 
 has_byte : {B : Type 0} (xs : List B) (i : ℕ) → i < length xs → is_some (slice_get xs i) ≡ true
-has_byte xs i within = elim (slice_get_cases xs i).1 [
-  | inl there ↦ rw there.2.1 refl
-  | inr past ↦ absurd (omega (arith, past.0))
-]
+has_byte [] i within = absurd (omega arith)
+has_byte (x ∷ xs) zero within = refl
+has_byte (x ∷ xs) (suc i) within = has_byte xs i (omega arith)
 
 both-true : (a b : Bool) → (a && b) ≡ true → b ≡ true
 both-true true b h = h

@@ -1,10 +1,10 @@
 //! The parts of images, as instances have them.
 
-ghost use Rattle.std.specs.Prelude.{◌≡◌, ◌+◌, Some, nat_le, slice_get};
+ghost use Rattle.std.specs.Prelude.{◌≡◌, ◌+◌, Some, length, nat_le, slice_get};
 ghost use Rattle.std.specs.List.{filter, list_any};
 ghost use Rattle.guest_operands.specs.Ranges.{byte_in};
 ghost use Rattle.loaded_modules.specs.Images.{image_at};
-ghost use Rattle.loaded_modules.specs.Loader.{loaded_part};
+ghost use Rattle.loaded_modules.specs.Loader.{bias_of, loaded_part};
 ghost use Rattle.thread_blocks.specs.Instances.{fixed_of};
 ghost use Rattle.thread_blocks.specs.JobLoads.{job_loads, parts_from, written_from};
 ghost use Rattle.thread_blocks.specs.Loading.{is_code, is_loaders, is_written};
@@ -70,6 +70,20 @@ fn has_room(size: u64, at: u64) -> bool
 }
 
 impl<'m> ThreadSpace<'m> {
+    /// How far the image of an instance is moved.
+    fn bias(&self, instance: &Instance) -> u64
+        ensures { result ≡ bias_of self.now.vector.images instance.now }
+    {
+        self.modules.bias(instance)
+    }
+
+    /// How many bytes a part of an instance has.
+    fn part_size(&self, instance: &Instance, number: u64) -> u64
+        ensures { result ≡ length (loaded_part self.now.vector.images instance.now number) }
+    {
+        self.modules.part_size(instance, number)
+    }
+
     /// The byte at an offset in a part of an instance as the loader leaves it.
     fn loaded_byte(&self, instance: &Instance, number: u64, at: u64) -> Option<u8>
         ensures { result ≡ slice_get (loaded_part self.now.vector.images instance.now number) at }
@@ -101,8 +115,10 @@ impl<'m> ThreadSpace<'m> {
         if !allows_fixed(access, part.class, is_loaders(image.got(), number)) {
             return None;
         }
-        let at = behind_part(part.address, self.modules.bias(instance), place)?;
-        self.loaded_byte(instance, number, at)
+        match behind_part(part.address, self.bias(instance), place) {
+            Some(at) => self.loaded_byte(instance, number, at),
+            None => None,
+        }
     }
 
     /// The same of all parts of its image.
@@ -166,8 +182,8 @@ impl<'m> ThreadSpace<'m> {
         if !is_written(part.class) {
             return false;
         }
-        match behind_part(part.address, self.modules.bias(instance), address) {
-            Some(at) => has_room(self.modules.part_size(instance, number), at),
+        match behind_part(part.address, self.bias(instance), address) {
+            Some(at) => has_room(self.part_size(instance, number), at),
             None => false,
         }
     }
