@@ -12,9 +12,11 @@ mod EmptyRanges
 mod LinkedBlocks
 mod LinkedImages
 mod LinkedRanges
+mod LoneBlocks
 mod LoneLinks
 mod LoneLines
 mod LoneLoads
+mod LoneThreads
 mod LoneWorlds
 mod MeantRuns
 pub mod Memory

@@ -1,13 +1,10 @@
--- The only line of a job's only thread, which calls a function of the program, says what it means.
-use Rattle.std.proofs.Common.{◌≡◌, ◌*◌, ◌∙◌, ℕ, false, List, [], ◌∷◌, ◌++◌, append-nil, Option, Some, None, refl, sym, ap, subst}
-use Rattle.std.specs.Prelude.{is_some}
-use Rattle.std.specs.List.{flat_map}
-use Rattle.std.specs.Option.{option_or}
+-- A line that calls a function of a job's only image, a program: the thread's turn does what the meaning's does.
+use Rattle.std.proofs.Common.{◌≡◌, ◌⊎◌, ◌*◌, ◌∙◌, ℕ, suc, Bool, List, [], ◌∷◌, ◌++◌, map, Option, Some, None, refl, sym, ap, subst, inl, inr}
+use Rattle.guest_operands.specs.declared.state.State.{State}
 use Rattle.guest_operands.specs.declared.stop.Stop.{Stop}
 use Rattle.guest_arithmetic.specs.Plain.{plain_operations}
 use Rattle.guest_machine.specs.Ranges.{Range}
-use Rattle.guest_machine.specs.Run.{Ended, run}
-use Rattle.guest_machine.specs.State.{start_of}
+use Rattle.guest_machine.specs.Run.{Outcome, Ended, Waits, run}
 use Rattle.guest_machine.specs.Use.{left}
 use Rattle.image_file.specs.Spelled.{Spelled}
 use Rattle.image_rules.specs.declared.places.FileKind.TheVariants.{Exe as ExeFile}
@@ -16,161 +13,280 @@ use Rattle.job_meaning.specs.Marked.{marked_operations}
 use Rattle.job_meaning.specs.Owner.{owner_at}
 use Rattle.loaded_modules.specs.declared.instance.Instance.{Instance}
 use Rattle.module_table.specs.declared.events.Event.{Event}
-use Rattle.thread_blocks.specs.Held.{Owned, Owner, Block, block_after, block_bytes, block_with, data_after, data_with, looked, looked_at, owned, owned_by, owners_of, ranges_in, with_owned}
-use Rattle.thread_blocks.specs.Instances.{Loads, block_range, fixed_at, instance_at}
-use Rattle.thread_blocks.specs.JobWorlds.{thread_ready}
+use Rattle.thread_blocks.specs.Held.{Asked, owned_by, with_owned}
+use Rattle.thread_blocks.specs.Instances.{Loads, fixed_at, instance_at}
+use Rattle.thread_blocks.specs.JobWorlds.{numbered_lines, with_data}
 use Rattle.thread_blocks.specs.Lines.{Line, begin_line, begun_at, begun_in}
 use Rattle.thread_blocks.specs.Loading.{entry_in, loaded_image}
 use Rattle.thread_blocks.specs.MachineTurns.{Loaded, CallLine, begun_call, call_start, fixed_of, fresh_space, pointer_word, stack_start}
 use Rattle.thread_blocks.specs.RunTime.{Runs, shows, thread_accesses, thread_turns}
 use Rattle.thread_blocks.specs.Spaces.{NoneWritable, after_of, outcome_image}
-use Rattle.thread_blocks.specs.Turns.{Begun, Idle, Said, Thread, after_look, after_run}
+use Rattle.thread_blocks.specs.Turns.{Begun, Idle, Phase, Said, Thread, Turns, after_look, after_run, turn, with_last}
+use Rattle.thread_blocks.specs.TurnsAlike.{HasUnclean, IsUncleanEnding}
 use Rattle.job_run.specs.Linked.{IsLinked}
-use Rattle.job_run.specs.Meaning.{meant_said, meant_start, meant_turns}
+use Rattle.job_run.specs.Meaning.{Meant, meant_turns}
 use Rattle.job_run.specs.Whole.{told_call}
-use Rattle.job_run.specs.Worlds.{AreClean}
 use Rattle.job_run.proofs.EmptyRanges.{behind, behind_run}
-use Rattle.job_run.proofs.LoneLoads.{block_fits, fixed_is, function_is, its_instance, loads, none_shared, only_instance, program}
-use Rattle.job_run.proofs.MeantRuns.{call_ends, machine_at, machine_of}
+use Rattle.job_run.proofs.LoneBlocks.{front, front_none, holds, looks_again, own_block, still_fits}
+use Rattle.job_run.proofs.LoneLoads.{fixed_is, function_is, its_instance, loads}
+use Rattle.job_run.proofs.MeantRuns.{EndsAlike, IsUncleanOut, Rests, call_ends, machine_at, machine_of, meant_at, meant_steps}
 use Rattle.job_run.proofs.RunTimeRuns.{Machine, bare, holding, never_asks}
 
--- without data that threads write nothing but blocks is held
-no_data : (x : Instance) (shared : Option (Range ℕ)) (bytes : Option (List ℕ)) → shared ≡ None → data_with x shared bytes ≡ []
-no_data x None bytes none = refl
-no_data x (Some range) bytes none = absurd (cc)
+-- the lines of a thread, from this number on
+abbrev pub told_from : ℕ → List CallLine → List Line
+told_from number lines = numbered_lines number (map told_call lines)
 
--- the thread's line
-abbrev pub first_line : CallLine → Line
-first_line line = record { number = 1; told = told_call line }
+unclean_last : (said : List Said) (line : Said) → IsUncleanEnding line.ending → HasUnclean (with_last said line)
+unclean_last [] line h = inl h
+unclean_last (first ∷ said) line h = inr (unclean_last said line h)
 
--- a thread whose lines are over and said this
-pub record HasSaid (said : List Said) (t : Thread Runs Line Event) : Type 0 where
-  pub held : Runs
-  pub is : t ≡ record { todo = []; phase = Idle held; said = said; seen = [] }
+unclean_run : (todo : List CallLine) (said : List Said) (out : Outcome (Meant Event)) → IsUncleanOut out
+    → HasUnclean (after_run {L = CallLine} {E = Event} todo said [] (0 ∷ []) out).said
+unclean_run todo said (Ended stop n s) h = unclean_last said _ h
+unclean_run todo said (Waits n s) h = absurd h
 
-module _ (image : Spelled) (kind : image.kind ≡ ExeFile) (unmoved : image.relocations ≡ []) (still : NoneWritable (loaded_image image).fixed)
-    (thread : ℕ) where
+module _ (image : Spelled) (kind : image.kind ≡ ExeFile) (unmoved : image.relocations ≡ [])
+    (still : NoneWritable (loaded_image image).fixed) (p : Loaded Byte) (room : ℕ)
+    (linked : IsLinked room p (loaded_image image)) (fuel thread : ℕ) where
   abbrev l : Loads ℕ
   l = loads image
 
-  -- ** what the thread holds
+  abbrev q : Loaded ℕ
+  q = loaded_image image
 
-  abbrev own_block : Range ℕ
-  own_block = block_range thread (program image) (l.block (program image))
+  abbrev pub meant : Turns (Meant Event) CallLine Event
+  meant = meant_turns {E = Event} room p thread fuel
 
-  abbrev own_owner : Owner
-  own_owner = record { kind = Block; instance = 1 }
+  abbrev pub printed : Turns Runs Line Event
+  printed = thread_turns l thread fuel
 
-  abbrev own_held : Owned ℕ
-  own_held = record { owner = own_owner; range = own_block }
+  abbrev pub holding_block : State ℕ Bool → List Event → List ℕ → List ℕ → Option Asked → Runs
+  holding_block = holds image kind unmoved still thread
 
-  -- the thread before its first line
-  abbrev pub first : Runs
-  first = record {
-    after = left (start_of plain_operations 0 0 0 0 0) (record { seen = []; stack = []; own = own_block ∷ [] });
-    owners = own_owner ∷ [];
-    asked = None;
-  }
+  -- ** two threads between two lines
 
-  -- a look leaves the block of the program, as it was or fresh
-  look_is : (xs : List (Owned ℕ)) → looked_at l thread [] xs
-      ≡ block_with thread (program image) (option_or (block_bytes 1 xs) (Some (l.block (program image))))
-  unfolding looked_at
-  look_is xs =
-      let blocks = block_after l thread (λ x. is_some x.offset) xs (program image) in
-      ap (λ live. flat_map (block_after l thread (λ x. is_some x.offset) xs) live ++ flat_map (data_after l (λ x. false) xs) live) (only_instance image)
-      ∙ ap (λ rest. (blocks ++ []) ++ (rest ++ [])) (no_data (program image) (l.shared (program image)) _ (none_shared image kind unmoved still))
-      ∙ append-nil (blocks ++ [])
-      ∙ append-nil blocks
+  pub record Stands (t : Thread (Meant Event) CallLine Event) (t' : Thread Runs Line Event) : Type 0 where
+    pub number : ℕ
+    pub todo : t'.todo ≡ told_from number t.todo
+    pub said : t'.said ≡ t.said
+    -- the meaning's
+    pub s : Meant Event
+    pub phase : t.phase ≡ Idle s
+    -- the machine's
+    pub state : State ℕ Bool
+    pub seen : List Event
+    pub stack : List ℕ
+    pub bytes : List ℕ
+    pub asked : Option Asked
+    pub phase' : t'.phase ≡ Idle (holding_block state seen stack bytes asked)
+    -- its blocks are those of the meaning
+    pub own : List (Range ℕ)
+    pub fits : front image kind unmoved still thread ++ own ≡ own_block image kind unmoved still thread bytes ∷ []
+    pub rests : Rests p q room linked thread s own
 
-  abbrev looking : Runs → List (Owned ℕ) → Runs
-  looking h held = record {
-    after = left h.after.state (record { seen = []; stack = h.after.memory.stack; own = ranges_in held });
-    owners = owners_of held;
-    asked = h.asked;
-  }
+  module _ (state : State ℕ Bool) (seen : List Event) (stack bytes : List ℕ) (asked : Option Asked) where
+    abbrev h : Runs
+    h = holding_block state [] stack bytes asked
 
-  abbrev nothing_held : Runs
-  nothing_held = record {
-    after = left (start_of plain_operations 0 0 0 0 0) (record { seen = []; stack = []; own = [] });
-    owners = [];
-    asked = None;
-  }
+    -- ** how a line begins
 
-  pub ready_is : thread_ready l thread ≡ first
-  ready_is = ap (looking nothing_held) (look_is [])
+    abbrev begun : CallLine → Option ℕ → Begun Runs
+    begun line found = begun_at plain_operations l (shows l thread) thread line.symbol line.a line.b line.c h found
 
-  -- whatever data it has in its hands
-  looks_again : (xs : List (Owned ℕ)) → looked l thread [] (with_owned first (own_held ∷ xs)) ≡ first
-  looks_again xs =
-      ap (looking (with_owned first (own_held ∷ xs))) (look_is (own_held ∷ owned (owners_of xs) (ranges_in xs)))
+    begins : (number : ℕ) (line : CallLine)
+        → begin_line plain_operations l (shows l thread) thread (record { number = number; told = told_call line }) []
+        (with_owned (holding_block state seen stack bytes asked) (owned_by (holding_block state seen stack bytes asked) ++ []))
+        ≡ begun line (entry_in image line.symbol)
+    unfolding begin_line
+    begins number line =
+        ap (λ (g : Runs). begun_in plain_operations l (shows l thread) thread line.symbol line.a line.b line.c g (instance_at l [] 1))
+        (looks_again image kind unmoved still thread state seen stack bytes asked)
+        ∙ ap (λ (x : Option Instance). begun_in plain_operations l (shows l thread) thread line.symbol line.a line.b line.c h x)
+        (its_instance image)
+        ∙ ap (begun line) (function_is image kind unmoved still line.symbol)
 
-  -- ** how its line begins
+    -- ** how it runs
 
-  pub begins : (line : CallLine) (xs : List (Owned ℕ))
-      → begin_line plain_operations l (shows l thread) thread (first_line line) [] (with_owned first (owned_by first ++ xs))
-      ≡ begun_at plain_operations l (shows l thread) thread line.symbol line.a line.b line.c first (entry_in image line.symbol)
-  unfolding begin_line
-  begins line xs =
-      ap (λ (h : Runs). begun_in plain_operations l (shows l thread) thread line.symbol line.a line.b line.c h (instance_at l [] 1)) (looks_again xs)
-      ∙ ap (λ (x : Option Instance). begun_in plain_operations l (shows l thread) thread line.symbol line.a line.b line.c first x) (its_instance image)
-      ∙ ap (λ (found : Option ℕ). begun_at plain_operations l (shows l thread) thread line.symbol line.a line.b line.c first found) (function_is image kind unmoved still line.symbol)
+    module _ (own : List (Range ℕ)) (fits : front image kind unmoved still thread ++ own ≡ own_block image kind unmoved still thread bytes ∷ [])
+        (s : Meant Event) (rests : Rests p q room linked thread s own) where
+      abbrev machine_from : ℕ → CallLine → Machine
+      machine_from place line =
+          left (call_start plain_operations thread place line)
+          (fresh_space plain_operations [] (own_block image kind unmoved still thread bytes ∷ []))
 
-  -- ** how it ends
+      abbrev with_front : Machine → Machine
+      with_front = after_of (behind (front image kind unmoved still thread) (front_none image kind unmoved still thread))
 
-  abbrev machine_from : ℕ → CallLine → Machine
-  machine_from place line =
-      left (call_start plain_operations thread place line) (fresh_space plain_operations [] (own_block ∷ []))
+      machine_ends : (place : ℕ) (line : CallLine) (stop : Stop) (k : ℕ) (at : Machine)
+          → run (machine_of p q room linked thread) (4 * fuel) (machine_at p q room linked thread place line own) ≡ Ended stop k at
+          → run (bare l thread) (4 * fuel) (machine_from place line) ≡ Ended stop k (with_front at)
+      unfolding thread_accesses
+      machine_ends place line stop k at ends =
+          ap (λ (blocks : List (Range ℕ)). run (bare l thread) (4 * fuel) (left (call_start plain_operations thread place line) (fresh_space plain_operations [] blocks)))
+          (sym fits)
+          ∙ behind_run (front image kind unmoved still thread) (front_none image kind unmoved still thread) (stack_start thread) (fixed_of plain_operations q thread)
+          (λ seen. pointer_word plain_operations thread ∷ fixed_at l seen)
+          (λ seen. ap (λ rest. pointer_word plain_operations thread ∷ rest) (fixed_is image kind unmoved still))
+          (4 * fuel) (machine_at p q room linked thread place line own)
+          ∙ ap (outcome_image with_front) ends
 
-  module _ (p : Loaded Byte) (room : ℕ) (linked : IsLinked room p (loaded_image image)) (fuel : ℕ) (line : CallLine) where
-    -- the machine with the program's block
-    machine_ends : (place : ℕ) (stop : Stop) (k : ℕ) (at : Machine)
-        → run (machine_of p (loaded_image image) room linked thread) (4 * fuel) (machine_at p (loaded_image image) room linked thread place line) ≡ Ended stop k at
-        → (after : Machine) × (run (bare l thread) (4 * fuel) (machine_from place line) ≡ Ended stop k after)
-    unfolding thread_accesses
-    machine_ends place stop k at ends =
-        let fits = block_fits image kind unmoved still thread in
-        let front = fits.0 in
-        let none = fits.1.0 in (
-          after_of (behind front none) at,
-          ap (λ (own : List (Range ℕ)). run (bare l thread) (4 * fuel) (left (call_start plain_operations thread place line) (fresh_space plain_operations [] own))) fits.1.1
-              ∙ behind_run front none (stack_start thread) (fixed_of plain_operations (loaded_image image) thread)
-              (λ seen. pointer_word plain_operations thread ∷ fixed_at l seen)
-              (λ seen. ap (λ rest. pointer_word plain_operations thread ∷ rest) (fixed_is image kind unmoved still))
-              (4 * fuel) (machine_at p (loaded_image image) room linked thread place line)
-              ∙ ap (outcome_image (after_of (behind front none))) ends,
-        )
+      module _ (number : ℕ) (line : CallLine) (todo : List CallLine) (said : List Said) where
+        abbrev meant_after : Begun (Meant Event) → Thread (Meant Event) CallLine Event
+        meant_after b = after_look meant fuel todo said [] (0 ∷ []) b
 
-    abbrev meant_by : Option ℕ → List Said
-    meant_by found =
-        (after_look (meant_turns {E = Event} room p thread fuel) fuel [] [] [] (0 ∷ [])
-        (begun_call (marked_operations owner_at) thread line [] (meant_start p thread) found)).said
+        abbrev printed_after : Begun Runs → Thread Runs Line Event
+        printed_after b = after_look printed (4 * fuel) (told_from number todo) said [] (0 ∷ []) b
 
-    abbrev ran : Begun Runs → Thread Runs Line Event
-    ran begun = after_look (thread_turns l thread fuel) (4 * fuel) [] [] [] (0 ∷ []) begun
+        abbrev meant_begun : Option ℕ → Begun (Meant Event)
+        meant_begun found = begun_call (marked_operations owner_at) thread line [] s found
 
-    called : (place : ℕ) → AreClean (meant_by (Some place))
-        → HasSaid (meant_by (Some place)) (ran (begun_at plain_operations l (shows l thread) thread line.symbol line.a line.b line.c first (Some place)))
-    unfolding thread_turns
-    called place clean =
-        let alike = call_ends p (loaded_image image) room linked thread fuel place line clean in
-        let ends = machine_ends place alike.stop alike.steps alike.at alike.ends in
-        record {
-          held = holding first ends.0;
-          is = ap (after_run {L = Line} {E = Event} [] [] [] (0 ∷ [])) (never_asks l thread (4 * fuel) (holding first (machine_from place line)) alike.stop alike.steps ends.0 ends.1)
-              ∙ ap (λ (said : List Said). record { todo = []; phase = Idle (holding first ends.0); said = said; seen = [] }) (sym alike.says);
-        }
+        abbrev Alike : Thread (Meant Event) CallLine Event → Thread Runs Line Event → Type 0
+        Alike t t' = HasUnclean t.said ⊎ Stands t t'
 
-    says_by : (found : Option ℕ) → AreClean (meant_by found)
-        → HasSaid (meant_by found) (ran (begun_at plain_operations l (shows l thread) thread line.symbol line.a line.b line.c first found))
-    says_by None clean = record { held = first; is = refl }
-    says_by (Some place) clean = called place clean
+        ended : (place : ℕ) → EndsAlike p q room linked thread (run (meant_steps p q room linked thread fuel) fuel (meant_at p q room linked thread place line s))
+            (run (machine_of p q room linked thread) (4 * fuel) (machine_at p q room linked thread place line own))
+            → Stands (meant_after (meant_begun (Some place))) (printed_after (begun line (Some place)))
+        unfolding thread_turns
+        ended place alike =
+            let again = still_fits image kind unmoved still thread alike.at.memory.own alike.rests.shape in
+            let ran =
+            never_asks l thread (4 * fuel) (holding h (machine_from place line)) alike.stop alike.steps' (with_front alike.at)
+            (machine_ends place line alike.stop alike.steps' alike.at alike.ends)
+            ∙ ap
+            (λ (blocks : List (Range ℕ)).
+            Ended alike.stop alike.steps' (holding h (left alike.at.state (record { seen = []; stack = alike.at.memory.stack; own = blocks }))))
+            again.1 in
+            subst
+            (λ (out : Outcome (Meant Event)).
+            Stands (after_run todo said [] (0 ∷ []) out) (printed_after (begun line (Some place))))
+            (sym alike.meant)
+            (subst
+            (λ (out : Outcome Runs).
+            Stands (after_run todo said [] (0 ∷ []) (Ended alike.stop alike.steps alike.state))
+            (after_run (told_from number todo) said [] (0 ∷ []) out))
+            (sym ran)
+            (record {
+              number = number;
+              todo = refl;
+              said = refl;
+              s = alike.state;
+              phase = refl;
+              state = alike.at.state;
+              seen = [];
+              stack = alike.at.memory.stack;
+              bytes = again.0;
+              asked = asked;
+              phase' = refl;
+              own = alike.at.memory.own;
+              fits = again.1;
+              rests = alike.rests;
+            }))
 
-    -- the law of the line
-    pub line_says : AreClean (meant_said Event room p thread fuel line)
-        → HasSaid (meant_said Event room p thread fuel line)
-        (ran (begun_at plain_operations l (shows l thread) thread line.symbol line.a line.b line.c first (entry_in image line.symbol)))
-    unfolding meant_said meant_turns loaded_image
-    line_says clean =
-        subst (λ found. HasSaid (meant_by (p.entry line.symbol)) (ran (begun_at plain_operations l (shows l thread) thread line.symbol line.a line.b line.c first found)))
-        (sym (linked.entry line.symbol)) (says_by (p.entry line.symbol) clean)
+        called : (found : Option ℕ) → Alike (meant_after (meant_begun found)) (printed_after (begun line found))
+        called None = inr (record {
+          number = number;
+          todo = refl;
+          said = refl;
+          s = _;
+          phase = refl;
+          state = state;
+          seen = [];
+          stack = stack;
+          bytes = bytes;
+          asked = asked;
+          phase' = refl;
+          own = own;
+          fits = fits;
+          rests = record { same = rests.same; none = rests.none; shape = rests.shape };
+        })
+        called (Some place) =
+            (elim (call_ends p q room linked thread fuel place line s own rests)
+            as (λ k. Alike (meant_after (meant_begun (Some place))) (printed_after (begun line (Some place)))) [
+              | inl unclean ↦ inl (unclean_run todo said (run (meant_steps p q room linked thread fuel) fuel (meant_at p q room linked thread place line s)) unclean)
+              | inr alike ↦ inr (ended place alike)
+            ])
+
+  -- ** the turn
+
+  same_entry : (name : List ℕ) → entry_in image name ≡ p.entry name
+  unfolding loaded_image
+  same_entry name = linked.entry name
+
+  module _ (number : ℕ) (said : List Said) (old old' : List Event) (s : Meant Event) (state : State ℕ Bool) (seen : List Event) (stack bytes : List ℕ)
+      (asked : Option Asked) (own : List (Range ℕ)) (fits : front image kind unmoved still thread ++ own ≡ own_block image kind unmoved still thread bytes ∷ [])
+      (rests : Rests p q room linked thread s own) where
+    abbrev meant_thread : List CallLine → Thread (Meant Event) CallLine Event
+    meant_thread todo = record { todo = todo; phase = Idle s; said = said; seen = old }
+
+    abbrev printed_thread : List CallLine → Thread Runs Line Event
+    printed_thread todo = record {
+      todo = told_from number todo;
+      phase = Idle (holding_block state seen stack bytes asked);
+      said = said;
+      seen = old';
+    }
+
+    turned_by : (todo : List CallLine) → HasUnclean (turn meant (meant_thread todo) []).said
+        ⊎ Stands (turn meant (meant_thread todo) []) (turn printed (with_data [] (printed_thread todo)) [])
+    unfolding meant_turns thread_turns
+    turned_by [] = inr (record {
+      number = number;
+      todo = refl;
+      said = refl;
+      s = s;
+      phase = refl;
+      state = state;
+      seen = seen;
+      stack = stack;
+      bytes = bytes;
+      asked = asked;
+      phase' = refl;
+      own = own;
+      fits = fits;
+      rests = rests;
+    })
+    turned_by (line ∷ todo) =
+        subst
+        (λ (b : Begun Runs).
+        HasUnclean (turn meant (meant_thread (line ∷ todo)) []).said
+        ⊎ Stands (turn meant (meant_thread (line ∷ todo)) []) (after_look printed (4 * fuel) (told_from (suc number) todo) said [] (0 ∷ []) b))
+        (sym (begins state seen stack bytes asked number line ∙ ap (begun state seen stack bytes asked line) (same_entry line.symbol)))
+        (called state seen stack bytes asked own fits s rests (suc number) line todo said (p.entry line.symbol))
+
+  meant_is : (t : Thread (Meant Event) CallLine Event) (s : Meant Event) → t.phase ≡ Idle s
+      → t ≡ record { todo = t.todo; phase = Idle s; said = t.said; seen = t.seen }
+  meant_is t s e = ap (λ (phase : Phase (Meant Event)). record t { phase = phase }) e
+
+  printed_is : (t : Thread (Meant Event) CallLine Event) (t' : Thread Runs Line Event) (h : Stands t t')
+      → t' ≡ record {
+        todo = told_from h.number t.todo;
+        phase = Idle (holding_block h.state h.seen h.stack h.bytes h.asked);
+        said = t.said;
+        seen = t'.seen;
+      }
+  printed_is t t' h =
+      ap (λ (todo : List Line). record t' { todo = todo }) h.todo
+      ∙ ap (λ (phase : Phase Runs). record t' { todo = told_from h.number t.todo; phase = phase }) h.phase'
+      ∙ ap
+      (λ (said : List Said). record {
+        todo = told_from h.number t.todo;
+        phase = Idle (holding_block h.state h.seen h.stack h.bytes h.asked);
+        said = said;
+        seen = t'.seen;
+      }) h.said
+
+  -- the law of a turn
+  pub turned : (t : Thread (Meant Event) CallLine Event) (t' : Thread Runs Line Event) → Stands t t'
+      → HasUnclean (turn meant t []).said ⊎ Stands (turn meant t []) (turn printed (with_data [] t') [])
+  turned t t' h =
+      subst
+      (λ (u : Thread (Meant Event) CallLine Event).
+      HasUnclean (turn meant u []).said ⊎ Stands (turn meant u []) (turn printed (with_data [] t') []))
+      (sym (meant_is t h.s h.phase))
+      (subst
+      (λ (u' : Thread Runs Line Event).
+      HasUnclean (turn meant (record { todo = t.todo; phase = Idle h.s; said = t.said; seen = t.seen }) []).said
+      ⊎ Stands (turn meant (record { todo = t.todo; phase = Idle h.s; said = t.said; seen = t.seen }) [])
+      (turn printed (with_data [] u') []))
+      (sym (printed_is t t' h))
+      (turned_by h.number t.said t.seen t'.seen h.s h.state h.seen h.stack h.bytes h.asked h.own h.fits h.rests t.todo))
