@@ -85,13 +85,13 @@ module _ (image : Spelled) (kind : image.kind ≡ ExeFile) (unmoved : image.relo
     pub rests : Rests p q room linked thread s own
 
   module _ (state : State ℕ Bool) (seen : List Event) (stack bytes : List ℕ) (asked : Option Asked) where
-    abbrev h : Runs
-    h = holding_block state [] stack bytes asked
+    abbrev looking : Runs
+    looking = holding_block state [] stack bytes asked
 
     -- ** how a line begins
 
     abbrev begun : CallLine → Option ℕ → Begun Runs
-    begun line found = begun_at plain_operations l (shows l thread) thread line.symbol line.a line.b line.c h found
+    begun line found = begun_at plain_operations l (shows l thread) thread line.symbol line.a line.b line.c looking found
 
     begins : (number : ℕ) (line : CallLine)
         → begin_line plain_operations l (shows l thread) thread (record { number = number; told = told_call line }) []
@@ -101,7 +101,7 @@ module _ (image : Spelled) (kind : image.kind ≡ ExeFile) (unmoved : image.relo
     begins number line =
         ap (λ (g : Runs). begun_in plain_operations l (shows l thread) thread line.symbol line.a line.b line.c g (instance_at l [] 1))
         (looks_again image kind unmoved still thread state seen stack bytes asked)
-        ∙ ap (λ (x : Option Instance). begun_in plain_operations l (shows l thread) thread line.symbol line.a line.b line.c h x)
+        ∙ ap (λ (x : Option Instance). begun_in plain_operations l (shows l thread) thread line.symbol line.a line.b line.c looking x)
         (its_instance image)
         ∙ ap (begun line) (function_is image kind unmoved still line.symbol)
 
@@ -150,11 +150,11 @@ module _ (image : Spelled) (kind : image.kind ≡ ExeFile) (unmoved : image.relo
         ended place alike =
             let again = still_fits image kind unmoved still thread alike.at.memory.own alike.rests.shape in
             let ran =
-            never_asks l thread (4 * fuel) (holding h (machine_from place line)) alike.stop alike.steps' (with_front alike.at)
+            never_asks l thread (4 * fuel) (holding looking (machine_from place line)) alike.stop alike.steps' (with_front alike.at)
             (machine_ends place line alike.stop alike.steps' alike.at alike.ends)
             ∙ ap
             (λ (blocks : List (Range ℕ)).
-            Ended alike.stop alike.steps' (holding h (left alike.at.state (record { seen = []; stack = alike.at.memory.stack; own = blocks }))))
+            Ended alike.stop alike.steps' (holding looking (left alike.at.state (record { seen = []; stack = alike.at.memory.stack; own = blocks }))))
             again.1 in
             subst
             (λ (out : Outcome (Meant Event)).

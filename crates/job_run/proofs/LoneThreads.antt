@@ -68,11 +68,11 @@ module _ (image : Spelled) (kind : image.kind ≡ ExeFile) (unmoved : image.relo
     (still : NoneWritable (loaded_image image).fixed) (p : Loaded Byte) (room : ℕ)
     (linked : IsLinked room p (loaded_image image)) (fuel : ℕ) where
   module _ (thread : ℕ) where
-    abbrev x : Turns (Meant Event) CallLine Event
-    x = meant image kind unmoved still p room linked fuel thread
+    abbrev own_meant : Turns (Meant Event) CallLine Event
+    own_meant = meant image kind unmoved still p room linked fuel thread
 
-    abbrev pub y : Turns Runs Line Event
-    y = printed image kind unmoved still p room linked fuel thread
+    abbrev pub own_printed : Turns Runs Line Event
+    own_printed = printed image kind unmoved still p room linked fuel thread
 
     abbrev StandsNow : Thread (Meant Event) CallLine Event → Thread Runs Line Event → Type 0
     StandsNow = Stands image kind unmoved still p room linked fuel thread
@@ -81,7 +81,7 @@ module _ (image : Spelled) (kind : image.kind ≡ ExeFile) (unmoved : image.relo
     pub record StandsFor (lines : List CallLine) (left : ℕ) (t' : Thread Runs Line Event) : Type 0 where
       pub t : Thread (Meant Event) CallLine Event
       pub stands : StandsNow t t'
-      pub end : (at_end x t).said ≡ meant_alone room p fuel thread lines
+      pub end : (at_end own_meant t).said ≡ meant_alone room p fuel thread lines
       pub few : length t.todo ≤ left
 
     pub more_left : (lines : List CallLine) (left left' : ℕ) (t' : Thread Runs Line Event) → left ≤ left'
@@ -92,14 +92,14 @@ module _ (image : Spelled) (kind : image.kind ≡ ExeFile) (unmoved : image.relo
     -- a turn of it
     pub turn_for : (lines : List CallLine) (left : ℕ) (t' : Thread Runs Line Event)
         → AreClean (meant_alone room p fuel thread lines) → StandsFor lines left t'
-        → StandsFor lines (left - 1) (turn y (with_data [] t') [])
+        → StandsFor lines (left - 1) (turn own_printed (with_data [] t') [])
     turn_for lines left t' clean h =
-        let next = advances x h.t h.stands.s h.stands.phase in
+        let next = advances own_meant h.t h.stands.s h.stands.phase in
         (elim (turned image kind unmoved still p room linked fuel thread h.t t' h.stands)
-        as (λ k. StandsFor lines (left - 1) (turn y (with_data [] t') [])) [
+        as (λ k. StandsFor lines (left - 1) (turn own_printed (with_data [] t') [])) [
           | inl unclean ↦ absurd (clean (subst (λ (said : List Said). HasUnclean said) h.end (next.sticks unclean)))
           | inr stands ↦ record {
-            t = turn x h.t [];
+            t = turn own_meant h.t [];
             stands = stands;
             end = ap (λ (t : Thread (Meant Event) CallLine Event). t.said) next.same_end ∙ h.end;
             few = let few = h.few in let fewer = next.fewer in omega arith;
@@ -171,9 +171,9 @@ module _ (image : Spelled) (kind : image.kind ≡ ExeFile) (unmoved : image.relo
   -- a turn of thread j, which stands at place k of those from number i on
   pub record IsTurned (i j k : ℕ) (lines : List (List CallLine)) (left : ℕ → ℕ) (threads : List (Thread Runs Line Event))
       (t' : Thread Runs Line Event) : Type 0 where
-    pub all : AllFor i lines (less j left) (slice_set threads k (without_data (turn (y j) (with_data [] t') [])))
+    pub all : AllFor i lines (less j left) (slice_set threads k (without_data (turn (own_printed j) (with_data [] t') [])))
     pub event : event_of (event_by (loads image) j) t' [] ≡ None
-    pub none : data_in (owned_by (held_in (turn (y j) (with_data [] t') []).phase)) ≡ []
+    pub none : data_in (owned_by (held_in (turn (own_printed j) (with_data [] t') []).phase)) ≡ []
 
   pub turn_all : (i j k : ℕ) (lines : List (List CallLine)) (left : ℕ → ℕ) (threads : List (Thread Runs Line Event))
       (t' : Thread Runs Line Event) → j ≡ i + k → AreAllClean (each_meant room p fuel i lines) → AllFor i lines left threads
@@ -186,12 +186,12 @@ module _ (image : Spelled) (kind : image.kind ≡ ExeFile) (unmoved : image.relo
       let here : j ≡ i = omega arith in
       let stands : StandsFor i own (left i) t' = subst (StandsFor i own (left i)) same h.0 in
       let next = turn_for i own (left i) t' clean.0 stands in
-      let held = holds_none i next.t (turn (y i) (with_data [] t') []) next.stands in
+      let held = holds_none i next.t (turn (own_printed i) (with_data [] t') []) next.stands in
       subst (λ (n : ℕ). IsTurned i n zero (own ∷ lines) left (first ∷ threads) t') (sym here)
       (record {
         all = (
           subst (StandsFor i own (less i left i)) (sym held.without)
-              (more_left i own (left i - 1) (less i left i) (turn (y i) (with_data [] t') []) (less_own i left) next),
+              (more_left i own (left i - 1) (less i left i) (turn (own_printed i) (with_data [] t') []) (less_own i left) next),
           all_more (suc i) lines left (less i left) threads (λ n above. less_other n i left (λ e. omega arith)) h.1,
         );
         event = adds_none i stands.t t' stands.stands;
@@ -237,7 +237,7 @@ module _ (image : Spelled) (kind : image.kind ≡ ExeFile) (unmoved : image.relo
       let few = h.0.few in
       let here : t'.said ≡ meant_alone room p fuel i own =
       h.0.stands.said
-      ∙ ap (λ (t : Thread (Meant Event) CallLine Event). t.said) (sym (ended (x i) h.0.t (omega arith))) ∙ h.0.end in
+      ∙ ap (λ (t : Thread (Meant Event) CallLine Event). t.said) (sym (ended (own_meant i) h.0.t (omega arith))) ∙ h.0.end in
       let rest =
       all_said (suc i) lines left threads (λ k mine j is at. over (suc k) mine j (omega arith) at) h.1 in
       cc
