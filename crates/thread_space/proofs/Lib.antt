@@ -13,3 +13,4 @@ pub mod StartupBlocks
 pub mod Startups
 pub mod TurnsBegun
 pub mod TurnsTaken
+pub mod Turning

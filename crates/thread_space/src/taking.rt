@@ -1,7 +1,8 @@
 //! What a turn comes to behind its look.
 
-ghost use Rattle.std.specs.Prelude.{◌≡◌, ◌<◌, ◌+◌, ◌*◌, ◌^◌, IfOk};
+ghost use Rattle.std.specs.Prelude.{◌≡◌, ◌<◌, ◌+◌, ◌*◌, ◌^◌, IfOk, length};
 ghost use Rattle.thread_space.specs.Asking.{answer_to, ask_by};
+ghost use Rattle.thread_space.specs.Live.{HasStartups};
 ghost use Rattle.thread_space.specs.Taking.{BeginsTo, ResumesTo};
 
 use crate::asking::LineAnswer;
@@ -35,6 +36,8 @@ pub(crate) fn take_begin(
     requires images { names.now ≡ space.old.vector.images }
     requires fuel { fuel < 2 ^ 32 }
     requires room { space.old.vector.past.seen + 1 < 2 ^ 62 }
+    requires startups { HasStartups space.old.vector }
+    requires pieces { length space.old.pieces ≡ length space.old.vector.images.images + 1 }
     requires answer { answer ≡ answer_to space.old.vector.past (ask_by number line.now.image line.now.action) }
     ensures { IfOk result (λ taken. BeginsTo fuel (record { number = number; told = line.now }) space.old taken space.new) }
 {
