@@ -1,10 +1,13 @@
 pub mod BytesHeld
 pub mod Live
+pub mod Listing
 pub mod LoadKept
 pub mod Looks
+pub mod OwnBytes
 pub mod Owners
 pub mod PartBytes
 pub mod PiecesHeld
+pub mod ReadKept
 pub mod SharedIs
 pub mod Sought
 pub mod StartKept
