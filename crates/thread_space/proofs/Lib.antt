@@ -1,11 +1,14 @@
 pub mod BytesHeld
 pub mod Entries
 pub mod Live
+pub mod Listing
 pub mod LoadKept
 pub mod Looks
+pub mod OwnBytes
 pub mod Owners
 pub mod PartBytes
 pub mod PiecesHeld
+pub mod ReadKept
 pub mod SharedIs
 pub mod Sought
 pub mod StartKept
