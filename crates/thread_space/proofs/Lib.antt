@@ -1,1 +1,2 @@
 pub mod RunningOn
+pub mod SpaceRuns
