@@ -1,3 +1,4 @@
+pub mod Holding
 pub mod Kept
 pub mod Running
 pub mod Steps
