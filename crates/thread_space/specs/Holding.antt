@@ -7,7 +7,7 @@ use Rattle.thread_space.specs.declared.space.ThreadSpace.TheInside.{Inside}
 use Rattle.thread_space.specs.Kept.{Kept, live_in}
 
 abbrev pub kept_of : Inside → Kept
-kept_of s = record { vector = s.dtv; data = s.data; stack = s.stack.bytes }
+kept_of s = record { vector = s.dtv; pieces = s.data; stack = s.stack.bytes }
 
 pub record HoldsSpace (s : Inside) : Type 0 where
   pub modules : s.modules.now ≡ s.dtv.images

@@ -23,7 +23,7 @@ use Rattle.thread_vector.specs.Vectors.{Vector, held}
 -- the thread's vector, the data of all instances, and the stack's bytes
 pub record Kept : Type 0 where
   pub vector : Vector
-  pub data : List Piece
+  pub pieces : List Piece
   pub stack : List ℕ
 
 -- ---- what is written
@@ -56,7 +56,7 @@ fixed_in m p thread = pointer_word plain_operations thread ∷ fixed_of (job_loa
 
 abbrev pub ranges_of_kept : Kept → List (Range ℕ)
 ranges_of_kept k = stack_range (stack_start k.vector.thread) k.stack ∷
-    (ranges_in (owned_of k.vector k.data) ++ fixed_in k.vector.images k.vector.past k.vector.thread)
+    (ranges_in (owned_of k.vector k.pieces) ++ fixed_in k.vector.images k.vector.past k.vector.thread)
 
 unfoldable pub memory_of : Kept → AddressSpace ℕ
 memory_of k = record { ranges = ranges_of_kept k; fields = [] }
@@ -75,7 +75,16 @@ shape_of k = record {
   thread = k.vector.thread;
   images = k.vector.images;
   past = k.vector.past;
-  owners = owners_of (owned_of k.vector k.data);
+  owners = owners_of (owned_of k.vector k.pieces);
+}
+
+-- the shape of a thread that knows of no image
+abbrev pub shape_with : ℕ → Shape
+shape_with thread = record {
+  thread = thread;
+  images = record { kinds = []; images = [] };
+  past = record { seen = 0; made = 0; taken = 0; limit = 0; modules = [] };
+  owners = [];
 }
 
 -- ---- as the definitions of lines have it
@@ -87,7 +96,7 @@ HasSeen v seen = past (infos v.images) (last_offset v.images) seen ≡ v.past
 -- a thread that keeps this, with its machine in this state, where it saw these events
 abbrev pub held_at : List Event → State ℕ Bool → Option Asked → Kept → Runs
 held_at seen state asked k = record {
-  after = left state (record { seen = seen; stack = k.stack; own = ranges_in (owned_of k.vector k.data) });
-  owners = owners_of (owned_of k.vector k.data);
+  after = left state (record { seen = seen; stack = k.stack; own = ranges_in (owned_of k.vector k.pieces) });
+  owners = owners_of (owned_of k.vector k.pieces);
   asked = asked;
 }

@@ -1,4 +1,6 @@
 pub mod Holding
 pub mod Kept
+pub mod Places
 pub mod Running
 pub mod Steps
+pub mod Writing

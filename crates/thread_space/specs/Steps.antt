@@ -17,30 +17,30 @@ pub record IsNew (thread : ℕ) (m : JobImages) (k : Kept) : Type 0 where
   pub images : k.vector.images ≡ m
   pub past : k.vector.past ≡ start (infos m) (last_offset m)
   pub blocks : (i : ℕ) → held k.vector i ≡ fresh m k.vector.past i
-  pub data_is : k.data ≡ []
+  pub data_is : k.pieces ≡ []
 
 -- it looks: the vector sees these events, and nothing else has changed
 pub record Looks (old : Kept) (events : List Event) (new : Kept) : Type 0 where
   pub leaves : Leaves old.vector new.vector (after old.vector.past events)
   pub blocks : (i : ℕ) → held new.vector i ≡ caught_up old.vector new.vector.past i
-  pub data_is : new.data ≡ old.data
+  pub data_is : new.pieces ≡ old.pieces
   pub stack : new.stack ≡ old.stack
 
 -- the block of an instance is reached, and nothing else has changed
 pub record Reaches (old : Kept) (instance : ℕ) (new : Kept) : Type 0 where
   pub leaves : Leaves old.vector new.vector old.vector.past
   pub blocks : (i : ℕ) → held new.vector i ≡ reached old.vector instance i
-  pub data_is : new.data ≡ old.data
+  pub data_is : new.pieces ≡ old.pieces
   pub stack : new.stack ≡ old.stack
 
 -- the data are these, and nothing else has changed
 pub record HasData (old : Kept) (d : List Piece) (new : Kept) : Type 0 where
   pub vector : new.vector ≡ old.vector
-  pub data_is : new.data ≡ d
+  pub data_is : new.pieces ≡ d
   pub stack : new.stack ≡ old.stack
 
 -- the stack is as a call finds it, and nothing else has changed
 pub record HasFreshStack (old new : Kept) : Type 0 where
   pub vector : new.vector ≡ old.vector
-  pub data_is : new.data ≡ old.data
+  pub data_is : new.pieces ≡ old.pieces
   pub stack : new.stack ≡ fresh_stack plain_operations

@@ -1,29 +1,40 @@
 //! A thread's memory: its stack, the blocks of its vector, data, and what is loaded.
 
-ghost use Rattle.std.specs.Prelude.{◌≡◌, ◌≤◌, ◌<◌, ◌+◌, ◌^◌, ℕ, true, IfOk, OnOk, OnErr, length, option_map};
-ghost use Rattle.module_table.specs.Past.{is_legal, live};
-ghost use Rattle.thread_vector.specs.Vectors.{held, reached};
+ghost use Rattle.std.specs.Prelude.{◌≡◌, ◌≤◌, ◌<◌, ◌+◌, ◌^◌, ℕ, true, [], IfOk, OnOk, OnErr, length, option_map};
+ghost use Rattle.loaded_modules.specs.Images.{infos};
+ghost use Rattle.module_data.specs.Pieces.{loaded};
+ghost use Rattle.module_table.specs.Past.{is_legal, live, module_of};
+ghost use Rattle.thread_blocks.specs.Instances.{loaded_instance};
+ghost use Rattle.thread_space.specs.Kept.{live_in};
+ghost use Rattle.thread_space.specs.Steps.{HasData, HasFreshStack, IsNew, Looks, Reaches};
+ghost use Rattle.thread_vector.specs.Holding.{IsLeftBy};
+ghost use Rattle.std.specs.Vec.{vec_capacity};
 
+use crate::words::{pointer_word, stack_of};
 use guest_memory::GuestRange;
 use loaded_modules::{Instance, Modules};
 use module_data::Data;
 use module_table::Event;
 use std::alloc::{AllocError, Global};
 use std::marker::Model;
+use std::mem;
 use thread_vector::Dtv;
+
+/// One more than the most images that a job has.
+const NUMBERS: u32 = 65;
 
 /// What a thread may reach while it runs. Contracts see what it keeps: a `Kept`.
 #[derive(Drop)]
 pub struct ThreadSpace<'m> {
-    alloc: Global,
-    modules: &'m Modules,
-    dtv: Dtv<'m>,
-    data: Data,
-    stack: GuestRange<u8>,
+    pub(crate) alloc: Global,
+    pub(crate) modules: &'m Modules,
+    pub(crate) dtv: Dtv<'m>,
+    pub(crate) data: Data,
+    pub(crate) stack: GuestRange<u8>,
     /// The eight bytes at the thread pointer, which hold it.
-    pointer: GuestRange<u8>,
+    pub(crate) pointer: GuestRange<u8>,
     /// The live instances, in the order of their images.
-    live: Vec<Instance>,
+    pub(crate) live: Vec<Instance>,
 }
 
 impl<'m> Model for ThreadSpace<'m> {
@@ -36,4 +47,126 @@ impl<'m> Model for ThreadSpace<'m> {
     ghost view = { kept_of };
 
     ghost invariant = { HoldsSpace };
+}
+
+/// The live instances that a thread's vector has seen, in the order of their images. It takes no memory.
+fn list_live(dtv: &Dtv, room: Vec<Instance>) -> Vec<Instance>
+    requires empty { room.items ≡ [] }
+    requires enough { 65 ≤ vec_capacity room }
+    ensures { result.items ≡ live_in dtv.now.images dtv.now.past }
+{
+    let mut live = room;
+    for image in 0..NUMBERS {
+        if let Some(instance) = dtv.instance(image) {
+            live.push_reserved(instance);
+        }
+    }
+    live
+}
+
+impl<'m> ThreadSpace<'m> {
+    /// The memory of a thread, from 1 to 64, of a job with these images, before any event. It has the blocks of the
+    /// images that start with the program, a fresh stack, and no data.
+    pub fn new(
+        alloc: Global,
+        thread: u32,
+        modules: &'m Modules,
+    ) -> Result<ThreadSpace<'m>, AllocError>
+        requires low { 1 ≤ thread }
+        requires high { thread ≤ 64 }
+        ensures { IfOk result (IsNew thread modules.now) }
+    {
+        let dtv = Dtv::new(alloc, thread, modules)?;
+        let live = list_live(&dtv, Vec::with_capacity(alloc, NUMBERS as usize)?);
+        let stack = stack_of(alloc, thread)?;
+        let pointer = pointer_word(alloc, thread)?;
+        Ok(ThreadSpace {
+            alloc,
+            modules,
+            dtv,
+            data: Data::none(alloc),
+            stack,
+            pointer,
+            live,
+        })
+    }
+
+    /// The thread, from 1.
+    pub fn thread(&self) -> u32
+        ensures { result ≡ self.now.vector.thread }
+    {
+        self.dtv.thread()
+    }
+
+    /// How many events the thread has seen; what it has seen is always a history of the job's images.
+    pub fn seen(&self) -> u64
+        ensures value { result ≡ self.now.vector.past.seen }
+        ensures left { IsLeftBy self.now.vector.images self.now.vector.past }
+    {
+        self.dtv.seen()
+    }
+
+    /// Looks: takes the events that follow those that the thread has seen. After a refusal nothing is known of what is
+    /// kept.
+    pub fn look(&mut self, events: &[Event]) -> Result<(), AllocError>
+        requires legal { is_legal self.old.vector.past events.now ≡ true }
+        requires room { self.old.vector.past.seen + length events.now < 2 ^ 62 }
+        ensures ok { OnOk result (Looks self.old events.now self.new) }
+        ensures err { OnErr result (self.new ≡ self.old) }
+    {
+        let room = Vec::with_capacity(self.alloc, NUMBERS as usize)?;
+        self.dtv.catch_up(events);
+        self.live = list_live(&self.dtv, room);
+        Ok(())
+    }
+
+    /// Reaches the block of a live instance, as every access does: at the first, it is made. Where there is no memory
+    /// for it, nothing has changed.
+    pub fn reach(&mut self, instance: u32) -> Result<(), AllocError>
+        requires { live self.old.vector.past instance ≡ true }
+        ensures ok { OnOk result (Reaches self.old instance self.new) }
+        ensures err { OnErr result (self.new ≡ self.old) }
+    {
+        self.dtv.reach(instance)
+    }
+
+    /// Makes the stack as a call finds it.
+    pub fn renew_stack(&mut self) -> Result<(), AllocError>
+        ensures ok { OnOk result (HasFreshStack self.old self.new) }
+        ensures err { OnErr result (self.new ≡ self.old) }
+    {
+        self.stack = stack_of(self.alloc, self.dtv.thread())?;
+        Ok(())
+    }
+
+    /// Puts data in the place of those that are there.
+    pub fn put_data(&mut self, data: Data)
+        ensures { HasData self.old «data» self.new }
+    {
+        self.data = data;
+    }
+
+    /// Hands out the data, and leaves those of no image.
+    pub fn take_data(&mut self) -> Data
+        ensures value { result ≡ self.old.pieces }
+        ensures left { HasData self.old [] self.new }
+    {
+        mem::replace(&mut self.data, Data::none(self.alloc))
+    }
+
+    /// Loads an instance: its image's data become those that the loader leaves.
+    pub fn load(&mut self, instance: &Instance) -> Result<(), AllocError>
+        ensures ok { OnOk result
+            (HasData self.old (loaded self.old.vector.images instance.now self.old.pieces) self.new) }
+        ensures err { OnErr result (self.new ≡ self.old) }
+    {
+        self.data.load(self.alloc, self.modules, instance)
+    }
+
+    /// The live instance of an image.
+    pub fn instance(&self, image: u32) -> Option<Instance>
+        ensures { result ≡ loaded_instance (infos self.now.vector.images) image (module_of self.now.vector.past image) }
+    {
+        self.dtv.instance(image)
+    }
 }

@@ -1,0 +1,63 @@
+//! Live instances, and where their blocks lie.
+
+ghost use Rattle.std.specs.Prelude.{◌≡◌, ◌==◌, option_map};
+ghost use Rattle.std.specs.List.{find, list_any};
+ghost use Rattle.thread_blocks.specs.Instances.{block_start};
+ghost use Rattle.thread_blocks.specs.JobLoads.{job_loads};
+ghost use Rattle.thread_blocks.specs.RunTime.{has_words};
+ghost use Rattle.thread_space.specs.Kept.{live_in};
+ghost use Rattle.thread_vector.specs.Vectors.{held};
+
+use crate::space::ThreadSpace;
+use crate::words::thread_pointer;
+use loaded_modules::Instance;
+
+impl<'m> ThreadSpace<'m> {
+    /// The live instance of a number.
+    pub fn numbered(&self, number: u32) -> Option<Instance>
+        ensures { result ≡ find (λ x. x.number == number) (live_in self.now.vector.images self.now.vector.past) }
+    {
+        self.live
+            .iter()
+            .find(|x| x.number == number)
+            .copied()
+    }
+
+    /// The live instance with a module id.
+    pub fn with_id(&self, id: u64) -> Option<Instance>
+        ensures { result ≡ find (λ x. x.id == id) (live_in self.now.vector.images self.now.vector.past) }
+    {
+        self.live.iter().find(|x| x.id == id).copied()
+    }
+
+    /// Where the thread's block of an instance begins.
+    pub fn block_start(&self, instance: &Instance) -> u64
+        ensures { result ≡ block_start self.now.vector.thread instance.now }
+    {
+        let thread = self.dtv.thread();
+        match instance.offset {
+            Some(offset) => thread_pointer(thread).saturating_sub(offset),
+            None => u64::from(thread) * (1 << 40) + u64::from(instance.number) * (1 << 24),
+        }
+    }
+
+    /// The bytes of the block that the thread has of an instance.
+    pub fn block(&self, instance: u32) -> Option<&[u8]>
+        ensures { held self.now.vector instance ≡ option_map (λ b. b.now) result }
+    {
+        self.dtv.block(instance)
+    }
+
+    /// The live instance that asks the run time by two words at an address: the one of whose written parts one has them.
+    pub fn asker(&self, address: u64) -> Option<Instance>
+        ensures { result ≡ find (λ x. list_any (has_words address) ((job_loads self.now.vector.images).tables x))
+            (live_in self.now.vector.images self.now.vector.past) }
+    {
+        for instance in &self.live {
+            if self.has_words(instance, address) {
+                return Some(*instance);
+            }
+        }
+        None
+    }
+}

@@ -1,0 +1,80 @@
+//! A thread's stack, and the word at its thread pointer.
+
+ghost use Rattle.std.specs.Prelude.{◌≡◌, ◌≤◌, IfOk};
+ghost use Rattle.guest_arithmetic.specs.Plain.{plain_operations};
+ghost use Rattle.thread_blocks.specs.MachineTurns.{fresh_stack, pointer_of, pointer_word, stack_end, stack_start, word_bytes, zeros};
+ghost use Rattle.thread_blocks.specs.Spaces.{stack_range};
+
+use guest_machine::RETURN;
+use guest_memory::{GuestRange, Rights};
+use std::alloc::{AllocError, Global};
+
+const STACK_SIZE: u64 = 65_536;
+
+const CONSTANT: Rights = Rights {
+    readable: true,
+    writable: false,
+    runnable: false,
+};
+
+const VARIABLE: Rights = Rights {
+    readable: true,
+    writable: true,
+    runnable: false,
+};
+
+/// The thread pointer of a thread, from 1.
+pub(crate) fn thread_pointer(thread: u32) -> u64
+    requires { thread ≤ 64 }
+    ensures { result ≡ pointer_of thread }
+{
+    u64::from(thread) * (1 << 40) + (1 << 38)
+}
+
+/// Where a thread's stack ends.
+fn end_of_stack(thread: u32) -> u64
+    requires { thread ≤ 64 }
+    ensures { result ≡ stack_end thread }
+{
+    u64::from(thread) * (1 << 40) + (1 << 39)
+}
+
+/// So many zeros.
+#[tactic(auto, unfolding(thread_blocks::specs::MachineTurns::zeros))]
+fn zeros(alloc: Global, count: usize) -> Result<Vec<u8>, AllocError>
+    ensures { IfOk result (λ bytes. bytes.items ≡ zeros 0 count) }
+{
+    let mut bytes = Vec::new(alloc);
+    bytes.resize(count, 0)?;
+    Ok(bytes)
+}
+
+/// The eight bytes of a number.
+#[tactic(auto, unfolding(guest_arithmetic::specs::Plain::plain_operations))]
+fn bytes_of(alloc: Global, number: u64) -> Result<Vec<u8>, AllocError>
+    ensures { IfOk result (λ bytes. bytes.items ≡ word_bytes plain_operations number) }
+{
+    Vec::from_slice(alloc, &number.to_le_bytes())
+}
+
+/// The stack before a call: zeros, and in its last eight bytes the address to return to.
+#[tactic(auto, unfolding(guest_arithmetic::specs::Plain::plain_operations))]
+pub(crate) fn stack_of(alloc: Global, thread: u32) -> Result<GuestRange<u8>, AllocError>
+    requires { thread ≤ 64 }
+    ensures { IfOk result (λ range. range ≡ stack_range (stack_start thread) (fresh_stack plain_operations)) }
+{
+    let mut bytes = zeros(alloc, STACK_SIZE as usize - 8)?;
+    bytes.extend_from_slice(bytes_of(alloc, RETURN)?.as_slice())?;
+    let start = end_of_stack(thread) - STACK_SIZE;
+    Ok(GuestRange::new(start, bytes, VARIABLE))
+}
+
+/// The eight bytes at the thread pointer, which hold it and can only be read.
+pub(crate) fn pointer_word(alloc: Global, thread: u32) -> Result<GuestRange<u8>, AllocError>
+    requires { thread ≤ 64 }
+    ensures { IfOk result (λ range. range ≡ pointer_word plain_operations thread) }
+{
+    let pointer = thread_pointer(thread);
+    let bytes = bytes_of(alloc, pointer)?;
+    Ok(GuestRange::new(pointer, bytes, CONSTANT))
+}
