@@ -1,2 +1,10 @@
+pub mod BytesHeld
+pub mod Live
+pub mod LoadKept
+pub mod Looks
+pub mod Owners
+pub mod PiecesHeld
 pub mod RunningOn
+pub mod SharedIs
 pub mod SpaceRuns
+pub mod Startups
