@@ -1,6 +1,6 @@
 -- What a thread's code keeps, as the ranges that its machine finds: its stack, its blocks, data, and behind them what no
 -- thread writes. Blocks and data stand in the order of the images of their instances, as a look leaves them.
-use Rattle.std.specs.Prelude.{◌≡◌, ℕ, Bool, List, [], ◌∷◌, ◌++◌, Option}
+use Rattle.std.specs.Prelude.{◌≡◌, ℕ, Bool, List, [], ◌∷◌, ◌++◌, length, Option}
 use Rattle.std.specs.List.{flat_map}
 use Rattle.guest_arithmetic.specs.Plain.{plain_operations}
 use Rattle.guest_operands.specs.declared.state.State.{State}
@@ -69,6 +69,8 @@ pub record Shape : Type 0 where
   pub past : Past
   -- whose the written ranges are, in their order
   pub owners : List Owner
+  -- of how many images there are data
+  pub count : ℕ
 
 unfoldable pub shape_of : Kept → Shape
 shape_of k = record {
@@ -76,6 +78,7 @@ shape_of k = record {
   images = k.vector.images;
   past = k.vector.past;
   owners = owners_of (owned_of k.vector k.pieces);
+  count = length k.pieces;
 }
 
 -- the shape of a thread that knows of no image
@@ -85,6 +88,7 @@ shape_with thread = record {
   images = record { kinds = []; images = [] };
   past = record { seen = 0; made = 0; taken = 0; limit = 0; modules = [] };
   owners = [];
+  count = 0;
 }
 
 -- ---- as the definitions of lines have it

@@ -1,8 +1,8 @@
 //! Live instances, and where their blocks lie.
 
-ghost use Rattle.std.specs.Prelude.{◌≡◌, ◌==◌, option_map};
+ghost use Rattle.std.specs.Prelude.{◌≡◌, ◌≤◌, ◌+◌, ◌^◌, ◌==◌, IfSome, option_map};
 ghost use Rattle.std.specs.List.{find, list_any};
-ghost use Rattle.thread_blocks.specs.Instances.{block_start};
+ghost use Rattle.thread_blocks.specs.Instances.{block_start, is_startup_id};
 ghost use Rattle.thread_blocks.specs.JobLoads.{job_loads};
 ghost use Rattle.thread_blocks.specs.RunTime.{has_words};
 ghost use Rattle.thread_space.specs.Kept.{live_in};
@@ -30,6 +30,19 @@ impl<'m> ThreadSpace<'m> {
         self.live.iter().find(|x| x.id == id).copied()
     }
 
+    /// Whether a module id is that of an image that starts with the program: they have the first ids.
+    pub fn is_startup(&self, id: u64) -> bool
+        ensures { result ≡ is_startup_id (job_loads self.now.vector.images) id }
+    {
+        let count = self
+            .modules
+            .infos()
+            .iter()
+            .filter(|info| !info.late)
+            .count();
+        id != 0 && id <= count as u64
+    }
+
     /// Where the thread's block of an instance begins.
     pub fn block_start(&self, instance: &Instance) -> u64
         ensures { result ≡ block_start self.now.vector.thread instance.now }
@@ -50,8 +63,9 @@ impl<'m> ThreadSpace<'m> {
 
     /// The live instance that asks the run time by two words at an address: the one of whose written parts one has them.
     pub fn asker(&self, address: u64) -> Option<Instance>
-        ensures { result ≡ find (λ x. list_any (has_words address) ((job_loads self.now.vector.images).tables x))
+        ensures value { result ≡ find (λ x. list_any (has_words address) ((job_loads self.now.vector.images).tables x))
             (live_in self.now.vector.images self.now.vector.past) }
+        ensures low { IfSome result (λ x. address + 16 ≤ 2 ^ 64) }
     {
         for instance in &self.live {
             if self.has_words(instance, address) {

@@ -5,9 +5,11 @@ mod blocks;
 mod bytes;
 mod finding;
 mod parts;
+mod running;
 mod shared;
 mod space;
 mod words;
 
 pub use bytes::Outline;
+pub use running::{Ran, Resumed, answer_asked, run_on};
 pub use space::ThreadSpace;

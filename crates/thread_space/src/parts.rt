@@ -1,6 +1,6 @@
 //! The parts of images, as instances have them.
 
-ghost use Rattle.std.specs.Prelude.{◌≡◌};
+ghost use Rattle.std.specs.Prelude.{◌≡◌, ◌≤◌, ◌+◌, ◌^◌, true};
 ghost use Rattle.std.specs.List.{list_any};
 ghost use Rattle.guest_operands.specs.Ranges.{byte_in};
 ghost use Rattle.thread_blocks.specs.Instances.{fixed_of};
@@ -15,7 +15,8 @@ use loaded_modules::Instance;
 impl<'m> ThreadSpace<'m> {
     /// Whether one of the written parts of an instance has the 16 bytes from an address on.
     pub(crate) fn has_words(&self, instance: &Instance, address: u64) -> bool
-        ensures { result ≡ list_any (has_words address) ((job_loads self.now.vector.images).tables instance.now) }
+        ensures value { result ≡ list_any (has_words address) ((job_loads self.now.vector.images).tables instance.now) }
+        ensures low { result ≡ true → address + 16 ≤ 2 ^ 64 }
     {
         false
     }

@@ -93,7 +93,8 @@ impl<'m> ThreadSpace<'m> {
 
     /// The thread, from 1.
     pub fn thread(&self) -> u32
-        ensures { result ≡ self.now.vector.thread }
+        ensures value { result ≡ self.now.vector.thread }
+        ensures high { result ≤ 64 }
     {
         self.dtv.thread()
     }
