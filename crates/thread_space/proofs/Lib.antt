@@ -7,4 +7,6 @@ pub mod PiecesHeld
 pub mod RunningOn
 pub mod SharedIs
 pub mod SpaceRuns
+pub mod StartKept
+pub mod StartupBlocks
 pub mod Startups
