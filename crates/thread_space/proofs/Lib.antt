@@ -3,9 +3,11 @@ pub mod Live
 pub mod LoadKept
 pub mod Looks
 pub mod Owners
+pub mod PartBytes
 pub mod PiecesHeld
 pub mod RunningOn
 pub mod SharedIs
+pub mod Sought
 pub mod SpaceRuns
 pub mod StartKept
 pub mod StartupBlocks

@@ -1,6 +1,7 @@
 pub mod Holding
 pub mod Kept
 pub mod Live
+pub mod OfParts
 pub mod Places
 pub mod Running
 pub mod Steps

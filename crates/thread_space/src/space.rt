@@ -165,6 +165,7 @@ impl<'m> ThreadSpace<'m> {
     }
 
     /// The live instance of an image.
+    #[tactic(auto, unfolding(loaded_modules::specs::Images::static_offset))]
     pub fn instance(&self, image: u32) -> Option<Instance>
         ensures { result ≡ loaded_instance (infos self.now.vector.images) image (module_of self.now.vector.past image) }
     {
