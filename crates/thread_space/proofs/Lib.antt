@@ -5,7 +5,10 @@ pub mod Looks
 pub mod Owners
 pub mod PartBytes
 pub mod PiecesHeld
+pub mod Rests
+pub mod RunTurns
 pub mod RunningOn
+pub mod SameThread
 pub mod SharedIs
 pub mod Sought
 pub mod SpaceRuns

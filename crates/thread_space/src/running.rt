@@ -1,6 +1,6 @@
 //! Runs of a thread's machine between two looks.
 
-ghost use Rattle.std.specs.Prelude.{◌≡◌, ◌≤◌, ◌<◌, ◌+◌, ◌-◌, ◌^◌, ◌&&◌, IfOk, IfSome, OnErr, nat_lt, ok_or};
+ghost use Rattle.std.specs.Prelude.{◌≡◌, ◌≤◌, ◌<◌, ◌+◌, ◌-◌, ◌*◌, ◌^◌, ◌&&◌, IfOk, IfSome, OnErr, nat_lt, ok_or};
 ghost use Rattle.guest_arithmetic.specs.Plain.{plain_operations};
 ghost use Rattle.guest_machine.specs.Machine.{Answers, answer_of};
 ghost use Rattle.guest_machine.specs.Run.{is_look};
