@@ -1,3 +1,5 @@
+pub mod Answering
+pub mod AtOnce
 pub mod BytesHeld
 pub mod Live
 pub mod LoadKept
