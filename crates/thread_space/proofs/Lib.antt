@@ -8,6 +8,7 @@ pub mod Owners
 pub mod PartBytes
 pub mod PiecesHeld
 pub mod Rests
+pub mod Resuming
 pub mod RunTurns
 pub mod RunningOn
 pub mod SameThread
