@@ -1,12 +1,15 @@
 pub mod Answering
 pub mod AtOnce
 pub mod BytesHeld
+pub mod Listing
 pub mod Live
 pub mod LoadKept
 pub mod Looks
+pub mod OwnBytes
 pub mod Owners
 pub mod PartBytes
 pub mod PiecesHeld
+pub mod ReadKept
 pub mod Rests
 pub mod Resuming
 pub mod RunTurns

@@ -1,10 +1,10 @@
 //! The parts of images, as instances have them.
 
-ghost use Rattle.std.specs.Prelude.{◌≡◌, ◌≤◌, ◌+◌, ◌^◌, true, Some, nat_le, slice_get};
+ghost use Rattle.std.specs.Prelude.{◌≡◌, ◌+◌, Some, length, nat_le, option_map, slice_get};
 ghost use Rattle.std.specs.List.{filter, list_any};
 ghost use Rattle.guest_operands.specs.Ranges.{byte_in};
 ghost use Rattle.loaded_modules.specs.Images.{image_at};
-ghost use Rattle.loaded_modules.specs.Loader.{loaded_part};
+ghost use Rattle.loaded_modules.specs.Loader.{bias_of, loaded_part};
 ghost use Rattle.thread_blocks.specs.Instances.{fixed_of};
 ghost use Rattle.thread_blocks.specs.JobLoads.{job_loads, parts_from, written_from};
 ghost use Rattle.thread_blocks.specs.Loading.{is_code, is_loaders, is_written};
@@ -15,7 +15,7 @@ ghost use Rattle.thread_space.specs.Places.{behind};
 
 use crate::space::ThreadSpace;
 use guest_machine::Access;
-use image_file::{Image, PartClass, image_is_spelled};
+use image_file::{Image, PartClass};
 use loaded_modules::Instance;
 
 /// How many bytes a question to the run time has: two words.
@@ -70,6 +70,27 @@ fn has_room(size: u64, at: u64) -> bool
 }
 
 impl<'m> ThreadSpace<'m> {
+    /// The image that an instance is of.
+    fn image_of(&self, instance: &Instance) -> Option<&Image>
+        ensures { option_map (λ image. image.now) result ≡ image_at self.now.vector.images instance.now.image }
+    {
+        self.modules.image(instance.image)
+    }
+
+    /// How far the image of an instance is moved.
+    fn bias(&self, instance: &Instance) -> u64
+        ensures { result ≡ bias_of self.now.vector.images instance.now }
+    {
+        self.modules.bias(instance)
+    }
+
+    /// How many bytes a part of an instance has.
+    fn part_size(&self, instance: &Instance, number: u64) -> u64
+        ensures { result ≡ length (loaded_part self.now.vector.images instance.now number) }
+    {
+        self.modules.part_size(instance, number)
+    }
+
     /// The byte at an offset in a part of an instance as the loader leaves it.
     fn loaded_byte(&self, instance: &Instance, number: u64, at: u64) -> Option<u8>
         ensures { result ≡ slice_get (loaded_part self.now.vector.images instance.now number) at }
@@ -101,8 +122,10 @@ impl<'m> ThreadSpace<'m> {
         if !allows_fixed(access, part.class, is_loaders(image.got(), number)) {
             return None;
         }
-        let at = behind_part(part.address, self.modules.bias(instance), place)?;
-        self.loaded_byte(instance, number, at)
+        match behind_part(part.address, self.bias(instance), place) {
+            Some(at) => self.loaded_byte(instance, number, at),
+            None => None,
+        }
     }
 
     /// The same of all parts of its image.
@@ -129,7 +152,7 @@ impl<'m> ThreadSpace<'m> {
     fn part_byte(&self, instance: &Instance, access: Access, place: u64) -> Option<u8>
         ensures { result ≡ byte_in access ((job_loads self.now.vector.images).fixed instance.now) place }
     {
-        match self.modules.image(instance.image) {
+        match self.image_of(instance) {
             Some(image) => self.byte_of_image(image, instance, access, place),
             None => None,
         }
@@ -166,8 +189,8 @@ impl<'m> ThreadSpace<'m> {
         if !is_written(part.class) {
             return false;
         }
-        match behind_part(part.address, self.modules.bias(instance), address) {
-            Some(at) => has_room(self.modules.part_size(instance, number), at),
+        match behind_part(part.address, self.bias(instance), address) {
+            Some(at) => has_room(self.part_size(instance, number), at),
             None => false,
         }
     }
@@ -188,14 +211,10 @@ impl<'m> ThreadSpace<'m> {
 
     /// Whether one of the written parts of an instance has the 16 bytes from an address on.
     pub(crate) fn has_words(&self, instance: &Instance, address: u64) -> bool
-        ensures value { result ≡ list_any (has_words address) ((job_loads self.now.vector.images).tables instance.now) }
-        ensures low { result ≡ true → address + 16 ≤ 2 ^ 64 }
+        ensures { result ≡ list_any (has_words address) ((job_loads self.now.vector.images).tables instance.now) }
     {
-        match self.modules.image(instance.image) {
-            Some(image) => {
-                image_is_spelled(image);
-                self.image_has_words(image, instance, address)
-            }
+        match self.image_of(instance) {
+            Some(image) => self.image_has_words(image, instance, address),
             None => false,
         }
     }
