@@ -4,10 +4,12 @@
 mod blocks;
 mod bytes;
 mod finding;
+mod names;
 mod parts;
 mod shared;
 mod space;
 mod words;
 
 pub use bytes::Outline;
+pub use names::JobNames;
 pub use space::ThreadSpace;
