@@ -1,1 +1,11 @@
+pub mod BytesHeld
 pub mod Entries
+pub mod Live
+pub mod LoadKept
+pub mod Looks
+pub mod Owners
+pub mod PiecesHeld
+pub mod SharedIs
+pub mod StartKept
+pub mod StartupBlocks
+pub mod Startups

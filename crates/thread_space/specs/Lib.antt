@@ -1,5 +1,6 @@
 pub mod Holding
 pub mod Kept
+pub mod Live
 pub mod Places
 pub mod Steps
 pub mod Writing
