@@ -7,15 +7,17 @@ use Rattle.std.proofs.lemmas.Bool.{cases_eq, eq-eqb, eqb-true, ne_eqb}
 use Rattle.std.proofs.lemmas.List.Elements.{All-head, All-tail, All-weaker}
 use Rattle.guest_machine.specs.Ranges.{Range}
 use Rattle.loaded_modules.specs.declared.instance.Instance.{Instance}
-use Rattle.loaded_modules.specs.Images.{JobImages, infos}
+use Rattle.loaded_modules.specs.Images.{JobImages}
+use Rattle.module_data.specs.Pieces.{Piece, data_of}
 use Rattle.module_table.specs.Laws.{HaveOwnNumbers}
 use Rattle.module_table.specs.Past.{Past}
 use Rattle.thread_blocks.specs.Held.{Owned, block_bytes, block_with, data_bytes, data_with}
 use Rattle.thread_blocks.specs.JobWorlds.{blocks_in}
-use Rattle.thread_space.specs.Kept.{blocks_of, live_in}
+use Rattle.thread_blocks.specs.JobLoads.{job_loads}
+use Rattle.thread_space.specs.Kept.{blocks_of, live_in, owned_of, shared_of}
 use Rattle.thread_space.specs.Live.{IsLive}
 use Rattle.thread_space.proofs.Live.{all_live, live_any, none_live, same_number}
-use Rattle.thread_space.proofs.Owners.{data-append, no_block_bytes}
+use Rattle.thread_space.proofs.Owners.{data-append, data_behind, no_block_bytes, shared_no_blocks}
 use Rattle.thread_vector.specs.Vectors.{Vector, held}
 use Rattle.thread_vector.proofs.Stepping.{held_none}
 
@@ -50,6 +52,9 @@ bytes_held v ys n none =
     by_any : (b : Bool) → list_any (λ (x : Instance). x.number == n) (live_in v.images v.past) ≡ b → (if b then held v n else None) ≡ held v n
     by_any true e = refl
     by_any false e = sym (held_none v n (none_live v.images v.past n e))
+
+pub bytes_kept : (v : Vector) (d : List Piece) (n : ℕ) → block_bytes n (owned_of v d) ≡ held v n
+bytes_kept v d n = bytes_held v (shared_of v.images v.past d) n (shared_no_blocks v.images v.past d)
 
 -- ** data
 
@@ -86,23 +91,30 @@ module _ (shared : Instance → Option (Range ℕ)) (g : Instance → Option (Li
     found_again (Some range) None = refl
     found_again (Some range) (Some bytes) = rw (eq-eqb x.number x.number refl) refl
 
+    data_alone : (m : JobImages) (p : Past) → HaveOwnNumbers p → IsLive m p x
+        → data_bytes x.number (flat_map (λ y. data_with y (shared y) (g y)) (live_in m p)) ≡ data_bytes x.number (data_with x (shared x) (g x))
+    data_alone m p own live =
+        rw (
+          data_found (live_in m p) (All-weaker (IsLive m p) (λ y. y.number ≡ x.number → y ≡ x) (λ y here same. same_number m p x y own live here same) (live_in m p) (all_live m p)),
+          live_any m p x live,
+        ) refl
+
     -- the data of a live instance, where those of all that are live stand
     pub data_kept : (m : JobImages) (p : Past) → HaveOwnNumbers p → IsLive m p x
         → data_with x (shared x) (data_bytes x.number (flat_map (λ y. data_with y (shared y) (g y)) (live_in m p)))
         ≡ data_with x (shared x) (g x)
-    data_kept m p own live =
-        rw (data_found (live_in m p) (All-weaker (IsLive m p) (λ y. y.number ≡ x.number → y ≡ x) (λ y here same. same_number m p x y own live here same) (live_in m p) (all_live m p)),
-        live_any m p x live) (found_again (shared x) (g x))
+    data_kept m p own live = rw (data_alone m p own live) (found_again (shared x) (g x))
 
-    -- those of one that is not among them
-    pub data_none : (m : JobImages) (p : Past) → ((y : Instance) → IsLive m p y → y.number ≡ x.number → ⊥)
-        → data_bytes x.number (flat_map (λ y. data_with y (shared y) (g y)) (live_in m p)) ≡ None
-    data_none m p apart = all_other (live_in m p) (All-weaker (IsLive m p) (λ y. y.number ≡ x.number → ⊥) apart (live_in m p) (all_live m p))
-      where
-        all_other : (xs : List Instance) → All (λ y. y.number ≡ x.number → ⊥) xs
-            → data_bytes x.number (flat_map (λ y. data_with y (shared y) (g y)) xs) ≡ None
-        all_other [] all = refl
-        all_other (y ∷ xs) all =
-            data-append x.number (data_with y (shared y) (g y)) (flat_map (λ y. data_with y (shared y) (g y)) xs)
-            ∙ rw (data_other x.number y (shared y) (g y) (ne_eqb y.number x.number (All-head (λ y. y.number ≡ x.number → ⊥) y xs all)),
-            all_other xs (All-tail (λ y. y.number ≡ x.number → ⊥) y xs all)) refl
+-- the data of a live instance that a thread keeps
+pub data_held : (v : Vector) (d : List Piece) (x : Instance) (range : Range ℕ) → HaveOwnNumbers v.past → IsLive v.images v.past x
+    → (job_loads v.images).shared x ≡ Some range → data_bytes x.number (owned_of v d) ≡ data_of d x.number x.image
+unfolding shared_of
+data_held v d x range own live has =
+    data_behind v x.number (shared_of v.images v.past d)
+    ∙ data_alone (λ y. (job_loads v.images).shared y) (λ y. data_of d y.number y.image) x v.images v.past own live
+    ∙ ap (λ o. data_bytes x.number (data_with x o (data_of d x.number x.image))) has
+    ∙ by_bytes (data_of d x.number x.image)
+  where
+    by_bytes : (bytes : Option (List ℕ)) → data_bytes x.number (data_with x (Some range) bytes) ≡ bytes
+    by_bytes None = refl
+    by_bytes (Some bytes) = rw (eq-eqb x.number x.number refl) refl

@@ -1,5 +1,5 @@
 -- Live instances, and the images that they are of.
-use Rattle.std.proofs.Common.{◌≡◌, ◌≢◌, ◌∙◌, ◌+◌, ◌<◌, ◌==◌, ◌&&◌, ◌||◌, ◌++◌, ℕ, zero, suc, Bool, true, false, List, [], ◌∷◌, length, get_or, Option, Some, None, refl, sym, ap, subst, arith, inl, inr}
+use Rattle.std.proofs.Common.{◌≡◌, ◌∙◌, ◌+◌, ◌<◌, ◌==◌, ◌&&◌, ◌||◌, ◌++◌, ℕ, suc, Bool, true, false, List, [], ◌∷◌, length, Option, Some, None, refl, sym, ap, subst, arith, inl, inr}
 use Rattle.std.specs.Prelude.{if◌then◌else◌, option_to_list, slice_index_or, take, All}
 use Rattle.std.specs.List.{find, flat_map, list_any}
 use Rattle.std.proofs.lemmas.Bool.{and_from, both_ways, cases_Bool, cases_eq, cases_lt, eq-eqb, false≢true}
@@ -35,6 +35,12 @@ pub loaded_live : (m : JobImages) (p : Past) (image : ℕ) → is_loaded (module
 unfolding static_offset
 loaded_live m p image loaded = rw loaded refl
 
+-- the two ways to say which instance an image is loaded as
+pub instance_is : (m : JobImages) (p : Past) (image : ℕ)
+    → loaded_instance (infos m) image (module_of p image) ≡ (if is_loaded (module_of p image) then Some (loaded_as m p image) else None)
+unfolding static_offset
+instance_is m p image = refl
+
 -- an instance of an image is live
 pub found_live : (m : JobImages) (p : Past) (image : ℕ) (x : Instance)
     → loaded_instance (infos m) image (module_of p image) ≡ Some x → IsLive m p x × (x.image ≡ image)
@@ -43,6 +49,10 @@ found_live m p image x found =
     let same : loaded_as m p image ≡ x = (cond_some (is_loaded (module_of p image)) (loaded_as m p image) x found).1 in
     let at : image ≡ x.image = ap (λ (y : Instance). y.image) same in
     (subst (λ j. loaded_instance (infos m) j (module_of p j) ≡ Some x) at found, sym at)
+
+pub known_live : (m : JobImages) (p : Past) (image : ℕ) (x : Instance)
+    → (if is_loaded (module_of p image) then Some (loaded_as m p image) else None) ≡ Some x → IsLive m p x × (x.image ≡ image)
+known_live m p image x known = found_live m p image x (instance_is m p image ∙ known)
 
 -- a live instance is known by its number
 pub same_number : (m : JobImages) (p : Past) (x y : Instance) → HaveOwnNumbers p → IsLive m p x → IsLive m p y → y.number ≡ x.number → y ≡ x
@@ -104,9 +114,9 @@ any_from xs number i [] = refl
 any_from xs number i (m ∷ ms) =
     let rest = any_from xs number (suc i) ms in
     elim (is_loaded m) as (λ b. list_any (λ (x : Instance). x.number == number)
-        (option_to_list (if b then Some (record { image = i; number = m.instance; id = m.id; offset = if m.info.late then m.offset else Some (startup_end (take i xs) 0) }) else None)
-        ++ instances_from xs (suc i) ms)
-        ≡ ((b && (m.instance == number)) || list_any (has_instance number) ms)) [
+    (option_to_list (if b then Some (record { image = i; number = m.instance; id = m.id; offset = if m.info.late then m.offset else Some (startup_end (take i xs) 0) }) else None)
+    ++ instances_from xs (suc i) ms)
+    ≡ ((b && (m.instance == number)) || list_any (has_instance number) ms)) [
       | true ↦ ap (λ b. (m.instance == number) || b) rest
       | false ↦ rest
     ]

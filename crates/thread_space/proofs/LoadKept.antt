@@ -1,5 +1,5 @@
 -- An event that loads leaves what the code keeps once it has filled the data of the new instance.
-use Rattle.std.proofs.Common.{◌≡◌, ◌≢◌, ◌∙◌, ◌+◌, ◌<◌, ◌≤◌, ◌==◌, ◌++◌, ℕ, Bool, true, false, List, [], ◌∷◌, length, Option, Some, None, refl, sym, ap, subst, arith, inl, inr}
+use Rattle.std.proofs.Common.{◌≡◌, ◌≢◌, ◌∙◌, ◌+◌, ◌<◌, ◌≤◌, ◌==◌, ◌++◌, ℕ, true, false, List, [], ◌∷◌, length, Option, Some, None, refl, sym, ap, arith, inl, inr}
 use Rattle.std.specs.Prelude.{is_some}
 use Rattle.std.specs.List.{flat_map}
 use Rattle.std.specs.Option.{option_or}
@@ -8,22 +8,20 @@ use Rattle.guest_machine.specs.Ranges.{Range}
 use Rattle.image_file.specs.Spelled.{Spelled}
 use Rattle.link_faults.specs.declared.image_kind.ImageKind.{ImageKind}
 use Rattle.loaded_modules.specs.declared.instance.Instance.{Instance}
-use Rattle.loaded_modules.specs.Images.{JobImages, infos, infos_of, last_offset}
-use Rattle.loaded_modules.specs.Loader.{fresh_block}
+use Rattle.loaded_modules.specs.Images.{JobImages, infos, infos_of}
 use Rattle.module_data.specs.Parts.{fresh_data}
 use Rattle.module_data.specs.Pieces.{Piece, data_of, loaded}
 use Rattle.module_table.specs.declared.events.Event.{Event}
 use Rattle.module_table.specs.declared.modules.Module.{Module}
 use Rattle.module_table.specs.Modules.{is_loaded}
-use Rattle.module_table.specs.Past.{Past, accepts, after_one, module_of, new_instance}
-use Rattle.module_table.proofs.Steps.{loaded_within, numbered_at}
+use Rattle.module_table.specs.Past.{accepts, after_one, module_of, new_instance}
+use Rattle.module_table.proofs.Steps.{loaded_within}
 use Rattle.thread_blocks.specs.Held.{Owned, data_bytes, data_with, fresh_data as data_if, loaded_at, looked_at}
-use Rattle.thread_blocks.specs.Instances.{Loads}
 use Rattle.thread_blocks.specs.JobLoads.{job_loads}
 use Rattle.thread_space.specs.Kept.{HasSeen, blocks_of, live_in, owned_of, shared_of}
 use Rattle.thread_space.specs.Live.{HasStartups, IsLive}
 use Rattle.thread_space.proofs.BytesHeld.{bytes_held, data_kept}
-use Rattle.thread_space.proofs.Live.{live_is, live_number, loaded_live, same_number}
+use Rattle.thread_space.proofs.Live.{live_is, loaded_live, same_number}
 use Rattle.thread_space.proofs.Looks.{held_each, look_block, none_fresh, or_none, seen_live}
 use Rattle.thread_space.proofs.Owners.{data_behind, no_blocks, shared_no_blocks}
 use Rattle.thread_space.proofs.PiecesHeld.{loaded_other, loaded_own}
@@ -119,8 +117,12 @@ module _ (old new : Vector) (d : List Piece) (seen : List Event) (e : Event) (im
         (data_loaded new.images made (data_bytes made.number (blocks_of new ++ looked_data)))
     | inr apart ↦
         let other = other_lived y live apart in
-        rw (ne_eqb y.number made.number apart, none_fresh ((job_loads new.images).shared y), data_behind new y.number looked_data,
-        loaded_other new.images made d y.number y.image other.1)
+        rw (
+          ne_eqb y.number made.number apart,
+          none_fresh ((job_loads new.images).shared y),
+          data_behind new y.number looked_data,
+          loaded_other new.images made d y.number y.image other.1,
+        )
         (data_kept (λ z. (job_loads new.images).shared z) lasting y new.images new.past (facts new.images new.past left).own live
         ∙ data_kept (λ z. (job_loads new.images).shared z) (λ z. data_of d z.number z.image) y new.images old.past (facts old.images old.past was).own other.0)
   ]

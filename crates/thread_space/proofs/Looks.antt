@@ -1,5 +1,5 @@
 -- A look, and a block that is reached, leave what the code keeps then.
-use Rattle.std.proofs.Common.{◌≡◌, ◌≢◌, ◌∙◌, ◌==◌, ◌≤◌, ◌++◌, ℕ, Bool, true, false, List, [], ◌∷◌, Option, Some, None, refl, sym, ap, subst, inl, inr}
+use Rattle.std.proofs.Common.{◌≡◌, ◌∙◌, ◌==◌, ◌≤◌, ◌++◌, ℕ, Bool, true, false, List, Option, Some, None, refl, sym, ap, subst, inl, inr}
 use Rattle.std.specs.Prelude.{◌⊎◌, if◌then◌else◌, is_some}
 use Rattle.std.specs.List.{flat_map}
 use Rattle.std.specs.Option.{option_or}
@@ -10,13 +10,12 @@ use Rattle.loaded_modules.specs.Images.{JobImages, infos, last_offset}
 use Rattle.loaded_modules.specs.Loader.{fresh_block}
 use Rattle.module_data.specs.Pieces.{Piece, data_of}
 use Rattle.module_table.specs.declared.events.Event.{Event}
-use Rattle.module_table.specs.declared.modules.Module.{Module}
 use Rattle.module_table.specs.Laws.{HaveOwnNumbers}
 use Rattle.module_table.specs.Modules.{is_loaded}
 use Rattle.module_table.specs.Past.{Past, accepts, after_one, module_of, past, startup_count}
 use Rattle.module_table.proofs.Refusals.{accepts_close, held as closed_held}
 use Rattle.thread_blocks.specs.Held.{Owned, block_after, block_bytes, block_with, data_after, data_bytes, data_with, fresh_data, fresh_if, held_of, looked_at, reached_at}
-use Rattle.thread_blocks.specs.Instances.{Loads, instances, instances_in, loaded_instance}
+use Rattle.thread_blocks.specs.Instances.{instances, instances_in}
 use Rattle.thread_blocks.specs.JobLoads.{job_loads}
 use Rattle.thread_space.specs.Kept.{HasSeen, blocks_of, live_in, owned_of, shared_of}
 use Rattle.thread_space.specs.Live.{HasStartups, IsLive}
@@ -26,7 +25,7 @@ use Rattle.thread_space.proofs.Owners.{data_behind, shared_no_blocks}
 use Rattle.thread_space.proofs.Startups.{startups_stay_in}
 use Rattle.thread_vector.specs.Holding.{IsLeftBy}
 use Rattle.thread_vector.specs.Vectors.{Vector, caught_up, fresh, held, loaded_as, reached}
-use Rattle.thread_vector.proofs.Events.{Keeps, Stays, shape_of}
+use Rattle.thread_vector.proofs.Events.{Keeps, shape_of}
 use Rattle.thread_vector.proofs.Facts.{facts}
 use Rattle.thread_vector.proofs.Stepping.{caught_at, fresh_at}
 
@@ -39,18 +38,20 @@ seen_live m p seen is = ap (instances_in (infos m)) is
 
 module _ (v : Vector) (g : Instance → Option (List ℕ)) (reaches loads : Instance → Bool) (xs : List (Owned ℕ)) where
   pub held_each : ((x : Instance) → IsLive v.images v.past x
-          → option_or (block_bytes x.number xs) (fresh_if (reaches x) (fresh_block v.images x)) ≡ held v x.number)
+      → option_or (block_bytes x.number xs) (fresh_if (reaches x) (fresh_block v.images x)) ≡ held v x.number)
       → ((x : Instance) → IsLive v.images v.past x
-          → data_with x ((job_loads v.images).shared x) (option_or (fresh_data ((job_loads v.images).shared x) (loads x)) (data_bytes x.number xs))
-          ≡ data_with x ((job_loads v.images).shared x) (g x))
+      → data_with x ((job_loads v.images).shared x) (option_or (fresh_data ((job_loads v.images).shared x) (loads x)) (data_bytes x.number xs))
+      ≡ data_with x ((job_loads v.images).shared x) (g x))
       → held_of (job_loads v.images) v.thread reaches loads (live_in v.images v.past) xs
       ≡ blocks_of v ++ flat_map (λ y. data_with y ((job_loads v.images).shared y) (g y)) (live_in v.images v.past)
   unfolding job_loads blocks_of
   held_each blocks pieces =
-      rw (each_same (IsLive v.images v.past) (block_after (job_loads v.images) v.thread reaches xs) (λ (x : Instance). block_with v.thread x (held v x.number))
-      (live_in v.images v.past) (all_live v.images v.past) (λ x live. ap (block_with v.thread x) (blocks x live)),
-      each_same (IsLive v.images v.past) (data_after (job_loads v.images) loads xs) (λ (x : Instance). data_with x ((job_loads v.images).shared x) (g x))
-      (live_in v.images v.past) (all_live v.images v.past) pieces) refl
+      rw (
+        each_same (IsLive v.images v.past) (block_after (job_loads v.images) v.thread reaches xs) (λ (x : Instance). block_with v.thread x (held v x.number))
+            (live_in v.images v.past) (all_live v.images v.past) (λ x live. ap (block_with v.thread x) (blocks x live)),
+        each_same (IsLive v.images v.past) (data_after (job_loads v.images) loads xs) (λ (x : Instance). data_with x ((job_loads v.images).shared x) (g x))
+            (live_in v.images v.past) (all_live v.images v.past) pieces,
+      ) refl
 
 -- no data are fresh
 pub none_fresh : (range : Option (Range ℕ)) → fresh_data range false ≡ None

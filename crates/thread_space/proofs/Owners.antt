@@ -1,7 +1,7 @@
 -- Ranges with their owners: blocks and data apart.
-use Rattle.std.proofs.Common.{◌≡◌, ◌∙◌, ◌==◌, ◌++◌, ℕ, Bool, true, false, List, [], ◌∷◌, Option, Some, None, refl, ap, inl, inr, append-nil}
+use Rattle.std.proofs.Common.{◌≡◌, ◌∙◌, ◌++◌, ℕ, Bool, List, [], ◌∷◌, Option, Some, None, refl, ap, inl, inr, append-nil}
 use Rattle.std.specs.Prelude.{not, option_map}
-use Rattle.std.specs.List.{filter, find, flat_map}
+use Rattle.std.specs.List.{filter, flat_map}
 use Rattle.std.specs.Option.{option_or}
 use Rattle.std.proofs.lemmas.Bool.{cases_Bool}
 use Rattle.std.proofs.lemmas.List.Elements.{filter-append}
@@ -11,9 +11,9 @@ use Rattle.loaded_modules.specs.declared.instance.Instance.{Instance}
 use Rattle.loaded_modules.specs.Images.{JobImages}
 use Rattle.module_data.specs.Pieces.{Piece}
 use Rattle.module_table.specs.Past.{Past}
-use Rattle.thread_blocks.specs.Held.{Kind, Block, Data, Owned, Owner, block_bytes, block_with, data_bytes, data_with, is_block, is_block_of, is_data_of, owned, owners_of, ranges_in}
+use Rattle.thread_blocks.specs.Held.{Owned, block_bytes, block_with, data_bytes, data_with, is_block, is_block_of, is_data_of, owned, owners_of, ranges_in}
 use Rattle.thread_blocks.specs.JobWorlds.{blocks_in, data_in as data_among}
-use Rattle.thread_space.specs.Kept.{blocks_of, data_in, live_in, owned_of, shared_of}
+use Rattle.thread_space.specs.Kept.{blocks_of, live_in, owned_of, shared_of}
 use Rattle.thread_vector.specs.Vectors.{Vector, held}
 
 -- ranges and their owners, put together again

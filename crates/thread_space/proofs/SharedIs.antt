@@ -1,6 +1,6 @@
 -- The data that a thread finds of an instance are those that the code keeps: the first part that programs write.
-use Rattle.std.proofs.Common.{◌≡◌, ◌∙◌, ◌+◌, ◌&&◌, ℕ, zero, suc, Bool, true, false, not, List, [], ◌∷◌, length, Option, Some, None, refl, sym, ap, subst, inl, inr, add-one, arith, cond}
-use Rattle.std.specs.Prelude.{if◌then◌else◌, option_and_then, option_map, slice_get}
+use Rattle.std.proofs.Common.{◌≡◌, ◌∙◌, ◌+◌, ◌&&◌, ℕ, suc, Bool, true, false, not, List, [], ◌∷◌, length, Option, Some, None, refl, sym, ap, subst, inl, inr, add-one, arith, cond}
+use Rattle.std.specs.Prelude.{option_and_then, option_map, slice_get}
 use Rattle.std.specs.List.{find, range_with_len}
 use Rattle.std.proofs.lemmas.Bool.{cases_Bool, true≢false}
 use Rattle.std.proofs.lemmas.Option.{same_Some, none-some}
@@ -12,7 +12,7 @@ use Rattle.loaded_modules.specs.declared.instance.Instance.{Instance}
 use Rattle.loaded_modules.specs.Images.{JobImages, image_at}
 use Rattle.loaded_modules.specs.Laws.{start_of}
 use Rattle.loaded_modules.specs.Loader.{bias, loaded_part, part_bytes}
-use Rattle.module_data.specs.Parts.{bytes_at, data_in, data_number, data_part, data_start, fresh_data, is_data_part, is_number, is_writable, start_in}
+use Rattle.module_data.specs.Parts.{bytes_at, data_part, data_start, fresh_data, is_data_part, is_number, is_writable, start_in}
 use Rattle.thread_blocks.specs.JobLoads.{instance_part, job_loads, parts_from, parts_of}
 use Rattle.thread_blocks.specs.Loading.{is_loaders, is_written}
 
@@ -100,7 +100,7 @@ module _ (m : JobImages) (x : Instance) where
   at_number : (image : Spelled) (number : Option ℕ) → image_at m x.image ≡ Some image → data_part image ≡ number
       → option_and_then (at m x image) number
       ≡ option_map (λ start. written_range (bytes_at m x number) start)
-          (option_map (start_of image.kind x.number) (option_and_then (slice_get image.parts) number))
+      (option_map (start_of image.kind x.number) (option_and_then (slice_get image.parts) number))
   unfolding at data_part
   at_number image None is here = refl
   at_number image (Some i) is here =

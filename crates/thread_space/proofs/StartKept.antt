@@ -1,22 +1,18 @@
 -- What a thread holds before its first line, and the data as the program begins.
-use Rattle.std.proofs.Common.{◌≡◌, ◌∙◌, ◌+◌, ◌-◌, ◌<◌, ◌≤◌, ◌++◌, ℕ, zero, suc, Bool, true, false, List, [], ◌∷◌, length, get_or, Option, Some, None, refl, sym, ap, subst, append-nil, arith}
-use Rattle.std.specs.Prelude.{if◌then◌else◌, is_some, not, slice_get}
+use Rattle.std.proofs.Common.{◌≡◌, ◌∙◌, ◌-◌, ◌≤◌, ◌++◌, ℕ, zero, suc, true, false, List, [], ◌∷◌, length, Option, Some, None, refl, sym, ap, subst, append-nil, arith}
+use Rattle.std.specs.Prelude.{is_some, not}
 use Rattle.std.specs.List.{flat_map}
-use Rattle.std.specs.Option.{option_or}
 use Rattle.std.proofs.lemmas.Option.{slice_get-get_or}
 use Rattle.guest_machine.specs.Ranges.{Range}
 use Rattle.loaded_modules.specs.declared.instance.Instance.{Instance}
 use Rattle.loaded_modules.specs.Images.{JobImages, infos, last_offset, static_offset}
 use Rattle.loaded_modules.specs.Loader.{fresh_block}
 use Rattle.module_data.specs.Parts.{fresh_data}
-use Rattle.module_data.specs.Pieces.{Piece, data_of, first_data, first_instance, starts, starts_at}
-use Rattle.module_table.specs.declared.modules.ImageInfo.{ImageInfo}
-use Rattle.module_table.specs.declared.modules.Module.{Module}
-use Rattle.module_table.specs.Modules.{AreInfos, is_loaded, no_module}
-use Rattle.module_table.specs.Past.{Past, first_modules, module_of, past, start, startup_count}
+use Rattle.module_data.specs.Pieces.{data_of, first_data, first_instance, starts, starts_at}
+use Rattle.module_table.specs.Modules.{AreInfos, no_module}
+use Rattle.module_table.specs.Past.{past, start, startup_count}
 use Rattle.module_table.proofs.Starting.{own_number}
-use Rattle.thread_blocks.specs.Held.{Owned, block_bytes, data_after, data_bytes, data_with, fresh_if, looked_at}
-use Rattle.thread_blocks.specs.Instances.{Loads}
+use Rattle.thread_blocks.specs.Held.{Owned, data_after, data_with, fresh_if, looked_at}
 use Rattle.thread_blocks.specs.JobLoads.{job_loads}
 use Rattle.thread_blocks.specs.JobWorlds.{first_data as first_shared_data}
 use Rattle.thread_space.specs.Kept.{blocks_of, data_in, live_in, shared_of}
@@ -27,7 +23,7 @@ use Rattle.thread_space.proofs.Looks.{held_each, none_fresh, seen_live}
 use Rattle.thread_space.proofs.PiecesHeld.{first_own}
 use Rattle.thread_space.proofs.Startups.{early_info, startup_image, stay_start}
 use Rattle.thread_vector.specs.Holding.{IsLeftBy}
-use Rattle.thread_vector.specs.Vectors.{Vector, fresh, held, loaded_as}
+use Rattle.thread_vector.specs.Vectors.{Vector, fresh, held}
 use Rattle.thread_vector.proofs.Facts.{facts}
 use Rattle.thread_vector.proofs.Stepping.{fresh_at}
 

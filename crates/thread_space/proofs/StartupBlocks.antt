@@ -1,9 +1,9 @@
 -- The blocks of the images that start with the program stay.
-use Rattle.std.proofs.Common.{◌≡◌, ◌∙◌, ◌==◌, ◌≤◌, ℕ, true, List, Option, Some, None, refl, sym, ap, subst, inl, inr}
+use Rattle.std.proofs.Common.{◌≡◌, ◌∙◌, ◌≤◌, ℕ, true, List, Option, Some, None, refl, sym, ap, subst, inl, inr}
 use Rattle.std.specs.Prelude.{if◌then◌else◌, is_some}
 use Rattle.std.specs.Option.{option_or}
 use Rattle.std.proofs.lemmas.Bool.{cases_eq, eq-eqb, ne_eqb}
-use Rattle.loaded_modules.specs.Images.{JobImages, infos}
+use Rattle.loaded_modules.specs.Images.{infos}
 use Rattle.loaded_modules.specs.Loader.{fresh_block}
 use Rattle.module_table.specs.Past.{module_of, startup_count}
 use Rattle.thread_space.specs.Live.{HasStartups}

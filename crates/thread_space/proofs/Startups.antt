@@ -1,18 +1,17 @@
 -- The images that start with the program stay, each as the instance of its number.
-use Rattle.std.proofs.Common.{◌≡◌, ◌∙◌, ◌+◌, ◌<◌, ◌≤◌, ◌^◌, ℕ, zero, suc, true, false, cond, List, [], ◌∷◌, length, get_or, Option, Some, None, refl, sym, ap, subst, arith, inl, inr}
+use Rattle.std.proofs.Common.{◌≡◌, ◌∙◌, ◌+◌, ◌<◌, ◌≤◌, ◌^◌, ℕ, zero, suc, true, false, cond, List, [], ◌∷◌, length, get_or, Some, None, refl, sym, ap, subst, arith, inl, inr}
 use Rattle.std.specs.Prelude.{not, AllPairs}
-use Rattle.std.proofs.lemmas.Bool.{both_ways, cases_Bool, cases_eq, cases_lt, false_from_ne_true, lt-ltb, ltb-true, true≢false}
+use Rattle.std.proofs.lemmas.Bool.{both_ways, cases_Bool, cases_eq, false_from_ne_true, lt-ltb}
 use Rattle.std.proofs.lemmas.List.{get_or-set_same}
 use Rattle.std.proofs.lemmas.List.Sums.{count_by-le-length, sum_by-cons}
 use Rattle.std.proofs.lemmas.Option.{none-some}
 use Rattle.loaded_modules.specs.Images.{JobImages, infos, last_offset}
-use Rattle.module_table.specs.declared.events.CloseRefusal.{CloseRefusal}
 use Rattle.module_table.specs.declared.events.CloseRefusal.TheVariants.{Permanent}
 use Rattle.module_table.specs.declared.events.Event.{Event}
 use Rattle.module_table.specs.declared.modules.ImageInfo.{ImageInfo}
 use Rattle.module_table.specs.declared.modules.Module.{Module}
 use Rattle.module_table.specs.Modules.{AreInfos, is_loaded, no_module}
-use Rattle.module_table.specs.Past.{Past, accepts, after, after_one, close_refusal, first_module, first_modules, image_of, is_legal, module_of, opened, past, released, retained, start, startup_count}
+use Rattle.module_table.specs.Past.{Past, accepts, after, after_one, close_refusal, first_module, first_modules, image_of, is_legal, module_of, opened, past, retained, start, startup_count}
 use Rattle.module_table.specs.Tables.{IsPast}
 use Rattle.module_table.proofs.Along.{past_step}
 use Rattle.module_table.proofs.LawsOfNumbers.{others_stay}
@@ -21,7 +20,7 @@ use Rattle.module_table.proofs.Starting.{own_number, past_start}
 use Rattle.module_table.proofs.Steps.{loaded_within}
 use Rattle.std.proofs.lemmas.Bool.{and_parts}
 use Rattle.thread_vector.specs.Holding.{IsLeftBy}
-use Rattle.thread_vector.proofs.Events.{Keeps, Loads, shape_of}
+use Rattle.thread_vector.proofs.Events.{shape_of}
 use Rattle.thread_vector.proofs.Facts.{facts, image_is}
 
 pub record StartupsStay (xs : List ImageInfo) (p : Past) : Type 0 where
