@@ -1,5 +1,5 @@
 -- How contracts see a thread's memory, and what the code keeps of it besides.
-use Rattle.std.specs.Prelude.{◌≡◌}
+use Rattle.std.specs.Prelude.{◌≡◌, ◌≤◌}
 use Rattle.guest_arithmetic.specs.Plain.{plain_operations}
 use Rattle.thread_blocks.specs.MachineTurns.{pointer_word, stack_start}
 use Rattle.thread_blocks.specs.Spaces.{stack_range}
@@ -11,6 +11,7 @@ kept_of s = record { vector = s.dtv; pieces = s.data; stack = s.stack.bytes }
 
 pub record HoldsSpace (s : Inside) : Type 0 where
   pub modules : s.modules.now ≡ s.dtv.images
+  pub high : s.dtv.thread ≤ 64
   pub stack : s.stack ≡ stack_range (stack_start s.dtv.thread) s.stack.bytes
   pub pointer : s.pointer ≡ pointer_word plain_operations s.dtv.thread
   pub live : s.live.items ≡ live_in s.dtv.images s.dtv.past

@@ -11,6 +11,7 @@ use Rattle.module_table.specs.declared.events.Closed.{Closed}
 use Rattle.module_table.specs.declared.events.Event.{Event}
 use Rattle.module_table.specs.declared.events.OpenRefusal.{OpenRefusal}
 use Rattle.module_table.specs.declared.events.Opened.{Opened}
+use Rattle.module_data.specs.Pieces.{loaded}
 use Rattle.module_table.specs.History.{unless}
 use Rattle.module_table.specs.Modules.{is_loaded}
 use Rattle.module_table.specs.Past.{Past, after, after_one, close_refusal, module_of, open_refusal, opened, released}
@@ -30,7 +31,8 @@ use Rattle.thread_space.specs.declared.lines.LineAnswer.TheVariants.{Opened as O
 use Rattle.thread_space.specs.declared.lines.Started.{Started}
 use Rattle.thread_space.specs.declared.lines.Started.TheVariants.{Says, Calls}
 use Rattle.thread_space.specs.Kept.{HasSeen, Kept, held_at}
-use Rattle.thread_space.specs.Live.{HasStartups, IsLive}
+use Rattle.thread_space.specs.Live.{HasStartups}
+use Rattle.thread_space.specs.Steps.{HasData}
 
 -- ---- what a registry answers to an open or a close of a thread that has seen all
 
@@ -132,6 +134,12 @@ pub record Sees (old : Kept) (e : Event) (new : Kept) : Type 0 where
   pub blocks : (i : ℕ) → held new.vector i ≡ caught_up old.vector new.vector.past i
   pub pieces : new.pieces ≡ old.pieces
   pub stack : new.stack ≡ old.stack
+
+-- a load, where the image was not loaded before, fills the data of its instance
+abbrev pub LoadsNew : Bool → Option Instance → Kept → Kept → Type 0
+LoadsNew true x old new = new ≡ old
+LoadsNew false None old new = new ≡ old
+LoadsNew false (Some x) old new = HasData old (loaded old.vector.images x old.pieces) new
 
 -- it reaches the block of a live instance
 pub record ReachesLive (old : Kept) (x : Instance) (new : Kept) : Type 0 where

@@ -4,6 +4,7 @@
 mod blocks;
 mod bytes;
 mod finding;
+mod lines;
 mod names;
 mod parts;
 mod shared;
@@ -11,5 +12,6 @@ mod space;
 mod words;
 
 pub use bytes::Outline;
+pub use lines::{LineAnswer, Started, begin};
 pub use names::JobNames;
 pub use space::ThreadSpace;

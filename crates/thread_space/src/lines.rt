@@ -2,12 +2,14 @@
 
 ghost use Rattle.std.specs.Prelude.{◌≡◌, ◌≤◌, ◌<◌, ◌+◌, ◌-◌, ◌^◌, ℕ, List, true, None, Some, IfOk, OnOk, length, option_map};
 ghost use Rattle.guest_arithmetic.specs.Plain.{plain_operations};
+ghost use Rattle.loaded_modules.specs.Images.{infos};
 ghost use Rattle.module_table.specs.Past.{accepts, close_refusal, module_of, open_refusal, opened};
+ghost use Rattle.thread_blocks.specs.Instances.{loaded_instance};
 ghost use Rattle.thread_blocks.specs.JobLoads.{job_loads};
 ghost use Rattle.thread_blocks.specs.Lines.{refused_close, refused_open};
 ghost use Rattle.thread_blocks.specs.MachineTurns.{call_start};
 ghost use Rattle.thread_space.specs.Live.{HasStartups, IsLive};
-ghost use Rattle.thread_space.specs.Starting.{Begins, BeginsCall, BeginsClose, BeginsOpen, BeginsPeek, IsAnswered, ReachesLive, Sees, Starts};
+ghost use Rattle.thread_space.specs.Starting.{Begins, BeginsCall, BeginsClose, BeginsOpen, BeginsPeek, IsAnswered, LoadsNew, ReachesLive, Sees, Starts};
 ghost use Rattle.thread_space.specs.Starting.{close_answer_at, open_answer_at, part_shown, shown_of};
 ghost use Rattle.thread_vector.specs.Vectors.{held};
 
@@ -118,6 +120,8 @@ fn refused_close(refusal: CloseRefusal) -> LineRefusal
 
 /// Fills the data of an image that was not loaded before.
 fn load_new(space: &mut ThreadSpace, was: bool, image: u32) -> Result<(), AllocError>
+    ensures { OnOk result (LoadsNew was
+        (loaded_instance (infos space.old.vector.images) image (module_of space.old.vector.past image)) space.old space.new) }
 {
     if !was {
         if let Some(instance) = space.instance(image) {

@@ -93,9 +93,15 @@ impl<'m> ThreadSpace<'m> {
 
     /// The thread, from 1.
     pub fn thread(&self) -> u32
-        ensures { result ≡ self.now.vector.thread }
+        ensures value { result ≡ self.now.vector.thread }
+        ensures high { result ≤ 64 }
     {
         self.dtv.thread()
+    }
+
+    /// Where it takes memory.
+    pub(crate) fn alloc(&self) -> Global {
+        self.alloc
     }
 
     /// How many events the thread has seen; what it has seen is always a history of the job's images.
