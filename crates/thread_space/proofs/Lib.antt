@@ -1,5 +1,7 @@
 pub mod BytesHeld
 pub mod Entries
+pub mod HeldWith
+pub mod LinesBegun
 pub mod Live
 pub mod LoadKept
 pub mod Looks

@@ -1,6 +1,6 @@
 //! What the first look of a thread's line comes to.
 
-ghost use Rattle.std.specs.Prelude.{◌≡◌, ◌≤◌, ◌<◌, ◌+◌, ◌-◌, ◌^◌, ℕ, List, true, None, Some, IfOk, OnOk, length, option_map};
+ghost use Rattle.std.specs.Prelude.{◌≡◌, ◌≤◌, ◌<◌, ◌+◌, ◌-◌, ◌^◌, ℕ, List, true, None, Some, Result, IfOk, OnOk, length};
 ghost use Rattle.guest_arithmetic.specs.Plain.{plain_operations};
 ghost use Rattle.loaded_modules.specs.Images.{infos};
 ghost use Rattle.module_table.specs.Past.{accepts, close_refusal, module_of, open_refusal, opened};
