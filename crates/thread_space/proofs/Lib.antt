@@ -5,6 +5,7 @@ pub mod LinesBegun
 pub mod Live
 pub mod LoadKept
 pub mod Looks
+pub mod OpensBegun
 pub mod Owners
 pub mod PiecesHeld
 pub mod SharedIs
