@@ -1,24 +1,30 @@
 -- What a thread holds, from what is written and by whom.
-use Rattle.std.proofs.Common.{◌≡◌, ◌∙◌, ℕ, Bool, List, [], ◌∷◌, ◌++◌, Option, Some, None, length, refl, sym, ap, subst}
-use Rattle.std.specs.Prelude.{option_to_list}
+use Rattle.std.proofs.Common.{◌≡◌, ◌∙◌, ℕ, Bool, true, List, [], ◌∷◌, ◌++◌, Option, Some, None, length, refl, sym, ap, subst}
+use Rattle.std.specs.Prelude.{is_some, option_to_list}
 use Rattle.std.proofs.lemmas.List.Sums.{fold-append}
 use Rattle.guest_operands.specs.declared.state.State.{State}
 use Rattle.guest_operands.specs.Use.{left}
 use Rattle.loaded_modules.specs.declared.instance.Instance.{Instance}
 use Rattle.loaded_modules.specs.Images.{JobImages, infos, last_offset}
 use Rattle.module_table.specs.declared.events.Event.{Event}
-use Rattle.module_table.specs.Past.{after, after_one, module_of, past, start}
+use Rattle.module_table.specs.Past.{Past, after, after_one, live, module_of, past, start}
 use Rattle.thread_blocks.specs.declared.asked.Asked.{Asked}
 use Rattle.thread_blocks.specs.Held.{Owned, block_bytes, loaded, loaded_at, looked, looked_at, owned_by, owners_of, ranges_in, reached, reached_at}
 use Rattle.thread_blocks.specs.Instances.{Loads, instance_at, left_by, loaded_instance}
 use Rattle.thread_blocks.specs.JobLoads.{job_loads}
 use Rattle.thread_blocks.specs.RunTime.{Runs}
 use Rattle.thread_blocks.specs.Turns.{with_event, with_last}
+use Rattle.thread_vector.specs.Holding.{IsLeftBy}
 use Rattle.thread_vector.specs.Vectors.{Vector, held}
+use Rattle.thread_vector.proofs.Facts.{facts}
 use Rattle.thread_space.specs.Kept.{HasSeen, Kept, held_at, owned_of}
-use Rattle.thread_space.specs.Starting.{IsSameThread}
+use Rattle.thread_space.specs.Live.{IsLive}
+use Rattle.thread_space.specs.Starting.{IsSameThread, ReachesLive, Sees}
+use Rattle.thread_space.specs.Steps.{Looks, Reaches}
 use Rattle.thread_space.proofs.BytesHeld.{bytes_kept}
+use Rattle.thread_space.proofs.Live.{live_image}
 use Rattle.thread_space.proofs.Owners.{owned_again}
+use Rattle.thread_space.proofs.StartupBlocks.{look_startups, reach_startups}
 
 -- ** what is held
 
@@ -67,3 +73,40 @@ seen_with old new (Some e) seen images is has_seen =
 
 pub same_thread : (k : Kept) → IsSameThread k k
 same_thread k = record { thread = refl; images = refl; startups = λ has. has; pieces = refl }
+
+-- ** steps
+
+pub live_found : (m : JobImages) (p : Past) (x : Instance) → IsLeftBy m p → IsLive m p x → live p x.number ≡ true
+unfolding live
+live_found m p x left is = ap is_some (live_image m p x (facts m p left).own is)
+
+pub reaches_live : (old new : Kept) (x : Instance) → Reaches old x.number new → IsLeftBy new.vector.images new.vector.past → ReachesLive old x new
+reaches_live old new x reaches left = record {
+  same = record {
+    thread = reaches.leaves.thread;
+    images = reaches.leaves.images;
+    startups = reach_startups old.vector new.vector x.number reaches.leaves.images reaches.blocks;
+    pieces = ap length reaches.data_is;
+  };
+  past = reaches.leaves.past;
+  left = left;
+  blocks = reaches.blocks;
+  pieces = reaches.data_is;
+  stack = reaches.stack;
+}
+
+pub sees_own : (old new : Kept) (e : Event) → Looks old (e ∷ []) new → IsLeftBy old.vector.images old.vector.past → IsLeftBy new.vector.images new.vector.past → Sees old e new
+sees_own old new e looks was left = record {
+  same = record {
+    thread = looks.leaves.thread;
+    images = looks.leaves.images;
+    startups = look_startups old.vector new.vector looks.leaves.images left looks.blocks;
+    pieces = ap length looks.data_is;
+  };
+  past = looks.leaves.past;
+  was = was;
+  left = left;
+  blocks = looks.blocks;
+  pieces = looks.data_is;
+  stack = looks.stack;
+}
