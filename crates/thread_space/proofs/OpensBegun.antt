@@ -1,10 +1,11 @@
 -- What a line comes to that opens or closes its image.
 use Rattle.std.proofs.Common.{◌≡◌, ◌∙◌, ◌+◌, ◌<◌, ◌≤◌, ◌⊎◌, ℕ, Bool, true, false, List, [], ◌∷◌, ◌++◌, Option, Some, None, Result, Ok, Err, length, refl, sym, ap, subst, inl, inr, arith}
-use Rattle.std.specs.Prelude.{is_none, is_some, nat_lt, option_to_list, if◌then◌else◌}
+use Rattle.std.specs.Prelude.{IfOk, is_none, is_some, nat_lt, option_to_list, if◌then◌else◌}
 use Rattle.std.proofs.lemmas.Bool.{cases_Bool, lt-ltb}
 use Rattle.std.proofs.lemmas.List.{get_or-set_same, length-set}
 use Rattle.guest_arithmetic.specs.Plain.{plain_operations}
 use Rattle.guest_operands.specs.declared.state.State.{State}
+use Rattle.job_text.specs.declared.thread_lines.Action.TheVariants.{Call, Open, Close, Peek}
 use Rattle.loaded_modules.specs.declared.instance.Instance.{Instance}
 use Rattle.loaded_modules.specs.Images.{JobImages, infos}
 use Rattle.module_data.specs.Pieces.{Piece, loaded as with_piece}
@@ -29,13 +30,14 @@ use Rattle.thread_vector.specs.Holding.{IsLeftBy}
 use Rattle.thread_vector.specs.Vectors.{loaded_as}
 use Rattle.thread_vector.proofs.Events.{shape_of}
 use Rattle.thread_vector.proofs.Facts.{facts}
+use Rattle.thread_space.specs.declared.lines.Started.{Started}
 use Rattle.thread_space.specs.declared.lines.Started.TheVariants.{Says}
 use Rattle.thread_space.specs.Kept.{HasSeen, Kept, held_at, owned_of}
 use Rattle.thread_space.specs.Live.{HasStartups}
-use Rattle.thread_space.specs.Starting.{Begins, BeginsClose, BeginsOpen, LoadsNew, Sees}
+use Rattle.thread_space.specs.Starting.{Begins, BeginsCall, BeginsClose, BeginsOpen, BeginsPeek, LoadsNew, Sees, Starts}
 use Rattle.thread_space.specs.Steps.{HasData}
 use Rattle.thread_space.proofs.HeldWith.{found_at, held_with, left_is, loaded_with, looked_with, seen_with}
-use Rattle.thread_space.proofs.LinesBegun.{over_at_once}
+use Rattle.thread_space.proofs.LinesBegun.{over_at_once, starts_so}
 use Rattle.thread_space.proofs.Live.{instance_is}
 use Rattle.thread_space.proofs.LoadKept.{load_kept}
 use Rattle.thread_space.proofs.Looks.{see_kept}
@@ -255,3 +257,32 @@ open_begins old mid new line e was instance none startups long is sees was_is lo
           ∙ ap (λ n. SaysSo (Answered (OpenedSo n)) (held_at (with_last seen (own_event old line true)) state asked new))
           (sym (gives ∙ number_then old mid line here none startups));
     })
+
+-- ** lines of each kind
+
+module _ (line : Line) (old new : Kept) (result : Started) where
+  pub call_starts : (symbol : List ℕ) (a b c : ℕ) → line.told.action ≡ Call symbol a b c → BeginsCall line.told.image symbol a b c old result new → Starts line old result new
+  call_starts symbol a b c is begins =
+      starts_so line old new result None _ begins (λ seen has_seen. rw is refl) (λ seen h has_seen. rw is refl)
+
+  pub peek_starts : (symbol : List ℕ) (size : ℕ) → line.told.action ≡ Peek symbol size → BeginsPeek line symbol size old result new → Starts line old result new
+  peek_starts symbol size is begins =
+      starts_so line old new result None _ begins (λ seen has_seen. rw is refl) (λ seen h has_seen. rw is refl)
+
+  pub open_starts : line.told.action ≡ Open → BeginsOpen line old result new → Starts line old result new
+  open_starts is begins =
+      starts_so line old new result _ _ begins
+      (λ seen has_seen. rw is (ap (λ p. unless_refused (open_refusal p line.told.image) (own_event old line true)) (left_is old seen has_seen)))
+      (λ seen h has_seen. rw is
+      (ap (λ p. begun_open plain_operations (job_loads old.vector.images) (shows (job_loads old.vector.images) old.vector.thread) old.vector.thread line seen h (open_refusal p line.told.image)) (left_is old seen has_seen)))
+
+  pub close_starts : line.told.action ≡ Close → BeginsClose line old result new → Starts line old result new
+  close_starts is begins =
+      starts_so line old new result _ _ begins
+      (λ seen has_seen. rw is (ap (λ p. unless_refused (close_refusal p line.told.image) (own_event old line false)) (left_is old seen has_seen)))
+      (λ seen h has_seen. rw is
+      (ap (λ p. begun_close plain_operations (job_loads old.vector.images) (shows (job_loads old.vector.images) old.vector.thread) old.vector.thread line seen h (close_refusal p line.told.image)) (left_is old seen has_seen)))
+
+pub if_ok : {A E : Type 0} (P Q : A → Type 0) (r : Result A E) → ((x : A) → P x → Q x) → IfOk r P → IfOk r Q
+if_ok P Q (Ok x) on is = on x is
+if_ok P Q (Err e) on is = is
