@@ -2,10 +2,13 @@ pub mod Answering
 pub mod AtOnce
 pub mod BytesHeld
 pub mod Entries
+pub mod HeldWith
+pub mod LinesBegun
 pub mod Listing
 pub mod Live
 pub mod LoadKept
 pub mod Looks
+pub mod OpensBegun
 pub mod OwnBytes
 pub mod Owners
 pub mod PartBytes

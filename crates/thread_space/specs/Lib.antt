@@ -7,6 +7,7 @@ pub mod Places
 pub mod Runners
 pub mod Running
 pub mod Standing
+pub mod Starting
 pub mod Steps
 pub mod Taking
 pub mod Writing

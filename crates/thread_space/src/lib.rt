@@ -5,6 +5,7 @@ mod asking;
 mod blocks;
 mod bytes;
 mod finding;
+mod lines;
 mod names;
 mod parts;
 mod runner;
@@ -16,6 +17,7 @@ mod words;
 
 pub use asking::{Ask, LineAnswer};
 pub use bytes::Outline;
+pub use lines::{LineAnswer, Started, begin};
 pub use names::JobNames;
 pub use runner::Runner;
 pub use running::{Ran, Resumed, answer_asked, run_on};
