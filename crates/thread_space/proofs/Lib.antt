@@ -28,3 +28,4 @@ pub mod Startups
 pub mod Turning
 pub mod TurnsBegun
 pub mod TurnsTaken
+pub mod TakenLines

@@ -17,7 +17,7 @@ mod words;
 
 pub use asking::{Ask, LineAnswer};
 pub use bytes::Outline;
-pub use lines::{LineAnswer, Started, begin};
+pub use lines::{Started, begin};
 pub use names::JobNames;
 pub use runner::Runner;
 pub use running::{Ran, Resumed, answer_asked, run_on};

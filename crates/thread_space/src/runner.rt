@@ -110,7 +110,7 @@ fn ended<'m>(
     requires fuel { script.fuel < 2 ^ 32 }
     requires lines { length script.lines.now < 2 ^ 31 }
     requires begun { begun ≤ length script.lines.now }
-    requires steps { HasStepsLeft script.fuel taken }
+    requires steps { HasStepsLeft (4 * script.fuel) taken }
     ensures { IfOk result (λ r. r
         ≡ run_after script.entry.lines.now begun script.entry.fuel said.items points.items taken space.entry) }
 {
