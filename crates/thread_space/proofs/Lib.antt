@@ -7,8 +7,12 @@ pub mod LoadKept
 pub mod Looks
 pub mod OpensBegun
 pub mod Owners
+pub mod PartBytes
 pub mod PiecesHeld
 pub mod SharedIs
+pub mod Sought
 pub mod StartKept
 pub mod StartupBlocks
 pub mod Startups
+pub mod TurnsBegun
+pub mod TurnsTaken

@@ -1,7 +1,7 @@
 -- What a thread's code keeps, as the ranges that its machine finds: its stack, its blocks, data, and behind them what no
 -- thread writes. Blocks and data stand in the order of the images of their instances, as a look leaves them.
-use Rattle.std.specs.Prelude.{◌≡◌, ℕ, Bool, List, [], ◌∷◌, ◌++◌, Option}
-use Rattle.std.specs.List.{flat_map}
+use Rattle.std.specs.Prelude.{◌≡◌, ℕ, ◌+◌, Bool, List, [], ◌∷◌, ◌++◌, length, map, Option, is_some}
+use Rattle.std.specs.List.{flat_map, range_with_len}
 use Rattle.guest_arithmetic.specs.Plain.{plain_operations}
 use Rattle.guest_operands.specs.declared.state.State.{State}
 use Rattle.guest_operands.specs.Ranges.{AddressSpace, Range}
@@ -10,7 +10,7 @@ use Rattle.loaded_modules.specs.declared.instance.Instance.{Instance}
 use Rattle.loaded_modules.specs.Images.{JobImages, infos, last_offset}
 use Rattle.module_data.specs.Pieces.{Piece, data_of}
 use Rattle.module_table.specs.declared.events.Event.{Event}
-use Rattle.module_table.specs.Past.{Past, past}
+use Rattle.module_table.specs.Past.{Past, past, startup_count}
 use Rattle.thread_blocks.specs.declared.asked.Asked.{Asked}
 use Rattle.thread_blocks.specs.Held.{Owned, Owner, block_with, data_with, owners_of, ranges_in}
 use Rattle.thread_blocks.specs.Instances.{Loads, fixed_of, instances_in}
@@ -69,6 +69,10 @@ pub record Shape : Type 0 where
   pub past : Past
   -- whose the written ranges are, in their order
   pub owners : List Owner
+  -- whether the thread has a block of each image that starts with the program, by its number
+  pub holds : List Bool
+  -- how many images the data are of
+  pub count : ℕ
 
 unfoldable pub shape_of : Kept → Shape
 shape_of k = record {
@@ -76,6 +80,8 @@ shape_of k = record {
   images = k.vector.images;
   past = k.vector.past;
   owners = owners_of (owned_of k.vector k.pieces);
+  holds = map (λ i. is_some (held k.vector i)) (range_with_len 0 (startup_count (infos k.vector.images) + 1));
+  count = length k.pieces;
 }
 
 -- the shape of a thread that knows of no image
@@ -85,6 +91,8 @@ shape_with thread = record {
   images = record { kinds = []; images = [] };
   past = record { seen = 0; made = 0; taken = 0; limit = 0; modules = [] };
   owners = [];
+  holds = [];
+  count = 0;
 }
 
 -- ---- as the definitions of lines have it

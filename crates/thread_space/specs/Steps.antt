@@ -18,6 +18,7 @@ pub record IsNew (thread : ℕ) (m : JobImages) (k : Kept) : Type 0 where
   pub past : k.vector.past ≡ start (infos m) (last_offset m)
   pub blocks : (i : ℕ) → held k.vector i ≡ fresh m k.vector.past i
   pub data_is : k.pieces ≡ []
+  pub stack : k.stack ≡ []
 
 -- it looks: the vector sees these events, and nothing else has changed
 pub record Looks (old : Kept) (events : List Event) (new : Kept) : Type 0 where

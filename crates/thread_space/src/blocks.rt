@@ -26,8 +26,12 @@ impl<'m> ThreadSpace<'m> {
         ensures read { result ≡ byte_in Read (block_ranges self.now.vector instance.now) place }
         ensures written { result ≡ byte_in Write (block_ranges self.now.vector instance.now) place }
     {
-        let bytes = self.block(instance.number)?;
-        let at = self.behind_block(instance, place)?;
+        let Some(bytes) = self.block(instance.number) else {
+            return None;
+        };
+        let Some(at) = self.behind_block(instance, place) else {
+            return None;
+        };
         bytes.get(at as usize).copied()
     }
 

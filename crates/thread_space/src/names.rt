@@ -72,6 +72,13 @@ impl<'m> JobNames<'m> {
         Ok(JobNames { modules, names })
     }
 
+    /// The images.
+    pub fn modules(&self) -> &'m Modules
+        ensures { result.now ≡ self.now }
+    {
+        self.modules
+    }
+
     /// The names of an image, by its number from 1.
     fn of_image(&self, number: u32) -> Option<&ImageNames<'m>>
         ensures { option_map (λ names. names.now) result ≡ image_at self.now number }

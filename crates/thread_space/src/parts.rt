@@ -1,30 +1,154 @@
 //! The parts of images, as instances have them.
 
-ghost use Rattle.std.specs.Prelude.{◌≡◌};
-ghost use Rattle.std.specs.List.{list_any};
+ghost use Rattle.std.specs.Prelude.{◌≡◌, ◌+◌, Some, length, nat_le, slice_get};
+ghost use Rattle.std.specs.List.{filter, list_any};
 ghost use Rattle.guest_operands.specs.Ranges.{byte_in};
+ghost use Rattle.loaded_modules.specs.Images.{image_at};
+ghost use Rattle.loaded_modules.specs.Loader.{bias_of, loaded_part};
 ghost use Rattle.thread_blocks.specs.Instances.{fixed_of};
-ghost use Rattle.thread_blocks.specs.JobLoads.{job_loads};
+ghost use Rattle.thread_blocks.specs.JobLoads.{job_loads, parts_from, written_from};
+ghost use Rattle.thread_blocks.specs.Loading.{is_code, is_loaders, is_written};
 ghost use Rattle.thread_blocks.specs.RunTime.{has_words};
 ghost use Rattle.thread_space.specs.Kept.{live_in};
+ghost use Rattle.thread_space.specs.OfParts.{allows_fixed, byte_of_part, fixed_ranges, part_has_words};
+ghost use Rattle.thread_space.specs.Places.{behind};
 
 use crate::space::ThreadSpace;
 use guest_machine::Access;
+use image_file::{Image, PartClass};
 use loaded_modules::Instance;
 
+/// How many bytes a question to the run time has: two words.
+const WORDS: u64 = 16;
+
+fn is_code(class: PartClass) -> bool
+    ensures { result ≡ is_code class }
+{
+    matches!(class, PartClass::Executable)
+}
+
+fn is_written(class: PartClass) -> bool
+    ensures { result ≡ is_written class }
+{
+    matches!(class, PartClass::Writable)
+}
+
+/// Whether a part is the one that the loader alone writes.
+fn is_loaders(got: Option<u64>, number: u64) -> bool
+    ensures { result ≡ is_loaders got number }
+{
+    match got {
+        Some(got) => got == number,
+        None => false,
+    }
+}
+
+/// Whether a part is one that no thread writes, and may be accessed so.
+fn allows_fixed(access: Access, class: PartClass, is_loaders: bool) -> bool
+    ensures { result ≡ allows_fixed access class is_loaders }
+{
+    match access {
+        Access::Read => !is_code(class) && !(is_written(class) && !is_loaders),
+        Access::Write => false,
+        Access::Run => is_code(class),
+    }
+}
+
+/// How far behind the start of a part a place lies, once the part is moved, if it does not lie before it.
+fn behind_part(start: u64, bias: u64, place: u64) -> Option<u64>
+    ensures { result ≡ behind (start + bias) place }
+{
+    let place = place.checked_sub(bias)?;
+    place.checked_sub(start)
+}
+
+/// Whether two words from an offset on lie among so many bytes.
+fn has_room(size: u64, at: u64) -> bool
+    ensures { result ≡ nat_le (at + 16) size }
+{
+    size >= WORDS && at <= size - WORDS
+}
+
 impl<'m> ThreadSpace<'m> {
-    /// Whether one of the written parts of an instance has the 16 bytes from an address on.
-    pub(crate) fn has_words(&self, instance: &Instance, address: u64) -> bool
-        ensures { result ≡ list_any (has_words address) ((job_loads self.now.vector.images).tables instance.now) }
+    /// How far the image of an instance is moved.
+    fn bias(&self, instance: &Instance) -> u64
+        ensures { result ≡ bias_of self.now.vector.images instance.now }
     {
-        false
+        self.modules.bias(instance)
+    }
+
+    /// How many bytes a part of an instance has.
+    fn part_size(&self, instance: &Instance, number: u64) -> u64
+        ensures { result ≡ length (loaded_part self.now.vector.images instance.now number) }
+    {
+        self.modules.part_size(instance, number)
+    }
+
+    /// The byte at an offset in a part of an instance as the loader leaves it.
+    fn loaded_byte(&self, instance: &Instance, number: u64, at: u64) -> Option<u8>
+        ensures { result ≡ slice_get (loaded_part self.now.vector.images instance.now number) at }
+    {
+        if at >= self.modules.part_size(instance, number) {
+            return None;
+        }
+        let mut byte = [0];
+        self.modules.copy_bytes(instance, number, at, &mut byte);
+        Some(byte[0])
+    }
+
+    /// The byte at a place in a part of an instance, where it may be accessed so and no thread writes the part.
+    fn byte_of_part(
+        &self,
+        image: &Image,
+        instance: &Instance,
+        number: u64,
+        access: Access,
+        place: u64,
+    ) -> Option<u8>
+        requires there { image_at self.now.vector.images instance.now.image ≡ Some image.now }
+        ensures { result ≡ byte_of_part self.now.vector.images image.now instance.now number access place
+            (slice_get image.now.parts number) }
+    {
+        let Some(part) = image.part(number) else {
+            return None;
+        };
+        if !allows_fixed(access, part.class, is_loaders(image.got(), number)) {
+            return None;
+        }
+        match behind_part(part.address, self.bias(instance), place) {
+            Some(at) => self.loaded_byte(instance, number, at),
+            None => None,
+        }
+    }
+
+    /// The same of all parts of its image.
+    fn byte_of_image(
+        &self,
+        image: &Image,
+        instance: &Instance,
+        access: Access,
+        place: u64,
+    ) -> Option<u8>
+        requires there { image_at self.now.vector.images instance.now.image ≡ Some image.now }
+        ensures { result ≡ byte_in access
+            (fixed_ranges (parts_from self.now.vector.images image.now instance.now 0 image.now.parts)) place }
+    {
+        for number in 0..image.part_count() {
+            if let Some(byte) = self.byte_of_part(image, instance, number, access, place) {
+                return Some(byte);
+            }
+        }
+        None
     }
 
     /// The byte at a place in what no thread writes of an instance, where it may be accessed so.
     fn part_byte(&self, instance: &Instance, access: Access, place: u64) -> Option<u8>
         ensures { result ≡ byte_in access ((job_loads self.now.vector.images).fixed instance.now) place }
     {
-        None
+        match self.modules.image(instance.image) {
+            Some(image) => self.byte_of_image(image, instance, access, place),
+            None => None,
+        }
     }
 
     /// The same of all live instances.
@@ -38,5 +162,53 @@ impl<'m> ThreadSpace<'m> {
             }
         }
         None
+    }
+
+    /// Whether a part of an instance is written, and has the 16 bytes from an address on.
+    fn part_has_words(
+        &self,
+        image: &Image,
+        instance: &Instance,
+        number: u64,
+        address: u64,
+    ) -> bool
+        requires there { image_at self.now.vector.images instance.now.image ≡ Some image.now }
+        ensures { result ≡ part_has_words self.now.vector.images image.now instance.now number address
+            (slice_get image.now.parts number) }
+    {
+        let Some(part) = image.part(number) else {
+            return false;
+        };
+        if !is_written(part.class) {
+            return false;
+        }
+        match behind_part(part.address, self.bias(instance), address) {
+            Some(at) => has_room(self.part_size(instance, number), at),
+            None => false,
+        }
+    }
+
+    /// The same of all parts of its image.
+    fn image_has_words(&self, image: &Image, instance: &Instance, address: u64) -> bool
+        requires there { image_at self.now.vector.images instance.now.image ≡ Some image.now }
+        ensures { result ≡ list_any (has_words address) (written_from image.now.parts
+            (parts_from self.now.vector.images image.now instance.now 0 image.now.parts)) }
+    {
+        for number in 0..image.part_count() {
+            if self.part_has_words(image, instance, number, address) {
+                return true;
+            }
+        }
+        false
+    }
+
+    /// Whether one of the written parts of an instance has the 16 bytes from an address on.
+    pub(crate) fn has_words(&self, instance: &Instance, address: u64) -> bool
+        ensures { result ≡ list_any (has_words address) ((job_loads self.now.vector.images).tables instance.now) }
+    {
+        match self.modules.image(instance.image) {
+            Some(image) => self.image_has_words(image, instance, address),
+            None => false,
+        }
     }
 }

@@ -10,7 +10,7 @@ ghost use Rattle.thread_space.specs.Steps.{HasData, HasFreshStack, IsNew, Looks,
 ghost use Rattle.thread_vector.specs.Holding.{IsLeftBy};
 ghost use Rattle.std.specs.Vec.{vec_capacity};
 
-use crate::words::{pointer_word, stack_of};
+use crate::words::{no_stack, pointer_word, stack_of};
 use guest_memory::GuestRange;
 use loaded_modules::{Instance, Modules};
 use module_data::Data;
@@ -66,7 +66,7 @@ fn list_live(dtv: &Dtv, room: Vec<Instance>) -> Vec<Instance>
 
 impl<'m> ThreadSpace<'m> {
     /// The memory of a thread, from 1 to 64, of a job with these images, before any event. It has the blocks of the
-    /// images that start with the program, a fresh stack, and no data.
+    /// images that start with the program, a stack of no byte, and no data.
     pub fn new(
         alloc: Global,
         thread: u32,
@@ -78,14 +78,13 @@ impl<'m> ThreadSpace<'m> {
     {
         let dtv = Dtv::new(alloc, thread, modules)?;
         let live = list_live(&dtv, Vec::with_capacity(alloc, NUMBERS as usize)?);
-        let stack = stack_of(alloc, thread)?;
         let pointer = pointer_word(alloc, thread)?;
         Ok(ThreadSpace {
             alloc,
             modules,
             dtv,
             data: Data::none(alloc),
-            stack,
+            stack: no_stack(alloc, thread),
             pointer,
             live,
         })
@@ -99,7 +98,7 @@ impl<'m> ThreadSpace<'m> {
         self.dtv.thread()
     }
 
-    /// Where it takes memory.
+    /// Where its memory comes from.
     pub(crate) fn alloc(&self) -> Global {
         self.alloc
     }
@@ -112,8 +111,8 @@ impl<'m> ThreadSpace<'m> {
         self.dtv.seen()
     }
 
-    /// Looks: takes the events that follow those that the thread has seen. After a refusal nothing is known of what is
-    /// kept.
+    /// Looks: takes the events that follow those that the thread has seen. Where there is no memory for the list of live
+    /// instances, nothing has changed.
     pub fn look(&mut self, events: &[Event]) -> Result<(), AllocError>
         requires legal { is_legal self.old.vector.past events.now ≡ true }
         requires room { self.old.vector.past.seen + length events.now < 2 ^ 62 }
@@ -170,6 +169,7 @@ impl<'m> ThreadSpace<'m> {
     }
 
     /// The live instance of an image.
+    #[tactic(auto, unfolding(loaded_modules::specs::Images::static_offset))]
     pub fn instance(&self, image: u32) -> Option<Instance>
         ensures { result ≡ loaded_instance (infos self.now.vector.images) image (module_of self.now.vector.past image) }
     {

@@ -1,0 +1,13 @@
+-- The list that is walked is that of the live instances.
+use Rattle.std.proofs.Common.{◌∙◌, ap, sym}
+use Rattle.guest_operands.specs.Ranges.{byte_in}
+use Rattle.loaded_modules.specs.declared.instance.Instance.{Instance}
+use Rattle.thread_blocks.specs.Instances.{fixed_of}
+use Rattle.thread_blocks.specs.JobLoads.{job_loads}
+use Rattle.thread_space.specs.Kept.{Kept, live_in}
+use Rattle.thread_space.proofs.space.ThreadSpace.fixed_byte.Goals as goal
+
+pub loop-instance-init : goal.loop-instance-init
+loop-instance-init c =
+    ap (λ xs. byte_in c.args.access (fixed_of (job_loads c.args.self.now.vector.images) xs) c.args.place)
+    (ap (λ (k : Kept). live_in k.vector.images k.vector.past) (sym c.self.view_is) ∙ sym (c.deref-instance-items.ensures.value ∙ c.self.invariant.live))

@@ -1,0 +1,38 @@
+-- One part of an instance: what may be done with it, and what is found there.
+use Rattle.std.specs.Prelude.{◌+◌, ◌&&◌, ℕ, Bool, false, not, List, Option, Some, None, if◌then◌else◌, option_and_then, slice_get}
+use Rattle.std.specs.List.{filter}
+use Rattle.guest_operands.specs.declared.space.Access.{Access}
+use Rattle.guest_operands.specs.declared.space.Access.TheVariants.{Read, Run, Write}
+use Rattle.guest_operands.specs.Ranges.{Range}
+use Rattle.image_file.specs.declared.part.PartClass.{PartClass}
+use Rattle.image_file.specs.Spelled.{Part, Spelled}
+use Rattle.loaded_modules.specs.declared.instance.Instance.{Instance}
+use Rattle.loaded_modules.specs.Images.{JobImages}
+use Rattle.loaded_modules.specs.Loader.{bias, part_bytes}
+use Rattle.thread_blocks.specs.JobLoads.{instance_part}
+use Rattle.thread_blocks.specs.Loading.{is_code, is_loaders, is_written}
+use Rattle.thread_blocks.specs.RunTime.{has_words}
+use Rattle.thread_space.specs.Places.{behind}
+
+-- what may be done with a part that no thread writes
+abbrev pub allows_fixed : Access → PartClass → Bool → Bool
+allows_fixed Read class is_loaders = not (is_code class) && not (is_written class && not is_loaders)
+allows_fixed Write class is_loaders = false
+allows_fixed Run class is_loaders = is_code class
+
+-- the ranges that no thread writes
+abbrev pub fixed_ranges : List (Range ℕ) → List (Range ℕ)
+fixed_ranges ranges = filter (λ (range : Range ℕ). not range.writable) ranges
+
+module _ (m : JobImages) (image : Spelled) (x : Instance) (i : ℕ) where
+  -- the byte at a place in part i, where it may be accessed so and no thread writes the part
+  abbrev pub byte_of_part : Access → ℕ → Option Part → Option ℕ
+  byte_of_part access place None = None
+  byte_of_part access place (Some part) = if allows_fixed access part.class (is_loaders image.got i)
+      then option_and_then (slice_get (part_bytes m image x part)) (behind (part.address + bias image.kind x.number) place)
+      else None
+
+  -- whether the part is written, and has the 16 bytes from an address on
+  abbrev pub part_has_words : ℕ → Option Part → Bool
+  part_has_words address None = false
+  part_has_words address (Some part) = is_written part.class && has_words address (instance_part m image x i part)
