@@ -19,7 +19,8 @@ use Rattle.thread_vector.specs.Vectors.{Vector, held}
 use Rattle.thread_vector.proofs.Facts.{facts}
 use Rattle.thread_space.specs.Kept.{HasSeen, Kept, held_at, owned_of}
 use Rattle.thread_space.specs.Live.{IsLive}
-use Rattle.thread_space.specs.Starting.{IsSameThread, ReachesLive, Sees}
+use Rattle.thread_space.specs.Starting.{ReachesLive, Sees}
+use Rattle.thread_space.specs.Taking.{KeepsJob}
 use Rattle.thread_space.specs.Steps.{Looks, Reaches}
 use Rattle.thread_space.proofs.BytesHeld.{bytes_kept}
 use Rattle.thread_space.proofs.Live.{live_image}
@@ -71,7 +72,7 @@ seen_with old new None seen images is has_seen = ap (λ m. past (infos m) (last_
 seen_with old new (Some e) seen images is has_seen =
     ap (λ m. past (infos m) (last_offset m) (with_last seen e)) images ∙ past_more old.vector.images seen e ∙ ap (λ p. after_one p e) has_seen ∙ sym is
 
-pub same_thread : (k : Kept) → IsSameThread k k
+pub same_thread : (k : Kept) → KeepsJob k k
 same_thread k = record { thread = refl; images = refl; startups = λ has. has; pieces = refl }
 
 -- ** steps
@@ -82,7 +83,7 @@ live_found m p x left is = ap is_some (live_image m p x (facts m p left).own is)
 
 pub reaches_live : (old new : Kept) (x : Instance) → Reaches old x.number new → IsLeftBy new.vector.images new.vector.past → ReachesLive old x new
 reaches_live old new x reaches left = record {
-  same = record {
+  keeps = record {
     thread = reaches.leaves.thread;
     images = reaches.leaves.images;
     startups = reach_startups old.vector new.vector x.number reaches.leaves.images reaches.blocks;
@@ -97,7 +98,7 @@ reaches_live old new x reaches left = record {
 
 pub sees_own : (old new : Kept) (e : Event) → Looks old (e ∷ []) new → IsLeftBy old.vector.images old.vector.past → IsLeftBy new.vector.images new.vector.past → Sees old e new
 sees_own old new e looks was left = record {
-  same = record {
+  keeps = record {
     thread = looks.leaves.thread;
     images = looks.leaves.images;
     startups = look_startups old.vector new.vector looks.leaves.images left looks.blocks;

@@ -25,7 +25,7 @@ pub mod SpaceRuns
 pub mod StartKept
 pub mod StartupBlocks
 pub mod Startups
+pub mod TakenLines
 pub mod Turning
 pub mod TurnsBegun
 pub mod TurnsTaken
-pub mod TakenLines

@@ -27,7 +27,8 @@ use Rattle.thread_space.specs.declared.lines.Started.{Started}
 use Rattle.thread_space.specs.declared.lines.Started.TheVariants.{Says, Calls}
 use Rattle.thread_space.specs.Kept.{HasSeen, Kept, held_at, owned_of}
 use Rattle.thread_space.specs.Live.{HasStartups, IsLive}
-use Rattle.thread_space.specs.Starting.{Begins, BeginsCall, BeginsPeek, IsSameThread, ReachesLive, Starts, part_shown, shown_of, started_as}
+use Rattle.thread_space.specs.Starting.{Begins, BeginsCall, BeginsPeek, ReachesLive, Starts, part_shown, shown_of, started_as}
+use Rattle.thread_space.specs.Taking.{KeepsJob}
 use Rattle.thread_space.specs.Steps.{HasFreshStack}
 use Rattle.thread_space.proofs.HeldWith.{block_held, found_at, held_with, left_is, reached_with, same_thread, seen_with}
 use Rattle.thread_space.proofs.Looks.{reach_kept}
@@ -41,11 +42,11 @@ pub starts_so : (line : Line) (old new : Kept) (result : Started) (event : Optio
         → begun_by plain_operations (job_loads old.vector.images) (shows (job_loads old.vector.images) old.vector.thread) old.vector.thread line seen h line.told.action ≡ begun seen h)
     → Starts line old result new
 starts_so line old new result event begun begins adds is = record {
-  same = begins.same;
+  keeps = begins.keeps;
   fresh = begins.fresh;
   starts = λ seen state asked has_seen.
       let now = sym (ap (with_event seen) (adds seen has_seen)) in
-      (subst (HasSeen new.vector) now (seen_with old new event seen begins.same.images begins.past has_seen),
+      (subst (HasSeen new.vector) now (seen_with old new event seen begins.keeps.images begins.past has_seen),
       is seen (held_at seen state asked old) has_seen ∙ begins.begins seen state asked has_seen ∙ ap (λ events. started_as events state asked result new) now);
 }
 
@@ -53,7 +54,7 @@ starts_so line old new result event begun begins adds is = record {
 pub over_at_once : (begun : List Event → Runs → Begun Runs) (k : Kept) (outcome : Outcome)
     → ((seen : List Event) (h : Runs) → HasSeen k.vector seen → begun seen h ≡ SaysSo (Answered outcome) h) → Begins None begun k (Says outcome) k
 over_at_once begun k outcome says = record {
-  same = same_thread k;
+  keeps = same_thread k;
   fresh = tt;
   past = refl;
   begins = λ seen state asked has_seen. says seen (held_at seen state asked k) has_seen;
@@ -85,7 +86,7 @@ module _ (k : Kept) (image : ℕ) (symbol : List ℕ) (a b c : ℕ) where
       → BeginsCall image symbol a b c k (Calls m) new
   unfolding l begun_for
   call_begins x place new m is found fresh state taken = record {
-    same = record {
+    keeps = record {
       thread = ap (λ v. v.thread) fresh.vector;
       images = ap (λ v. v.images) fresh.vector;
       startups = λ has. subst HasStartups (sym fresh.vector) has;
@@ -105,12 +106,12 @@ pub reach_holds : (old new : Kept) (x : Instance) (seen : List Event) (state : S
     → IsLive old.vector.images old.vector.past x → HasSeen old.vector seen
     → reached (job_loads old.vector.images) old.vector.thread x (held_at seen state asked old) ≡ held_at seen state asked new
 reach_holds old new x seen state asked reaches live has_seen =
-    let images = reaches.same.images in
+    let images = reaches.keeps.images in
     let has = seen_with old new None seen images reaches.past has_seen in
     let live = subst (λ m. IsLive m new.vector.past x) (sym images) (subst (λ p. IsLive old.vector.images p x) (sym reaches.past) live) in
     let xs = owned_of old.vector old.pieces in
     ap (λ m. reached (job_loads m) old.vector.thread x (held_at seen state asked old)) (sym images)
-    ∙ ap (λ t. reached (job_loads new.vector.images) t x (held_at seen state asked old)) (sym reaches.same.thread)
+    ∙ ap (λ t. reached (job_loads new.vector.images) t x (held_at seen state asked old)) (sym reaches.keeps.thread)
     ∙ reached_with (job_loads new.vector.images) new.vector.thread seen state asked old.stack xs x
     ∙ ap (held_with seen state asked old.stack)
     (reach_kept old.vector new.vector images reaches.past reaches.left x live reaches.blocks old.pieces seen has ∙ ap (owned_of new.vector) (sym reaches.pieces))
@@ -149,7 +150,7 @@ module _ (k : Kept) (line : Line) (symbol : List ℕ) (size : ℕ) where
       → BeginsPeek line symbol size k (Says outcome) new
   unfolding loads peek_for
   peek_begins x new variable outcome is live reaches known shown = record {
-    same = reaches.same;
+    keeps = reaches.keeps;
     fresh = tt;
     past = reaches.past;
     begins = λ seen state asked has_seen.

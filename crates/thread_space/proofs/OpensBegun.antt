@@ -84,15 +84,15 @@ opened_loaded images p e left accepted opens = elim (shape_of p e (facts images 
 module _ (old mid : Kept) (e : Event) (sees : Sees old e mid) (startups : HasStartups old.vector) (accepted : accepts old.vector.past e ≡ true)
     (seen : List Event) (state : State ℕ Bool) (asked : Option Asked) (has_seen : HasSeen old.vector seen) where
   pub has_all : HasSeen mid.vector (with_last seen e)
-  has_all = seen_with old mid (Some e) seen sees.same.images sees.past has_seen
+  has_all = seen_with old mid (Some e) seen sees.keeps.images sees.past has_seen
 
   -- what the look leaves
   pub looks : looked (job_loads old.vector.images) old.vector.thread (with_last seen e) (held_at seen state asked old)
       ≡ held_with (with_last seen e) state asked mid.stack (looked_at (job_loads mid.vector.images) mid.vector.thread (with_last seen e) (owned_of old.vector old.pieces))
   looks =
       looked_with (job_loads old.vector.images) old.vector.thread seen state asked old.stack (owned_of old.vector old.pieces) (with_last seen e)
-      ∙ ap (λ m. held_with (with_last seen e) state asked old.stack (looked_at (job_loads m) old.vector.thread (with_last seen e) (owned_of old.vector old.pieces))) (sym sees.same.images)
-      ∙ ap (λ t. held_with (with_last seen e) state asked old.stack (looked_at (job_loads mid.vector.images) t (with_last seen e) (owned_of old.vector old.pieces))) (sym sees.same.thread)
+      ∙ ap (λ m. held_with (with_last seen e) state asked old.stack (looked_at (job_loads m) old.vector.thread (with_last seen e) (owned_of old.vector old.pieces))) (sym sees.keeps.images)
+      ∙ ap (λ t. held_with (with_last seen e) state asked old.stack (looked_at (job_loads mid.vector.images) t (with_last seen e) (owned_of old.vector old.pieces))) (sym sees.keeps.thread)
       ∙ ap (λ s. held_with (with_last seen e) state asked s (looked_at (job_loads mid.vector.images) mid.vector.thread (with_last seen e) (owned_of old.vector old.pieces))) (sym sees.stack)
 
   -- where no instance is new, that is what the code keeps
@@ -101,7 +101,7 @@ module _ (old mid : Kept) (e : Event) (sees : Sees old e mid) (startups : HasSta
   looks_so why =
       looks
       ∙ ap (held_with (with_last seen e) state asked mid.stack)
-      (see_kept old.vector mid.vector old.pieces (with_last seen e) e sees.same.images has_all sees.was sees.left sees.blocks startups sees.past accepted why
+      (see_kept old.vector mid.vector old.pieces (with_last seen e) e sees.keeps.images has_all sees.was sees.left sees.blocks startups sees.past accepted why
       ∙ ap (owned_of mid.vector) (sym sees.pieces))
 
   -- and a load fills the data of the new one
@@ -112,14 +112,14 @@ module _ (old mid : Kept) (e : Event) (sees : Sees old e mid) (startups : HasSta
       ≡ held_at (with_last seen e) state asked new
   loads_so new x unloaded long is puts =
       let xs = looked_at (job_loads mid.vector.images) mid.vector.thread (with_last seen e) (owned_of old.vector old.pieces) in
-      let longer : length old.pieces ≡ length mid.vector.images.images + 1 = long ∙ ap (λ m. length m.images + 1) (sym sees.same.images) in
+      let longer : length old.pieces ≡ length mid.vector.images.images + 1 = long ∙ ap (λ m. length m.images + 1) (sym sees.keeps.images) in
       ap (loading (job_loads old.vector.images) old.vector.thread x) looks
       ∙ loaded_with (job_loads old.vector.images) old.vector.thread (with_last seen e) state asked mid.stack xs x
-      ∙ ap (λ m. held_with (with_last seen e) state asked mid.stack (loaded_at (job_loads m) old.vector.thread (with_last seen e) x xs)) (sym sees.same.images)
-      ∙ ap (λ t. held_with (with_last seen e) state asked mid.stack (loaded_at (job_loads mid.vector.images) t (with_last seen e) x xs)) (sym sees.same.thread)
+      ∙ ap (λ m. held_with (with_last seen e) state asked mid.stack (loaded_at (job_loads m) old.vector.thread (with_last seen e) x xs)) (sym sees.keeps.images)
+      ∙ ap (λ t. held_with (with_last seen e) state asked mid.stack (loaded_at (job_loads mid.vector.images) t (with_last seen e) x xs)) (sym sees.keeps.thread)
       ∙ ap (λ y. held_with (with_last seen e) state asked mid.stack (loaded_at (job_loads mid.vector.images) mid.vector.thread (with_last seen e) y xs)) is
       ∙ ap (held_with (with_last seen e) state asked mid.stack)
-      (load_kept old.vector mid.vector old.pieces (with_last seen e) e sees.same.images has_all sees.was sees.left sees.blocks startups sees.past accepted unloaded longer)
+      (load_kept old.vector mid.vector old.pieces (with_last seen e) e sees.keeps.images has_all sees.was sees.left sees.blocks startups sees.past accepted unloaded longer)
       ∙ rw (puts.data_is, puts.vector, puts.stack, is, sees.pieces) refl
 
 -- ** closes
@@ -138,7 +138,7 @@ pub close_begins : (old new : Kept) (line : Line) (e : Event) → close_refusal 
 close_begins old new line e none startups is sees =
     let here : Sees old (own_event old line false) new = subst (λ e. Sees old e new) is sees in
     rw none (record {
-      same = here.same;
+      keeps = here.keeps;
       fresh = tt;
       past = here.past;
       begins = λ seen state asked has_seen. ap (SaysSo (Answered ClosedSo))
@@ -197,7 +197,7 @@ module _ (old mid : Kept) (line : Line) (sees : Sees old (own_event old line tru
         let now = with_last seen (own_event old line true) in
         ap (λ p. at_once (is_loaded (module_of p line.told.image)) (instance_at l now line.told.image)) (left_is old seen has_seen)
         ∙ ap (at_once (is_loaded (module_of old.vector.past line.told.image)))
-        (ap (λ m. instance_at (job_loads m) now line.told.image) (sym sees.same.images)
+        (ap (λ m. instance_at (job_loads m) now line.told.image) (sym sees.keeps.images)
         ∙ found_at mid now (has_all old mid (own_event old line true) sees startups accepted seen state asked has_seen) line.told.image
         ∙ found_then)
 
@@ -244,11 +244,11 @@ open_begins old mid new line e was instance none startups long is sees was_is lo
         (subst (λ t. LoadsNew t (loaded_instance (infos mid.vector.images) line.told.image (module_of mid.vector.past line.told.image)) mid new) was_so load) in
     let same = load_same (is_loaded (module_of old.vector.past line.told.image)) (x old mid line here none startups) mid new load in
     rw none (record {
-      same = record {
-        thread = ap (λ v. v.thread) same.0 ∙ here.same.thread;
-        images = ap (λ v. v.images) same.0 ∙ here.same.images;
-        startups = λ has. subst HasStartups (sym same.0) (here.same.startups has);
-        pieces = same.1 ∙ here.same.pieces;
+      keeps = record {
+        thread = ap (λ v. v.thread) same.0 ∙ here.keeps.thread;
+        images = ap (λ v. v.images) same.0 ∙ here.keeps.images;
+        startups = λ has. subst HasStartups (sym same.0) (here.keeps.startups has);
+        pieces = same.1 ∙ here.keeps.pieces;
       };
       fresh = tt;
       past = ap (λ v. v.past) same.0 ∙ here.past;

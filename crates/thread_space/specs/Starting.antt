@@ -1,20 +1,11 @@
 -- What the first look of a thread's line comes to in the code.
-use Rattle.std.specs.Prelude.{◌≡◌, ℕ, ◌+◌, Bool, true, false, not, List, length, slice_range, nat_le, Option, Some, None, Result, Ok, Err, option_to_list, if◌then◌else◌}
+use Rattle.std.specs.Prelude.{◌≡◌, ℕ, ◌+◌, Bool, true, false, List, length, slice_range, nat_le, Option, Some, None, option_to_list, if◌then◌else◌}
 use Rattle.guest_arithmetic.specs.Plain.{plain_operations}
 use Rattle.guest_operands.specs.declared.state.State.{State}
-use Rattle.job_text.specs.declared.thread_lines.Action.{Action}
-use Rattle.job_text.specs.declared.thread_lines.Action.TheVariants.{Call, Open, Close, Peek}
-use Rattle.job_text.specs.declared.thread_lines.ThreadLine.{ThreadLine}
 use Rattle.loaded_modules.specs.declared.instance.Instance.{Instance}
-use Rattle.module_table.specs.declared.events.CloseRefusal.{CloseRefusal}
-use Rattle.module_table.specs.declared.events.Closed.{Closed}
 use Rattle.module_table.specs.declared.events.Event.{Event}
-use Rattle.module_table.specs.declared.events.OpenRefusal.{OpenRefusal}
-use Rattle.module_table.specs.declared.events.Opened.{Opened}
 use Rattle.module_data.specs.Pieces.{loaded}
-use Rattle.module_table.specs.History.{unless}
-use Rattle.module_table.specs.Modules.{is_loaded}
-use Rattle.module_table.specs.Past.{Past, after, after_one, close_refusal, module_of, open_refusal, opened, released}
+use Rattle.module_table.specs.Past.{after, after_one, close_refusal, open_refusal}
 use Rattle.transcript_text.specs.declared.outcomes.LineRefusal.TheVariants.{Symbol as NoSymbol, Length as TooLong}
 use Rattle.transcript_text.specs.declared.outcomes.Outcome.{Outcome}
 use Rattle.transcript_text.specs.declared.outcomes.Outcome.TheVariants.{Bytes, Refused}
@@ -26,36 +17,11 @@ use Rattle.thread_blocks.specs.RunTime.{Runs, shows}
 use Rattle.thread_blocks.specs.Turns.{Answered, Begun, Says as SaysSo, Calls as CallsOn, with_event}
 use Rattle.thread_vector.specs.Holding.{IsLeftBy}
 use Rattle.thread_vector.specs.Vectors.{caught_up, held, reached}
-use Rattle.thread_space.specs.declared.lines.LineAnswer.{LineAnswer}
-use Rattle.thread_space.specs.declared.lines.LineAnswer.TheVariants.{Opened as OpenAnswer, Closed as CloseAnswer}
 use Rattle.thread_space.specs.declared.lines.Started.{Started}
 use Rattle.thread_space.specs.declared.lines.Started.TheVariants.{Says, Calls}
 use Rattle.thread_space.specs.Kept.{HasSeen, Kept, held_at}
-use Rattle.thread_space.specs.Live.{HasStartups}
 use Rattle.thread_space.specs.Steps.{HasData}
-
--- ---- what a registry answers to an open or a close of a thread that has seen all
-
--- what an open gives: the image's instance and id after it
-abbrev pub opened_at : Past → ℕ → Opened
-opened_at p image = let m = module_of (opened p image) image in
-    record { instance = m.instance; id = m.id; at = p.seen }
-
-abbrev pub closed_at : Past → ℕ → Closed
-closed_at p image = record { at = p.seen; gone = not (is_loaded (module_of (released p image) image)) }
-
-abbrev pub open_answer_at : Past → ℕ → Result Opened OpenRefusal
-open_answer_at p image = unless (open_refusal p image) (opened_at p image)
-
-abbrev pub close_answer_at : Past → ℕ → Result Closed CloseRefusal
-close_answer_at p image = unless (close_refusal p image) (closed_at p image)
-
--- a line that opens or closes its image was answered so; no other needs an answer
-abbrev pub IsAnswered : Past → ℕ → Action → Option LineAnswer → Type 0
-IsAnswered p image (Call symbol a b c) answer = Unit {0}
-IsAnswered p image Open answer = answer ≡ Some (OpenAnswer (open_answer_at p image))
-IsAnswered p image Close answer = answer ≡ Some (CloseAnswer (close_answer_at p image))
-IsAnswered p image (Peek symbol size) answer = Unit {0}
+use Rattle.thread_space.specs.Taking.{KeepsJob}
 
 -- ---- what a first look comes to
 
@@ -69,17 +35,10 @@ abbrev pub IsFresh : Started → Type 0
 IsFresh (Says outcome) = Unit {0}
 IsFresh (Calls m) = m.taken ≡ 0
 
--- what no first look changes; seeing an event apart
-pub record IsSameThread (old new : Kept) : Type 0 where
-  pub thread : new.vector.thread ≡ old.vector.thread
-  pub images : new.vector.images ≡ old.vector.images
-  pub startups : HasStartups old.vector → HasStartups new.vector
-  pub pieces : length new.pieces ≡ length old.pieces
-
 -- a part of a line that begins as it is defined to, and sees this event of its own, if there is one
 pub record Begins (event : Option Event) (begun : List Event → Runs → Begun Runs) (old : Kept) (result : Started)
     (new : Kept) : Type 0 where
-  pub same : IsSameThread old new
+  pub keeps : KeepsJob old new
   pub fresh : IsFresh result
   pub past : new.vector.past ≡ after old.vector.past (option_to_list event)
   pub begins : (seen : List Event) (state : State ℕ Bool) (asked : Option Asked) → HasSeen old.vector seen
@@ -87,7 +46,7 @@ pub record Begins (event : Option Event) (begun : List Event → Runs → Begun 
 
 -- a line begins as it is defined to
 pub record Starts (line : Line) (old : Kept) (result : Started) (new : Kept) : Type 0 where
-  pub same : IsSameThread old new
+  pub keeps : KeepsJob old new
   pub fresh : IsFresh result
   pub starts : (seen : List Event) (state : State ℕ Bool) (asked : Option Asked) → HasSeen old.vector seen
       → let l = job_loads old.vector.images in
@@ -127,7 +86,7 @@ BeginsPeek line symbol size old = let l = job_loads old.vector.images in let thr
 
 -- a thread sees its own event at once
 pub record Sees (old : Kept) (e : Event) (new : Kept) : Type 0 where
-  pub same : IsSameThread old new
+  pub keeps : KeepsJob old new
   pub past : new.vector.past ≡ after_one old.vector.past e
   pub was : IsLeftBy old.vector.images old.vector.past
   pub left : IsLeftBy new.vector.images new.vector.past
@@ -143,7 +102,7 @@ LoadsNew false (Some x) old new = HasData old (loaded old.vector.images x old.pi
 
 -- it reaches the block of a live instance
 pub record ReachesLive (old : Kept) (x : Instance) (new : Kept) : Type 0 where
-  pub same : IsSameThread old new
+  pub keeps : KeepsJob old new
   pub past : new.vector.past ≡ old.vector.past
   pub left : IsLeftBy new.vector.images new.vector.past
   pub blocks : (i : ℕ) → held new.vector i ≡ reached old.vector x.number i

@@ -3,16 +3,19 @@
 ghost use Rattle.std.specs.Prelude.{◌≡◌, ◌≤◌, ◌<◌, ◌+◌, ◌-◌, ◌^◌, ℕ, List, true, None, Some, Result, IfOk, OnOk, length};
 ghost use Rattle.guest_arithmetic.specs.Plain.{plain_operations};
 ghost use Rattle.loaded_modules.specs.Images.{infos};
+ghost use Rattle.module_table.specs.History.{unless};
 ghost use Rattle.module_table.specs.Past.{accepts, close_refusal, module_of, open_refusal, opened};
 ghost use Rattle.thread_blocks.specs.Instances.{loaded_instance};
 ghost use Rattle.thread_blocks.specs.JobLoads.{job_loads};
 ghost use Rattle.thread_blocks.specs.Lines.{refused_close, refused_open};
 ghost use Rattle.thread_blocks.specs.MachineTurns.{call_start};
+ghost use Rattle.thread_space.specs.Asking.{answer_to, ask_by, closed_at, opened_at};
 ghost use Rattle.thread_space.specs.Live.{HasStartups, IsLive};
-ghost use Rattle.thread_space.specs.Starting.{Begins, BeginsCall, BeginsClose, BeginsOpen, BeginsPeek, IsAnswered, LoadsNew, ReachesLive, Sees, Starts};
-ghost use Rattle.thread_space.specs.Starting.{close_answer_at, open_answer_at, part_shown, shown_of};
+ghost use Rattle.thread_space.specs.Starting.{Begins, BeginsCall, BeginsClose, BeginsOpen, BeginsPeek, LoadsNew, ReachesLive, Sees, Starts};
+ghost use Rattle.thread_space.specs.Starting.{part_shown, shown_of};
 ghost use Rattle.thread_vector.specs.Vectors.{held};
 
+use crate::asking::LineAnswer;
 use crate::names::JobNames;
 use crate::space::ThreadSpace;
 use crate::words::{end_of_stack, thread_pointer};
@@ -23,13 +26,6 @@ use loaded_modules::Instance;
 use module_table::{CloseRefusal, Closed, Event, OpenRefusal, Opened};
 use std::alloc::{AllocError, Global};
 use transcript_text::{Bytes, LineRefusal, Outcome};
-
-/// What a registry answered to a line that opens or closes its image.
-#[derive(Clone, Copy, Debug)]
-pub enum LineAnswer {
-    Opened(Result<Opened, OpenRefusal>),
-    Closed(Result<Closed, CloseRefusal>),
-}
 
 /// What the first look of a line comes to.
 #[derive(Drop)]
@@ -165,7 +161,7 @@ fn open(
     line: &ThreadLine,
     answer: Result<Opened, OpenRefusal>,
 ) -> Result<Started, AllocError>
-    requires answer { answer ≡ open_answer_at space.old.vector.past line.now.image }
+    requires answer { answer ≡ unless (open_refusal space.old.vector.past line.now.image) (opened_at space.old.vector.past line.now.image) }
     requires room { space.old.vector.past.seen + 1 < 2 ^ 62 }
     requires startups { HasStartups space.old.vector }
     requires pieces { length space.old.pieces ≡ length space.old.vector.images.images + 1 }
@@ -207,7 +203,7 @@ fn close(
     line: &ThreadLine,
     answer: Result<Closed, CloseRefusal>,
 ) -> Result<Started, AllocError>
-    requires answer { answer ≡ close_answer_at space.old.vector.past line.now.image }
+    requires answer { answer ≡ unless (close_refusal space.old.vector.past line.now.image) (closed_at space.old.vector.past line.now.image) }
     requires room { space.old.vector.past.seen + 1 < 2 ^ 62 }
     requires startups { HasStartups space.old.vector }
     ensures { IfOk result
@@ -322,7 +318,7 @@ pub fn begin(
     answer: Option<LineAnswer>,
 ) -> Result<Started, AllocError>
     requires names { names.now ≡ space.old.vector.images }
-    requires answer { IsAnswered space.old.vector.past line.now.image line.now.action answer }
+    requires answer { answer ≡ answer_to space.old.vector.past (ask_by number line.now.image line.now.action) }
     requires room { space.old.vector.past.seen + 1 < 2 ^ 62 }
     requires startups { HasStartups space.old.vector }
     requires pieces { length space.old.pieces ≡ length space.old.vector.images.images + 1 }
