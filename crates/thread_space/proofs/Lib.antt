@@ -13,3 +13,4 @@ pub mod Sought
 pub mod StartKept
 pub mod StartupBlocks
 pub mod Startups
+pub mod WriteKept

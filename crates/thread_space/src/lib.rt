@@ -7,6 +7,7 @@ mod finding;
 mod parts;
 mod shared;
 mod space;
+mod stack;
 mod words;
 
 pub use bytes::Outline;
