@@ -29,3 +29,4 @@ pub mod TakenLines
 pub mod Turning
 pub mod TurnsBegun
 pub mod TurnsTaken
+pub mod WriteKept

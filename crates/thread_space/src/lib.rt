@@ -12,6 +12,7 @@ mod runner;
 mod running;
 mod shared;
 mod space;
+mod stack;
 mod taking;
 mod words;
 
