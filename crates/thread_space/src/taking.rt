@@ -45,7 +45,7 @@ fn outcome_of(stop: Stop) -> Outcome
 /// Runs a call up to its end or its next look, for at most `limit` steps since it began.
 fn run_to(space: &mut ThreadSpace, mut machine: Machine<Plain>, limit: u64) -> Taken
     requires { machine.taken ≤ limit }
-    ensures { RunsTo limit machine.entry space.old result space.new }
+    ensures { RunsTo limit machine space.old result space.new }
 {
     let _seen = space.seen();
     match run_on(space, &mut machine, limit) {
@@ -86,7 +86,7 @@ pub(crate) fn take_resume(
 ) -> Result<Taken, AllocError>
     requires fuel { fuel < 2 ^ 32 }
     requires taken { machine.taken < 4 * fuel }
-    ensures { IfOk result (λ taken. ResumesTo fuel machine.entry asked space.old taken space.new) }
+    ensures { IfOk result (λ taken. ResumesTo fuel machine asked space.old taken space.new) }
 {
     match answer_asked(space, &mut machine, asked)? {
         Resumed::Goes => Ok(run_to(space, machine, 4 * fuel)),
