@@ -8,9 +8,11 @@ pub mod Owners
 pub mod PartBytes
 pub mod PiecesHeld
 pub mod ReadKept
+pub mod ShapeKept
 pub mod SharedIs
 pub mod Sought
 pub mod StartKept
 pub mod StartupBlocks
 pub mod Startups
 pub mod WriteKept
+pub mod Written
