@@ -3,6 +3,7 @@ pub mod Live
 pub mod Listing
 pub mod LoadKept
 pub mod Looks
+pub mod LowParts
 pub mod OwnBytes
 pub mod Owners
 pub mod PartBytes
