@@ -8,6 +8,7 @@ pub mod Listing
 pub mod Live
 pub mod LoadKept
 pub mod Looks
+pub mod LowParts
 pub mod OpensBegun
 pub mod OwnBytes
 pub mod Owners
@@ -19,6 +20,7 @@ pub mod Resuming
 pub mod RunTurns
 pub mod RunningOn
 pub mod SameThread
+pub mod ShapeKept
 pub mod SharedIs
 pub mod Sought
 pub mod SpaceRuns
@@ -30,3 +32,4 @@ pub mod Turning
 pub mod TurnsBegun
 pub mod TurnsTaken
 pub mod WriteKept
+pub mod Written

@@ -102,7 +102,7 @@ block_elsewhere old new x y place byte bytes writes here other =
 
 -- ** one image's data
 
-data_written : (d : List Piece) (image n at byte : ℕ)
+pub data_written : (d : List Piece) (image n at byte : ℕ)
     → data_of (written image d (record { at = at; byte = byte })) n image ≡ option_map (λ bytes. slice_set bytes at byte) (data_of d n image)
 unfolding data_of written
 data_written [] image n at byte = refl
@@ -113,7 +113,7 @@ data_written (q ∷ d) zero n at byte = by_owner (is_of n q) refl
     by_owner false e = refl
 data_written (q ∷ d) (suc image) n at byte = data_written d image n at byte
 
-data_other : (d : List Piece) (image n other at byte : ℕ) → other ≢ image
+pub data_other : (d : List Piece) (image n other at byte : ℕ) → other ≢ image
     → data_of (written image d (record { at = at; byte = byte })) n other ≡ data_of d n other
 unfolding data_of written
 data_other [] image n other at byte ne = refl
@@ -225,11 +225,17 @@ module _ (k : Kept) (place byte : ℕ) where
           (block_ranges k.vector) (block_ranges k'.vector) x (block_here k k' x place byte writes x_takes) (others_kept bytes here)
           (live_in k.vector.images k.vector.past) (all_live k.vector.images k.vector.past) (rising k.vector.images k.vector.past) found
 
+      live_same : live_in k'.vector.images k'.vector.past ≡ live_in k.vector.images k.vector.past
+      live_same = rw (writes.leaves.images, writes.leaves.past) refl
+
+      blocks_then : (bytes : List ℕ) → held k.vector x.number ≡ Some bytes → blocks_in k' ≡ with_byte (blocks_in k) place byte
+      blocks_then bytes here = ap (flat_map (block_ranges k'.vector)) live_same ∙ blocks_changed bytes here
+
       pub write_block : (bytes : List ℕ) → held k.vector x.number ≡ Some bytes
           → memory_of k' ≡ record (memory_of k) { ranges = with_byte (memory_of k).ranges place byte }
       write_block bytes here =
           as_memory k k' place byte (memory_is k'
-          ∙ rw (writes.leaves.thread, writes.leaves.images, writes.leaves.past, writes.pieces, writes.stack, blocks_changed bytes here)
+          ∙ rw (blocks_then bytes here, writes.leaves.thread, writes.leaves.images, writes.leaves.past, writes.pieces, writes.stack)
               (in_blocks place byte (stack_of k) (blocks_in k) (data_among k) (pointer_of k ∷ fixed_among k) not (blocks_take k place (Some x) found))
           ∙ sym (ap (λ ranges. with_byte ranges place byte) (memory_is k)))
 
