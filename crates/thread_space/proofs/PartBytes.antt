@@ -6,6 +6,7 @@ use Rattle.std.specs.Option.{option_or}
 use Rattle.std.proofs.lemmas.Bool.{cases_Bool, leb-true, leb-false, le-leb, lt-leb, ltb-false, ltb-true}
 use Rattle.std.proofs.lemmas.Option.{cond_some, none-some, slice_get-get_or, slice_get_past}
 use Rattle.std.proofs.Math.Seq.{drop-cons}
+use Rattle.std.proofs.lemmas.List.{drop_all}
 use Rattle.guest_operands.specs.declared.space.Access.{Access}
 use Rattle.guest_operands.specs.declared.space.Access.TheVariants.{Read, Run, Write}
 use Rattle.guest_operands.specs.Ranges.{Range, byte_in}
@@ -15,27 +16,14 @@ use Rattle.image_file.specs.Spelled.{Part, Spelled}
 use Rattle.loaded_modules.specs.declared.instance.Instance.{Instance}
 use Rattle.loaded_modules.specs.Images.{JobImages, image_at}
 use Rattle.loaded_modules.specs.Loader.{bias, bias_of, loaded_part, part_bytes}
-use Rattle.thread_blocks.specs.JobLoads.{instance_part, parts_from, written_from}
+use Rattle.thread_blocks.specs.JobLoads.{instance_part, job_loads, parts_from, written_from}
 use Rattle.thread_blocks.specs.Loading.{is_code, is_loaders, is_written}
 use Rattle.thread_blocks.specs.RunTime.{has_words}
 use Rattle.thread_space.specs.OfParts.{allows_fixed, byte_of_part, fixed_ranges, part_has_words}
 use Rattle.thread_space.specs.Places.{behind}
-use Rattle.thread_space.proofs.Sought.{is_byte}
+use Rattle.thread_space.proofs.Sought.{looked}
 
 -- ** one range before others
-
-looked : (start place : ℕ) (bytes : List ℕ) (o : Option ℕ)
-    → cond (nat_le start place && nat_lt (place - start) (length bytes)) (slice_get bytes (place - start)) o
-    ≡ option_or (option_and_then (slice_get bytes) (behind start place)) o
-looked start place bytes o = elim (cases_Bool (nat_le start place)) [
-  | inl t ↦ rw t (inside (nat_lt (place - start) (length bytes)) refl)
-  | inr f ↦ rw f refl
-]
-  where
-    inside : (b : Bool) → nat_lt (place - start) (length bytes) ≡ b
-        → cond b (slice_get bytes (place - start)) o ≡ option_or (slice_get bytes (place - start)) o
-    inside true e = is_byte bytes (place - start) o (ltb-true (place - start) (length bytes) e)
-    inside false e = sym (rw (slice_get_past bytes (place - start) (ltb-false (place - start) (length bytes) e)) refl)
 
 by_class : (access : Access) (class : PartClass) (is_loaders : Bool) (start place : ℕ) (bytes : List ℕ) (rest : List (Range ℕ))
     → byte_in access (fixed_ranges (record { start = start; bytes = bytes; readable = not (is_code class); writable = is_written class && not is_loaders; runnable = is_code class } ∷ rest)) place
@@ -71,6 +59,25 @@ module _ (m : JobImages) (image : Spelled) (x : Instance) where
       (by_class access part.class (is_loaders image.got i) (part.address + bias image.kind x.number) place
       (part_bytes m image x part) (parts_from m image x (suc i) (drop (suc i) image.parts)))
 
+  pub fixed_start : (access : Access) (place : ℕ)
+      → byte_in access (fixed_ranges (parts_from m image x 0 image.parts)) place ≡ fixed_from access place 0
+  unfolding fixed_from
+  fixed_start access place = refl
+
+  pub fixed_hit : (access : Access) (place i byte : ℕ) (whole : Option ℕ) → whole ≡ fixed_from access place i → i < length image.parts
+      → byte_of_part m image x i access place (slice_get image.parts i) ≡ Some byte → Some byte ≡ whole
+  fixed_hit access place i byte whole from within here =
+      sym (from ∙ fixed_next access place i within ∙ ap (λ o. option_or o (fixed_from access place (i + 1))) here)
+
+  pub fixed_miss : (access : Access) (place i : ℕ) (whole : Option ℕ) → whole ≡ fixed_from access place i → i < length image.parts
+      → byte_of_part m image x i access place (slice_get image.parts i) ≡ None → whole ≡ fixed_from access place (i + 1)
+  fixed_miss access place i whole from within here =
+      from ∙ fixed_next access place i within ∙ ap (λ o. option_or o (fixed_from access place (i + 1))) here
+
+  pub fixed_end : (access : Access) (place i : ℕ) (whole : Option ℕ) → whole ≡ fixed_from access place i → length image.parts ≤ i → None ≡ whole
+  unfolding fixed_from
+  fixed_end access place i whole from past = sym (rw (drop_all i image.parts past) at from)
+
   unfoldable pub words_from : ℕ → ℕ → Bool
   words_from address i = list_any (has_words address) (written_from (drop i image.parts) (parts_from m image x i (drop i image.parts)))
 
@@ -86,6 +93,46 @@ module _ (m : JobImages) (image : Spelled) (x : Instance) where
           → list_any (has_words address) (cond b (range ∷ rest) rest) ≡ ((b && has_words address range) || list_any (has_words address) rest)
       by_written true range rest = refl
       by_written false range rest = refl
+
+  pub words_start : (address : ℕ)
+      → list_any (has_words address) (written_from image.parts (parts_from m image x 0 image.parts)) ≡ words_from address 0
+  unfolding words_from
+  words_start address = refl
+
+  pub words_hit : (address i : ℕ) (whole : Bool) → whole ≡ words_from address i → i < length image.parts
+      → part_has_words m image x i address (slice_get image.parts i) ≡ true → true ≡ whole
+  words_hit address i whole from within here =
+      sym (from ∙ words_next address i within ∙ ap (λ b. b || words_from address (i + 1)) here)
+
+  pub words_miss : (address i : ℕ) (whole : Bool) → whole ≡ words_from address i → i < length image.parts
+      → part_has_words m image x i address (slice_get image.parts i) ≡ false → whole ≡ words_from address (i + 1)
+  words_miss address i whole from within here =
+      from ∙ words_next address i within ∙ ap (λ b. b || words_from address (i + 1)) here
+
+  pub words_end : (address i : ℕ) (whole : Bool) → whole ≡ words_from address i → length image.parts ≤ i → false ≡ whole
+  unfolding words_from
+  words_end address i whole from past = sym (rw (drop_all i image.parts past) at from)
+
+-- ** all parts of an instance
+
+module _ (m : JobImages) (x : Instance) where
+  pub of_image : (image : Spelled) → image_at m x.image ≡ Some image
+      → fixed_ranges (parts_from m image x 0 image.parts) ≡ (job_loads m).fixed x
+  unfolding job_loads
+  of_image image there = sym (rw there refl)
+
+  pub of_no_image : image_at m x.image ≡ None → [] ≡ (job_loads m).fixed x
+  unfolding job_loads
+  of_no_image none = sym (rw none refl)
+
+  pub tables_of_image : (image : Spelled) → image_at m x.image ≡ Some image
+      → written_from image.parts (parts_from m image x 0 image.parts) ≡ (job_loads m).tables x
+  unfolding job_loads
+  tables_of_image image there = sym (rw there refl)
+
+  pub tables_of_no_image : image_at m x.image ≡ None → [] ≡ (job_loads m).tables x
+  unfolding job_loads
+  tables_of_no_image none = sym (rw none refl)
 
 -- ** what the code reads
 

@@ -5,6 +5,7 @@ pub mod Live
 pub mod OfParts
 pub mod Places
 pub mod Runners
+pub mod Running
 pub mod Standing
 pub mod Starting
 pub mod Steps

@@ -57,25 +57,26 @@ pub record KeepsJob (old new : Kept) : Type 0 where
   pub startups : HasStartups old.vector → HasStartups new.vector
   pub pieces : length new.pieces ≡ length old.pieces
 
+-- a call that waits has a step to pay for its look
+abbrev pub HasStepsLeft : ℕ → Taken → Type 0
+HasStepsLeft limit (taken.Over outcome) = Unit {0}
+HasStepsLeft limit (taken.Waits machine asked) = machine.taken < limit
+
 -- a call runs, from its machine's steps so far up to its end or its next look
 pub record RunsTo (limit : ℕ) (m : Standing ℕ Bool) (k : Kept) (result : Taken) (new : Kept) : Type 0 where
   pub keeps : KeepsJob k new
   pub past : new.vector.past ≡ k.vector.past
+  pub steps : HasStepsLeft limit result
   pub runs : (now seen : List Event) (asked : Option Asked) (points : List ℕ) (todo : List Line) (said : List Said)
       → HasSeen k.vector now
       → TookAs limit new result points now todo said seen
       (after_run todo said seen points
       (run (thread_steps (loads_in k) k.vector.thread) (limit - m.taken) (held_at now m.state asked k)))
 
--- a call that waits has a step to pay for its look
-abbrev pub HasStepsLeft : ℕ → Taken → Type 0
-HasStepsLeft fuel (taken.Over outcome) = Unit {0}
-HasStepsLeft fuel (taken.Waits machine asked) = machine.taken < 4 * fuel
-
 -- a line begins, which looked already
 pub record BeginsTo (fuel : ℕ) (line : Line) (k : Kept) (result : Taken) (new : Kept) : Type 0 where
   pub keeps : KeepsJob k new
-  pub steps : HasStepsLeft fuel result
+  pub steps : HasStepsLeft (4 * fuel) result
   pub begins : (seen : List Event) (state : State ℕ Bool) (asked : Option Asked) (todo : List Line) (said : List Said)
       → HasSeen k.vector seen
       → let l = loads_in k in
@@ -88,7 +89,7 @@ pub record BeginsTo (fuel : ℕ) (line : Line) (k : Kept) (result : Taken) (new 
 -- a call that waited goes on, which looked already
 pub record ResumesTo (fuel : ℕ) (m : Standing ℕ Bool) (asked : Asked) (k : Kept) (result : Taken) (new : Kept) : Type 0 where
   pub keeps : KeepsJob k new
-  pub steps : HasStepsLeft fuel result
+  pub steps : HasStepsLeft (4 * fuel) result
   pub resumes : (seen : List Event) (points : List ℕ) (todo : List Line) (said : List Said)
       → HasSeen k.vector seen
       → let l = loads_in k in

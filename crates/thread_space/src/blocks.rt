@@ -1,9 +1,9 @@
 //! Bytes of a thread's blocks.
 
-ghost use Rattle.std.specs.Prelude.{◌≡◌, true, [], ◌∷◌};
+ghost use Rattle.std.specs.Prelude.{◌≡◌, true, slice_get};
 ghost use Rattle.std.specs.List.{find};
 ghost use Rattle.guest_operands.specs.declared.space.Access.TheVariants.{Read, Write};
-ghost use Rattle.guest_operands.specs.Ranges.{byte_in, with_byte};
+ghost use Rattle.guest_operands.specs.Ranges.{byte_in};
 ghost use Rattle.thread_space.specs.Kept.{live_in};
 ghost use Rattle.thread_space.specs.Places.{block_ranges, takes};
 ghost use Rattle.thread_space.specs.Writing.{WritesBlock};
@@ -12,6 +12,13 @@ ghost use Rattle.thread_space.specs.Places.{behind};
 
 use crate::space::ThreadSpace;
 use loaded_modules::Instance;
+
+/// The byte at an offset.
+fn byte_of(bytes: &[u8], at: u64) -> Option<u8>
+    ensures { result ≡ slice_get bytes.now at }
+{
+    bytes.get(at as usize).copied()
+}
 
 impl<'m> ThreadSpace<'m> {
     /// How far behind the start of an instance's block a place lies, if it lies there at all.
@@ -32,7 +39,7 @@ impl<'m> ThreadSpace<'m> {
         let Some(at) = self.behind_block(instance, place) else {
             return None;
         };
-        bytes.get(at as usize).copied()
+        byte_of(bytes, at)
     }
 
     /// The live instance whose block has a place.

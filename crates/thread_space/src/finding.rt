@@ -53,7 +53,10 @@ impl<'m> ThreadSpace<'m> {
         let thread = self.dtv.thread();
         match instance.offset {
             Some(offset) => thread_pointer(thread).saturating_sub(offset),
-            None => u64::from(thread) * (1 << 40) + u64::from(instance.number) * (1 << 24),
+            None => {
+                let number = instance.number;
+                u64::from(thread) * (1 << 40) + u64::from(number) * (1 << 24)
+            }
         }
     }
 

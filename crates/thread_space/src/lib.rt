@@ -9,8 +9,10 @@ mod lines;
 mod names;
 mod parts;
 mod runner;
+mod running;
 mod shared;
 mod space;
+mod stack;
 mod taking;
 mod words;
 
@@ -19,5 +21,6 @@ pub use bytes::Outline;
 pub use lines::{Started, begin};
 pub use names::JobNames;
 pub use runner::Runner;
+pub use running::{Ran, Resumed, answer_asked, run_on};
 pub use space::ThreadSpace;
 pub use taking::Taken;

@@ -1,6 +1,6 @@
 //! The parts of images, as instances have them.
 
-ghost use Rattle.std.specs.Prelude.{◌≡◌, ◌+◌, Some, length, nat_le, slice_get};
+ghost use Rattle.std.specs.Prelude.{◌≡◌, ◌+◌, Some, length, nat_le, option_map, slice_get};
 ghost use Rattle.std.specs.List.{filter, list_any};
 ghost use Rattle.guest_operands.specs.Ranges.{byte_in};
 ghost use Rattle.loaded_modules.specs.Images.{image_at};
@@ -70,6 +70,13 @@ fn has_room(size: u64, at: u64) -> bool
 }
 
 impl<'m> ThreadSpace<'m> {
+    /// The image that an instance is of.
+    fn image_of(&self, instance: &Instance) -> Option<&Image>
+        ensures { option_map (λ image. image.now) result ≡ image_at self.now.vector.images instance.now.image }
+    {
+        self.modules.image(instance.image)
+    }
+
     /// How far the image of an instance is moved.
     fn bias(&self, instance: &Instance) -> u64
         ensures { result ≡ bias_of self.now.vector.images instance.now }
@@ -145,7 +152,7 @@ impl<'m> ThreadSpace<'m> {
     fn part_byte(&self, instance: &Instance, access: Access, place: u64) -> Option<u8>
         ensures { result ≡ byte_in access ((job_loads self.now.vector.images).fixed instance.now) place }
     {
-        match self.modules.image(instance.image) {
+        match self.image_of(instance) {
             Some(image) => self.byte_of_image(image, instance, access, place),
             None => None,
         }
@@ -206,7 +213,7 @@ impl<'m> ThreadSpace<'m> {
     pub(crate) fn has_words(&self, instance: &Instance, address: u64) -> bool
         ensures { result ≡ list_any (has_words address) ((job_loads self.now.vector.images).tables instance.now) }
     {
-        match self.modules.image(instance.image) {
+        match self.image_of(instance) {
             Some(image) => self.image_has_words(image, instance, address),
             None => false,
         }

@@ -110,7 +110,7 @@ fn ended<'m>(
     requires fuel { script.fuel < 2 ^ 32 }
     requires lines { length script.lines.now < 2 ^ 31 }
     requires begun { begun ≤ length script.lines.now }
-    requires steps { HasStepsLeft script.fuel taken }
+    requires steps { HasStepsLeft (4 * script.fuel) taken }
     ensures { IfOk result (λ r. r
         ≡ run_after script.entry.lines.now begun script.entry.fuel said.items points.items taken space.entry) }
 {
@@ -160,6 +160,7 @@ fn begin_line<'m>(
     requires lines { length script.lines.now < 2 ^ 31 }
     requires begun { begun < length script.lines.now }
     requires room { space.vector.past.seen + 1 < 2 ^ 62 }
+    requires pieces { length space.pieces ≡ length space.vector.images.images + 1 }
     requires answer { answer ≡ answer_to space.vector.past (ask_by (begun + 1) line.now.image line.now.action) }
     ensures { IfOk result (λ r. BeginsLine script.entry.lines.now begun script.entry.fuel line.now space.entry said.items r data.new) }
 {
@@ -213,11 +214,12 @@ impl<'m> Runner<'m> {
         ensures { IfOk result (λ r. IsFirstRun thread names.now job.now r) }
     {
         let lines = job.lines(thread);
-        if lines.len() >= 1 << 31 {
+        if lines.len() >= 0x8000_0000 {
             return Err(AllocError);
         }
         let fuel = job.fuel();
         let space = ThreadSpace::new(alloc, thread, names.modules())?;
+        let _seen = space.seen();
         Ok(Runner {
             alloc,
             names,
@@ -249,10 +251,10 @@ impl<'m> Runner<'m> {
     pub fn asks(&self) -> Ask
         ensures { result ≡ ask_of self.now }
     {
-        if self.call.is_some() {
-            return Ask::Look(self.begun as u32);
+        match &self.call {
+            Some(_) => Ask::Look(self.begun as u32),
+            None => ask_next(self.begun as u32 + 1, self.lines.get(self.begun)),
         }
-        ask_next(self.begun as u32 + 1, self.lines.get(self.begun))
     }
 
     /// Takes the thread's next turn: a look at the events that it has not seen, and the steps up to its next look, with the
@@ -290,6 +292,7 @@ impl<'m> Runner<'m> {
         };
         space.put_data(mem::replace(data, Data::none(alloc)));
         space.look(events)?;
+        let _seen = space.seen();
         match call {
             Some(call) => resume_line(script, begun, space, said, call, data),
             None => begin_line(script, begun, space, said, &lines[begun], answer, data),

@@ -8,7 +8,7 @@ ghost use Rattle.thread_blocks.specs.Instances.{loaded_instance};
 ghost use Rattle.thread_space.specs.Kept.{live_in};
 ghost use Rattle.thread_space.specs.Steps.{HasData, HasFreshStack, IsNew, Looks, Reaches};
 ghost use Rattle.thread_vector.specs.Holding.{IsLeftBy};
-ghost use Rattle.std.specs.Vec.{vec_capacity};
+ghost use Rattle.std.specs.Vec.{vec_capacity, vec_len};
 
 use crate::words::{no_stack, pointer_word, stack_of};
 use guest_memory::GuestRange;
@@ -52,9 +52,11 @@ impl<'m> Model for ThreadSpace<'m> {
 /// The live instances that a thread's vector has seen, in the order of their images. It takes no memory.
 fn list_live(dtv: &Dtv, room: Vec<Instance>) -> Vec<Instance>
     requires empty { room.items ≡ [] }
+    requires none { vec_len room ≡ 0 }
     requires enough { 65 ≤ vec_capacity room }
     ensures { result.items ≡ live_in dtv.now.images dtv.now.past }
 {
+    let _seen = dtv.seen();
     let mut live = room;
     for image in 0..NUMBERS {
         if let Some(instance) = dtv.instance(image) {
