@@ -1,9 +1,8 @@
 -- Functions begin at low addresses, and images are moved by little.
 use Rattle.std.proofs.Common.{◌≡◌, ◌∙◌, ◌+◌, ◌-◌, ◌^◌, ◌<◌, ◌≤◌, ◌==◌, ◌&&◌, ℕ, zero, suc, Bool, true, false, List, [], ◌∷◌, ◌++◌, length, Bor, Option, Some, None, refl, sym, ap, subst, inl, inr, arith}
-use Rattle.std.specs.Prelude.{if◌then◌else◌, not, option_and_then, option_map, slice_range, drop, take}
-use Rattle.std.specs.List.{list_any, position_from, slice_get}
+use Rattle.std.specs.Prelude.{if◌then◌else◌, not, option_map, slice_range, drop, take}
+use Rattle.std.specs.List.{list_any, slice_get}
 use Rattle.std.specs.Slice.{IsItemAt}
-use Rattle.std.specs.Str.{bytes_eq}
 use Rattle.std.proofs.lemmas.Bool.{cases_Bool, cases_lt, ltb-true}
 use Rattle.std.proofs.lemmas.List.{length-take, take_more}
 use Rattle.std.proofs.lemmas.Option.{cond_some, get_or_from_slice_get, option_and_then_some, slice_get_past, slice_get_read, slice_get_within}

@@ -1,5 +1,5 @@
 -- What a thread holds, from what is written and by whom.
-use Rattle.std.proofs.Common.{◌≡◌, ◌∙◌, ℕ, Bool, true, List, [], ◌∷◌, ◌++◌, Option, Some, None, length, refl, sym, ap, subst}
+use Rattle.std.proofs.Common.{◌≡◌, ◌∙◌, ℕ, Bool, true, List, [], ◌∷◌, Option, Some, None, length, refl, sym, ap}
 use Rattle.std.specs.Prelude.{is_some, option_to_list}
 use Rattle.std.proofs.lemmas.List.Sums.{fold-append}
 use Rattle.guest_operands.specs.declared.state.State.{State}
@@ -15,7 +15,7 @@ use Rattle.thread_blocks.specs.JobLoads.{job_loads}
 use Rattle.thread_blocks.specs.RunTime.{Runs}
 use Rattle.thread_blocks.specs.Turns.{with_event, with_last}
 use Rattle.thread_vector.specs.Holding.{IsLeftBy}
-use Rattle.thread_vector.specs.Vectors.{Vector, held}
+use Rattle.thread_vector.specs.Vectors.{held}
 use Rattle.thread_vector.proofs.Facts.{facts}
 use Rattle.thread_space.specs.Kept.{HasSeen, Kept, held_at, owned_of}
 use Rattle.thread_space.specs.Live.{IsLive}

@@ -1,36 +1,32 @@
 -- What the first look of a line comes to, part by part.
-use Rattle.std.proofs.Common.{◌≡◌, ◌∙◌, ◌+◌, ◌<◌, ◌≤◌, ◌⊎◌, ℕ, Bool, true, false, List, [], ◌∷◌, ◌++◌, Option, Some, None, Result, Ok, Err, length, refl, sym, ap, subst, inl, inr, arith}
-use Rattle.std.specs.Prelude.{option_to_list, is_some, nat_le, slice_range, if◌then◌else◌}
+use Rattle.std.proofs.Common.{◌≡◌, ◌∙◌, ◌+◌, ℕ, Bool, true, false, List, Option, Some, None, length, refl, sym, ap, subst}
+use Rattle.std.specs.Prelude.{nat_le}
 use Rattle.guest_arithmetic.specs.Plain.{plain_operations}
 use Rattle.guest_machine.specs.Machine.{Standing}
 use Rattle.guest_operands.specs.declared.state.State.{State}
-use Rattle.job_text.specs.declared.thread_lines.Action.{Action}
-use Rattle.job_text.specs.declared.thread_lines.Action.TheVariants.{Call, Open, Close, Peek}
-use Rattle.job_text.specs.declared.thread_lines.ThreadLine.{ThreadLine}
 use Rattle.loaded_modules.specs.declared.instance.Instance.{Instance}
-use Rattle.loaded_modules.specs.Images.{JobImages, infos}
+use Rattle.loaded_modules.specs.Images.{infos}
 use Rattle.module_table.specs.declared.events.Event.{Event}
-use Rattle.module_table.specs.Past.{after, after_one, close_refusal, module_of, open_refusal}
-use Rattle.transcript_text.specs.declared.outcomes.LineRefusal.TheVariants.{NotOpen as IsClosed, Symbol as NoSymbol, Length as TooLong}
+use Rattle.module_table.specs.Past.{module_of}
+use Rattle.transcript_text.specs.declared.outcomes.LineRefusal.TheVariants.{NotOpen as IsClosed, Symbol as NoSymbol}
 use Rattle.transcript_text.specs.declared.outcomes.Outcome.{Outcome}
-use Rattle.transcript_text.specs.declared.outcomes.Outcome.TheVariants.{Bytes, Refused}
+use Rattle.transcript_text.specs.declared.outcomes.Outcome.TheVariants.{Refused}
 use Rattle.thread_blocks.specs.declared.asked.Asked.{Asked}
 use Rattle.thread_blocks.specs.Held.{block_bytes, owned_by, reached}
-use Rattle.thread_blocks.specs.Instances.{Loads, instance_at, left_by, loaded_instance}
+use Rattle.thread_blocks.specs.Instances.{Loads, loaded_instance}
 use Rattle.thread_blocks.specs.JobLoads.{job_loads}
 use Rattle.thread_blocks.specs.Lines.{Line, begun_by, begun_in, begun_peek, event_by, shown_from, shown_in}
 use Rattle.thread_blocks.specs.MachineTurns.{call_start}
 use Rattle.thread_blocks.specs.RunTime.{Runs, shows}
-use Rattle.thread_blocks.specs.Turns.{Answered, Begun, Says as SaysSo, Calls as CallsOn, with_event}
+use Rattle.thread_blocks.specs.Turns.{Answered, Begun, Says as SaysSo, with_event}
 use Rattle.thread_vector.specs.Vectors.{held}
 use Rattle.thread_space.specs.declared.lines.Started.{Started}
 use Rattle.thread_space.specs.declared.lines.Started.TheVariants.{Says, Calls}
 use Rattle.thread_space.specs.Kept.{HasSeen, Kept, held_at, owned_of}
 use Rattle.thread_space.specs.Live.{HasStartups, IsLive}
 use Rattle.thread_space.specs.Starting.{Begins, BeginsCall, BeginsPeek, ReachesLive, Starts, part_shown, shown_of, started_as}
-use Rattle.thread_space.specs.Taking.{KeepsJob}
 use Rattle.thread_space.specs.Steps.{HasFreshStack}
-use Rattle.thread_space.proofs.HeldWith.{block_held, found_at, held_with, left_is, reached_with, same_thread, seen_with}
+use Rattle.thread_space.proofs.HeldWith.{block_held, found_at, held_with, reached_with, same_thread, seen_with}
 use Rattle.thread_space.proofs.Looks.{reach_kept}
 
 -- ** whole lines
@@ -39,15 +35,16 @@ pub starts_so : (line : Line) (old new : Kept) (result : Started) (event : Optio
     → Begins event begun old result new
     → ((seen : List Event) → HasSeen old.vector seen → event_by (job_loads old.vector.images) old.vector.thread line seen ≡ event)
     → ((seen : List Event) (h : Runs) → HasSeen old.vector seen
-        → begun_by plain_operations (job_loads old.vector.images) (shows (job_loads old.vector.images) old.vector.thread) old.vector.thread line seen h line.told.action ≡ begun seen h)
+    → begun_by plain_operations (job_loads old.vector.images) (shows (job_loads old.vector.images) old.vector.thread) old.vector.thread line seen h line.told.action ≡ begun seen h)
     → Starts line old result new
 starts_so line old new result event begun begins adds is = record {
   keeps = begins.keeps;
   fresh = begins.fresh;
   starts = λ seen state asked has_seen.
-      let now = sym (ap (with_event seen) (adds seen has_seen)) in
-      (subst (HasSeen new.vector) now (seen_with old new event seen begins.keeps.images begins.past has_seen),
-      is seen (held_at seen state asked old) has_seen ∙ begins.begins seen state asked has_seen ∙ ap (λ events. started_as events state asked result new) now);
+      let now = sym (ap (with_event seen) (adds seen has_seen)) in (
+        subst (HasSeen new.vector) now (seen_with old new event seen begins.keeps.images begins.past has_seen),
+        is seen (held_at seen state asked old) has_seen ∙ begins.begins seen state asked has_seen ∙ ap (λ events. started_as events state asked result new) now,
+      );
 }
 
 -- a line that is over as it begins, and that changes nothing

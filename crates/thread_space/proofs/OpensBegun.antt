@@ -1,7 +1,7 @@
 -- What a line comes to that opens or closes its image.
-use Rattle.std.proofs.Common.{◌≡◌, ◌∙◌, ◌+◌, ◌<◌, ◌≤◌, ◌⊎◌, ℕ, Bool, true, false, List, [], ◌∷◌, ◌++◌, Option, Some, None, Result, Ok, Err, length, refl, sym, ap, subst, inl, inr, arith}
-use Rattle.std.specs.Prelude.{IfOk, is_none, is_some, nat_lt, option_to_list, if◌then◌else◌}
-use Rattle.std.proofs.lemmas.Bool.{cases_Bool, lt-ltb}
+use Rattle.std.proofs.Common.{◌≡◌, ◌∙◌, ◌+◌, ◌⊎◌, ℕ, Bool, true, false, List, [], ◌∷◌, Option, Some, None, Result, Ok, Err, length, refl, sym, ap, subst, inl, inr, arith}
+use Rattle.std.specs.Prelude.{IfOk, is_some, nat_lt, if◌then◌else◌}
+use Rattle.std.proofs.lemmas.Bool.{lt-ltb}
 use Rattle.std.proofs.lemmas.List.{get_or-set_same, length-set}
 use Rattle.guest_arithmetic.specs.Plain.{plain_operations}
 use Rattle.guest_operands.specs.declared.state.State.{State}
@@ -12,16 +12,14 @@ use Rattle.module_data.specs.Pieces.{Piece, loaded as with_piece}
 use Rattle.module_table.specs.declared.events.CloseRefusal.{CloseRefusal}
 use Rattle.module_table.specs.declared.events.Event.{Event}
 use Rattle.module_table.specs.declared.events.OpenRefusal.{OpenRefusal}
-use Rattle.module_table.specs.declared.modules.Module.{Module}
 use Rattle.module_table.specs.History.{unless}
 use Rattle.module_table.specs.Modules.{is_loaded, no_module}
 use Rattle.module_table.specs.Past.{Past, accepts, after_one, close_refusal, is_legal, module_of, open_refusal, opened, retained}
 use Rattle.module_table.proofs.Steps.{loaded_within}
-use Rattle.transcript_text.specs.declared.outcomes.Outcome.{Outcome}
 use Rattle.transcript_text.specs.declared.outcomes.Outcome.TheVariants.{Closed as ClosedSo, Opened as OpenedSo, Refused}
 use Rattle.thread_blocks.specs.declared.asked.Asked.{Asked}
 use Rattle.thread_blocks.specs.Held.{loaded_at, loaded as loading, looked, looked_at}
-use Rattle.thread_blocks.specs.Instances.{Loads, instance_at, left_by, loaded_instance}
+use Rattle.thread_blocks.specs.Instances.{Loads, instance_at, loaded_instance}
 use Rattle.thread_blocks.specs.JobLoads.{job_loads}
 use Rattle.thread_blocks.specs.Lines.{Line, begun_close, begun_open, event_at, opened_as, refused_close, refused_open, unless_refused, with_load}
 use Rattle.thread_blocks.specs.RunTime.{Runs, shows}
@@ -34,7 +32,7 @@ use Rattle.thread_space.specs.declared.lines.Started.{Started}
 use Rattle.thread_space.specs.declared.lines.Started.TheVariants.{Says}
 use Rattle.thread_space.specs.Kept.{HasSeen, Kept, held_at, owned_of}
 use Rattle.thread_space.specs.Live.{HasStartups}
-use Rattle.thread_space.specs.Starting.{Begins, BeginsCall, BeginsClose, BeginsOpen, BeginsPeek, LoadsNew, Sees, Starts}
+use Rattle.thread_space.specs.Starting.{BeginsCall, BeginsClose, BeginsOpen, BeginsPeek, LoadsNew, Sees, Starts}
 use Rattle.thread_space.specs.Steps.{HasData}
 use Rattle.thread_space.proofs.HeldWith.{found_at, held_with, left_is, loaded_with, looked_with, seen_with}
 use Rattle.thread_space.proofs.LinesBegun.{over_at_once, starts_so}
@@ -238,10 +236,10 @@ open_begins old mid new line e was instance none startups long is sees was_is lo
     let here : Sees old (own_event old line true) mid = subst (λ e. Sees old e mid) is sees in
     let found = found_then old mid line here none startups in
     let was_so : was ≡ is_loaded (module_of old.vector.past line.told.image) =
-        was_is ∙ ap is_some (instance_is old.vector.images old.vector.past line.told.image) ∙ was_loaded _ _ in
+    was_is ∙ ap is_some (instance_is old.vector.images old.vector.past line.told.image) ∙ was_loaded _ _ in
     let load : LoadsNew (is_loaded (module_of old.vector.past line.told.image)) (Some (x old mid line here none startups)) mid new =
-        subst (λ o. LoadsNew (is_loaded (module_of old.vector.past line.told.image)) o mid new) found
-        (subst (λ t. LoadsNew t (loaded_instance (infos mid.vector.images) line.told.image (module_of mid.vector.past line.told.image)) mid new) was_so load) in
+    subst (λ o. LoadsNew (is_loaded (module_of old.vector.past line.told.image)) o mid new) found
+    (subst (λ t. LoadsNew t (loaded_instance (infos mid.vector.images) line.told.image (module_of mid.vector.past line.told.image)) mid new) was_so load) in
     let same = load_same (is_loaded (module_of old.vector.past line.told.image)) (x old mid line here none startups) mid new load in
     rw none (record {
       keeps = record {

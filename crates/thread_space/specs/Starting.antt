@@ -10,7 +10,7 @@ use Rattle.transcript_text.specs.declared.outcomes.LineRefusal.TheVariants.{Symb
 use Rattle.transcript_text.specs.declared.outcomes.Outcome.{Outcome}
 use Rattle.transcript_text.specs.declared.outcomes.Outcome.TheVariants.{Bytes, Refused}
 use Rattle.thread_blocks.specs.declared.asked.Asked.{Asked}
-use Rattle.thread_blocks.specs.Instances.{instance_at, left_by}
+use Rattle.thread_blocks.specs.Instances.{instance_at}
 use Rattle.thread_blocks.specs.JobLoads.{job_loads}
 use Rattle.thread_blocks.specs.Lines.{Line, begun_by, begun_close, begun_in, begun_open, begun_peek, event_at, event_by, unless_refused}
 use Rattle.thread_blocks.specs.RunTime.{Runs, shows}
@@ -50,11 +50,11 @@ pub record Starts (line : Line) (old : Kept) (result : Started) (new : Kept) : T
   pub fresh : IsFresh result
   pub starts : (seen : List Event) (state : State ℕ Bool) (asked : Option Asked) → HasSeen old.vector seen
       → let l = job_loads old.vector.images in
-        let thread = old.vector.thread in
-        let now = with_event seen (event_by l thread line seen) in
-        HasSeen new.vector now
-        × (begun_by plain_operations l (shows l thread) thread line seen (held_at seen state asked old) line.told.action
-        ≡ started_as now state asked result new)
+      let thread = old.vector.thread in
+      let now = with_event seen (event_by l thread line seen) in
+      HasSeen new.vector now
+      × (begun_by plain_operations l (shows l thread) thread line seen (held_at seen state asked old) line.told.action
+      ≡ started_as now state asked result new)
 
 -- ---- the parts
 

@@ -229,12 +229,7 @@ fn reach(space: &mut ThreadSpace, instance: &Instance) -> Result<(), AllocError>
 }
 
 /// The bytes of a block from an offset on, if it holds them all.
-fn part_shown(
-    alloc: Global,
-    block: &[u8],
-    size: u32,
-    offset: u64,
-) -> Result<Outcome, AllocError>
+fn part_shown(alloc: Global, block: &[u8], size: u32, offset: u64) -> Result<Outcome, AllocError>
     ensures { IfOk result (λ outcome. outcome ≡ part_shown block.now size offset) }
 {
     match offset.checked_add(u64::from(size)) {
@@ -336,6 +331,12 @@ pub fn begin(
         ),
         Action::Open => open(space, number, line, open_answer(answer)),
         Action::Close => close(space, number, line, close_answer(answer)),
-        Action::Peek { symbol, length } => peek(space, names, line, symbol.as_str().as_bytes(), *length),
+        Action::Peek { symbol, length } => peek(
+            space,
+            names,
+            line,
+            symbol.as_str().as_bytes(),
+            *length,
+        ),
     }
 }

@@ -1,7 +1,6 @@
 use Rattle.std.proofs.Common.{◌∙◌, sym, ap, ℕ}
 use Rattle.job_text.specs.declared.thread_lines.Action.TheVariants.{Call, Peek}
 use Rattle.thread_blocks.specs.Lines.{Line}
-use Rattle.thread_space.specs.declared.lines.Started.{Started}
 use Rattle.thread_space.specs.Starting.{BeginsCall, BeginsClose, BeginsOpen, BeginsPeek, Starts}
 use Rattle.thread_space.proofs.OpensBegun.{call_starts, close_starts, if_ok, open_starts, peek_starts}
 use Rattle.thread_space.proofs.lines.begin.Goals as goal

@@ -1,7 +1,4 @@
-use Rattle.std.proofs.Common.{◌∙◌, ◌+◌, ◌≡◌, ℕ, List, ◌++◌, ◌∷◌, [], Option, None, Some, sym, ap, arith, take, length}
-use Rattle.std.specs.List.{slice_get}
-use Rattle.image_file.specs.Spelled.{Spelled}
-use Rattle.loaded_modules.specs.Images.{JobImages, image_at}
+use Rattle.std.proofs.Common.{◌∙◌, ◌+◌, ◌++◌, ◌∷◌, [], sym, ap, arith, take}
 use Rattle.thread_space.proofs.Entries.{image_after, one_more, none_there}
 use Rattle.thread_space.proofs.names.names_of.Goals as goal
 use Rattle.thread_space.proofs.names.names_of.Goals.{in-Some+in_ok-new+in_ok-push, in_default}
