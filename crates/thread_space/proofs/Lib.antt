@@ -16,9 +16,12 @@ pub mod Resuming
 pub mod RunTurns
 pub mod RunningOn
 pub mod SameThread
+pub mod ShapeKept
 pub mod SharedIs
 pub mod Sought
 pub mod SpaceRuns
 pub mod StartKept
 pub mod StartupBlocks
 pub mod Startups
+pub mod WriteKept
+pub mod Written

@@ -1,5 +1,5 @@
 -- A byte that is read or run: the stack first, then blocks, data, the word at the thread pointer, and what is fixed.
-use Rattle.std.proofs.Common.{◌≡◌, ◌∙◌, ◌++◌, ◌||◌, ℕ, Bool, true, false, List, [], ◌∷◌, map, Option, Some, None, refl, sym, ap, inl, inr, cond}
+use Rattle.std.proofs.Common.{◌≡◌, ◌∙◌, ◌++◌, ◌||◌, ◌-◌, ℕ, Bool, true, false, List, [], ◌∷◌, map, Option, Some, None, refl, sym, ap, inl, inr, cond}
 use Rattle.std.specs.Prelude.{is_some, not, option_and_then, slice_get}
 use Rattle.std.specs.List.{filter, find, flat_map}
 use Rattle.std.specs.Option.{option_or}
@@ -19,7 +19,7 @@ use Rattle.thread_space.specs.Kept.{Kept, blocks_of, fixed_in, live_in, memory_o
 use Rattle.thread_space.specs.OfParts.{fixed_ranges}
 use Rattle.thread_space.specs.Places.{block_ranges, data_ranges, takes}
 use Rattle.thread_space.proofs.OwnBytes.{block_run, block_same, data_run, data_same}
-use Rattle.thread_space.proofs.Sought.{byte_in-append, byte_in-each, found_passes, none_each, or_none, same_each}
+use Rattle.thread_space.proofs.Sought.{byte_in-append, byte_in-each, found_passes, has_byte, lies_within, none_each, or_none, same_each}
 
 -- the ranges of each, one after another
 pub ranges_each : {X : Type 0} (made : X → List (Owned ℕ)) (xs : List X) → ranges_in (flat_map made xs) ≡ flat_map (λ x. ranges_in (made x)) xs
@@ -75,15 +75,16 @@ module _ (k : Kept) where
     no_write [] = refl
     no_write (r ∷ rs) = elim (cases_Bool r.writable) [
       | inl t ↦ rw t (no_write rs)
-      | inr f ↦ rw (f, f) (no_write rs)
+      | inr f ↦ rw f (no_write rs)
     ]
 
+    fixed_no_write : (x : Instance) → byte_in Write ((job_loads k.vector.images).fixed x) place ≡ None
+    unfolding job_loads
+    fixed_no_write x = no_write (loaded_parts k.vector.images x)
+
     pub fixed_not_written : byte_in Write (pointer_of ∷ fixed_among) place ≡ None
-    fixed_not_written = none_each Write place (job_loads k.vector.images).fixed each (live_in k.vector.images k.vector.past)
-      where
-        each : (x : Instance) → byte_in Write ((job_loads k.vector.images).fixed x) place ≡ None
-        unfolding job_loads
-        each x = no_write (loaded_parts k.vector.images x)
+    fixed_not_written =
+        none_each Write place (job_loads k.vector.images).fixed fixed_no_write (live_in k.vector.images k.vector.past)
 
     pub no_block_run : byte_in Run blocks_in place ≡ None
     no_block_run = none_each Run place (block_ranges k.vector) (λ x. block_run k.vector x place) (live_in k.vector.images k.vector.past)
@@ -134,9 +135,33 @@ module _ (k : Kept) where
 
     -- ** whether a byte may be written
 
+    some_or : (a b : Option ℕ) → is_some (option_or a b) ≡ (is_some a || is_some b)
+    some_or None b = refl
+    some_or (Some x) b = refl
+
     pub may_write_is : is_some (byte_in Write (memory_of k).ranges place)
         ≡ (grants Write stack_of place || (is_some block_found || is_some data_found))
-    may_write_is = ?
+    may_write_is = elim (cases_Bool (grants Write stack_of place)) [
+      | inl t ↦
+        ap (λ ranges. takes ranges place) memory_is
+        ∙ rw t (has_byte k.stack (place - stack_start k.vector.thread) (lies_within Write stack_of place t))
+      | inr f ↦
+        ap (λ ranges. takes ranges place) memory_is
+        ∙ rw f (ap is_some (behind_stack Write) ∙ some_or _ _
+        ∙ ap (λ b. b || is_some (option_or (byte_in Write data_among place) (byte_in Write (pointer_of ∷ fixed_among) place)))
+            (ap is_some blocks_written ∙ found_some (block_ranges k.vector) block_found refl)
+        ∙ ap (λ b. is_some block_found || b)
+            (ap (λ o. is_some (option_or (byte_in Write data_among place) o)) fixed_not_written ∙ ap is_some (or_none (byte_in Write data_among place))
+            ∙ ap is_some data_written ∙ found_some (data_ranges k.vector.images k.pieces) data_found refl))
+    ]
+
+    -- ** which part takes a byte
+
+    pub blocks_take : (o : Option Instance) → block_found ≡ o → takes blocks_in place ≡ is_some o
+    blocks_take o found = ap is_some blocks_written ∙ found_some (block_ranges k.vector) block_found refl ∙ ap is_some found
+
+    pub data_take : (o : Option Instance) → data_found ≡ o → takes data_among place ≡ is_some o
+    data_take o found = ap is_some data_written ∙ found_some (data_ranges k.vector.images k.pieces) data_found refl ∙ ap is_some found
 
     -- ** a byte that is read
 

@@ -18,7 +18,7 @@ is_byte [] i o within = absurd (omega arith)
 is_byte (x ∷ xs) zero o within = refl
 is_byte (x ∷ xs) (suc i) o within = is_byte xs i o (omega arith)
 
-has_byte : {B : Type 0} (xs : List B) (i : ℕ) → i < length xs → is_some (slice_get xs i) ≡ true
+pub has_byte : {B : Type 0} (xs : List B) (i : ℕ) → i < length xs → is_some (slice_get xs i) ≡ true
 has_byte [] i within = absurd (omega arith)
 has_byte (x ∷ xs) zero within = refl
 has_byte (x ∷ xs) (suc i) within = has_byte xs i (omega arith)
@@ -28,7 +28,7 @@ both-true true b h = h
 both-true false b h = absurd (false≢true h)
 
 -- a range that allows an access at a place has a byte there
-lies_within : {B : Type 0} (access : Access) (r : Range B) (place : ℕ) → grants access r place ≡ true → place - r.start < length r.bytes
+pub lies_within : {B : Type 0} (access : Access) (r : Range B) (place : ℕ) → grants access r place ≡ true → place - r.start < length r.bytes
 lies_within access r place h =
     ltb-true (place - r.start) (length r.bytes)
     (both-true (nat_le r.start place) (nat_lt (place - r.start) (length r.bytes)) (both-true (allows access r) (holds r place) h))

@@ -8,6 +8,7 @@ mod parts;
 mod running;
 mod shared;
 mod space;
+mod stack;
 mod words;
 
 pub use bytes::Outline;
