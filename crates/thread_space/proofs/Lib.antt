@@ -5,6 +5,7 @@ pub mod Listing
 pub mod Live
 pub mod LoadKept
 pub mod Looks
+pub mod LowParts
 pub mod Numbers
 pub mod OwnBytes
 pub mod Owners

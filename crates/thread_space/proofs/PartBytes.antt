@@ -136,7 +136,7 @@ module _ (m : JobImages) (x : Instance) where
 
 -- ** what the code reads
 
-behind_some : (start address at : ℕ) → behind start address ≡ Some at → (nat_le start address ≡ true) × (address - start ≡ at)
+pub behind_some : (start address at : ℕ) → behind start address ≡ Some at → (nat_le start address ≡ true) × (address - start ≡ at)
 behind_some start address at begins = cond_some (nat_le start address) (address - start) at begins
 
 behind_none : (start address : ℕ) → behind start address ≡ None → nat_le start address ≡ false
@@ -170,7 +170,7 @@ module _ (m : JobImages) (image : Spelled) (x : Instance) (i : ℕ) (there : ima
   unfolding bias_of
   bias_here = rw there refl
 
-  part_here : (part : Part) → slice_get image.parts i ≡ Some part → loaded_part m x i ≡ part_bytes m image x part
+  pub part_here : (part : Part) → slice_get image.parts i ≡ Some part → loaded_part m x i ≡ part_bytes m image x part
   unfolding loaded_part
   part_here part is = rw (there, is) refl
 

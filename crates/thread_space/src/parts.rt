@@ -1,6 +1,6 @@
 //! The parts of images, as instances have them.
 
-ghost use Rattle.std.specs.Prelude.{◌≡◌, ◌+◌, Some, length, nat_le, option_map, slice_get};
+ghost use Rattle.std.specs.Prelude.{◌≡◌, ◌+◌, ◌^◌, ◌<◌, ◌≤◌, true, Some, length, nat_le, option_map, slice_get};
 ghost use Rattle.std.specs.List.{filter, list_any};
 ghost use Rattle.guest_operands.specs.Ranges.{byte_in};
 ghost use Rattle.loaded_modules.specs.Images.{image_at};
@@ -15,7 +15,7 @@ ghost use Rattle.thread_space.specs.Places.{behind};
 
 use crate::space::ThreadSpace;
 use guest_machine::Access;
-use image_file::{Image, PartClass};
+use image_file::{Image, PartClass, image_is_spelled};
 use loaded_modules::Instance;
 
 /// How many bytes a question to the run time has: two words.
@@ -77,10 +77,13 @@ impl<'m> ThreadSpace<'m> {
         self.modules.image(instance.image)
     }
 
-    /// How far the image of an instance is moved.
+    /// How far the image of an instance is moved: less than 2^59 bytes.
+    #[tactic(auto, using(crate::proofs::LowParts::bias_low))]
     fn bias(&self, instance: &Instance) -> u64
-        ensures { result ≡ bias_of self.now.vector.images instance.now }
+        ensures value { result ≡ bias_of self.now.vector.images instance.now }
+        ensures low { result < 2 ^ 59 }
     {
+        let _number = instance.number;
         self.modules.bias(instance)
     }
 
@@ -180,9 +183,11 @@ impl<'m> ThreadSpace<'m> {
         address: u64,
     ) -> bool
         requires there { image_at self.now.vector.images instance.now.image ≡ Some image.now }
-        ensures { result ≡ part_has_words self.now.vector.images image.now instance.now number address
+        ensures found { result ≡ part_has_words self.now.vector.images image.now instance.now number address
             (slice_get image.now.parts number) }
+        ensures low { result ≡ true → address + 16 ≤ 2 ^ 64 }
     {
+        image_is_spelled(image);
         let Some(part) = image.part(number) else {
             return false;
         };
@@ -198,8 +203,9 @@ impl<'m> ThreadSpace<'m> {
     /// The same of all parts of its image.
     fn image_has_words(&self, image: &Image, instance: &Instance, address: u64) -> bool
         requires there { image_at self.now.vector.images instance.now.image ≡ Some image.now }
-        ensures { result ≡ list_any (has_words address) (written_from image.now.parts
+        ensures found { result ≡ list_any (has_words address) (written_from image.now.parts
             (parts_from self.now.vector.images image.now instance.now 0 image.now.parts)) }
+        ensures low { result ≡ true → address + 16 ≤ 2 ^ 64 }
     {
         for number in 0..image.part_count() {
             if self.part_has_words(image, instance, number, address) {
@@ -211,7 +217,8 @@ impl<'m> ThreadSpace<'m> {
 
     /// Whether one of the written parts of an instance has the 16 bytes from an address on.
     pub(crate) fn has_words(&self, instance: &Instance, address: u64) -> bool
-        ensures { result ≡ list_any (has_words address) ((job_loads self.now.vector.images).tables instance.now) }
+        ensures found { result ≡ list_any (has_words address) ((job_loads self.now.vector.images).tables instance.now) }
+        ensures low { result ≡ true → address + 16 ≤ 2 ^ 64 }
     {
         match self.image_of(instance) {
             Some(image) => self.image_has_words(image, instance, address),

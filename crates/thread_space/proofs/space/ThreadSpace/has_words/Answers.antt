@@ -8,15 +8,15 @@ use Rattle.thread_blocks.specs.RunTime.{has_words}
 use Rattle.thread_space.proofs.PartBytes.{tables_of_image, tables_of_no_image}
 use Rattle.thread_space.proofs.space.ThreadSpace.has_words.Goals as goal
 
-pub returns-in-Some : goal.returns-in-Some
-returns-in-Some c =
+pub returns-in-Some-clause-found : goal.returns-in-Some-clause-found
+returns-in-Some-clause-found c =
     let there : image_at c.args.self.now.vector.images c.args.instance.now.image ≡ Some c.in-Some.image.now =
         sym c.image_of.ensures ∙ ap (option_map (λ (image : Bor Spelled). image.now)) c.in-Some.is in
-    c.image_has_words.ensures
+    c.image_has_words.ensures.found
     ∙ ap (list_any (has_words c.args.address)) (tables_of_image c.args.self.now.vector.images c.args.instance.now c.in-Some.image.now there)
 
-pub returns-in-None : goal.returns-in-None
-returns-in-None c =
+pub returns-in-None-clause-found : goal.returns-in-None-clause-found
+returns-in-None-clause-found c =
     let none : image_at c.args.self.now.vector.images c.args.instance.now.image ≡ None =
         sym c.image_of.ensures ∙ ap (option_map (λ (image : Bor Spelled). image.now)) c.in-None.is in
     ap (list_any (has_words c.args.address)) (tables_of_no_image c.args.self.now.vector.images c.args.instance.now none)
