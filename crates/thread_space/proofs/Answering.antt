@@ -75,16 +75,16 @@ module _ (k : Kept) (seen : List Event) (has : HasSeen k.vector seen) where
 -- ** answers
 
 -- nothing of a thread's memory is the linker's own
-abbrev NotShut : {A : Type 0} → Result A Refusal → Type 0
+abbrev pub NotShut : {A : Type 0} → Result A Refusal → Type 0
 NotShut (Ok a) = Unit {0}
 NotShut (Err Refused) = Unit {0}
 NotShut (Err Shut) = ⊥
 
-byte-open : (byte : Option ℕ) → NotShut (ok_or byte Refused)
+pub byte-open : (byte : Option ℕ) → NotShut (ok_or byte Refused)
 byte-open None = tt
 byte-open (Some byte) = tt
 
-both-open : {A C D : Type 0} (f : A → C → D) (a : Result A Refusal) (c : Result C Refusal) → NotShut a → NotShut c → NotShut (both_reached f a c)
+pub both-open : {A C D : Type 0} (f : A → C → D) (a : Result A Refusal) (c : Result C Refusal) → NotShut a → NotShut c → NotShut (both_reached f a c)
 both-open f (Ok a) (Ok c) g h = tt
 both-open f (Ok a) (Err Refused) g h = tt
 both-open f (Ok a) (Err Shut) g h = h
@@ -156,7 +156,7 @@ pub answer_made : (k : Kept) (seen : List Event) → HasSeen k.vector seen → (
     → answer_of plain_operations (thread_accesses (job_loads k.vector.images) k.vector.thread) word m.state (space_in seen k) ≡ Ok (left m'.state (space_in seen k'))
 answer_made k seen has word m m' k' shape answers =
     let both = taken-from (image-of k seen has word m.state) (over-space k seen has word m.state) m'.state (space_in seen k) (memory_of k') m.state.place (over-is k seen has word m.state)
-          (sym (range-is k seen has word m.state) ∙ answers.0) in
+    (sym (range-is k seen has word m.state) ∙ answers.0) in
     both.1 ∙ ap (λ (s : Space Event ℕ). Ok (left m'.state s)) (space_is k k' seen (space_in seen k) has shape refl (sym both.0))
 
 -- and of one that is refused

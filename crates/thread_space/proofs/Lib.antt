@@ -9,6 +9,7 @@ pub mod Live
 pub mod LoadKept
 pub mod Looks
 pub mod LowParts
+pub mod Numbers
 pub mod OpensBegun
 pub mod OwnBytes
 pub mod Owners

@@ -25,9 +25,6 @@ use Rattle.thread_space.proofs.SpaceRuns.{RunsOver, has_seen_still, runs_over, s
 
 -- ** loops
 
-pub none_yet : (limit : ℕ) (m : Standing ℕ Bool) (k : Kept) → m.taken ≤ limit → RunsUpTo limit m k m k
-none_yet limit m k within = record { shape = refl; within = within; runs = λ seen asked has. refl }
-
 pub some_more : (limit : ℕ) (m m1 m2 : Standing ℕ Bool) (k k1 k2 : Kept) → RunsUpTo limit m k m1 k1 → RunsUpTo limit m1 k1 m2 k2 → RunsUpTo limit m k m2 k2
 some_more limit m m1 m2 k k1 k2 one two = record {
   shape = two.shape ∙ one.shape;
@@ -180,12 +177,15 @@ module _ (limit : ℕ) (stop : Stop) (m : Standing ℕ Bool) (k : Kept) (m1 : St
   run_answered asks None m2 k2 answers =
       let took : m2.taken ≡ m1.taken + 1 = answers.takes in
       let below = is-below m1.taken limit (both-true (is_look m1.state.place) (nat_lt m1.taken limit) asks).1 in
-      let before = taken-since in (record {
-        shape = whole asks None m2 k2 answers;
-        within = omega arith;
-        runs = λ seen asked has. asks-then asks None m2 k2 answers seen asked has
-            ∙ left-then asks None m2 k2 answers seen asked (limit - (m1.taken + 1)) (ap (λ t. limit - t) (sym took));
-      }, omega arith)
+      let before = taken-since in (
+        record {
+          shape = whole asks None m2 k2 answers;
+          within = omega arith;
+          runs = λ seen asked has. asks-then asks None m2 k2 answers seen asked has
+              ∙ left-then asks None m2 k2 answers seen asked (limit - (m1.taken + 1)) (ap (λ t. limit - t) (sym took));
+        },
+        omega arith,
+      )
   run_answered asks (Some (ran.Over stop)) m2 k2 answers =
       let left-is = rest-is asks (Some (ran.Over stop)) m2 k2 answers in
       let still : m2 ≡ m1 = answers.takes in record {

@@ -51,7 +51,7 @@ module _ (x : Stepping At) (asks : Thread → At → Next Thread) where
     go_on-on n h (Goes at) e rest = rest (with-after h at) ∙ on-again h at (run x n at)
     go_on-on n h (Ends stop) e rest = refl
     go_on-on n h (Looks at) e rest = let P : At → Type 0 =
-          λ a. go_on (suc n) (with-after h a) (run steps n) (asks (with-after h a) at) ≡ go_on (suc n) (with-after h at) (run steps n) (asks (with-after h at) at) in
+        λ a. go_on (suc n) (with-after h a) (run steps n) (asks (with-after h a) at) ≡ go_on (suc n) (with-after h at) (run steps n) (asks (with-after h at) at) in
         subst P (stays h.after at e) refl
 
     -- the law

@@ -141,7 +141,7 @@ space_is k k' seen s has shape sees e =
     let parts = first-stack _ _ _ _ ranges in
     let alike : fixed_seen k'.vector.images k'.vector.thread seen ≡ fixed s.seen = rw (same.images, same.thread, sees) refl in
     let owns : ranges_in (owned_of k'.vector k'.pieces) ++ fixed s.seen ≡ s.own ++ fixed s.seen =
-          ap (λ (rest : List (Range ℕ)). ranges_in (owned_of k'.vector k'.pieces) ++ rest) (sym alike) ∙ parts.1 in
+    ap (λ (rest : List (Range ℕ)). ranges_in (owned_of k'.vector k'.pieces) ++ rest) (sym alike) ∙ parts.1 in
     space-parts s seen k'.stack _ sees (sym parts.0) (sym (append_cancel_right _ _ (fixed s.seen) owns))
 
 -- ** runs
@@ -182,8 +182,8 @@ runs_over seen limit result old k new k' has shape runs =
     let n = limit - old.taken in
     let out = run (bare (job_loads k.vector.images) k.vector.thread) n (left old.state (space_in seen k)) in
     let e : run (machine_of plain_operations) n (left old.state (memory_of k)) ≡ outcome_image (after_of image) out =
-          ap (λ (m : AddressSpace ℕ). run (machine_of plain_operations) n (left old.state m)) (memory_is k seen has)
-          ∙ space_run plain_operations start fixed (none_fixed k.vector.images k.vector.thread) n (left old.state (space_in seen k)) in
+    ap (λ (m : AddressSpace ℕ). run (machine_of plain_operations) n (left old.state m)) (memory_is k seen has)
+    ∙ space_run plain_operations start fixed (none_fixed k.vector.images k.vector.thread) n (left old.state (space_in seen k)) in
     let went : left new.state (memory_of k') ≡ after_of image (state_after out) = runs.after ∙ ap state_after e ∙ after-image image out in
     let sees = run_sees plain_operations start fixed seen n old.state (space_in seen k) refl in record {
       stop = runs.stop ∙ ap stop_of e ∙ stop-image image out;

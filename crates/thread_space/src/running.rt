@@ -1,6 +1,6 @@
 //! Runs of a thread's machine between two looks.
 
-ghost use Rattle.std.specs.Prelude.{◌≡◌, ◌≤◌, ◌<◌, ◌+◌, ◌-◌, ◌*◌, ◌^◌, ◌&&◌, IfOk, IfSome, OnErr, nat_lt, ok_or};
+ghost use Rattle.std.specs.Prelude.{◌≡◌, ◌≤◌, ◌<◌, ◌+◌, ◌-◌, ◌*◌, ◌^◌, ◌&&◌, IfOk, IfSome, OnErr, nat_lt, ok_or, if◌then◌else◌};
 ghost use Rattle.guest_arithmetic.specs.Plain.{plain_operations};
 ghost use Rattle.guest_machine.specs.Machine.{Answers, answer_of};
 ghost use Rattle.guest_machine.specs.Run.{is_look};
@@ -23,6 +23,7 @@ use thread_blocks::Asked;
 
 /// The numbers of the registers that hold the address of what is asked for.
 const RAX: u8 = 0;
+
 const RDI: u8 = 7;
 
 /// How a run of a thread's machine came to an end.
@@ -86,13 +87,25 @@ fn asked_words(
     })
 }
 
+/// The address of the words that say what is asked for: %rax has that of a descriptor, and else it is %rdi's.
+#[tactic(auto, unfolding(guest_operands::specs::State::register_of, amd64_words::specs::Register::register_of))]
+fn asked_address(machine: &Machine<Plain>, is_descriptor: bool) -> u64
+    ensures { result ≡
+        (if is_descriptor then machine.now.state.registers.rax else machine.now.state.registers.rdi) }
+{
+    if is_descriptor {
+        machine.register(RAX)
+    } else {
+        machine.register(RDI)
+    }
+}
+
 /// What a machine asks the run time for, if a live instance asks.
-#[tactic(auto, unfolding(crate::specs::Running::asked_in))]
 fn asked_at(space: &ThreadSpace, machine: &Machine<Plain>) -> Option<Asked>
     ensures { result ≡ asked_in space.now machine.now.state }
 {
     let is_descriptor = machine.place() == DESCRIPTOR;
-    let address = machine.register(if is_descriptor { RAX } else { RDI });
+    let address = asked_address(machine, is_descriptor);
     let asking = space.asker(address)?;
     asked_words(space, &asking, is_descriptor, address)
 }
@@ -103,9 +116,7 @@ fn asked_at(space: &ThreadSpace, machine: &Machine<Plain>) -> Option<Asked>
 fn answer_word(space: &ThreadSpace, asked: Asked, instance: &Instance) -> u64
     ensures { result ≡ answer_word (job_loads space.now.vector.images) space.now.vector.thread asked instance.now }
 {
-    let address = space
-        .block_start(instance)
-        .wrapping_add(asked.offset);
+    let address = space.block_start(instance).wrapping_add(asked.offset);
     if asked.is_descriptor {
         address.wrapping_sub(thread_pointer(space.thread()))
     } else {
@@ -203,6 +214,7 @@ pub fn answer_asked(
     ensures ok { IfOk result (λ resumed. Resumes machine.old space.old asked resumed machine.new space.new) }
     ensures err { OnErr result ((space.new ≡ space.old) × (machine.new ≡ machine.old)) }
 {
+    let _history = space.seen();
     if space.numbered(asked.asking).is_none() {
         return Ok(Resumed::Unloaded);
     }
@@ -211,11 +223,9 @@ pub fn answer_asked(
         return Ok(refused);
     };
     space.reach(instance.number)?;
-    Ok(
-        if answer(space, machine, asked, &instance) {
-            Resumed::Goes
-        } else {
-            refused
-        },
-    )
+    Ok(if answer(space, machine, asked, &instance) {
+        Resumed::Goes
+    } else {
+        refused
+    })
 }
