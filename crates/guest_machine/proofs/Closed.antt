@@ -1,5 +1,5 @@
 -- Related memories stay so where some bytes of the first are closed.
-use Rattle.std.proofs.Common.{◌≡◌, ℕ, Bool, true, false, Result, Ok, Err, refl}
+use Rattle.std.proofs.Common.{◌≡◌, ℕ, Bool, true, false, Result, Ok, refl}
 use Rattle.guest_operands.specs.Access.{Refusal, Accesses, unless_shut, closed}
 use Rattle.guest_machine.specs.Follow.{Reaches, Alike, IsKept}
 

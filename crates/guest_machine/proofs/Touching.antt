@@ -1,5 +1,5 @@
 -- An instruction asks only for the bytes that it touches: where none of them is closed, its step is the same.
-use Rattle.std.proofs.Common.{◌≡◌, ℕ, zero, suc, ◌-◌, ◌^◌, ◌||◌, Bool, true, false, List, [], ◌∷◌, ◌++◌, Option, Some, None, Result, Ok, Err, refl, sym, ap, subst, ◌∙◌}
+use Rattle.std.proofs.Common.{◌≡◌, ℕ, zero, suc, ◌-◌, ◌^◌, Bool, true, false, List, [], ◌∷◌, Option, Some, None, Result, Ok, Err, refl, sym, ap, subst, ◌∙◌}
 use Rattle.std.specs.Prelude.{if◌then◌else◌}
 use Rattle.std.specs.List.{list_any}
 use Rattle.std.proofs.lemmas.Bool.{or_parts}
@@ -29,13 +29,13 @@ use Rattle.guest_operands.specs.declared.slot.Slot.{Slot}
 use Rattle.guest_operands.specs.declared.slot.Slot.TheVariants.{Place, Register as OfSlot}
 use Rattle.guest_operands.specs.declared.slot.Taken.{Taken}
 use Rattle.guest_operands.specs.declared.space.Size.{Size}
-use Rattle.guest_operands.specs.declared.space.Size.TheVariants.{Byte, Long, Quad}
+use Rattle.guest_operands.specs.declared.space.Size.TheVariants.{Byte, Quad}
 use Rattle.guest_operands.specs.declared.state.State.{State}
 use Rattle.guest_operands.specs.declared.stop.Stop.{Stop}
 use Rattle.guest_machine.specs.declared.touch.Direction.TheVariants.{Load, Store}
 use Rattle.guest_machine.specs.declared.touch.Touch.{Touch}
 use Rattle.guest_machine.specs.declared.touch.Touches.{Touches}
-use Rattle.guest_operands.specs.Access.{Refusal, Refused, Accesses, unless_shut, closed, bytes_in, next_place, both_reached, reached, cons, bytes_from, bytes_at, all_write, put_all, code_then}
+use Rattle.guest_operands.specs.Access.{Refusal, Accesses, closed, bytes_in, next_place, reached, bytes_from, bytes_at, all_write, put_all, code_then}
 use Rattle.guest_operands.specs.Access.{code_at, load_of, store_of, fetch_of}
 use Rattle.guest_operands.specs.Operand.{size_for, size_of, charged, address_of, number_at, carried, weighed, taken_at, taken, put}
 use Rattle.guest_operands.specs.State.{register_of, at_place}
@@ -44,7 +44,7 @@ use Rattle.guest_operands.specs.Frame.{frame_of}
 use Rattle.guest_machine.specs.Step.{immediate_of, all_unsettled, is_cleared, add_field, finished, concluded, move_in, stored, store_byte, move_number, move_of, extend_byte, extend_long, load_address}
 use Rattle.guest_machine.specs.Step.{compute_in, compute_out, compute_plain, compute_number, compute_of, test_of, multiply_of, shift_of, pushed, push_of, pop_of, leave_of, return_of, call_of, jump_of}
 use Rattle.guest_machine.specs.Step.{jump_if, nop_of, act, act_if, step_of}
-use Rattle.guest_machine.specs.Touch.{touch_at, paired, push_touch, pop_touch, operand_touch, changed_touches, computed_touches, touches_of, touches_if, next_touches, places_from, is_refused, refuses}
+use Rattle.guest_machine.specs.Touch.{touch_at, paired, push_touch, operand_touch, changed_touches, computed_touches, touches_of, touches_if, next_touches, places_from, is_refused, refuses}
 use Rattle.guest_machine.specs.Touch.{touched_then, touched}
 use Rattle.guest_operands.specs.Use.{◌>>=◌, plus, clean, there, After, left}
 

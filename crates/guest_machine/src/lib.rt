@@ -27,7 +27,8 @@
 //! program does nothing that depends on what the linker chose.
 //!
 //! **What memory is is a parameter** (`Space` of `guest_operands`): what may be fetched, loaded and stored
-//! where. Contracts see it as ranges of bytes with rights. `guest_memory` has one in owned bytes.
+//! where. Contracts see it as ranges of bytes with rights, and promise that what else it holds (its `rest`)
+//! is after a run or an answer what it was before. `guest_memory` has one in owned bytes.
 //!
 //! **What an instruction touches** is told without a memory (`Machine::touches`): its accesses in their
 //! order, at most two. `ff 53 08`, call *8(%rbx), loads eight bytes at %rbx + 8 and then stores eight below

@@ -11,8 +11,9 @@ use guest_arithmetic::{Four, Values};
 use guest_operands::Size;
 
 /// A memory that is reached one byte at a time. Where it can do this, `load`, `store` and `fetch`
-/// below do the rest of a `Space`.
+/// below do what else a `Space` does.
 pub trait Bytes<V: Values> {
+    /// What no access changes, `()` where there is nothing but bytes.
     type Rest;
 
     ghost memory: { Self → AddressSpace V.Byte };

@@ -9,7 +9,7 @@
 //! That an access of several bytes is made of its bytes is said and proved here once. A memory of any
 //! kind says what one byte is (the trait `Bytes`: read, run, may_write, write, is_field); `load`, `store`
 //! and `fetch` are then those of the machine's `Space`, with its very contracts, so a `Space` of one's own
-//! is four lines that call them.
+//! is four lines that call them. What else such a memory holds (`rest`) a `write` keeps, and so does `store`.
 //!
 //! `GuestMemory` is such a memory in owned bytes: a list of ranges with their rights, of which the first
 //! that allows an access counts, and the places of offset fields. For example

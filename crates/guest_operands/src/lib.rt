@@ -21,6 +21,9 @@
 //!
 //! Contracts see a memory as ranges of bytes with rights, and the places of offset fields (`specs/Ranges.antt`).
 //! Each access is defined by its single bytes (`specs/Access.antt`), operands are in `specs/Operand.antt`.
+//! **An access changes bytes and nothing else.** A memory that is made of more, as of modules, threads and their
+//! blocks, says by the ghost member `rest` of [`Space`] what of it stays, and every function that takes a memory to
+//! change it promises that this stayed.
 #![tactic(auto)]
 
 mod frame;

@@ -36,8 +36,10 @@ impl Size {
 }
 
 /// A thread's memory. It stands for two finite lists: ranges of bytes with their rights, and the
-/// places where offset fields begin.
+/// places where offset fields begin. A memory may be made of more, as of the modules whose blocks its
+/// ranges are: of all that, `rest` says what no access changes.
 pub trait Space<V: Values> {
+    /// What no access changes, `()` where there is nothing but bytes.
     type Rest;
 
     ghost memory: { Self → AddressSpace V.Byte };

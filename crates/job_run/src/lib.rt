@@ -31,6 +31,13 @@
 //!   line, the numbers of events that its looks saw included, and the histories are the same;
 //! - `threads_mean_their_own`: what a thread means in an order it means alone.
 //!
+//! Two more are of **whole jobs** (`specs/Whole.antt`): the machine's threads with their run time, over all images of
+//! the job, from its first line to its last turn (`thread_blocks`, `specs/JobWorlds.antt`).
+//!
+//! - `threads_print_their_meaning`: of a job that has the program of a plain link alone, whose threads call its
+//!   functions, each thread prints what its lines mean alone, in any order of turns, and there is no event;
+//! - `programs_print_their_meaning`: so does a program whose one thread calls once.
+//!
 //! **The first is a law of the link alone**, with no thread in it. What the objects mean is said address by address
 //! (`specs/Objects.antt`), by the sections and the psABI's table, and what a thread finds of an image by the image's
 //! parts (`thread_blocks`, `specs/Loading.antt`), so a wrong field, or a part at a wrong place, fails there. A link is

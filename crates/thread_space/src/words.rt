@@ -32,7 +32,7 @@ pub(crate) fn thread_pointer(thread: u32) -> u64
 }
 
 /// Where a thread's stack ends.
-fn end_of_stack(thread: u32) -> u64
+pub(crate) fn end_of_stack(thread: u32) -> u64
     requires { thread ≤ 64 }
     ensures { result ≡ stack_end thread }
 {

@@ -1,0 +1,7 @@
+mod Exports
+mod Flagged
+mod Imported
+mod Listed
+mod Members
+mod Named
+mod Shared
