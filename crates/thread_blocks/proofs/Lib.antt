@@ -4,9 +4,6 @@ pub mod Spaces
 pub mod Calls
 pub mod Finish
 pub mod Begin
-pub mod Calling
-pub mod Finding
-pub mod Bounds
 pub mod Examples
 pub mod Histories
 pub mod Looks

@@ -3,7 +3,6 @@ pub mod TurnsAlike
 pub mod Spaces
 pub mod MachineTurns
 pub mod Loading
-pub mod Calling
 pub mod Held
 pub mod Instances
 pub mod JobLoads

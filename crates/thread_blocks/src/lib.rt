@@ -72,13 +72,6 @@
 #![tactic(auto)]
 
 mod asked;
-mod call;
-mod entry;
 pub mod laws;
-mod loading;
-mod memory;
-mod reach;
 
 pub use asked::Asked;
-pub use call::{Call, ThreadMemory, run_call};
-pub use entry::entry_place;
