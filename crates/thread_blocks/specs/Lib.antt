@@ -10,6 +10,3 @@ pub mod JobStatements
 pub mod JobWorlds
 pub mod Lines
 pub mod RunTime
-pub mod Numbered
-pub mod Worlds
-pub mod Statements
