@@ -11,6 +11,7 @@ pub mod Own
 pub mod OwnBlocks
 pub mod JobRuns
 mod ExampleImages
+mod Examples
 mod JobExamples
 mod DataExamples
 mod StaticExamples

@@ -5,8 +5,8 @@ use native.Mathlib.Nat.{mul-suc, mul-zero}
 use Rattle.guest_operands.specs.declared.stop.Stop.{Stop}
 use Rattle.guest_machine.specs.Run.{Next, Goes, Ends, Looks, Outcome, Ended, Waits, Stepping, over_or, go_on, run}
 use Rattle.module_table.specs.declared.events.Event.{Event}
-use Rattle.thread_blocks.specs.Held.{Held, Owned, owned_by, with_owned}
-use Rattle.thread_blocks.specs.JobWorlds.{Shared, blocks_in, changed, data_in, held_in, shared_order, shared_turn, with_data, without_data}
+use Rattle.thread_blocks.specs.Held.{Held, owned_by, with_owned}
+use Rattle.thread_blocks.specs.JobWorlds.{Shared, blocks_in, changed, shared_order, shared_turn, with_data, without_data}
 use Rattle.thread_blocks.specs.Turns.{Said, Begun, Says, Calls, Turns, Phase, Idle, Mid, Thread, after_run, after_look, at_number, turn_at, turn, with_event, event_of, IsFinished, enough, turns_left, finishing, whole_order}
 use Rattle.thread_blocks.specs.TurnsAlike.{IsFront}
 use Rattle.thread_blocks.proofs.Turns.{turn-finished}

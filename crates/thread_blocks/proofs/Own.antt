@@ -1,5 +1,5 @@
 -- Where no image has data, a thread among others takes the turns that it would take alone, at fronts of the history.
-use Rattle.std.proofs.Common.{◌≡◌, ◌⊎◌, ◌∙◌, ◌+◌, ◌-◌, ◌*◌, ◌++◌, ℕ, zero, suc, Bool, true, List, [], ◌∷◌, length, Option, Some, None, refl, sym, ap, subst, inl, inr, arith, append-nil}
+use Rattle.std.proofs.Common.{◌≡◌, ◌⊎◌, ◌∙◌, ◌-◌, ◌*◌, ◌++◌, ℕ, zero, suc, Bool, true, List, [], ◌∷◌, length, Option, Some, None, refl, sym, ap, subst, inl, inr, arith, append-nil}
 use Rattle.std.specs.Prelude.{slice_get, slice_set}
 use Rattle.std.specs.List.{flat_map}
 use Rattle.guest_arithmetic.specs.Plain.{plain_operations}
@@ -9,13 +9,13 @@ use Rattle.guest_machine.specs.Use.{left}
 use Rattle.job_text.specs.declared.thread_lines.ThreadLine.{ThreadLine}
 use Rattle.loaded_modules.specs.declared.instance.Instance.{Instance}
 use Rattle.module_table.specs.declared.events.Event.{Event}
-use Rattle.thread_blocks.specs.Held.{Owned, Owner, data_after, data_with, owned_by, owners_of, ranges_in, with_owned}
+use Rattle.thread_blocks.specs.Held.{Owned, Owner, data_after, owned_by, ranges_in, with_owned}
 use Rattle.thread_blocks.specs.Instances.{Loads, instances}
 use Rattle.thread_blocks.specs.JobStatements.{HasNoData, ThreadsTakeTheirOwnTurns}
-use Rattle.thread_blocks.specs.JobWorlds.{Shared, blocks_in, changed, data_in, first_data, held_in, job_start, job_world, numbered_lines, ready_from, shared_order, shared_turn, thread_ready, with_data, without_data}
+use Rattle.thread_blocks.specs.JobWorlds.{Shared, blocks_in, changed, data_in, held_in, job_start, job_world, numbered_lines, ready_from, shared_order, shared_turn, thread_ready, with_data, without_data}
 use Rattle.thread_blocks.specs.Lines.{Line, event_by}
 use Rattle.thread_blocks.specs.RunTime.{Runs, thread_turns}
-use Rattle.thread_blocks.specs.Turns.{Said, Begun, Says, Calls, Turns, Phase, Idle, Mid, Thread, IsFinished, after_look, after_run, at_number, event_of, ready, turn, turn_at, turns, whole_order, with_event, with_last}
+use Rattle.thread_blocks.specs.Turns.{Said, Begun, Says, Calls, Turns, Phase, Idle, Mid, Thread, IsFinished, after_look, after_run, ready, turn, turn_at, turns, whole_order, with_last}
 use Rattle.thread_blocks.specs.TurnsAlike.{AllFronts, IsFront, Rises}
 use Rattle.thread_blocks.proofs.Endings.{thread_at}
 use Rattle.thread_blocks.proofs.Orders.{front-trans, get-set, get-set_same, order-front, taken, turn-front, turned}

@@ -1,13 +1,13 @@
 -- Where no image has data, a thread holds blocks alone: looks make it so, and steps keep it so.
-use Rattle.std.proofs.Common.{◌≡◌, ◌+◌, ◌++◌, ◌==◌, ℕ, zero, suc, Bool, true, false, List, [], ◌∷◌, Option, Some, None, Result, Ok, Err, not, refl, sym, ap, subst, ◌∙◌}
-use Rattle.std.specs.Prelude.{if◌then◌else◌, nat_le, length, slice_range, slice_set, is_none, is_some}
-use Rattle.std.specs.List.{filter, flat_map}
+use Rattle.std.proofs.Common.{◌≡◌, ◌+◌, ◌++◌, ◌==◌, ℕ, zero, suc, Bool, true, false, List, [], ◌∷◌, Option, Some, None, Result, Ok, Err, refl, sym, ap, subst}
+use Rattle.std.specs.Prelude.{if◌then◌else◌, nat_le, length, slice_range, is_none, is_some}
+use Rattle.std.specs.List.{flat_map}
 use Rattle.guest_arithmetic.specs.Plain.{plain_operations}
 use Rattle.guest_machine.specs.Access.{Accesses}
 use Rattle.guest_machine.specs.Ranges.{Range, grants, with_byte}
 use Rattle.guest_operands.specs.declared.space.Access.TheVariants.{Write}
 use Rattle.guest_operands.specs.declared.stop.Stop.{Stop}
-use Rattle.guest_machine.specs.Run.{Next, Goes, Ends, Looks, Outcome, Ended, Waits, Stepping, over_or, go_on, run, machine}
+use Rattle.guest_machine.specs.Run.{Next, Goes, Ends, Looks, Outcome, Ended, Waits, over_or, go_on, run, machine}
 use Rattle.guest_machine.specs.Machine.{with_answer}
 use Rattle.guest_machine.specs.Step.{return_of}
 use Rattle.guest_machine.specs.Use.{After, left}
@@ -20,13 +20,13 @@ use Rattle.module_table.specs.declared.events.OpenRefusal.{OpenRefusal}
 use Rattle.module_table.specs.Modules.{is_loaded}
 use Rattle.module_table.specs.Past.{close_refusal, module_of, open_refusal}
 use Rattle.thread_blocks.specs.declared.asked.Asked.{Asked}
-use Rattle.thread_blocks.specs.Held.{Held, Owned, Owner, Block, block_after, block_bytes, block_with, data_after, data_with, held_of, is_block, loaded, loaded_at, looked, looked_at, owned, owned_by, owners_of, ranges_in, reached, reached_at, with_owned}
-use Rattle.thread_blocks.specs.Instances.{Loads, block_range, instance_at, instance_with_id, instances, is_startup_id, left_by, numbered_instance}
+use Rattle.thread_blocks.specs.Held.{Owned, Owner, block_after, block_bytes, block_with, data_after, data_with, held_of, is_block, loaded, loaded_at, looked, looked_at, owned, owned_by, owners_of, ranges_in, reached, reached_at}
+use Rattle.thread_blocks.specs.Instances.{Loads, instance_at, instance_with_id, instances, is_startup_id, left_by, numbered_instance}
 use Rattle.thread_blocks.specs.JobStatements.{HasNoData}
 use Rattle.thread_blocks.specs.JobWorlds.{blocks_in, data_in}
 use Rattle.thread_blocks.specs.Lines.{Line, begin_line, begun_at, begun_by, begun_close, begun_in, begun_open, begun_peek, event_at, refused, shown_from, shown_in, with_load}
-use Rattle.thread_blocks.specs.RunTime.{Runs, answer_word, answered, asked_at, asked_next, found_at_once, goes_answered, resume_line, resumed, resumed_by, resumed_in, shows, thread_accesses, thread_next, thread_steps, thread_turns}
-use Rattle.thread_blocks.specs.Spaces.{Space, IsImage, after_of, mapped, next_image, no_field, put_byte, space_accesses, stack_range}
+use Rattle.thread_blocks.specs.RunTime.{Runs, answer_word, answered, asked_at, asked_next, found_at_once, goes_answered, resume_line, resumed, resumed_by, resumed_in, shows, thread_accesses, thread_next, thread_steps}
+use Rattle.thread_blocks.specs.Spaces.{Space, IsImage, after_of, mapped, next_image, no_field, space_accesses, stack_range}
 use Rattle.thread_blocks.specs.Turns.{Answered, Begun, Says, Calls, with_last}
 use Rattle.transcript_text.specs.declared.outcomes.LineFault.TheVariants.{Unloaded}
 use Rattle.transcript_text.specs.declared.outcomes.LineRefusal.TheVariants.{Length as TooLong}

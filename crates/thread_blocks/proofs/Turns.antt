@@ -1,13 +1,11 @@
 -- Threads of one kind follow threads of another, turn by turn; and fronts of a history are known by their lengths.
-use Rattle.std.proofs.Common.{◌≡◌, ◌⊎◌, ℕ, zero, suc, ◌+◌, ◌-◌, ◌*◌, ◌≤◌, List, [], ◌∷◌, ◌++◌, map, length, take, Option, Some, None, refl, sym, ap, subst, ◌∙◌, inl, inr, arith, append_assoc, append-nil}
-use Rattle.std.specs.Prelude.{slice_get, slice_set, option_and_then}
+use Rattle.std.proofs.Common.{◌≡◌, ◌⊎◌, ℕ, ◌+◌, ◌-◌, ◌*◌, ◌≤◌, List, [], ◌∷◌, ◌++◌, map, length, take, refl, sym, ap, subst, ◌∙◌, inl, inr, arith}
 use Rattle.guest_operands.specs.declared.stop.Stop.{Stop}
 use Rattle.guest_machine.specs.Run.{Outcome, Ended, Waits, run}
 use Rattle.guest_machine.specs.Simulate.{SameOut}
-use Rattle.guest_machine.specs.Follow.{All2}
 use Rattle.guest_machine.proofs.Simulate.{same_run}
 use Rattle.thread_blocks.specs.Turns.{Ending, Stopped, Said, Begun, Says, Calls, Turns, Phase, Idle, Mid, Thread, with_last, over_with, after_run, after_look, turn_at, turn, turns, IsFinished}
-use Rattle.thread_blocks.specs.TurnsAlike.{IsUncleanEnding, HasUnclean, SameBegun, IsAlike, SamePhase, Level, SameThread, Rises, IsFront, AllFronts}
+use Rattle.thread_blocks.specs.TurnsAlike.{IsUncleanEnding, HasUnclean, SameBegun, IsAlike, SamePhase, SameThread, Rises, IsFront, AllFronts}
 
 -- ** an unclean line stays
 

@@ -1,7 +1,6 @@
 -- That threads of one kind do what threads of another do, turn by turn; an unclean line of the first allows anything.
-use Rattle.std.specs.Prelude.{◌≡◌, ◌⊎◌, ℕ, ◌+◌, ◌*◌, ◌≤◌, List, [], ◌∷◌, ◌++◌, Option, Some}
+use Rattle.std.specs.Prelude.{◌≡◌, ◌⊎◌, ◌+◌, ◌*◌, ◌≤◌, List, [], ◌∷◌, ◌++◌}
 use Rattle.guest_machine.specs.Simulate.{IsUnclean, IsSimulated}
-use Rattle.guest_machine.specs.Follow.{All2}
 use Rattle.thread_blocks.specs.Turns.{Ending, Answered, Stopped, Said, Begun, Says, Calls, Turns, Phase, Idle, Mid, Thread}
 
 abbrev pub IsUncleanEnding : Ending → Type 0
