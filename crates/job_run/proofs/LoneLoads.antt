@@ -11,7 +11,7 @@ use Rattle.image_rules.specs.declared.places.FileKind.{FileKind}
 use Rattle.image_rules.specs.declared.places.FileKind.TheVariants.{Exe as ExeFile}
 use Rattle.link_faults.specs.declared.image_kind.ImageKind.TheVariants.{Exe}
 use Rattle.loaded_modules.specs.declared.instance.Instance.{Instance}
-use Rattle.loaded_modules.specs.Images.{JobImages, block_alignment, block_size, image_at, info_of, infos}
+use Rattle.loaded_modules.specs.Images.{block_alignment, block_size, image_at, info_of, infos}
 use Rattle.loaded_modules.specs.Loader.{bias, block_of, filled, fresh_block, initial_bytes, part_bytes}
 use Rattle.module_table.specs.Laws.{startup_end}
 use Rattle.module_table.specs.Past.{past, start}
