@@ -1,0 +1,16 @@
+pub mod Answering
+pub mod AtOnce
+pub mod Entries
+pub mod HeldWith
+pub mod LinesBegun
+pub mod Numbers
+pub mod OpensBegun
+pub mod Resuming
+pub mod RunTurns
+pub mod RunningOn
+pub mod SameThread
+pub mod SpaceRuns
+pub mod TakenLines
+pub mod Turning
+pub mod TurnsBegun
+pub mod TurnsTaken
