@@ -1,2 +1,4 @@
 pub mod Lists
 pub mod FinishedTurns
+pub mod Standings
+pub mod OneTurn
