@@ -2,3 +2,4 @@ pub mod Lists
 pub mod FinishedTurns
 pub mod Standings
 pub mod OneTurn
+pub mod Orders

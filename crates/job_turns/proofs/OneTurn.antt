@@ -11,9 +11,9 @@ use Rattle.module_table.specs.declared.events.Event.{Event}
 use Rattle.module_table.specs.History.{History, left}
 use Rattle.module_table.specs.Past.{Past, after, past}
 use Rattle.module_table.specs.Walks.{past-append, seen-past}
-use Rattle.thread_blocks.specs.Held.{Owned}
+use Rattle.thread_blocks.specs.Held.{Owned, owned_by}
 use Rattle.thread_blocks.specs.JobLoads.{job_loads}
-use Rattle.thread_blocks.specs.JobWorlds.{Shared, numbered_lines, shared_after, shared_turn, with_data, without_data}
+use Rattle.thread_blocks.specs.JobWorlds.{Shared, data_in, held_in, numbered_lines, shared_turn, with_data, without_data}
 use Rattle.thread_blocks.specs.Lines.{Line, event_by}
 use Rattle.thread_blocks.specs.RunTime.{Runs, thread_turns}
 use Rattle.thread_blocks.specs.Turns.{Idle, Mid, Phase, Thread, at_number, event_of, next_line, turn, with_event}
@@ -155,3 +155,87 @@ takes_as : (m : JobImages) (fuel thread : ℕ) (r r' : Run) (rest seen : List Ev
 takes_as m fuel thread r r' rest seen d d' t xs images_are thread_is fuel_is stands takes leaves shared_is =
     rw (shared_is, leaves, ← images_are, ← thread_is, ← fuel_is)
     (takes.turns t seen stands (rw images_are leaves))
+
+-- what its past leaves of the history
+seen_front : (m : JobImages) (r : Run) (front : List Event) → HasSeen r.kept.vector front
+    → r.kept.vector.past.seen ≡ length front
+seen_front m r front has_seen =
+    ap (λ (p : Past). p.seen) (sym has_seen)
+    ∙ seen-past (infos r.kept.vector.images) (last_offset r.kept.vector.images) front
+
+pub rest_is : (r : Run) (events front rest : List Event) → events ≡ front ++ rest → HasSeen r.kept.vector front
+    → drop r.kept.vector.past.seen events ≡ rest
+rest_is r events front rest are has_seen =
+    rw (are, seen_front r.kept.vector.images r front has_seen) (drop-append_seam front rest)
+
+pub rest_leaves : (r : Run) (events front rest : List Event) → events ≡ front ++ rest → HasSeen r.kept.vector front
+    → past (infos r.kept.vector.images) (last_offset r.kept.vector.images) events ≡ after r.kept.vector.past rest
+rest_leaves r events front rest are has_seen =
+    rw are (past-append (infos r.kept.vector.images) (last_offset r.kept.vector.images) front rest
+    ∙ ap (λ p. after p rest) has_seen)
+
+module _ (m : JobImages) (fuel : ℕ) (w : Shared ℕ Bool ℕ Line) (x : Progress) (stands : Stands m fuel w x)
+    (k : ℕ) (r : Run) (t : Thread Runs Line Event) (is : IsRunner m fuel (suc k) w.events r t)
+    (h : History) (d : List Piece) (r' : Run) (turned : Turned x.history x.pieces r h d r') where
+  abbrev adds : Option Event
+  adds = event_of (event_by (job_loads m) (suc k)) t w.events
+
+  abbrev then : Thread Runs Line Event
+  then = turn (thread_turns (job_loads m) (suc k) fuel) (with_data w.shared t) w.events
+
+  history_leaves : left x.history ≡ past (infos m) (last_offset m) w.events
+  unfolding left
+  history_leaves = rw (stands.infos_are, stands.last_is, stands.events_are) refl
+
+  rest_taken : drop r.kept.vector.past.seen x.history.events ≡ is.rest
+  rest_taken = rest_is r x.history.events is.front is.rest (stands.events_are ∙ is.events_are) is.has_seen
+
+  leaves : past (infos m) (last_offset m) w.events ≡ after r.kept.vector.past is.rest
+  leaves = rw (← is.images_are) (rest_leaves r w.events is.front is.rest is.events_are is.has_seen)
+
+  after_turn : StandsAfter r' d (with_event w.events adds) then
+  after_turn = takes_as m fuel (suc k) r r' is.rest w.events x.pieces d t w.shared is.images_are is.thread_is is.fuel_is
+      is.stands (subst (λ rest. TakesTurn r rest x.pieces r' d) rest_taken turned.takes) leaves stands.shared_is
+
+  images_then : r'.kept.vector.images ≡ m
+  images_then = turned.takes.same.images ∙ is.images_are
+
+  events_then : h.events ≡ with_event w.events adds
+  events_then = turned.adds.events_are
+      ∙ rw (history_leaves, stands.events_are, is.thread_is, event_is m (suc k) w.events r t is.stands) refl
+
+  past_then : r'.kept.vector.past ≡ past (infos m) (last_offset m) (with_event w.events adds)
+  past_then = sym after_turn.has_seen ∙ rw images_then refl
+
+  behind : Behind m fuel w x stands adds k h d r' (without_data then) (data_in (owned_by (held_in then.phase)))
+  behind = record {
+    infos_are = turned.adds.infos_are;
+    last_is = turned.adds.last_is;
+    events_are = events_then;
+    legal = turned.adds.legal;
+    pieces_are = turned.pieces_are;
+    shared_is = after_turn.shared ∙ rw (images_then, past_then) refl;
+    runner = record {
+      thread_is = turned.takes.same.thread ∙ is.thread_is;
+      images_are = images_then;
+      fuel_is = turned.takes.same.fuel ∙ is.fuel_is;
+      stands = after_turn.stands;
+      front = with_event w.events adds;
+      rest = [];
+      events_are = sym (append-nil (with_event w.events adds));
+      has_seen = after_turn.has_seen;
+    };
+  }
+
+  turn_stands : Stands m fuel (turned_by m fuel w x stands (suc k) (Some t))
+      (record { history = h; pieces = d; runs = slice_set x.runs k r' })
+  turn_stands = stands_then m fuel w x stands adds k h d r' (without_data then) (data_in (owned_by (held_in then.phase))) behind
+
+pub turned_stands : (m : JobImages) (fuel : ℕ) (w : Shared ℕ Bool ℕ Line) (x : Progress) (k : ℕ) (r : Run)
+    (h : History) (d : List Piece) (r' : Run) → slice_get x.runs k ≡ Some r → Turned x.history x.pieces r h d r'
+    → Stands m fuel w x
+    → Stands m fuel (job_order m fuel (suc k ∷ []) w) (record { history = h; pieces = d; runs = slice_set x.runs k r' })
+turned_stands m fuel w x k r h d r' at turned stands =
+    let found = beside x.runs w.threads k r stands.count at in
+    rw found.1
+    (turn_stands m fuel w x stands k r found.0 (stands.each k r found.0 at found.1) h d r' turned)

@@ -1,0 +1,69 @@
+-- Turns in one order and then in another, and turns of a thread that is over.
+use Rattle.std.proofs.Common.{◌≡◌, ◌++◌, ℕ, zero, suc, Bool, true, List, [], ◌∷◌, replicate, Option, Some, None, refl, sym, ap, subst, ◌∙◌}
+use Rattle.std.specs.Prelude.{slice_get, slice_set}
+use Rattle.loaded_modules.specs.Images.{JobImages, infos, last_offset}
+use Rattle.module_data.specs.Pieces.{Piece}
+use Rattle.module_table.specs.History.{History}
+use Rattle.thread_blocks.specs.JobLoads.{job_loads}
+use Rattle.thread_blocks.specs.JobWorlds.{Shared, shared_turn}
+use Rattle.thread_blocks.specs.Lines.{Line, event_by}
+use Rattle.thread_blocks.specs.RunTime.{thread_turns}
+use Rattle.thread_blocks.specs.Turns.{at_number}
+use Rattle.thread_space.specs.Standing.{Run}
+use Rattle.job_turns.specs.Progress.{Progress, Stands, StandsForSome, TakesTurns, is_thread_over, job_order}
+use Rattle.job_turns.specs.Turning.{CanTurn, Turned}
+use Rattle.job_turns.proofs.Lists.{beside}
+use Rattle.job_turns.proofs.OneTurn.{over_stays, turned_stands}
+
+module _ (m : JobImages) (fuel : ℕ) where
+  order-append : (xs ys : List ℕ) (w : Shared ℕ Bool ℕ Line)
+      → job_order m fuel (xs ++ ys) w ≡ job_order m fuel ys (job_order m fuel xs w)
+  order-append [] ys w = refl
+  order-append (i ∷ xs) ys w = order-append xs ys
+      (shared_turn (λ n. thread_turns (job_loads m) n fuel) (λ n. event_by (job_loads m) n) w i (at_number w.threads i))
+
+pub takes_none : (x : Progress) → TakesTurns x [] x
+takes_none x = record { turns = λ m fuel w stands. stands }
+
+pub takes_both : (x y z : Progress) (xs ys : List ℕ) → TakesTurns x xs y → TakesTurns y ys z → TakesTurns x (xs ++ ys) z
+takes_both x y z xs ys first next = record {
+  turns = λ m fuel w stands. rw (order-append m fuel xs ys w)
+      (next.turns m fuel (job_order m fuel xs w) (first.turns m fuel w stands));
+}
+
+pub takes_turned : (x : Progress) (k : ℕ) (r : Run) (h : History) (d : List Piece) (r' : Run) → slice_get x.runs k ≡ Some r
+    → Turned x.history x.pieces r h d r'
+    → TakesTurns x (suc k ∷ []) (record { history = h; pieces = d; runs = slice_set x.runs k r' })
+takes_turned x k r h d r' at turned = record {
+  turns = λ m fuel w stands. turned_stands m fuel w x k r h d r' at turned stands;
+}
+
+pub takes_over : (x : Progress) (thread : ℕ) → is_thread_over x.runs thread ≡ true → TakesTurns x (thread ∷ []) x
+takes_over x thread over = record { turns = λ m fuel w stands. over_stays m fuel w x stands thread over }
+
+pub takes_rest : (x : Progress) (thread n : ℕ) → is_thread_over x.runs thread ≡ true → TakesTurns x (replicate n thread) x
+takes_rest x thread zero over = takes_none x
+takes_rest x thread (suc n) over =
+    takes_both x x x (thread ∷ []) (replicate n thread) (takes_over x thread over) (takes_rest x thread n over)
+
+pub still_some : (x y : Progress) (order : List ℕ) → StandsForSome x → TakesTurns x order y → StandsForSome y
+still_some x y order some takes = record {
+  images = some.images;
+  fuel = some.fuel;
+  world = job_order some.images some.fuel order some.world;
+  stands = takes.turns some.images some.fuel some.world some.stands;
+}
+
+pub can_turn : (x : Progress) (k : ℕ) (r : Run) → StandsForSome x → slice_get x.runs k ≡ Some r → CanTurn x.history x.pieces r
+can_turn x k r some at =
+    let found = beside x.runs some.world.threads k r some.stands.count at in
+    let is = some.stands.each k r found.0 at found.1 in
+    record {
+      infos_are = rw is.images_are some.stands.infos_are;
+      last_is = rw is.images_are some.stands.last_is;
+      front = is.front;
+      rest = is.rest;
+      events_are = some.stands.events_are ∙ is.events_are;
+      has_seen = is.has_seen;
+      pieces_are = rw is.images_are some.stands.pieces_are;
+    }
