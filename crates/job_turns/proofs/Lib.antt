@@ -3,3 +3,5 @@ pub mod FinishedTurns
 pub mod Standings
 pub mod OneTurn
 pub mod Orders
+pub mod FirstTurn
+pub mod LastTurn

@@ -1,8 +1,9 @@
 -- How far the threads of a job have come: what the code keeps between two turns, and the definition's threads that this
 -- stands for.
-use Rattle.std.specs.Prelude.{◌≡◌, ◌+◌, ◌++◌, ℕ, suc, Bool, true, false, List, length, slice_get, Option, Some, None}
+use Rattle.std.specs.Prelude.{◌≡◌, ◌+◌, ◌++◌, ℕ, suc, Bool, true, false, List, [], length, slice_get, Option, Some, None}
+use Rattle.job_text.specs.Jobs.{JobParts}
 use Rattle.loaded_modules.specs.Images.{JobImages, infos, last_offset}
-use Rattle.module_data.specs.Pieces.{Piece}
+use Rattle.module_data.specs.Pieces.{Piece, first_data}
 use Rattle.module_table.specs.declared.events.Event.{Event}
 use Rattle.module_table.specs.History.{History, IsLegal}
 use Rattle.module_table.specs.Past.{past}
@@ -14,7 +15,7 @@ use Rattle.thread_blocks.specs.Turns.{Thread, at_number}
 use Rattle.thread_space.specs.declared.asking.Ask.{Ask}
 use Rattle.thread_space.specs.declared.asking.Ask.TheVariants.{Done, Look, Opens, Closes}
 use Rattle.thread_space.specs.Kept.{HasSeen, shared_of}
-use Rattle.thread_space.specs.Standing.{Run, StandsFor, ask_of}
+use Rattle.thread_space.specs.Standing.{IsFirstRun, Run, StandsFor, ask_of}
 
 -- the history, the data of all images, and a runner for each thread, thread 1 first
 pub record Progress : Type 0 where
@@ -79,3 +80,15 @@ job_order m fuel order w =
 pub record TakesTurns (old : Progress) (order : List ℕ) (new : Progress) : Type 0 where
   pub turns : (m : JobImages) (fuel : ℕ) (w : Shared ℕ Bool ℕ Line) → Stands m fuel w old
       → Stands m fuel (job_order m fuel order w) new
+
+-- ---- before the first turn
+
+-- it stands before the first turn of a job over these images
+pub record IsFirst (m : JobImages) (job : JobParts) (x : Progress) : Type 0 where
+  pub infos_are : x.history.infos ≡ infos m
+  pub last_is : x.history.last_offset ≡ last_offset m
+  pub events_are : x.history.events ≡ []
+  pub legal : IsLegal (infos m) (last_offset m) []
+  pub pieces_are : x.pieces ≡ first_data m
+  pub count : length x.runs ≡ length job.lines
+  pub each : (k : ℕ) (r : Run) → slice_get x.runs k ≡ Some r → IsFirstRun (k + 1) m job r
