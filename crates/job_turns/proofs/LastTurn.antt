@@ -32,14 +32,11 @@ use Rattle.thread_blocks.specs.Turns.{enough, finishing, whole_order}
 use Rattle.transcript_text.specs.Texts.{Shown}
 use Rattle.thread_space.specs.Standing.{Run}
 use Rattle.job_turns.specs.Progress.{IsFirst, Progress, Stands, TakesTurns, job_order}
-use Rattle.job_turns.specs.Transcripts.{IsTranscript}
+use Rattle.job_turns.specs.Transcripts.{IsTranscript, transcript_of}
 use Rattle.job_turns.proofs.FirstTurn.{first_stands}
 use Rattle.job_turns.proofs.Lists.{same_images, set-length}
 
 -- ---- the transcript
-
-abbrev pub transcript_of : Progress → Shown
-transcript_of x = record { threads = map (λ r. r.said) x.runs; events = x.history.events }
 
 map-map : {X Y Z : Type 0} (f : Y → Z) (g : X → Y) (xs : List X) → map f (map g xs) ≡ map (λ x. f (g x)) xs
 map-map f g [] = refl

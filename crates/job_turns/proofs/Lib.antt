@@ -5,3 +5,4 @@ pub mod OneTurn
 pub mod Orders
 pub mod FirstTurn
 pub mod LastTurn
+pub mod CutTurns

@@ -157,7 +157,7 @@ takes_as m fuel thread r r' rest seen d d' t xs images_are thread_is fuel_is sta
     (takes.turns t seen stands (rw images_are leaves))
 
 -- what its past leaves of the history
-seen_front : (m : JobImages) (r : Run) (front : List Event) → HasSeen r.kept.vector front
+pub seen_front : (m : JobImages) (r : Run) (front : List Event) → HasSeen r.kept.vector front
     → r.kept.vector.past.seen ≡ length front
 seen_front m r front has_seen =
     ap (λ (p : Past). p.seen) (sym has_seen)

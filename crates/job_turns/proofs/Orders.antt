@@ -1,5 +1,7 @@
 -- Turns in one order and then in another, and turns of a thread that is over.
-use Rattle.std.proofs.Common.{◌≡◌, ◌++◌, ℕ, zero, suc, Bool, true, List, [], ◌∷◌, replicate, Option, Some, None, refl, sym, ap, subst, ◌∙◌}
+use Rattle.std.proofs.Common.{◌≡◌, ◌++◌, ◌+◌, ◌<◌, ℕ, zero, suc, Bool, true, List, [], ◌∷◌, get_or, length, take, replicate, Option, Some, None, refl, sym, ap, subst, ◌∙◌}
+use Rattle.std.specs.List.{insert, remove}
+use Rattle.std.proofs.lemmas.List.{replicate-append-replicate, take_more}
 use Rattle.std.specs.Prelude.{slice_get, slice_set}
 use Rattle.loaded_modules.specs.Images.{JobImages, infos, last_offset}
 use Rattle.module_data.specs.Pieces.{Piece}
@@ -12,7 +14,7 @@ use Rattle.thread_blocks.specs.Turns.{at_number}
 use Rattle.thread_space.specs.Standing.{Run}
 use Rattle.job_turns.specs.Progress.{Progress, Stands, StandsForSome, TakesTurns, is_thread_over, job_order}
 use Rattle.job_turns.specs.Turning.{CanTurn, Turned}
-use Rattle.job_turns.proofs.Lists.{beside}
+use Rattle.job_turns.proofs.Lists.{beside, put_back, within}
 use Rattle.job_turns.proofs.OneTurn.{over_stays, turned_stands}
 
 module _ (m : JobImages) (fuel : ℕ) where
@@ -67,3 +69,26 @@ can_turn x k r some at =
       has_seen = is.has_seen;
       pieces_are = rw is.images_are some.stands.pieces_are;
     }
+
+-- ---- as the code has them
+
+-- a runner that is taken out, turned and put back
+pub takes_put : (x : Progress) (thread k : ℕ) (r : Run) (h : History) (d : List Piece) (r' : Run) (runs : List Run)
+    → thread ≡ suc k → slice_get x.runs k ≡ Some r → Turned x.history x.pieces r h d r'
+    → runs ≡ insert (remove x.runs k) k r'
+    → TakesTurns x (thread ∷ []) (record { history = h; pieces = d; runs = runs })
+takes_put x thread k r h d r' runs number at turned are =
+    rw (number, are, put_back x.runs k r' (within x.runs k r at)) (takes_turned x k r h d r' at turned)
+
+-- one turn more of an order
+pub takes_next : (x y z : Progress) (order : List ℕ) (k thread : ℕ) → k < length order → thread ≡ get_or order k thread
+    → TakesTurns x (take k order) y → TakesTurns y (thread ∷ []) z → TakesTurns x (take (k + 1) order) z
+takes_next x y z order k thread less is first next =
+    rw (take_more order k thread less, ← is) (takes_both x y z (take k order) (thread ∷ []) first next)
+
+-- so many turns of a thread
+pub takes_more : (x y z : Progress) (a b n thread : ℕ) → a + b ≡ n → TakesTurns x (replicate a thread) y
+    → TakesTurns y (replicate b thread) z → TakesTurns x (replicate n thread) z
+takes_more x y z a b n thread sum first next =
+    rw (← sum, ← replicate-append-replicate a b thread)
+    (takes_both x y z (replicate a thread) (replicate b thread) first next)

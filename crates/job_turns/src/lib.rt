@@ -1,9 +1,9 @@
 //! All threads of a job, turn by turn.
 #![tactic(auto)]
 
-use thread_space::Runner;
+mod answers;
+mod running;
+mod threads;
+mod turning;
 
-/// A thread's number.
-pub fn number_of(runner: &Runner) -> u32 {
-    runner.thread()
-}
+pub use crate::running::run_job;
