@@ -88,9 +88,9 @@ module _ (h : History) (d : List Piece) (r : Run) (can : CanTurn h d r) (at : �
           let long = ap length can.events_are ∙ length-append can.front can.rest in
           rw cut_is (omega (arith, long, at_front, seen))
 
-      pub cut_answer : (answer : Option LineAnswer) → answer ≡ answer_to (left h) ask
-          → answer ≡ answer_to (after r.kept.vector.past (take (length known) news)) ask
-      cut_answer answer is = is ∙ rw (cut_is, left_is) refl
+      pub cut_answer : (answer : Option LineAnswer) (asked : Ask) → answer ≡ answer_to (left h) ask → ask ≡ asked
+          → answer ≡ answer_to (after r.kept.vector.past (take (length known) news)) asked
+      cut_answer answer asked is same = is ∙ rw (cut_is, left_is, same) refl
 
       pub cut_turned : {X : Type 0} (d' : List Piece) (result : Result Run X) → thread ≡ r.kept.vector.thread → ask ≡ ask_of r
           → IfOk result (λ after. TakesTurn r (take (length known) news) d after d') → OnOk result (length d' ≡ length d)

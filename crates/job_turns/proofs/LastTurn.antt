@@ -1,6 +1,6 @@
 -- After the last turn: what the threads said, the whole order, and whose images the events name.
-use Rattle.std.proofs.Common.{◌≡◌, ◌+◌, ◌*◌, ◌≤◌, ◌<◌, ◌++◌, ℕ, zero, suc, Bool, true, false, List, [], ◌∷◌, length, map, take, replicate, Option, Some, None, refl, sym, ap, subst, ◌∙◌, inl, inr, append-nil, append_assoc, arith}
-use Rattle.std.specs.Prelude.{All, if◌then◌else◌, nat_lt, not, slice_get}
+use Rattle.std.proofs.Common.{◌≡◌, ◌+◌, ◌*◌, ◌≤◌, ◌<◌, ◌++◌, ℕ, zero, suc, Bool, true, false, List, [], ◌∷◌, length, map, take, replicate, Option, Some, None, Result, Ok, Err, refl, sym, ap, subst, ◌∙◌, inl, inr, append-nil, append_assoc, arith}
+use Rattle.std.specs.Prelude.{All, IfOk, if◌then◌else◌, nat_lt, not, slice_get}
 use Rattle.std.proofs.lemmas.Bool.{and_parts, cases_Bool}
 use Rattle.std.proofs.lemmas.List.{length-map, replicate-append-replicate}
 use Rattle.std.proofs.lemmas.List.Elements.{All-cons, All-nil}
@@ -31,10 +31,11 @@ use Rattle.thread_blocks.specs.MachineTurns.{shown}
 use Rattle.thread_blocks.specs.Turns.{enough, finishing, whole_order}
 use Rattle.transcript_text.specs.Texts.{Shown}
 use Rattle.thread_space.specs.Standing.{Run}
-use Rattle.job_turns.specs.Progress.{IsFirst, Progress, Stands, TakesTurns, job_order}
+use Rattle.job_turns.specs.Progress.{IsFirst, Progress, Stands, StandsForSome, TakesTurns}
 use Rattle.job_turns.specs.Transcripts.{IsTranscript, transcript_of}
 use Rattle.job_turns.proofs.FirstTurn.{first_stands}
 use Rattle.job_turns.proofs.Lists.{same_images, set-length}
+use Rattle.job_turns.proofs.Orders.{takes_both}
 
 -- ---- the transcript
 
@@ -51,32 +52,15 @@ stands_shown m fuel w x stands = record {
       (λ k r t at_r at_t. sym (stands.each k r t at_r at_t).stands.said);
 }
 
--- ---- the whole order
+-- ---- before the first turn it stands for the threads of its job
 
-pub finishing_more : {X : Type 0} (fuel thread : ℕ) (all : List (List X)) (k : ℕ) (own : List X) → slice_get all k ≡ Some own
-    → finishing fuel thread (take (suc k) all)
-    ≡ finishing fuel thread (take k all) ++ replicate (enough fuel (length own)) (thread + k)
-finishing_more fuel thread [] k own at = absurd cc
-finishing_more fuel thread (first ∷ all) zero own at =
-    let same : first ≡ own = cc in
-    let sum : thread ≡ thread + 0 = omega arith in
-    append-nil (replicate (enough fuel (length first)) thread)
-    ∙ ap (λ xs. replicate (enough fuel (length xs)) thread) same
-    ∙ ap (λ n. replicate (enough fuel (length own)) n) sum
-finishing_more fuel thread (first ∷ all) (suc k) own at =
-    let sum : suc thread + k ≡ thread + suc k = omega arith in
-    ap (λ xs. replicate (enough fuel (length first)) thread ++ xs)
-    (finishing_more fuel (suc thread) all k own at
-    ∙ ap (λ n. finishing fuel (suc thread) (take k all) ++ replicate (enough fuel (length own)) n) sum)
-    ∙ sym (append_assoc (replicate (enough fuel (length first)) thread) (finishing fuel (suc thread) (take k all))
-    (replicate (enough fuel (length own)) (thread + suc k)))
-
-pub whole_world : (m : JobImages) (job : JobParts) (x y : Progress) → IsFirst m job x
-    → TakesTurns x (whole_order (4 * job.fuel) job.lines job.order) y
-    → Stands m job.fuel (job_world (job_loads m) job.fuel job.lines job.order) y
-unfolding job_world
-whole_world m job x y first takes =
-    takes.turns m job.fuel (job_start (job_loads m) job.lines) (first_stands m job x first)
+pub first_some : (m : JobImages) (job : JobParts) (x : Progress) → IsFirst m job x → StandsForSome x
+first_some m job x first = record {
+  images = m;
+  fuel = job.fuel;
+  world = job_start (job_loads m) job.lines;
+  stands = first_stands m job x first;
+}
 
 -- ---- images of events
 
@@ -145,3 +129,26 @@ module _ (m : JobImages) (images : List Image) (are : m.kinds ≡ map (λ image.
       let each = images_within (length (infos m)) (start (infos m) (last_offset m)) events
           (past_start (infos m) (last_offset m) legal.images legal.low) first-length legal.each k d less in
       (each.0, omega (arith, each.1, few_images))
+
+-- ---- all of it
+
+module _ (m : JobImages) (job : JobParts) (x y z : Progress) (first : IsFirst m job x) (takes : TakesTurns x job.order y)
+    (finishes : TakesTurns y (finishing (4 * job.fuel) 1 job.lines) z) where
+  whole_world : Stands m job.fuel (job_world (job_loads m) job.fuel job.lines job.order) z
+  unfolding job_world
+  whole_world =
+      (takes_both x y z job.order (finishing (4 * job.fuel) 1 job.lines) takes finishes).turns m job.fuel
+      (job_start (job_loads m) job.lines) (first_stands m job x first)
+
+  pub all_shown : {X : Type 0} (result : Result Shown X) → IfOk result (λ shown. shown ≡ transcript_of z)
+      → IfOk result (λ shown. IsTranscript (job_world (job_loads m) job.fuel job.lines job.order) shown)
+  all_shown (Ok shown) is = rw is (stands_shown m job.fuel (job_world (job_loads m) job.fuel job.lines job.order) z whole_world)
+  all_shown (Err why) is = tt
+
+  pub all_named : {X : Type 0} (result : Result Shown X) → m.kinds ≡ map (λ image. image.kind) job.images
+      → IfOk result (λ shown. shown ≡ transcript_of z)
+      → IfOk result (λ shown. All (λ event. IsImageNumber job.images event.image) shown.events)
+  all_named (Ok shown) are is =
+      rw (is, whole_world.events_are)
+      (named_images m job.images are (job_world (job_loads m) job.fuel job.lines job.order).events whole_world.legal)
+  all_named (Err why) are is = tt

@@ -1,8 +1,8 @@
-pub mod Lists
+pub mod CutTurns
 pub mod FinishedTurns
-pub mod Standings
-pub mod OneTurn
-pub mod Orders
 pub mod FirstTurn
 pub mod LastTurn
-pub mod CutTurns
+pub mod Lists
+pub mod OneTurn
+pub mod Orders
+pub mod Standings

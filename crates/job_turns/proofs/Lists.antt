@@ -1,7 +1,8 @@
 -- Lists side by side, and an element of a list that is replaced.
-use Rattle.std.proofs.Common.{◌≡◌, ◌<◌, ◌≤◌, ◌+◌, ◌++◌, ℕ, zero, suc, List, [], ◌∷◌, length, map, take, drop, Option, Some, None, refl, sym, ap, subst, ◌∙◌, arith}
+use Rattle.std.proofs.Common.{◌≡◌, ◌<◌, ◌≤◌, ◌+◌, ◌++◌, ℕ, zero, suc, List, [], ◌∷◌, length, map, take, drop, Option, Some, None, refl, sym, ap, subst, ◌∙◌, append-nil, append_assoc, replicate, arith}
 use Rattle.std.specs.Prelude.{slice_get, slice_set}
 use Rattle.std.specs.List.{insert, remove}
+use Rattle.thread_blocks.specs.Turns.{enough, finishing}
 
 module _ {X : Type 0} where
   -- ---- an element that is there
@@ -81,3 +82,31 @@ module _ {X Y : Type 0} where
   same_images f g (x ∷ xs) [] long each = absurd (omega (arith, long))
   same_images f g (x ∷ xs) (y ∷ ys) long each =
       rw (each zero x y refl refl, same_images f g xs ys (omega (arith, long)) (λ k. each (suc k))) refl
+
+-- one thread more that is brought to its end
+pub finishing_more : {X : Type 0} (fuel thread : ℕ) (all : List (List X)) (k : ℕ) (own : List X) → slice_get all k ≡ Some own
+    → finishing fuel thread (take (suc k) all)
+    ≡ finishing fuel thread (take k all) ++ replicate (enough fuel (length own)) (thread + k)
+finishing_more fuel thread [] k own at = absurd cc
+finishing_more fuel thread (first ∷ all) zero own at =
+    let same : first ≡ own = cc in
+    let sum : thread ≡ thread + 0 = omega arith in
+    append-nil (replicate (enough fuel (length first)) thread)
+    ∙ ap (λ xs. replicate (enough fuel (length xs)) thread) same
+    ∙ ap (λ n. replicate (enough fuel (length own)) n) sum
+finishing_more fuel thread (first ∷ all) (suc k) own at =
+    let sum : suc thread + k ≡ thread + suc k = omega arith in
+    ap (λ xs. replicate (enough fuel (length first)) thread ++ xs)
+    (finishing_more fuel (suc thread) all k own at
+    ∙ ap (λ n. finishing fuel (suc thread) (take k all) ++ replicate (enough fuel (length own)) n) sum)
+    ∙ sym (append_assoc (replicate (enough fuel (length first)) thread) (finishing fuel (suc thread) (take k all))
+    (replicate (enough fuel (length own)) (thread + suc k)))
+
+-- what is true of each element, and of one that is put behind them
+pub each_push : {X : Type 0} (P : ℕ → X → Type 0) (xs : List X) (x : X)
+    → ((k : ℕ) (y : X) → slice_get xs k ≡ Some y → P k y) → P (length xs) x
+    → (k : ℕ) (y : X) → slice_get (xs ++ x ∷ []) k ≡ Some y → P k y
+each_push P [] x each new zero y at = let same : x ≡ y = cc in subst (λ z. P zero z) same new
+each_push P [] x each new (suc k) y at = absurd cc
+each_push P (a ∷ xs) x each new zero y at = each zero y at
+each_push P (a ∷ xs) x each new (suc k) y at = each_push (λ n. P (suc n)) xs x (λ n. each (suc n)) new k y at

@@ -137,7 +137,8 @@ impl<'m> Threads<'m> {
         names: &'m JobNames<'m>,
     ) -> Result<Threads<'m>, AllocError>
         requires { names.now ≡ modules.now }
-        ensures { IfOk result (IsFirst modules.now job.now) }
+        ensures first { IfOk result (IsFirst modules.now job.now) }
+        ensures few { IfOk result (λ threads. length threads.runs ≤ 64) }
     {
         let registry = Registry::new(alloc, modules.infos(), modules.last_offset())?;
         registry.len();

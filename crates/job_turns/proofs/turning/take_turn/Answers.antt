@@ -1,5 +1,5 @@
 use Rattle.std.proofs.Common.{◌≡◌, ◌∙◌, sym, ap, arith}
-use Rattle.thread_space.specs.Asking.{answer_to}
+use Rattle.thread_space.specs.Standing.{ask_of}
 use Rattle.job_turns.proofs.CutTurns.{cut_answer, cut_legal, cut_length, cut_room, cut_turned, seen_within, seen_within_then}
 use Rattle.job_turns.proofs.turning.take_turn.Goals as goal
 
@@ -36,8 +36,7 @@ turn_with-requires-clause-answer c =
     cut_answer c.args.registry.now c.args.pieces.now c.args.runner c.requires.can c.seen-seen.result
     c.seen-seen.ensures.value c.thread.result c.asks.result c.answer.new.registry c.in_ok-answer.ensures.adds
     c.since-known.result.now c.since.result.now c.since-known.ensures.value c.since.ensures.value c.in_ok-answer.answer
-    c.in_ok-answer.ensures.answer
-    ∙ ap (λ ask. answer_to _ ask) c.asks.ensures
+    (ask_of c.args.runner) c.in_ok-answer.ensures.answer c.asks.ensures
 
 pub returns : goal.returns
 returns c =

@@ -1,0 +1,10 @@
+use Rattle.std.proofs.Common.{take}
+use Rattle.job_turns.proofs.Orders.{still_some, takes_next}
+use Rattle.job_turns.proofs.threads.Threads.take_order.Goals as goal
+
+pub turn-requires : goal.turn-requires
+turn-requires c = still_some c.args.self.now c.loop-thread.self (take c.loop-thread.thread-index c.args.order.now)
+    c.requires c.loop-thread.invariant
+
+pub loop-thread-preserved : goal.loop-thread-preserved
+loop-thread-preserved c = let i = c.loop-thread.invariant in let t = c.in_ok-turn.ensures in ?
