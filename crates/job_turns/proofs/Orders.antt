@@ -97,10 +97,10 @@ takes_put x thread k r h d r' runs number at turned are =
     rw (number, are, put_back x.runs k r' (within x.runs k r at)) (takes_turned x k r h d r' at turned)
 
 -- one turn more of an order
-pub takes_next : (x y z : Progress) (order : List ℕ) (k thread : ℕ) → k < length order → thread ≡ get_or order k thread
-    → TakesTurns x (take k order) y → TakesTurns y (thread ∷ []) z → TakesTurns x (take (k + 1) order) z
-takes_next x y z order k thread less is first next =
-    rw (take_more order k thread less, ← is) (takes_both x y z (take k order) (thread ∷ []) first next)
+pub takes_next : (x y z : Progress) (order : List ℕ) (k d : ℕ) → k < length order
+    → TakesTurns x (take k order) y → TakesTurns y (get_or order k d ∷ []) z → TakesTurns x (take (k + 1) order) z
+takes_next x y z order k d less first next =
+    rw (take_more order k d less) (takes_both x y z (take k order) (get_or order k d ∷ []) first next)
 
 -- so many turns of a thread
 pub takes_more : (x y z : Progress) (a b n thread : ℕ) → a + b ≡ n → TakesTurns x (replicate a thread) y

@@ -1,5 +1,6 @@
-use Rattle.std.proofs.Common.{◌*◌, replicate, arith}
+use Rattle.std.proofs.Common.{◌≡◌, ◌*◌, replicate, subst, arith}
 use Rattle.thread_blocks.specs.Turns.{enough}
+use Rattle.job_turns.specs.Progress.{TakesTurns}
 use Rattle.job_turns.proofs.Orders.{still_some, takes_line}
 use Rattle.job_turns.proofs.threads.Threads.finish_thread.Goals as goal
 
@@ -14,4 +15,7 @@ loop-preserved c =
     c.loop.invariant c.in_ok-take_turns.ensures
 
 pub returns : goal.returns
-returns c = let i = c.loop.invariant in ?
+returns c =
+    let all : c.loop.counter ≡ c.args.lines = omega arith in
+    subst (λ n. TakesTurns c.args.self.now (replicate (enough (4 * c.args.fuel) n) c.args.thread) c.loop.self) all
+    c.loop.invariant
