@@ -11,10 +11,10 @@ use Rattle.module_table.specs.History.{History, IsLegal, close_answer, closed_of
 use Rattle.module_table.specs.Past.{after, close_refusal, is_legal, open_refusal, past, start}
 use Rattle.module_table.specs.Walks.{is_legal-append, seen-past}
 use Rattle.thread_blocks.specs.Turns.{with_event}
-use Rattle.thread_space.specs.declared.asking.Ask.{Ask}
-use Rattle.thread_space.specs.declared.asking.LineAnswer.{LineAnswer}
-use Rattle.thread_space.specs.Asking.{answer_to, closed_at, opened_at}
-use Rattle.thread_space.specs.Standing.{Run, TakesTurn, ask_of}
+use Rattle.job_turns.specs.declared.asking.Ask.{Ask}
+use Rattle.job_turns.specs.declared.asking.LineAnswer.{LineAnswer}
+use Rattle.job_turns.specs.Asking.{answer_to, closed_at, opened_at}
+use Rattle.job_turns.specs.Standing.{Run, TakesTurn, ask_of}
 use Rattle.job_turns.specs.Turning.{AddsAsked, CanTurn, Turned, event_asked}
 use Rattle.job_turns.proofs.OneTurn.{rest_is, rest_leaves, seen_front}
 use Rattle.job_turns.proofs.Standings.{front_grows}

@@ -14,11 +14,11 @@ use Rattle.thread_blocks.specs.JobWorlds.{blocks_in, changed, data_in, held_in, 
 use Rattle.thread_blocks.specs.Lines.{Line}
 use Rattle.thread_blocks.specs.RunTime.{Runs}
 use Rattle.thread_blocks.specs.Turns.{Idle, Mid, Phase, Said, Thread, Turns, event_of, next_line, turn, turn_at}
-use Rattle.thread_space.specs.declared.asking.Ask.{Ask}
-use Rattle.thread_space.specs.declared.asking.Ask.TheVariants.{Done, Look, Opens, Closes}
-use Rattle.thread_space.specs.Asking.{ask_by, ask_next}
+use Rattle.job_turns.specs.declared.asking.Ask.{Ask}
+use Rattle.job_turns.specs.declared.asking.Ask.TheVariants.{Done, Look, Opens, Closes}
+use Rattle.job_turns.specs.Asking.{ask_by, ask_next}
 use Rattle.thread_space.specs.Kept.{Kept, blocks_of, shared_of}
-use Rattle.thread_space.specs.Standing.{IsIdle, PhaseIs, Run, StandsFor, Waiting, ask_now, ask_of}
+use Rattle.job_turns.specs.Standing.{IsIdle, PhaseIs, Run, StandsFor, Waiting, ask_now, ask_of}
 use Rattle.thread_space.proofs.Owners.{blocks_are_blocks, blocks_no_data, owned_again, shared_is_data, shared_no_blocks}
 use Rattle.thread_vector.specs.Vectors.{Vector}
 use Rattle.job_turns.proofs.Lists.{none_drop}

@@ -19,7 +19,7 @@ use Rattle.thread_blocks.specs.Lines.{Line}
 use Rattle.thread_blocks.specs.RunTime.{Runs}
 use Rattle.thread_blocks.specs.Turns.{Idle, Thread, ready}
 use Rattle.thread_space.specs.Kept.{HasSeen, Kept, blocks_of, shared_of}
-use Rattle.thread_space.specs.Standing.{IsFirstRun, IsIdle, PhaseIs, Run, StandsFor}
+use Rattle.job_turns.specs.Standing.{IsFirstRun, IsIdle, PhaseIs, Run, StandsFor}
 use Rattle.thread_space.specs.Steps.{IsNew}
 use Rattle.thread_space.proofs.Owners.{owned_again}
 use Rattle.thread_space.proofs.StartKept.{first_shared, start_kept}

@@ -30,7 +30,7 @@ use Rattle.thread_blocks.specs.Lines.{Line}
 use Rattle.thread_blocks.specs.MachineTurns.{shown}
 use Rattle.thread_blocks.specs.Turns.{enough, finishing, whole_order}
 use Rattle.transcript_text.specs.Texts.{Shown}
-use Rattle.thread_space.specs.Standing.{Run}
+use Rattle.job_turns.specs.Standing.{Run}
 use Rattle.job_turns.specs.Progress.{IsFirst, Progress, Stands, StandsForSome, TakesTurns}
 use Rattle.job_turns.specs.Transcripts.{IsTranscript, transcript_of}
 use Rattle.job_turns.proofs.FirstTurn.{first_stands}

@@ -17,11 +17,11 @@ use Rattle.thread_blocks.specs.JobWorlds.{Shared, data_in, held_in, numbered_lin
 use Rattle.thread_blocks.specs.Lines.{Line, event_by}
 use Rattle.thread_blocks.specs.RunTime.{Runs, thread_turns}
 use Rattle.thread_blocks.specs.Turns.{Idle, Mid, Phase, Thread, at_number, event_of, next_line, turn, with_event}
-use Rattle.thread_space.specs.declared.asking.Ask.{Ask}
-use Rattle.thread_space.specs.declared.asking.Ask.TheVariants.{Done, Look, Opens, Closes}
-use Rattle.thread_space.specs.Asking.{ask_by, ask_next}
+use Rattle.job_turns.specs.declared.asking.Ask.{Ask}
+use Rattle.job_turns.specs.declared.asking.Ask.TheVariants.{Done, Look, Opens, Closes}
+use Rattle.job_turns.specs.Asking.{ask_by, ask_next}
 use Rattle.thread_space.specs.Kept.{HasSeen, Kept, shared_of}
-use Rattle.thread_space.specs.Standing.{PhaseIs, Run, StandsAfter, StandsFor, TakesTurn, Waiting, ask_now, ask_of}
+use Rattle.job_turns.specs.Standing.{PhaseIs, Run, StandsAfter, StandsFor, TakesTurn, Waiting, ask_now, ask_of}
 use Rattle.job_turns.specs.Progress.{IsRunner, Progress, Stands, is_done, is_over, is_thread_over, job_order}
 use Rattle.job_turns.specs.Turning.{Turned, event_asked}
 use Rattle.job_turns.proofs.FinishedTurns.{done_adds_none, done_shared, done_stands, done_turn}

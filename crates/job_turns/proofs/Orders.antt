@@ -15,7 +15,7 @@ use Rattle.thread_blocks.specs.JobWorlds.{Shared, shared_turn}
 use Rattle.thread_blocks.specs.Lines.{Line, event_by}
 use Rattle.thread_blocks.specs.RunTime.{Runs, thread_turns}
 use Rattle.thread_blocks.specs.Turns.{Thread, at_number, enough, finishing}
-use Rattle.thread_space.specs.Standing.{Run}
+use Rattle.job_turns.specs.Standing.{Run}
 use Rattle.job_turns.specs.Progress.{Progress, Stands, StandsForSome, TakesTurns, is_over, is_thread_over, job_order}
 use Rattle.job_turns.specs.Turning.{CanTurn, Turned}
 use Rattle.job_turns.proofs.Lists.{beside, finishing_more, put_back, set-length, within}

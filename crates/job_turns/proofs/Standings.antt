@@ -12,7 +12,7 @@ use Rattle.thread_blocks.specs.Lines.{Line}
 use Rattle.thread_blocks.specs.RunTime.{Runs}
 use Rattle.thread_blocks.specs.Turns.{Thread, with_event}
 use Rattle.thread_space.specs.Kept.{shared_of}
-use Rattle.thread_space.specs.Standing.{Run}
+use Rattle.job_turns.specs.Standing.{Run}
 use Rattle.job_turns.specs.Progress.{IsRunner, Progress, Stands}
 use Rattle.job_turns.proofs.Lists.{each_set, set-length}
 

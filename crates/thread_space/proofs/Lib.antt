@@ -1,4 +1,5 @@
 pub mod BytesHeld
+pub mod Entries
 pub mod Listing
 pub mod Live
 pub mod LoadKept

@@ -4,6 +4,7 @@
 mod blocks;
 mod bytes;
 mod finding;
+mod names;
 mod parts;
 mod shared;
 mod space;
@@ -11,5 +12,6 @@ mod stack;
 mod words;
 
 pub use bytes::Outline;
+pub use names::JobNames;
 pub use space::ThreadSpace;
 pub use words::{end_of_stack, thread_pointer};

@@ -1,7 +1,7 @@
 use Rattle.std.proofs.Common.{◌≡◌, ◌+◌, ◌-◌, ◌∙◌, ℕ, List, [], ◌∷◌, Some, length, ap, sym, subst, arith}
 use Rattle.std.proofs.lemmas.List.{length-append}
 use Rattle.std.specs.Prelude.{slice_get}
-use Rattle.thread_space.specs.Standing.{IsFirstRun, Run}
+use Rattle.job_turns.specs.Standing.{IsFirstRun, Run}
 use Rattle.job_turns.proofs.Lists.{each_push}
 use Rattle.job_turns.proofs.threads.Threads.new.Goals as goal
 
