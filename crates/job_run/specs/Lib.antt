@@ -4,4 +4,5 @@ pub mod Meaning
 pub mod Objects
 pub mod Plain
 pub mod Statements
+pub mod Whole
 pub mod Worlds

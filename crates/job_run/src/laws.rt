@@ -2,6 +2,7 @@
 
 ghost use Rattle.job_run.specs.Images.{PlainImagesAreLinked, PlainImagesAreStill};
 ghost use Rattle.job_run.specs.Statements.{PrintsItsMeanings, PrintsItsMeaning, CallMeans, ThreadsMeanTheirOwn};
+ghost use Rattle.job_run.specs.Whole.{ProgramsPrintTheirMeaning};
 
 /// Where the meaning of no line is unclean, the machine over the linked image prints what all threads
 /// mean, in any order of their turns: the same history, and of each line the same.
@@ -37,4 +38,11 @@ pub fn plain_images_are_linked()
 #[tactic(auto, using(crate::proofs::LinkedImages::images_still))]
 pub fn plain_images_are_still()
     ensures { PlainImagesAreStill }
+{}
+
+/// Of a job that has the program of a plain link alone, whose one thread calls once: where its meaning is clean, the
+/// machine with its run time prints what the call means, in any order of turns.
+#[tactic(auto, using(crate::proofs::LoneLinks::programs_print))]
+pub fn programs_print_their_meaning()
+    ensures { ProgramsPrintTheirMeaning }
 {}
