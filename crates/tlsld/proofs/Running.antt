@@ -95,3 +95,8 @@ module _ (job : JobParts) (images : List Given) (relax : Bool) (bytes : List ℕ
     kinds = kinds_of images relax images ∙ are.kinds;
     bytes = all_small each;
   }
+
+-- what they came to
+pub linked_all : (images : List Given) (relax : Bool) (gs : List Given) → map (λ g. linked_of (link_in images relax g)) gs ≡ map linked_of (map (link_in images relax) gs)
+linked_all images relax [] = refl
+linked_all images relax (g ∷ gs) = ap (λ more. linked_of (link_in images relax g) ∷ more) (linked_all images relax gs)

@@ -1,9 +1,9 @@
 -- Transcripts, and those of small jobs.
-use Rattle.std.proofs.Common.{◌≡◌, ◌∙◌, ◌≤◌, ◌&&◌, ℕ, Bool, true, false, List, All, [], ◌∷◌, length, map, Option, Some, None, refl, sym, ap, subst, arith}
+use Rattle.std.proofs.Common.{◌≡◌, ◌∙◌, ◌≤◌, ◌&&◌, ℕ, Bool, true, false, List, All, [], ◌∷◌, length, map, Option, Some, None, Result, Ok, Err, IfOk, refl, sym, ap, subst, arith}
 use Rattle.std.specs.Prelude.{option_map, slice_get}
 use Rattle.image_file.specs.Spelled.{Spelled}
 use Rattle.job_run.specs.Objects.{meaning_loaded, room_of}
-use Rattle.job_run.specs.Plain.{is_exe, is_plain}
+use Rattle.job_run.specs.Plain.{AreBytes, is_exe, is_plain}
 use Rattle.job_run.specs.Whole.{ProgramsPrintTheirMeaning, one_call, program_of, told_call}
 use Rattle.job_run.specs.Worlds.{AreClean}
 use Rattle.job_text.specs.declared.images.Image.{Image}
@@ -13,9 +13,11 @@ use Rattle.job_text.specs.declared.thread_lines.ThreadLine.{ThreadLine}
 use Rattle.job_text.specs.Jobs.{IsLineOf, JobParts, lines_of_thread}
 use Rattle.job_text.specs.Threads.{of_thread}
 use Rattle.job_turns.specs.Transcripts.{IsTranscript}
+use Rattle.link_core.specs.Faults.{Links}
 use Rattle.link_core.specs.Images.{LinkedImage, image_of, linked_of}
 use Rattle.link_faults.specs.declared.image_kind.ImageKind.{ImageKind}
 use Rattle.link_faults.specs.declared.image_kind.ImageKind.TheVariants.{Exe, Pie, Start, Late}
+use Rattle.link_needs.specs.Given.{IsGiven}
 use Rattle.link_needs.specs.Linking.{Linking}
 use Rattle.loaded_modules.specs.Given.{of_job}
 use Rattle.loaded_modules.specs.Images.{JobImages}
@@ -112,13 +114,13 @@ has_call fuel ((line ∷ (other ∷ more)) ∷ threads) small e = cc
 of_images : (images : List Image) (fuel : ℕ) (lines : List (List ThreadLine)) (small : Small) → small_of images fuel lines ≡ Some small
     → (image : Image) × (images ≡ image ∷ []) × (only_call fuel lines ≡ Some small)
 of_images [] fuel lines small e = cc
-of_images (image ∷ []) fuel lines small e = (image, (refl, e))
+of_images (image ∷ []) fuel lines small e = (image, refl, e)
 of_images (image ∷ (other ∷ more)) fuel lines small e = cc
 
 is_small : (job : JobParts) (small : Small) → small_job job ≡ Some small → IsSmall job small
 unfolding small_job
 is_small job small e =
-    let (image, (alone, call)) = of_images job.images job.fuel job.lines small e in
+    let (image, alone, call) = of_images job.images job.fuel job.lines small e in
     record { image = image; alone = alone; calls = has_call job.fuel job.lines small call }
 
 -- its line is about its image
@@ -207,12 +209,13 @@ one_world job m l small modules lines fuel =
     ∙ ap (λ (n : ℕ). job_world (job_loads (program_of l)) n job.lines job.order) fuel
     ∙ ap (λ (all : List (List ThreadLine)). job_world (job_loads (program_of l)) small.fuel all job.order) lines
 
+first_of : (P : Linking → Type 0) (ls : List Linking) (l : Linking) → slice_get ls 0 ≡ Some l → All P ls → P l
+first_of P [] l e every = cc
+first_of P (m ∷ more) l e every = let same : m ≡ l = cc in subst P same (every 0 m (omega arith))
+
 module _ (prints : ProgramsPrintTheirMeaning) (job : JobParts) (ls : List Linking) (links : AreLinks job ls) (placed : All (IsLineOf job.images) (lines_of_thread job 1))
     (all : List LinkedImage) (all_is : all ≡ map linked_of ls) (images : List Spelled) (back : AreBack job all images)
     (m : JobImages) (m_is : m ≡ of_job job images) (transcript : Shown) (printed : IsTranscript (world_of job m) transcript) where
-  of_first : {P : Linking → Type 0} (l : Linking) → slice_get ls 0 ≡ Some l → All P ls → P l
-  of_first l first every = ?
-
   meant_is : (l : Linking) (small : Small) → slice_get ls 0 ≡ Some l → small_job job ≡ Some small → is_plain l ≡ true → AreClean (meant l small)
       → IsLine (meant l small) transcript
   unfolding meant
@@ -220,17 +223,26 @@ module _ (prints : ProgramsPrintTheirMeaning) (job : JobParts) (ls : List Linkin
       let is = is_small job small one in
       let program : m ≡ program_of l = m_is ∙ program_is job ls links all all_is images back l first is.image is.alone plain in
       let says =
-      prints l small.fuel (call_line small) job.order (of_first l first links.together.given) (of_first l first links.together.links)
-      (of_first l first links.bytes) plain clean in
+      prints l small.fuel (call_line small) job.order (first_of IsGiven ls l first links.together.given) (first_of Links ls l first links.together.links)
+      (first_of (λ m. All AreBytes m.objects) ls l first links.bytes) plain clean in
       let world : world_of job m ≡ job_world (job_loads (program_of l)) small.fuel (one_call (call_line small)) job.order =
       one_world job m l small program (lines_are job small is placed) is.calls.call.steps in
       one_transcribed (meant l small) (job_world (job_loads (program_of l)) small.fuel (one_call (call_line small)) job.order) transcript
       (meant_one (room_of l) (meaning_loaded l) small.fuel (call_line small)) says.0 says.1
       (subst (λ (w : World). IsTranscript w transcript) world printed)
 
-  pub has_run : HasRun job ls transcript
+  has_run : HasRun job ls transcript
   has_run = record {
     printed_is =
         subst (λ (n : JobImages). IsTranscript (world_of job n) transcript) (m_is ∙ modules_are job ls links all all_is images back) printed;
     meant_is = meant_is;
   }
+
+-- what a run answers
+pub ran : {E : Type 0} (prints : ProgramsPrintTheirMeaning) (job : JobParts) → All (IsLineOf job.images) (lines_of_thread job 1)
+    → (all : List LinkedImage) (images : List Spelled) → AreBack job all images → (m : JobImages) → m ≡ of_job job images → (r : Result Shown E)
+    → IfOk r (λ transcript. IsTranscript (world_of job m) transcript)
+    → IfOk r (λ transcript. (ls : List Linking) → AreLinks job ls → all ≡ map linked_of ls → HasRun job ls transcript)
+ran prints job placed all images back m m_is (Ok transcript) printed =
+    λ ls links all_is. has_run prints job ls links placed all all_is images back m m_is transcript printed
+ran prints job placed all images back m m_is (Err e) printed = tt
