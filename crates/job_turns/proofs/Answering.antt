@@ -1,31 +1,28 @@
 -- What is asked for and answered over the code's ranges, is asked for and answered over a thread's space.
-use Rattle.std.proofs.Common.{◌≡◌, ◌+◌, ◌==◌, ℕ, zero, suc, Bool, true, false, List, [], ◌∷◌, Option, Some, None, Result, Ok, Err, IsErr, refl, sym, ap, ◌∙◌, subst}
+use Rattle.std.proofs.Common.{◌≡◌, ◌+◌, ◌==◌, ℕ, zero, suc, Bool, true, false, List, Option, Some, None, Result, Ok, Err, IsErr, refl, sym, ap, ◌∙◌, subst}
 use Rattle.std.specs.Prelude.{if◌then◌else◌, ok_or}
 use Rattle.std.specs.List.{find, list_any}
 use Rattle.guest_arithmetic.specs.Plain.{plain_operations}
-use Rattle.guest_operands.specs.declared.space.Access.TheVariants.{Read}
 use Rattle.guest_operands.specs.declared.state.State.{State}
 use Rattle.guest_operands.specs.declared.stop.Stop.{Stop}
 use Rattle.guest_operands.specs.declared.stop.Stop.TheVariants.{Address}
 use Rattle.guest_operands.specs.Access.{Accesses, Refusal, Refused, Shut, both_reached, bytes_at, cons, load_of, next_place, reached as reached_so}
-use Rattle.guest_operands.specs.Ranges.{AddressSpace, byte_in, range_accesses}
-use Rattle.guest_operands.specs.State.{at_place, with_stack}
-use Rattle.guest_operands.specs.Use.{◌>>=◌, After, clean, left, plus, there}
-use Rattle.guest_machine.specs.Machine.{Answers, Standing, answer_of, with_answer}
+use Rattle.guest_operands.specs.Ranges.{AddressSpace, range_accesses}
+use Rattle.guest_operands.specs.Use.{◌>>=◌, After, left, there}
+use Rattle.guest_machine.specs.Machine.{Answers, Standing, answer_of}
 use Rattle.guest_machine.specs.Step.{return_of}
 use Rattle.loaded_modules.specs.declared.instance.Instance.{Instance}
-use Rattle.loaded_modules.specs.Images.{JobImages, infos}
+use Rattle.loaded_modules.specs.Images.{infos}
 use Rattle.module_table.specs.declared.events.Event.{Event}
 use Rattle.module_table.specs.Past.{Past}
-use Rattle.thread_blocks.specs.declared.asked.Asked.{Asked}
-use Rattle.thread_blocks.specs.Instances.{Loads, instances, instances_in}
+use Rattle.thread_blocks.specs.Instances.{instances, instances_in}
 use Rattle.thread_blocks.specs.JobLoads.{job_loads}
 use Rattle.thread_blocks.specs.MachineTurns.{stack_start}
-use Rattle.thread_blocks.specs.RunTime.{Runs as Thread, answer_word, answered, asked_at, asked_by, asked_of, asker, has_words, pair, thread_accesses, word_at, word_of}
-use Rattle.thread_blocks.specs.Spaces.{Space, address_space_of, after_of, mapped, open_everywhere, ranges_of, space_accesses}
+use Rattle.thread_blocks.specs.RunTime.{asked_at, asked_by, asked_of, has_words, pair, thread_accesses, word_at, word_of}
+use Rattle.thread_blocks.specs.Spaces.{Space, address_space_of, after_of, mapped, open_everywhere, space_accesses}
 use Rattle.thread_blocks.proofs.Spaces.{space_image}
-use Rattle.thread_space.specs.Kept.{HasSeen, Kept, held_at, live_in, memory_of, shape_of}
-use Rattle.job_turns.specs.Running.{asked_from, asked_in, asked_words, asker_in, space_in, word_in}
+use Rattle.thread_space.specs.Kept.{HasSeen, Kept, live_in, memory_of, shape_of}
+use Rattle.job_turns.specs.Running.{asked_from, asked_in, asker_in, space_in, word_in}
 use Rattle.job_turns.proofs.SpaceRuns.{fixed_seen, memory_is, none_fixed, space_is}
 
 -- ** instances

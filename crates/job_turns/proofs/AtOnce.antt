@@ -1,5 +1,5 @@
 -- What is asked for between two looks: it is answered at once, or the run ends there, or it waits.
-use Rattle.std.proofs.Common.{◌≡◌, ◌==◌, ℕ, Bool, true, false, List, Option, Some, None, refl, sym, ap, ◌∙◌}
+use Rattle.std.proofs.Common.{◌≡◌, ◌==◌, ℕ, Bool, true, false, List, Option, Some, None, refl, ap, ◌∙◌}
 use Rattle.std.specs.Prelude.{if◌then◌else◌}
 use Rattle.std.specs.List.{find}
 use Rattle.guest_arithmetic.specs.Plain.{plain_operations}
@@ -13,10 +13,9 @@ use Rattle.thread_blocks.specs.declared.asked.Asked.{Asked}
 use Rattle.thread_blocks.specs.Instances.{Loads, instances, is_startup_id}
 use Rattle.thread_blocks.specs.JobLoads.{job_loads}
 use Rattle.thread_blocks.specs.RunTime.{Runs as Thread, answer_word, asked_at, asked_next, found_at_once, goes_answered}
-use Rattle.job_turns.specs.declared.running.Ran.{Ran}
 use Rattle.job_turns.specs.declared.running.Ran.TheVariants as ran
 use Rattle.thread_space.specs.Kept.{HasSeen, Kept, held_at, live_in, memory_of, shape_of}
-use Rattle.job_turns.specs.Running.{AnswersLook, asked_in, next_after}
+use Rattle.job_turns.specs.Running.{AnswersLook, asked_in}
 use Rattle.job_turns.proofs.Answering.{answer_made, answer_refused, asked_is, live_seen}
 use Rattle.job_turns.proofs.SameThread.{held_after}
 

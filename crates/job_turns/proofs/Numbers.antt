@@ -1,6 +1,6 @@
 -- Numbers and questions that the code reads byte by byte.
-use Rattle.std.proofs.Common.{◌≡◌, ◌+◌, ◌-◌, ◌*◌, ◌^◌, ◌<◌, ◌≤◌, ℕ, zero, suc, Bool, true, false, List, [], ◌∷◌, Option, Some, None, Result, Ok, Err, refl, sym, ap, ◌∙◌, arith}
-use Rattle.std.specs.Prelude.{◌==◌, if◌then◌else◌, ok_or}
+use Rattle.std.proofs.Common.{◌≡◌, ◌+◌, ◌*◌, ◌^◌, ◌<◌, ◌≤◌, ℕ, zero, suc, Bool, List, Option, Some, None, Result, Ok, Err, refl, sym, ap, ◌∙◌, arith}
+use Rattle.std.specs.Prelude.{◌==◌, if◌then◌else◌}
 use Rattle.std.proofs.lemmas.Nat.{pow-add}
 use Rattle.std.proofs.Math.Nat.{pow-le-pow_right}
 use Rattle.guest_arithmetic.specs.Plain.{plain_operations}
@@ -10,7 +10,6 @@ use Rattle.guest_operands.specs.declared.state.State.{State}
 use Rattle.guest_operands.specs.Access.{Refusal, Refused, Shut, both_reached, bytes_at, cons, next_place}
 use Rattle.guest_operands.specs.Ranges.{byte_in, range_accesses}
 use Rattle.loaded_modules.specs.declared.instance.Instance.{Instance}
-use Rattle.thread_blocks.specs.declared.asked.Asked.{Asked}
 use Rattle.thread_blocks.specs.Instances.{Loads}
 use Rattle.thread_blocks.specs.JobLoads.{job_loads}
 use Rattle.thread_blocks.specs.RunTime.{asked_by, pair, word_of}

@@ -1,33 +1,27 @@
 -- What is answered after a look.
-use Rattle.std.proofs.Common.{◌≡◌, ◌==◌, ℕ, Bool, true, false, List, length, Option, Some, None, Result, refl, sym, ap, ◌∙◌, subst}
+use Rattle.std.proofs.Common.{◌≡◌, ◌==◌, ℕ, Bool, true, false, List, length, Option, Some, None, refl, sym, ap, ◌∙◌}
 use Rattle.std.specs.Prelude.{if◌then◌else◌, is_none, is_some}
 use Rattle.std.specs.List.{find}
-use Rattle.std.proofs.lemmas.Option.{none-some}
 use Rattle.guest_arithmetic.specs.Plain.{plain_operations}
-use Rattle.guest_machine.specs.Ranges.{Range}
-use Rattle.guest_operands.specs.declared.state.State.{State}
-use Rattle.guest_operands.specs.declared.stop.Stop.{Stop}
 use Rattle.guest_operands.specs.declared.stop.Stop.TheVariants.{Address}
 use Rattle.guest_operands.specs.Ranges.{range_accesses}
 use Rattle.guest_operands.specs.Use.{left}
 use Rattle.guest_machine.specs.Machine.{Answers, Standing, answer_of}
 use Rattle.loaded_modules.specs.declared.instance.Instance.{Instance}
-use Rattle.module_data.specs.Pieces.{Piece}
 use Rattle.module_table.specs.declared.events.Event.{Event}
-use Rattle.module_table.specs.Past.{image_of, live}
+use Rattle.module_table.specs.Past.{live}
 use Rattle.thread_blocks.specs.declared.asked.Asked.{Asked}
-use Rattle.thread_blocks.specs.Held.{Owned, owned_by, owners_of, ranges_in, reached, reached_at, with_owned}
-use Rattle.thread_blocks.specs.Instances.{Loads, instances}
+use Rattle.thread_blocks.specs.Held.{Owned, reached, reached_at, with_owned}
+use Rattle.thread_blocks.specs.Instances.{Loads}
 use Rattle.thread_blocks.specs.JobLoads.{job_loads}
 use Rattle.thread_blocks.specs.RunTime.{Runs as Thread, answer_word, answered, resumed, resumed_by, resumed_in}
-use Rattle.thread_blocks.specs.Turns.{Answered, Begun, Calls, Says, Stopped}
+use Rattle.thread_blocks.specs.Turns.{Answered, Calls, Says, Stopped}
 use Rattle.transcript_text.specs.declared.outcomes.LineFault.TheVariants.{Unloaded as UnloadedFault}
 use Rattle.transcript_text.specs.declared.outcomes.Outcome.TheVariants.{Fault}
-use Rattle.job_turns.specs.declared.running.Resumed.{Resumed}
 use Rattle.job_turns.specs.declared.running.Resumed.TheVariants as goes
 use Rattle.thread_space.specs.Kept.{HasSeen, Kept, held_at, live_in, memory_of, owned_of, shape_of}
 use Rattle.thread_space.specs.Live.{IsLive}
-use Rattle.job_turns.specs.Running.{IsSameThread, Resumes, space_in}
+use Rattle.job_turns.specs.Running.{IsSameThread, Resumes}
 use Rattle.thread_space.specs.Steps.{Reaches}
 use Rattle.job_turns.proofs.Answering.{answer_made, answer_refused, live_seen}
 use Rattle.thread_space.proofs.Live.{among_live, live_image}

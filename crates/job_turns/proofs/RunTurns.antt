@@ -1,23 +1,22 @@
 -- What the code's runs and answers make of a thread's run.
-use Rattle.std.proofs.Common.{◌≡◌, ◌≤◌, ◌<◌, ◌+◌, ◌-◌, ◌&&◌, ℕ, zero, suc, Bool, true, false, nat_lt, List, Option, Some, None, refl, sym, ap, ◌∙◌, subst, arith}
+use Rattle.std.proofs.Common.{◌≡◌, ◌≤◌, ◌<◌, ◌+◌, ◌-◌, ◌&&◌, ℕ, suc, Bool, true, false, nat_lt, List, Option, Some, None, refl, sym, ap, ◌∙◌, subst, arith}
 use Rattle.std.proofs.lemmas.Bool.Decides.{nat_tests}
 use Rattle.guest_arithmetic.specs.Plain.{plain_operations}
-use Rattle.guest_operands.specs.declared.state.State.{State}
 use Rattle.guest_operands.specs.declared.stop.Stop.{Stop}
 use Rattle.guest_operands.specs.Use.{After, left}
 use Rattle.guest_machine.specs.Clean.{IsClean}
 use Rattle.guest_machine.specs.Machine.{Standing}
-use Rattle.guest_machine.specs.Run.{Next, Goes, Ends, Looks, Outcome, Ended, Waits, Runs, go_on, is_look, machine_of, run, state_after, steps_left, stop_of}
+use Rattle.guest_machine.specs.Run.{Outcome, Ended, Waits, Runs, go_on, is_look, machine_of, run, state_after, steps_left, stop_of}
 use Rattle.module_table.specs.declared.events.Event.{Event}
 use Rattle.thread_blocks.specs.declared.asked.Asked.{Asked}
 use Rattle.thread_blocks.specs.Instances.{Loads}
 use Rattle.thread_blocks.specs.JobLoads.{job_loads}
-use Rattle.thread_blocks.specs.RunTime.{Runs as Thread, asked_at, asked_next, thread_accesses, thread_steps}
+use Rattle.thread_blocks.specs.RunTime.{asked_at, asked_next, thread_accesses, thread_steps}
 use Rattle.thread_blocks.specs.Spaces.{Space, no_field}
 use Rattle.job_turns.specs.declared.running.Ran.{Ran}
 use Rattle.job_turns.specs.declared.running.Ran.TheVariants as ran
 use Rattle.thread_space.specs.Kept.{HasSeen, Kept, held_at, memory_of, shape_of}
-use Rattle.job_turns.specs.Running.{AnswersLook, IsCleanRan, RunsOn, RunsPart, RunsUpTo, TakesStep, bare, goes_on, left_run, next_after, outcome_of_run, space_in}
+use Rattle.job_turns.specs.Running.{AnswersLook, RunsOn, RunsPart, RunsUpTo, bare, goes_on, left_run, next_after, space_in}
 use Rattle.thread_space.proofs.Rests.{run_ends, run_left, run_waits}
 use Rattle.job_turns.proofs.RunningOn.{runs_on}
 use Rattle.job_turns.proofs.SameThread.{held_after, held_still, same_thread}

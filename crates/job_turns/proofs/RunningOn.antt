@@ -1,13 +1,12 @@
 -- A run of a thread is a run of its bare machine up to where it asks for a block, and from there on what the answer says.
-use Rattle.std.proofs.Common.{◌≡◌, ℕ, zero, suc, Bool, true, false, Option, Some, None, refl, sym, ap, ◌∙◌, subst}
+use Rattle.std.proofs.Common.{◌≡◌, ℕ, zero, suc, Bool, Option, Some, None, refl, ◌∙◌, subst}
 use Rattle.guest_arithmetic.specs.Plain.{plain_operations}
 use Rattle.guest_operands.specs.declared.stop.Stop.{Stop}
-use Rattle.guest_machine.specs.Run.{Next, Goes, Ends, Looks, Outcome, Ended, Waits, Stepping, over_or, go_on, run, machine}
+use Rattle.guest_machine.specs.Run.{Next, Goes, Ends, Looks, Outcome, Ended, Waits, Stepping, over_or, go_on, run}
 use Rattle.guest_machine.specs.Use.{After}
 use Rattle.module_table.specs.declared.events.Event.{Event}
-use Rattle.thread_blocks.specs.Held.{Held}
 use Rattle.thread_blocks.specs.Instances.{Loads}
-use Rattle.thread_blocks.specs.RunTime.{Runs as Thread, thread_accesses, asked_at, asked_next, thread_next, thread_steps}
+use Rattle.thread_blocks.specs.RunTime.{Runs as Thread, thread_accesses, asked_at, asked_next, thread_steps}
 use Rattle.thread_blocks.specs.Spaces.{Space, no_field}
 use Rattle.thread_blocks.proofs.Calls.{machine_stays}
 use Rattle.job_turns.specs.Running.{bare, goes_on}

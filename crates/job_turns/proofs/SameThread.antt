@@ -6,10 +6,8 @@ use Rattle.guest_operands.specs.declared.state.State.{State}
 use Rattle.guest_operands.specs.Use.{left}
 use Rattle.module_table.specs.declared.events.Event.{Event}
 use Rattle.thread_blocks.specs.declared.asked.Asked.{Asked}
-use Rattle.thread_blocks.specs.Held.{Owned, Owner, block_bytes, is_block_of, owners_of}
-use Rattle.thread_blocks.specs.RunTime.{Runs}
+use Rattle.thread_blocks.specs.Held.{Owned, block_bytes, is_block_of, owners_of}
 use Rattle.thread_space.specs.Kept.{Kept, Shape, held_at, owned_of, shape_of}
-use Rattle.thread_space.specs.Live.{HasStartups}
 use Rattle.job_turns.specs.Running.{IsSameThread, space_in}
 use Rattle.thread_space.proofs.BytesHeld.{bytes_kept}
 use Rattle.job_turns.proofs.SpaceRuns.{same_shape}

@@ -1,15 +1,14 @@
 -- What the code's machine does over the ranges that it finds, a thread's machine does over its space.
-use Rattle.std.proofs.Common.{◌≡◌, ℕ, ◌+◌, ◌-◌, Bool, true, false, cond, List, [], ◌∷◌, ◌++◌, Result, Ok, Err, IsErr, refl, sym, ap, ◌∙◌, subst, not}
+use Rattle.std.proofs.Common.{◌≡◌, ℕ, ◌+◌, ◌-◌, Bool, true, false, cond, List, [], ◌∷◌, ◌++◌, refl, sym, ap, ◌∙◌, not}
 use Rattle.std.specs.Prelude.{if◌then◌else◌, slice_set}
-use Rattle.std.specs.List.{filter, flat_map}
+use Rattle.std.specs.List.{filter}
 use Rattle.std.proofs.lemmas.List.{append_cancel_right}
 use Rattle.guest_arithmetic.specs.Plain.{plain_operations}
 use Rattle.guest_arithmetic.specs.Values.{Operations}
-use Rattle.guest_operands.specs.declared.frame.Frame.{Frame}
 use Rattle.guest_operands.specs.declared.space.Access.TheVariants.{Write}
 use Rattle.guest_operands.specs.declared.state.State.{State}
 use Rattle.guest_operands.specs.declared.stop.Stop.{Stop}
-use Rattle.guest_operands.specs.Ranges.{AddressSpace, Range, grants, range_accesses}
+use Rattle.guest_operands.specs.Ranges.{AddressSpace, Range, grants}
 use Rattle.guest_operands.specs.Use.{After, left}
 use Rattle.guest_machine.specs.Machine.{Standing}
 use Rattle.guest_machine.specs.Run.{Outcome, Ended, Waits, Runs, machine, machine_of, run, state_after, steps_left, stop_of}
@@ -17,16 +16,15 @@ use Rattle.loaded_modules.specs.declared.instance.Instance.{Instance}
 use Rattle.loaded_modules.specs.Images.{JobImages, infos}
 use Rattle.module_table.specs.declared.events.Event.{Event}
 use Rattle.module_table.specs.Past.{Past}
-use Rattle.thread_blocks.specs.declared.asked.Asked.{Asked}
 use Rattle.thread_blocks.specs.Held.{ranges_in}
-use Rattle.thread_blocks.specs.Instances.{Loads, fixed_at, fixed_of, instances_in}
+use Rattle.thread_blocks.specs.Instances.{fixed_at, fixed_of, instances_in}
 use Rattle.thread_blocks.specs.JobLoads.{job_loads, loaded_parts}
 use Rattle.thread_blocks.specs.MachineTurns.{pointer_word, stack_start}
 use Rattle.thread_blocks.specs.RunTime.{thread_accesses}
-use Rattle.thread_blocks.specs.Spaces.{Space, NoneWritable, IsImage, address_space_of, after_of, no_field, open_everywhere, outcome_image, put_byte, ranges_of, space_accesses, stack_range}
+use Rattle.thread_blocks.specs.Spaces.{Space, NoneWritable, IsImage, address_space_of, after_of, no_field, open_everywhere, outcome_image, space_accesses, stack_range}
 use Rattle.thread_blocks.proofs.Image.{machine_image, run_image}
 use Rattle.thread_blocks.proofs.Spaces.{space_run}
-use Rattle.thread_space.specs.Kept.{Kept, HasSeen, Shape, fixed_in, held_at, memory_of, owned_of, shape_of}
+use Rattle.thread_space.specs.Kept.{Kept, HasSeen, Shape, fixed_in, memory_of, owned_of, shape_of}
 use Rattle.job_turns.specs.Running.{bare, space_in}
 
 -- ** a run does not change the events that a space has seen

@@ -3,7 +3,6 @@ use Rattle.std.specs.Prelude.{◌≡◌, ◌≤◌, ◌<◌, ◌+◌, ◌-◌, �
 use Rattle.std.specs.List.{find, list_any}
 use Rattle.guest_arithmetic.specs.Plain.{plain_operations}
 use Rattle.guest_operands.specs.declared.state.State.{State}
-use Rattle.guest_operands.specs.declared.stop.Stop.TheVariants.{Address}
 use Rattle.guest_operands.specs.Access.{Refusal, both_reached, bytes_at}
 use Rattle.guest_operands.specs.Ranges.{range_accesses}
 use Rattle.guest_operands.specs.Use.{After}

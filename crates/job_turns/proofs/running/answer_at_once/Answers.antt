@@ -1,7 +1,4 @@
-use Rattle.std.proofs.Common.{◌≡◌, None, Some, sym, ap, ◌∙◌, subst}
-use Rattle.guest_operands.specs.declared.stop.Stop.TheVariants.{Address}
-use Rattle.job_turns.specs.declared.running.Ran.TheVariants as ran
-use Rattle.job_turns.specs.Running.{AnswersLook}
+use Rattle.std.proofs.Common.{sym, ◌∙◌}
 use Rattle.job_turns.proofs.AtOnce.{has_to_wait, is_answered, is_refused, none_asks, none_has}
 use Rattle.job_turns.proofs.running.answer_at_once.Goals as goal
 

@@ -1,6 +1,5 @@
 use Rattle.std.proofs.Common.{◌-◌, sym, ◌∙◌, subst}
 use Rattle.guest_machine.specs.Clean.{IsClean}
-use Rattle.guest_operands.specs.declared.stop.Stop.{Stop}
 use Rattle.thread_space.specs.Kept.{memory_of}
 use Rattle.job_turns.proofs.RunTurns.{run_answered, run_over}
 use Rattle.job_turns.proofs.running.run_part.Goals as goal
