@@ -1,10 +1,9 @@
 -- The parts of an instance lie low: two words that lie in one end below 2^64.
 use Rattle.std.proofs.Common.{◌≡◌, ◌∙◌, ◌+◌, ◌-◌, ◌^◌, ◌<◌, ◌≤◌, ◌==◌, ℕ, Bool, true, false, List, [], ◌∷◌, drop, fold, length, Option, Some, None, refl, sym, ap, subst, inl, inr, arith}
 use Rattle.std.specs.Prelude.{◌&&◌, if◌then◌else◌, nat_le, slice_get, slice_range}
-use Rattle.std.proofs.lemmas.Bool.{cases_Bool, cases_lt, false≢true, leb-true}
+use Rattle.std.proofs.lemmas.Bool.{cases_lt, false≢true, leb-true}
 use Rattle.std.proofs.lemmas.List.{length-take}
 use Rattle.std.proofs.lemmas.Option.{slice_get_within}
-use Rattle.elf_records.specs.Fields.{splice}
 use Rattle.elf_records.specs.Laws.{length-splice}
 use Rattle.elf_records.specs.declared.file_header.TheConstants.{ET_EXEC}
 use Rattle.image_rules.specs.declared.places.FileKind.{FileKind}
@@ -113,6 +112,6 @@ words_low m image x i part address at spells there is moved begins room =
     let here = behind_some (part.address + bias_of m x) address at begins in
     let low : part.address + bias_of m x ≤ address = leb-true (part.address + bias_of m x) address here.0 in
     let long : length (loaded_part m x i) ≡ length part.bytes =
-        ap (λ (bytes : List ℕ). length bytes) (part_here m image x i there part is) ∙ length-part_bytes m image x part
+    ap (λ (bytes : List ℕ). length bytes) (part_here m image x i there part is) ∙ length-part_bytes m image x part
     in
     omega (arith, here.1, low, long, room, moved, part_low image spells i part is)

@@ -1,10 +1,10 @@
 -- The parts of an image one after another.
-use Rattle.std.proofs.Common.{◌≡◌, ◌∙◌, ◌+◌, ◌-◌, ◌<◌, ◌≤◌, ◌++◌, ◌||◌, ℕ, suc, Bool, true, false, List, [], ◌∷◌, length, drop, get_or, Option, Some, None, refl, sym, ap, subst, arith, inl, inr, cond, add-one}
-use Rattle.std.specs.Prelude.{◌&&◌, not, nat_le, nat_lt, option_and_then, slice_get}
+use Rattle.std.proofs.Common.{◌≡◌, ◌∙◌, ◌+◌, ◌-◌, ◌<◌, ◌≤◌, ◌||◌, ℕ, suc, Bool, true, false, List, [], ◌∷◌, length, drop, get_or, Option, Some, None, refl, sym, ap, arith, inl, inr, cond, add-one}
+use Rattle.std.specs.Prelude.{◌&&◌, not, nat_le, option_and_then, slice_get}
 use Rattle.std.specs.List.{list_any}
 use Rattle.std.specs.Option.{option_or}
-use Rattle.std.proofs.lemmas.Bool.{cases_Bool, leb-true, leb-false, le-leb, lt-leb, ltb-false, ltb-true}
-use Rattle.std.proofs.lemmas.Option.{cond_some, none-some, slice_get-get_or, slice_get_past}
+use Rattle.std.proofs.lemmas.Bool.{cases_Bool, leb-true, leb-false, le-leb, lt-leb}
+use Rattle.std.proofs.lemmas.Option.{cond_some, none-some, slice_get-get_or}
 use Rattle.std.proofs.Math.Seq.{drop-cons}
 use Rattle.std.proofs.lemmas.List.{drop_all}
 use Rattle.guest_operands.specs.declared.space.Access.{Access}
@@ -28,7 +28,7 @@ use Rattle.thread_space.proofs.Sought.{looked}
 by_class : (access : Access) (class : PartClass) (is_loaders : Bool) (start place : ℕ) (bytes : List ℕ) (rest : List (Range ℕ))
     → byte_in access (fixed_ranges (record { start = start; bytes = bytes; readable = not (is_code class); writable = is_written class && not is_loaders; runnable = is_code class } ∷ rest)) place
     ≡ option_or (cond (allows_fixed access class is_loaders) (option_and_then (slice_get bytes) (behind start place)) None)
-        (byte_in access (fixed_ranges rest) place)
+    (byte_in access (fixed_ranges rest) place)
 by_class Read Executable b start place bytes rest = refl
 by_class Write Executable b start place bytes rest = refl
 by_class Run Executable b start place bytes rest = looked start place bytes (byte_in Run (fixed_ranges rest) place)
@@ -153,11 +153,11 @@ room_is start address at count begins =
     let low : start ≤ address = leb-true start address here.0 in
     rw here.0 (elim (cases_Bool (nat_le (at + 16) count)) [
       | inl t ↦
-        let room : at + 16 ≤ count = leb-true (at + 16) count t in
-        t ∙ sym (le-leb (address + 16) (start + count) (omega (arith, here.1, room, low)))
+          let room : at + 16 ≤ count = leb-true (at + 16) count t in
+          t ∙ sym (le-leb (address + 16) (start + count) (omega (arith, here.1, room, low)))
       | inr f ↦
-        let full : count < at + 16 = leb-false (at + 16) count f in
-        f ∙ sym (lt-leb (address + 16) (start + count) (omega (arith, here.1, full, low)))
+          let full : count < at + 16 = leb-false (at + 16) count f in
+          f ∙ sym (lt-leb (address + 16) (start + count) (omega (arith, here.1, full, low)))
     ])
 
 before_is : (b : Bool) (start address count : ℕ) → behind start address ≡ None

@@ -1,10 +1,10 @@
 -- A byte that is read or run: the stack first, then blocks, data, the word at the thread pointer, and what is fixed.
-use Rattle.std.proofs.Common.{◌≡◌, ◌∙◌, ◌++◌, ◌||◌, ◌-◌, ℕ, Bool, true, false, List, [], ◌∷◌, map, Option, Some, None, refl, sym, ap, inl, inr, cond}
-use Rattle.std.specs.Prelude.{is_some, not, option_and_then, slice_get}
-use Rattle.std.specs.List.{filter, find, flat_map}
+use Rattle.std.proofs.Common.{◌≡◌, ◌∙◌, ◌++◌, ◌||◌, ◌-◌, ℕ, true, false, List, [], ◌∷◌, Option, Some, None, refl, sym, ap, inl, inr}
+use Rattle.std.specs.Prelude.{is_some, not, option_and_then}
+use Rattle.std.specs.List.{find, flat_map}
 use Rattle.std.specs.Option.{option_or}
 use Rattle.std.proofs.lemmas.Bool.{cases_Bool, false≢true}
-use Rattle.std.proofs.lemmas.List.{append_assoc, map-append}
+use Rattle.std.proofs.lemmas.List.{map-append}
 use Rattle.guest_arithmetic.specs.Plain.{plain_operations}
 use Rattle.guest_operands.specs.declared.space.Access.{Access}
 use Rattle.guest_operands.specs.declared.space.Access.TheVariants.{Read, Run, Write}
@@ -143,16 +143,16 @@ module _ (k : Kept) where
         ≡ (grants Write stack_of place || (is_some block_found || is_some data_found))
     may_write_is = elim (cases_Bool (grants Write stack_of place)) [
       | inl t ↦
-        ap (λ ranges. takes ranges place) memory_is
-        ∙ rw t (has_byte k.stack (place - stack_start k.vector.thread) (lies_within Write stack_of place t))
+          ap (λ ranges. takes ranges place) memory_is
+          ∙ rw t (has_byte k.stack (place - stack_start k.vector.thread) (lies_within Write stack_of place t))
       | inr f ↦
-        ap (λ ranges. takes ranges place) memory_is
-        ∙ rw f (ap is_some (behind_stack Write) ∙ some_or _ _
-        ∙ ap (λ b. b || is_some (option_or (byte_in Write data_among place) (byte_in Write (pointer_of ∷ fixed_among) place)))
-            (ap is_some blocks_written ∙ found_some (block_ranges k.vector) block_found refl)
-        ∙ ap (λ b. is_some block_found || b)
-            (ap (λ o. is_some (option_or (byte_in Write data_among place) o)) fixed_not_written ∙ ap is_some (or_none (byte_in Write data_among place))
-            ∙ ap is_some data_written ∙ found_some (data_ranges k.vector.images k.pieces) data_found refl))
+          ap (λ ranges. takes ranges place) memory_is
+          ∙ rw f (ap is_some (behind_stack Write) ∙ some_or _ _
+          ∙ ap (λ b. b || is_some (option_or (byte_in Write data_among place) (byte_in Write (pointer_of ∷ fixed_among) place)))
+          (ap is_some blocks_written ∙ found_some (block_ranges k.vector) block_found refl)
+          ∙ ap (λ b. is_some block_found || b)
+          (ap (λ o. is_some (option_or (byte_in Write data_among place) o)) fixed_not_written ∙ ap is_some (or_none (byte_in Write data_among place))
+          ∙ ap is_some data_written ∙ found_some (data_ranges k.vector.images k.pieces) data_found refl))
     ]
 
     -- ** which part takes a byte
@@ -183,11 +183,11 @@ module _ (k : Kept) where
         → byte_in Read (memory_of k).ranges place ≡ byte_in Read (block_ranges k.vector x) place
     read_block x not found =
         let here : byte_in Read blocks_in place ≡ byte_in Read (block_ranges k.vector x) place =
-            blocks_read ∙ ap (option_and_then (λ x. byte_in Write (block_ranges k.vector x) place)) found ∙ sym (block_same k.vector x place)
+        blocks_read ∙ ap (option_and_then (λ x. byte_in Write (block_ranges k.vector x) place)) found ∙ sym (block_same k.vector x place)
         in
         let some : is_some (byte_in Read (block_ranges k.vector x) place) ≡ true =
-            ap is_some (block_same k.vector x place)
-            ∙ found_passes (λ x. takes (block_ranges k.vector x) place) (live_in k.vector.images k.vector.past) x found
+        ap is_some (block_same k.vector x place)
+        ∙ found_passes (λ x. takes (block_ranges k.vector x) place) (live_in k.vector.images k.vector.past) x found
         in
         past_stack not
         ∙ ap (λ o. option_or o (option_or (byte_in Read data_among place) (byte_in Read (pointer_of ∷ fixed_among) place))) here
@@ -198,18 +198,18 @@ module _ (k : Kept) where
     past_blocks not none =
         past_stack not
         ∙ ap (λ o. option_or o (option_or (byte_in Read data_among place) (byte_in Read (pointer_of ∷ fixed_among) place)))
-            (blocks_read ∙ ap (option_and_then (λ x. byte_in Write (block_ranges k.vector x) place)) none)
+        (blocks_read ∙ ap (option_and_then (λ x. byte_in Write (block_ranges k.vector x) place)) none)
 
     pub read_data : (x : Instance) → grants Read stack_of place ≡ false → block_found ≡ None → data_found ≡ Some x
         → byte_in Read (memory_of k).ranges place ≡ byte_in Read (data_ranges k.vector.images k.pieces x) place
     read_data x not none found =
         let here : byte_in Read data_among place ≡ byte_in Read (data_ranges k.vector.images k.pieces x) place =
-            data_read ∙ ap (option_and_then (λ x. byte_in Write (data_ranges k.vector.images k.pieces x) place)) found
-            ∙ sym (data_same k.vector.images k.pieces x place)
+        data_read ∙ ap (option_and_then (λ x. byte_in Write (data_ranges k.vector.images k.pieces x) place)) found
+        ∙ sym (data_same k.vector.images k.pieces x place)
         in
         let some : is_some (byte_in Read (data_ranges k.vector.images k.pieces x) place) ≡ true =
-            ap is_some (data_same k.vector.images k.pieces x place)
-            ∙ found_passes (λ x. takes (data_ranges k.vector.images k.pieces x) place) (live_in k.vector.images k.vector.past) x found
+        ap is_some (data_same k.vector.images k.pieces x place)
+        ∙ found_passes (λ x. takes (data_ranges k.vector.images k.pieces x) place) (live_in k.vector.images k.vector.past) x found
         in
         past_blocks not none ∙ ap (λ o. option_or o (byte_in Read (pointer_of ∷ fixed_among) place)) here ∙ or_some _ _ some
 
@@ -218,4 +218,4 @@ module _ (k : Kept) where
     read_fixed not none no_data =
         past_blocks not none
         ∙ ap (λ o. option_or o (byte_in Read (pointer_of ∷ fixed_among) place))
-            (data_read ∙ ap (option_and_then (λ x. byte_in Write (data_ranges k.vector.images k.pieces x) place)) no_data)
+        (data_read ∙ ap (option_and_then (λ x. byte_in Write (data_ranges k.vector.images k.pieces x) place)) no_data)

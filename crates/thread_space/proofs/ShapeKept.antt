@@ -1,20 +1,16 @@
 -- No byte that is written changes whose the written ranges are.
-use Rattle.std.proofs.Common.{◌≡◌, ◌≢◌, ◌∙◌, ◌+◌, ◌-◌, ◌++◌, ℕ, Bool, true, false, List, [], ◌∷◌, length, map, Option, Some, None, refl, sym, ap, inl, inr}
+use Rattle.std.proofs.Common.{◌≡◌, ◌∙◌, ◌-◌, ◌++◌, ℕ, List, [], ◌∷◌, length, Option, Some, None, refl, sym, ap, inl, inr}
 use Rattle.std.specs.Prelude.{is_some, option_map, slice_set}
-use Rattle.std.specs.List.{flat_map, range_with_len}
+use Rattle.std.specs.List.{flat_map}
 use Rattle.std.proofs.lemmas.Bool.{cases_eq}
 use Rattle.std.proofs.lemmas.List.{length-set, map-append}
 use Rattle.guest_operands.specs.Ranges.{Range}
 use Rattle.loaded_modules.specs.declared.instance.Instance.{Instance}
-use Rattle.loaded_modules.specs.Images.{JobImages, infos}
 use Rattle.module_data.specs.Laws.{written}
-use Rattle.module_data.specs.Lending.{piece_of}
 use Rattle.module_data.specs.Pieces.{Piece, data_of}
-use Rattle.module_table.specs.Past.{Past, startup_count}
-use Rattle.thread_blocks.specs.Held.{Owned, Owner, block_with, data_with, owners_of}
+use Rattle.thread_blocks.specs.Held.{Owned, block_with, data_with, owners_of}
 use Rattle.thread_blocks.specs.JobLoads.{job_loads}
-use Rattle.thread_blocks.specs.MachineTurns.{stack_start}
-use Rattle.thread_space.specs.Kept.{Kept, Shape, blocks_of, data_in, live_in, owned_of, shape_of, shared_of}
+use Rattle.thread_space.specs.Kept.{Kept, blocks_of, data_in, live_in, owned_of, shape_of, shared_of}
 use Rattle.thread_space.specs.Writing.{WritesBlock, WritesData}
 use Rattle.thread_space.proofs.WriteKept.{data_other, data_written}
 use Rattle.thread_vector.specs.Vectors.{Vector, held}
@@ -43,10 +39,6 @@ owners_each one two same (x ∷ xs) =
     ∙ ap (λ os. os ++ owners_of (flat_map one xs)) (same x)
     ∙ ap (λ os. owners_of (two x) ++ os) (owners_each one two same xs)
     ∙ sym (map-append (λ (o : Owned ℕ). o.owner) (two x) (flat_map two xs))
-
-map_each : (f g : ℕ → Bool) → ((i : ℕ) → f i ≡ g i) → (xs : List ℕ) → map f xs ≡ map g xs
-map_each f g same [] = refl
-map_each f g same (x ∷ xs) = rw (same x, map_each f g same xs) refl
 
 -- what each has is there as before
 record Alike (k k' : Kept) : Type 0 where
@@ -86,18 +78,9 @@ module _ (k k' : Kept) (alike : Alike k k') where
       ∙ ap (λ os. owners_of (blocks_of k.vector) ++ os) shared_owners
       ∙ sym (map-append (λ (o : Owned ℕ). o.owner) (blocks_of k.vector) (shared_of k.vector.images k.vector.past k.pieces))
 
-  startups : ℕ → List ℕ
-  startups n = range_with_len 0 (n + 1)
-
   shape_same : shape_of k' ≡ shape_of k
   unfolding shape_of
-  shape_same =
-      let holds : map (λ i. is_some (held k'.vector i)) (range_with_len 0 (startup_count (infos k'.vector.images) + 1))
-          ≡ map (λ i. is_some (held k.vector i)) (range_with_len 0 (startup_count (infos k.vector.images) + 1)) =
-          ap (λ m. map (λ i. is_some (held k'.vector i)) (range_with_len 0 (startup_count (infos m) + 1))) alike.images
-          ∙ map_each _ _ alike.blocks (range_with_len 0 (startup_count (infos k.vector.images) + 1))
-      in
-      cc (owners, holds, alike.thread, alike.images, alike.past, alike.count)
+  shape_same = cc (owners, alike.thread, alike.images, alike.past, alike.count)
 
 -- ** one write
 

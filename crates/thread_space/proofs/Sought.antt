@@ -1,10 +1,9 @@
 -- The first range that allows an access, in ranges of which each instance has some.
-use Rattle.std.proofs.Common.{◌≡◌, ◌≢◌, ◌∙◌, ◌-◌, ◌<◌, ◌≤◌, ◌++◌, ℕ, zero, suc, Bool, true, false, List, [], ◌∷◌, length, map, Option, Some, None, refl, sym, ap, subst, arith, inl, inr, cond, drop, get_or, add-one, ◌+◌}
-use Rattle.std.specs.Prelude.{◌&&◌, All, is_some, nat_le, nat_lt, option_and_then, slice_get, slice_set}
+use Rattle.std.proofs.Common.{◌≡◌, ◌≢◌, ◌∙◌, ◌-◌, ◌<◌, ◌++◌, ℕ, zero, suc, Bool, true, false, List, [], ◌∷◌, length, Option, Some, None, refl, sym, ap, subst, arith, inl, inr, cond, drop, get_or, add-one, ◌+◌}
+use Rattle.std.specs.Prelude.{◌&&◌, All, is_some, nat_le, nat_lt, option_and_then, slice_get}
 use Rattle.std.specs.List.{find, flat_map}
 use Rattle.std.specs.Option.{option_or}
 use Rattle.std.proofs.lemmas.Bool.{cases_Bool, ltb-false, ltb-true, false≢true}
-use Rattle.std.proofs.lemmas.List.{append_assoc, append-nil, map-append}
 use Rattle.std.proofs.lemmas.List.Elements.{All-head, All-tail}
 use Rattle.std.proofs.lemmas.Option.{none-some, same_Some, slice_get_past}
 use Rattle.std.proofs.Math.Seq.{drop-cons}
@@ -77,7 +76,7 @@ module _ {B : Type 0} (access : Access) (place : ℕ) where
     byte_in-each (x ∷ xs) =
         byte_in-append (made x) (flat_map made xs)
         ∙ by_first (byte_in access (made x) place) x (find (λ x. is_some (byte_in access (made x) place)) xs)
-            (byte_in access (flat_map made xs) place) refl (byte_in-each xs)
+        (byte_in access (flat_map made xs) place) refl (byte_in-each xs)
 
     -- the one at i decides, or those behind it
     pub each_next : (xs : List X) (i : ℕ) (d : X) → i < length xs
@@ -169,13 +168,13 @@ module _ {X : Type 0} (place byte : ℕ) (number : X → ℕ) (P : X → Type 0)
   with_byte-each [] all rising found = absurd (none-some x found)
   with_byte-each (y ∷ xs) all rising found = elim (cases_Bool (takes (made y) place)) [
     | inl t ↦
-      let same : y ≡ x = same_Some y x (sym (rw t refl) ∙ found) in
-      let above : All (λ z. number x < number z) xs = subst (λ (w : X). All (λ z. number w < number z) xs) same rising.0 in
-      let first : made' y ≡ with_byte (made y) place byte = subst (λ (w : X). made' w ≡ with_byte (made w) place byte) (sym same) here in
-      rw (first, others_same xs (All-tail P y xs all) above) (sym (with_byte-here place byte (made y) (flat_map made xs) t))
+        let same : y ≡ x = same_Some y x (sym (rw t refl) ∙ found) in
+        let above : All (λ z. number x < number z) xs = subst (λ (w : X). All (λ z. number w < number z) xs) same rising.0 in
+        let first : made' y ≡ with_byte (made y) place byte = subst (λ (w : X). made' w ≡ with_byte (made w) place byte) (sym same) here in
+        rw (first, others_same xs (All-tail P y xs all) above) (sym (with_byte-here place byte (made y) (flat_map made xs) t))
     | inr f ↦
-      let there : find (λ y. takes (made y) place) xs ≡ Some x = sym (rw f refl) ∙ found in
-      let below : number y < number x = found_has (λ z. number y < number z) (λ y. takes (made y) place) xs x rising.0 there in
-      let rest = with_byte-each xs (All-tail P y xs all) rising.1 there in
-      rw (others y (All-head P y xs all) (λ e. omega (arith, e)), rest) (sym (with_byte-behind place byte (made y) (flat_map made xs) f))
+        let there : find (λ y. takes (made y) place) xs ≡ Some x = sym (rw f refl) ∙ found in
+        let below : number y < number x = found_has (λ z. number y < number z) (λ y. takes (made y) place) xs x rising.0 there in
+        let rest = with_byte-each xs (All-tail P y xs all) rising.1 there in
+        rw (others y (All-head P y xs all) (λ e. omega (arith, e)), rest) (sym (with_byte-behind place byte (made y) (flat_map made xs) f))
   ]

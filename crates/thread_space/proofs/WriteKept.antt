@@ -1,40 +1,35 @@
 -- What a byte that is written leaves of a memory: the first range that takes it changes, and no other.
-use Rattle.std.proofs.Common.{◌≡◌, ◌≢◌, ◌∙◌, ◌+◌, ◌-◌, ◌<◌, ◌≤◌, ◌++◌, ◌||◌, ℕ, zero, suc, Bool, true, false, List, [], ◌∷◌, length, map, Option, Some, None, refl, sym, ap, subst, inl, inr, arith, cond}
-use Rattle.std.specs.Prelude.{All, is_some, option_map, option_and_then, option_to_list, slice_get, slice_set}
-use Rattle.std.specs.List.{find, flat_map, range_with_len}
+use Rattle.std.proofs.Common.{◌≡◌, ◌≢◌, ◌∙◌, ◌-◌, ◌<◌, ◌++◌, ◌||◌, ℕ, zero, suc, Bool, true, false, List, [], ◌∷◌, Option, Some, None, refl, sym, ap, subst, inl, inr, arith, cond}
+use Rattle.std.specs.Prelude.{All, is_some, option_map, option_to_list, slice_set}
+use Rattle.std.specs.List.{flat_map}
 use Rattle.std.specs.Option.{option_or}
-use Rattle.std.proofs.lemmas.Bool.{cases_Bool, cases_eq, false≢true}
-use Rattle.std.proofs.lemmas.List.{length-set, map-append}
+use Rattle.std.proofs.lemmas.Bool.{cases_Bool, false≢true}
 use Rattle.std.proofs.lemmas.List.Elements.{All-append, All-cons, All-nil}
-use Rattle.std.proofs.lemmas.Option.{cond_some, none-some, same_Some}
+use Rattle.std.proofs.lemmas.Option.{cond_some, same_Some}
 use Rattle.guest_operands.specs.declared.space.Access.TheVariants.{Write}
-use Rattle.guest_operands.specs.Ranges.{AddressSpace, Range, byte_in, grants, with_byte}
+use Rattle.guest_operands.specs.Ranges.{Range, byte_in, grants, with_byte}
 use Rattle.loaded_modules.specs.declared.instance.Instance.{Instance}
 use Rattle.loaded_modules.specs.Images.{JobImages, infos}
 use Rattle.module_data.specs.Laws.{written}
-use Rattle.module_data.specs.Lending.{piece_of}
 use Rattle.module_data.specs.Parts.{data_start, fresh_data}
-use Rattle.module_data.specs.Pieces.{Piece, bytes_of_instance, data_of, is_of}
+use Rattle.module_data.specs.Pieces.{Piece, data_of, is_of}
 use Rattle.module_table.specs.declared.modules.ImageInfo.{ImageInfo}
 use Rattle.module_table.specs.declared.modules.Module.{Module}
 use Rattle.module_table.specs.Modules.{is_loaded}
-use Rattle.module_table.specs.Past.{Past, module_of, startup_count}
-use Rattle.thread_blocks.specs.Held.{Owned, Owner, block_with, data_with, owners_of, ranges_in}
+use Rattle.module_table.specs.Past.{Past}
+use Rattle.thread_blocks.specs.Held.{block_with, data_with, ranges_in}
 use Rattle.thread_blocks.specs.Instances.{block_range, block_start, instances_from, instances_in, loaded_instance}
-use Rattle.thread_blocks.specs.JobLoads.{job_loads}
 use Rattle.thread_blocks.specs.MachineTurns.{stack_start}
-use Rattle.thread_space.specs.Kept.{Kept, Shape, blocks_of, data_in, live_in, memory_of, owned_of, shape_of, shared_of}
+use Rattle.thread_space.specs.Kept.{Kept, live_in, memory_of}
 use Rattle.thread_space.specs.Live.{IsLive}
-use Rattle.thread_space.specs.Places.{behind, block_ranges, data_ranges, takes}
+use Rattle.thread_space.specs.Places.{block_ranges, data_ranges, takes}
 use Rattle.thread_space.specs.Writing.{WritesBlock, WritesData}
 use Rattle.thread_space.proofs.Live.{all_live, among_live, live_is, live_number}
-use Rattle.thread_space.proofs.OwnBytes.{behind_is, block_write}
 use Rattle.thread_space.proofs.ReadKept.{block_found, blocks_in, blocks_take, data_among, data_found, data_take, fixed_among, may_write_is, memory_is, pointer_of, stack_of}
 use Rattle.thread_space.proofs.SharedIs.{shared_is, written_range}
-use Rattle.thread_space.proofs.Sought.{Rising, byte_in-append, byte_in-each, found_passes, with_byte-behind, with_byte-each, with_byte-here, with_byte-none}
+use Rattle.thread_space.proofs.Sought.{Rising, byte_in-append, found_passes, with_byte-behind, with_byte-each, with_byte-here, with_byte-none}
 use Rattle.thread_vector.specs.Holding.{IsLeftBy}
-use Rattle.thread_vector.specs.Statements.{Leaves}
-use Rattle.thread_vector.specs.Vectors.{Vector, held}
+use Rattle.thread_vector.specs.Vectors.{held}
 use Rattle.thread_vector.proofs.Facts.{facts}
 
 -- ** live instances stand in the order of their images
@@ -143,7 +138,7 @@ module _ (m : JobImages) (d : List Piece) (x : Instance) (place at byte : ℕ) (
   unfolding data_ranges
   data_here takes_it =
       let takes' : takes (ranges_in (data_with x (option_map (λ s. written_range (fresh_data m x) s) (data_start m x)) (data_of d x.number x.image))) place ≡ true =
-          subst (λ o. takes (ranges_in (data_with x o (data_of d x.number x.image))) place ≡ true) (shared_is m x) takes_it
+      subst (λ o. takes (ranges_in (data_with x o (data_of d x.number x.image))) place ≡ true) (shared_is m x) takes_it
       in
       rw (shared_is m x, data_written d x.image x.number at byte)
       (with_data_byte m x place at byte (data_start m x) (data_of d x.number x.image) begins takes')
@@ -178,7 +173,7 @@ module _ (place byte : ℕ) (stack : Range ℕ) (blocks pieces rest : List (Rang
       → stack ∷ ((blocks ++ with_byte pieces place byte) ++ rest) ≡ with_byte (stack ∷ ((blocks ++ pieces) ++ rest)) place byte
   in_data none here =
       let either : takes (blocks ++ pieces) place ≡ true =
-          takes_or blocks pieces place ∙ ap (λ b. b || takes pieces place) none ∙ here
+      takes_or blocks pieces place ∙ ap (λ b. b || takes pieces place) none ∙ here
       in
       rw not (ap (λ own. stack ∷ own) (sym (with_byte-here place byte (blocks ++ pieces) rest either
       ∙ ap (λ own. own ++ rest) (with_byte-behind place byte blocks pieces none))))
@@ -236,7 +231,7 @@ module _ (k : Kept) (place byte : ℕ) where
       write_block bytes here =
           as_memory k k' place byte (memory_is k'
           ∙ rw (blocks_then bytes here, writes.leaves.thread, writes.leaves.images, writes.leaves.past, writes.pieces, writes.stack)
-              (in_blocks place byte (stack_of k) (blocks_in k) (data_among k) (pointer_of k ∷ fixed_among k) not (blocks_take k place (Some x) found))
+          (in_blocks place byte (stack_of k) (blocks_in k) (data_among k) (pointer_of k ∷ fixed_among k) not (blocks_take k place (Some x) found))
           ∙ sym (ap (λ ranges. with_byte ranges place byte) (memory_is k)))
 
     -- in data
@@ -261,6 +256,6 @@ module _ (k : Kept) (place byte : ℕ) where
       write_data =
           as_memory k k' place byte (memory_is k'
           ∙ rw (writes.vector, writes.pieces start begins, writes.stack, data_changed)
-              (in_data place byte (stack_of k) (blocks_in k) (data_among k) (pointer_of k ∷ fixed_among k) not
-              (blocks_take k place None no_block) (data_take k place (Some x) found))
+          (in_data place byte (stack_of k) (blocks_in k) (data_among k) (pointer_of k ∷ fixed_among k) not
+          (blocks_take k place None no_block) (data_take k place (Some x) found))
           ∙ sym (ap (λ ranges. with_byte ranges place byte) (memory_is k)))

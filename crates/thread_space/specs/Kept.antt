@@ -1,7 +1,7 @@
 -- What a thread's code keeps, as the ranges that its machine finds: its stack, its blocks, data, and behind them what no
 -- thread writes. Blocks and data stand in the order of the images of their instances, as a look leaves them.
-use Rattle.std.specs.Prelude.{◌≡◌, ℕ, ◌+◌, Bool, List, [], ◌∷◌, ◌++◌, length, map, Option, is_some}
-use Rattle.std.specs.List.{flat_map, range_with_len}
+use Rattle.std.specs.Prelude.{◌≡◌, ℕ, Bool, List, [], ◌∷◌, ◌++◌, length, Option}
+use Rattle.std.specs.List.{flat_map}
 use Rattle.guest_arithmetic.specs.Plain.{plain_operations}
 use Rattle.guest_operands.specs.declared.state.State.{State}
 use Rattle.guest_operands.specs.Ranges.{AddressSpace, Range}
@@ -10,10 +10,10 @@ use Rattle.loaded_modules.specs.declared.instance.Instance.{Instance}
 use Rattle.loaded_modules.specs.Images.{JobImages, infos, last_offset}
 use Rattle.module_data.specs.Pieces.{Piece, data_of}
 use Rattle.module_table.specs.declared.events.Event.{Event}
-use Rattle.module_table.specs.Past.{Past, past, startup_count}
+use Rattle.module_table.specs.Past.{Past, past}
 use Rattle.thread_blocks.specs.declared.asked.Asked.{Asked}
 use Rattle.thread_blocks.specs.Held.{Owned, Owner, block_with, data_with, owners_of, ranges_in}
-use Rattle.thread_blocks.specs.Instances.{Loads, fixed_of, instances_in}
+use Rattle.thread_blocks.specs.Instances.{fixed_of, instances_in}
 use Rattle.thread_blocks.specs.JobLoads.{job_loads}
 use Rattle.thread_blocks.specs.MachineTurns.{pointer_word, stack_start}
 use Rattle.thread_blocks.specs.RunTime.{Runs}
@@ -69,8 +69,6 @@ pub record Shape : Type 0 where
   pub past : Past
   -- whose the written ranges are, in their order
   pub owners : List Owner
-  -- whether the thread has a block of each image that starts with the program, by its number
-  pub holds : List Bool
   -- how many images the data are of
   pub count : ℕ
 
@@ -80,7 +78,6 @@ shape_of k = record {
   images = k.vector.images;
   past = k.vector.past;
   owners = owners_of (owned_of k.vector k.pieces);
-  holds = map (λ i. is_some (held k.vector i)) (range_with_len 0 (startup_count (infos k.vector.images) + 1));
   count = length k.pieces;
 }
 
@@ -91,7 +88,6 @@ shape_with thread = record {
   images = record { kinds = []; images = [] };
   past = record { seen = 0; made = 0; taken = 0; limit = 0; modules = [] };
   owners = [];
-  holds = [];
   count = 0;
 }
 

@@ -175,13 +175,7 @@ impl<'m> ThreadSpace<'m> {
     }
 
     /// Whether a part of an instance is written, and has the 16 bytes from an address on.
-    fn part_has_words(
-        &self,
-        image: &Image,
-        instance: &Instance,
-        number: u64,
-        address: u64,
-    ) -> bool
+    fn part_has_words(&self, image: &Image, instance: &Instance, number: u64, address: u64) -> bool
         requires there { image_at self.now.vector.images instance.now.image ≡ Some image.now }
         ensures found { result ≡ part_has_words self.now.vector.images image.now instance.now number address
             (slice_get image.now.parts number) }

@@ -1,9 +1,9 @@
 -- The stack, a block and data can be written.
-use Rattle.std.proofs.Common.{◌≡◌, ◌∙◌, ◌||◌, true, false, ap, refl, sym}
+use Rattle.std.proofs.Common.{◌≡◌, ◌∙◌, true, false, ap, refl, sym}
 use Rattle.std.specs.Prelude.{is_some}
 use Rattle.guest_operands.specs.declared.space.Access.TheVariants.{Write}
 use Rattle.guest_operands.specs.Ranges.{grants}
-use Rattle.thread_space.proofs.ReadKept.{block_found, data_found, may_write_is, stack_of}
+use Rattle.thread_space.proofs.ReadKept.{block_found, may_write_is, stack_of}
 use Rattle.thread_space.proofs.bytes.ThreadSpaceBytesPlain.may_write.Goals as goal
 
 pub returns-then-is_on_stack : goal.returns-then-is_on_stack

@@ -1,8 +1,8 @@
 -- The first part of the memory that has the place.
-use Rattle.std.proofs.Common.{◌≡◌, ◌∙◌, Some, None, true, false, ap, refl, sym}
+use Rattle.std.proofs.Common.{◌≡◌, ◌∙◌, true, false, refl, sym}
 use Rattle.guest_operands.specs.declared.space.Access.TheVariants.{Read}
 use Rattle.guest_operands.specs.Ranges.{grants}
-use Rattle.thread_space.proofs.ReadKept.{block_found, data_found, pointer_of, read_block, read_data, read_fixed, read_stack, stack_of}
+use Rattle.thread_space.proofs.ReadKept.{pointer_of, read_block, read_data, read_fixed, read_stack, stack_of}
 use Rattle.thread_space.proofs.bytes.ThreadSpaceBytesPlain.read.Goals as goal
 
 pub returns-then-is_on_stack : goal.returns-then-is_on_stack

@@ -1,11 +1,8 @@
 -- The first part of the memory that takes the byte changes.
-use Rattle.std.proofs.Common.{◌≡◌, ◌∙◌, ◌-◌, Some, None, true, false, ap, refl, sym}
+use Rattle.std.proofs.Common.{◌∙◌, ◌-◌, ap, sym}
 use Rattle.std.specs.Prelude.{slice_set}
-use Rattle.guest_operands.specs.declared.space.Access.TheVariants.{Write}
-use Rattle.guest_operands.specs.Ranges.{grants}
 use Rattle.thread_blocks.specs.MachineTurns.{stack_start}
 use Rattle.thread_space.specs.Kept.{memory_of, shape_of}
-use Rattle.thread_space.proofs.ReadKept.{stack_of}
 use Rattle.thread_space.proofs.ShapeKept.{stack_shape}
 use Rattle.thread_space.proofs.WriteKept.{write_none, write_stack}
 use Rattle.thread_space.proofs.Written.{IsWritten, block_is_written, block_takes, data_is_written, data_takes}

@@ -1,8 +1,6 @@
 -- The byte is one of the block.
-use Rattle.std.proofs.Common.{◌≡◌, ◌∙◌, ℕ, List, Bor, Some, None, ap, sym, slice_get}
+use Rattle.std.proofs.Common.{◌≡◌, ◌∙◌, ℕ, List, Bor, None, ap, sym, slice_get}
 use Rattle.std.specs.Prelude.{option_and_then, option_map}
-use Rattle.thread_blocks.specs.Instances.{block_start}
-use Rattle.thread_space.specs.Places.{behind}
 use Rattle.thread_space.proofs.OwnBytes.{block_byte_of, block_read, block_write}
 use Rattle.thread_space.proofs.space.ThreadSpace.block_byte.Goals as goal
 use Rattle.thread_vector.specs.Vectors.{held}

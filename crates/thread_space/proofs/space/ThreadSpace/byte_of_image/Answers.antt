@@ -1,5 +1,5 @@
 -- The parts from one on.
-use Rattle.std.proofs.Common.{◌≡◌, ◌∙◌, ◌≤◌, length, Some, None, sym, ap, arith}
+use Rattle.std.proofs.Common.{◌∙◌, sym, arith}
 use Rattle.thread_space.proofs.PartBytes.{fixed_end, fixed_hit, fixed_miss, fixed_start}
 use Rattle.thread_space.proofs.space.ThreadSpace.byte_of_image.Goals as goal
 

@@ -16,7 +16,7 @@ returns-in-Some-behind_part c =
     let begins : behind (part.address + bias_of c.args.self.now.vector.images c.args.instance.now) c.args.place ≡ Some c.in-Some-behind_part.at = cc in
     c.loaded_byte.ensures
     ∙ byte_read c.args.self.now.vector.images c.args.image.now c.args.instance.now c.args.number c.requires.there
-        c.args.access c.args.place c.in-Some-behind_part.at part is allowed begins
+    c.args.access c.args.place c.in-Some-behind_part.at part is allowed begins
 
 pub returns-in-None : goal.returns-in-None
 returns-in-None c =

@@ -1,5 +1,5 @@
 -- The byte is one of the data.
-use Rattle.std.proofs.Common.{◌≡◌, ◌∙◌, Some, None, ap, sym}
+use Rattle.std.proofs.Common.{◌≡◌, ◌∙◌, ap, sym}
 use Rattle.std.specs.Prelude.{option_and_then}
 use Rattle.module_data.specs.Laws.{byte_read}
 use Rattle.thread_space.proofs.OwnBytes.{data_read, data_write}

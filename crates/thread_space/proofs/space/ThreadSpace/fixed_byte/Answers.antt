@@ -1,7 +1,6 @@
 -- The list that is walked is that of the live instances.
 use Rattle.std.proofs.Common.{◌∙◌, ap, sym}
 use Rattle.guest_operands.specs.Ranges.{byte_in}
-use Rattle.loaded_modules.specs.declared.instance.Instance.{Instance}
 use Rattle.thread_blocks.specs.Instances.{fixed_of}
 use Rattle.thread_blocks.specs.JobLoads.{job_loads}
 use Rattle.thread_space.specs.Kept.{Kept, live_in}

@@ -1,5 +1,5 @@
 -- The parts from one on.
-use Rattle.std.proofs.Common.{◌≡◌, ◌∙◌, ◌≤◌, length, true, false, sym, ap, arith}
+use Rattle.std.proofs.Common.{◌∙◌, sym, arith}
 use Rattle.thread_space.proofs.PartBytes.{words_end, words_hit, words_miss, words_start}
 use Rattle.thread_space.proofs.space.ThreadSpace.image_has_words.Goals as goal
 

@@ -10,12 +10,12 @@ use Rattle.thread_space.proofs.space.ThreadSpace.part_byte.Goals as goal
 pub returns-in-Some : goal.returns-in-Some
 returns-in-Some c =
     let there : image_at c.args.self.now.vector.images c.args.instance.now.image ≡ Some c.in-Some.image.now =
-        sym c.image_of.ensures ∙ ap (option_map (λ (image : Bor Spelled). image.now)) c.in-Some.is in
+    sym c.image_of.ensures ∙ ap (option_map (λ (image : Bor Spelled). image.now)) c.in-Some.is in
     c.byte_of_image.ensures
     ∙ ap (λ ranges. byte_in c.args.access ranges c.args.place) (of_image c.args.self.now.vector.images c.args.instance.now c.in-Some.image.now there)
 
 pub returns-in-None : goal.returns-in-None
 returns-in-None c =
     let none : image_at c.args.self.now.vector.images c.args.instance.now.image ≡ None =
-        sym c.image_of.ensures ∙ ap (option_map (λ (image : Bor Spelled). image.now)) c.in-None.is in
+    sym c.image_of.ensures ∙ ap (option_map (λ (image : Bor Spelled). image.now)) c.in-None.is in
     ap (λ ranges. byte_in c.args.access ranges c.args.place) (of_no_image c.args.self.now.vector.images c.args.instance.now none)

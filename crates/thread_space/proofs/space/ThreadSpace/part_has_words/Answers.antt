@@ -18,7 +18,7 @@ returns-in-Some-behind_part-clause-found c =
     let begins : behind (part.address + bias_of c.args.self.now.vector.images c.args.instance.now) c.args.address ≡ Some c.in-Some-behind_part.at = cc in
     c.has_room.ensures ∙ ap (nat_le (c.in-Some-behind_part.at + 16)) c.part_size.ensures
     ∙ words_read c.args.self.now.vector.images c.args.image.now c.args.instance.now c.args.number c.requires.there
-        c.args.address c.in-Some-behind_part.at part is written begins
+    c.args.address c.in-Some-behind_part.at part is written begins
 
 pub returns-in-None-clause-found : goal.returns-in-None-clause-found
 returns-in-None-clause-found c =
@@ -34,7 +34,7 @@ returns-in-Some-behind_part-clause-low c = λ yes.
     let is : slice_get c.args.image.now.parts c.args.number ≡ Some part = sym c.part.ensures ∙ ap part_seen c.in-Some.is in
     let begins : behind (part.address + bias_of c.args.self.now.vector.images c.args.instance.now) c.args.address ≡ Some c.in-Some-behind_part.at = cc in
     let room : c.in-Some-behind_part.at + 16 ≤ length (loaded_part c.args.self.now.vector.images c.args.instance.now c.args.number) =
-        leb-true _ _ (ap (nat_le (c.in-Some-behind_part.at + 16)) (sym c.part_size.ensures) ∙ sym c.has_room.ensures ∙ yes)
+    leb-true _ _ (ap (nat_le (c.in-Some-behind_part.at + 16)) (sym c.part_size.ensures) ∙ sym c.has_room.ensures ∙ yes)
     in
     let moved : bias_of c.args.self.now.vector.images c.args.instance.now < 2 ^ 59 = omega (arith, c.bias.ensures.value, c.bias.ensures.low) in
     words_low c.args.self.now.vector.images c.args.image.now c.args.instance.now c.args.number part c.args.address c.in-Some-behind_part.at

@@ -1,5 +1,5 @@
 -- The byte lies in the block.
-use Rattle.std.proofs.Common.{◌≡◌, ◌∙◌, ◌-◌, ℕ, List, length, set, Some, None, true, ap, sym, refl, subst, arith}
+use Rattle.std.proofs.Common.{◌≡◌, ◌∙◌, ◌-◌, ℕ, List, set, Some, ap, sym, subst}
 use Rattle.std.specs.Prelude.{is_some}
 use Rattle.std.proofs.lemmas.List.{length-set}
 use Rattle.std.proofs.lemmas.Option.{same_Some}
@@ -26,8 +26,8 @@ bounds-block-at c =
 pub returns-in-Some : goal.returns-in-Some
 returns-in-Some c =
     let at : c.in-Some.at ≡ c.args.place - block_start c.args.self.now.vector.thread c.args.instance.now =
-        behind_is (block_start c.args.self.now.vector.thread c.args.instance.now) c.args.place c.in-Some.at
-        (sym c.behind_block.ensures ∙ c.in-Some.is)
+    behind_is (block_start c.args.self.now.vector.thread c.args.instance.now) c.args.place c.in-Some.at
+    (sym c.behind_block.ensures ∙ c.in-Some.is)
     in
     record {
       leaves = record {
@@ -38,12 +38,12 @@ returns-in-Some c =
       block = λ bytes is.
           let number = c.args.instance.now.number in
           let held_here : held c.args.self.now.vector number ≡ Some c.block_mut-block.result.now =
-              ap (λ (k : Kept). held k.vector number) (sym c.self.view_is) ∙ c.block_mut-block.ensures.value
+          ap (λ (k : Kept). held k.vector number) (sym c.self.view_is) ∙ c.block_mut-block.ensures.value
           in
           let same : c.block_mut-block.result.now ≡ bytes = same_Some _ _ (sym held_here ∙ is) in
           let new : Vector = with_block c.self.inside.dtv number (set c.block_mut-block.result.now c.in-Some.at c.args.byte) in
           let writes = c.block_mut-block.ensures.writes (set c.block_mut-block.result.now c.in-Some.at c.args.byte)
-              (length-set c.block_mut-block.result.now c.in-Some.at c.args.byte)
+          (length-set c.block_mut-block.result.now c.in-Some.at c.args.byte)
           in
           subst (λ (bs : List ℕ). Writes c.args.self.now.vector number (set bs (c.args.place - block_start c.args.self.now.vector.thread c.args.instance.now) c.args.byte) new) same
           (subst (λ (i : ℕ). Writes c.args.self.now.vector number (set c.block_mut-block.result.now i c.args.byte) new) at

@@ -1,8 +1,7 @@
 -- The byte lies in the data.
-use Rattle.std.proofs.Common.{◌≡◌, ◌∙◌, ◌-◌, ℕ, Some, None, true, ap, sym, refl, subst}
+use Rattle.std.proofs.Common.{◌≡◌, ◌∙◌, ◌-◌, ℕ, ap, sym}
 use Rattle.std.specs.Prelude.{is_some, option_and_then}
-use Rattle.module_data.specs.Laws.{Write, byte_read, written}
-use Rattle.module_data.specs.Parts.{data_start}
+use Rattle.module_data.specs.Laws.{byte_read, written}
 use Rattle.thread_space.specs.Kept.{Kept}
 use Rattle.thread_space.specs.Places.{behind}
 use Rattle.thread_space.proofs.OwnBytes.{behind_is, data_begin, data_has}
@@ -18,8 +17,8 @@ returns-in-Some c = record {
   vector = ap (λ (k : Kept). k.vector) c.self.view_is;
   pieces = λ start begins.
       let at : c.in-Some.at ≡ c.args.place - start =
-          behind_is start c.args.place c.in-Some.at
-          (sym (ap (option_and_then (λ start. behind start c.args.place)) begins) ∙ sym c.behind_data.ensures ∙ c.in-Some.is)
+      behind_is start c.args.place c.in-Some.at
+      (sym (ap (option_and_then (λ start. behind start c.args.place)) begins) ∙ sym c.behind_data.ensures ∙ c.in-Some.is)
       in
       c.set_byte.ensures
       ∙ ap (λ (k : Kept). written c.args.instance.now.image k.pieces (record { at = c.in-Some.at; byte = c.args.byte })) c.self.view_is
