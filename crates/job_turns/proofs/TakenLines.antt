@@ -130,7 +130,7 @@ run_before m n thread other steps s images threads = rw (images, threads) refl
 pub says_begins : (fuel : ℕ) (line : Line) (k : Kept) (outcome : Answer) (new : Kept) → Starts line k (Says outcome) new
     → BeginsTo fuel line k (Over outcome) new
 says_begins fuel line k outcome new starts = record {
-  keeps = record { thread = starts.same.thread; images = starts.same.images; startups = starts.same.startups; pieces = starts.same.pieces };
+  keeps = starts.keeps;
   steps = tt;
   begins = λ seen state asked todo said has_seen.
       let facts = starts.starts seen state asked has_seen in
@@ -159,7 +159,7 @@ pub calls_begins : (fuel : ℕ) (line : Line) (k : Kept) (m : Standing ℕ Bool)
     → Starts line k (Calls m) k1 → RunsTo (4 * fuel) m k1 taken new → BeginsTo fuel line k taken new
 calls_begins fuel line k m k1 new taken starts runs = record {
   keeps = both_keep k k1 new
-      (record { thread = starts.same.thread; images = starts.same.images; startups = starts.same.startups; pieces = starts.same.pieces }) runs.keeps;
+      starts.keeps runs.keeps;
   steps = runs.steps;
   begins = λ seen state asked todo said has_seen.
       let facts = starts.starts seen state asked has_seen in
@@ -170,7 +170,7 @@ calls_begins fuel line k m k1 new taken starts runs = record {
       (seen_on k1 new now facts.0 runs.keeps.images runs.past,
       subst P (sym facts.1)
       (calls_took fuel k k1 new m taken now seen asked (4 * fuel) (length seen ∷ []) todo said runs facts.0
-      (none_taken (4 * fuel) m.taken starts.fresh) starts.same.images starts.same.thread));
+      (none_taken (4 * fuel) m.taken starts.fresh) starts.keeps.images starts.keeps.thread));
 }
   where
     none_taken : (limit taken : ℕ) → taken ≡ 0 → limit ≡ limit - taken
