@@ -8,11 +8,18 @@ mod EntriesNamed
 mod EntriesPlaces
 mod ExampleLoads
 mod Examples
+mod EmptyRanges
 mod LinkedBlocks
 mod LinkedImages
 mod LinkedRanges
+mod LoneBlocks
+mod LoneLinks
+mod LoneLines
+mod LoneLoads
+mod LoneThreads
+mod LoneWorlds
+mod MeantRuns
 pub mod Memory
-pub mod Own
 mod PlainLinks
-pub mod Said
+mod RunTimeRuns
 mod SmallBytes

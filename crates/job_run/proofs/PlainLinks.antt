@@ -221,7 +221,7 @@ module _ (l : Linking) (plain : is_plain l ≡ true) where
         (λ k below. let next : o + 1 + k ≡ o + suc k = omega arith in ap (object l) next ∙ each (suc k) (omega arith)) in
         ap (λ xs. xs ++ object_needs_from l (o + 1) more) first ∙ rest
 
-    no_needs : needs l ≡ []
+    pub no_needs : needs l ≡ []
     unfolding needs
     no_needs =
         let sites = no_site_needs 0 l.sites each_empty in

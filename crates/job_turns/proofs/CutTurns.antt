@@ -1,20 +1,20 @@
 -- What a turn of a runner needs and leaves, from what the registry answers: the events that the thread has not seen, with
 -- its own event cut off.
-use Rattle.std.proofs.Common.{◌≡◌, ◌+◌, ◌≤◌, ◌++◌, ℕ, true, List, [], ◌∷◌, length, take, drop, Option, Some, None, Result, Ok, Err, refl, sym, ap, subst, ◌∙◌, length-append, arith}
+use Rattle.std.proofs.Common.{◌≡◌, ◌+◌, ◌≤◌, ◌<◌, ◌^◌, ◌++◌, ℕ, Bool, true, List, [], ◌∷◌, length, take, drop, Option, Some, None, Result, Ok, Err, refl, sym, ap, subst, ◌∙◌, length-append, arith}
 use Rattle.std.specs.Prelude.{IfOk, OnOk}
 use Rattle.std.proofs.lemmas.Bool.{and_parts}
 use Rattle.std.proofs.Math.Seq.{drop-append_seam, take-append_seam, take-length}
-use Rattle.loaded_modules.specs.Images.{infos, last_offset}
+use Rattle.loaded_modules.specs.Images.{JobImages, infos, last_offset}
 use Rattle.module_data.specs.Pieces.{Piece}
 use Rattle.module_table.specs.declared.events.Event.{Event}
 use Rattle.module_table.specs.History.{History, IsLegal, close_answer, closed_of, left, open_answer, opened_of, unless}
 use Rattle.module_table.specs.Past.{after, close_refusal, is_legal, open_refusal, past, start}
 use Rattle.module_table.specs.Walks.{is_legal-append, seen-past}
 use Rattle.thread_blocks.specs.Turns.{with_event}
-use Rattle.thread_space.specs.declared.asking.Ask.{Ask}
-use Rattle.thread_space.specs.declared.asking.LineAnswer.{LineAnswer}
-use Rattle.thread_space.specs.Asking.{answer_to, closed_at, opened_at}
-use Rattle.thread_space.specs.Standing.{Run, TakesTurn, ask_of}
+use Rattle.job_turns.specs.declared.asking.Ask.{Ask}
+use Rattle.job_turns.specs.declared.asking.LineAnswer.{LineAnswer}
+use Rattle.job_turns.specs.Asking.{answer_to, closed_at, opened_at}
+use Rattle.job_turns.specs.Standing.{Run, TakesTurn, ask_of}
 use Rattle.job_turns.specs.Turning.{AddsAsked, CanTurn, Turned, event_asked}
 use Rattle.job_turns.proofs.OneTurn.{rest_is, rest_leaves, seen_front}
 use Rattle.job_turns.proofs.Standings.{front_grows}
@@ -79,7 +79,7 @@ module _ (h : History) (d : List Piece) (r : Run) (can : CanTurn h d r) (at : �
       unfolding past
       cut_legal legal =
           let whole : is_legal (start (infos r.kept.vector.images) (last_offset r.kept.vector.images)) (can.front ++ can.rest) ≡ true =
-          rw (← can.infos_are, ← can.last_is, ← can.events_are) legal.each in
+              rw (← can.infos_are, ← can.last_is, ← can.events_are) legal.each in
           let parts = and_parts _ _ (sym (is_legal-append (start (infos r.kept.vector.images) (last_offset r.kept.vector.images)) can.front can.rest) ∙ whole) in
           rw (cut_is, ← can.has_seen) parts.1
 

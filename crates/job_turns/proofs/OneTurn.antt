@@ -1,5 +1,5 @@
 -- One turn: of a thread that has nothing left to do, and of one that has.
-use Rattle.std.proofs.Common.{◌≡◌, ◌+◌, ◌++◌, ℕ, zero, suc, Bool, true, List, [], ◌∷◌, length, drop, Option, Some, None, refl, sym, ap, subst, ◌∙◌, append-nil}
+use Rattle.std.proofs.Common.{◌≡◌, ◌+◌, ◌++◌, ℕ, zero, suc, Bool, true, false, List, [], ◌∷◌, length, drop, Option, Some, None, refl, sym, ap, subst, ◌∙◌, append-nil}
 use Rattle.std.specs.Prelude.{option_and_then, slice_get, slice_set}
 use Rattle.std.proofs.Math.Seq.{drop-append_seam}
 use Rattle.job_text.specs.declared.thread_lines.Action.{Action}
@@ -16,12 +16,12 @@ use Rattle.thread_blocks.specs.JobLoads.{job_loads}
 use Rattle.thread_blocks.specs.JobWorlds.{Shared, data_in, held_in, numbered_lines, shared_turn, with_data, without_data}
 use Rattle.thread_blocks.specs.Lines.{Line, event_by}
 use Rattle.thread_blocks.specs.RunTime.{Runs, thread_turns}
-use Rattle.thread_blocks.specs.Turns.{Idle, Mid, Phase, Thread, event_of, next_line, turn, with_event}
-use Rattle.thread_space.specs.declared.asking.Ask.{Ask}
-use Rattle.thread_space.specs.declared.asking.Ask.TheVariants.{Done, Look, Opens, Closes}
-use Rattle.thread_space.specs.Asking.{ask_by, ask_next}
+use Rattle.thread_blocks.specs.Turns.{Idle, Mid, Phase, Thread, at_number, event_of, next_line, turn, with_event}
+use Rattle.job_turns.specs.declared.asking.Ask.{Ask}
+use Rattle.job_turns.specs.declared.asking.Ask.TheVariants.{Done, Look, Opens, Closes}
+use Rattle.job_turns.specs.Asking.{ask_by, ask_next}
 use Rattle.thread_space.specs.Kept.{HasSeen, Kept, shared_of}
-use Rattle.thread_space.specs.Standing.{PhaseIs, Run, StandsAfter, StandsFor, TakesTurn, Waiting, ask_now, ask_of}
+use Rattle.job_turns.specs.Standing.{PhaseIs, Run, StandsAfter, StandsFor, TakesTurn, Waiting, ask_now, ask_of}
 use Rattle.job_turns.specs.Progress.{IsRunner, Progress, Stands, is_done, is_over, is_thread_over, job_order}
 use Rattle.job_turns.specs.Turning.{Turned, event_asked}
 use Rattle.job_turns.proofs.FinishedTurns.{done_adds_none, done_shared, done_stands, done_turn}
@@ -76,17 +76,15 @@ module _ (m : JobImages) (fuel : ℕ) (w : Shared ℕ Bool ℕ Line) (x : Progre
           ≡ record { threads = slice_set w.threads k (without_data (with_data shared_now t)); events = w.events; shared = shared_now }
       done_world =
           let turns = thread_turns (job_loads m) (suc k) fuel in
-          rw (
-            stands.shared_is,
-            done_turn r t runner.stands done turns w.events m left_now x.pieces,
-            done_adds_none r t runner.stands done turns w.events m left_now x.pieces (event_by (job_loads m) (suc k)),
-            done_shared r t runner.stands done turns w.events m left_now x.pieces,
-          ) refl
+          rw (stands.shared_is,
+              done_turn r t runner.stands done turns w.events m left_now x.pieces,
+              done_adds_none r t runner.stands done turns w.events m left_now x.pieces (event_by (job_loads m) (suc k)),
+              done_shared r t runner.stands done turns w.events m left_now x.pieces) refl
 
       done_stays : Stands m fuel (turned_by (suc k) (Some t)) x
       done_stays =
           let same : record { history = x.history; pieces = x.pieces; runs = slice_set x.runs k r } ≡ x =
-          ap (λ runs. record { history = x.history; pieces = x.pieces; runs = runs }) (set_same x.runs k r at_r) in
+              ap (λ runs. record { history = x.history; pieces = x.pieces; runs = runs }) (set_same x.runs k r at_r) in
           rw done_world
           (subst (λ y. Stands m fuel (record { threads = slice_set w.threads k (without_data (with_data shared_now t)); events = w.events; shared = shared_now }) y)
           same

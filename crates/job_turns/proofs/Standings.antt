@@ -1,6 +1,6 @@
 -- What stands for the definition's threads still stands for them once a turn was put in.
-use Rattle.std.proofs.Common.{◌≡◌, ◌++◌, ℕ, suc, Bool, List, [], ◌∷◌, length, Option, Some, None, sym, ◌∙◌, append_assoc}
-use Rattle.std.specs.Prelude.{slice_set}
+use Rattle.std.proofs.Common.{◌≡◌, ◌+◌, ◌++◌, ℕ, suc, Bool, List, [], ◌∷◌, length, Option, Some, None, refl, sym, ap, ◌∙◌, append_assoc}
+use Rattle.std.specs.Prelude.{slice_get, slice_set}
 use Rattle.loaded_modules.specs.Images.{JobImages, infos, last_offset}
 use Rattle.module_data.specs.Pieces.{Piece}
 use Rattle.module_table.specs.declared.events.Event.{Event}
@@ -12,7 +12,7 @@ use Rattle.thread_blocks.specs.Lines.{Line}
 use Rattle.thread_blocks.specs.RunTime.{Runs}
 use Rattle.thread_blocks.specs.Turns.{Thread, with_event}
 use Rattle.thread_space.specs.Kept.{shared_of}
-use Rattle.thread_space.specs.Standing.{Run}
+use Rattle.job_turns.specs.Standing.{Run}
 use Rattle.job_turns.specs.Progress.{IsRunner, Progress, Stands}
 use Rattle.job_turns.proofs.Lists.{each_set, set-length}
 

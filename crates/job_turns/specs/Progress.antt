@@ -12,10 +12,10 @@ use Rattle.thread_blocks.specs.JobWorlds.{Shared, shared_order}
 use Rattle.thread_blocks.specs.Lines.{Line, event_by}
 use Rattle.thread_blocks.specs.RunTime.{Runs, thread_turns}
 use Rattle.thread_blocks.specs.Turns.{Thread, at_number}
-use Rattle.thread_space.specs.declared.asking.Ask.{Ask}
-use Rattle.thread_space.specs.declared.asking.Ask.TheVariants.{Done, Look, Opens, Closes}
+use Rattle.job_turns.specs.declared.asking.Ask.{Ask}
+use Rattle.job_turns.specs.declared.asking.Ask.TheVariants.{Done, Look, Opens, Closes}
 use Rattle.thread_space.specs.Kept.{HasSeen, shared_of}
-use Rattle.thread_space.specs.Standing.{IsFirstRun, Run, StandsFor, ask_of}
+use Rattle.job_turns.specs.Standing.{IsFirstRun, Run, StandsFor, ask_of}
 
 -- the history, the data of all images, and a runner for each thread, thread 1 first
 pub record Progress : Type 0 where

@@ -7,10 +7,10 @@ use Rattle.module_table.specs.History.{History, IsLegal, left}
 use Rattle.module_table.specs.Past.{Past, close_refusal, open_refusal}
 use Rattle.thread_blocks.specs.Lines.{event_at, unless_refused}
 use Rattle.thread_blocks.specs.Turns.{with_event}
-use Rattle.thread_space.specs.declared.asking.Ask.{Ask}
-use Rattle.thread_space.specs.declared.asking.Ask.TheVariants.{Done, Look, Opens, Closes}
+use Rattle.job_turns.specs.declared.asking.Ask.{Ask}
+use Rattle.job_turns.specs.declared.asking.Ask.TheVariants.{Done, Look, Opens, Closes}
 use Rattle.thread_space.specs.Kept.{HasSeen}
-use Rattle.thread_space.specs.Standing.{Run, TakesTurn, ask_of}
+use Rattle.job_turns.specs.Standing.{Run, TakesTurn, ask_of}
 
 -- the event that a thread's ask adds to a history that leaves this, if it adds one
 abbrev pub event_asked : ℕ → Past → Ask → Option Event

@@ -2,13 +2,13 @@
 
 ghost use Rattle.std.specs.Prelude.{◌≡◌, IfOk, OnOk};
 ghost use Rattle.module_table.specs.History.{left};
-ghost use Rattle.thread_space.specs.declared.asking.Ask.TheVariants.{Opens, Closes};
-ghost use Rattle.thread_space.specs.Asking.{answer_to};
+ghost use Rattle.job_turns.specs.declared.asking.Ask.TheVariants.{Opens, Closes};
+ghost use Rattle.job_turns.specs.Asking.{answer_to};
 ghost use Rattle.job_turns.specs.Turning.{AddsAsked};
 
 use module_table::{CloseRefusal, OpenRefusal, Registry};
 use std::alloc::AllocError;
-use thread_space::{Ask, LineAnswer};
+use crate::asking::{Ask, LineAnswer};
 
 /// The answer to an open. The only error is want of memory.
 #[tactic(auto, unfolding(module_table::specs::History::open_answer, module_table::specs::History::opened_of))]

@@ -37,8 +37,15 @@
 #![tactic(auto)]
 
 mod answers;
+mod asking;
+mod job;
+mod lines;
+mod runner;
 mod running;
+mod taking;
 mod threads;
 mod turning;
 
-pub use crate::running::run_job;
+pub use asking::{Ask, LineAnswer};
+pub use job::run_job;
+pub use runner::Runner;

@@ -5,6 +5,8 @@ ghost use Rattle.thread_blocks.specs.Turns.{enough, finishing};
 ghost use Rattle.job_turns.specs.Transcripts.{transcript_of};
 ghost use Rattle.job_turns.specs.Progress.{IsFirst, StandsForSome, TakesTurns, is_done, is_thread_over};
 
+use crate::asking::Ask;
+use crate::runner::Runner;
 use crate::turning::take_turn;
 use job_text::Job;
 use loaded_modules::Modules;
@@ -12,7 +14,7 @@ use module_data::Data;
 use module_table::Registry;
 use std::alloc::{AllocError, Global};
 use std::marker::Model;
-use thread_space::{Ask, JobNames, Runner};
+use thread_space::JobNames;
 use transcript_text::Transcript;
 
 /// The threads of a job between two turns: the history, the data of all images, and a runner for each thread. Contracts

@@ -1,14 +1,14 @@
 //! One turn of a thread.
 
 ghost use Rattle.std.specs.Prelude.{◌≡◌, IfOk};
-ghost use Rattle.thread_space.specs.Standing.{IsGoing, ask_of};
+ghost use Rattle.job_turns.specs.Standing.{IsGoing, ask_of};
 ghost use Rattle.job_turns.specs.Turning.{CanTurn, Turned};
 
 use crate::answers::answer;
+use crate::runner::Runner;
 use module_data::Data;
 use module_table::Registry;
 use std::alloc::AllocError;
-use thread_space::Runner;
 
 /// So many events no memory holds.
 const MOST_EVENTS: u64 = 1 << 61;

@@ -1,6 +1,6 @@
 -- What a thread's code keeps, as the ranges that its machine finds: its stack, its blocks, data, and behind them what no
 -- thread writes. Blocks and data stand in the order of the images of their instances, as a look leaves them.
-use Rattle.std.specs.Prelude.{◌≡◌, ℕ, Bool, List, [], ◌∷◌, ◌++◌, Option}
+use Rattle.std.specs.Prelude.{◌≡◌, ℕ, Bool, List, [], ◌∷◌, ◌++◌, length, Option}
 use Rattle.std.specs.List.{flat_map}
 use Rattle.guest_arithmetic.specs.Plain.{plain_operations}
 use Rattle.guest_operands.specs.declared.state.State.{State}
@@ -13,7 +13,7 @@ use Rattle.module_table.specs.declared.events.Event.{Event}
 use Rattle.module_table.specs.Past.{Past, past}
 use Rattle.thread_blocks.specs.declared.asked.Asked.{Asked}
 use Rattle.thread_blocks.specs.Held.{Owned, Owner, block_with, data_with, owners_of, ranges_in}
-use Rattle.thread_blocks.specs.Instances.{Loads, fixed_of, instances_in}
+use Rattle.thread_blocks.specs.Instances.{fixed_of, instances_in}
 use Rattle.thread_blocks.specs.JobLoads.{job_loads}
 use Rattle.thread_blocks.specs.MachineTurns.{pointer_word, stack_start}
 use Rattle.thread_blocks.specs.RunTime.{Runs}
@@ -69,6 +69,8 @@ pub record Shape : Type 0 where
   pub past : Past
   -- whose the written ranges are, in their order
   pub owners : List Owner
+  -- how many images the data are of
+  pub count : ℕ
 
 unfoldable pub shape_of : Kept → Shape
 shape_of k = record {
@@ -76,6 +78,7 @@ shape_of k = record {
   images = k.vector.images;
   past = k.vector.past;
   owners = owners_of (owned_of k.vector k.pieces);
+  count = length k.pieces;
 }
 
 -- the shape of a thread that knows of no image
@@ -85,6 +88,7 @@ shape_with thread = record {
   images = record { kinds = []; images = [] };
   past = record { seen = 0; made = 0; taken = 0; limit = 0; modules = [] };
   owners = [];
+  count = 0;
 }
 
 -- ---- as the definitions of lines have it

@@ -1,11 +1,7 @@
-pub mod Asking
 pub mod Holding
 pub mod Kept
 pub mod Live
 pub mod OfParts
 pub mod Places
-pub mod Runners
-pub mod Standing
 pub mod Steps
-pub mod Taking
 pub mod Writing

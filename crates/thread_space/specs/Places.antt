@@ -1,16 +1,12 @@
 -- The ranges of one instance, and which of them takes a byte that is written.
-use Rattle.std.specs.Prelude.{◌≡◌, ◌-◌, ℕ, Bool, List, Option, Some, None, is_some, nat_le, if◌then◌else◌}
+use Rattle.std.specs.Prelude.{◌-◌, ℕ, Bool, List, Option, Some, None, is_some, nat_le, if◌then◌else◌}
 use Rattle.guest_operands.specs.declared.space.Access.TheVariants.{Write}
 use Rattle.guest_operands.specs.Ranges.{Range, byte_in}
 use Rattle.loaded_modules.specs.declared.instance.Instance.{Instance}
 use Rattle.loaded_modules.specs.Images.{JobImages}
-use Rattle.module_data.specs.Laws.{written}
 use Rattle.module_data.specs.Pieces.{Piece}
 use Rattle.thread_blocks.specs.Held.{block_with, ranges_in}
-use Rattle.thread_blocks.specs.Instances.{block_start}
-use Rattle.thread_space.specs.Kept.{Kept, data_in}
-use Rattle.thread_vector.specs.Places.{Writes}
-use Rattle.thread_vector.specs.Statements.{Leaves}
+use Rattle.thread_space.specs.Kept.{data_in}
 use Rattle.thread_vector.specs.Vectors.{Vector, held}
 
 -- the block of an instance, if the thread has one

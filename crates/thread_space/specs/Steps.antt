@@ -1,14 +1,13 @@
 -- What clauses say of a thread's memory before and after a call.
 use Rattle.std.specs.Prelude.{◌≡◌, ℕ, [], List}
 use Rattle.guest_arithmetic.specs.Plain.{plain_operations}
-use Rattle.loaded_modules.specs.declared.instance.Instance.{Instance}
 use Rattle.loaded_modules.specs.Images.{JobImages, infos, last_offset}
 use Rattle.module_data.specs.Pieces.{Piece}
 use Rattle.module_table.specs.declared.events.Event.{Event}
 use Rattle.module_table.specs.Past.{after, start}
 use Rattle.thread_blocks.specs.MachineTurns.{fresh_stack}
 use Rattle.thread_vector.specs.Statements.{Leaves}
-use Rattle.thread_vector.specs.Vectors.{Vector, caught_up, fresh, held, reached}
+use Rattle.thread_vector.specs.Vectors.{caught_up, fresh, held, reached}
 use Rattle.thread_space.specs.Kept.{Kept}
 
 -- a thread of a job before any event, with no data in its hands

@@ -1,9 +1,9 @@
 //! Bytes of a thread's blocks.
 
-ghost use Rattle.std.specs.Prelude.{◌≡◌, true, [], ◌∷◌};
+ghost use Rattle.std.specs.Prelude.{◌≡◌, true, slice_get};
 ghost use Rattle.std.specs.List.{find};
 ghost use Rattle.guest_operands.specs.declared.space.Access.TheVariants.{Read, Write};
-ghost use Rattle.guest_operands.specs.Ranges.{byte_in, with_byte};
+ghost use Rattle.guest_operands.specs.Ranges.{byte_in};
 ghost use Rattle.thread_space.specs.Kept.{live_in};
 ghost use Rattle.thread_space.specs.Places.{block_ranges, takes};
 ghost use Rattle.thread_space.specs.Writing.{WritesBlock};
@@ -12,6 +12,13 @@ ghost use Rattle.thread_space.specs.Places.{behind};
 
 use crate::space::ThreadSpace;
 use loaded_modules::Instance;
+
+/// The byte at an offset.
+fn byte_of(bytes: &[u8], at: u64) -> Option<u8>
+    ensures { result ≡ slice_get bytes.now at }
+{
+    bytes.get(at as usize).copied()
+}
 
 impl<'m> ThreadSpace<'m> {
     /// How far behind the start of an instance's block a place lies, if it lies there at all.
@@ -26,9 +33,13 @@ impl<'m> ThreadSpace<'m> {
         ensures read { result ≡ byte_in Read (block_ranges self.now.vector instance.now) place }
         ensures written { result ≡ byte_in Write (block_ranges self.now.vector instance.now) place }
     {
-        let bytes = self.block(instance.number)?;
-        let at = self.behind_block(instance, place)?;
-        bytes.get(at as usize).copied()
+        let Some(bytes) = self.block(instance.number) else {
+            return None;
+        };
+        let Some(at) = self.behind_block(instance, place) else {
+            return None;
+        };
+        byte_of(bytes, at)
     }
 
     /// The live instance whose block has a place.

@@ -32,8 +32,8 @@ impl<'m> Bytes<Plain> for ThreadSpace<'m> {
     ghost rest = { shape_of };
 
     fn read(&self, place: u64) -> Option<u8> {
-        if self.stack.grants(Access::Read, place) {
-            return self.stack.byte(place);
+        if self.is_on_stack(Access::Read, place) {
+            return self.stack_byte(place);
         }
         if let Some(instance) = self.block_at(place) {
             return self.block_byte(&instance, place);
@@ -41,8 +41,8 @@ impl<'m> Bytes<Plain> for ThreadSpace<'m> {
         if let Some(instance) = self.data_at(place) {
             return self.data_byte(&instance, place);
         }
-        if self.pointer.grants(Access::Read, place) {
-            return self.pointer.byte(place);
+        if self.is_at_pointer(Access::Read, place) {
+            return self.pointer_byte(place);
         }
         self.fixed_byte(Access::Read, place)
     }
@@ -52,12 +52,19 @@ impl<'m> Bytes<Plain> for ThreadSpace<'m> {
     }
 
     fn may_write(&self, place: u64) -> bool {
-        self.stack.grants(Access::Write, place) || self.block_at(place).is_some() || self.data_at(place).is_some()
+        if self.is_on_stack(Access::Write, place) {
+            return true;
+        }
+        if self.block_at(place).is_some() {
+            return true;
+        }
+        self.data_at(place).is_some()
     }
 
     fn write(&mut self, place: u64, byte: u8) {
-        if self.stack.grants(Access::Write, place) {
-            self.stack.set_byte(place, byte);
+        let _seen = self.seen();
+        if self.is_on_stack(Access::Write, place) {
+            self.set_stack_byte(place, byte);
         } else if let Some(instance) = self.block_at(place) {
             self.set_block_byte(&instance, place, byte);
         } else if let Some(instance) = self.data_at(place) {

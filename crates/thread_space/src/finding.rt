@@ -1,8 +1,9 @@
 //! Live instances, and where their blocks lie.
 
-ghost use Rattle.std.specs.Prelude.{◌≡◌, ◌==◌, option_map};
+ghost use Rattle.std.specs.Prelude.{◌≡◌, ◌==◌, ◌+◌, ◌≤◌, ◌^◌, IfSome, option_map};
 ghost use Rattle.std.specs.List.{find, list_any};
-ghost use Rattle.thread_blocks.specs.Instances.{block_start};
+ghost use Rattle.module_table.specs.Past.{startup_count};
+ghost use Rattle.thread_blocks.specs.Instances.{block_start, is_startup_id};
 ghost use Rattle.thread_blocks.specs.JobLoads.{job_loads};
 ghost use Rattle.thread_blocks.specs.RunTime.{has_words};
 ghost use Rattle.thread_space.specs.Kept.{live_in};
@@ -11,23 +12,38 @@ ghost use Rattle.thread_vector.specs.Vectors.{held};
 use crate::space::ThreadSpace;
 use crate::words::thread_pointer;
 use loaded_modules::Instance;
+use module_table::ImageInfo;
+
+/// How many images start with the program.
+fn startup_count(infos: &[ImageInfo]) -> u64
+    ensures { result ≡ startup_count infos.now }
+{
+    infos.iter().filter(|info| !info.late).count() as u64
+}
 
 impl<'m> ThreadSpace<'m> {
     /// The live instance of a number.
     pub fn numbered(&self, number: u32) -> Option<Instance>
         ensures { result ≡ find (λ x. x.number == number) (live_in self.now.vector.images self.now.vector.past) }
     {
-        self.live
-            .iter()
-            .find(|x| x.number == number)
-            .copied()
+        for instance in &self.live {
+            if instance.number == number {
+                return Some(*instance);
+            }
+        }
+        None
     }
 
     /// The live instance with a module id.
     pub fn with_id(&self, id: u64) -> Option<Instance>
         ensures { result ≡ find (λ x. x.id == id) (live_in self.now.vector.images self.now.vector.past) }
     {
-        self.live.iter().find(|x| x.id == id).copied()
+        for instance in &self.live {
+            if instance.id == id {
+                return Some(*instance);
+            }
+        }
+        None
     }
 
     /// Where the thread's block of an instance begins.
@@ -37,7 +53,10 @@ impl<'m> ThreadSpace<'m> {
         let thread = self.dtv.thread();
         match instance.offset {
             Some(offset) => thread_pointer(thread).saturating_sub(offset),
-            None => u64::from(thread) * (1 << 40) + u64::from(instance.number) * (1 << 24),
+            None => {
+                let number = instance.number;
+                u64::from(thread) * (1 << 40) + u64::from(number) * (1 << 24)
+            }
         }
     }
 
@@ -48,9 +67,18 @@ impl<'m> ThreadSpace<'m> {
         self.dtv.block(instance)
     }
 
+    /// Whether a module id is that of an image that starts with the program.
+    #[tactic(auto, unfolding(thread_blocks::specs::JobLoads::job_loads))]
+    pub fn is_startup(&self, id: u64) -> bool
+        ensures { result ≡ is_startup_id (job_loads self.now.vector.images) id }
+    {
+        id != 0 && id <= startup_count(self.modules.infos())
+    }
+
     /// The live instance that asks the run time by two words at an address: the one of whose written parts one has them.
     pub fn asker(&self, address: u64) -> Option<Instance>
-        ensures { result ≡ find (λ x. list_any (has_words address) ((job_loads self.now.vector.images).tables x))
+        ensures low { IfSome result (λ x. address + 16 ≤ 2 ^ 64) }
+        ensures found { result ≡ find (λ x. list_any (has_words address) ((job_loads self.now.vector.images).tables x))
             (live_in self.now.vector.images self.now.vector.past) }
     {
         for instance in &self.live {

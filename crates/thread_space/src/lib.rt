@@ -1,19 +1,17 @@
 //! What a thread of a job may reach while it runs.
 #![tactic(auto)]
 
-mod asking;
 mod blocks;
 mod bytes;
 mod finding;
+mod names;
 mod parts;
-mod runner;
 mod shared;
 mod space;
-mod taking;
+mod stack;
 mod words;
 
-pub use asking::{Ask, LineAnswer};
 pub use bytes::Outline;
-pub use runner::Runner;
+pub use names::JobNames;
 pub use space::ThreadSpace;
-pub use taking::Taken;
+pub use words::{end_of_stack, thread_pointer};

@@ -1,10 +1,10 @@
 //! The parts of images, as instances have them.
 
-ghost use Rattle.std.specs.Prelude.{◌≡◌, ◌+◌, Some, nat_le, slice_get};
+ghost use Rattle.std.specs.Prelude.{◌≡◌, ◌+◌, ◌^◌, ◌<◌, ◌≤◌, true, Some, length, nat_le, option_map, slice_get};
 ghost use Rattle.std.specs.List.{filter, list_any};
 ghost use Rattle.guest_operands.specs.Ranges.{byte_in};
 ghost use Rattle.loaded_modules.specs.Images.{image_at};
-ghost use Rattle.loaded_modules.specs.Loader.{loaded_part};
+ghost use Rattle.loaded_modules.specs.Loader.{bias_of, loaded_part};
 ghost use Rattle.thread_blocks.specs.Instances.{fixed_of};
 ghost use Rattle.thread_blocks.specs.JobLoads.{job_loads, parts_from, written_from};
 ghost use Rattle.thread_blocks.specs.Loading.{is_code, is_loaders, is_written};
@@ -15,7 +15,7 @@ ghost use Rattle.thread_space.specs.Places.{behind};
 
 use crate::space::ThreadSpace;
 use guest_machine::Access;
-use image_file::{Image, PartClass};
+use image_file::{Image, PartClass, image_is_spelled};
 use loaded_modules::Instance;
 
 /// How many bytes a question to the run time has: two words.
@@ -70,6 +70,30 @@ fn has_room(size: u64, at: u64) -> bool
 }
 
 impl<'m> ThreadSpace<'m> {
+    /// The image that an instance is of.
+    fn image_of(&self, instance: &Instance) -> Option<&Image>
+        ensures { option_map (λ image. image.now) result ≡ image_at self.now.vector.images instance.now.image }
+    {
+        self.modules.image(instance.image)
+    }
+
+    /// How far the image of an instance is moved: less than 2^59 bytes.
+    #[tactic(auto, using(crate::proofs::LowParts::bias_low))]
+    fn bias(&self, instance: &Instance) -> u64
+        ensures value { result ≡ bias_of self.now.vector.images instance.now }
+        ensures low { result < 2 ^ 59 }
+    {
+        let _number = instance.number;
+        self.modules.bias(instance)
+    }
+
+    /// How many bytes a part of an instance has.
+    fn part_size(&self, instance: &Instance, number: u64) -> u64
+        ensures { result ≡ length (loaded_part self.now.vector.images instance.now number) }
+    {
+        self.modules.part_size(instance, number)
+    }
+
     /// The byte at an offset in a part of an instance as the loader leaves it.
     fn loaded_byte(&self, instance: &Instance, number: u64, at: u64) -> Option<u8>
         ensures { result ≡ slice_get (loaded_part self.now.vector.images instance.now number) at }
@@ -101,8 +125,10 @@ impl<'m> ThreadSpace<'m> {
         if !allows_fixed(access, part.class, is_loaders(image.got(), number)) {
             return None;
         }
-        let at = behind_part(part.address, self.modules.bias(instance), place)?;
-        self.loaded_byte(instance, number, at)
+        match behind_part(part.address, self.bias(instance), place) {
+            Some(at) => self.loaded_byte(instance, number, at),
+            None => None,
+        }
     }
 
     /// The same of all parts of its image.
@@ -129,7 +155,7 @@ impl<'m> ThreadSpace<'m> {
     fn part_byte(&self, instance: &Instance, access: Access, place: u64) -> Option<u8>
         ensures { result ≡ byte_in access ((job_loads self.now.vector.images).fixed instance.now) place }
     {
-        match self.modules.image(instance.image) {
+        match self.image_of(instance) {
             Some(image) => self.byte_of_image(image, instance, access, place),
             None => None,
         }
@@ -149,25 +175,21 @@ impl<'m> ThreadSpace<'m> {
     }
 
     /// Whether a part of an instance is written, and has the 16 bytes from an address on.
-    fn part_has_words(
-        &self,
-        image: &Image,
-        instance: &Instance,
-        number: u64,
-        address: u64,
-    ) -> bool
+    fn part_has_words(&self, image: &Image, instance: &Instance, number: u64, address: u64) -> bool
         requires there { image_at self.now.vector.images instance.now.image ≡ Some image.now }
-        ensures { result ≡ part_has_words self.now.vector.images image.now instance.now number address
+        ensures found { result ≡ part_has_words self.now.vector.images image.now instance.now number address
             (slice_get image.now.parts number) }
+        ensures low { result ≡ true → address + 16 ≤ 2 ^ 64 }
     {
+        image_is_spelled(image);
         let Some(part) = image.part(number) else {
             return false;
         };
         if !is_written(part.class) {
             return false;
         }
-        match behind_part(part.address, self.modules.bias(instance), address) {
-            Some(at) => has_room(self.modules.part_size(instance, number), at),
+        match behind_part(part.address, self.bias(instance), address) {
+            Some(at) => has_room(self.part_size(instance, number), at),
             None => false,
         }
     }
@@ -175,8 +197,9 @@ impl<'m> ThreadSpace<'m> {
     /// The same of all parts of its image.
     fn image_has_words(&self, image: &Image, instance: &Instance, address: u64) -> bool
         requires there { image_at self.now.vector.images instance.now.image ≡ Some image.now }
-        ensures { result ≡ list_any (has_words address) (written_from image.now.parts
+        ensures found { result ≡ list_any (has_words address) (written_from image.now.parts
             (parts_from self.now.vector.images image.now instance.now 0 image.now.parts)) }
+        ensures low { result ≡ true → address + 16 ≤ 2 ^ 64 }
     {
         for number in 0..image.part_count() {
             if self.part_has_words(image, instance, number, address) {
@@ -188,9 +211,10 @@ impl<'m> ThreadSpace<'m> {
 
     /// Whether one of the written parts of an instance has the 16 bytes from an address on.
     pub(crate) fn has_words(&self, instance: &Instance, address: u64) -> bool
-        ensures { result ≡ list_any (has_words address) ((job_loads self.now.vector.images).tables instance.now) }
+        ensures found { result ≡ list_any (has_words address) ((job_loads self.now.vector.images).tables instance.now) }
+        ensures low { result ≡ true → address + 16 ≤ 2 ^ 64 }
     {
-        match self.modules.image(instance.image) {
+        match self.image_of(instance) {
             Some(image) => self.image_has_words(image, instance, address),
             None => false,
         }

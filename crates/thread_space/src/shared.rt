@@ -27,7 +27,9 @@ impl<'m> ThreadSpace<'m> {
         ensures read { result ≡ byte_in Read (data_ranges self.now.vector.images self.now.pieces instance.now) place }
         ensures written { result ≡ byte_in Write (data_ranges self.now.vector.images self.now.pieces instance.now) place }
     {
-        let at = self.behind_data(instance, place)?;
+        let Some(at) = self.behind_data(instance, place) else {
+            return None;
+        };
         self.data.byte(instance.image, instance.number, at)
     }
 

@@ -8,9 +8,9 @@ ghost use Rattle.thread_blocks.specs.Instances.{loaded_instance};
 ghost use Rattle.thread_space.specs.Kept.{live_in};
 ghost use Rattle.thread_space.specs.Steps.{HasData, HasFreshStack, IsNew, Looks, Reaches};
 ghost use Rattle.thread_vector.specs.Holding.{IsLeftBy};
-ghost use Rattle.std.specs.Vec.{vec_capacity};
+ghost use Rattle.std.specs.Vec.{vec_capacity, vec_len};
 
-use crate::words::{pointer_word, stack_of};
+use crate::words::{no_stack, pointer_word, stack_of};
 use guest_memory::GuestRange;
 use loaded_modules::{Instance, Modules};
 use module_data::Data;
@@ -52,9 +52,11 @@ impl<'m> Model for ThreadSpace<'m> {
 /// The live instances that a thread's vector has seen, in the order of their images. It takes no memory.
 fn list_live(dtv: &Dtv, room: Vec<Instance>) -> Vec<Instance>
     requires empty { room.items ≡ [] }
+    requires none { vec_len room ≡ 0 }
     requires enough { 65 ≤ vec_capacity room }
     ensures { result.items ≡ live_in dtv.now.images dtv.now.past }
 {
+    let _seen = dtv.seen();
     let mut live = room;
     for image in 0..NUMBERS {
         if let Some(instance) = dtv.instance(image) {
@@ -66,7 +68,7 @@ fn list_live(dtv: &Dtv, room: Vec<Instance>) -> Vec<Instance>
 
 impl<'m> ThreadSpace<'m> {
     /// The memory of a thread, from 1 to 64, of a job with these images, before any event. It has the blocks of the
-    /// images that start with the program, a fresh stack, and no data.
+    /// images that start with the program, a stack of no byte, and no data.
     pub fn new(
         alloc: Global,
         thread: u32,
@@ -78,14 +80,13 @@ impl<'m> ThreadSpace<'m> {
     {
         let dtv = Dtv::new(alloc, thread, modules)?;
         let live = list_live(&dtv, Vec::with_capacity(alloc, NUMBERS as usize)?);
-        let stack = stack_of(alloc, thread)?;
         let pointer = pointer_word(alloc, thread)?;
         Ok(ThreadSpace {
             alloc,
             modules,
             dtv,
             data: Data::none(alloc),
-            stack,
+            stack: no_stack(alloc, thread),
             pointer,
             live,
         })
@@ -93,9 +94,15 @@ impl<'m> ThreadSpace<'m> {
 
     /// The thread, from 1.
     pub fn thread(&self) -> u32
-        ensures { result ≡ self.now.vector.thread }
+        ensures value { result ≡ self.now.vector.thread }
+        ensures high { result ≤ 64 }
     {
         self.dtv.thread()
+    }
+
+    /// Where its memory comes from.
+    pub fn alloc(&self) -> Global {
+        self.alloc
     }
 
     /// How many events the thread has seen; what it has seen is always a history of the job's images.
@@ -106,8 +113,8 @@ impl<'m> ThreadSpace<'m> {
         self.dtv.seen()
     }
 
-    /// Looks: takes the events that follow those that the thread has seen. After a refusal nothing is known of what is
-    /// kept.
+    /// Looks: takes the events that follow those that the thread has seen. Where there is no memory for the list of live
+    /// instances, nothing has changed.
     pub fn look(&mut self, events: &[Event]) -> Result<(), AllocError>
         requires legal { is_legal self.old.vector.past events.now ≡ true }
         requires room { self.old.vector.past.seen + length events.now < 2 ^ 62 }

@@ -1,6 +1,6 @@
 //! A thread's stack, and the word at its thread pointer.
 
-ghost use Rattle.std.specs.Prelude.{◌≡◌, ◌≤◌, IfOk};
+ghost use Rattle.std.specs.Prelude.{◌≡◌, ◌≤◌, [], IfOk};
 ghost use Rattle.guest_arithmetic.specs.Plain.{plain_operations};
 ghost use Rattle.thread_blocks.specs.MachineTurns.{fresh_stack, pointer_of, pointer_word, stack_end, stack_start, word_bytes, zeros};
 ghost use Rattle.thread_blocks.specs.Spaces.{stack_range};
@@ -24,7 +24,7 @@ const VARIABLE: Rights = Rights {
 };
 
 /// The thread pointer of a thread, from 1.
-pub(crate) fn thread_pointer(thread: u32) -> u64
+pub fn thread_pointer(thread: u32) -> u64
     requires { thread ≤ 64 }
     ensures { result ≡ pointer_of thread }
 {
@@ -32,7 +32,7 @@ pub(crate) fn thread_pointer(thread: u32) -> u64
 }
 
 /// Where a thread's stack ends.
-fn end_of_stack(thread: u32) -> u64
+pub fn end_of_stack(thread: u32) -> u64
     requires { thread ≤ 64 }
     ensures { result ≡ stack_end thread }
 {
@@ -55,6 +55,14 @@ fn bytes_of(alloc: Global, number: u64) -> Result<Vec<u8>, AllocError>
     ensures { IfOk result (λ bytes. bytes.items ≡ word_bytes plain_operations number) }
 {
     Vec::from_slice(alloc, &number.to_le_bytes())
+}
+
+/// A stack of no byte, at the place of a thread's stack.
+pub(crate) fn no_stack(alloc: Global, thread: u32) -> GuestRange<u8>
+    requires { thread ≤ 64 }
+    ensures { result ≡ stack_range (stack_start thread) [] }
+{
+    GuestRange::new(end_of_stack(thread) - STACK_SIZE, Vec::new(alloc), VARIABLE)
 }
 
 /// The stack before a call: zeros, and in its last eight bytes the address to return to.

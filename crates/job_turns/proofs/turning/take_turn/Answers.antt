@@ -1,5 +1,5 @@
-use Rattle.std.proofs.Common.{arith}
-use Rattle.thread_space.specs.Standing.{ask_of}
+use Rattle.std.proofs.Common.{◌≡◌, ◌∙◌, sym, ap, arith}
+use Rattle.job_turns.specs.Standing.{ask_of}
 use Rattle.job_turns.proofs.CutTurns.{cut_answer, cut_legal, cut_length, cut_room, cut_turned, seen_within, seen_within_then}
 use Rattle.job_turns.proofs.turning.take_turn.Goals as goal
 
@@ -27,8 +27,8 @@ turn_with-requires-clause-legal c =
 pub turn_with-requires-clause-room : goal.turn_with-requires-clause-room
 turn_with-requires-clause-room c =
     let all = cut_room c.args.registry.now c.args.pieces.now c.args.runner c.requires.can c.seen-seen.result
-    c.seen-seen.ensures.value c.thread.result c.asks.result c.answer.new.registry c.in_ok-answer.ensures.adds
-    c.since-known.result.now c.since.result.now c.since-known.ensures.value c.since.ensures.value in
+        c.seen-seen.ensures.value c.thread.result c.asks.result c.answer.new.registry c.in_ok-answer.ensures.adds
+        c.since-known.result.now c.since.result.now c.since-known.ensures.value c.since.ensures.value in
     omega (arith, all, c.len.ensures.value, c.if-len-ge-MOST_EVENTS.false)
 
 pub turn_with-requires-clause-answer : goal.turn_with-requires-clause-answer

@@ -1,6 +1,6 @@
 use Rattle.std.proofs.Common.{◌≡◌, ◌+◌, ℕ, length, Some}
 use Rattle.std.specs.Prelude.{slice_get}
-use Rattle.thread_space.specs.Standing.{IsFirstRun, Run}
+use Rattle.job_turns.specs.Standing.{IsFirstRun, Run}
 use Rattle.job_turns.proofs.threads.Threads.new.Given as goal
 
 -- the threads so far

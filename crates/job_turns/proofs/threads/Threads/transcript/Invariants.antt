@@ -1,5 +1,5 @@
 use Rattle.std.proofs.Common.{◌≡◌, map, take, []}
-use Rattle.thread_space.specs.Standing.{Run}
+use Rattle.job_turns.specs.Standing.{Run}
 use Rattle.job_turns.proofs.threads.Threads.transcript.Given as goal
 
 -- the threads so far, and no event

@@ -1,0 +1,111 @@
+//! The functions and variables of a job's images, by name.
+
+ghost use Rattle.std.specs.Prelude.{◌≡◌, ◌<◌, ◌^◌, IfOk, IfSome, option_map};
+ghost use Rattle.image_names.specs.Functions.{entry_in};
+ghost use Rattle.loaded_modules.specs.Images.{image_at};
+ghost use Rattle.loaded_modules.specs.Loader.{bias_of};
+ghost use Rattle.thread_blocks.specs.JobLoads.{job_loads};
+
+use image_file::image_is_spelled;
+use image_names::ImageNames;
+use loaded_modules::{Instance, Modules};
+use std::alloc::{AllocError, Global};
+use std::marker::Model;
+
+/// The functions and variables of a job's images, by name. Contracts see the images.
+#[derive(Drop)]
+pub struct JobNames<'m> {
+    modules: &'m Modules,
+    names: Vec<ImageNames<'m>>,
+}
+
+impl<'m> Model for JobNames<'m> {
+    ghost use Rattle.std.specs.Prelude.{◌≡◌};
+    ghost use Rattle.loaded_modules.specs.Images.{JobImages};
+
+    ghost Value = { JobImages };
+
+    ghost view = { λ names. names.modules.now };
+
+    ghost invariant = { λ names. names.names.items ≡ names.modules.now.images };
+}
+
+/// Where the function of a name begins, before the image is moved.
+fn entry_place(names: &ImageNames, name: &[u8]) -> Option<u64>
+    ensures value { result ≡ entry_in names.now name.now }
+    ensures low { IfSome result (λ place. place < 2 ^ 32) }
+{
+    image_is_spelled(names.image());
+    let place = names.function(name)?;
+    Some(place)
+}
+
+/// How far the image of an instance is moved: less than 2^59 bytes.
+#[tactic(auto, using(crate::proofs::Entries::bias_low))]
+fn bias_of(modules: &Modules, instance: &Instance) -> u64
+    ensures value { result ≡ bias_of modules.now instance.now }
+    ensures low { result < 2 ^ 59 }
+{
+    let _number = instance.number;
+    modules.bias(instance)
+}
+
+/// The names of all images, in their order.
+fn names_of<'m>(alloc: Global, modules: &'m Modules) -> Result<Vec<ImageNames<'m>>, AllocError>
+    ensures { IfOk result (λ names. names.items ≡ modules.now.images) }
+{
+    let mut names = Vec::new(alloc);
+    for index in 0..modules.image_count() {
+        if let Some(image) = modules.image(index + 1) {
+            names.push(ImageNames::new(alloc, image)?)?;
+        }
+    }
+    Ok(names)
+}
+
+impl<'m> JobNames<'m> {
+    /// Hashes the names of a job's images. The only error is want of memory.
+    pub fn new(alloc: Global, modules: &'m Modules) -> Result<JobNames<'m>, AllocError>
+        ensures { IfOk result (λ names. names ≡ modules.now) }
+    {
+        let names = names_of(alloc, modules)?;
+        Ok(JobNames { modules, names })
+    }
+
+    /// The images.
+    pub fn modules(&self) -> &'m Modules
+        ensures { result.now ≡ self.now }
+    {
+        self.modules
+    }
+
+    /// The names of an image, by its number from 1.
+    fn of_image(&self, number: u32) -> Option<&ImageNames<'m>>
+        ensures { option_map (λ names. names.now) result ≡ image_at self.now number }
+    {
+        if number == 0 {
+            return None;
+        }
+        self.names.as_slice().get(number as usize - 1)
+    }
+
+    /// Where the function of a name begins in an instance, if it has one that can be called.
+    #[tactic(auto, unfolding(loaded_modules::specs::Loader::bias_of, thread_blocks::specs::JobLoads::job_loads))]
+    pub fn function(&self, instance: &Instance, name: &[u8]) -> Option<u64>
+        ensures { result ≡ (job_loads self.now).function instance.now name.now }
+    {
+        let names = self.of_image(instance.image)?;
+        let place = entry_place(names, name)?;
+        Some(place + bias_of(self.modules, instance))
+    }
+
+    /// The offset of the variable of a name in the blocks of an image, if it has one.
+    #[tactic(auto, unfolding(thread_blocks::specs::JobLoads::job_loads))]
+    pub fn variable(&self, image: u32, name: &[u8]) -> Option<u64>
+        ensures { result ≡ (job_loads self.now).variable image name.now }
+    {
+        let names = self.of_image(image)?;
+        let variable = names.variable(name)?;
+        Some(variable.offset)
+    }
+}
