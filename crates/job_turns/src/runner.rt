@@ -268,10 +268,10 @@ impl<'m> Runner<'m> {
         requires going { IsGoing (ask_of self) }
         requires legal { is_legal self.kept.vector.past events.now ≡ true }
         requires room { self.kept.vector.past.seen + length events.now + 1 < 2 ^ 62 }
-        requires data { length data.old ≡ length self.kept.vector.images.images + 1 }
+        requires pieces { length data.old ≡ length self.kept.vector.images.images + 1 }
         requires answer { answer ≡ answer_to (after self.kept.vector.past events.now) (ask_of self) }
         ensures taken { IfOk result (λ r. TakesTurn self.entry events.now data.old r data.new) }
-        ensures data { OnOk result (length data.new ≡ length data.old) }
+        ensures pieces { OnOk result (length data.new ≡ length data.old) }
     {
         let Runner {
             alloc,

@@ -46,7 +46,7 @@ begin_line-requires-clause-pieces c =
     looked_pieces c.self.inside.space c.put_data.new.self c.look.new.self c.args.events.now c.args.data.now
     (record { vector = c.put_data.ensures.vector; data_is = c.put_data.ensures.data_is ∙ c.replace.ensures.value; stack = c.put_data.ensures.stack })
     c.in_ok-look.ensures.ok c.seen-seen.ensures.left c.self.invariant.startups
-    (subst (λ (r : Run). length c.args.data.now ≡ length r.kept.vector.images.images + 1) (sym c.self.view_is) c.requires.data)
+    (subst (λ (r : Run). length c.args.data.now ≡ length r.kept.vector.images.images + 1) (sym c.self.view_is) c.requires.pieces)
 
 pub begin_line-requires-clause-answer : goal.begin_line-requires-clause-answer
 begin_line-requires-clause-answer c =
