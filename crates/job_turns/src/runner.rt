@@ -151,7 +151,7 @@ fn begin_line<'m>(
     said: Vec<Line>,
     line: &ThreadLine,
     answer: Option<LineAnswer>,
-    data: &mut Data,
+    pieces: &mut Data,
 ) -> Result<Runner<'m>, AllocError>
     requires names { script.names.now ≡ space.vector.images }
     requires startups { HasStartups space.vector }
@@ -161,13 +161,13 @@ fn begin_line<'m>(
     requires room { space.vector.past.seen + 1 < 2 ^ 62 }
     requires pieces { length space.pieces ≡ length space.vector.images.images + 1 }
     requires answer { answer ≡ answer_to space.vector.past (ask_by (begun + 1) line.now.image line.now.action) }
-    ensures { IfOk result (λ r. BeginsLine script.entry.lines.now begun script.entry.fuel line.now space.entry said.items r data.new) }
+    ensures { IfOk result (λ r. BeginsLine script.entry.lines.now begun script.entry.fuel line.now space.entry said.items r pieces.new) }
 {
     let point = space.seen();
     let points = vec![in script.alloc; point]?;
     let number = begun as u32 + 1;
     let taken = take_begin(&mut space, script.names, number, line, answer, script.fuel)?;
-    *data = space.take_data();
+    *pieces = space.take_data();
     ended(script, begun + 1, space, said, points, taken)
 }
 
@@ -178,7 +178,7 @@ fn resume_line<'m>(
     mut space: ThreadSpace<'m>,
     said: Vec<Line>,
     call: Pending,
-    data: &mut Data,
+    pieces: &mut Data,
 ) -> Result<Runner<'m>, AllocError>
     requires names { script.names.now ≡ space.vector.images }
     requires startups { HasStartups space.vector }
@@ -186,7 +186,7 @@ fn resume_line<'m>(
     requires lines { length script.lines.now < 2 ^ 31 }
     requires begun { begun ≤ length script.lines.now }
     requires steps { call.machine.taken < 4 * script.fuel }
-    ensures { IfOk result (λ r. ResumesLine script.entry.lines.now begun script.entry.fuel space.entry said.items call r data.new) }
+    ensures { IfOk result (λ r. ResumesLine script.entry.lines.now begun script.entry.fuel space.entry said.items call r pieces.new) }
 {
     let Pending {
         machine,
@@ -195,7 +195,7 @@ fn resume_line<'m>(
     } = call;
     points.push(space.seen())?;
     let taken = take_resume(&mut space, machine, asked, script.fuel)?;
-    *data = space.take_data();
+    *pieces = space.take_data();
     ended(script, begun, space, said, points, taken)
 }
 
@@ -263,15 +263,15 @@ impl<'m> Runner<'m> {
         self,
         events: &[Event],
         answer: Option<LineAnswer>,
-        data: &mut Data,
+        pieces: &mut Data,
     ) -> Result<Runner<'m>, AllocError>
         requires going { IsGoing (ask_of self) }
         requires legal { is_legal self.kept.vector.past events.now ≡ true }
         requires room { self.kept.vector.past.seen + length events.now + 1 < 2 ^ 62 }
-        requires pieces { length data.old ≡ length self.kept.vector.images.images + 1 }
+        requires pieces { length pieces.old ≡ length self.kept.vector.images.images + 1 }
         requires answer { answer ≡ answer_to (after self.kept.vector.past events.now) (ask_of self) }
-        ensures taken { IfOk result (λ r. TakesTurn self.entry events.now data.old r data.new) }
-        ensures pieces { OnOk result (length data.new ≡ length data.old) }
+        ensures taken { IfOk result (λ r. TakesTurn self.entry events.now pieces.old r pieces.new) }
+        ensures pieces { OnOk result (length pieces.new ≡ length pieces.old) }
     {
         let Runner {
             alloc,
@@ -289,12 +289,12 @@ impl<'m> Runner<'m> {
             lines,
             fuel,
         };
-        space.put_data(mem::replace(data, Data::none(alloc)));
+        space.put_data(mem::replace(pieces, Data::none(alloc)));
         space.look(events)?;
         let _seen = space.seen();
         match call {
-            Some(call) => resume_line(script, begun, space, said, call, data),
-            None => begin_line(script, begun, space, said, &lines[begun], answer, data),
+            Some(call) => resume_line(script, begun, space, said, call, pieces),
+            None => begin_line(script, begun, space, said, &lines[begun], answer, pieces),
         }
     }
 

@@ -12,7 +12,7 @@ use Rattle.job_turns.proofs.runner.Runner.turn_with.Goals as goal
 
 pub resume_line-requires-clause-startups : goal.resume_line-requires-clause-startups
 resume_line-requires-clause-startups c =
-    looked_startups c.self.inside.space c.put_data.new.self c.look.new.self c.args.events.now c.args.data.now
+    looked_startups c.self.inside.space c.put_data.new.self c.look.new.self c.args.events.now c.args.pieces.now
     (record { vector = c.put_data.ensures.vector; data_is = c.put_data.ensures.data_is ∙ c.replace.ensures.value; stack = c.put_data.ensures.stack })
     c.in_ok-look.ensures.ok c.seen-seen.ensures.left c.self.invariant.startups
 
@@ -24,7 +24,7 @@ bounds-lines-begun c =
 
 pub begin_line-requires-clause-startups : goal.begin_line-requires-clause-startups
 begin_line-requires-clause-startups c =
-    looked_startups c.self.inside.space c.put_data.new.self c.look.new.self c.args.events.now c.args.data.now
+    looked_startups c.self.inside.space c.put_data.new.self c.look.new.self c.args.events.now c.args.pieces.now
     (record { vector = c.put_data.ensures.vector; data_is = c.put_data.ensures.data_is ∙ c.replace.ensures.value; stack = c.put_data.ensures.stack })
     c.in_ok-look.ensures.ok c.seen-seen.ensures.left c.self.invariant.startups
 
@@ -36,17 +36,17 @@ begin_line-requires-clause-begun c =
 
 pub begin_line-requires-clause-room : goal.begin_line-requires-clause-room
 begin_line-requires-clause-room c =
-    looked_room c.self.inside.space c.put_data.new.self c.look.new.self c.args.events.now c.args.data.now
+    looked_room c.self.inside.space c.put_data.new.self c.look.new.self c.args.events.now c.args.pieces.now
     (record { vector = c.put_data.ensures.vector; data_is = c.put_data.ensures.data_is ∙ c.replace.ensures.value; stack = c.put_data.ensures.stack })
     c.in_ok-look.ensures.ok c.seen-seen.ensures.left c.self.invariant.startups 4611686018427387904
     (subst (λ (r : Run). r.kept.vector.past.seen + length c.args.events.now + 1 < 4611686018427387904) (sym c.self.view_is) c.requires.room)
 
 pub begin_line-requires-clause-pieces : goal.begin_line-requires-clause-pieces
 begin_line-requires-clause-pieces c =
-    looked_pieces c.self.inside.space c.put_data.new.self c.look.new.self c.args.events.now c.args.data.now
+    looked_pieces c.self.inside.space c.put_data.new.self c.look.new.self c.args.events.now c.args.pieces.now
     (record { vector = c.put_data.ensures.vector; data_is = c.put_data.ensures.data_is ∙ c.replace.ensures.value; stack = c.put_data.ensures.stack })
     c.in_ok-look.ensures.ok c.seen-seen.ensures.left c.self.invariant.startups
-    (subst (λ (r : Run). length c.args.data.now ≡ length r.kept.vector.images.images + 1) (sym c.self.view_is) c.requires.pieces)
+    (subst (λ (r : Run). length c.args.pieces.now ≡ length r.kept.vector.images.images + 1) (sym c.self.view_is) c.requires.pieces)
 
 pub begin_line-requires-clause-answer : goal.begin_line-requires-clause-answer
 begin_line-requires-clause-answer c =
@@ -54,7 +54,7 @@ begin_line-requires-clause-answer c =
         going_within (c.self.inside.begun + 1) c.self.inside.begun c.self.inside.lines.now
         (subst (λ (call : Option Waiting). IsGoing (ask_now c.self.inside.begun c.self.inside.lines.now call)) c.in-None.is
         (subst (λ (r : Run). IsGoing (ask_of r)) (sym c.self.view_is) c.requires.going)) in
-    looked_answer c.self.inside.space c.put_data.new.self c.look.new.self c.args.events.now c.args.data.now
+    looked_answer c.self.inside.space c.put_data.new.self c.look.new.self c.args.events.now c.args.pieces.now
     (record { vector = c.put_data.ensures.vector; data_is = c.put_data.ensures.data_is ∙ c.replace.ensures.value; stack = c.put_data.ensures.stack })
     c.in_ok-look.ensures.ok c.seen-seen.ensures.left c.self.invariant.startups c.args.answer (c.self.inside.begun + 1) c.index-lines-begun.result
     (slice_get c.self.inside.lines.now c.self.inside.begun)
@@ -74,11 +74,11 @@ returns-in-Some-clause-taken c =
     } in
     let whole : run_with (Some c.in-Some.call) ≡ c.args.self = ap run_with (sym c.in-Some.is) ∙ c.self.view_is in
     IfOk-weaker c.resume_line.result _ _
-    (λ r is. subst (λ (old : Run). TakesTurn old c.args.events.now c.args.data.now r c.resume_line.new.data) whole
-    (resumes_line c.self.inside.space c.put_data.new.self c.look.new.self c.args.events.now c.args.data.now
+    (λ r is. subst (λ (old : Run). TakesTurn old c.args.events.now c.args.pieces.now r c.resume_line.new.pieces) whole
+    (resumes_line c.self.inside.space c.put_data.new.self c.look.new.self c.args.events.now c.args.pieces.now
     (record { vector = c.put_data.ensures.vector; data_is = c.put_data.ensures.data_is ∙ c.replace.ensures.value; stack = c.put_data.ensures.stack })
     c.in_ok-look.ensures.ok c.seen-seen.ensures.left c.self.invariant.startups c.self.inside.lines.now c.self.inside.begun c.self.inside.fuel
-    c.self.inside.said.items c.in-Some.call r c.resume_line.new.data is))
+    c.self.inside.said.items c.in-Some.call r c.resume_line.new.pieces is))
     c.resume_line.ensures
 
 pub returns-in-None-clause-taken : goal.returns-in-None-clause-taken
@@ -97,8 +97,8 @@ returns-in-None-clause-taken c =
         (subst (λ (call : Option Waiting). IsGoing (ask_now c.self.inside.begun c.self.inside.lines.now call)) c.in-None.is
         (subst (λ (r : Run). IsGoing (ask_of r)) (sym c.self.view_is) c.requires.going)) in
     IfOk-weaker c.begin_line.result _ _
-    (λ r is. subst (λ (old : Run). TakesTurn old c.args.events.now c.args.data.now r c.begin_line.new.data) whole
-    (begins_line c.self.inside.space c.put_data.new.self c.look.new.self c.args.events.now c.args.data.now
+    (λ r is. subst (λ (old : Run). TakesTurn old c.args.events.now c.args.pieces.now r c.begin_line.new.pieces) whole
+    (begins_line c.self.inside.space c.put_data.new.self c.look.new.self c.args.events.now c.args.pieces.now
     (record { vector = c.put_data.ensures.vector; data_is = c.put_data.ensures.data_is ∙ c.replace.ensures.value; stack = c.put_data.ensures.stack })
     c.in_ok-look.ensures.ok c.seen-seen.ensures.left c.self.invariant.startups c.self.inside.lines.now c.self.inside.begun c.self.inside.fuel
     c.self.inside.said.items c.index-lines-begun.result r c.begin_line.new.data
