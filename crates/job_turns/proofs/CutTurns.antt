@@ -79,7 +79,7 @@ module _ (h : History) (d : List Piece) (r : Run) (can : CanTurn h d r) (at : �
       unfolding past
       cut_legal legal =
           let whole : is_legal (start (infos r.kept.vector.images) (last_offset r.kept.vector.images)) (can.front ++ can.rest) ≡ true =
-              rw (← can.infos_are, ← can.last_is, ← can.events_are) legal.each in
+          rw (← can.infos_are, ← can.last_is, ← can.events_are) legal.each in
           let parts = and_parts _ _ (sym (is_legal-append (start (infos r.kept.vector.images) (last_offset r.kept.vector.images)) can.front can.rest) ∙ whole) in
           rw (cut_is, ← can.has_seen) parts.1
 

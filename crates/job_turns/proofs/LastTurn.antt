@@ -127,7 +127,7 @@ module _ (m : JobImages) (images : List Image) (are : m.kinds ≡ map (λ image.
       → All (λ event. IsImageNumber images event.image) events
   named_images events legal k d less =
       let each = images_within (length (infos m)) (start (infos m) (last_offset m)) events
-          (past_start (infos m) (last_offset m) legal.images legal.low) first-length legal.each k d less in
+      (past_start (infos m) (last_offset m) legal.images legal.low) first-length legal.each k d less in
       (each.0, omega (arith, each.1, few_images))
 
 -- ---- all of it

@@ -76,15 +76,17 @@ module _ (m : JobImages) (fuel : ℕ) (w : Shared ℕ Bool ℕ Line) (x : Progre
           ≡ record { threads = slice_set w.threads k (without_data (with_data shared_now t)); events = w.events; shared = shared_now }
       done_world =
           let turns = thread_turns (job_loads m) (suc k) fuel in
-          rw (stands.shared_is,
-              done_turn r t runner.stands done turns w.events m left_now x.pieces,
-              done_adds_none r t runner.stands done turns w.events m left_now x.pieces (event_by (job_loads m) (suc k)),
-              done_shared r t runner.stands done turns w.events m left_now x.pieces) refl
+          rw (
+            stands.shared_is,
+            done_turn r t runner.stands done turns w.events m left_now x.pieces,
+            done_adds_none r t runner.stands done turns w.events m left_now x.pieces (event_by (job_loads m) (suc k)),
+            done_shared r t runner.stands done turns w.events m left_now x.pieces,
+          ) refl
 
       done_stays : Stands m fuel (turned_by (suc k) (Some t)) x
       done_stays =
           let same : record { history = x.history; pieces = x.pieces; runs = slice_set x.runs k r } ≡ x =
-              ap (λ runs. record { history = x.history; pieces = x.pieces; runs = runs }) (set_same x.runs k r at_r) in
+          ap (λ runs. record { history = x.history; pieces = x.pieces; runs = runs }) (set_same x.runs k r at_r) in
           rw done_world
           (subst (λ y. Stands m fuel (record { threads = slice_set w.threads k (without_data (with_data shared_now t)); events = w.events; shared = shared_now }) y)
           same

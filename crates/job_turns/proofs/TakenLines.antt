@@ -137,7 +137,7 @@ says_begins fuel line k outcome new starts = record {
       let l = loads_in k in
       let now = with_event seen (event_by l k.vector.thread line seen) in
       let P : Begun Runs → Type 0 = λ b. TookAs (4 * fuel) new (Over outcome) (length seen ∷ []) now todo said seen
-          (after_look (thread_turns l k.vector.thread fuel) (4 * fuel) todo said seen (length seen ∷ []) b) in
+      (after_look (thread_turns l k.vector.thread fuel) (4 * fuel) todo said seen (length seen ∷ []) b) in
       (facts.0, subst P (sym facts.1) (over_at new now state asked (Answered outcome) outcome (length seen ∷ []) todo said seen refl));
 }
 
@@ -166,11 +166,12 @@ calls_begins fuel line k m k1 new taken starts runs = record {
       let l = loads_in k in
       let now = with_event seen (event_by l k.vector.thread line seen) in
       let P : Begun Runs → Type 0 = λ b. TookAs (4 * fuel) new taken (length seen ∷ []) now todo said seen
-          (after_look (thread_turns l k.vector.thread fuel) (4 * fuel) todo said seen (length seen ∷ []) b) in
-      (seen_on k1 new now facts.0 runs.keeps.images runs.past,
-      subst P (sym facts.1)
-      (calls_took fuel k k1 new m taken now seen asked (4 * fuel) (length seen ∷ []) todo said runs facts.0
-      (none_taken (4 * fuel) m.taken starts.fresh) starts.keeps.images starts.keeps.thread));
+      (after_look (thread_turns l k.vector.thread fuel) (4 * fuel) todo said seen (length seen ∷ []) b) in (
+        seen_on k1 new now facts.0 runs.keeps.images runs.past,
+        subst P (sym facts.1)
+            (calls_took fuel k k1 new m taken now seen asked (4 * fuel) (length seen ∷ []) todo said runs facts.0
+            (none_taken (4 * fuel) m.taken starts.fresh) starts.keeps.images starts.keeps.thread),
+      );
 }
   where
     none_taken : (limit taken : ℕ) → taken ≡ 0 → limit ≡ limit - taken
@@ -188,11 +189,12 @@ goes_resumes fuel m asked k m' k1 new taken left resumes runs = record {
       let l = loads_in k in
       let has : HasSeen k1.vector seen = seen_on k k1 seen has_seen resumes.same.images resumes.same.past in
       let P : Begun Runs → Type 0 = λ b. TookAs (4 * fuel) new taken points seen todo said seen
-          (after_look (thread_turns l k.vector.thread fuel) (4 * fuel - m.taken - 1) todo said seen points b) in
-      (seen_on k1 new seen has runs.keeps.images runs.past,
-      subst P (sym (resumes.resumes seen has_seen))
-      (calls_took fuel k k1 new m' taken seen seen None (4 * fuel - m.taken - 1) points todo said runs has
-      (one_more (4 * fuel) m.taken m'.taken resumes.takes) resumes.same.images resumes.same.thread));
+      (after_look (thread_turns l k.vector.thread fuel) (4 * fuel - m.taken - 1) todo said seen points b) in (
+        seen_on k1 new seen has runs.keeps.images runs.past,
+        subst P (sym (resumes.resumes seen has_seen))
+            (calls_took fuel k k1 new m' taken seen seen None (4 * fuel - m.taken - 1) points todo said runs has
+            (one_more (4 * fuel) m.taken m'.taken resumes.takes) resumes.same.images resumes.same.thread),
+      );
 }
   where
     one_more : (limit taken taken' : ℕ) → taken' ≡ taken + 1 → limit - taken - 1 ≡ limit - taken'
@@ -208,7 +210,8 @@ ends_resumes fuel m asked k result m' new ending outcome is resumes says = recor
   resumes = λ seen points todo said has_seen.
       let l = loads_in k in
       let P : Begun Runs → Type 0 = λ b. TookAs (4 * fuel) new (Over outcome) points seen todo said seen
-          (after_look (thread_turns l k.vector.thread fuel) (4 * fuel - m.taken - 1) todo said seen points b) in
-      (seen_on k new seen has_seen resumes.same.images resumes.same.past,
-      subst P (sym (resumes.resumes seen has_seen ∙ says seen)) (over_at new seen m'.state None ending outcome points todo said seen is));
+      (after_look (thread_turns l k.vector.thread fuel) (4 * fuel - m.taken - 1) todo said seen points b) in (
+        seen_on k new seen has_seen resumes.same.images resumes.same.past,
+        subst P (sym (resumes.resumes seen has_seen ∙ says seen)) (over_at new seen m'.state None ending outcome points todo said seen is),
+      );
 }

@@ -43,8 +43,8 @@ module _ (lines : List ThreadLine) (fuel : ℕ) (said : List Printed) (k k1 k2 :
       let now = with_event seen (event_by (loads_in k1) k1.vector.thread line seen) in
       let facts = begins.begins seen h.after.state h.asked rest before has_seen in
       let P : Runs → Type 0 = λ held. StandsAfter (run_after lines begun fuel said (length seen ∷ []) taken (emptied k2)) k2.pieces now
-          (after_look (thread_turns (loads_in k1) k1.vector.thread fuel) (4 * fuel) rest before seen (length seen ∷ [])
-          (begun_by plain_operations (loads_in k1) (shows (loads_in k1) k1.vector.thread) k1.vector.thread line seen held line.told.action)) in
+      (after_look (thread_turns (loads_in k1) k1.vector.thread fuel) (4 * fuel) rest before seen (length seen ∷ [])
+      (begun_by plain_operations (loads_in k1) (shows (loads_in k1) k1.vector.thread) k1.vector.thread line seen held line.told.action)) in
       subst P (sym (idle_looks h idle))
       (took_stands lines begun fuel said taken k2 (length seen ∷ []) now rest before seen _ facts.1 facts.0 left same)
 
@@ -58,8 +58,8 @@ module _ (lines : List ThreadLine) (fuel : ℕ) (said : List Printed) (k k1 k2 :
   begins_turn begun line todo (Idle h) before old begins is idle same =
       let first : Line = record { number = begun + 1; told = line } in
       let P : List Line → Type 0 = λ ys. StandsAfter (run_after lines (begun + 1) fuel said (length seen ∷ []) taken (emptied k2)) k2.pieces
-          (with_event seen (option_and_then (λ x. event_by (loads_in k1) k1.vector.thread x seen) (next_line ys (Idle h))))
-          (turn_at (thread_turns (loads_in k1) k1.vector.thread fuel) ys (Idle (in_hands h)) before old seen) in
+      (with_event seen (option_and_then (λ x. event_by (loads_in k1) k1.vector.thread x seen) (next_line ys (Idle h))))
+      (turn_at (thread_turns (loads_in k1) k1.vector.thread fuel) ys (Idle (in_hands h)) before old seen) in
       subst P (sym is) (begun_turn (begun + 1) first _ before old h begins idle refl same)
   begins_turn begun line todo (Mid steps points h) before old begins is idle same = absurd idle
 
@@ -78,7 +78,7 @@ module _ (lines : List ThreadLine) (fuel : ℕ) (said : List Printed) (k k1 k2 :
       ≡ held_at seen c.machine.state None k1
   mid_looks c steps points h mid =
       let P : Runs → Type 0 = λ x. looked (loads_in k1) k1.vector.thread seen (record (in_hands x) { asked = None })
-          ≡ held_at seen c.machine.state None k1 in
+      ≡ held_at seen c.machine.state None k1 in
       subst P (sym mid.holds) (waits_looks h.after.memory.seen c)
 
   -- such a turn adds no event

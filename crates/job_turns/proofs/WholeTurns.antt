@@ -130,8 +130,8 @@ module _ (k put k1 : Kept) (events : List Event) (d : List Piece) (given : HasDa
       (with_data (shared_of k.vector.images (after k.vector.past events) d) t) seen)
   as_before r d' fuel seen t stands =
       let P : JobImages → ℕ → Past → Type 0 = λ m thread p.
-          StandsAfter r d' (with_event seen (event_of (event_by (job_loads m) thread) t seen))
-          (turn (thread_turns (job_loads m) thread fuel) (with_data (shared_of m p d) t) seen) in
+      StandsAfter r d' (with_event seen (event_of (event_by (job_loads m) thread) t seen))
+      (turn (thread_turns (job_loads m) thread fuel) (with_data (shared_of m p d) t) seen) in
       subst (λ m. P m k.vector.thread (after k.vector.past events)) images_is
       (subst (λ thread. P k1.vector.images thread (after k.vector.past events)) thread_is
       (subst (λ p. P k1.vector.images k1.vector.thread p) past_is stands))
@@ -160,8 +160,8 @@ module _ (k put k1 : Kept) (events : List Event) (d : List Piece) (given : HasDa
     begins_stands line r d' there is t seen stands has_seen =
         let l = job_loads k1.vector.images in
         let P : Run → List Piece → Type 0 = λ x pieces.
-            StandsAfter x pieces (with_event seen (event_of (event_by l k1.vector.thread) t seen))
-            (turn (thread_turns l k1.vector.thread fuel) (with_data (shared_of k1.vector.images k1.vector.past d) t) seen) in
+        StandsAfter x pieces (with_event seen (event_of (event_by l k1.vector.thread) t seen))
+        (turn (thread_turns l k1.vector.thread fuel) (with_data (shared_of k1.vector.images k1.vector.past d) t) seen) in
         subst (λ x. P x d') (sym is.is)
         (subst (λ pieces. P (run_after lines (begun + 1) fuel said (k1.vector.past.seen ∷ []) is.taken (emptied is.new)) pieces) (sym is.pieces)
         (subst (λ point. P (run_after lines (begun + 1) fuel said (point ∷ []) is.taken (emptied is.new)) is.new.pieces) (sym (point_is seen has_seen))
@@ -185,8 +185,8 @@ module _ (k put k1 : Kept) (events : List Event) (d : List Piece) (given : HasDa
     resumes_stands c r d' is t seen stands has_seen =
         let l = job_loads k1.vector.images in
         let P : Run → List Piece → Type 0 = λ x pieces.
-            StandsAfter x pieces (with_event seen (event_of (event_by l k1.vector.thread) t seen))
-            (turn (thread_turns l k1.vector.thread fuel) (with_data (shared_of k1.vector.images k1.vector.past d) t) seen) in
+        StandsAfter x pieces (with_event seen (event_of (event_by l k1.vector.thread) t seen))
+        (turn (thread_turns l k1.vector.thread fuel) (with_data (shared_of k1.vector.images k1.vector.past d) t) seen) in
         subst (λ x. P x d') (sym is.is)
         (subst (λ pieces. P (run_after lines begun fuel said (with_last c.points k1.vector.past.seen) is.taken (emptied is.new)) pieces) (sym is.pieces)
         (subst (λ point. P (run_after lines begun fuel said (with_last c.points point) is.taken (emptied is.new)) is.new.pieces) (sym (point_is seen has_seen))

@@ -100,10 +100,10 @@ pub record TakesTurn (old : Run) (events : List Event) (d : List Piece) (new : R
       → past (infos old.kept.vector.images) (last_offset old.kept.vector.images) seen
       ≡ after old.kept.vector.past events
       → let l = job_loads old.kept.vector.images in
-        let thread = old.kept.vector.thread in
-        StandsAfter new d' (with_event seen (event_of (event_by l thread) t seen))
-        (turn (thread_turns l thread old.fuel)
-        (with_data (shared_of old.kept.vector.images (after old.kept.vector.past events) d) t) seen)
+      let thread = old.kept.vector.thread in
+      StandsAfter new d' (with_event seen (event_of (event_by l thread) t seen))
+      (turn (thread_turns l thread old.fuel)
+      (with_data (shared_of old.kept.vector.images (after old.kept.vector.past events) d) t) seen)
 
 -- ---- a runner before its first turn
 

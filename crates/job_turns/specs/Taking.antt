@@ -80,11 +80,11 @@ pub record BeginsTo (fuel : ℕ) (line : Line) (k : Kept) (result : Taken) (new 
   pub begins : (seen : List Event) (state : State ℕ Bool) (asked : Option Asked) (todo : List Line) (said : List Said)
       → HasSeen k.vector seen
       → let l = loads_in k in
-        let now = with_event seen (event_by l k.vector.thread line seen) in
-        HasSeen new.vector now
-        × TookAs (4 * fuel) new result (length seen ∷ []) now todo said seen
-        (after_look (thread_turns l k.vector.thread fuel) (4 * fuel) todo said seen (length seen ∷ [])
-        (begun_by plain_operations l (shows l k.vector.thread) k.vector.thread line seen (held_at seen state asked k) line.told.action))
+      let now = with_event seen (event_by l k.vector.thread line seen) in
+      HasSeen new.vector now
+      × TookAs (4 * fuel) new result (length seen ∷ []) now todo said seen
+      (after_look (thread_turns l k.vector.thread fuel) (4 * fuel) todo said seen (length seen ∷ [])
+      (begun_by plain_operations l (shows l k.vector.thread) k.vector.thread line seen (held_at seen state asked k) line.told.action))
 
 -- a call that waited goes on, which looked already
 pub record ResumesTo (fuel : ℕ) (m : Standing ℕ Bool) (asked : Asked) (k : Kept) (result : Taken) (new : Kept) : Type 0 where
@@ -93,10 +93,10 @@ pub record ResumesTo (fuel : ℕ) (m : Standing ℕ Bool) (asked : Asked) (k : K
   pub resumes : (seen : List Event) (points : List ℕ) (todo : List Line) (said : List Said)
       → HasSeen k.vector seen
       → let l = loads_in k in
-        HasSeen new.vector seen
-        × TookAs (4 * fuel) new result points seen todo said seen
-        (after_look (thread_turns l k.vector.thread fuel) (4 * fuel - m.taken - 1) todo said seen points
-        (resumed_by l k.vector.thread seen (held_at seen m.state None k) (Some asked)))
+      HasSeen new.vector seen
+      × TookAs (4 * fuel) new result points seen todo said seen
+      (after_look (thread_turns l k.vector.thread fuel) (4 * fuel - m.taken - 1) todo said seen points
+      (resumed_by l k.vector.thread seen (held_at seen m.state None k) (Some asked)))
 
 -- ---- a runner once its turn is over
 

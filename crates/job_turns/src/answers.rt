@@ -6,9 +6,9 @@ ghost use Rattle.job_turns.specs.declared.asking.Ask.TheVariants.{Opens, Closes}
 ghost use Rattle.job_turns.specs.Asking.{answer_to};
 ghost use Rattle.job_turns.specs.Turning.{AddsAsked};
 
+use crate::asking::{Ask, LineAnswer};
 use module_table::{CloseRefusal, OpenRefusal, Registry};
 use std::alloc::AllocError;
-use crate::asking::{Ask, LineAnswer};
 
 /// The answer to an open. The only error is want of memory.
 #[tactic(auto, unfolding(module_table::specs::History::open_answer, module_table::specs::History::opened_of))]

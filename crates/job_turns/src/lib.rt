@@ -21,8 +21,16 @@
 //! [`run_job`] is that, and its clause says so: what it answers is the transcript of `job_world`, the definition of a job
 //! over the images that are loaded. The definition is a fold over the whole order: the threads that it has are lists of
 //! ranges and states of a machine, and each turn hands the threads' shared data from one to the next. The code keeps
-//! something else ([`thread_space`]): a runner for each thread with its vector of blocks, one registry for the history
+//! something else: a [`Runner`] for each thread, with its memory ([`thread_space`]), one registry for the history
 //! ([`module_table`]), and one copy of the data of all images ([`module_data`]).
+//!
+//! **A runner** has the lines of one thread. A turn of it ([`Runner::turn_with`]) is a look and what comes behind it
+//! (`taking`): the first look of a line (`lines`), or one in the middle of a call that asked for a block, and then the
+//! machine's run (`running`) up to the call's end or its next look. Where code calls `__tls_get_addr` or the function of a
+//! descriptor (psABI, "TLS Descriptors"), the machine stops, and the run time answers in one step: at once for a module
+//! that started with the program, and after a look for any other, since a module that is gone by then must not be found.
+//! The clause of a turn (`specs/Standing`, `TakesTurn`) speaks of every thread of the definitions that the runner stands
+//! for: the turn that the definitions take with it leaves a thread that the runner stands for again.
 //!
 //! Between two turns the code *stands for* the definition's threads (`specs/Progress`, `Stands`): the history and the data
 //! are the same, and each runner stands for its thread and has seen a front of the history. A turn of thread k keeps this:

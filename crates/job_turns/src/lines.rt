@@ -16,13 +16,13 @@ ghost use Rattle.job_turns.specs.Starting.{part_shown, shown_of};
 ghost use Rattle.thread_vector.specs.Vectors.{held};
 
 use crate::asking::LineAnswer;
-use thread_space::{JobNames, ThreadSpace, end_of_stack, thread_pointer};
 use guest_arithmetic::Plain;
 use guest_machine::Machine;
 use job_text::{Action, Name, ThreadLine};
 use loaded_modules::Instance;
 use module_table::{CloseRefusal, Closed, Event, OpenRefusal, Opened};
 use std::alloc::{AllocError, Global};
+use thread_space::{JobNames, ThreadSpace, end_of_stack, thread_pointer};
 use transcript_text::{Bytes, LineRefusal, Outcome};
 
 /// What the first look of a line comes to.

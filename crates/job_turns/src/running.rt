@@ -11,7 +11,6 @@ ghost use Rattle.thread_blocks.specs.RunTime.{answer_word};
 ghost use Rattle.thread_space.specs.Kept.{memory_of, shape_of};
 ghost use Rattle.job_turns.specs.Running.{AnswersLook, Resumes, RunsOn, RunsPart, asked_in, asked_words, word_in};
 
-use thread_space::{ThreadSpace, thread_pointer};
 use guest_arithmetic::Plain;
 use guest_machine::laws::plain_is_clean;
 use guest_machine::{DESCRIPTOR, GET_ADDRESS, Machine, Stop};
@@ -19,6 +18,7 @@ use guest_memory::Bytes;
 use loaded_modules::Instance;
 use std::alloc::AllocError;
 use thread_blocks::Asked;
+use thread_space::{ThreadSpace, thread_pointer};
 
 /// The numbers of the registers that hold the address of what is asked for.
 const RAX: u8 = 0;

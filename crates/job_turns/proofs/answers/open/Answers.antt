@@ -6,4 +6,3 @@ use Rattle.job_turns.proofs.answers.open.Goals as goal
 pub returns-in-Ok-clause-answer : goal.returns-in-Ok-clause-answer
 returns-in-Ok-clause-answer c =
     ap (λ answer. Some (Opened answer)) (sym (open_same c.args.registry.now c.args.image ∙ c.in-Ok.ensures.opened))
-

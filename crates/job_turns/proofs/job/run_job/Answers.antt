@@ -22,19 +22,19 @@ transcript-requires c =
     let some = first_some c.args.modules.now job first c.in_ok-threads.ensures.first in
     let as_many = same_count first then c.order.result.now some c.in_ok-take_order.ensures in
     let at_end = same_count then c.finish.new.self (finishing (4 * job.fuel) 1 job.lines)
-        (still_some first then c.order.result.now some c.in_ok-take_order.ensures) c.in_ok-finish.ensures in
+    (still_some first then c.order.result.now some c.in_ok-take_order.ensures) c.in_ok-finish.ensures in
     omega (arith, as_many, at_end, c.in_ok-threads.ensures.few)
 
 pub returns-clause-transcript : goal.returns-clause-transcript
 returns-clause-transcript c =
     let takes = subst (λ order. TakesTurns c.in_ok-threads.threads order c.take_order.new.self) c.order.ensures.value
-        c.in_ok-take_order.ensures in
+    c.in_ok-take_order.ensures in
     all_shown c.args.modules.now c.args.job.now c.in_ok-threads.threads c.take_order.new.self c.finish.new.self
     c.in_ok-threads.ensures.first takes c.in_ok-finish.ensures c.transcript.result c.transcript.ensures
 
 pub returns-clause-images : goal.returns-clause-images
 returns-clause-images c =
     let takes = subst (λ order. TakesTurns c.in_ok-threads.threads order c.take_order.new.self) c.order.ensures.value
-        c.in_ok-take_order.ensures in
+    c.in_ok-take_order.ensures in
     all_named c.args.modules.now c.args.job.now c.in_ok-threads.threads c.take_order.new.self c.finish.new.self
     c.in_ok-threads.ensures.first takes c.in_ok-finish.ensures c.transcript.result c.requires c.transcript.ensures

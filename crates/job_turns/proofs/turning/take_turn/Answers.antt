@@ -27,8 +27,8 @@ turn_with-requires-clause-legal c =
 pub turn_with-requires-clause-room : goal.turn_with-requires-clause-room
 turn_with-requires-clause-room c =
     let all = cut_room c.args.registry.now c.args.pieces.now c.args.runner c.requires.can c.seen-seen.result
-        c.seen-seen.ensures.value c.thread.result c.asks.result c.answer.new.registry c.in_ok-answer.ensures.adds
-        c.since-known.result.now c.since.result.now c.since-known.ensures.value c.since.ensures.value in
+    c.seen-seen.ensures.value c.thread.result c.asks.result c.answer.new.registry c.in_ok-answer.ensures.adds
+    c.since-known.result.now c.since.result.now c.since-known.ensures.value c.since.ensures.value in
     omega (arith, all, c.len.ensures.value, c.if-len-ge-MOST_EVENTS.false)
 
 pub turn_with-requires-clause-answer : goal.turn_with-requires-clause-answer

@@ -51,9 +51,9 @@ begin_line-requires-clause-pieces c =
 pub begin_line-requires-clause-answer : goal.begin_line-requires-clause-answer
 begin_line-requires-clause-answer c =
     let within : c.self.inside.begun < length c.self.inside.lines.now =
-        going_within (c.self.inside.begun + 1) c.self.inside.begun c.self.inside.lines.now
-        (subst (λ (call : Option Waiting). IsGoing (ask_now c.self.inside.begun c.self.inside.lines.now call)) c.in-None.is
-        (subst (λ (r : Run). IsGoing (ask_of r)) (sym c.self.view_is) c.requires.going)) in
+    going_within (c.self.inside.begun + 1) c.self.inside.begun c.self.inside.lines.now
+    (subst (λ (call : Option Waiting). IsGoing (ask_now c.self.inside.begun c.self.inside.lines.now call)) c.in-None.is
+    (subst (λ (r : Run). IsGoing (ask_of r)) (sym c.self.view_is) c.requires.going)) in
     looked_answer c.self.inside.space c.put_data.new.self c.look.new.self c.args.events.now c.args.pieces.now
     (record { vector = c.put_data.ensures.vector; data_is = c.put_data.ensures.data_is ∙ c.replace.ensures.value; stack = c.put_data.ensures.stack })
     c.in_ok-look.ensures.ok c.seen-seen.ensures.left c.self.invariant.startups c.args.answer (c.self.inside.begun + 1) c.index-lines-begun.result
@@ -93,9 +93,9 @@ returns-in-None-clause-taken c =
     } in
     let whole : run_with None ≡ c.args.self = ap run_with (sym c.in-None.is) ∙ c.self.view_is in
     let within : c.self.inside.begun < length c.self.inside.lines.now =
-        going_within (c.self.inside.begun + 1) c.self.inside.begun c.self.inside.lines.now
-        (subst (λ (call : Option Waiting). IsGoing (ask_now c.self.inside.begun c.self.inside.lines.now call)) c.in-None.is
-        (subst (λ (r : Run). IsGoing (ask_of r)) (sym c.self.view_is) c.requires.going)) in
+    going_within (c.self.inside.begun + 1) c.self.inside.begun c.self.inside.lines.now
+    (subst (λ (call : Option Waiting). IsGoing (ask_now c.self.inside.begun c.self.inside.lines.now call)) c.in-None.is
+    (subst (λ (r : Run). IsGoing (ask_of r)) (sym c.self.view_is) c.requires.going)) in
     IfOk-weaker c.begin_line.result _ _
     (λ r is. subst (λ (old : Run). TakesTurn old c.args.events.now c.args.pieces.now r c.begin_line.new.pieces) whole
     (begins_line c.self.inside.space c.put_data.new.self c.look.new.self c.args.events.now c.args.pieces.now

@@ -14,7 +14,7 @@ pub loop-thread-preserved : goal.loop-thread-preserved
 loop-thread-preserved c =
     let all = c.args.job.now.lines in
     let next = subst (λ fuel. TakesTurns c.loop-thread.self (replicate (enough (4 * fuel) (length c.lines.result.now)) c.loop-thread.thread)
-        c.finish_thread.new.self) c.fuel.ensures.value c.in_ok-finish_thread.ensures in
+    c.finish_thread.new.self) c.fuel.ensures.value c.in_ok-finish_thread.ensures in
     takes_thread c.args.self.now c.loop-thread.self c.finish_thread.new.self (4 * c.args.job.now.fuel) c.loop-thread.thread
     all c.lines.result.now c.loop-thread.auto.thread (omega (arith, c.threads-thread-end.ensures.value)) c.lines.ensures.value
     c.loop-thread.invariant next

@@ -30,9 +30,9 @@ returns c =
     let at = slice_get_read items (length items) k r refl (omega (arith, there.1, long)) c.remove-runner.ensures.value in
     let at_now = subst (λ (y : Progress). slice_get y.runs k ≡ Some r) c.self.view_is at in
     let turned = subst (λ (y : Progress). Turned y.history y.pieces r c.take_turn.new.registry c.take_turn.new.pieces c.in_ok-after.after)
-        c.self.view_is c.in_ok-after.ensures in
+    c.self.view_is c.in_ok-after.ensures in
     let put = c.in_ok-insert.ensures.items
-        ∙ ap (λ xs. insert xs k c.in_ok-after.after)
-        (c.remove-runner.ensures.items ∙ ap (λ (y : Progress). remove y.runs k) c.self.view_is) in
+    ∙ ap (λ xs. insert xs k c.in_ok-after.after)
+    (c.remove-runner.ensures.items ∙ ap (λ (y : Progress). remove y.runs k) c.self.view_is) in
     takes_put x c.args.thread k r c.take_turn.new.registry c.take_turn.new.pieces c.in_ok-after.after c.insert.new.self.items
     there.0 at_now turned put

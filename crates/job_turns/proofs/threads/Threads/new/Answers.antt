@@ -13,10 +13,9 @@ loop-thread-preserved c =
     let r = c.in_ok-new.field-0 in
     let long = ap length c.in_ok-push.ensures.items ∙ length-append before (r ∷ []) in
     let first = subst (λ images. IsFirstRun c.loop-thread.thread images job r) c.requires c.in_ok-new.ensures in
-    let here = subst (λ n. IsFirstRun n m job r) (sym c.loop-thread.invariant.0) first in
-    (
+    let here = subst (λ n. IsFirstRun n m job r) (sym c.loop-thread.invariant.0) first in (
       omega (arith, long, c.loop-thread.invariant.0),
       subst (λ (runs : List Run). (k : ℕ) (x : Run) → slice_get runs k ≡ Some x → IsFirstRun (k + 1) m job x)
-      (sym c.in_ok-push.ensures.items)
-      (each_push (λ k x. IsFirstRun (k + 1) m job x) before r c.loop-thread.invariant.1 here),
+          (sym c.in_ok-push.ensures.items)
+          (each_push (λ k x. IsFirstRun (k + 1) m job x) before r c.loop-thread.invariant.1 here),
     )
