@@ -106,7 +106,8 @@ pub runs_to : (limit : ℕ) (m : Standing ℕ Bool) (k : Kept) (result : Ran) (m
 runs_to limit m k result m' k' taken left on is = record {
   keeps = record { thread = on.same.thread; images = on.same.images; startups = on.same.startups; pieces = on.same.pieces };
   past = on.same.past;
-  steps = waits_steps limit result m' taken k' left.events _ _ _ (on.runs left.events None (sym left.left)) is;
+  steps = waits_steps limit result m' taken k' left.events (thread_steps (job_loads k.vector.images) k.vector.thread) (limit - m.taken)
+      (held_at left.events m.state None k) (on.runs left.events None (sym left.left)) is;
   runs = λ now seen asked points todo said has_seen.
       let P : Outcome Runs → Type 0 = λ out. TookAs limit k' taken points now todo said seen (after_run todo said seen points out) in
       subst P (sym (on.runs now asked has_seen)) (took_run limit result m' taken k' now seen asked points todo said is);

@@ -101,6 +101,6 @@ returns-in-None-clause-taken c =
     (begins_line c.self.inside.space c.put_data.new.self c.look.new.self c.args.events.now c.args.pieces.now
     (record { vector = c.put_data.ensures.vector; data_is = c.put_data.ensures.data_is ∙ c.replace.ensures.value; stack = c.put_data.ensures.stack })
     c.in_ok-look.ensures.ok c.seen-seen.ensures.left c.self.invariant.startups c.self.inside.lines.now c.self.inside.begun c.self.inside.fuel
-    c.self.inside.said.items c.index-lines-begun.result r c.begin_line.new.data
+    c.self.inside.said.items c.index-lines-begun.result r c.begin_line.new.pieces
     (slice_get_read c.self.inside.lines.now _ c.self.inside.begun c.index-lines-begun.result refl within c.index-lines-begun.is) is))
     c.begin_line.ensures
