@@ -1,3 +1,4 @@
+pub mod Fetched
 pub mod Answering
 pub mod AtOnce
 pub mod BytesHeld

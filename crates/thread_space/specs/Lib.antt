@@ -1,4 +1,5 @@
 pub mod Asking
+pub mod Fetching
 pub mod Holding
 pub mod Kept
 pub mod Live

@@ -4,6 +4,7 @@
 mod asking;
 mod blocks;
 mod bytes;
+mod code;
 mod finding;
 mod lines;
 mod names;
