@@ -50,7 +50,7 @@ ends 4 ''
 
 printf 'image app pie a.o\n1 call app f 0 0 0\n' > job
 runs run job
-ends 5 'job 0 NotYet'
+ends 0 't1 l1 g0 = 000000000000002a'
 
 # The largest file that is fetched has 2^28 bytes.
 printf 'image app exe large\n1 call app f 0 0 0\n' > job

@@ -18,10 +18,6 @@ use Rattle.object_rules.specs.FaultNames.{kind_name as object_kind_name}
 abbrev pub job_fault_text : ℕ → JobFaultKind → List ℕ
 job_fault_text line kind = codes "job " ++ decimal line ++ codes " " ++ kind_text kind ++ codes "\n"
 
--- a job that is not taken yet
-abbrev pub job_not_yet : List ℕ
-job_not_yet = codes "job 0 NotYet\n"
-
 -- an object with a fault, by its name in the job
 abbrev pub fault_text : List ℕ → ℕ → ℕ → ObjectFaultKind → List ℕ
 fault_text name section entry kind =

@@ -5,23 +5,21 @@ use Rattle.job_text.specs.declared.fault.JobFault.{JobFault}
 use Rattle.job_text.specs.declared.fault.JobFault.TheVariants as job_fault
 use Rattle.job_text.specs.declared.fault.JobFaultKind.TheVariants.{Name}
 use Rattle.job_text.specs.Jobs.{JobParts}
-use Rattle.command_replies.specs.Says.{fault_text, image_fault_text, job_fault_text, job_not_yet, link_line}
+use Rattle.command_replies.specs.Says.{fault_text, image_fault_text, job_fault_text, link_line}
 use Rattle.command_replies.specs.declared.fault.CommandFault.{CommandFault}
 use Rattle.command_replies.specs.declared.fault.CommandFault.TheVariants as fault
 use Rattle.command_replies.specs.declared.fault.InputRefusal.{InputRefusal}
-use Rattle.command_replies.specs.declared.fault.InputRefusal.TheVariants.{Job, JobNotYet, Object, Link, Image}
+use Rattle.command_replies.specs.declared.fault.InputRefusal.TheVariants.{Job, Object, Link, Image}
 
 -- the status and the text of a refusal
 abbrev pub refusal_code : InputRefusal → ℕ
 refusal_code (Job line kind) = 5
-refusal_code JobNotYet = 5
 refusal_code (Object name section entry kind) = 6
 refusal_code (Link image kind object section entry) = 7
 refusal_code (Image offset kind) = 8
 
 abbrev pub refusal_text : InputRefusal → List ℕ
 refusal_text (Job line kind) = job_fault_text line kind
-refusal_text JobNotYet = job_not_yet
 refusal_text (Object name section entry kind) = fault_text (string_bytes name) section entry kind
 refusal_text (Link image kind object section entry) =
     link_line (string_bytes image) kind (string_bytes object) section entry

@@ -26,8 +26,6 @@ pub enum InputRefusal {
         line: u64,
         kind: JobFaultKind,
     },
-    /// The path does not take this job, or its object, yet.
-    JobNotYet,
     /// The object of this name.
     Object {
         name: String,

@@ -24,10 +24,6 @@ pub fn reply_of(alloc: Global, refusal: &InputRefusal) -> Result<Reply, AllocErr
             status: Status::Job,
             text: job_line(alloc, *line, *kind)?,
         }),
-        InputRefusal::JobNotYet => Ok(Reply {
-            status: Status::Job,
-            text: Vec::from_slice(alloc, b"job 0 NotYet\n")?,
-        }),
         InputRefusal::Object {
             name,
             section,

@@ -1,7 +1,6 @@
--- Closed jobs whose meaning is computed.
-use Rattle.std.proofs.Common.{◌≡◌, ℕ, zero, suc, ◌<◌, List, [], ◌∷◌, ◌++◌, Option, Some, refl, sym, subst, ◌∙◌, inl, inr, arith}
+-- Closed jobs whose meaning is computed, and what the machine with its run time makes of two of them.
+use Rattle.std.proofs.Common.{◌≡◌, ℕ, List, [], ◌∷◌, ◌++◌, Option, Some, None, true, false, refl}
 use Rattle.std.specs.Prelude.{replicate}
-use Rattle.std.specs.List.{All}
 use Rattle.amd64_subset.specs.Beginning.{begins_of}
 use Rattle.amd64_subset.specs.Decoding.{end_branch_at, escaped_at, row_at, operated_at, body_at, instruction_at, decoded}
 use Rattle.amd64_subset.specs.Meaning.{numbered_body, operation_of, operand_body}
@@ -16,28 +15,32 @@ use Rattle.guest_operands.specs.declared.stop.Stop.{Stop}
 use Rattle.guest_operands.specs.declared.stop.Stop.TheVariants.{Returned, Address, Code, Unclean}
 use Rattle.guest_machine.specs.Access.{fetch_of, load_of, store_of}
 use Rattle.guest_arithmetic.specs.Arithmetic.{product_fits, product_effect}
-use Rattle.guest_arithmetic.specs.Plain.{plain_operations}
 use Rattle.guest_arithmetic.specs.Flags.{with_changes, condition_of}
 use Rattle.guest_machine.specs.Operand.{base_of, index_of, address_of, kept, carried, number_at, taken_at, taken, put}
 use Rattle.guest_machine.specs.State.{register_of, with_register, start_of}
 use Rattle.guest_machine.specs.Frame.{frame_of}
-use Rattle.guest_machine.specs.Run.{machine}
-use Rattle.guest_machine.specs.Step.{act, step_of, move_of, move_in, stored, multiply_of, finished, pushed, push_of, call_of, return_of, jump_of, jump_if}
+use Rattle.guest_machine.specs.Step.{act, move_of, move_in, stored, multiply_of, finished, pushed, push_of, call_of, return_of, jump_of, jump_if}
 use Rattle.guest_machine.specs.Touch.{touches_of, next_touches, touched}
+use Rattle.image_file.specs.Spelled.{Spelled}
+use Rattle.image_file.specs.declared.part.PartClass.TheVariants.{Executable, ReadOnly}
+use Rattle.image_file.specs.declared.symbol.SymbolBinding.TheVariants.{Local, Global}
+use Rattle.image_file.specs.declared.symbol.SymbolType.TheVariants.{NoType, Func}
+use Rattle.image_file.specs.declared.symbol.Visibility.TheVariants.{Default}
+use Rattle.image_rules.specs.declared.places.FileKind.TheVariants.{Exe as ExeFile}
 use Rattle.job_meaning.specs.Marked.{marked_operations}
 use Rattle.job_meaning.specs.Owner.{owner_at}
 use Rattle.job_meaning.specs.Reading.{completed, hindrance, read_step, reaches_linker, meaning_step}
 use Rattle.job_meaning.specs.Running.{meaning}
 use Rattle.module_table.specs.declared.events.Event.{Event}
-use Rattle.thread_blocks.specs.MachineTurns.{CallLine, alone, call_said, machine_turns, zeros}
+use Rattle.link_faults.specs.declared.image_kind.ImageKind.TheVariants.{Exe}
+use Rattle.thread_blocks.specs.MachineTurns.{CallLine, zeros}
 use Rattle.thread_blocks.specs.Spaces.{space_accesses}
 use Rattle.thread_blocks.specs.Turns.{Said, Stopped}
-use Rattle.thread_blocks.specs.TurnsAlike.{HasUnclean}
+use Rattle.thread_blocks.proofs.JobRuns.{told, said as run}
 use Rattle.job_run.specs.Meaning.{meant_accesses, meant_turns, meant_said}
-use Rattle.thread_blocks.specs.Worlds.{threads_from, said_by_each}
-use Rattle.job_run.specs.Worlds.{meant_world, meant_by, AreClean}
-use Rattle.job_run.proofs.ExampleLoads.{Image, HasBytes, meaning_loaded, machine_loaded, seen_both}
-use Rattle.job_run.proofs.Said.{call_says}
+use Rattle.job_run.specs.Whole.{told_calls}
+use Rattle.job_run.specs.Worlds.{meant_by}
+use Rattle.job_run.proofs.ExampleLoads.{Image, meaning_loaded}
 
 -- an image whose one block, of every thread, is the four bytes below the thread pointer
 abbrev image : List ℕ → Image
@@ -71,7 +74,7 @@ unfolding
     numbers_at named_register number_of encoded_condition fixed_row_of row_of escaped_row_of arithmetic_of shift_of group_action takes allowed
     displacement_size memory_in sib_at selectors_at fetch_of load_of store_of space_accesses marked_operations register_of with_register start_of
     base_of index_of address_of kept carried number_at taken_at taken put product_fits product_effect with_changes condition_of move_of move_in stored
-    multiply_of finished pushed push_of call_of return_of jump_of jump_if act frame_of zeros owner_at threads_from
+    multiply_of finished pushed push_of call_of return_of jump_of jump_if act frame_of zeros owner_at
 said room fuel code = meant_said Event room (meaning_loaded (image code) entry) 1 fuel line
 
 abbrev ends : Stop → List Said
@@ -163,40 +166,38 @@ keeps : meant_by 0x402000 (meaning_loaded (image (0x64 ∷ 0x8b ∷ 0x04 ∷ 0x2
 unfolding said
 keeps = refl
 
--- the same of two threads, of which the second takes the first turn: each has a block of its own
-apart : said_by_each (meant_world 0x402000 (meaning_loaded (image (0x64 ∷ 0x8b ∷ 0x04 ∷ 0x25 ∷ 0xfc ∷ 0xff ∷ 0xff ∷ 0xff ∷ 0x64 ∷ 0x89 ∷ 0x3c ∷ 0x25 ∷ 0xfc ∷ 0xff ∷ 0xff ∷ 0xff ∷ 0xc3 ∷ [])) entry) 3
-    ((record line { a = 3 } ∷ []) ∷ (record line { a = 5 } ∷ []) ∷ []) (2 ∷ 1 ∷ [])) ≡ ends (Returned 0x2a) ∷ ends (Returned 0x2a) ∷ []
-unfolding said
-apart = refl
+-- ** what the machine makes of them
 
--- ** and so the machine prints the same, with bytes of the linker's own in the room
-
-all-one : (byte : ℕ) → byte < 256 → (bytes : List ℕ) → All (λ (byte : ℕ). byte < 256) bytes → All (λ (byte : ℕ). byte < 256) (byte ∷ bytes)
-all-one byte small bytes rest zero d within = small
-all-one byte small bytes rest (suc k) d within = rest k d (omega (arith, within))
-
-all-none : All (λ (byte : ℕ). byte < 256) []
-all-none k d within = absurd (omega (arith, within))
-
-has_bytes : HasBytes (image (0xc3 ∷ []))
-has_bytes = record {
-  code = all-one 0xc3 (omega arith) [] all-none;
-  constants = all-one 7 (omega arith) [] all-none;
-  initial = all-one 0x2a (omega arith) (0 ∷ 0 ∷ 0 ∷ []) (all-one 0 (omega arith) (0 ∷ 0 ∷ []) (all-one 0 (omega arith) (0 ∷ []) (all-one 0 (omega arith) [] all-none)));
+-- a program of these bytes of code, a constant and the initial image behind it, and then bytes of the linker's own
+abbrev linked : List ℕ → List ℕ → Spelled
+linked code own = record {
+  kind = ExeFile;
+  parts = record { class = Executable; address = 0x400000; bytes = code }
+      ∷ record { class = ReadOnly; address = 0x401000; bytes = 7 ∷ 0x2a ∷ 0 ∷ 0 ∷ 0 ∷ [] }
+      ∷ record { class = ReadOnly; address = 0x402000; bytes = own }
+      ∷ [];
+  array_size = 0;
+  got = None;
+  tls = Some (record { address = 0x401001; initial = 4; size = 4; alignment = 1 });
+  symbols = record { binding = Local; kind = NoType; visibility = Default; is_defined = false; value = 0; size = 0 }
+      ∷ record { binding = Global; kind = Func; visibility = Default; is_defined = true; value = 0x400000; size = 1 }
+      ∷ [];
+  names = [] ∷ (0x66 ∷ []) ∷ [];
+  relocations = [];
+  is_flagged = false;
 }
 
-is_clean : HasUnclean (ends (Returned 0)) → ⊥
-is_clean (inl unclean) = absurd unclean
-is_clean (inr unclean) = absurd unclean
+abbrev call : ℕ → CallLine
+call a = record { symbol = 0x66 ∷ []; a = a; b = 0; c = 0 }
 
--- ret, where the room is one byte, 9
-prints : call_said Event (machine_loaded 0x400001 (9 ∷ []) (image (0xc3 ∷ [])) entry) 1 1 line ≡ ends (Returned 0)
-unfolding said
-prints = call_says (meaning_loaded (image (0xc3 ∷ [])) entry) (machine_loaded 0x400001 (9 ∷ []) (image (0xc3 ∷ [])) entry) 0x400001
-    (seen_both 0x400001 (9 ∷ []) (image (0xc3 ∷ [])) entry has_bytes (omega arith)) 1 1 line (subst AreClean (sym returns) is_clean) ∙ returns
+-- of two threads the second takes the first turn: each has a block of its own
+apart : told (run (Exe ∷ []) (linked (0x64 ∷ 0x8b ∷ 0x04 ∷ 0x25 ∷ 0xfc ∷ 0xff ∷ 0xff ∷ 0xff ∷ 0x64 ∷ 0x89 ∷ 0x3c ∷ 0x25 ∷ 0xfc ∷ 0xff ∷ 0xff ∷ 0xff ∷ 0xc3 ∷ []) [] ∷ []) 3
+    (told_calls ((call 3 ∷ []) ∷ (call 5 ∷ []) ∷ [])) (2 ∷ 1 ∷ [])) ≡ (ends (Returned 0x2a) ∷ ends (Returned 0x2a) ∷ [], [])
+unfolding run
+apart = refl
 
 -- mov 0x402000, %eax; ret, which is unclean: the machine loads what it finds in the room
-finds : call_said Event (machine_loaded 0x402000 (9 ∷ 0 ∷ 0 ∷ 0 ∷ []) (image (0x8b ∷ 0x04 ∷ 0x25 ∷ 0x00 ∷ 0x20 ∷ 0x40 ∷ 0x00 ∷ 0xc3 ∷ [])) entry) 1 2 line
-    ≡ ends (Returned 9)
-unfolding said call_said machine_turns machine alone step_of plain_operations
+finds : told (run (Exe ∷ []) (linked (0x8b ∷ 0x04 ∷ 0x25 ∷ 0x00 ∷ 0x20 ∷ 0x40 ∷ 0x00 ∷ 0xc3 ∷ []) (9 ∷ 0 ∷ 0 ∷ 0 ∷ []) ∷ []) 2
+    (told_calls ((call 0 ∷ []) ∷ [])) []) ≡ (ends (Returned 9) ∷ [], [])
+unfolding run
 finds = refl

@@ -20,8 +20,6 @@ mod LoneThreads
 mod LoneWorlds
 mod MeantRuns
 pub mod Memory
-pub mod Own
 mod PlainLinks
 mod RunTimeRuns
-pub mod Said
 mod SmallBytes

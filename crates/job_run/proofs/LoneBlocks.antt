@@ -13,7 +13,8 @@ use Rattle.image_file.specs.Spelled.{Spelled}
 use Rattle.image_rules.specs.declared.places.FileKind.TheVariants.{Exe as ExeFile}
 use Rattle.loaded_modules.specs.declared.instance.Instance.{Instance}
 use Rattle.module_table.specs.declared.events.Event.{Event}
-use Rattle.thread_blocks.specs.Held.{Asked, Owned, Owner, Block, block_after, block_bytes, block_with, data_after, data_with, looked, looked_at, owned_by, owners_of, ranges_in, with_owned}
+use Rattle.thread_blocks.specs.Held.{Owned, Owner, Block, block_after, block_bytes, block_with, data_after, data_with, looked, looked_at, owned_by, owners_of, ranges_in, with_owned}
+use Rattle.thread_blocks.specs.declared.asked.Asked.{Asked}
 use Rattle.thread_blocks.specs.Instances.{Loads, block_range, block_start}
 use Rattle.thread_blocks.specs.JobWorlds.{first_data, thread_ready}
 use Rattle.thread_blocks.specs.Loading.{loaded_image}

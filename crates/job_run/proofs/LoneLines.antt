@@ -13,7 +13,8 @@ use Rattle.job_meaning.specs.Marked.{marked_operations}
 use Rattle.job_meaning.specs.Owner.{owner_at}
 use Rattle.loaded_modules.specs.declared.instance.Instance.{Instance}
 use Rattle.module_table.specs.declared.events.Event.{Event}
-use Rattle.thread_blocks.specs.Held.{Asked, owned_by, with_owned}
+use Rattle.thread_blocks.specs.Held.{owned_by, with_owned}
+use Rattle.thread_blocks.specs.declared.asked.Asked.{Asked}
 use Rattle.thread_blocks.specs.Instances.{Loads, fixed_at, instance_at}
 use Rattle.thread_blocks.specs.JobWorlds.{numbered_lines, with_data}
 use Rattle.thread_blocks.specs.Lines.{Line, begin_line, begun_at, begun_in}

@@ -16,7 +16,7 @@ use Rattle.thread_blocks.specs.MachineTurns.{Loaded, CallLine}
 use Rattle.thread_blocks.specs.Turns.{Said}
 use Rattle.job_run.specs.Meaning.{meant_said}
 use Rattle.job_run.specs.Plain.{is_plain}
-use Rattle.job_run.specs.Whole.{AreAllClean, ProgramsPrintTheirMeaning, ThreadsPrintTheirMeaning, ThreadsSay, each_meant, one_call, program_of}
+use Rattle.job_run.specs.Whole.{AreAllClean, LinkedImagesPrintTheirMeaning, ProgramsPrintTheirMeaning, ThreadsPrintTheirMeaning, ThreadsSay, each_meant, one_call, program_of}
 use Rattle.job_run.proofs.LinkedImages.{images_linked, images_still}
 use Rattle.job_run.proofs.LoneWorlds.{threads_say}
 use Rattle.job_run.proofs.PlainLinks.{no_needs, plain_exe}
@@ -41,12 +41,16 @@ module _ (l : Linking) (given : IsGiven l) (plain : is_plain l ≡ true) where
   unfolding image_of finished contents image_relocations
   no_relocations = ap (λ own. own ++ got_relocations l) none_moved ∙ none_in_table
 
--- the law of all threads
+-- the law of any image that is linked to a meaning
+pub linked_print : LinkedImagesPrintTheirMeaning
+linked_print image p room fuel lines order kind unmoved still linked clean =
+    threads_say image kind unmoved still p room linked fuel lines clean order
+
+-- and of a plain link
 pub threads_print : ThreadsPrintTheirMeaning
 threads_print l fuel lines order given links files plain clean =
-    threads_say (image_of l) (kind_is l given plain) (no_relocations l given plain)
-    (images_still l given links files plain) (meaning_loaded l) (room_of l) (images_linked l given links files plain) fuel
-    lines clean order
+    linked_print (image_of l) (meaning_loaded l) (room_of l) fuel lines order (kind_is l given plain)
+    (no_relocations l given plain) (images_still l given links files plain) (images_linked l given links files plain) clean
 
 -- one thread with one line
 one_meant : (room : ℕ) (p : Loaded Byte) (fuel : ℕ) (line : CallLine)
@@ -54,7 +58,7 @@ one_meant : (room : ℕ) (p : Loaded Byte) (fuel : ℕ) (line : CallLine)
 unfolding meant_said
 one_meant room p fuel line = refl
 
--- and of a program with one
+-- and of a program with one thread
 pub programs_print : ProgramsPrintTheirMeaning
 programs_print l fuel line order given links files plain clean =
     let one = one_meant (room_of l) (meaning_loaded l) fuel line in

@@ -11,7 +11,7 @@ use Rattle.image_rules.specs.declared.places.FileKind.{FileKind}
 use Rattle.image_rules.specs.declared.places.FileKind.TheVariants.{Exe as ExeFile}
 use Rattle.link_faults.specs.declared.image_kind.ImageKind.TheVariants.{Exe}
 use Rattle.loaded_modules.specs.declared.instance.Instance.{Instance}
-use Rattle.loaded_modules.specs.Images.{JobImages, block_alignment, block_size, image_at, info_of, infos}
+use Rattle.loaded_modules.specs.Images.{block_alignment, block_size, image_at, info_of, infos}
 use Rattle.loaded_modules.specs.Loader.{bias, block_of, filled, fresh_block, initial_bytes, part_bytes}
 use Rattle.module_table.specs.Laws.{startup_end}
 use Rattle.module_table.specs.Past.{past, start}
@@ -21,6 +21,7 @@ use Rattle.thread_blocks.specs.Loading.{block_bytes, blocks_of, entry_in, holds,
 use Rattle.thread_blocks.specs.MachineTurns.{pointer_of, zeros}
 use Rattle.thread_blocks.specs.Spaces.{NoneWritable}
 use Rattle.tls_layout.specs.Rounding.{round_up}
+use Rattle.job_run.specs.Whole.{job_of}
 use Rattle.job_run.proofs.EmptyRanges.{NoBytes}
 
 kept_by : (written : Bool) (range : Range ℕ) (more kept : List (Range ℕ)) → written ≡ false → kept ≡ more
@@ -38,12 +39,8 @@ none_found [] none = refl
 none_found (range ∷ ranges) none = rw none.0 (none_found ranges none.1)
 
 module _ (image : Spelled) where
-  -- the images of the job
-  abbrev pub alone : JobImages
-  alone = record { kinds = Exe ∷ []; images = image ∷ [] }
-
   abbrev pub loads : Loads ℕ
-  loads = job_loads alone
+  loads = job_loads (job_of image)
 
   -- how far below the thread pointer its block begins
   abbrev pub distance : ℕ
@@ -73,7 +70,7 @@ module _ (image : Spelled) where
         of_kind x is None = refl
         of_kind x is (Some place) = rw is (let same : place + 0 ≡ place = omega arith in ap Some same)
 
-    part_kept : (part : Part) → part_bytes alone image program part ≡ part.bytes
+    part_kept : (part : Part) → part_bytes (job_of image) image program part ≡ part.bytes
     unfolding part_bytes
     part_kept part = rw unmoved refl
 
@@ -81,14 +78,14 @@ module _ (image : Spelled) where
     unfolding bias
     part_moved part = rw kind (omega arith)
 
-    part_is : (i : ℕ) (part : Part) → instance_part alone image program i part ≡ part_range image.got i part
+    part_is : (i : ℕ) (part : Part) → instance_part (job_of image) image program i part ≡ part_range image.got i part
     part_is i part = rw (part_moved part, part_kept part) refl
 
-    parts_are : (i : ℕ) (parts : List Part) → parts_from alone image program i parts ≡ ranges_from image.got i parts
+    parts_are : (i : ℕ) (parts : List Part) → parts_from (job_of image) image program i parts ≡ ranges_from image.got i parts
     parts_are i [] = refl
     parts_are i (part ∷ more) = let first = part_is i part in let rest = parts_are (suc i) more in cc
 
-    loaded_are : loaded_parts alone program ≡ (loaded_image image).fixed
+    loaded_are : loaded_parts (job_of image) program ≡ (loaded_image image).fixed
     unfolding image_at loaded_image
     loaded_are = parts_are 0 image.parts
 
@@ -110,11 +107,11 @@ module _ (image : Spelled) where
 
     -- ** a thread's block
 
-    initial_is : (tls : TlsPart) (found : Option Part) → initial_bytes alone image program tls found ≡ initial_in tls found
+    initial_is : (tls : TlsPart) (found : Option Part) → initial_bytes (job_of image) image program tls found ≡ initial_in tls found
     initial_is tls None = refl
     initial_is tls (Some part) = rw (part_kept part) refl
 
-    filled_is : (tls : TlsPart) → block_of alone image program (Some tls) ≡ block_bytes tls (initial_in tls (find (holds tls) image.parts))
+    filled_is : (tls : TlsPart) → block_of (job_of image) image program (Some tls) ≡ block_bytes tls (initial_in tls (find (holds tls) image.parts))
     unfolding zeros
     filled_is tls = ap (filled tls.size) (initial_is tls (find (holds tls) image.parts))
 
@@ -141,20 +138,20 @@ module _ (image : Spelled) where
 
     block_fits_of : (thread : ℕ) (tls : Option TlsPart) → image.tls ≡ tls
         → (front : List (Range ℕ)) × (NoBytes front
-        × (block_range thread program (block_of alone image program image.tls) ∷ []
+        × (block_range thread program (block_of (job_of image) image program image.tls) ∷ []
         ≡ front ++ blocks_of image.parts image.tls thread))
     unfolding round_up
     block_fits_of thread None is =
-        let block = block_range thread program (block_of alone image program image.tls) in
+        let block = block_range thread program (block_of (job_of image) image program image.tls) in
         let none : blocks_of image.parts image.tls thread ≡ [] = ap (λ tls. blocks_of image.parts tls thread) is in (
           block ∷ [],
-          ((ap (block_of alone image program) is, tt), ap (λ more. block ∷ more) (sym none)),
+          ((ap (block_of (job_of image) image program) is, tt), ap (λ more. block ∷ more) (sym none)),
         )
     block_fits_of thread (Some tls) is = (
       [],
       (
         tt,
-        ap (λ (t : Option TlsPart). block_range thread (program_with t) (block_of alone image program t) ∷ []) is
+        ap (λ (t : Option TlsPart). block_range thread (program_with t) (block_of (job_of image) image program t) ∷ []) is
             ∙ ap (λ bytes. block_range thread (program_with (Some tls)) bytes ∷ []) (filled_is tls)
             ∙ ap (λ size. block_from (pointer_of thread - next_multiple_of size tls.alignment) tls ∷ []) (from_none tls.size)
             ∙ sym (ap (λ t. blocks_of image.parts t thread) is),

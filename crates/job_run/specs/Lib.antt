@@ -3,6 +3,5 @@ pub mod Linked
 pub mod Meaning
 pub mod Objects
 pub mod Plain
-pub mod Statements
 pub mod Whole
 pub mod Worlds

@@ -3,6 +3,8 @@
 use Rattle.std.specs.Prelude.{◌≡◌, ℕ, Bool, true, suc, List, [], ◌∷◌, length, map, replicate}
 use Rattle.std.specs.List.{All}
 use Rattle.job_meaning.specs.declared.values.Byte.{Byte}
+use Rattle.image_file.specs.Spelled.{Spelled}
+use Rattle.image_rules.specs.declared.places.FileKind.TheVariants.{Exe as ExeFile}
 use Rattle.job_text.specs.declared.thread_lines.Action.TheVariants.{Call}
 use Rattle.job_text.specs.declared.thread_lines.ThreadLine.{ThreadLine}
 use Rattle.link_core.specs.Faults.{Links}
@@ -15,16 +17,23 @@ use Rattle.module_table.specs.declared.events.Event.{Event}
 use Rattle.thread_blocks.specs.JobLoads.{job_loads}
 use Rattle.thread_blocks.specs.JobWorlds.{Shared, job_world}
 use Rattle.thread_blocks.specs.Lines.{Line}
+use Rattle.thread_blocks.specs.Loading.{loaded_image}
 use Rattle.thread_blocks.specs.MachineTurns.{Loaded, CallLine}
+use Rattle.thread_blocks.specs.Spaces.{NoneWritable}
 use Rattle.thread_blocks.specs.Turns.{Said}
+use Rattle.job_run.specs.Linked.{IsLinked}
 use Rattle.job_run.specs.Meaning.{meant_said}
 use Rattle.job_run.specs.Objects.{meaning_loaded, room_of}
 use Rattle.job_run.specs.Plain.{AreBytes, is_plain}
 use Rattle.job_run.specs.Worlds.{AreClean, meant_by}
 
--- the images of a job that has a program alone
+-- the images of a job that has this program alone
+abbrev pub job_of : Spelled → JobImages
+job_of image = record { kinds = Exe ∷ []; images = image ∷ [] }
+
+-- and of one that has the program of a link alone
 abbrev pub program_of : Linking → JobImages
-program_of l = record { kinds = Exe ∷ []; images = image_of l ∷ [] }
+program_of l = job_of (image_of l)
 
 -- ** lines
 
@@ -63,7 +72,17 @@ AreAllClean (said ∷ more) = AreClean said × AreAllClean more
 abbrev pub ThreadsSay : Shared ℕ Bool ℕ Line → List (List Said) → Type 0
 ThreadsSay w said = (w.events ≡ []) × (map (λ t. t.said) w.threads ≡ said)
 
--- where the meaning of each thread is clean, each prints what it means, in any order of their turns
+-- of any image that is linked to a meaning, of which a loader moves nothing and no thread writes a part: where the meaning
+-- of each thread is clean, each prints what it means, in any order of their turns
+abbrev pub LinkedImagesPrintTheirMeaning : Type 0
+LinkedImagesPrintTheirMeaning =
+    (image : Spelled) (p : Loaded Byte) (room fuel : ℕ) (lines : List (List CallLine)) (order : List ℕ)
+    → image.kind ≡ ExeFile → image.relocations ≡ [] → NoneWritable (loaded_image image).fixed
+    → IsLinked room p (loaded_image image)
+    → AreAllClean (each_meant room p fuel 1 lines)
+    → ThreadsSay (job_world (job_loads (job_of image)) fuel (told_calls lines) order) (each_meant room p fuel 1 lines)
+
+-- so of a plain link, over what its objects mean
 abbrev pub ThreadsPrintTheirMeaning : Type 0
 ThreadsPrintTheirMeaning = (l : Linking) (fuel : ℕ) (lines : List (List CallLine)) (order : List ℕ)
     → IsGiven l → Links l → All AreBytes l.objects → is_plain l ≡ true

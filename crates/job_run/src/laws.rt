@@ -1,31 +1,7 @@
 //! Laws of jobs. The functions do nothing: what they ensure is the law.
 
 ghost use Rattle.job_run.specs.Images.{PlainImagesAreLinked, PlainImagesAreStill};
-ghost use Rattle.job_run.specs.Statements.{PrintsItsMeanings, PrintsItsMeaning, CallMeans, ThreadsMeanTheirOwn};
-ghost use Rattle.job_run.specs.Whole.{ProgramsPrintTheirMeaning, ThreadsPrintTheirMeaning};
-
-/// Where the meaning of no line is unclean, the machine over the linked image prints what all threads
-/// mean, in any order of their turns: the same history, and of each line the same.
-pub fn prints_its_meanings()
-    ensures { PrintsItsMeanings }
-{}
-
-/// Where the meaning of none of its lines is unclean, the machine prints what one thread means, whatever
-/// its looks see.
-pub fn prints_its_meaning()
-    ensures { PrintsItsMeaning }
-{}
-
-/// Where its meaning is clean, the machine prints what one call means.
-pub fn call_means()
-    ensures { CallMeans }
-{}
-
-/// What a thread means in an order of turns, it means alone where its looks see the same fronts of the
-/// history.
-pub fn threads_mean_their_own()
-    ensures { ThreadsMeanTheirOwn }
-{}
+ghost use Rattle.job_run.specs.Whole.{LinkedImagesPrintTheirMeaning, ProgramsPrintTheirMeaning, ThreadsPrintTheirMeaning};
 
 /// What a thread finds of the image of a plain link is what its objects mean: the functions that it calls, the bytes that
 /// it reads, the code that it runs, and the block that it begins with.
@@ -40,8 +16,15 @@ pub fn plain_images_are_still()
     ensures { PlainImagesAreStill }
 {}
 
-/// Of a job that has the program of a plain link alone, whose threads call its functions: where the meaning of each
-/// thread is clean, the machine with its run time prints what each thread means, in any order of their turns.
+/// Of a job that has one image alone, a program at fixed addresses that is linked to a meaning and of which no thread
+/// writes a part: where the meaning of each thread is clean, the machine with its run time prints what each thread
+/// means, in any order of their turns.
+#[tactic(auto, using(crate::proofs::LoneLinks::linked_print))]
+pub fn linked_images_print_their_meaning()
+    ensures { LinkedImagesPrintTheirMeaning }
+{}
+
+/// So does it of the program of a plain link, whose meaning is that of its objects.
 #[tactic(auto, using(crate::proofs::LoneLinks::threads_print))]
 pub fn threads_print_their_meaning()
     ensures { ThreadsPrintTheirMeaning }

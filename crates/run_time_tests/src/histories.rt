@@ -3,7 +3,7 @@
 ghost use Rattle.std.specs.Bool.{OnTrue};
 ghost use Rattle.module_table.specs.Modules.{AreInfos};
 
-use crate::calls::same;
+use crate::compared::same;
 use module_table::{ImageInfo, ModuleTable, Registry};
 use std::alloc::{AllocError, Global};
 use std::fmt::Debug;

@@ -1,4 +1,4 @@
-//! Tests of the run time: the history of modules, calls of a thread, and the transcript of both.
+//! Tests of the run time: the history of modules, and the transcript of a job.
 //!
 //! What a clause says is proved in the crate that says it. Here stands what no clause says: numbers that a reader
 //! works out by hand, printed text, and each limit beside its number, since definitions cite a limit by its name.
@@ -7,11 +7,9 @@
 #![tactic(auto)]
 
 #[cfg(test)]
-mod calls;
+mod compared;
 #[cfg(test)]
 mod histories;
 mod limits;
-#[cfg(test)]
-mod programs;
 #[cfg(test)]
 mod transcripts;

@@ -2,7 +2,7 @@
 
 ghost use Rattle.std.specs.Prelude.{◌≡◌};
 
-use crate::calls::same;
+use crate::compared::same;
 use job_text::Job;
 use module_table::Event;
 use std::alloc::{AllocError, Global};

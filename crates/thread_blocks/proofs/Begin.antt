@@ -7,7 +7,7 @@ use Rattle.guest_machine.specs.Ranges.{byte_in}
 use Rattle.guest_machine.specs.State.{start_of}
 use Rattle.guest_machine.specs.Use.{After}
 use Rattle.guest_arithmetic.specs.Values.{Operations}
-use Rattle.thread_blocks.specs.MachineTurns.{stack_size, stack_end, return_place, pointer_of, zeros, word_bytes, fresh_stack, pointer_word, Loaded, fixed_of, CallLine, begun_call, begin_call, thread_start, SameRun, SameRest}
+use Rattle.thread_blocks.specs.MachineTurns.{stack_size, stack_end, return_place, pointer_of, zeros, word_bytes, fresh_stack, pointer_word, Loaded, fixed_of, CallLine, begun_call, begin_call, SameRun, SameRest}
 use Rattle.thread_blocks.specs.Spaces.{Space, FoundAlike, SameRange}
 use Rattle.thread_blocks.specs.TurnsAlike.{SameBegun}
 use Rattle.thread_blocks.proofs.Spaces.{all2-append, byte_in-front}
@@ -71,10 +71,6 @@ module _ {W F B W' F' B' : Type 0} (same : Alike W F B W' F' B') (ops : Operatio
         → FoundAlike same.byte (byte_in access (fixed_of ops loaded thread seen) place) (byte_in access (fixed_of ops' loaded' thread seen) place)
     fixed_alike access seen place h =
         byte_in-front same.byte access (pointer_word ops thread ∷ []) loaded.fixed (pointer_word ops' thread ∷ []) loaded'.fixed place (pointer_word_alike thread, tt) h
-
-    -- a thread before its first line
-    pub thread_start_alike : All2 (SameRange same.byte) (loaded.blocks thread) (loaded'.blocks thread) → SameRest same {E = E} (thread_start ops loaded thread) (thread_start ops' loaded' thread)
-    thread_start_alike h = record { own = h }
 
     begun-same : (found : Option ℕ) (line : CallLine) (seen : List E) (at : After W F (Space E B)) (at' : After W' F' (Space E B')) → SameRest same at at'
         → SameBegun (SameRun same) (λ (seen : List E). SameRest same) seen (begun_call ops thread line seen at found) (begun_call ops' thread line seen at' found)

@@ -1,14 +1,15 @@
--- Small worlds whose turns are computed, to see that the definitions say what they should.
-use Rattle.std.proofs.Common.{◌≡◌, ℕ, zero, suc, List, [], ◌∷◌, length, map, Option, Some, None, Bool, true, false, refl, ap, inr, arith}
+-- Small threads whose turns are computed, to see that the definitions say what they should.
+use Rattle.std.proofs.Common.{◌≡◌, ℕ, zero, suc, List, [], ◌∷◌, length, Option, None, Bool, true, false, refl, ap, inr, arith}
 use Rattle.guest_operands.specs.declared.stop.Stop.{Stop}
 use Rattle.guest_operands.specs.declared.stop.Stop.TheVariants.{Returned, Steps, Unclean}
 use Rattle.guest_arithmetic.specs.declared.cause.Cause.TheVariants.{Steps as NoStep}
 use Rattle.guest_machine.specs.Simulate.{Advances, OverAlike}
 use Rattle.thread_blocks.specs.TurnsAlike.{SameBegun, IsAlike}
 use Rattle.guest_machine.specs.Run.{Next, Ends, Looks, Stepping}
-use Rattle.thread_blocks.specs.Turns.{Stopped, Begun, Calls, Turns, Thread, World, by_order, whole_order, ready}
+use Rattle.thread_blocks.specs.Turns.{Stopped, Begun, Calls, Turns, ready, turns}
 
--- a line: `true` adds an event, the number of those before it, and returns at once; `false` looks once more and returns the number of events then
+-- a line: `true` returns at once the number of events that it saw; `false` looks once more and returns the number of
+-- events then
 abbrev counted : ℕ → Option Stop
 counted zero = None
 counted (suc n) = None
@@ -27,29 +28,15 @@ begun false n = Calls 0
 abbrev lines : Turns ℕ Bool ℕ
 lines = record { steps = counter; fuel = 2; begin = λ line seen s. begun line (length seen); resume = λ seen s. Calls (suc (length seen)) }
 
-abbrev added : Bool → List ℕ → Option ℕ
-added true seen = Some (length seen)
-added false seen = None
+-- a thread that looks at no event and then at two
+looks_twice : (turns lines (ready 0 (false ∷ [])) ([] ∷ (0 ∷ 1 ∷ []) ∷ [])).said
+    ≡ record { points = 0 ∷ 2 ∷ []; ending = Stopped (Returned 2) } ∷ []
+looks_twice = refl
 
-abbrev start : World ℕ Bool ℕ
-start = record { threads = ready 0 (false ∷ []) ∷ ready 0 (true ∷ true ∷ []) ∷ []; events = [] }
-
--- thread 1 looks at no event and then at two; thread 2 adds one at each of its lines
-in_turns : (by_order lines added (1 ∷ 2 ∷ 2 ∷ 1 ∷ []) start).events ≡ 0 ∷ 1 ∷ []
-in_turns = refl
-
-says_first : map (λ (t : Thread ℕ Bool ℕ). t.said) (by_order lines added (1 ∷ 2 ∷ 2 ∷ 1 ∷ []) start).threads
-    ≡ (record { points = 0 ∷ 2 ∷ []; ending = Stopped (Returned 2) } ∷ [])
-    ∷ (record { points = 0 ∷ []; ending = Stopped (Returned 0) } ∷ record { points = 1 ∷ []; ending = Stopped (Returned 1) } ∷ [])
-    ∷ []
-says_first = refl
-
--- an order with too few entries, one of no thread, and one of a thread with nothing left: the whole order ends each thread
-ends_all : map (λ (t : Thread ℕ Bool ℕ). t.said) (by_order lines added (whole_order 2 ((false ∷ []) ∷ (true ∷ true ∷ []) ∷ []) (2 ∷ 7 ∷ 0 ∷ [])) start).threads
-    ≡ (record { points = 1 ∷ 1 ∷ []; ending = Stopped (Returned 1) } ∷ [])
-    ∷ (record { points = 0 ∷ []; ending = Stopped (Returned 0) } ∷ record { points = 1 ∷ []; ending = Stopped (Returned 1) } ∷ [])
-    ∷ []
-ends_all = refl
+-- one with two lines of one look each, and a turn more, which changes nothing
+looks_once : (turns lines (ready 0 (true ∷ true ∷ [])) ([] ∷ (0 ∷ []) ∷ (0 ∷ []) ∷ [])).said
+    ≡ record { points = 0 ∷ []; ending = Stopped (Returned 0) } ∷ record { points = 1 ∷ []; ending = Stopped (Returned 1) } ∷ []
+looks_once = refl
 
 -- ** the same lines, of which the first counts its steps from 2 and is unclean where they are spent, and the second from 8
 

@@ -264,7 +264,7 @@ module _ {W F B M M' : Type 0} (ops : Operations W F B) (acc : Accesses M B) (ac
   unfolding leave_of
   leave_of-image f s m = then-plain image _ _ _ _ refl (λ base. then-plain image _ _ _ _ (there-image s.place m base 8) (λ word. refl))
 
-  return_of-image : (s : State W F) (m : M) → return_of ops acc' s (image m) ≡ mapped image (return_of ops acc s m)
+  pub return_of-image : (s : State W F) (m : M) → return_of ops acc' s (image m) ≡ mapped image (return_of ops acc s m)
   unfolding return_of
   return_of-image s m =
       then-plain image _ _ _ _ refl (λ stack. then-plain image _ _ _ _ (there-image s.place m stack 8) (λ word. then-plain image (clean s.place (ops.number_of word)) _ _ _ refl (λ place. refl)))

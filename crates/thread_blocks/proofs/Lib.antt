@@ -2,19 +2,16 @@ pub mod Turns
 pub mod Image
 pub mod Spaces
 pub mod Calls
-pub mod Finish
 pub mod Begin
-pub mod Calling
-pub mod Finding
-pub mod Bounds
-pub mod Examples
 pub mod Histories
+pub mod Endings
 pub mod Looks
-mod JobRuns
+pub mod Orders
+pub mod Own
+pub mod OwnBlocks
+pub mod JobRuns
 mod ExampleImages
+mod Examples
 mod JobExamples
 mod DataExamples
 mod StaticExamples
-pub mod Alone
-pub mod Each
-pub mod Own

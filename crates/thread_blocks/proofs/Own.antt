@@ -1,109 +1,283 @@
--- Among others a thread does what it would do alone.
-use Rattle.std.proofs.Common.{◌≡◌, ℕ, zero, suc, ◌+◌, ◌*◌, List, [], ◌∷◌, ◌++◌, Option, Some, refl, sym, ap, ◌∙◌, arith, append_assoc, append-nil}
-use Rattle.std.specs.Prelude.{slice_get}
-use Rattle.std.specs.Option.{option_map}
-use Rattle.std.proofs.lemmas.Option.{slice_get-map}
-use Rattle.guest_machine.specs.Run.{Outcome, Ended, Waits, Stepping, run}
+-- Where no image has data, a thread among others takes the turns that it would take alone, at fronts of the history.
+use Rattle.std.proofs.Common.{◌≡◌, ◌⊎◌, ◌∙◌, ◌-◌, ◌*◌, ◌++◌, ℕ, zero, suc, Bool, true, List, [], ◌∷◌, length, Option, Some, None, refl, sym, ap, subst, inl, inr, arith, append-nil}
+use Rattle.std.specs.Prelude.{slice_get, slice_set}
+use Rattle.std.specs.List.{flat_map}
+use Rattle.guest_arithmetic.specs.Plain.{plain_operations}
+use Rattle.guest_machine.specs.Run.{Outcome, Ended, Waits, run}
+use Rattle.guest_machine.specs.State.{start_of}
+use Rattle.guest_machine.specs.Use.{left}
+use Rattle.job_text.specs.declared.thread_lines.ThreadLine.{ThreadLine}
+use Rattle.loaded_modules.specs.declared.instance.Instance.{Instance}
 use Rattle.module_table.specs.declared.events.Event.{Event}
-use Rattle.thread_blocks.specs.MachineTurns.{Loaded, CallLine, machine_turns}
-use Rattle.thread_blocks.specs.Spaces.{outcome_image, IsRunImage}
-use Rattle.thread_blocks.specs.Turns.{Said, Begun, Says, Calls, Turns, Phase, Idle, Mid, Thread, with_last, after_run, after_look, turn_at, turn, turns, ready, at_number, by_order}
-use Rattle.thread_blocks.specs.TurnsAlike.{AllFine, AllFronts, IsFront, IsGrowing, Rises}
-use Rattle.thread_blocks.proofs.Image.{run_image}
-use Rattle.thread_blocks.proofs.Turns.{order_points}
-use Rattle.thread_blocks.specs.Numbered.{Numbered, numbered, numbered_begun, numbered_phase, numbered_thread, each_steps, each}
-use Rattle.thread_blocks.specs.Worlds.{Printed, printed_start, printed_by, printed_world, all_printed, threads_from, first_world, adds_none, said_by_each}
+use Rattle.thread_blocks.specs.Held.{Owned, Owner, data_after, owned_by, ranges_in, with_owned}
+use Rattle.thread_blocks.specs.Instances.{Loads, instances}
+use Rattle.thread_blocks.specs.JobStatements.{HasNoData, ThreadsTakeTheirOwnTurns}
+use Rattle.thread_blocks.specs.JobWorlds.{Shared, blocks_in, changed, data_in, held_in, job_start, job_world, numbered_lines, ready_from, shared_order, shared_turn, thread_ready, with_data, without_data}
+use Rattle.thread_blocks.specs.Lines.{Line, event_by}
+use Rattle.thread_blocks.specs.RunTime.{Runs, thread_turns}
+use Rattle.thread_blocks.specs.Turns.{Said, Begun, Says, Calls, Turns, Phase, Idle, Mid, Thread, IsFinished, after_look, after_run, ready, turn, turn_at, turns, whole_order, with_last}
+use Rattle.thread_blocks.specs.TurnsAlike.{AllFronts, IsFront, Rises}
+use Rattle.thread_blocks.proofs.Endings.{thread_at}
+use Rattle.thread_blocks.proofs.Orders.{front-trans, get-set, get-set_same, order-front, taken, turn-front, turned}
+use Rattle.thread_blocks.proofs.OwnBlocks.{BegunHolds, HoldsBlocks, OutHolds, begin_holds, blocks_again, look_holds, no_data, owners_again, ranges_again, resume_holds, run_holds}
+use Rattle.thread_blocks.proofs.Turns.{turn-finished, turn-seen}
 
-module _ {S : Type 0} (x : ℕ → Stepping S) (number : ℕ) where
-  own_steps : IsRunImage (numbered number) (x number) (each_steps x)
-  own_steps = record { over = λ s. refl; step = λ s. refl; spent = λ s. refl }
+abbrev Ours : Type 0
+Ours = Thread Runs Line Event
 
-  own_run : (n : ℕ) (s : S) → run (each_steps x) n (numbered number s) ≡ outcome_image (numbered number) (run (x number) n s)
-  own_run n s = run_image (numbered number) (x number) (each_steps x) own_steps n s
+-- ** no data in a thread's hands is no change
 
-module _ {S L E : Type 0} where
-  run-own : (number : ℕ) (todo : List L) (said : List Said) (seen : List E) (points : List ℕ) (out : Outcome S)
-      → after_run todo said seen points (outcome_image (numbered number) out) ≡ numbered_thread number (after_run todo said seen points out)
-  run-own number todo said seen points (Ended stop left s) = refl
-  run-own number todo said seen points (Waits left s) = refl
+module _ (h : Runs) (holds : HoldsBlocks h) where
+  same_again : with_owned h (owned_by h) ≡ h
+  same_again =
+      ap (λ (os : List Owner). record {
+        after = left h.after.state (record h.after.memory { own = ranges_in (owned_by h) });
+        owners = os;
+        asked = h.asked;
+      }) (owners_again h.owners h.after.memory.own holds)
+      ∙ ap (λ own. record { after = left h.after.state (record h.after.memory { own = own }); owners = h.owners; asked = h.asked })
+      (ranges_again h.owners h.after.memory.own holds)
 
-  module _ (fuel : ℕ) (x : ℕ → Turns S L E) (same_fuel : (number : ℕ) → (x number).fuel ≡ fuel) (number : ℕ) where
-    look-own : (steps : ℕ) (todo : List L) (said : List Said) (seen : List E) (points : List ℕ) (b : Begun S)
-        → after_look (each fuel x) steps todo said seen points (numbered_begun number b) ≡ numbered_thread number (after_look (x number) steps todo said seen points b)
-    look-own steps todo said seen points (Says ending s) = refl
-    look-own steps todo said seen points (Calls s) =
-        ap (after_run todo said seen points) (own_run (λ i. (x i).steps) number steps s) ∙ run-own number todo said seen points (run (x number).steps steps s)
+  in_hands : with_owned h (owned_by h ++ []) ≡ h
+  in_hands = ap (with_owned h) (append-nil (owned_by h)) ∙ same_again
 
-    turn-own : (todo : List L) (phase : Phase S) (said : List Said) (old seen : List E)
-        → turn_at (each fuel x) todo (numbered_phase number phase) said old seen ≡ numbered_thread number (turn_at (x number) todo phase said old seen)
-    turn-own [] (Idle s) said old seen = refl
-    turn-own (line ∷ todo) (Idle s) said old seen = rw (same_fuel number) (look-own fuel todo said seen _ ((x number).begin line seen s))
-    turn-own [] (Mid left points s) said old seen = look-own _ [] said seen _ ((x number).resume seen s)
-    turn-own (line ∷ todo) (Mid left points s) said old seen = look-own _ (line ∷ todo) said seen _ ((x number).resume seen s)
+  out_of_hands : with_owned h (blocks_in (owned_by h)) ≡ h
+  out_of_hands = ap (with_owned h) (blocks_again h.owners h.after.memory.own holds) ∙ same_again
 
-    -- the law of one turn
-    pub own_turn : (t : Thread S L E) (seen : List E) → turn (each fuel x) (numbered_thread number t) seen ≡ numbered_thread number (turn (x number) t seen)
-    own_turn t seen = turn-own t.todo t.phase t.said t.seen seen
+phase_same : (f : Runs → Runs) (phase : Phase Runs) → f (held_in phase) ≡ held_in phase → changed f phase ≡ phase
+phase_same f (Idle h) e = ap (λ g. Idle g) e
+phase_same f (Mid steps points h) e = ap (λ g. Mid steps points g) e
 
-    pub own_turns : (points : List (List E)) (t : Thread S L E) → turns (each fuel x) (numbered_thread number t) points ≡ numbered_thread number (turns (x number) t points)
-    own_turns [] t = refl
-    own_turns (seen ∷ points) t = ap (λ u. turns (each fuel x) u points) (own_turn t seen) ∙ own_turns points (turn (x number) t seen)
+-- a thread that holds blocks
+abbrev Holds : Ours → Type 0
+Holds t = HoldsBlocks (held_in t.phase)
 
-  -- which thread stands where at first
-  thread-at : (start : ℕ → S) (first : ℕ) (lines : List (List L)) (i number : ℕ) (own : List L) → number ≡ first + i → slice_get lines i ≡ Some own
-      → slice_get (threads_from {E = E} start first lines) i ≡ Some (numbered_thread number (ready (start number) own))
-  unfolding threads_from
-  thread-at start first [] i number own e at = cc
-  thread-at start first (lines ∷ more) zero number own e at = let same : number ≡ first = omega arith in let here : lines ≡ own = cc in rw (same, here) refl
-  thread-at start first (lines ∷ more) (suc i) number own e at = thread-at start (suc first) more i number own (omega arith) at
+with_none : (t : Ours) → Holds t → with_data [] t ≡ t
+with_none t holds =
+    ap (λ (phase : Phase Runs). record t { phase = phase })
+    (phase_same (λ h. with_owned h (owned_by h ++ [])) t.phase (in_hands (held_in t.phase) holds))
 
--- ** what a thread may see after its last look: the events that it saw, and more
+without_none : (t : Ours) → Holds t → without_data t ≡ t
+without_none t holds =
+    ap (λ (phase : Phase Runs). record t { phase = phase })
+    (phase_same (λ h. with_owned h (blocks_in (owned_by h))) t.phase (out_of_hands (held_in t.phase) holds))
 
-front-again : {E : Type 0} (front whole : List E) → IsFront front whole → IsFront whole whole
-front-again front whole h = ([], sym (append-nil whole))
+-- ** turns
 
-front-grown : {E : Type 0} (front whole : List E) (e : E) → IsFront front whole → IsFront front (with_last whole e)
-front-grown front whole e h = (h.0 ++ e ∷ [], ap (λ all. all ++ e ∷ []) h.1 ∙ append_assoc front h.0 (e ∷ []))
+module _ (l : Loads ℕ) (none : HasNoData l) (fuel thread : ℕ) where
+  abbrev x : Turns Runs Line Event
+  x = thread_turns l thread fuel
 
-pub fronts_grow : {L E : Type 0} (event : L → List E → Option E) → IsGrowing {L = L} {E = E} IsFront event
-fronts_grow event = record { again = λ old new fine. front-again old new fine; grown = λ old new line e fine added. front-grown old new e fine }
+  run_keeps : (todo : List Line) (said : List Said) (seen : List Event) (points : List ℕ) (out : Outcome Runs)
+      → OutHolds l none thread out → Holds (after_run todo said seen points out)
+  run_keeps todo said seen points (Ended stop n h) holds = holds
+  run_keeps todo said seen points (Waits n h) holds = holds
 
-pub first_fine : {S L : Type 0} (E : Type 0) (start : ℕ → S) (number : ℕ) (lines : List (List L)) → AllFine {E = E} IsFront [] (threads_from {E = E} start number lines)
-unfolding threads_from
-first_fine E start number [] = tt
-first_fine E start number (own ∷ lines) = (([], refl), first_fine E start (suc number) lines)
+  look_keeps : (steps : ℕ) (todo : List Line) (said : List Said) (seen : List Event) (points : List ℕ) (begun : Begun Runs)
+      → BegunHolds l none thread begun → Holds (after_look x steps todo said seen points begun)
+  unfolding thread_turns
+  look_keeps steps todo said seen points (Says ending h) holds = holds
+  look_keeps steps todo said seen points (Calls h) holds =
+      run_keeps todo said seen points (run x.steps steps h) (run_holds l none thread steps h holds)
 
--- ** turns of calls
+  turn_at_keeps : (todo : List Line) (phase : Phase Runs) (said : List Said) (old seen : List Event) → HoldsBlocks (held_in phase)
+      → Holds (turn_at x todo phase said old seen)
+  unfolding thread_turns
+  turn_at_keeps [] (Idle h) said old seen holds = holds
+  turn_at_keeps (line ∷ todo) (Idle h) said old seen holds =
+      look_keeps x.fuel todo said seen (length seen ∷ []) (x.begin line seen h) (begin_holds l none thread line seen h)
+  turn_at_keeps [] (Mid steps points h) said old seen holds =
+      look_keeps (steps - 1) [] said seen (with_last points (length seen)) (x.resume seen h) (resume_holds l none thread seen h)
+  turn_at_keeps (line ∷ todo) (Mid steps points h) said old seen holds =
+      look_keeps (steps - 1) (line ∷ todo) said seen (with_last points (length seen)) (x.resume seen h)
+      (resume_holds l none thread seen h)
 
-module _ {S : Type 0} (fuel : ℕ) (x : ℕ → Turns S CallLine Event) (same_fuel : (number : ℕ) → (x number).fuel ≡ fuel) (start : ℕ → S) where
-  -- the law of an order
-  pub own_order : (lines : List (List CallLine)) (order : List ℕ) (thread : ℕ) (own : List CallLine) → at_number lines thread ≡ Some own
-      → (points : List (List Event)) × Rises IsFront [] points × AllFronts points (by_order (each fuel x) adds_none order (first_world start lines)).events
-      × (at_number (said_by_each (by_order (each fuel x) adds_none order (first_world start lines))) thread ≡ Some (turns (x thread) (ready (start thread) own) points).said)
-  own_order lines order zero own at = cc
-  own_order lines order (suc i) own at =
-      let first = first_world {E = Event} start lines in
-      let end = by_order (each fuel x) adds_none order first in
-      let points = order_points (each fuel x) adds_none IsFront (fronts_grow adds_none) order first (suc i) (numbered_thread (suc i) (ready (start (suc i)) own))
-      (thread-at start 1 lines i (suc i) own (omega arith) at) (first_fine Event start 1 lines) in (
-        points.points,
-        points.rises,
-        points.fronts,
-        slice_get-map (λ (t : Thread (Numbered S) CallLine Event). t.said) end.threads i
-            ∙ ap (option_map (λ (t : Thread (Numbered S) CallLine Event). t.said)) (points.thread
-            ∙ ap Some (own_turns fuel x same_fuel (suc i) points.points (ready (start (suc i)) own))),
-      )
+  turn_keeps : (t : Ours) (seen : List Event) → Holds t → Holds (turn x t seen)
+  turn_keeps t seen holds = turn_at_keeps t.todo t.phase t.said t.seen seen holds
 
-machine-fuel : (loaded : Loaded ℕ) (fuel thread : ℕ) → (machine_turns {E = Event} loaded thread fuel).fuel ≡ 4 * fuel
-unfolding machine_turns
-machine-fuel loaded fuel thread = refl
+-- ** orders
 
-module _ (loaded : Loaded ℕ) (fuel : ℕ) where
-  pub printed_turn : (thread : ℕ) (t : Thread (Printed Event) CallLine Event) (seen : List Event)
-      → turn (all_printed loaded fuel) (numbered_thread thread t) seen ≡ numbered_thread thread (turn (machine_turns loaded thread fuel) t seen)
-  printed_turn thread t seen = own_turn (4 * fuel) (λ thread. machine_turns loaded thread fuel) (machine-fuel loaded fuel) thread t seen
+module _ (l : Loads ℕ) (none : HasNoData l) (fuel : ℕ) where
+  abbrev World : Type 0
+  World = Shared ℕ Bool ℕ Line
 
-  pub printed_own : (lines : List (List CallLine)) (order : List ℕ) (thread : ℕ) (own : List CallLine) → at_number lines thread ≡ Some own
-      → (points : List (List Event)) × Rises IsFront [] points × AllFronts points (printed_world loaded fuel lines order).events
-      × (at_number (said_by_each (printed_world loaded fuel lines order)) thread ≡ Some (printed_by loaded thread fuel own points))
-  printed_own lines order thread own at = own_order (4 * fuel) (λ thread. machine_turns loaded thread fuel) (machine-fuel loaded fuel) (printed_start loaded) lines order thread own at
+  abbrev each : ℕ → Turns Runs Line Event
+  each thread = thread_turns l thread fuel
+
+  abbrev event : ℕ → Line → List Event → Option Event
+  event thread = event_by l thread
+
+  -- no data is shared, and each thread holds blocks and saw a front of the history
+  record IsOn (w : World) : Type 0 where
+    pub shared : w.shared ≡ []
+    pub holds : (i : ℕ) (t : Ours) → slice_get w.threads i ≡ Some t → Holds t
+    pub saw : (i : ℕ) (t : Ours) → slice_get w.threads i ≡ Some t → IsFront t.seen w.events
+
+  -- a turn of thread i is a turn of its own
+  turned_is : (w : World) (i : ℕ) (t : Ours) → w.shared ≡ [] → Holds t → turned each event w i t ≡ turn (each i) t w.events
+  turned_is w i t shared holds =
+      ap (λ xs. without_data (turn (each i) (with_data xs t) w.events)) shared
+      ∙ (ap (λ (u : Ours). without_data (turn (each i) u w.events)) (with_none t holds)
+      ∙ without_none (turn (each i) t w.events) (turn_keeps l none fuel i t w.events holds))
+
+  -- and it leaves no data
+  none_left : (w : World) (i : ℕ) (t : Ours) → w.shared ≡ [] → Holds t
+      → data_in (owned_by (held_in (turn (each i) (with_data w.shared t) w.events).phase)) ≡ []
+  none_left w i t shared holds =
+      ap (λ xs. data_in (owned_by (held_in (turn (each i) (with_data xs t) w.events).phase))) shared
+      ∙ (ap (λ (u : Ours). data_in (owned_by (held_in (turn (each i) u w.events).phase))) (with_none t holds)
+      ∙ no_data (held_in (turn (each i) t w.events).phase).owners (held_in (turn (each i) t w.events).phase).after.memory.own
+      (turn_keeps l none fuel i t w.events holds))
+
+  -- what its turn saw is a front
+  turn_saw : (i : ℕ) (t : Ours) (events later : List Event) → IsFront t.seen events → IsFront events later
+      → IsFront (turn (each i) t events).seen later
+  turn_saw i t events later saw front =
+      (elim (turn-seen (each i) t events)
+      as (λ (k : IsFinished t.todo t.phase ⊎ ((turn (each i) t events).seen ≡ events)). IsFront (turn (each i) t events).seen later) [
+        | inl done ↦ subst (λ (u : Ours). IsFront u.seen later) (sym (turn-finished (each i) t events done))
+            (front-trans each event t.seen events later saw front)
+        | inr e ↦ subst (λ (seen : List Event). IsFront seen later) (sym e) front
+      ])
+
+  -- whatever holds of the one that took the turn, and of the others as they were
+  at_set : (P : Ours → Type 0) (threads : List Ours) (i j : ℕ) (u v t : Ours) → slice_get threads j ≡ Some u → P v
+      → ((t : Ours) → slice_get threads i ≡ Some t → P t) → slice_get (slice_set threads j v) i ≡ Some t → P t
+  at_set P threads i j u v t at new old found =
+      (elim (get-set threads i j v) as (λ (o : (j ≡ i) ⊎ (slice_get (slice_set threads j v) i ≡ slice_get threads i)). P t) [
+        | inl here ↦
+            let own : slice_get (slice_set threads j v) j ≡ Some v = get-set_same threads j u v at in
+            let same : v ≡ t = cc in
+            subst P same new
+        | inr other ↦ let mine : slice_get threads i ≡ Some t = cc in old t mine
+      ])
+
+  some_on : (w : World) (j : ℕ) (u : Ours) → slice_get w.threads j ≡ Some u → IsOn w
+      → IsOn (shared_turn each event w (suc j) (Some u))
+  some_on w j u at on =
+      let holds = on.holds j u at in
+      let is = turned_is w (suc j) u on.shared holds in
+      let front = turn-front each event w (suc j) (Some u) in
+      let later = (shared_turn each event w (suc j) (Some u)).events in
+      record {
+        shared = none_left w (suc j) u on.shared holds;
+        holds = λ i t found.
+            at_set Holds w.threads i j u (turned each event w (suc j) u) t at
+            (subst Holds (sym is) (turn_keeps l none fuel (suc j) u w.events holds)) (λ t mine. on.holds i t mine) found;
+        saw = λ i t found.
+            at_set (λ t. IsFront t.seen later) w.threads i j u (turned each event w (suc j) u) t at
+            (subst (λ (v : Ours). IsFront v.seen later) (sym is) (turn_saw (suc j) u w.events later (on.saw j u at) front))
+            (λ t mine. front-trans each event t.seen w.events later (on.saw i t mine) front) found;
+      }
+
+  -- the turns of thread i are its own
+  record AtPoints (t : Ours) (i : ℕ) (w : World) : Type 0 where
+    pub points : List (List Event)
+    pub rises : Rises IsFront t.seen points
+    pub fronts : AllFronts points w.events
+    pub thread : slice_get w.threads i ≡ Some (turns (each (suc i)) t points)
+
+  -- with one more in front
+  own_points : (t : Ours) (i : ℕ) (events : List Event) (v : World) → IsFront t.seen events → IsFront events v.events
+      → AtPoints (turn (each (suc i)) t events) i v → AtPoints t i v
+  own_points t i events v saw front at =
+      (elim (turn-seen (each (suc i)) t events)
+      as (λ (k : IsFinished t.todo t.phase ⊎ ((turn (each (suc i)) t events).seen ≡ events)). AtPoints t i v) [
+        | inl done ↦ subst (λ (u : Ours). AtPoints u i v) (turn-finished (each (suc i)) t events done) at
+        | inr e ↦ record {
+          points = events ∷ at.points;
+          rises = (saw, subst (λ (old : List Event). Rises IsFront old at.points) e at.rises);
+          fronts = (front, at.fronts);
+          thread = at.thread;
+        }
+      ])
+
+  module _ (order : List ℕ) (i : ℕ)
+      (rest : (v : World) (u : Ours) → slice_get v.threads i ≡ Some u → IsOn v → AtPoints u i (shared_order each event order v)) where
+    some_points : (w : World) (j : ℕ) (t u : Ours) → slice_get w.threads i ≡ Some t → IsOn w → slice_get w.threads j ≡ Some u
+        → AtPoints t i (shared_order each event order (shared_turn each event w (suc j) (Some u)))
+    some_points w j t u mine on at =
+        let v = shared_turn each event w (suc j) (Some u) in
+        let new = turned each event w (suc j) u in
+        let after = some_on w j u at on in
+        (elim (get-set w.threads i j new)
+        as (λ (o : (j ≡ i) ⊎ (slice_get (slice_set w.threads j new) i ≡ slice_get w.threads i)). AtPoints t i (shared_order each event order v)) [
+          | inl here ↦
+              let same : u ≡ t = cc in
+              let is : new ≡ turn (each (suc i)) t w.events =
+              turned_is w (suc j) u on.shared (on.holds j u at)
+              ∙ (ap (λ (n : ℕ). turn (each (suc n)) u w.events) here ∙ ap (λ (s : Ours). turn (each (suc i)) s w.events) same) in
+              let own : slice_get (slice_set w.threads j new) j ≡ Some new = get-set_same w.threads j u new at in
+              let found : slice_get v.threads i ≡ Some (turn (each (suc i)) t w.events) =
+              subst (λ (n : ℕ). slice_get (slice_set w.threads j new) n ≡ Some new) here own ∙ ap (λ (s : Ours). Some s) is in
+              own_points t i w.events (shared_order each event order v) (on.saw i t mine)
+              (front-trans each event w.events v.events (shared_order each event order v).events
+              (turn-front each event w (suc j) (Some u)) (order-front each event order v))
+              (rest v (turn (each (suc i)) t w.events) found after)
+          | inr other ↦ rest v t (other ∙ mine) after
+        ])
+
+    taken_points : (w : World) (j : ℕ) (t : Ours) → slice_get w.threads i ≡ Some t → IsOn w
+        → AtPoints t i (shared_order each event order (taken each event w j))
+    taken_points w zero t mine on = rest w t mine on
+    taken_points w (suc j) t mine on =
+        (elim (slice_get w.threads j)
+        as (λ (o : Option Ours). slice_get w.threads j ≡ o
+        → AtPoints t i (shared_order each event order (shared_turn each event w (suc j) o))) [
+          | None ↦ λ at. rest w t mine on
+          | Some u ↦ λ at. some_points w j t u mine on at
+        ]) refl
+
+  order_points : (order : List ℕ) (i : ℕ) (w : World) (t : Ours) → slice_get w.threads i ≡ Some t → IsOn w
+      → AtPoints t i (shared_order each event order w)
+  order_points [] i w t mine on = record { points = []; rises = tt; fronts = tt; thread = mine }
+  order_points (j ∷ order) i w t mine on =
+      taken_points order i (λ v u found on. order_points order i v u found on) w j t mine on
+
+  -- ** the job
+
+  no_range : (y : Instance) (rest : List (Owned ℕ)) → data_after l (λ y. true) [] y ++ rest ≡ rest
+  no_range y rest = rw (none y) refl
+
+  no_first : (ys : List Instance) → flat_map (data_after l (λ y. true) []) ys ≡ []
+  no_first [] = refl
+  no_first (y ∷ ys) = no_range y (flat_map (data_after l (λ y. true) []) ys) ∙ no_first ys
+
+  -- a thread before its first line
+  ready_holds : (first : ℕ) → HoldsBlocks (thread_ready l first)
+  ready_holds first = look_holds l none first [] (record {
+    after = left (start_of plain_operations 0 0 0 0 0) (record { seen = []; stack = []; own = [] });
+    owners = [];
+    asked = None;
+  })
+
+  first_holds : (first : ℕ) (lines : List (List ThreadLine)) (i : ℕ) (t : Ours) → slice_get (ready_from l first lines) i ≡ Some t → Holds t
+  first_holds first [] i t found = cc
+  first_holds first (own ∷ lines) zero t found =
+      let same : ready (thread_ready l first) (numbered_lines 1 own) ≡ t = cc in
+      subst Holds same (ready_holds first)
+  first_holds first (own ∷ lines) (suc i) t found = first_holds (suc first) lines i t found
+
+  first_saw : (first : ℕ) (lines : List (List ThreadLine)) (i : ℕ) (t : Ours) → slice_get (ready_from l first lines) i ≡ Some t
+      → IsFront t.seen []
+  first_saw first [] i t found = cc
+  first_saw first (own ∷ lines) zero t found =
+      let same : ready (thread_ready l first) (numbered_lines 1 own) ≡ t = cc in
+      subst (λ (u : Ours). IsFront u.seen []) same ([], refl)
+  first_saw first (own ∷ lines) (suc i) t found = first_saw (suc first) lines i t found
+
+  starts : (lines : List (List ThreadLine)) → IsOn (job_start l lines)
+  starts lines = record {
+    shared = no_first (instances l []);
+    holds = λ i t found. first_holds 1 lines i t found;
+    saw = λ i t found. first_saw 1 lines i t found;
+  }
+
+-- the law
+pub own_turns : ThreadsTakeTheirOwnTurns
+unfolding job_world
+own_turns l fuel lines order zero own none at = cc
+own_turns l fuel lines order (suc i) own none at =
+    let points = order_points l none fuel (whole_order (4 * fuel) lines order) i (job_start l lines)
+    (ready (thread_ready l (suc i)) (numbered_lines 1 own)) (thread_at l 1 lines i (suc i) own (omega arith) at)
+    (starts l none fuel lines) in (points.points, points.rises, points.fronts, points.thread)

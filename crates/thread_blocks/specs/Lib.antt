@@ -3,7 +3,6 @@ pub mod TurnsAlike
 pub mod Spaces
 pub mod MachineTurns
 pub mod Loading
-pub mod Calling
 pub mod Held
 pub mod Instances
 pub mod JobLoads
@@ -11,6 +10,3 @@ pub mod JobStatements
 pub mod JobWorlds
 pub mod Lines
 pub mod RunTime
-pub mod Numbered
-pub mod Worlds
-pub mod Statements

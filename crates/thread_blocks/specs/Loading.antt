@@ -70,8 +70,6 @@ abbrev pub blocks_of : List Part → Option TlsPart → ℕ → List (Range ℕ)
 blocks_of parts None thread = []
 blocks_of parts (Some tls) thread = block_range tls (initial_in tls (find (holds tls) parts)) thread ∷ []
 
--- ** functions
-
 -- ** all that is loaded
 
 unfoldable pub loaded_image : Spelled → Loaded ℕ

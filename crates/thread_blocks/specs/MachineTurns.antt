@@ -1,13 +1,11 @@
--- Lines that call a function, as the machine runs them over what is loaded.
-use Rattle.std.specs.Prelude.{◌≡◌, ℕ, ◌+◌, ◌-◌, ◌*◌, ◌^◌, Bool, true, false, List, [], ◌∷◌, ◌++◌, replicate, Option, Some, None, option_map}
+-- Calls of functions: where a thread's parts lie, what is loaded, what a call begins with, and what is said of a line.
+use Rattle.std.specs.Prelude.{◌≡◌, ℕ, ◌+◌, ◌-◌, ◌*◌, ◌^◌, true, false, List, [], ◌∷◌, ◌++◌, replicate, Option, Some, None, option_map}
 use Rattle.guest_operands.specs.declared.state.State.{State}
 use Rattle.guest_operands.specs.declared.stop.Stop.{Stop}
 use Rattle.guest_operands.specs.declared.stop.Stop.TheVariants.{Returned, Look, Address, Code, Unclean, Steps}
 use Rattle.guest_machine.specs.Access.{bytes_from}
 use Rattle.guest_machine.specs.Follow.{All2, Alike, SameAfter}
-use Rattle.guest_arithmetic.specs.Plain.{plain_operations}
 use Rattle.guest_machine.specs.Ranges.{Range}
-use Rattle.guest_machine.specs.Run.{Next, Goes, Ends, Looks, Stepping, machine}
 use Rattle.guest_machine.specs.State.{start_of}
 use Rattle.guest_machine.specs.Use.{After, left}
 use Rattle.guest_arithmetic.specs.Values.{Operations}
@@ -16,8 +14,8 @@ use Rattle.transcript_text.specs.declared.outcomes.LineFault.TheVariants.{Addres
 use Rattle.transcript_text.specs.declared.outcomes.Outcome.{Outcome as Answer}
 use Rattle.transcript_text.specs.declared.outcomes.Outcome.TheVariants.{Returned as ReturnedAnswer, Refused, Fault}
 use Rattle.transcript_text.specs.declared.outcomes.LineRefusal.TheVariants.{Symbol}
-use Rattle.thread_blocks.specs.Spaces.{Space, SameRange, SameSpace, space_accesses, open_everywhere, no_field}
-use Rattle.thread_blocks.specs.Turns.{Ending, Answered, Stopped, Said, Begun, Says, Calls, Turns, ready, turn}
+use Rattle.thread_blocks.specs.Spaces.{Space, SameRange, SameSpace}
+use Rattle.thread_blocks.specs.Turns.{Ending, Answered, Stopped, Said, Begun, Says, Calls}
 
 -- ---- where a thread's parts lie
 
@@ -117,35 +115,7 @@ module _ {W F B : Type 0} (ops : Operations W F B) where
       left (start_of ops 0 0 (ops.word 0) (ops.word 0) (ops.word 0))
       (record { seen = []; stack = []; own = loaded.blocks thread })
 
--- ---- runs with nobody to answer
-
--- where another would have to answer, none does, for no part of an image that is taken so far can be written, and what
--- is asked for would lie in one
-abbrev pub alone_next : {S : Type 0} → ℕ → Next S → Next S
-alone_next place (Goes t) = Goes t
-alone_next place (Ends stop) = Ends stop
-alone_next place (Looks t) = Ends (Address place)
-
-unfoldable pub alone : {S : Type 0} → (S → ℕ) → Stepping S → Stepping S
-alone place_of x = record {
-  over = x.over;
-  step = λ s. alone_next (place_of s) (x.step s);
-  spent = x.spent;
-}
-
--- ---- the machine's lines
-
--- a call's machine takes at most four times `fuel` steps
-unfoldable pub machine_turns : {E : Type 0} → Loaded ℕ → ℕ → ℕ → Turns (After ℕ Bool (Space E ℕ)) CallLine E
-machine_turns {E} loaded thread fuel = record {
-  steps = alone (λ at. at.state.place)
-      (machine plain_operations
-      (space_accesses plain_operations (stack_start thread) (fixed_of plain_operations loaded thread) open_everywhere)
-      no_field);
-  fuel = 4 * fuel;
-  begin = λ line seen at. begin_call plain_operations loaded thread line seen at;
-  resume = λ seen at. Calls (looked plain_operations seen at);
-}
+-- ---- what is said of a line
 
 -- a stop as the transcript has it; of an unclean one it has nothing
 abbrev pub answer_of_stop : Stop → Option Answer
@@ -163,11 +133,6 @@ answer_of (Stopped stop) = answer_of_stop stop
 -- a line as the transcript has it
 abbrev pub shown : Said → Option Line
 shown said = option_map (λ outcome. record { points = said.points; outcome = outcome }) (answer_of said.ending)
-
--- what a thread says that has one line, which sees no event
-unfoldable pub call_said : (E : Type 0) → Loaded ℕ → ℕ → ℕ → CallLine → List Said
-call_said E loaded thread fuel line = (turn (machine_turns {E = E} loaded thread fuel)
-    (ready (thread_start plain_operations loaded thread) (line ∷ [])) []).said
 
 -- ---- two threads, one over values of each kind
 

@@ -86,11 +86,6 @@ module _ {S L E : Type 0} (x : Turns S L E) where
   turns t [] = t
   turns t (seen ∷ more) = turns (turn t seen) more
 
--- threads, and the history of events that they share
-pub record World (S L E : Type 0) : Type 0 where
-  pub threads : List (Thread S L E)
-  pub events : List E
-
 -- the line that a thread's next turn begins, if it begins one
 abbrev pub next_line : {S L : Type 0} → List L → Phase S → Option L
 next_line [] phase = None
@@ -114,25 +109,6 @@ with_number xs (suc i) x = slice_set xs i x
 -- the event of a thread's next turn
 abbrev pub event_of : {S L E : Type 0} → (L → List E → Option E) → Thread S L E → List E → Option E
 event_of event t events = option_and_then (λ line. event line events) (next_line t.todo t.phase)
-
--- x: what threads do; event: the event that a line adds after the events that its first look sees, if it adds one
-module _ {S L E : Type 0} (x : Turns S L E) (event : L → List E → Option E) where
-  -- a turn of thread i, if there is one
-  abbrev pub taken_by : World S L E → ℕ → Option (Thread S L E) → World S L E
-  taken_by w i None = w
-  taken_by w i (Some t) = record {
-    threads = with_number w.threads i (turn x t w.events);
-    events = with_event w.events (event_of event t w.events);
-  }
-
-  -- the turn sees the whole history, and what its line adds comes after it
-  abbrev pub taken : World S L E → ℕ → World S L E
-  taken w i = taken_by w i (at_number w.threads i)
-
-  -- turns in an order: each entry is the number of a thread
-  abbrev pub by_order : List ℕ → World S L E → World S L E
-  by_order [] w = w
-  by_order (i ∷ order) w = by_order order (taken w i)
 
 -- nothing is left to do
 abbrev pub IsFinished : {S L : Type 0} → List L → Phase S → Type 0

@@ -1,8 +1,7 @@
 -- That threads of one kind do what threads of another do, turn by turn; an unclean line of the first allows anything.
-use Rattle.std.specs.Prelude.{◌≡◌, ◌⊎◌, ℕ, ◌+◌, ◌*◌, ◌≤◌, List, [], ◌∷◌, ◌++◌, Option, Some}
+use Rattle.std.specs.Prelude.{◌≡◌, ◌⊎◌, ◌+◌, ◌*◌, ◌≤◌, List, [], ◌∷◌, ◌++◌}
 use Rattle.guest_machine.specs.Simulate.{IsUnclean, IsSimulated}
-use Rattle.guest_machine.specs.Follow.{All2}
-use Rattle.thread_blocks.specs.Turns.{Ending, Answered, Stopped, Said, Begun, Says, Calls, Turns, Phase, Idle, Mid, Thread, World, turns, at_number, with_last}
+use Rattle.thread_blocks.specs.Turns.{Ending, Answered, Stopped, Said, Begun, Says, Calls, Turns, Phase, Idle, Mid, Thread}
 
 abbrev pub IsUncleanEnding : Ending → Type 0
 IsUncleanEnding (Answered answer) = ⊥
@@ -12,11 +11,6 @@ IsUncleanEnding (Stopped stop) = IsUnclean stop
 abbrev pub HasUnclean : List Said → Type 0
 HasUnclean [] = ⊥
 HasUnclean (line ∷ said) = IsUncleanEnding line.ending ⊎ HasUnclean said
-
--- one of the threads has an unclean line
-abbrev pub AnyUnclean : {S L E : Type 0} → List (Thread S L E) → Type 0
-AnyUnclean [] = ⊥
-AnyUnclean (t ∷ threads) = HasUnclean t.said ⊎ AnyUnclean threads
 
 -- what two looks at the events come to
 abbrev pub SameBegun : {S S' E : Type 0} (Rel Rest : List E → S → S' → Type 0) → List E → Begun S → Begun S' → Type 0
@@ -55,10 +49,6 @@ module _ {S S' E : Type 0} (Wait Rest : List E → S → S' → Type 0) where
   abbrev pub SameThread : {L : Type 0} → Thread S L E → Thread S' L E → Type 0
   SameThread t t' = HasUnclean t.said ⊎ Level t t'
 
-  pub record SameWorld {L : Type 0} (w : World S L E) (w' : World S' L E) : Type 0 where
-    pub events : w'.events ≡ w.events
-    pub threads : All2 Level w.threads w'.threads
-
 -- lists of events, each of which may be seen after the one before it
 abbrev pub Rises : {E : Type 0} → (List E → List E → Type 0) → List E → List (List E) → Type 0
 Rises Fine old [] = Unit {0}
@@ -70,22 +60,3 @@ IsFront {E} front whole = (rest : List E) × (whole ≡ front ++ rest)
 abbrev pub AllFronts : {E : Type 0} → List (List E) → List E → Type 0
 AllFronts [] whole = Unit {0}
 AllFronts (front ∷ fronts) whole = IsFront front whole × AllFronts fronts whole
-
--- what may be seen may be seen again, and with an event that a line adds after it
-pub record IsGrowing {L E : Type 0} (Fine : List E → List E → Type 0) (event : L → List E → Option E) : Type 0 where
-  pub again : (old new : List E) → Fine old new → Fine new new
-  pub grown : (old new : List E) (line : L) (e : E)
-      → Fine old new → event line new ≡ Some e → Fine old (with_last new e)
-
--- each thread may see the history
-abbrev pub AllFine : {S L E : Type 0} → (List E → List E → Type 0) → List E → List (Thread S L E) → Type 0
-AllFine Fine events [] = Unit {0}
-AllFine Fine events (t ∷ threads) = Fine t.seen events × AllFine Fine events threads
-
--- the turns of thread i in an order are its turns at fronts of the final history, one after another
-pub record AtPoints {S L E : Type 0} (x : Turns S L E) (Fine : List E → List E → Type 0)
-    (t : Thread S L E) (i : ℕ) (w : World S L E) : Type 0 where
-  pub points : List (List E)
-  pub rises : Rises Fine t.seen points
-  pub fronts : AllFronts points w.events
-  pub thread : at_number w.threads i ≡ Some (turns x t points)

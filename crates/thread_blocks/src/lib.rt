@@ -1,40 +1,51 @@
-//! What a thread of a linked program does, and what its memory is.
+//! What the threads of a job do, turn by turn, and what each has in its memory: definitions, and laws of them. No code
+//! runs here; `thread_space` runs threads as these definitions say.
 //!
-//! A thread has a list of lines to do, such as "call `f` with 3, 10 and 0". What a line comes to may
-//! depend on what other threads did before: a module that one thread opens, another may call. All of
-//! that is one list of events, the history, which only grows. A thread learns of it by **looks**: one
-//! at the start of each line, and one at each access to a module's block that it cannot answer by
-//! itself. Between two looks its steps are private, for no other thread sees its registers, its
-//! stack or its blocks. So a **turn**, a look and the private steps behind it, is all that an order of
-//! threads can interleave, and what a thread does is a function of the lists of events that its looks
-//! see. That is why there is a history and no shared clock: to know a thread's lines it is enough to
-//! know the number of events at each of its looks, its points.
+//! A thread has a list of lines to do, such as "call `f` of image 1 with 3, 10 and 0" or "open image 2". What a line
+//! comes to may depend on what other threads did before: a module that one thread opens, another may call. All of that
+//! is one list of events, the history, which only grows. A thread learns of it by **looks**: one at the start of each
+//! line, and one at each access to a module's block that it cannot answer by itself. Between two looks its steps are
+//! private, for no other thread sees its registers, its stack or its blocks. So a **turn**, a look and the private steps
+//! behind it, is all that an order of threads can interleave. What threads do share besides the history, the data of
+//! programs and modules, goes from turn to turn.
 //!
-//! `specs/Turns.antt` says this over any steps, lines and events: `turn`, `turns` at any lists of
-//! events, and `by_order`, where each entry of an order lets a thread take a turn that sees the whole
-//! history and may add its event. The laws in `proofs/Turns.antt`:
+//! That is why there is a history and no shared clock: where no image has data, a thread's lines are a function of the
+//! lists of events that its looks see, and to know them it is enough to know the number of events at each look, its
+//! points.
 //!
-//! - threads whose steps follow each other do so turn by turn and in any order, up to the first unclean
-//!   line (`turn_alike`, `turns_alike`, `order_alike`, `order_says`);
-//! - an order gives each thread fronts of the final history, one after another (`order_points`);
-//! - each thread comes to its end (`order_ends`).
+//! **Turns** (`specs/Turns.antt`) are defined over any steps, lines and events: `turn`, and `turns` at any lists of
+//! events. Threads whose steps follow each other do so turn by turn, up to the first unclean line (`specs/TurnsAlike.antt`,
+//! `turn_alike`, `turns_alike`).
 //!
-//! **Threads among others** (`specs/Numbered.antt`, `specs/Worlds.antt`) have their number in their state, since
-//! each has its own stack, thread pointer and blocks. Each takes the turns that it would take alone, at fronts
-//! of the history that never get shorter (`laws`).
+//! **Orders** (`specs/JobWorlds.antt`): each entry of an order lets a thread take a turn that sees the whole history, has
+//! the shared data in its hands, and may add its event (`shared_order`). A whole job is its own order and then each thread
+//! to its end (`job_world`). The laws ([`laws`]), of every job:
 //!
-//! **A thread's memory** (`specs/Spaces.antt`) has three parts: its stack; its blocks of thread-local
-//! storage; and what no thread writes, which is a function of the events seen: code, constants, and the
-//! eight bytes at the thread pointer, which hold it. A machine over these parts is the machine over the
-//! list of their ranges (`space_image`, `space_run`), and memories that are related part by part stay so
-//! (`spaces_kept`).
+//! - each open and close was accepted after those before it (`histories_are_legal`);
+//! - each thread comes to its end (`threads_end`);
+//! - after a look a thread holds nothing of an instance that is gone (`looks_leave_what_is_live`);
+//! - where no image has data, a thread among others takes the turns that it would take alone, at fronts of the history
+//!   that never get shorter (`threads_take_their_own_turns`).
 //!
-//! **What an image's parts become** (`specs/Loading.antt`). `image_file` reads an image, whoever linked it.
-//! Each part of it lies at its address in every thread's memory, with the rights of its class: code can be
-//! fetched and not be read, constants can be read, data can be read and written, but for the part that the
-//! loader alone writes (GNU_RELRO), which can be read. The TLS segment is no part: it says how each thread's
-//! block begins, with the initial image, which lies in the first part that holds it whole, and zeros behind
-//! it. A function is found by the first symbol of its name (`entry_place`).
+//! **A thread's memory** (`specs/Spaces.antt`) has three parts: its stack; what it writes besides, its blocks of
+//! thread-local storage and the data that it has in its hands; and what no thread writes, which is a function of the
+//! events seen: code, constants, and the eight bytes at the thread pointer, which hold it. A machine over these parts is
+//! the machine over the list of their ranges (`space_image`, `space_run`), and memories that are related part by part stay
+//! so (`spaces_kept`).
+//!
+//! **Lines** (`specs/Lines.antt`) call, open, close, or show bytes of a variable, over the instances that are live where
+//! their look saw the history (`specs/Instances.antt`). A look drops what is gone and finds the blocks at fixed distances
+//! (`specs/Held.antt`). The machine's calls of `__tls_get_addr` and of a descriptor's function are steps of their own: an
+//! id of an image that started with the program is answered at once, any other after a look (`specs/RunTime.antt`). What
+//! the thread then asks for is [`Asked`].
+//!
+//! **What an image's parts become** (`specs/JobLoads.antt`). `image_file` reads an image, whoever linked it. Each part of
+//! a live instance lies at its place in every thread's memory, as the loader leaves it, with the rights of its class: code
+//! can be fetched and not be read, constants can be read, data can be read and written, but for the part that the loader
+//! alone writes (GNU_RELRO), which can be read. The TLS segment is no part: it says how each thread's block begins, with
+//! the initial image, which lies in the first part that holds it whole, and zeros behind it. A function is found by the
+//! first symbol of its name. `specs/Loading.antt` says the same of a program alone of which a loader moves nothing, to
+//! be compared with what its objects mean.
 //!
 //! **Where the rest lies.** Thread t has its thread pointer at t * 2^40 + 2^38, and its stack is the
 //! 65,536 bytes before t * 2^40 + 2^39. By variant II of Drepper's "ELF Handling For Thread-Local
@@ -53,32 +64,18 @@
 //!             r  0x401000        2a 00 00 00
 //! ```
 //!
-//! `ThreadMemory` is such a memory, from call to call: its blocks keep their bytes, and each call has a
-//! fresh stack. Its contract is that a call is a turn of the thread (`machine_turns`,
-//! `specs/MachineTurns.antt`) whose line calls the function, over anything loaded of which no thread writes
-//! a part. So images with data that programs write are loaded, but nothing is said of their calls yet.
-//! `run_call` runs the one call of a thread that has no other; for the function above it answers
-//! `Returned(0x2a)`.
+//! Blocks of modules that start with the program, and of those in the static surplus, lie further below. That of any
+//! other instance, number n, begins at t * 2^40 + n * 2^24, once the thread has reached it.
 //!
-//! **Lines of all kinds** are defined beside these, and no code runs them yet. A line calls, opens, closes, or shows
-//! bytes of a variable (`specs/Lines.antt`), over the instances that are live where its look saw the history
-//! (`specs/Instances.antt`). A look drops what is gone and finds the blocks at fixed distances (`specs/Held.antt`); the
-//! machine's calls of `__tls_get_addr` and of a descriptor's function are steps of their own (`specs/RunTime.antt`); and
-//! the data that all threads share goes from turn to turn (`specs/JobWorlds.antt`). The checker computes whole jobs by
-//! them, from the bytes of their images (`proofs/JobExamples.antt` and two more files there).
+//! The checker computes whole jobs by these definitions, from the bytes of their images (`proofs/JobExamples.antt`,
+//! `DataExamples`, `StaticExamples`): modules that are opened twice or closed while a call waits for its block, data that
+//! two threads share, descriptors.
 //!
-//! What a call begins with is one definition for any kind of values, so that a meaning over marked
-//! values begins as the machine does (`begin_call_alike`, `proofs/Begin.antt`).
+//! What a call begins with is one definition for any kind of values, so that a meaning over marked values begins as the
+//! machine does (`begin_call_alike`, `proofs/Begin.antt`).
 #![tactic(auto)]
 
 mod asked;
-mod call;
-mod entry;
 pub mod laws;
-mod loading;
-mod memory;
-mod reach;
 
 pub use asked::Asked;
-pub use call::{Call, ThreadMemory, run_call};
-pub use entry::entry_place;

@@ -5,10 +5,5 @@ pub mod Kept
 pub mod Live
 pub mod OfParts
 pub mod Places
-pub mod Runners
-pub mod Running
-pub mod Standing
-pub mod Starting
 pub mod Steps
-pub mod Taking
 pub mod Writing

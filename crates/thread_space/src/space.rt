@@ -101,7 +101,7 @@ impl<'m> ThreadSpace<'m> {
     }
 
     /// Where its memory comes from.
-    pub(crate) fn alloc(&self) -> Global {
+    pub fn alloc(&self) -> Global {
         self.alloc
     }
 

@@ -24,7 +24,7 @@ const VARIABLE: Rights = Rights {
 };
 
 /// The thread pointer of a thread, from 1.
-pub(crate) fn thread_pointer(thread: u32) -> u64
+pub fn thread_pointer(thread: u32) -> u64
     requires { thread ≤ 64 }
     ensures { result ≡ pointer_of thread }
 {
@@ -32,7 +32,7 @@ pub(crate) fn thread_pointer(thread: u32) -> u64
 }
 
 /// Where a thread's stack ends.
-pub(crate) fn end_of_stack(thread: u32) -> u64
+pub fn end_of_stack(thread: u32) -> u64
     requires { thread ≤ 64 }
     ensures { result ≡ stack_end thread }
 {

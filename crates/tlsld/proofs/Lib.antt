@@ -1,13 +1,15 @@
+mod Again
 mod Asked
 mod Kept
-mod Lines
 mod Making
+mod Meanings
 mod Membership
 mod Mentioned
 mod Places
-mod Programs
 mod Running
 mod Shown
 mod SiteLines
 mod Stages
+mod Together
+mod Transcribed
 mod Words

@@ -26,7 +26,7 @@ use Rattle.link_needs.specs.Linking.{Linking, choice}
 use Rattle.sequence_forms.specs.declared.places.Site.{Site}
 use Rattle.tlsld.specs.declared.wish.Wish.{Wish}
 use Rattle.tlsld.specs.declared.wish.Wish.TheVariants.{File, Sites}
-use Rattle.tlsld.specs.Links.{Output, ImagesSay}
+use Rattle.tlsld.specs.Links.{Output, ImagesSay, IsUnlinked}
 use Rattle.tlsld.specs.LinkSteps.{IsImageRefusalOf, NamesImage, made_of}
 use Rattle.image_writer.specs.Written.{written}
 use Rattle.tls_symbols.specs.Bindings.{exported_names}
@@ -134,18 +134,30 @@ names_image job images relax bytes are (refusal.At number kind object section en
     let within = slice_get_within images number is.image is.there in
     omega (arith, count, within)
 
+pub is_unlinked : {T : Type 0} (text_of : T → List ℕ) (own : Bool) (job : JobParts) (images : List Given) (relax : Bool) (r : ImageRefusal) (f : CommandFault) → relax ≡ own
+    → IsImageRefusal images relax r → IsImageRefusalOf job r f → Comes text_of (IsUnlinked own job images) (Err f)
+is_unlinked text_of own job images relax refusal.OutOfMemory f e is of = subst (λ v. Comes text_of (IsUnlinked own job images) (Err v)) (sym of) tt
+is_unlinked text_of own job images relax (refusal.At number kind object section entry) fault.Store e is of = tt
+is_unlinked text_of own job images relax (refusal.At number kind object section entry) fault.OutOfMemory e is of = tt
+is_unlinked text_of own job images relax (refusal.At number kind object section entry) (fault.Refused told) e is of = record {
+  number = number;
+  kind = kind;
+  object = object;
+  section = section;
+  entry = entry;
+  first = subst (λ (b : Bool). IsImageRefusal images b (refusal.At number kind object section entry)) e is;
+  says = of;
+}
+
+-- what is said of them is said by a command
+pub fault_by : {T : Type 0} (text_of : T → List ℕ) (P Q : ℕ → List ℕ → Type 0) (f : CommandFault) → ((status : ℕ) (text : List ℕ) → P status text → Q status text)
+    → Comes text_of P (Err f) → Comes text_of Q (Err f)
+fault_by text_of P Q fault.Store more says = tt
+fault_by text_of P Q fault.OutOfMemory more says = tt
+fault_by text_of P Q (fault.Refused told) more says = more _ _ says
+
 pub unlinked_says : {T : Type 0} (text_of : T → List ℕ) (own : Bool) (O : Output) (job : JobParts) (place : ℕ) (images : List Given) (relax : Bool) (r : ImageRefusal) (f : CommandFault) → relax ≡ own
     → IsImageRefusal images relax r → IsImageRefusalOf job r f → Comes text_of (ImagesSay own O job place images) (Err f)
-unlinked_says text_of own O job place images relax refusal.OutOfMemory f e is of = subst (λ v. Comes text_of (ImagesSay own O job place images) (Err v)) (sym of) tt
-unlinked_says text_of own O job place images relax (refusal.At number kind object section entry) fault.Store e is of = tt
-unlinked_says text_of own O job place images relax (refusal.At number kind object section entry) fault.OutOfMemory e is of = tt
-unlinked_says text_of own O job place images relax (refusal.At number kind object section entry) (fault.Refused told) e is of =
-    inr (record {
-      number = number;
-      kind = kind;
-      object = object;
-      section = section;
-      entry = entry;
-      first = subst (λ (b : Bool). IsImageRefusal images b (refusal.At number kind object section entry)) e is;
-      says = of;
-    })
+unlinked_says text_of own O job place images relax r f e is of =
+    fault_by text_of (IsUnlinked own job images) (ImagesSay own O job place images) f (λ status text says. inr says)
+    (is_unlinked text_of own job images relax r f e is of)

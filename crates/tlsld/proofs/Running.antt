@@ -1,98 +1,102 @@
 -- The steps of `run`, joined.
-use Rattle.std.proofs.Common.{◌≡◌, ◌∙◌, ◌<◌, ◌≤◌, ℕ, Bool, List, All, [], length, map, get_or, IfSome, Option, Result, Some, None, inl, refl, sym, ap, subst, arith}
-use Rattle.std.specs.Prelude.{◌∷◌, slice_get}
+use Rattle.std.proofs.Common.{◌≡◌, ◌∙◌, ◌<◌, ◌≤◌, ℕ, Bool, List, All, [], ◌∷◌, length, map, get_or, IfSome, Option, Result, Some, None, Err, inl, inr, refl, sym, ap, subst, arith}
 use Rattle.std.specs.List.{Contains}
 use Rattle.std.proofs.lemmas.List.{length-map}
-use Rattle.std.proofs.lemmas.List.Elements.{All-map, All-same}
+use Rattle.std.proofs.lemmas.List.Elements.{All-cons, All-map, All-nil, All-same, All-tail, All-weaker}
 use Rattle.command_replies.specs.declared.fault.CommandFault.{CommandFault}
 use Rattle.command_replies.specs.Steps.{Comes}
-use Rattle.image_writer.specs.Loadable.{HoldsTls}
-use Rattle.image_writer.specs.Outlined.{outline_of}
+use Rattle.job_link.specs.declared.linked_images.ImageRefusal.{ImageRefusal}
 use Rattle.job_link.specs.Given.{Given, AreGiven, IsGiven as IsGivenImage}
 use Rattle.job_link.specs.Linked.{AllLink, link_in, linked_in}
-use Rattle.job_link.specs.Mentions.{AreFilesOf, Fetched, bytes_in, object_names}
+use Rattle.job_link.specs.Mentions.{AreFilesOf, Fetched, bytes_at, bytes_in, object_names}
+use Rattle.job_link.specs.Refusals.{IsImageRefusal}
+use Rattle.job_run.specs.Plain.{AreBytes}
 use Rattle.job_text.specs.declared.images.Image.{Image}
 use Rattle.job_text.specs.Jobs.{JobParts}
-use Rattle.link_core.specs.Faults.{Links}
+use Rattle.link_core.specs.Images.{linked_of}
 use Rattle.link_needs.specs.Given.{IsGiven}
-use Rattle.link_core.specs.Images.{LinkedImage, image_of, linked_of}
 use Rattle.link_needs.specs.Linking.{Linking}
-use Rattle.job_run.specs.Plain.{AreBytes}
 use Rattle.ports.specs.Files.{Files}
-use Rattle.tlsld.specs.Links.{Output, BytesSay, ImagesSay, ObjectsSay}
-use Rattle.tlsld.specs.RunJobs.{RunOutput, SmallSays}
-use Rattle.tlsld.specs.Runs.{IsLinkOf}
-use Rattle.tlsld.specs.SmallJobs.{small_job}
-use Rattle.tlsld.proofs.Making.{is_given}
-use Rattle.tlsld.proofs.Places.{mapped_at, some_at}
-use Rattle.tlsld.proofs.Stages.{Text, comes_by, items, objects_say}
+use Rattle.transcript_text.specs.Texts.{Shown, transcript_text}
+use Rattle.tlsld.specs.LinkSteps.{IsImageRefusalOf}
+use Rattle.tlsld.specs.Links.{IsUnlinked}
+use Rattle.tlsld.specs.RunJobs.{BytesRun, ImagesRun, ObjectsRun, links_of}
+use Rattle.tlsld.specs.Runs.{AreLinks, HasRun}
+use Rattle.tlsld.proofs.Making.{fault_by, is_given, is_unlinked}
+use Rattle.tlsld.proofs.Mentioned.{given_at, faulty_at}
+use Rattle.tlsld.proofs.Stages.{Text, comes_by, items}
+use Rattle.tlsld.proofs.Together.{kinds as kinds_of, together}
 
 -- ** the files that were fetched
 
-pub files_say : (relax : Bool) (O : Output) (old : Option Files) (job : JobParts) (place : ℕ) (files : Fetched) → IfSome old (λ fs. AreFilesOf fs (object_names job) files)
-    → ((k : ℕ) → 1 ≤ k → k ≤ length job.images → Contains job.mentions k) → (r : Result Text CommandFault)
-    → Comes items (BytesSay relax O (bytes_in files) job place) r → IfSome old (λ fs. Comes items (ObjectsSay relax O fs job place) r)
-files_say relax O None job place files are every r says = tt
-files_say relax O (Some fs) job place files are every r says =
-    comes_by (BytesSay relax O (bytes_in files) job place) (ObjectsSay relax O fs job place) r (objects_say relax O fs job place files are every) says
+module _ (relax : Bool) (fs : Files) (job : JobParts) (files : Fetched) (are : AreFilesOf fs (object_names job) files)
+    (every : (k : ℕ) → 1 ≤ k → k ≤ length job.images → Contains job.mentions k) where
+  bytes_at_files : (status : ℕ) (text : List ℕ) → BytesRun relax (bytes_in files) job status text → BytesRun relax (bytes_at fs) job status text
+  bytes_at_files status text (inl read) = inl (record { images = read.images; given = given_at fs job files are every read.images read.given; says = read.says })
+  bytes_at_files status text (inr unread) = inr (record {
+    name = unread.name;
+    section = unread.section;
+    entry = unread.entry;
+    kind = unread.kind;
+    first = faulty_at fs job files are every unread.name unread.section unread.entry unread.kind unread.first;
+    says = unread.says;
+  })
 
--- ** the program of a job whose images all link
+  objects_run : (status : ℕ) (text : List ℕ) → BytesRun relax (bytes_in files) job status text → ObjectsRun relax fs job status text
+  objects_run status text says = record { there = are.there; says = bytes_at_files status text says }
+
+pub files_run : (relax : Bool) (old : Option Files) (job : JobParts) (files : Fetched) → IfSome old (λ fs. AreFilesOf fs (object_names job) files)
+    → ((k : ℕ) → 1 ≤ k → k ≤ length job.images → Contains job.mentions k) → (r : Result Text CommandFault)
+    → Comes items (BytesRun relax (bytes_in files) job) r → IfSome old (λ fs. Comes items (ObjectsRun relax fs job) r)
+files_run relax None job files are every r says = tt
+files_run relax (Some fs) job files are every r says =
+    comes_by (BytesRun relax (bytes_in files) job) (ObjectsRun relax fs job) r (objects_run relax fs job files are every) says
+
+-- ** images that do not all link
+
+pub unlinked_run : (job : JobParts) (images : List Given) (relax : Bool) (r : ImageRefusal) (f : CommandFault)
+    → IsImageRefusal images relax r → IsImageRefusalOf job r f → Comes items (ImagesRun relax job images) (Err f)
+unlinked_run job images relax r f is of =
+    fault_by items (IsUnlinked relax job images) (ImagesRun relax job images) f (λ status text says. inr says)
+    (is_unlinked items relax job images relax r f refl is of)
+
+-- ** the links of a job's images
 
 -- what all objects of a list of images have, where each list is that of names
-of_names : (bytes : List ℕ → List ℕ) (gs : List Given) (is : List Image) → ((name : List ℕ) → AreBytes (bytes name))
-    → map (λ (g : Given). g.objects) gs ≡ map (λ (i : Image). map bytes i.objects) is → (g : Given) → slice_get gs 0 ≡ Some g → All AreBytes g.objects
-of_names bytes [] is small same g at = cc
-of_names bytes (h ∷ gs) [] small same g at = cc
-of_names bytes (h ∷ gs) (i ∷ is) small same g at =
-    let here : h ≡ g = cc in
-    let heads : h.objects ≡ map bytes i.objects = cc in
-    subst (λ (k : Given). All AreBytes k.objects) here
-    (All-same AreBytes h.objects (map bytes i.objects) heads (All-map AreBytes bytes i.objects (λ k d below. small (get_or i.objects k d))))
+of_names : (bytes : List ℕ → List ℕ) → ((name : List ℕ) → AreBytes (bytes name)) → (gs : List Given) (is : List Image)
+    → map (λ (g : Given). g.objects) gs ≡ map (λ (i : Image). map bytes i.objects) is → All (λ g. All AreBytes g.objects) gs
+of_names bytes small [] is same = All-nil (λ g. All AreBytes g.objects)
+of_names bytes small (g ∷ gs) [] same = cc
+of_names bytes small (g ∷ gs) (i ∷ is) same =
+    let heads : g.objects ≡ map bytes i.objects = cc in
+    let tails : map (λ (g : Given). g.objects) gs ≡ map (λ (i : Image). map bytes i.objects) is = cc in
+    All-cons (λ g. All AreBytes g.objects) g gs
+    (All-same AreBytes g.objects (map bytes i.objects) heads (All-map AreBytes bytes i.objects (λ k d below. small (get_or i.objects k d))))
+    (of_names bytes small gs is tails)
 
-module _ (tls : (l : Linking) → IsGiven l → Links l → HoldsTls (outline_of (image_of l))) (job : JobParts) (images : List Given) (relax : Bool)
-    (bytes : List ℕ → List ℕ) (are : AreGiven bytes job images) (few : length job.images ≤ 64) (some : 1 ≤ length job.images) (links : AllLink images relax)
-    (g : Given) (g_is : g ≡ get_or images 0 g) where
+module _ (job : JobParts) (images : List Given) (relax : Bool) (bytes : List ℕ → List ℕ) (are : AreGiven bytes job images)
+    (few : length job.images ≤ 64) where
   count_is : length images ≡ length job.images
   count_is = sym (length-map images (λ (h : Given). h.kind)) ∙ ap length are.kinds ∙ length-map job.images (λ (i : Image). i.kind)
 
-  inside : 0 < length images
-  inside = omega (arith, count_is, some)
+  all_given : All (λ g. IsGiven (link_in images relax g)) images
+  all_given =
+      let small : length images ≤ 64 = omega (arith, count_is, few) in
+      All-weaker IsGivenImage (λ g. IsGiven (link_in images relax g)) (λ g given. is_given images relax g small given) images are.given
 
-  there : slice_get images 0 ≡ Some g
-  there = some_at images 0 g inside g_is
-
-  given : IsGivenImage g
-  given = subst IsGivenImage (sym g_is) (are.given 0 g inside)
-
-  its_links : Links (link_in images relax g)
-  its_links = subst (λ h. Links (link_in images relax h)) (sym g_is) (links 0 g inside)
-
-  pub is_link : IsLinkOf g (link_in images relax g)
+  all_small : ((name : List ℕ) → AreBytes (bytes name)) → All (λ (l : Linking). All AreBytes l.objects) (links_of images relax)
   unfolding link_in
-  is_link = record { kind = refl; objects = refl; given = is_given images relax g (omega (arith, count_is, few)) given; links = its_links }
+  all_small each =
+      All-map (λ (l : Linking). All AreBytes l.objects) (link_in images relax) images (of_names bytes each images job.images are.objects)
 
-  pub small : ((name : List ℕ) → AreBytes (bytes name)) → All AreBytes (link_in images relax g).objects
-  unfolding link_in
-  small each = of_names bytes images job.images each are.objects g there
+  pub are_links : ((name : List ℕ) → AreBytes (bytes name)) → AllLink images relax → AreLinks job (links_of images relax)
+  are_links each links = record {
+    together = together images relax all_given links;
+    kinds = kinds_of images relax images ∙ are.kinds;
+    bytes = all_small each;
+  }
 
-  -- what linking gave is of its link
-  linked_is : (all : List LinkedImage) (linked : LinkedImage) → all ≡ linked_in images relax → linked ≡ get_or all 0 linked → linked ≡ linked_of (link_in images relax g)
-  linked_is all linked a e = mapped_at (λ (h : Given). linked_of (link_in images relax h)) images 0 g linked inside g_is (e ∙ ap (λ l. get_or l 0 linked) a)
-
-  image_is : (linked : LinkedImage) → linked ≡ linked_of (link_in images relax g) → linked.image ≡ image_of (link_in images relax g)
-  unfolding linked_of
-  image_is linked is = ap (λ v. v.image) is
-
-  -- its image can be written
-  pub holds : (all : List LinkedImage) (linked : LinkedImage) → all ≡ linked_in images relax → linked ≡ get_or all 0 linked → HoldsTls (outline_of linked.image)
-  holds all linked a e = subst (λ s. HoldsTls (outline_of s)) (sym (image_is linked (linked_is all linked a e))) (tls (link_in images relax g) is_link.given its_links)
-
-  -- what is said of its link is said of all
-  pub program_says : (all : List LinkedImage) (linked : LinkedImage) (r : Result Text CommandFault) → all ≡ linked_in images relax → linked ≡ get_or all 0 linked
-      → ((name : List ℕ) → AreBytes (bytes name))
-      → ((l : Linking) → IsLinkOf g l → All AreBytes l.objects → linked.image ≡ image_of l → Comes items (SmallSays job (small_job job) l) r)
-      → Comes items (ImagesSay relax RunOutput job 0 images) r
-  program_says all linked r a e each says =
-      comes_by (SmallSays job (small_job job) (link_in images relax g)) (ImagesSay relax RunOutput job 0 images) r
-      (λ status text said. inl (record { links = links; image = g; there = there; says = said }))
-      (says (link_in images relax g) is_link (small each) (image_is linked (linked_is all linked a e)))
+-- what they came to
+pub linked_all : (images : List Given) (relax : Bool) (gs : List Given) → map (λ g. linked_of (link_in images relax g)) gs ≡ map linked_of (map (link_in images relax) gs)
+linked_all images relax [] = refl
+linked_all images relax (g ∷ gs) = ap (λ more. linked_of (link_in images relax g) ∷ more) (linked_all images relax gs)

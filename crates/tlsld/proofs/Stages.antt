@@ -5,7 +5,7 @@ use Rattle.std.specs.List.{Contains}
 use Rattle.command_replies.specs.declared.fault.CommandFault.{CommandFault}
 use Rattle.command_replies.specs.declared.fault.CommandFault.TheVariants as fault
 use Rattle.command_replies.specs.declared.fault.InputRefusal.{InputRefusal}
-use Rattle.command_replies.specs.declared.fault.InputRefusal.TheVariants.{Job, JobNotYet, Object, Link, Image}
+use Rattle.command_replies.specs.declared.fault.InputRefusal.TheVariants.{Job, Object, Link, Image}
 use Rattle.command_replies.specs.Faults.{IsFetchFault}
 use Rattle.command_replies.specs.Says.{HasFile}
 use Rattle.command_replies.specs.Steps.{Comes, refusal_code, refusal_text}
@@ -156,7 +156,6 @@ put_says wish (Some fs) after image job place files are every made (Err (fault.R
 -- where nothing was made
 pub some_code : (refusal : InputRefusal) → 5 ≤ refusal_code refusal
 some_code (Job line kind) = lit≤ tt
-some_code JobNotYet = lit≤ tt
 some_code (Object name section entry kind) = lit≤ tt
 some_code (Link image kind object section entry) = lit≤ tt
 some_code (Image offset kind) = lit≤ tt

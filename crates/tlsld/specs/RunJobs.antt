@@ -1,56 +1,62 @@
--- What `run JOB` says over the files of a store: of a job whose images all link the transcript, where it is taken, and
--- of any other what `link` says.
-use Rattle.std.specs.Prelude.{◌≡◌, ◌⊎◌, ℕ, Bool, false, not, List, [], ◌∷◌, Option, Some, None, Result, Ok, Err}
-use Rattle.command_replies.specs.Says.{HasFile, Is, JobFaultSays, job_not_yet}
-use Rattle.job_link.specs.Mentions.{object_names}
+-- What `run JOB` says over the files of a store: of a job whose images all link the transcript, and of any other what
+-- `link` says.
+use Rattle.std.specs.Prelude.{◌≡◌, ◌⊎◌, ℕ, Bool, not, List, [], ◌∷◌, map, Option, Some, None, IsSome, Result, Ok, Err}
+use Rattle.std.specs.List.{All}
+use Rattle.command_replies.specs.Says.{HasFile, Is, JobFaultSays}
+use Rattle.job_link.specs.Given.{Given, AreGiven}
+use Rattle.job_link.specs.Linked.{AllLink, link_in}
+use Rattle.job_link.specs.Mentions.{bytes_at, object_names}
 use Rattle.job_text.specs.declared.fault.JobFault.{JobFault}
-use Rattle.job_text.specs.declared.images.Image.{Image}
 use Rattle.job_text.specs.Jobs.{JobParts, job_of}
 use Rattle.link_needs.specs.Linking.{Linking}
-use Rattle.job_run.specs.Plain.{is_plain}
 use Rattle.ports.specs.Files.{Files, file_at}
-use Rattle.transcript_text.specs.declared.outcomes.Outcome.{Outcome}
-use Rattle.transcript_text.specs.Texts.{transcript_text}
-use Rattle.tlsld.specs.Links.{Output, ObjectsSay}
+use Rattle.transcript_text.specs.Texts.{Shown, transcript_text}
+use Rattle.tlsld.specs.Links.{IsUnlinked, IsUnread}
 use Rattle.tlsld.specs.Runs.{HasRun}
-use Rattle.tlsld.specs.SmallJobs.{Small, small_job}
 
--- the transcript of one thread with one line, which looked once and saw no event
-unfoldable pub one_line_text : List Image → Outcome → List ℕ
-one_line_text images outcome =
-    transcript_text images (record { threads = (record { points = 0 ∷ []; outcome = outcome } ∷ []) ∷ []; events = [] })
+-- ---- a job whose images all link
 
--- ---- a job whose images all link, over the link of its program
+-- the links of its images, in image order
+abbrev pub links_of : List Given → Bool → List Linking
+links_of images relax = map (link_in images relax) images
 
--- where the job ran: 0, and its transcript
-pub record Ran (job : JobParts) (small : Small) (l : Linking) (status : ℕ) (text : List ℕ) : Type 0 where
-  pub outcome : Outcome
-  pub ran : HasRun l small outcome
-  pub says : Is 0 (one_line_text job.images outcome) status text
-
--- where its program is not taken yet: 5
-pub record NotTaken (l : Linking) (status : ℕ) (text : List ℕ) : Type 0 where
-  pub untaken : is_plain l ≡ false
-  pub says : Is 5 job_not_yet status text
-
-abbrev pub CallSays : JobParts → Small → Linking → ℕ → List ℕ → Type 0
-CallSays job small l status text = Ran job small l status text ⊎ NotTaken l status text
-
-abbrev pub SmallSays : JobParts → Option Small → Linking → ℕ → List ℕ → Type 0
-SmallSays job None l status text = Is 5 job_not_yet status text
-SmallSays job (Some small) l status text = CallSays job small l status text
-
-abbrev pub RunOutput : Output
-RunOutput job number l status text = SmallSays job (small_job job) l status text
+-- it ran: 0, and its transcript
+pub record Ran (job : JobParts) (ls : List Linking) (status : ℕ) (text : List ℕ) : Type 0 where
+  pub transcript : Shown
+  pub ran : HasRun job ls transcript
+  pub says : Is 0 (transcript_text job.images transcript) status text
 
 -- ---- the command
 
--- relax: whether sequences may be rewritten; fs: the files
-module _ (relax : Bool) (fs : Files) where
-  -- the program is image 0
-  abbrev pub JobSays : Result JobParts JobFault → ℕ → List ℕ → Type 0
-  JobSays (Ok job) status text = ObjectsSay relax RunOutput fs job 0 status text
-  JobSays (Err fault) status text = JobFaultSays fault status text
+-- relax: whether sequences may be rewritten
+module _ (relax : Bool) where
+  -- all images link
+  pub record AllRan (job : JobParts) (images : List Given) (status : ℕ) (text : List ℕ) : Type 0 where
+    pub links : AllLink images relax
+    pub ran : Ran job (links_of images relax) status text
+
+  abbrev pub ImagesRun : JobParts → List Given → ℕ → List ℕ → Type 0
+  ImagesRun job images status text = AllRan job images status text ⊎ IsUnlinked relax job images status text
+
+  -- each object is in order
+  pub record AllRead (bytes : List ℕ → List ℕ) (job : JobParts) (status : ℕ) (text : List ℕ) : Type 0 where
+    pub images : List Given
+    pub given : AreGiven bytes job images
+    pub says : ImagesRun job images status text
+
+  abbrev pub BytesRun : (List ℕ → List ℕ) → JobParts → ℕ → List ℕ → Type 0
+  BytesRun bytes job status text = AllRead bytes job status text ⊎ IsUnread bytes job status text
+
+  -- fs: the files
+  module _ (fs : Files) where
+    -- each object is there
+    pub record ObjectsRun (job : JobParts) (status : ℕ) (text : List ℕ) : Type 0 where
+      pub there : All (λ name. IsSome (file_at fs name)) (object_names job)
+      pub says : BytesRun (bytes_at fs) job status text
+
+    abbrev pub JobSays : Result JobParts JobFault → ℕ → List ℕ → Type 0
+    JobSays (Ok job) status text = ObjectsRun job status text
+    JobSays (Err fault) status text = JobFaultSays fault status text
 
 -- `run JOB [--no-relax]`
 abbrev pub RunSays : Files → List ℕ → Bool → ℕ → List ℕ → Type 0

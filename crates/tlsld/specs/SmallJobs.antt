@@ -1,4 +1,4 @@
--- Jobs that are taken: one image, and one function that its only thread calls.
+-- Small jobs: one image, and one function that its only thread calls.
 use Rattle.std.specs.Prelude.{ℕ, List, [], ◌∷◌, Option, Some, None}
 use Rattle.job_text.specs.Jobs.{JobParts}
 use Rattle.job_text.specs.declared.images.Image.{Image}

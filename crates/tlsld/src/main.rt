@@ -16,13 +16,13 @@
 //! fetched and read, the objects of all its images are fetched and read, and all images are linked. Only then
 //! does a command go its own way. `link` and `sites` (`links`) name an image, which must be one of the job's before any
 //! object is fetched, and make something of it (`made`): its file, which is put into the store whole, or the lines of
-//! its sites. `run` (`runs`) calls what the job says in a thread, and writes the transcript.
+//! its sites. `run` (`runs`) runs the job's threads over all images, and writes the transcript.
 //!
 //!     link a.job app app.elf      linked app 12417          and the store's file app.elf has the image's 12,417 bytes
 //!     sites a.job app             main.o 1 0000000000000000 gd gd-le x
 //!
 //! Each step may end the command; what it ends with is a `CommandFault`, and what is said of it a `Reply`, which
-//! reaches the sink in one piece (`command_replies`). Which of the jobs that link `run` takes so far is said by `not_yet`.
+//! reaches the sink in one piece (`command_replies`).
 //!
 //! Only `link` changes the store's files, and only by one put, of whole bytes, when all else is done: a command that is
 //! refused leaves them as they were, and one that says so has put all that it says.
@@ -31,7 +31,6 @@
 mod command;
 mod links;
 mod made;
-mod not_yet;
 mod runs;
 #[cfg(test)]
 mod tests;

@@ -1,6 +1,7 @@
 //! Whole commands over a store and a sink in memory: the words, the files, the output and the status.
 
 mod links;
+mod modules;
 mod objects;
 
 use crate::tlsld;
@@ -91,8 +92,7 @@ fn each_status_has_its_line(rt: HostRuntime) -> Result<(), Fail> {
 fn refuses_jobs(rt: HostRuntime) -> Result<(), Fail> {
     let alloc = rt.alloc();
     let object = reader(alloc, 0)?;
-    let not_yet = b"job 0 NotYet\n".as_slice();
-    let rows: [(&[u8], u8, &[u8]); 8] = [
+    let rows: [(&[u8], u8, &[u8]); 5] = [
         (b"", 5, b"job 0 NoExe\n"),
         (
             b"image app exe a.o\n1 call app f 0 0 zz\n",
@@ -115,17 +115,6 @@ fn refuses_jobs(rt: HostRuntime) -> Result<(), Fail> {
             b"image app exe a.o\nimage plug late a.o\n1 call app f 0 0 0\n",
             7,
             b"link plug LocalExecInModule a.o section 2 entry 0\n",
-        ),
-        (b"image app pie a.o\n1 call app f 0 0 0\n", 5, not_yet),
-        (
-            b"threads 2\nimage app exe a.o\n1 call app f 0 0 0\n",
-            5,
-            not_yet,
-        ),
-        (
-            b"image app exe a.o\n1 call app f 0 0 0\n1 call app f 0 0 0\n",
-            5,
-            not_yet,
         ),
     ];
     for (job, status, text) in rows {

@@ -51,8 +51,7 @@ fn constant_reader(alloc: Global) -> Result<Vec<u8>, AllocError> {
     object_of(alloc, &sections, &symbols)
 }
 
-/// An object whose function asks for the address of `x` by an initial executable sequence: mov x@gottpoff(%rip), %rax;
-/// ret.
+/// An object whose function returns how far from the thread pointer `x` is: mov x@gottpoff(%rip), %rax; ret.
 fn initial_reader(alloc: Global) -> Result<Vec<u8>, AllocError> {
     let relocations = [rela(3, R_X86_64_GOTTPOFF, 2, -4)];
     let sections = [
@@ -109,10 +108,11 @@ fn with_data(alloc: Global) -> Result<Vec<u8>, AllocError> {
 /// An object, the status of `1 call app f 0 0 0` over it, and the text.
 type Row = (Vec<u8>, u8, &'static [u8]);
 
-/// Objects that run, objects that are not run yet, and objects that are refused.
+/// Objects that run, and objects that are refused.
 pub fn rows(alloc: Global) -> Result<Vec<Row>, AllocError> {
     let no_function = b"t1 l1 g0 refused symbol\n".as_slice();
-    let not_yet = b"job 0 NotYet\n".as_slice();
+    let distance = b"t1 l1 g0 = fffffffffffffffc\n".as_slice();
+    let nothing = b"t1 l1 g0 = 0000000000000000\n".as_slice();
     let mut rows = Vec::new(alloc);
     // The TLS segment has at most 2^20 bytes.
     rows.push((reader(alloc, 0xffffc)?, 0, ANSWER))?;
@@ -122,9 +122,9 @@ pub fn rows(alloc: Global) -> Result<Vec<Row>, AllocError> {
         b"link app TlsTooLarge - section 0 entry 0\n".as_slice(),
     ))?;
     rows.push((constant_reader(alloc)?, 0, ANSWER))?;
-    rows.push((initial_reader(alloc)?, 5, not_yet))?;
+    rows.push((initial_reader(alloc)?, 0, distance))?;
     rows.push((without_code(alloc)?, 0, no_function))?;
-    rows.push((with_data(alloc)?, 5, not_yet))?;
+    rows.push((with_data(alloc)?, 0, nothing))?;
     // The relocation is that of an address, and no instruction for one is there.
     rows.push((
         reader_with(alloc, &[rela(4, R_X86_64_TLSGD, 2, 0)], 0)?,

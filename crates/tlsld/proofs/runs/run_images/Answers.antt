@@ -1,25 +1,35 @@
-use Rattle.std.proofs.Common.{◌≤◌, length, refl, subst}
-use Rattle.tlsld.specs.RunJobs.{RunOutput}
-use Rattle.tlsld.proofs.Making.{names_image, unlinked_says}
-use Rattle.tlsld.proofs.Running.{holds, program_says}
-use Rattle.tlsld.proofs.Stages.{items}
+use Rattle.std.proofs.Common.{◌∙◌, ◌≤◌, inl, length, refl, subst}
+use Rattle.tlsld.specs.RunJobs.{links_of}
+use Rattle.tlsld.proofs.Making.{names_image}
+use Rattle.tlsld.proofs.Running.{are_links, linked_all, unlinked_run}
 use Rattle.tlsld.proofs.runs.run_images.Goals as goal
 
-pub run_program-requires : goal.run_program-requires
-run_program-requires c =
-    holds c.images_hold_tls.ensures c.args.job.now c.args.images.now c.args.relax c.requires.given.0 c.requires.given.1
-    (subst (λ is. length is ≤ 64) c.images-images.ensures.value c.images-images.ensures.few) (subst (λ is. 1 ≤ length is) c.images-images.ensures.value c.images-images.ensures.some) c.in-Ok.ensures.links
-    c.index-images-0.result c.index-images-0.is c.in-Ok.all.items c.swap_remove.result c.in-Ok.ensures.linked c.swap_remove.ensures.value
+pub run_linked-requires-clause-links : goal.run_linked-requires-clause-links
+run_linked-requires-clause-links c = (
+  links_of c.args.images.now c.args.relax,
+  are_links c.args.job.now c.args.images.now c.args.relax c.requires.given.0 c.requires.given.1
+      (subst (λ is. length is ≤ 64) c.images-images.ensures.value c.images-images.ensures.few) c.requires.given.2 c.in-Ok.ensures.links,
+  c.in-Ok.ensures.linked ∙ linked_all c.args.images.now c.args.relax c.args.images.now,
+)
 
 pub unlinked-requires : goal.unlinked-requires
 unlinked-requires c = names_image c.args.job.now c.args.images.now c.args.relax c.requires.given.0 c.requires.given.1 c.in-Err.refusal c.in-Err.ensures.refused
 
-pub returns-in-Ok-clause-says : goal.returns-in-Ok-clause-says
-returns-in-Ok-clause-says c =
-    program_says c.images_hold_tls.ensures c.args.job.now c.args.images.now c.args.relax c.requires.given.0 c.requires.given.1
-    (subst (λ is. length is ≤ 64) c.images-images.ensures.value c.images-images.ensures.few) (subst (λ is. 1 ≤ length is) c.images-images.ensures.value c.images-images.ensures.some) c.in-Ok.ensures.links
-    c.index-images-0.result c.index-images-0.is c.in-Ok.all.items c.swap_remove.result c.run_program.result c.in-Ok.ensures.linked c.swap_remove.ensures.value c.requires.given.2 c.run_program.ensures.says
+pub returns-in_ok-text_of-in-Ok-clause-says : goal.returns-in_ok-text_of-in-Ok-clause-says
+returns-in_ok-text_of-in-Ok-clause-says c =
+    let links =
+    are_links c.args.job.now c.args.images.now c.args.relax c.requires.given.0 c.requires.given.1
+    (subst (λ is. length is ≤ 64) c.images-images.ensures.value c.images-images.ensures.few) c.requires.given.2 c.in-Ok.ensures.links in
+    inl (record {
+      links = c.in-Ok.ensures.links;
+      ran = record {
+        transcript = c.in_ok-transcript-in-Ok.transcript;
+        ran = c.in_ok-transcript-in-Ok.ensures.ran (links_of c.args.images.now c.args.relax) links
+            (c.in-Ok.ensures.linked ∙ linked_all c.args.images.now c.args.relax c.args.images.now);
+        says = (refl, c.in_ok-text_of-in-Ok.ensures);
+      };
+    })
 
 pub returns-in-Err-clause-says : goal.returns-in-Err-clause-says
 returns-in-Err-clause-says c =
-    unlinked_says items c.args.relax RunOutput c.args.job.now 0 c.args.images.now c.args.relax c.in-Err.refusal c.unlinked.result refl c.in-Err.ensures.refused c.unlinked.ensures.says
+    unlinked_run c.args.job.now c.args.images.now c.args.relax c.in-Err.refusal c.unlinked.result c.in-Err.ensures.refused c.unlinked.ensures.says

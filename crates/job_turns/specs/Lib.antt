@@ -1,0 +1,9 @@
+pub mod Asking
+pub mod Progress
+pub mod Runners
+pub mod Running
+pub mod Standing
+pub mod Starting
+pub mod Taking
+pub mod Transcripts
+pub mod Turning

@@ -1,0 +1,30 @@
+//! All turns of a job.
+
+ghost use Rattle.std.specs.Prelude.{◌≡◌, All, IfOk, map};
+ghost use Rattle.job_turns.specs.Transcripts.{IsTranscript};
+ghost use Rattle.thread_blocks.specs.JobLoads.{job_loads};
+ghost use Rattle.thread_blocks.specs.JobWorlds.{job_world};
+ghost use Rattle.transcript_text.specs.Texts.{IsImageNumber};
+
+use crate::threads::Threads;
+use job_text::Job;
+use loaded_modules::Modules;
+use std::alloc::{AllocError, Global};
+use thread_space::JobNames;
+use transcript_text::Transcript;
+
+/// Runs all threads of a job over its images, and answers what they say: the transcript that the definitions give. The
+/// only error is want of memory.
+pub fn run_job(alloc: Global, job: &Job, modules: &Modules) -> Result<Transcript, AllocError>
+    requires { modules.now.kinds ≡ map (λ image. image.kind) job.now.images }
+    ensures transcript { IfOk result (λ transcript. IsTranscript
+        (job_world (job_loads modules.now) job.now.fuel job.now.lines job.now.order) transcript) }
+    ensures images { IfOk result (λ transcript.
+        All (λ event. IsImageNumber job.now.images event.image) transcript.events) }
+{
+    let names = JobNames::new(alloc, modules)?;
+    let mut threads = Threads::new(alloc, job, modules, &names)?;
+    threads.take_order(job.order())?;
+    threads.finish(job)?;
+    threads.transcript(alloc)
+}

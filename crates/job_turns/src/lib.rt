@@ -1,0 +1,59 @@
+//! All threads of a job, turn by turn, up to their transcript.
+//!
+//! A job has up to 64 threads, each with lines of its own: calls of functions, opens and closes of images, and peeks at
+//! thread-local variables. The threads never run at once. They take *turns*, and a turn is one look at the history of
+//! opens and closes with the steps up to the next look. The job's `order` says which threads take the first turns; then
+//! each thread is brought to its end, in rising number. So a job has one transcript, whatever machine runs it:
+//!
+//! ```text
+//! order 1 2 1
+//! t1: open plug / call f            t2: call f / close plug
+//!
+//! turn   thread   sees       does                                   history then
+//! 1      1        nothing    line 1 opens plug                      e0
+//! 2      2        e0         line 1 begins, asks for a block        e0
+//! 3      1        e0         line 2 begins, runs to its end         e0
+//! 4 ..   1        e0         its lines are over: nothing            e0
+//! ..     2        e0         line 1 goes on with its block          e0
+//! ..     2        e0         line 2 closes plug                     e0 e1
+//! ```
+//!
+//! [`run_job`] is that, and its clause says so: what it answers is the transcript of `job_world`, the definition of a job
+//! over the images that are loaded. The definition is a fold over the whole order: the threads that it has are lists of
+//! ranges and states of a machine, and each turn hands the threads' shared data from one to the next. The code keeps
+//! something else: a [`Runner`] for each thread, with its memory ([`thread_space`]), one registry for the history
+//! ([`module_table`]), and one copy of the data of all images ([`module_data`]).
+//!
+//! **A runner** has the lines of one thread. A turn of it ([`Runner::turn_with`]) is a look and what comes behind it
+//! (`taking`): the first look of a line (`lines`), or one in the middle of a call that asked for a block, and then the
+//! machine's run (`running`) up to the call's end or its next look. Where code calls `__tls_get_addr` or the function of a
+//! descriptor (psABI, "TLS Descriptors"), the machine stops, and the run time answers in one step: at once for a module
+//! that started with the program, and after a look for any other, since a module that is gone by then must not be found.
+//! The clause of a turn (`specs/Standing`, `TakesTurn`) speaks of every thread of the definitions that the runner stands
+//! for: the turn that the definitions take with it leaves a thread that the runner stands for again.
+//!
+//! Between two turns the code *stands for* the definition's threads (`specs/Progress`, `Stands`): the history and the data
+//! are the same, and each runner stands for its thread and has seen a front of the history. A turn of thread k keeps this:
+//!
+//! 1. the registry answers what the thread's next line asks, and adds its event where the open or close is accepted;
+//! 2. the thread is handed the events that it has not seen, without its own, and the answer (`specs/Turning`);
+//! 3. all other runners see no more than before, and a longer history still begins with what they saw.
+//!
+//! The definition brings a thread to its end by `4 * fuel + 2` turns for each of its lines, which is more than it can
+//! need; the code stops where nothing is left, since a turn of a thread that is over changes nothing
+//! (`proofs/FinishedTurns`).
+#![tactic(auto)]
+
+mod answers;
+mod asking;
+mod job;
+mod lines;
+mod runner;
+mod running;
+mod taking;
+mod threads;
+mod turning;
+
+pub use asking::{Ask, LineAnswer};
+pub use job::run_job;
+pub use runner::Runner;

@@ -1,0 +1,340 @@
+//! What the first look of a thread's line comes to.
+
+ghost use Rattle.std.specs.Prelude.{◌≡◌, ◌≤◌, ◌<◌, ◌+◌, ◌-◌, ◌^◌, ℕ, List, true, None, Some, Result, IfOk, OnOk, length};
+ghost use Rattle.guest_arithmetic.specs.Plain.{plain_operations};
+ghost use Rattle.loaded_modules.specs.Images.{infos};
+ghost use Rattle.module_table.specs.History.{unless};
+ghost use Rattle.module_table.specs.Past.{accepts, close_refusal, module_of, open_refusal, opened};
+ghost use Rattle.thread_blocks.specs.Instances.{loaded_instance};
+ghost use Rattle.thread_blocks.specs.JobLoads.{job_loads};
+ghost use Rattle.thread_blocks.specs.Lines.{refused_close, refused_open};
+ghost use Rattle.thread_blocks.specs.MachineTurns.{call_start};
+ghost use Rattle.job_turns.specs.Asking.{answer_to, ask_by, closed_at, opened_at};
+ghost use Rattle.thread_space.specs.Live.{HasStartups, IsLive};
+ghost use Rattle.job_turns.specs.Starting.{Begins, BeginsCall, BeginsClose, BeginsOpen, BeginsPeek, LoadsNew, ReachesLive, Sees, Starts};
+ghost use Rattle.job_turns.specs.Starting.{part_shown, shown_of};
+ghost use Rattle.thread_vector.specs.Vectors.{held};
+
+use crate::asking::LineAnswer;
+use guest_arithmetic::Plain;
+use guest_machine::Machine;
+use job_text::{Action, Name, ThreadLine};
+use loaded_modules::Instance;
+use module_table::{CloseRefusal, Closed, Event, OpenRefusal, Opened};
+use std::alloc::{AllocError, Global};
+use thread_space::{JobNames, ThreadSpace, end_of_stack, thread_pointer};
+use transcript_text::{Bytes, LineRefusal, Outcome};
+
+/// What the first look of a line comes to.
+#[derive(Drop)]
+pub enum Started {
+    /// The line is over.
+    Says(Outcome),
+    /// A call begins, on this machine.
+    Calls(Machine<Plain>),
+}
+
+fn refused(refusal: LineRefusal) -> Started
+    ensures { result ≡ Started.Says (Outcome.Refused refusal) }
+{
+    Started::Says(Outcome::Refused(refusal))
+}
+
+// ** calls
+
+/// A machine before a call of the function at a place.
+fn machine_at(thread: u32, place: u64, a: u64, b: u64, c: u64) -> Machine<Plain>
+    requires { thread ≤ 64 }
+    ensures state { (symbol : List ℕ) → result.state
+        ≡ call_start plain_operations thread place (record { symbol = symbol; a = a; b = b; c = c }) }
+    ensures fresh { result.taken ≡ 0 }
+{
+    let stack = end_of_stack(thread) - 8;
+    let mut machine = Machine::<Plain>::start(place, stack, a, b, c);
+    machine.set_thread_pointer(thread_pointer(thread));
+    machine
+}
+
+/// Begins a call of the function of a name, in the live instance of an image. It finds a fresh stack, and the blocks as
+/// the line before left them.
+fn call(
+    space: &mut ThreadSpace,
+    names: &JobNames,
+    image: u32,
+    symbol: &[u8],
+    a: u64,
+    b: u64,
+    c: u64,
+) -> Result<Started, AllocError>
+    requires { names.now ≡ space.old.vector.images }
+    ensures { IfOk result (λ started. BeginsCall image symbol.now a b c space.old started space.new) }
+{
+    let Some(instance) = space.instance(image) else {
+        return Ok(refused(LineRefusal::NotOpen));
+    };
+    let Some(place) = names.function(&instance, symbol) else {
+        return Ok(refused(LineRefusal::Symbol));
+    };
+    space.renew_stack()?;
+    Ok(Started::Calls(machine_at(space.thread(), place, a, b, c)))
+}
+
+// ** opens and closes
+
+/// A thread sees its own event at once.
+fn see(space: &mut ThreadSpace, event: Event) -> Result<(), AllocError>
+    requires accepted { accepts space.old.vector.past event ≡ true }
+    requires room { space.old.vector.past.seen + 1 < 2 ^ 62 }
+    ensures { OnOk result (Sees space.old event space.new) }
+{
+    let _before = space.seen();
+    space.look(&[event])?;
+    let _after = space.seen();
+    Ok(())
+}
+
+fn refused_open(refusal: OpenRefusal) -> LineRefusal
+    ensures { result ≡ refused_open refusal }
+{
+    match refusal {
+        OpenRefusal::Unknown => LineRefusal::Unknown,
+        OpenRefusal::Full | OpenRefusal::OutOfMemory => LineRefusal::Full,
+        OpenRefusal::StaticFull => LineRefusal::StaticFull,
+    }
+}
+
+fn refused_close(refusal: CloseRefusal) -> LineRefusal
+    ensures { result ≡ refused_close refusal }
+{
+    match refusal {
+        CloseRefusal::Permanent => LineRefusal::Permanent,
+        CloseRefusal::NotOpen | CloseRefusal::OutOfMemory => LineRefusal::NotOpen,
+    }
+}
+
+/// Fills the data of an image that was not loaded before.
+fn load_new(space: &mut ThreadSpace, was: bool, image: u32) -> Result<(), AllocError>
+    ensures { OnOk result (LoadsNew was
+        (loaded_instance (infos space.old.vector.images) image (module_of space.old.vector.past image)) space.old space.new) }
+{
+    if !was {
+        if let Some(instance) = space.instance(image) {
+            space.load(&instance)?;
+        }
+    }
+    Ok(())
+}
+
+/// An open that was accepted: the thread sees it, and a load fills the data of the instance.
+fn open_accepted(
+    space: &mut ThreadSpace,
+    number: u32,
+    line: &ThreadLine,
+    instance: u32,
+) -> Result<Started, AllocError>
+    requires accepted { open_refusal space.old.vector.past line.now.image ≡ None }
+    requires instance { instance ≡ (module_of (opened space.old.vector.past line.now.image) line.now.image).instance }
+    requires room { space.old.vector.past.seen + 1 < 2 ^ 62 }
+    requires startups { HasStartups space.old.vector }
+    requires pieces { length space.old.pieces ≡ length space.old.vector.images.images + 1 }
+    ensures { IfOk result
+        (λ started. BeginsOpen (record { number = number; told = line.now }) space.old started space.new) }
+{
+    let was = space.instance(line.image).is_some();
+    let event = Event {
+        thread: space.thread(),
+        line: number,
+        opens: true,
+        image: line.image,
+    };
+    see(space, event)?;
+    load_new(space, was, line.image)?;
+    Ok(Started::Says(Outcome::Opened(instance)))
+}
+
+/// An open, as the registry answered it.
+fn open(
+    space: &mut ThreadSpace,
+    number: u32,
+    line: &ThreadLine,
+    answer: Result<Opened, OpenRefusal>,
+) -> Result<Started, AllocError>
+    requires answer { answer ≡ unless (open_refusal space.old.vector.past line.now.image) (opened_at space.old.vector.past line.now.image) }
+    requires room { space.old.vector.past.seen + 1 < 2 ^ 62 }
+    requires startups { HasStartups space.old.vector }
+    requires pieces { length space.old.pieces ≡ length space.old.vector.images.images + 1 }
+    ensures { IfOk result
+        (λ started. BeginsOpen (record { number = number; told = line.now }) space.old started space.new) }
+{
+    match answer {
+        Ok(opened) => open_accepted(space, number, line, opened.instance),
+        Err(refusal) => Ok(refused(refused_open(refusal))),
+    }
+}
+
+/// A close that was accepted.
+fn close_accepted(
+    space: &mut ThreadSpace,
+    number: u32,
+    line: &ThreadLine,
+) -> Result<Started, AllocError>
+    requires accepted { close_refusal space.old.vector.past line.now.image ≡ None }
+    requires room { space.old.vector.past.seen + 1 < 2 ^ 62 }
+    requires startups { HasStartups space.old.vector }
+    ensures { IfOk result
+        (λ started. BeginsClose (record { number = number; told = line.now }) space.old started space.new) }
+{
+    let event = Event {
+        thread: space.thread(),
+        line: number,
+        opens: false,
+        image: line.image,
+    };
+    see(space, event)?;
+    Ok(Started::Says(Outcome::Closed))
+}
+
+/// A close, as the registry answered it.
+fn close(
+    space: &mut ThreadSpace,
+    number: u32,
+    line: &ThreadLine,
+    answer: Result<Closed, CloseRefusal>,
+) -> Result<Started, AllocError>
+    requires answer { answer ≡ unless (close_refusal space.old.vector.past line.now.image) (closed_at space.old.vector.past line.now.image) }
+    requires room { space.old.vector.past.seen + 1 < 2 ^ 62 }
+    requires startups { HasStartups space.old.vector }
+    ensures { IfOk result
+        (λ started. BeginsClose (record { number = number; told = line.now }) space.old started space.new) }
+{
+    match answer {
+        Ok(_) => close_accepted(space, number, line),
+        Err(refusal) => Ok(refused(refused_close(refusal))),
+    }
+}
+
+// ** peeks
+
+/// Reaches the block of a live instance.
+fn reach(space: &mut ThreadSpace, instance: &Instance) -> Result<(), AllocError>
+    requires { IsLive space.old.vector.images space.old.vector.past instance.now }
+    ensures { OnOk result (ReachesLive space.old instance.now space.new) }
+{
+    let _before = space.seen();
+    space.reach(instance.number)?;
+    let _after = space.seen();
+    Ok(())
+}
+
+/// The bytes of a block from an offset on, if it holds them all.
+fn part_shown(alloc: Global, block: &[u8], size: u32, offset: u64) -> Result<Outcome, AllocError>
+    ensures { IfOk result (λ outcome. outcome ≡ part_shown block.now size offset) }
+{
+    match offset.checked_add(u64::from(size)) {
+        Some(end) if end <= block.len() as u64 => {
+            let bytes = Vec::from_slice(alloc, &block[offset as usize..end as usize])?;
+            Ok(Outcome::Bytes(Bytes::new(bytes)))
+        }
+        _ => Ok(Outcome::Refused(LineRefusal::Length)),
+    }
+}
+
+/// What is shown of the thread's block of an instance.
+fn shown(
+    space: &ThreadSpace,
+    instance: u32,
+    size: u32,
+    variable: Option<u64>,
+) -> Result<Outcome, AllocError>
+    ensures { IfOk result (λ outcome. outcome ≡ shown_of (held space.now.vector instance) size variable) }
+{
+    let Some(offset) = variable else {
+        return Ok(Outcome::Refused(LineRefusal::Symbol));
+    };
+    match space.block(instance) {
+        Some(block) => part_shown(space.alloc(), block, size, offset),
+        None => Ok(Outcome::Refused(LineRefusal::Length)),
+    }
+}
+
+/// Shows bytes of a variable, from the block of the live instance of the line's image. The block is reached, also where
+/// the line is then refused.
+fn peek(
+    space: &mut ThreadSpace,
+    names: &JobNames,
+    line: &ThreadLine,
+    symbol: &[u8],
+    size: u32,
+) -> Result<Started, AllocError>
+    requires { names.now ≡ space.old.vector.images }
+    ensures { IfOk result (λ started. (number : ℕ)
+        → BeginsPeek (record { number = number; told = line.now }) symbol.now size space.old started space.new) }
+{
+    let Some(instance) = space.instance(line.image) else {
+        return Ok(refused(LineRefusal::NotOpen));
+    };
+    reach(space, &instance)?;
+    let variable = names.variable(line.image, symbol);
+    let outcome = shown(space, instance.number, size, variable)?;
+    Ok(Started::Says(outcome))
+}
+
+// ** lines
+
+/// What an open was answered.
+fn open_answer(answer: Option<LineAnswer>) -> Result<Opened, OpenRefusal>
+    ensures { (said : Result Opened OpenRefusal) → answer ≡ Some (LineAnswer.Opened said) → result ≡ said }
+{
+    match answer {
+        Some(LineAnswer::Opened(said)) => said,
+        _ => Err(OpenRefusal::Unknown),
+    }
+}
+
+/// What a close was answered.
+fn close_answer(answer: Option<LineAnswer>) -> Result<Closed, CloseRefusal>
+    ensures { (said : Result Closed CloseRefusal) → answer ≡ Some (LineAnswer.Closed said) → result ≡ said }
+{
+    match answer {
+        Some(LineAnswer::Closed(said)) => said,
+        _ => Err(CloseRefusal::NotOpen),
+    }
+}
+
+/// The first look of a line, of the number `number` from 1, of a thread that has seen all events. A line that opens or
+/// closes its image was answered by a registry, which has its event already: here the thread sees it.
+pub fn begin(
+    space: &mut ThreadSpace,
+    names: &JobNames,
+    number: u32,
+    line: &ThreadLine,
+    answer: Option<LineAnswer>,
+) -> Result<Started, AllocError>
+    requires names { names.now ≡ space.old.vector.images }
+    requires answer { answer ≡ answer_to space.old.vector.past (ask_by number line.now.image line.now.action) }
+    requires room { space.old.vector.past.seen + 1 < 2 ^ 62 }
+    requires startups { HasStartups space.old.vector }
+    requires pieces { length space.old.pieces ≡ length space.old.vector.images.images + 1 }
+    ensures { IfOk result (λ started. Starts (record { number = number; told = line.now }) space.old started space.new) }
+{
+    match &line.action {
+        Action::Call { symbol, a, b, c } => call(
+            space,
+            names,
+            line.image,
+            symbol.as_str().as_bytes(),
+            *a,
+            *b,
+            *c,
+        ),
+        Action::Open => open(space, number, line, open_answer(answer)),
+        Action::Close => close(space, number, line, close_answer(answer)),
+        Action::Peek { symbol, length } => peek(
+            space,
+            names,
+            line,
+            symbol.as_str().as_bytes(),
+            *length,
+        ),
+    }
+}

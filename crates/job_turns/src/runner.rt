@@ -1,0 +1,307 @@
+//! A thread's lines, turn by turn.
+
+ghost use Rattle.std.specs.Prelude.{◌≡◌, ◌≤◌, ◌<◌, ◌+◌, ◌*◌, ◌^◌, ◌∷◌, ◌++◌, ℕ, List, None, true, [], IfOk, OnOk, length, option_map, slice_get};
+ghost use Rattle.module_table.specs.Past.{after, is_legal};
+ghost use Rattle.thread_vector.specs.Holding.{IsLeftBy};
+ghost use Rattle.job_turns.specs.Asking.{answer_to, ask_by, ask_next};
+ghost use Rattle.thread_space.specs.Live.{HasStartups};
+ghost use Rattle.job_turns.specs.Standing.{IsFirstRun, IsGoing, TakesTurn, ask_of};
+ghost use Rattle.job_turns.specs.Taking.{BeginsLine, HasStepsLeft, ResumesLine, run_after};
+
+use crate::asking::{Ask, LineAnswer};
+use crate::taking::{Taken, take_begin, take_resume};
+use guest_arithmetic::Plain;
+use guest_machine::Machine;
+use job_text::{Action, Job, ThreadLine};
+use module_data::Data;
+use module_table::Event;
+use std::alloc::{AllocError, Global};
+use std::marker::Model;
+use std::mem;
+use thread_blocks::Asked;
+use thread_space::{JobNames, ThreadSpace};
+use transcript_text::{Line, Points};
+
+/// A call that waits for its next look.
+#[derive(Drop)]
+pub struct Pending {
+    machine: Machine<Plain>,
+    asked: Asked,
+    /// The numbers of events that its looks saw so far.
+    points: Vec<u64>,
+}
+
+impl Model for Pending {
+    ghost use Rattle.job_turns.specs.Standing.{Waiting};
+
+    ghost Value = { Waiting };
+
+    ghost view = { λ p. record { machine = p.machine; asked = p.asked; points = p.points.items } };
+}
+
+/// One thread of a job: what it does, turn by turn. Contracts see a `Run`.
+#[derive(Drop)]
+pub struct Runner<'m> {
+    alloc: Global,
+    names: &'m JobNames<'m>,
+    lines: &'m [ThreadLine],
+    fuel: u64,
+    /// How many lines are begun.
+    begun: usize,
+    space: ThreadSpace<'m>,
+    call: Option<Pending>,
+    said: Vec<Line>,
+}
+
+impl<'m> Model for Runner<'m> {
+    ghost use Rattle.job_turns.specs.Standing.{Run};
+
+    ghost Value = { Run };
+
+    ghost use Rattle.job_turns.specs.Runners.{HoldsRun, run_of};
+
+    ghost view = { run_of };
+
+    ghost invariant = { HoldsRun };
+}
+
+/// What a line asks of the registry, by its number.
+fn ask_by(number: u32, line: &ThreadLine) -> Ask
+    ensures { result ≡ ask_by number line.now.image line.now.action }
+{
+    match &line.action {
+        Action::Open => Ask::Opens(number, line.image),
+        Action::Close => Ask::Closes(number, line.image),
+        Action::Call { .. } | Action::Peek { .. } => Ask::Look(number),
+    }
+}
+
+/// What the line of an index asks, if there is one.
+fn ask_next(number: u32, line: Option<&ThreadLine>) -> Ask
+    ensures { result ≡ ask_next number (option_map (λ x. x.now) line.entry) }
+{
+    match line {
+        Some(line) => ask_by(number, line),
+        None => Ask::Done,
+    }
+}
+
+/// What never changes of a thread.
+#[derive(Clone, Copy)]
+struct Script<'m> {
+    alloc: Global,
+    names: &'m JobNames<'m>,
+    lines: &'m [ThreadLine],
+    fuel: u64,
+}
+
+/// The runner once a turn is over, of a line whose looks so far have these points.
+fn ended<'m>(
+    script: Script<'m>,
+    begun: usize,
+    space: ThreadSpace<'m>,
+    mut said: Vec<Line>,
+    points: Vec<u64>,
+    taken: Taken,
+) -> Result<Runner<'m>, AllocError>
+    requires names { script.names.now ≡ space.vector.images }
+    requires startups { HasStartups space.vector }
+    requires fuel { script.fuel < 2 ^ 32 }
+    requires lines { length script.lines.now < 2 ^ 31 }
+    requires begun { begun ≤ length script.lines.now }
+    requires steps { HasStepsLeft (4 * script.fuel) taken }
+    ensures { IfOk result (λ r. r
+        ≡ run_after script.entry.lines.now begun script.entry.fuel said.items points.items taken space.entry) }
+{
+    let Script {
+        alloc,
+        names,
+        lines,
+        fuel,
+    } = script;
+    let call = match taken {
+        Taken::Over(outcome) => {
+            let points = Points::new(points);
+            said.push(Line { points, outcome })?;
+            None
+        }
+        Taken::Waits(machine, asked) => Some(Pending {
+            machine,
+            asked,
+            points,
+        }),
+    };
+    Ok(Runner {
+        alloc,
+        names,
+        lines,
+        fuel,
+        begun,
+        space,
+        call,
+        said,
+    })
+}
+
+/// Begins the next line, where the thread has looked and has the data in its hands.
+fn begin_line<'m>(
+    script: Script<'m>,
+    begun: usize,
+    mut space: ThreadSpace<'m>,
+    said: Vec<Line>,
+    line: &ThreadLine,
+    answer: Option<LineAnswer>,
+    pieces: &mut Data,
+) -> Result<Runner<'m>, AllocError>
+    requires names { script.names.now ≡ space.vector.images }
+    requires startups { HasStartups space.vector }
+    requires fuel { script.fuel < 2 ^ 32 }
+    requires lines { length script.lines.now < 2 ^ 31 }
+    requires begun { begun < length script.lines.now }
+    requires room { space.vector.past.seen + 1 < 2 ^ 62 }
+    requires pieces { length space.pieces ≡ length space.vector.images.images + 1 }
+    requires answer { answer ≡ answer_to space.vector.past (ask_by (begun + 1) line.now.image line.now.action) }
+    ensures { IfOk result (λ r. BeginsLine script.entry.lines.now begun script.entry.fuel line.now space.entry said.items r pieces.new) }
+{
+    let point = space.seen();
+    let points = vec![in script.alloc; point]?;
+    let number = begun as u32 + 1;
+    let taken = take_begin(&mut space, script.names, number, line, answer, script.fuel)?;
+    *pieces = space.take_data();
+    ended(script, begun + 1, space, said, points, taken)
+}
+
+/// Goes on with a call, where the thread has looked and has the data in its hands.
+fn resume_line<'m>(
+    script: Script<'m>,
+    begun: usize,
+    mut space: ThreadSpace<'m>,
+    said: Vec<Line>,
+    call: Pending,
+    pieces: &mut Data,
+) -> Result<Runner<'m>, AllocError>
+    requires names { script.names.now ≡ space.vector.images }
+    requires startups { HasStartups space.vector }
+    requires fuel { script.fuel < 2 ^ 32 }
+    requires lines { length script.lines.now < 2 ^ 31 }
+    requires begun { begun ≤ length script.lines.now }
+    requires steps { call.machine.taken < 4 * script.fuel }
+    ensures { IfOk result (λ r. ResumesLine script.entry.lines.now begun script.entry.fuel space.entry said.items call r pieces.new) }
+{
+    let Pending {
+        machine,
+        asked,
+        mut points,
+    } = call;
+    points.push(space.seen())?;
+    let taken = take_resume(&mut space, machine, asked, script.fuel)?;
+    *pieces = space.take_data();
+    ended(script, begun, space, said, points, taken)
+}
+
+impl<'m> Runner<'m> {
+    /// A thread of a job, from 1 to 64, before its first line. The only error is want of memory, and a thread of 2^31
+    /// lines and more is said to want it: a job that is read has at most 65,536.
+    pub fn new(
+        alloc: Global,
+        thread: u32,
+        job: &'m Job,
+        names: &'m JobNames<'m>,
+    ) -> Result<Runner<'m>, AllocError>
+        requires low { 1 ≤ thread }
+        requires high { thread ≤ 64 }
+        ensures { IfOk result (λ r. IsFirstRun thread names.now job.now r) }
+    {
+        let lines = job.lines(thread);
+        if lines.len() >= 0x8000_0000 {
+            return Err(AllocError);
+        }
+        let fuel = job.fuel();
+        let space = ThreadSpace::new(alloc, thread, names.modules())?;
+        let _seen = space.seen();
+        Ok(Runner {
+            alloc,
+            names,
+            lines,
+            fuel,
+            begun: 0,
+            space,
+            call: None,
+            said: Vec::new(alloc),
+        })
+    }
+
+    /// The thread, from 1.
+    pub fn thread(&self) -> u32
+        ensures { result ≡ self.now.kept.vector.thread }
+    {
+        self.space.thread()
+    }
+
+    /// How many events the thread has seen, its own among them.
+    pub fn seen(&self) -> u64
+        ensures value { result ≡ self.now.kept.vector.past.seen }
+        ensures left { IsLeftBy self.now.kept.vector.images self.now.kept.vector.past }
+    {
+        self.space.seen()
+    }
+
+    /// What the thread does at its next turn.
+    pub fn asks(&self) -> Ask
+        ensures { result ≡ ask_of self.now }
+    {
+        match &self.call {
+            Some(_) => Ask::Look(self.begun as u32),
+            None => ask_next(self.begun as u32 + 1, self.lines.get(self.begun)),
+        }
+    }
+
+    /// Takes the thread's next turn: a look at the events that it has not seen, and the steps up to its next look, with the
+    /// data that all threads share in its hands. An open or a close is answered as the registry of the history answers it
+    /// after those events. A refusal, which only want of memory is, drops the runner, and nothing is said of the data then.
+    pub fn turn_with(
+        self,
+        events: &[Event],
+        answer: Option<LineAnswer>,
+        pieces: &mut Data,
+    ) -> Result<Runner<'m>, AllocError>
+        requires going { IsGoing (ask_of self) }
+        requires legal { is_legal self.kept.vector.past events.now ≡ true }
+        requires room { self.kept.vector.past.seen + length events.now + 1 < 2 ^ 62 }
+        requires pieces { length pieces.old ≡ length self.kept.vector.images.images + 1 }
+        requires answer { answer ≡ answer_to (after self.kept.vector.past events.now) (ask_of self) }
+        ensures taken { IfOk result (λ r. TakesTurn self.entry events.now pieces.old r pieces.new) }
+        ensures pieces { OnOk result (length pieces.new ≡ length pieces.old) }
+    {
+        let Runner {
+            alloc,
+            names,
+            lines,
+            fuel,
+            begun,
+            mut space,
+            call,
+            said,
+        } = self;
+        let script = Script {
+            alloc,
+            names,
+            lines,
+            fuel,
+        };
+        space.put_data(mem::replace(pieces, Data::none(alloc)));
+        space.look(events)?;
+        let _seen = space.seen();
+        match call {
+            Some(call) => resume_line(script, begun, space, said, call, pieces),
+            None => begin_line(script, begun, space, said, &lines[begun], answer, pieces),
+        }
+    }
+
+    /// What the thread said of its lines.
+    pub fn lines(self) -> Vec<Line>
+        ensures { result.items ≡ self.entry.said }
+    {
+        self.said
+    }
+}

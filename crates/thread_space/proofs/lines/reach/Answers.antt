@@ -1,8 +1,0 @@
-use Rattle.thread_space.proofs.HeldWith.{live_found, reaches_live}
-use Rattle.thread_space.proofs.lines.reach.Goals as goal
-
-pub reach-requires : goal.reach-requires
-reach-requires c = live_found c.args.space.now.vector.images c.args.space.now.vector.past c.args.instance.now c.seen-before.ensures.left c.requires
-
-pub returns : goal.returns
-returns c = reaches_live c.args.space.now c.reach.new.self c.args.instance.now c.in_ok-reach.ensures.ok c.seen-after.ensures.left

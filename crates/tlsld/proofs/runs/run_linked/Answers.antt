@@ -1,0 +1,23 @@
+use Rattle.std.proofs.Common.{All, subst}
+use Rattle.job_text.specs.declared.thread_lines.ThreadLine.{ThreadLine}
+use Rattle.job_text.specs.Jobs.{IsLineOf}
+use Rattle.tlsld.proofs.Again.{all_hold, are_modules}
+use Rattle.tlsld.proofs.Transcribed.{ran}
+use Rattle.tlsld.proofs.runs.run_linked.Goals as goal
+
+pub images_again-requires : goal.images_again-requires
+images_again-requires c =
+    let (ls, links, all_is) = c.requires.links in all_hold c.args.job.now ls links c.args.all.items all_is c.images_hold_tls.ensures
+
+pub new-requires : goal.new-requires
+new-requires c =
+    let (ls, links, all_is) = c.requires.links in
+    are_modules c.args.job.now ls links c.args.all.items all_is c.linked_images_are_modules.ensures c.requires.late c.in_ok-images.images.items
+    (record { read = c.in_ok-images.ensures.read; again = c.in_ok-images.ensures.again })
+
+pub returns-clause-ran : goal.returns-clause-ran
+returns-clause-ran c =
+    ran c.programs_print_their_meaning.ensures c.args.job.now
+    (subst (All (IsLineOf c.args.job.now.images)) c.lines-lines.ensures.value c.lines-lines.ensures.placed) c.args.all.items c.in_ok-images.images.items
+    (record { read = c.in_ok-images.ensures.read; again = c.in_ok-images.ensures.again }) c.in_ok-modules.modules c.in_ok-modules.ensures c.run_job.result
+    c.run_job.ensures.transcript
