@@ -1,5 +1,3 @@
-pub mod Answering
-pub mod AtOnce
 pub mod BytesHeld
 pub mod Entries
 pub mod Fetched

@@ -1,4 +1,3 @@
-pub mod Asking
 pub mod Fetching
 pub mod Holding
 pub mod Kept

@@ -1,5 +1,5 @@
 -- The part is one of the image.
-use Rattle.std.proofs.Common.{◌≡◌, ◌∙◌, ◌+◌, Some, length, true, ap, sym, slice_get}
+use Rattle.std.proofs.Common.{◌≡◌, ◌∙◌, ◌+◌, Some, length, true, ap, refl, sym, slice_get}
 use Rattle.image_file.specs.Spelled.{Part, part_seen}
 use Rattle.loaded_modules.specs.Loader.{bias_of, loaded_part}
 use Rattle.thread_blocks.specs.Loading.{is_code}
