@@ -1,29 +1,28 @@
 -- Code that is fetched at once is what its bytes are one by one.
-use Rattle.std.proofs.Common.{◌≡◌, ◌∙◌, ◌+◌, ◌-◌, ◌%◌, ◌^◌, ◌<◌, ◌≤◌, ◌++◌, ℕ, zero, suc, Bool, true, false, List, [], ◌∷◌, length, drop, take, get_or, Option, Some, None, refl, sym, ap, subst, arith, inl, inr, cond, add-one}
-use Rattle.std.specs.Prelude.{◌&&◌, is_some, nat_le, nat_lt, option_and_then, slice_get, slice_range}
+use Rattle.std.proofs.Common.{◌≡◌, ◌∙◌, ◌+◌, ◌-◌, ◌^◌, ◌<◌, ◌≤◌, ◌++◌, ℕ, zero, suc, Bool, true, false, List, [], ◌∷◌, length, drop, take, get_or, Option, Some, None, refl, sym, ap, subst, arith, inl, inr, cond, add-one}
+use Rattle.std.specs.Prelude.{◌&&◌, is_some, nat_le, option_and_then, slice_get, slice_range}
 use Rattle.std.specs.List.{find, flat_map}
 use Rattle.std.specs.Option.{option_or}
 use Rattle.std.proofs.Math.Seq.{drop-cons}
-use Rattle.std.proofs.lemmas.Bool.{cases_Bool, false≢true, le-leb, leb-true, ltb-true, ltb-false, lt-ltb}
-use Rattle.std.proofs.lemmas.List.{drop_all}
-use Rattle.std.proofs.lemmas.Option.{cond_some, none-some, same_Some, slice_get-get_or, slice_get_past}
+use Rattle.std.proofs.lemmas.Bool.{cases_Bool, false≢true, le-leb, leb-true, ltb-false, lt-ltb}
+use Rattle.std.proofs.lemmas.Option.{none-some, same_Some, slice_get-get_or, slice_get_past}
 use Rattle.guest_arithmetic.specs.Plain.{plain_operations}
-use Rattle.guest_operands.specs.Access.{code_at, code_then, fetch_of, next_place}
+use Rattle.guest_operands.specs.Access.{code_at, fetch_of, next_place}
 use Rattle.guest_operands.specs.declared.space.Access.TheVariants.{Run}
-use Rattle.guest_operands.specs.Ranges.{AddressSpace, Range, byte_in, range_accesses}
+use Rattle.guest_operands.specs.Ranges.{AddressSpace, byte_in, range_accesses}
 use Rattle.image_file.specs.declared.part.PartClass.TheVariants.{Executable}
 use Rattle.image_file.specs.Spelled.{Part, Spelled}
 use Rattle.loaded_modules.specs.declared.instance.Instance.{Instance}
 use Rattle.loaded_modules.specs.Images.{JobImages, image_at}
 use Rattle.loaded_modules.specs.Loader.{bias, bias_of, loaded_part, part_bytes}
-use Rattle.thread_blocks.specs.JobLoads.{instance_part, job_loads, parts_from}
+use Rattle.thread_blocks.specs.JobLoads.{job_loads, parts_from}
 use Rattle.thread_blocks.specs.Loading.{is_code, is_loaders}
 use Rattle.thread_space.specs.Fetching.{Copies, code_number, first_code, meets, part_meets}
 use Rattle.thread_space.specs.Kept.{Kept, live_in, memory_of}
 use Rattle.thread_space.specs.OfParts.{fixed_ranges}
 use Rattle.thread_space.specs.Places.{behind}
 use Rattle.thread_space.proofs.PartBytes.{behind_some, bias_here, by_class, of_image, of_no_image, part_here}
-use Rattle.thread_space.proofs.ReadKept.{fixed_among, run_is}
+use Rattle.thread_space.proofs.ReadKept.{run_is}
 use Rattle.thread_space.proofs.Sought.{byte_in-append, is_byte}
 
 -- ** one part
@@ -33,10 +32,10 @@ misses : (start place k : ℕ) (bytes : List ℕ) → k < 15 → meets start (le
     → option_and_then (slice_get bytes) (behind start (place + k)) ≡ None
 misses start place k bytes low none = elim (cases_Bool (nat_le start (place + k))) [
   | inl t ↦
-    let from : start ≤ place + k = leb-true start (place + k) t in
-    let below : start < place + 15 = omega (arith, from, low) in
-    let past : start + length bytes ≤ place = ltb-false place (start + length bytes) (sym (rw (lt-ltb start (place + 15) below) refl) ∙ none) in
-    rw t (slice_get_past bytes (place + k - start) (omega (arith, past)))
+      let from : start ≤ place + k = leb-true start (place + k) t in
+      let below : start < place + 15 = omega (arith, from, low) in
+      let past : start + length bytes ≤ place = ltb-false place (start + length bytes) (sym (rw (lt-ltb start (place + 15) below) refl) ∙ none) in
+      rw t (slice_get_past bytes (place + k - start) (omega (arith, past)))
   | inr f ↦ rw f refl
 ]
 
@@ -75,8 +74,8 @@ module _ (m : JobImages) (image : Spelled) (x : Instance) (place k : ℕ) (low :
         let told = behind_some start place at begins in
         let from : start ≤ place = leb-true start place told.0 in
         let later : behind start (place + k) ≡ Some (at + k) =
-            (let offset : place + k - start ≡ at + k = omega (arith, told.1, from) in
-            rw (le-leb start (place + k) (omega (arith, from)), offset) refl)
+        (let offset : place + k - start ≡ at + k = omega (arith, told.1, from) in
+        rw (le-leb start (place + k) (omega (arith, from)), offset) refl)
         in
         by_class Run found_part.class (is_loaders image.got i) start (place + k) bytes (parts_from m image x (suc i) rest)
         ∙ rw (code, later) (sym (is_byte bytes (at + k) (rest_of (suc i) rest) (omega (arith, room, low))))
@@ -86,16 +85,16 @@ module _ (m : JobImages) (image : Spelled) (x : Instance) (place k : ℕ) (low :
     code_from [] i rests found = absurd (none-some n found)
     code_from (part ∷ rest) i rests found = elim (cases_Bool (part_meets m image x place (Some part))) [
       | inl t ↦
-        let number : i ≡ n = same_Some i n (sym (rw t refl) ∙ found) in
-        let first : slice_get image.parts i ≡ Some part = (let e : i + 0 ≡ i = omega arith in rw e at (rests 0)) in
-        let same : part ≡ found_part = same_Some part found_part (sym first ∙ ap (slice_get image.parts) number ∙ is) in
-        let code : is_code part.class ≡ true = first_true (is_code part.class) _ t in
-        subst (λ (p : Part). rest_of i (p ∷ rest) ≡ slice_get (part_bytes m image x found_part) (at + k)) (sym same)
-        (here i rest (ap (λ (p : Part). is_code p.class) (sym same) ∙ code))
+          let number : i ≡ n = same_Some i n (sym (rw t refl) ∙ found) in
+          let first : slice_get image.parts i ≡ Some part = (let e : i + 0 ≡ i = omega arith in rw e at (rests 0)) in
+          let same : part ≡ found_part = same_Some part found_part (sym first ∙ ap (slice_get image.parts) number ∙ is) in
+          let code : is_code part.class ≡ true = first_true (is_code part.class) _ t in
+          subst (λ (p : Part). rest_of i (p ∷ rest) ≡ slice_get (part_bytes m image x found_part) (at + k)) (sym same)
+          (here i rest (ap (λ (p : Part). is_code p.class) (sym same) ∙ code))
       | inr f ↦
-        passed i part rest f
-        ∙ code_from rest (suc i) (λ j. (let e : i + suc j ≡ suc i + j = omega arith in rw e at (rests (suc j))))
-            (sym (rw f refl) ∙ found)
+          passed i part rest f
+          ∙ code_from rest (suc i) (λ j. (let e : i + suc j ≡ suc i + j = omega arith in rw e at (rests (suc j))))
+          (sym (rw f refl) ∙ found)
     ]
       where
         first_true : (a b : Bool) → (a && b) ≡ true → a ≡ true
@@ -132,7 +131,7 @@ module _ (m : JobImages) (place k : ℕ) (low : k < 15) where
             let same : y ≡ x = same_Some y x (sym (rw e refl) ∙ found) in
             byte_in-append Run (place + k) ((job_loads m).fixed y) (flat_map (job_loads m).fixed xs)
             ∙ ap (λ o. option_or o (byte_in Run (flat_map (job_loads m).fixed xs) (place + k)))
-                (ap (λ z. byte_in Run ((job_loads m).fixed z) (place + k)) same ∙ here)
+            (ap (λ z. byte_in Run ((job_loads m).fixed z) (place + k)) same ∙ here)
 
 -- ** all of the bytes
 
@@ -143,8 +142,8 @@ module _ (memory : AddressSpace ℕ) (bytes : List ℕ) where
   code_is zero place at each room low = refl
   code_is (suc n) place at each room low =
       let first : byte_in Run memory.ranges place ≡ Some (get_or bytes at 0) =
-          (let e : place + 0 ≡ place = omega arith in let f : at + 0 ≡ at = omega arith in rw (e, f) at (each 0 (omega arith)))
-          ∙ slice_get-get_or bytes at 0 (omega (arith, room))
+      (let e : place + 0 ≡ place = omega arith in let f : at + 0 ≡ at = omega arith in rw (e, f) at (each 0 (omega arith)))
+      ∙ slice_get-get_or bytes at 0 (omega (arith, room))
       in
       let within : at < length bytes = omega (arith, room) in
       let next : next_place place ≡ place + 1 = omega (arith, low) in
@@ -166,20 +165,20 @@ fetched k place n x image into low found there first copies =
     let m = k.vector.images in
     let bytes = part_bytes m image x copies.part in
     let begins : behind (copies.part.address + bias image.kind x.number) place ≡ Some copies.at =
-        rw (bias_here m image x n there) at copies.begins
+    rw (bias_here m image x n there) at copies.begins
     in
     let each : (j : ℕ) → j < 15 → byte_in Run (memory_of k).ranges (place + j) ≡ slice_get bytes (copies.at + j) = λ j less.
-        (let one : byte_in Run ((job_loads m).fixed x) (place + j) ≡ slice_get bytes (copies.at + j) =
-            ap (λ ranges. byte_in Run ranges (place + j)) (sym (of_image m x image there))
-            ∙ code_from m image x place j less n copies.at copies.part copies.is begins copies.room image.parts 0
-                (λ i. (let e : 0 + i ≡ i = omega arith in rw e refl)) first
-        in
-        let some : slice_get bytes (copies.at + j) ≡ Some (get_or bytes (copies.at + j) 0) =
-            slice_get-get_or bytes (copies.at + j) 0 (omega (arith, less, copies.room))
-        in
-        run_is k (place + j)
-        ∙ in_live m place j less image x n (get_or bytes (copies.at + j) 0) (one ∙ some) (live_in m k.vector.past) found
-        ∙ sym some)
+    (let one : byte_in Run ((job_loads m).fixed x) (place + j) ≡ slice_get bytes (copies.at + j) =
+    ap (λ ranges. byte_in Run ranges (place + j)) (sym (of_image m x image there))
+    ∙ code_from m image x place j less n copies.at copies.part copies.is begins copies.room image.parts 0
+    (λ i. (let e : 0 + i ≡ i = omega arith in rw e refl)) first
+    in
+    let some : slice_get bytes (copies.at + j) ≡ Some (get_or bytes (copies.at + j) 0) =
+    slice_get-get_or bytes (copies.at + j) 0 (omega (arith, less, copies.room))
+    in
+    run_is k (place + j)
+    ∙ in_live m place j less image x n (get_or bytes (copies.at + j) 0) (one ∙ some) (live_in m k.vector.past) found
+    ∙ sym some)
     in
     copies.copied
     ∙ (let e : copies.at + 15 - copies.at ≡ 15 = omega arith in rw e (sym (code_is (memory_of k) bytes 15 place copies.at each copies.room low)))

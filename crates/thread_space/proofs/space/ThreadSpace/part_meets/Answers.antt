@@ -13,7 +13,7 @@ returns c =
     let is : slice_get c.args.image.now.parts c.args.number ≡ Some part = sym c.part.ensures ∙ ap part_seen c.in-Some.is in
     let code : is_code part.class ≡ true = cc in
     let told : c.meets.result ≡ meets (part.address + bias_of c.args.self.now.vector.images c.args.instance.now)
-        (length (loaded_part c.args.self.now.vector.images c.args.instance.now c.args.number)) c.args.place =
-        c.meets.ensures ∙ rw (c.bias.ensures.value, c.part_size-size.ensures) refl
+    (length (loaded_part c.args.self.now.vector.images c.args.instance.now c.args.number)) c.args.place =
+    c.meets.ensures ∙ rw (c.bias.ensures.value, c.part_size-size.ensures) refl
     in
     told ∙ meets_read c.args.self.now.vector.images c.args.image.now c.args.instance.now c.requires.there c.args.number c.args.place part is code
