@@ -1,12 +1,10 @@
-use Rattle.std.proofs.Common.{◌≡◌, ◌+◌, ◌<◌, length, Option, Some, None, refl, ap, sym, subst, ◌∙◌, arith}
+use Rattle.std.proofs.Common.{◌≡◌, ◌+◌, ◌<◌, length, Option, Some, None, refl, ap, sym, subst, ◌∙◌}
 use Rattle.std.specs.Prelude.{slice_get}
 use Rattle.std.proofs.lemmas.Option.{slice_get_read}
 use Rattle.std.proofs.lemmas.Result.{IfOk-weaker}
 use Rattle.module_table.specs.Past.{after}
 use Rattle.job_turns.specs.Asking.{answer_to}
 use Rattle.job_turns.specs.Standing.{IsGoing, Run, TakesTurn, Waiting, ask_now, ask_of}
-use Rattle.thread_space.specs.Steps.{HasData}
-use Rattle.job_turns.specs.Taking.{BeginsLine, ResumesLine}
 use Rattle.job_turns.proofs.WholeTurns.{begins_line, going_within, looked_answer, looked_pieces, looked_room, looked_startups, resumes_line}
 use Rattle.job_turns.proofs.runner.Runner.turn_with.Goals as goal
 
