@@ -1,5 +1,5 @@
 -- Transcripts, and those of threads that call functions of a plain program alone.
-use Rattle.std.proofs.Common.{◌≡◌, ◌∙◌, ◌≤◌, ◌&&◌, ℕ, Bool, true, false, List, All, [], ◌∷◌, length, map, Option, Some, None, Result, Ok, Err, IfOk, refl, sym, ap, subst, arith}
+use Rattle.std.proofs.Common.{◌≡◌, ◌∙◌, ◌&&◌, ℕ, Bool, true, false, List, All, [], ◌∷◌, map, Result, Ok, Err, IfOk, refl, sym, ap, subst, arith}
 use Rattle.image_file.specs.Spelled.{Spelled}
 use Rattle.job_run.specs.Plain.{AreBytes, is_exe, is_plain}
 use Rattle.job_run.specs.Whole.{AreAllClean, ThreadsPrintTheirMeaning, ThreadsSay, program_of, told_calls}

@@ -8,7 +8,7 @@ use Rattle.job_run.specs.Plain.{AreBytes, is_plain}
 use Rattle.job_run.specs.Whole.{AreAllClean, each_meant, told_calls}
 use Rattle.job_text.specs.Jobs.{JobParts}
 use Rattle.job_turns.specs.Transcripts.{IsTranscript}
-use Rattle.link_core.specs.Images.{LinkedImage, image_of, linked_of}
+use Rattle.link_core.specs.Images.{LinkedImage, linked_of}
 use Rattle.link_needs.specs.Linking.{Linking}
 use Rattle.linked_modules.specs.Together.{AreTogether}
 use Rattle.loaded_modules.specs.Given.{of_job}
