@@ -1,6 +1,6 @@
 -- A turn of a thread that has nothing left to do changes nothing that counts.
-use Rattle.std.proofs.Common.{◌≡◌, ◌+◌, ◌++◌, ℕ, List, [], ◌∷◌, drop, Option, Some, None, refl, sym, ap, subst, ◌∙◌, append-nil}
-use Rattle.std.specs.Prelude.{not, option_and_then, slice_get}
+use Rattle.std.proofs.Common.{◌≡◌, ◌+◌, ◌++◌, ℕ, List, [], ◌∷◌, Option, Some, None, refl, sym, ap, subst, ◌∙◌, append-nil}
+use Rattle.std.specs.Prelude.{not, slice_get}
 use Rattle.std.proofs.lemmas.List.Elements.{filter-append}
 use Rattle.job_text.specs.declared.thread_lines.Action.{Action}
 use Rattle.job_text.specs.declared.thread_lines.Action.TheVariants.{Call, Open, Close, Peek}
@@ -9,13 +9,12 @@ use Rattle.module_data.specs.Pieces.{Piece}
 use Rattle.module_table.specs.declared.events.Event.{Event}
 use Rattle.module_table.specs.Past.{Past}
 use Rattle.loaded_modules.specs.Images.{JobImages}
-use Rattle.thread_blocks.specs.Held.{Owned, is_block, owned_by, with_owned}
+use Rattle.thread_blocks.specs.Held.{is_block, owned_by, with_owned}
 use Rattle.thread_blocks.specs.JobWorlds.{blocks_in, changed, data_in, held_in, numbered_lines, with_data, without_data}
 use Rattle.thread_blocks.specs.Lines.{Line}
 use Rattle.thread_blocks.specs.RunTime.{Runs}
-use Rattle.thread_blocks.specs.Turns.{Idle, Mid, Phase, Said, Thread, Turns, event_of, next_line, turn, turn_at}
-use Rattle.job_turns.specs.declared.asking.Ask.{Ask}
-use Rattle.job_turns.specs.declared.asking.Ask.TheVariants.{Done, Look, Opens, Closes}
+use Rattle.thread_blocks.specs.Turns.{Idle, Mid, Phase, Said, Thread, Turns, event_of, turn, turn_at}
+use Rattle.job_turns.specs.declared.asking.Ask.TheVariants.{Done}
 use Rattle.job_turns.specs.Asking.{ask_by, ask_next}
 use Rattle.thread_space.specs.Kept.{Kept, blocks_of, shared_of}
 use Rattle.job_turns.specs.Standing.{IsIdle, PhaseIs, Run, StandsFor, Waiting, ask_now, ask_of}

@@ -1,25 +1,25 @@
 -- Before the first turn.
-use Rattle.std.proofs.Common.{◌≡◌, ◌+◌, ◌-◌, ◌++◌, ℕ, zero, suc, Bool, true, List, [], ◌∷◌, length, map, drop, Option, Some, None, refl, sym, ap, subst, ◌∙◌, arith}
-use Rattle.std.specs.Prelude.{nat_lt, slice_get, slice_index_or}
+use Rattle.std.proofs.Common.{◌≡◌, ◌+◌, ◌-◌, ℕ, zero, suc, true, List, [], ◌∷◌, length, Some, refl, sym, ap, subst, ◌∙◌, arith}
+use Rattle.std.specs.Prelude.{nat_lt, slice_get}
 use Rattle.std.proofs.lemmas.Option.{get_or_from_slice_get}
 use Rattle.std.proofs.lemmas.List.FromFn.{length-map-range_with_len}
 use Rattle.job_text.specs.declared.thread_lines.ThreadLine.{ThreadLine}
 use Rattle.job_text.specs.Jobs.{JobParts}
 use Rattle.job_text.specs.Threads.{of_thread}
 use Rattle.loaded_modules.specs.Images.{JobImages, infos, last_offset}
-use Rattle.module_data.specs.Pieces.{Piece, first_data, first_piece}
+use Rattle.module_data.specs.Pieces.{first_data, first_piece}
 use Rattle.module_table.specs.declared.events.Event.{Event}
 use Rattle.module_table.specs.History.{IsLegal}
 use Rattle.module_table.specs.Past.{past, start}
-use Rattle.thread_blocks.specs.Held.{looked_at, owned_by}
+use Rattle.thread_blocks.specs.Held.{looked_at}
 use Rattle.thread_blocks.specs.Instances.{Loads}
 use Rattle.thread_blocks.specs.JobLoads.{job_loads}
 use Rattle.thread_blocks.specs.JobWorlds.{job_start, numbered_lines, ready_from, thread_ready}
 use Rattle.thread_blocks.specs.Lines.{Line}
 use Rattle.thread_blocks.specs.RunTime.{Runs}
-use Rattle.thread_blocks.specs.Turns.{Idle, Thread, ready}
-use Rattle.thread_space.specs.Kept.{HasSeen, Kept, blocks_of, shared_of}
-use Rattle.job_turns.specs.Standing.{IsFirstRun, IsIdle, PhaseIs, Run, StandsFor}
+use Rattle.thread_blocks.specs.Turns.{Thread, ready}
+use Rattle.thread_space.specs.Kept.{HasSeen, Kept, blocks_of}
+use Rattle.job_turns.specs.Standing.{IsFirstRun, IsIdle, Run, StandsFor}
 use Rattle.thread_space.specs.Steps.{IsNew}
 use Rattle.thread_space.proofs.Owners.{owned_again}
 use Rattle.thread_space.proofs.StartKept.{first_shared, start_kept}

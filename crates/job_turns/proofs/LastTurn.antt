@@ -1,8 +1,8 @@
 -- After the last turn: what the threads said, the whole order, and whose images the events name.
-use Rattle.std.proofs.Common.{◌≡◌, ◌+◌, ◌*◌, ◌≤◌, ◌<◌, ◌++◌, ℕ, zero, suc, Bool, true, false, List, [], ◌∷◌, length, map, take, replicate, Option, Some, None, Result, Ok, Err, refl, sym, ap, subst, ◌∙◌, inl, inr, append-nil, append_assoc, arith}
-use Rattle.std.specs.Prelude.{All, IfOk, if◌then◌else◌, nat_lt, not, slice_get}
+use Rattle.std.proofs.Common.{◌≡◌, ◌+◌, ◌*◌, ◌≤◌, ◌<◌, ℕ, Bool, true, false, List, [], ◌∷◌, length, map, Option, Some, None, Result, Ok, Err, refl, sym, ap, ◌∙◌, inl, inr, arith}
+use Rattle.std.specs.Prelude.{All, IfOk, if◌then◌else◌, nat_lt, not}
 use Rattle.std.proofs.lemmas.Bool.{and_parts, cases_Bool}
-use Rattle.std.proofs.lemmas.List.{length-map, replicate-append-replicate}
+use Rattle.std.proofs.lemmas.List.{length-map}
 use Rattle.std.proofs.lemmas.List.Elements.{All-cons, All-nil}
 use Rattle.job_text.specs.declared.images.Image.{Image}
 use Rattle.job_text.specs.Images.{IsImageNumber}
@@ -13,12 +13,10 @@ use Rattle.loaded_modules.specs.Images.{JobImages, infos, infos_of, last_offset}
 use Rattle.module_table.specs.declared.events.Event.{Event}
 use Rattle.module_table.specs.declared.events.OpenRefusal.{OpenRefusal}
 use Rattle.module_table.specs.declared.events.OpenRefusal.TheVariants.{Unknown}
-use Rattle.module_table.specs.declared.modules.ImageInfo.{ImageInfo}
-use Rattle.module_table.specs.declared.modules.Module.{Module}
 use Rattle.module_table.specs.History.{IsLegal}
 use Rattle.module_table.specs.Modules.{is_loaded}
-use Rattle.module_table.specs.Past.{Past, accepts, after_one, first_modules, is_legal, loaded, module_of, open_refusal, released, retained, start}
-use Rattle.module_table.specs.Tables.{CanLoad, IsPast}
+use Rattle.module_table.specs.Past.{Past, accepts, after_one, is_legal, loaded, module_of, open_refusal, released, retained, start}
+use Rattle.module_table.specs.Tables.{IsPast}
 use Rattle.module_table.proofs.Along.{IsKept, kept_step, past_step}
 use Rattle.module_table.proofs.Refusals.{accepts_close, accepts_open, held}
 use Rattle.module_table.proofs.StartLemmas.{length-first_modules}
@@ -28,7 +26,7 @@ use Rattle.thread_blocks.specs.JobLoads.{job_loads}
 use Rattle.thread_blocks.specs.JobWorlds.{Shared, job_start, job_world}
 use Rattle.thread_blocks.specs.Lines.{Line}
 use Rattle.thread_blocks.specs.MachineTurns.{shown}
-use Rattle.thread_blocks.specs.Turns.{enough, finishing, whole_order}
+use Rattle.thread_blocks.specs.Turns.{finishing}
 use Rattle.transcript_text.specs.Texts.{Shown}
 use Rattle.job_turns.specs.Standing.{Run}
 use Rattle.job_turns.specs.Progress.{IsFirst, Progress, Stands, StandsForSome, TakesTurns}

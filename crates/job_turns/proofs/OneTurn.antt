@@ -1,5 +1,5 @@
 -- One turn: of a thread that has nothing left to do, and of one that has.
-use Rattle.std.proofs.Common.{◌≡◌, ◌+◌, ◌++◌, ℕ, zero, suc, Bool, true, false, List, [], ◌∷◌, length, drop, Option, Some, None, refl, sym, ap, subst, ◌∙◌, append-nil}
+use Rattle.std.proofs.Common.{◌≡◌, ◌+◌, ◌++◌, ℕ, zero, suc, Bool, true, List, [], ◌∷◌, length, drop, Option, Some, None, refl, sym, ap, subst, ◌∙◌, append-nil}
 use Rattle.std.specs.Prelude.{option_and_then, slice_get, slice_set}
 use Rattle.std.proofs.Math.Seq.{drop-append_seam}
 use Rattle.job_text.specs.declared.thread_lines.Action.{Action}
@@ -16,7 +16,7 @@ use Rattle.thread_blocks.specs.JobLoads.{job_loads}
 use Rattle.thread_blocks.specs.JobWorlds.{Shared, data_in, held_in, numbered_lines, shared_turn, with_data, without_data}
 use Rattle.thread_blocks.specs.Lines.{Line, event_by}
 use Rattle.thread_blocks.specs.RunTime.{Runs, thread_turns}
-use Rattle.thread_blocks.specs.Turns.{Idle, Mid, Phase, Thread, at_number, event_of, next_line, turn, with_event}
+use Rattle.thread_blocks.specs.Turns.{Idle, Mid, Phase, Thread, event_of, next_line, turn, with_event}
 use Rattle.job_turns.specs.declared.asking.Ask.{Ask}
 use Rattle.job_turns.specs.declared.asking.Ask.TheVariants.{Done, Look, Opens, Closes}
 use Rattle.job_turns.specs.Asking.{ask_by, ask_next}

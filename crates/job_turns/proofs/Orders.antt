@@ -1,12 +1,12 @@
 -- Turns in one order and then in another, and turns of a thread that is over.
-use Rattle.std.proofs.Common.{◌≡◌, ◌++◌, ◌+◌, ◌-◌, ◌<◌, ◌≤◌, ℕ, zero, suc, Bool, true, false, List, [], ◌∷◌, add-one, arith, get_or, length, take, replicate, Option, Some, None, refl, sym, ap, subst, ◌∙◌}
+use Rattle.std.proofs.Common.{◌≡◌, ◌++◌, ◌+◌, ◌-◌, ◌<◌, ◌≤◌, ℕ, zero, suc, Bool, true, false, List, [], ◌∷◌, add-one, arith, get_or, length, take, replicate, Option, Some, None, refl, sym, ap, ◌∙◌}
 use Rattle.std.specs.List.{insert, remove}
 use Rattle.std.proofs.lemmas.List.{replicate-append-replicate, take_more}
 use Rattle.std.specs.Prelude.{nat_lt, slice_get, slice_set}
 use Rattle.std.proofs.lemmas.Option.{slice_get-get_or}
 use native.Mathlib.Nat.{mul-suc}
 use Rattle.job_text.specs.Threads.{of_thread}
-use Rattle.loaded_modules.specs.Images.{JobImages, infos, last_offset}
+use Rattle.loaded_modules.specs.Images.{JobImages}
 use Rattle.module_data.specs.Pieces.{Piece}
 use Rattle.module_table.specs.declared.events.Event.{Event}
 use Rattle.module_table.specs.History.{History}
@@ -16,7 +16,7 @@ use Rattle.thread_blocks.specs.Lines.{Line, event_by}
 use Rattle.thread_blocks.specs.RunTime.{Runs, thread_turns}
 use Rattle.thread_blocks.specs.Turns.{Thread, at_number, enough, finishing}
 use Rattle.job_turns.specs.Standing.{Run}
-use Rattle.job_turns.specs.Progress.{Progress, Stands, StandsForSome, TakesTurns, is_over, is_thread_over, job_order}
+use Rattle.job_turns.specs.Progress.{Progress, StandsForSome, TakesTurns, is_over, is_thread_over, job_order}
 use Rattle.job_turns.specs.Turning.{CanTurn, Turned}
 use Rattle.job_turns.proofs.Lists.{beside, finishing_more, put_back, set-length, within}
 use Rattle.job_turns.proofs.OneTurn.{over_stays, turned_stands}

@@ -1,6 +1,6 @@
 -- What stands for the definition's threads still stands for them once a turn was put in.
-use Rattle.std.proofs.Common.{◌≡◌, ◌+◌, ◌++◌, ℕ, suc, Bool, List, [], ◌∷◌, length, Option, Some, None, refl, sym, ap, ◌∙◌, append_assoc}
-use Rattle.std.specs.Prelude.{slice_get, slice_set}
+use Rattle.std.proofs.Common.{◌≡◌, ◌++◌, ℕ, suc, Bool, List, [], ◌∷◌, length, Option, Some, None, sym, ◌∙◌, append_assoc}
+use Rattle.std.specs.Prelude.{slice_set}
 use Rattle.loaded_modules.specs.Images.{JobImages, infos, last_offset}
 use Rattle.module_data.specs.Pieces.{Piece}
 use Rattle.module_table.specs.declared.events.Event.{Event}

@@ -1,7 +1,5 @@
 -- What a line's first look, a run and a resumed call do, together.
 use Rattle.std.proofs.Common.{◌≡◌, ℕ, zero, suc, ◌+◌, ◌-◌, ◌*◌, ◌<◌, ◌≤◌, Bool, List, [], ◌∷◌, length, Option, Some, None, refl, sym, ap, subst, ◌∙◌, arith}
-use Rattle.guest_arithmetic.specs.Plain.{plain_operations}
-use Rattle.guest_machine.specs.Clean.{IsClean}
 use Rattle.guest_machine.specs.Machine.{Standing}
 use Rattle.guest_machine.specs.Run.{Next, Goes, Ends, Looks, Outcome, Ended, Stepping, Waits as WaitsAt, go_on, over_or, run}
 use Rattle.guest_operands.specs.declared.state.State.{State}
@@ -10,16 +8,13 @@ use Rattle.loaded_modules.specs.Images.{JobImages, infos, last_offset}
 use Rattle.module_table.specs.declared.events.Event.{Event}
 use Rattle.module_table.specs.Past.{past}
 use Rattle.thread_vector.specs.Holding.{IsLeftBy}
-use Rattle.transcript_text.specs.declared.outcomes.LineFault.TheVariants.{Unloaded as UnloadedFault}
 use Rattle.transcript_text.specs.declared.outcomes.Outcome.{Outcome as Answer}
-use Rattle.transcript_text.specs.declared.outcomes.Outcome.TheVariants.{Fault}
 use Rattle.thread_blocks.specs.declared.asked.Asked.{Asked}
 use Rattle.thread_blocks.specs.JobLoads.{job_loads}
-use Rattle.thread_blocks.specs.Lines.{Line, begun_by, event_by}
+use Rattle.thread_blocks.specs.Lines.{Line, event_by}
 use Rattle.thread_blocks.specs.MachineTurns.{answer_of, answer_of_stop}
-use Rattle.thread_blocks.specs.RunTime.{Runs, resumed_by, shows, thread_steps, thread_turns}
-use Rattle.thread_blocks.specs.Turns.{Answered, Begun, Calls as CallsOn, Ending, Mid, Said, Says as SaysSo, Stopped, Thread, after_look, after_run, over_with, with_event}
-use Rattle.job_turns.specs.declared.lines.Started.{Started}
+use Rattle.thread_blocks.specs.RunTime.{Runs, thread_steps, thread_turns}
+use Rattle.thread_blocks.specs.Turns.{Answered, Begun, Calls as CallsOn, Ending, Said, Says as SaysSo, Stopped, after_look, after_run, over_with, with_event}
 use Rattle.job_turns.specs.declared.lines.Started.TheVariants.{Says, Calls}
 use Rattle.job_turns.specs.declared.running.Ran.{Ran}
 use Rattle.job_turns.specs.declared.running.Ran.TheVariants as ran
@@ -106,7 +101,8 @@ pub runs_to : (limit : ℕ) (m : Standing ℕ Bool) (k : Kept) (result : Ran) (m
 runs_to limit m k result m' k' taken left on is = record {
   keeps = record { thread = on.same.thread; images = on.same.images; startups = on.same.startups; pieces = on.same.pieces };
   past = on.same.past;
-  steps = waits_steps limit result m' taken k' left.events _ _ _ (on.runs left.events None (sym left.left)) is;
+  steps = waits_steps limit result m' taken k' left.events (thread_steps (job_loads k.vector.images) k.vector.thread) (limit - m.taken)
+      (held_at left.events m.state None k) (on.runs left.events None (sym left.left)) is;
   runs = λ now seen asked points todo said has_seen.
       let P : Outcome Runs → Type 0 = λ out. TookAs limit k' taken points now todo said seen (after_run todo said seen points out) in
       subst P (sym (on.runs now asked has_seen)) (took_run limit result m' taken k' now seen asked points todo said is);

@@ -1,22 +1,21 @@
 -- A turn that begins a line, and one that goes on with a call: each leaves a thread that the runner stands for.
-use Rattle.std.proofs.Common.{◌≡◌, ℕ, ◌+◌, ◌-◌, ◌*◌, Bool, List, [], ◌∷◌, ◌++◌, length, map, drop, Option, Some, None, refl, sym, ap, subst, ◌∙◌, arith}
+use Rattle.std.proofs.Common.{◌≡◌, ℕ, ◌+◌, ◌-◌, ◌*◌, List, [], ◌∷◌, ◌++◌, length, map, drop, Some, None, refl, sym, ap, subst, ◌∙◌}
 use Rattle.std.specs.Prelude.{option_and_then}
 use Rattle.guest_arithmetic.specs.Plain.{plain_operations}
 use Rattle.job_text.specs.declared.thread_lines.ThreadLine.{ThreadLine}
 use Rattle.module_table.specs.declared.events.Event.{Event}
 use Rattle.transcript_text.specs.declared.outcomes.Line.{Line as Printed}
 use Rattle.thread_blocks.specs.Held.{Owned, looked, looked_at, owned_by, with_owned}
-use Rattle.thread_blocks.specs.Instances.{Loads}
 use Rattle.thread_blocks.specs.JobWorlds.{changed, numbered_lines}
 use Rattle.thread_blocks.specs.Lines.{Line, begin_line, begun_by, event_by}
 use Rattle.thread_blocks.specs.MachineTurns.{shown}
-use Rattle.thread_blocks.specs.RunTime.{Runs, resume_line, resumed_by, shows, thread_turns}
-use Rattle.thread_blocks.specs.Turns.{Idle, Mid, Phase, Said, Thread, after_look, next_line, turn_at, with_event, with_last}
+use Rattle.thread_blocks.specs.RunTime.{Runs, resume_line, shows, thread_turns}
+use Rattle.thread_blocks.specs.Turns.{Idle, Mid, Phase, Said, after_look, next_line, turn_at, with_event, with_last}
 use Rattle.job_turns.specs.declared.taking.Taken.{Taken}
 use Rattle.thread_space.specs.Kept.{HasSeen, Kept, blocks_of, held_at, owned_of}
 use Rattle.job_turns.specs.Standing.{IsIdle, IsMid, PhaseIs, StandsAfter, Waiting, waits_at}
 use Rattle.job_turns.specs.Taking.{BeginsTo, ResumesTo, emptied, loads_in, run_after}
-use Rattle.thread_space.proofs.Owners.{blocks_of_owned, owned_again}
+use Rattle.thread_space.proofs.Owners.{owned_again}
 use Rattle.job_turns.proofs.TurnsTaken.{look_held, took_stands}
 
 module _ (lines : List ThreadLine) (fuel : ℕ) (said : List Printed) (k k1 k2 : Kept) (taken : Taken) (seen : List Event)

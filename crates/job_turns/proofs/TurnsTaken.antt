@@ -1,12 +1,12 @@
 -- What a turn leaves is what the definitions say, from what its parts do.
-use Rattle.std.proofs.Common.{◌≡◌, ℕ, zero, suc, ◌+◌, ◌-◌, ◌*◌, Bool, List, [], ◌∷◌, ◌++◌, length, map, drop, Option, Some, None, refl, sym, ap, subst, ◌∙◌, arith}
+use Rattle.std.proofs.Common.{◌≡◌, ℕ, ◌+◌, ◌-◌, ◌*◌, Bool, List, [], ◌∷◌, ◌++◌, map, drop, Option, Some, None, refl, sym, ap, subst, ◌∙◌}
 use Rattle.std.proofs.lemmas.List.{map-append}
 use Rattle.guest_machine.specs.Machine.{Standing}
 use Rattle.job_text.specs.declared.thread_lines.ThreadLine.{ThreadLine}
 use Rattle.module_table.specs.declared.events.Event.{Event}
 use Rattle.transcript_text.specs.declared.outcomes.Line.{Line as Printed}
 use Rattle.transcript_text.specs.declared.outcomes.Outcome.{Outcome as Answer}
-use Rattle.thread_blocks.specs.Held.{Owned, owned, owned_by, owners_of, ranges_in, looked, looked_at, with_owned}
+use Rattle.thread_blocks.specs.Held.{Owned, owned_by, looked, looked_at, with_owned}
 use Rattle.thread_blocks.specs.Instances.{Loads}
 use Rattle.thread_blocks.specs.JobWorlds.{blocks_in, data_in, numbered_lines}
 use Rattle.thread_blocks.specs.Lines.{Line}
@@ -14,8 +14,8 @@ use Rattle.thread_blocks.specs.MachineTurns.{answer_of, shown}
 use Rattle.thread_blocks.specs.RunTime.{Runs}
 use Rattle.thread_blocks.specs.declared.asked.Asked.{Asked}
 use Rattle.thread_blocks.specs.Turns.{Ending, Mid, Said, Thread}
-use Rattle.thread_space.specs.Kept.{HasSeen, Kept, blocks_of, held_at, owned_of, shared_of}
-use Rattle.job_turns.specs.Standing.{IsIdle, Run, StandsAfter, StandsFor, Waiting}
+use Rattle.thread_space.specs.Kept.{HasSeen, Kept, blocks_of, held_at, owned_of}
+use Rattle.job_turns.specs.Standing.{Run, StandsAfter, Waiting}
 use Rattle.job_turns.specs.declared.taking.Taken.{Taken}
 use Rattle.job_turns.specs.declared.taking.Taken.TheVariants.{Over, Waits}
 use Rattle.job_turns.specs.Taking.{IsOver, TookAs, emptied, run_after}

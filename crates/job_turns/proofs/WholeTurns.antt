@@ -1,10 +1,9 @@
 -- A turn of a runner is one of each thread that it stands for.
-use Rattle.std.proofs.Common.{◌≡◌, ◌⊎◌, ℕ, suc, ◌+◌, ◌-◌, ◌*◌, ◌<◌, ◌≤◌, ◌^◌, Bool, true, List, [], ◌∷◌, ◌++◌, length, map, drop, get_or, Option, Some, None, Result, Ok, Err, inl, inr, refl, sym, ap, subst, ◌∙◌, arith}
+use Rattle.std.proofs.Common.{◌≡◌, ℕ, ◌+◌, ◌<◌, List, [], ◌∷◌, ◌++◌, length, drop, get_or, Option, Some, None, inl, inr, refl, sym, ap, subst, ◌∙◌}
 use native.Mathlib.Numerals.{unary_clauses}
-use Rattle.std.specs.Prelude.{IfOk, OnOk, slice_get}
+use Rattle.std.specs.Prelude.{slice_get}
 use Rattle.std.proofs.lemmas.List.{drop_more}
 use Rattle.std.proofs.lemmas.Option.{get_or_from_slice_get, slice_get_cases}
-use Rattle.std.proofs.lemmas.Result.{IfOk-weaker}
 use Rattle.job_text.specs.declared.thread_lines.ThreadLine.{ThreadLine}
 use Rattle.loaded_modules.specs.Images.{JobImages, infos, last_offset}
 use Rattle.module_data.specs.Pieces.{Piece}
@@ -14,21 +13,19 @@ use Rattle.module_table.specs.Walks.{seen-after, seen-past}
 use Rattle.thread_vector.specs.Holding.{IsLeftBy}
 use Rattle.thread_vector.specs.Vectors.{Vector, caught_up, fresh, held}
 use Rattle.transcript_text.specs.declared.outcomes.Line.{Line as Printed}
-use Rattle.thread_blocks.specs.Held.{Owned, looked_at}
+use Rattle.thread_blocks.specs.Held.{looked_at}
 use Rattle.thread_blocks.specs.JobLoads.{job_loads}
 use Rattle.thread_blocks.specs.JobWorlds.{numbered_lines, with_data}
 use Rattle.thread_blocks.specs.Lines.{Line, event_by}
-use Rattle.thread_blocks.specs.MachineTurns.{shown}
 use Rattle.thread_blocks.specs.RunTime.{Runs, thread_turns}
 use Rattle.thread_blocks.specs.Turns.{Thread, event_of, turn, with_event, with_last}
-use Rattle.job_turns.specs.declared.asking.Ask.{Ask}
 use Rattle.job_turns.specs.declared.taking.Taken.{Taken}
 use Rattle.job_turns.specs.declared.taking.Taken.TheVariants.{Over, Waits}
 use Rattle.job_turns.specs.declared.asking.LineAnswer.{LineAnswer}
 use Rattle.job_turns.specs.Asking.{answer_to, ask_by, ask_next}
 use Rattle.thread_space.specs.Kept.{HasSeen, Kept, blocks_of, owned_of, shared_of}
 use Rattle.thread_space.specs.Live.{HasStartups}
-use Rattle.job_turns.specs.Standing.{IsGoing, IsSameRunner, PhaseIs, Run, StandsAfter, StandsFor, TakesTurn, Waiting}
+use Rattle.job_turns.specs.Standing.{IsGoing, IsSameRunner, Run, StandsAfter, StandsFor, TakesTurn, Waiting}
 use Rattle.thread_space.specs.Steps.{HasData, IsNew, Looks}
 use Rattle.job_turns.specs.Taking.{BeginsLine, ResumesLine, emptied, loads_in, run_after}
 use Rattle.thread_space.proofs.Looks.{look_kept}

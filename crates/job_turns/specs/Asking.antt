@@ -1,5 +1,5 @@
 -- What a thread does at its next turn, and what whoever keeps the history answers to it.
-use Rattle.std.specs.Prelude.{◌≡◌, ℕ, not, Option, Some, None, suc, ◌+◌, List, [], ◌∷◌, slice_get}
+use Rattle.std.specs.Prelude.{ℕ, not, Option, Some, None}
 use Rattle.job_text.specs.declared.thread_lines.Action.{Action}
 use Rattle.job_text.specs.declared.thread_lines.Action.TheVariants.{Call, Open, Close, Peek}
 use Rattle.job_text.specs.declared.thread_lines.ThreadLine.{ThreadLine}

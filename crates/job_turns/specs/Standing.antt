@@ -24,7 +24,6 @@ use Rattle.job_turns.specs.declared.asking.Ask.TheVariants.{Done, Look, Opens, C
 use Rattle.job_turns.specs.Asking.{ask_next}
 use Rattle.thread_space.specs.Steps.{IsNew}
 use Rattle.thread_space.specs.Kept.{HasSeen, Kept, blocks_of, shared_of}
-use Rattle.thread_space.specs.Live.{HasStartups}
 
 -- a call that waits for its next look
 pub record Waiting : Type 0 where

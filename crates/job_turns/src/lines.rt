@@ -18,7 +18,7 @@ ghost use Rattle.thread_vector.specs.Vectors.{held};
 use crate::asking::LineAnswer;
 use guest_arithmetic::Plain;
 use guest_machine::Machine;
-use job_text::{Action, Name, ThreadLine};
+use job_text::{Action, ThreadLine};
 use loaded_modules::Instance;
 use module_table::{CloseRefusal, Closed, Event, OpenRefusal, Opened};
 use std::alloc::{AllocError, Global};

@@ -41,10 +41,10 @@ impl Model for Pending {
 
 /// One thread of a job: what it does, turn by turn. Contracts see a `Run`.
 #[derive(Drop)]
-pub struct Runner<'m> {
+pub struct Runner<'j, 'n, 'm> {
     alloc: Global,
-    names: &'m JobNames<'m>,
-    lines: &'m [ThreadLine],
+    names: &'n JobNames<'m>,
+    lines: &'j [ThreadLine],
     fuel: u64,
     /// How many lines are begun.
     begun: usize,
@@ -53,7 +53,7 @@ pub struct Runner<'m> {
     said: Vec<Line>,
 }
 
-impl<'m> Model for Runner<'m> {
+impl<'j, 'n, 'm> Model for Runner<'j, 'n, 'm> {
     ghost use Rattle.job_turns.specs.Standing.{Run};
 
     ghost Value = { Run };
@@ -88,22 +88,22 @@ fn ask_next(number: u32, line: Option<&ThreadLine>) -> Ask
 
 /// What never changes of a thread.
 #[derive(Clone, Copy)]
-struct Script<'m> {
+struct Script<'j, 'n, 'm> {
     alloc: Global,
-    names: &'m JobNames<'m>,
-    lines: &'m [ThreadLine],
+    names: &'n JobNames<'m>,
+    lines: &'j [ThreadLine],
     fuel: u64,
 }
 
 /// The runner once a turn is over, of a line whose looks so far have these points.
-fn ended<'m>(
-    script: Script<'m>,
+fn ended<'j, 'n, 'm>(
+    script: Script<'j, 'n, 'm>,
     begun: usize,
     space: ThreadSpace<'m>,
     mut said: Vec<Line>,
     points: Vec<u64>,
     taken: Taken,
-) -> Result<Runner<'m>, AllocError>
+) -> Result<Runner<'j, 'n, 'm>, AllocError>
     requires names { script.names.now ≡ space.vector.images }
     requires startups { HasStartups space.vector }
     requires fuel { script.fuel < 2 ^ 32 }
@@ -144,15 +144,15 @@ fn ended<'m>(
 }
 
 /// Begins the next line, where the thread has looked and has the data in its hands.
-fn begin_line<'m>(
-    script: Script<'m>,
+fn begin_line<'j, 'n, 'm>(
+    script: Script<'j, 'n, 'm>,
     begun: usize,
     mut space: ThreadSpace<'m>,
     said: Vec<Line>,
     line: &ThreadLine,
     answer: Option<LineAnswer>,
     pieces: &mut Data,
-) -> Result<Runner<'m>, AllocError>
+) -> Result<Runner<'j, 'n, 'm>, AllocError>
     requires names { script.names.now ≡ space.vector.images }
     requires startups { HasStartups space.vector }
     requires fuel { script.fuel < 2 ^ 32 }
@@ -172,14 +172,14 @@ fn begin_line<'m>(
 }
 
 /// Goes on with a call, where the thread has looked and has the data in its hands.
-fn resume_line<'m>(
-    script: Script<'m>,
+fn resume_line<'j, 'n, 'm>(
+    script: Script<'j, 'n, 'm>,
     begun: usize,
     mut space: ThreadSpace<'m>,
     said: Vec<Line>,
     call: Pending,
     pieces: &mut Data,
-) -> Result<Runner<'m>, AllocError>
+) -> Result<Runner<'j, 'n, 'm>, AllocError>
     requires names { script.names.now ≡ space.vector.images }
     requires startups { HasStartups space.vector }
     requires fuel { script.fuel < 2 ^ 32 }
@@ -199,15 +199,15 @@ fn resume_line<'m>(
     ended(script, begun, space, said, points, taken)
 }
 
-impl<'m> Runner<'m> {
+impl<'j, 'n, 'm> Runner<'j, 'n, 'm> {
     /// A thread of a job, from 1 to 64, before its first line. The only error is want of memory, and a thread of 2^31
     /// lines and more is said to want it: a job that is read has at most 65,536.
     pub fn new(
         alloc: Global,
         thread: u32,
-        job: &'m Job,
-        names: &'m JobNames<'m>,
-    ) -> Result<Runner<'m>, AllocError>
+        job: &'j Job,
+        names: &'n JobNames<'m>,
+    ) -> Result<Runner<'j, 'n, 'm>, AllocError>
         requires low { 1 ≤ thread }
         requires high { thread ≤ 64 }
         ensures { IfOk result (λ r. IsFirstRun thread names.now job.now r) }
@@ -264,7 +264,7 @@ impl<'m> Runner<'m> {
         events: &[Event],
         answer: Option<LineAnswer>,
         pieces: &mut Data,
-    ) -> Result<Runner<'m>, AllocError>
+    ) -> Result<Runner<'j, 'n, 'm>, AllocError>
         requires going { IsGoing (ask_of self) }
         requires legal { is_legal self.kept.vector.past events.now ≡ true }
         requires room { self.kept.vector.past.seen + length events.now + 1 < 2 ^ 62 }

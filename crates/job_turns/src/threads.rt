@@ -20,13 +20,13 @@ use transcript_text::Transcript;
 /// The threads of a job between two turns: the history, the data of all images, and a runner for each thread. Contracts
 /// see a `Progress`.
 #[derive(Drop)]
-pub(crate) struct Threads<'m> {
+pub(crate) struct Threads<'j, 'n, 'm> {
     registry: Registry,
     pieces: Data,
-    runners: Vec<Runner<'m>>,
+    runners: Vec<Runner<'j, 'n, 'm>>,
 }
 
-impl<'m> Model for Threads<'m> {
+impl<'j, 'n, 'm> Model for Threads<'j, 'n, 'm> {
     ghost use Rattle.job_turns.specs.Progress.{Progress};
 
     ghost Value = { Progress };
@@ -44,7 +44,7 @@ fn is_done(ask: Ask) -> bool
     }
 }
 
-impl<'m> Threads<'m> {
+impl<'j, 'n, 'm> Threads<'j, 'n, 'm> {
     /// Whether a thread has nothing left to do, or there is none of this number.
     fn is_over(&self, thread: u32) -> bool
         ensures { result ≡ is_thread_over self.now.runs thread }
@@ -134,10 +134,10 @@ impl<'m> Threads<'m> {
     /// The threads of a job before their first turns.
     pub(crate) fn new(
         alloc: Global,
-        job: &'m Job,
+        job: &'j Job,
         modules: &Modules,
-        names: &'m JobNames<'m>,
-    ) -> Result<Threads<'m>, AllocError>
+        names: &'n JobNames<'m>,
+    ) -> Result<Threads<'j, 'n, 'm>, AllocError>
         requires { names.now ≡ modules.now }
         ensures first { IfOk result (IsFirst modules.now job.now) }
         ensures few { IfOk result (λ threads. length threads.runs ≤ 64) }

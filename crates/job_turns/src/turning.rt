@@ -14,11 +14,11 @@ use std::alloc::AllocError;
 const MOST_EVENTS: u64 = 1 << 61;
 
 /// The thread takes its next turn, at the whole history; what it opens or closes comes after it.
-pub(crate) fn take_turn<'m>(
-    runner: Runner<'m>,
+pub(crate) fn take_turn<'j, 'n, 'm>(
+    runner: Runner<'j, 'n, 'm>,
     registry: &mut Registry,
     pieces: &mut Data,
-) -> Result<Runner<'m>, AllocError>
+) -> Result<Runner<'j, 'n, 'm>, AllocError>
     requires going { IsGoing (ask_of runner) }
     requires can { CanTurn registry.old pieces.old runner }
     ensures { IfOk result (λ after. Turned registry.old pieces.old runner.entry registry.new pieces.new after) }

@@ -25,7 +25,7 @@ use Rattle.thread_space.proofs.Sought.{looked}
 
 -- ** one range before others
 
-by_class : (access : Access) (class : PartClass) (is_loaders : Bool) (start place : ℕ) (bytes : List ℕ) (rest : List (Range ℕ))
+pub by_class : (access : Access) (class : PartClass) (is_loaders : Bool) (start place : ℕ) (bytes : List ℕ) (rest : List (Range ℕ))
     → byte_in access (fixed_ranges (record { start = start; bytes = bytes; readable = not (is_code class); writable = is_written class && not is_loaders; runnable = is_code class } ∷ rest)) place
     ≡ option_or (cond (allows_fixed access class is_loaders) (option_and_then (slice_get bytes) (behind start place)) None)
     (byte_in access (fixed_ranges rest) place)
@@ -166,7 +166,7 @@ before_is true start address count begins = rw (behind_none start address begins
 before_is false start address count begins = refl
 
 module _ (m : JobImages) (image : Spelled) (x : Instance) (i : ℕ) (there : image_at m x.image ≡ Some image) where
-  bias_here : bias_of m x ≡ bias image.kind x.number
+  pub bias_here : bias_of m x ≡ bias image.kind x.number
   unfolding bias_of
   bias_here = rw there refl
 

@@ -1,3 +1,4 @@
+pub mod Fetching
 pub mod Holding
 pub mod Kept
 pub mod Live

@@ -86,6 +86,9 @@ impl<'m> Space<Plain> for ThreadSpace<'m> {
     ghost rest = { shape_of };
 
     fn fetch(&self, place: u64, into: &mut [u8; 15]) -> u8 {
+        if self.copy_code(place, into) {
+            return 15;
+        }
         fetch::<Plain, ThreadSpace<'m>>(self, place, into)
     }
 

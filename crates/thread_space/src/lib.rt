@@ -37,6 +37,7 @@
 
 mod blocks;
 mod bytes;
+mod code;
 mod finding;
 mod names;
 mod parts;

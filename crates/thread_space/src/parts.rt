@@ -21,7 +21,7 @@ use loaded_modules::Instance;
 /// How many bytes a question to the run time has: two words.
 const WORDS: u64 = 16;
 
-fn is_code(class: PartClass) -> bool
+pub(crate) fn is_code(class: PartClass) -> bool
     ensures { result ≡ is_code class }
 {
     matches!(class, PartClass::Executable)
@@ -55,7 +55,7 @@ fn allows_fixed(access: Access, class: PartClass, is_loaders: bool) -> bool
 }
 
 /// How far behind the start of a part a place lies, once the part is moved, if it does not lie before it.
-fn behind_part(start: u64, bias: u64, place: u64) -> Option<u64>
+pub(crate) fn behind_part(start: u64, bias: u64, place: u64) -> Option<u64>
     ensures { result ≡ behind (start + bias) place }
 {
     let place = place.checked_sub(bias)?;
@@ -71,7 +71,7 @@ fn has_room(size: u64, at: u64) -> bool
 
 impl<'m> ThreadSpace<'m> {
     /// The image that an instance is of.
-    fn image_of(&self, instance: &Instance) -> Option<&Image>
+    pub(crate) fn image_of(&self, instance: &Instance) -> Option<&Image>
         ensures { option_map (λ image. image.now) result ≡ image_at self.now.vector.images instance.now.image }
     {
         self.modules.image(instance.image)
@@ -79,7 +79,7 @@ impl<'m> ThreadSpace<'m> {
 
     /// How far the image of an instance is moved: less than 2^59 bytes.
     #[tactic(auto, using(crate::proofs::LowParts::bias_low))]
-    fn bias(&self, instance: &Instance) -> u64
+    pub(crate) fn bias(&self, instance: &Instance) -> u64
         ensures value { result ≡ bias_of self.now.vector.images instance.now }
         ensures low { result < 2 ^ 59 }
     {
@@ -88,7 +88,7 @@ impl<'m> ThreadSpace<'m> {
     }
 
     /// How many bytes a part of an instance has.
-    fn part_size(&self, instance: &Instance, number: u64) -> u64
+    pub(crate) fn part_size(&self, instance: &Instance, number: u64) -> u64
         ensures { result ≡ length (loaded_part self.now.vector.images instance.now number) }
     {
         self.modules.part_size(instance, number)

@@ -1,5 +1,5 @@
 -- Linked images can be written, and those that are read back are images of the job.
-use Rattle.std.proofs.Common.{◌≡◌, ◌<◌, ℕ, List, All, get_or, length, map, sym, subst}
+use Rattle.std.proofs.Common.{◌≡◌, List, All, get_or, map, sym, subst}
 use Rattle.std.proofs.lemmas.List.Elements.{All-map, All-same}
 use Rattle.image_file.specs.Spelled.{Spelled}
 use Rattle.image_writer.specs.Loadable.{HoldsTls}

@@ -2,7 +2,6 @@ mod Again
 mod Asked
 mod Kept
 mod Making
-mod Meanings
 mod Membership
 mod Mentioned
 mod Places

@@ -1,13 +1,13 @@
 -- The steps of `run`, joined.
-use Rattle.std.proofs.Common.{◌≡◌, ◌∙◌, ◌<◌, ◌≤◌, ℕ, Bool, List, All, [], ◌∷◌, length, map, get_or, IfSome, Option, Result, Some, None, Err, inl, inr, refl, sym, ap, subst, arith}
+use Rattle.std.proofs.Common.{◌≡◌, ◌∙◌, ◌≤◌, ℕ, Bool, List, All, [], ◌∷◌, length, map, get_or, IfSome, Option, Result, Some, None, Err, inl, inr, refl, sym, ap, arith}
 use Rattle.std.specs.List.{Contains}
 use Rattle.std.proofs.lemmas.List.{length-map}
-use Rattle.std.proofs.lemmas.List.Elements.{All-cons, All-map, All-nil, All-same, All-tail, All-weaker}
+use Rattle.std.proofs.lemmas.List.Elements.{All-cons, All-map, All-nil, All-same, All-weaker}
 use Rattle.command_replies.specs.declared.fault.CommandFault.{CommandFault}
 use Rattle.command_replies.specs.Steps.{Comes}
 use Rattle.job_link.specs.declared.linked_images.ImageRefusal.{ImageRefusal}
 use Rattle.job_link.specs.Given.{Given, AreGiven, IsGiven as IsGivenImage}
-use Rattle.job_link.specs.Linked.{AllLink, link_in, linked_in}
+use Rattle.job_link.specs.Linked.{AllLink, link_in}
 use Rattle.job_link.specs.Mentions.{AreFilesOf, Fetched, bytes_at, bytes_in, object_names}
 use Rattle.job_link.specs.Refusals.{IsImageRefusal}
 use Rattle.job_run.specs.Plain.{AreBytes}
@@ -17,11 +17,10 @@ use Rattle.link_core.specs.Images.{linked_of}
 use Rattle.link_needs.specs.Given.{IsGiven}
 use Rattle.link_needs.specs.Linking.{Linking}
 use Rattle.ports.specs.Files.{Files}
-use Rattle.transcript_text.specs.Texts.{Shown, transcript_text}
 use Rattle.tlsld.specs.LinkSteps.{IsImageRefusalOf}
 use Rattle.tlsld.specs.Links.{IsUnlinked}
 use Rattle.tlsld.specs.RunJobs.{BytesRun, ImagesRun, ObjectsRun, links_of}
-use Rattle.tlsld.specs.Runs.{AreLinks, HasRun}
+use Rattle.tlsld.specs.Runs.{AreLinks}
 use Rattle.tlsld.proofs.Making.{fault_by, is_given, is_unlinked}
 use Rattle.tlsld.proofs.Mentioned.{given_at, faulty_at}
 use Rattle.tlsld.proofs.Stages.{Text, comes_by, items}

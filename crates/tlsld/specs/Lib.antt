@@ -4,6 +4,5 @@ pub mod Listings
 pub mod Replies
 pub mod RunJobs
 pub mod Runs
-pub mod SmallJobs
 pub mod Tasks
 pub mod Wishes

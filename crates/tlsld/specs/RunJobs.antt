@@ -1,6 +1,6 @@
 -- What `run JOB` says over the files of a store: of a job whose images all link the transcript, and of any other what
 -- `link` says.
-use Rattle.std.specs.Prelude.{◌≡◌, ◌⊎◌, ℕ, Bool, not, List, [], ◌∷◌, map, Option, Some, None, IsSome, Result, Ok, Err}
+use Rattle.std.specs.Prelude.{◌⊎◌, ℕ, Bool, not, List, [], ◌∷◌, map, Option, Some, None, IsSome, Result, Ok, Err}
 use Rattle.std.specs.List.{All}
 use Rattle.command_replies.specs.Says.{HasFile, Is, JobFaultSays}
 use Rattle.job_link.specs.Given.{Given, AreGiven}

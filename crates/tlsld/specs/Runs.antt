@@ -1,28 +1,24 @@
 -- What `run` shows of a job whose images all link.
-use Rattle.std.specs.Prelude.{◌≡◌, ℕ, Bool, true, List, [], ◌∷◌, map, Some, slice_get}
+use Rattle.std.specs.Prelude.{◌≡◌, ℕ, Bool, true, List, [], ◌∷◌, map, Some}
 use Rattle.std.specs.List.{All}
 use Rattle.image_file.specs.Spelled.{Spelled, spelled}
 use Rattle.image_writer.specs.Written.{written}
-use Rattle.job_run.specs.Meaning.{meant_said}
 use Rattle.job_run.specs.Objects.{meaning_loaded, room_of}
 use Rattle.job_run.specs.Plain.{AreBytes, is_plain}
-use Rattle.job_run.specs.Worlds.{AreClean}
+use Rattle.job_run.specs.Whole.{AreAllClean, each_meant, told_calls}
 use Rattle.job_text.specs.Jobs.{JobParts}
 use Rattle.job_turns.specs.Transcripts.{IsTranscript}
-use Rattle.link_core.specs.Images.{LinkedImage, image_of, linked_of}
+use Rattle.link_core.specs.Images.{LinkedImage, linked_of}
 use Rattle.link_needs.specs.Linking.{Linking}
 use Rattle.linked_modules.specs.Together.{AreTogether}
 use Rattle.loaded_modules.specs.Given.{of_job}
 use Rattle.loaded_modules.specs.Images.{JobImages}
-use Rattle.module_table.specs.declared.events.Event.{Event}
 use Rattle.thread_blocks.specs.JobLoads.{job_loads}
 use Rattle.thread_blocks.specs.JobWorlds.{Shared, job_world}
 use Rattle.thread_blocks.specs.Lines.{Line}
 use Rattle.thread_blocks.specs.MachineTurns.{CallLine, shown}
 use Rattle.thread_blocks.specs.Turns.{Said}
-use Rattle.transcript_text.specs.declared.outcomes.Outcome.{Outcome}
 use Rattle.transcript_text.specs.Texts.{Shown}
-use Rattle.tlsld.specs.SmallJobs.{Small, small_job}
 
 -- ** the images
 
@@ -48,28 +44,21 @@ world_of job modules = job_world (job_loads modules) job.fuel job.lines job.orde
 
 -- ** what is meant
 
-abbrev pub call_line : Small → CallLine
-call_line job = record { symbol = job.symbol; a = job.a; b = job.b; c = job.c }
+-- what the lines of each thread mean, thread 1 first: they call functions of the program, over the objects' own sections
+-- at their places
+unfoldable pub meant : Linking → ℕ → List (List CallLine) → List (List Said)
+meant l fuel calls = each_meant (room_of l) (meaning_loaded l) fuel 1 calls
 
--- what the one thread of a small job says by the objects' meaning, over their own sections at their places
-unfoldable pub meant : Linking → Small → List Said
-meant l job = meant_said Event (room_of l) (meaning_loaded l) 1 job.fuel (call_line job)
-
--- the transcript of one thread with one line, which looked once and saw no event
-abbrev pub one_line : Outcome → Shown
-one_line outcome = record { threads = (record { points = 0 ∷ []; outcome = outcome } ∷ []) ∷ []; events = [] }
-
--- the transcript has the line that is said, and nothing else
-pub record IsLine (said : List Said) (transcript : Shown) : Type 0 where
-  pub outcome : Outcome
-  pub alone : transcript ≡ one_line outcome
-  pub line : map shown said ≡ Some (record { points = 0 ∷ []; outcome = outcome }) ∷ []
+-- the transcript has the lines that are said, thread by thread, and nothing else
+pub record AreLines (said : List (List Said)) (transcript : Shown) : Type 0 where
+  pub alone : transcript.events ≡ []
+  pub lines : map (map Some) transcript.threads ≡ map (map shown) said
 
 -- ** what ran
 
--- the job ran: its transcript is the machine's over the images that were written, and that of a small job over a plain
--- program, whose meaning is clean, is the meaning's line
+-- the job ran: its transcript is the machine's over the images that were written; and of threads that call functions of
+-- a plain program alone, it is their meaning's, where no line's meaning is unclean
 pub record HasRun (job : JobParts) (ls : List Linking) (transcript : Shown) : Type 0 where
   pub printed_is : IsTranscript (world_of job (modules_of job ls)) transcript
-  pub meant_is : (l : Linking) (small : Small) → slice_get ls 0 ≡ Some l → small_job job ≡ Some small → is_plain l ≡ true
-      → AreClean (meant l small) → IsLine (meant l small) transcript
+  pub meant_is : (l : Linking) (calls : List (List CallLine)) → ls ≡ l ∷ [] → job.lines ≡ told_calls calls → is_plain l ≡ true
+      → AreAllClean (meant l job.fuel calls) → AreLines (meant l job.fuel calls) transcript

@@ -27,7 +27,7 @@ use command_replies::{CommandFault, job_of, whole_file};
 use image_file::Image;
 use image_writer::into_file;
 use job_link::{Files, ImageObjects, fetch_objects, link_images, read_objects};
-use job_run::laws::programs_print_their_meaning;
+use job_run::laws::threads_print_their_meaning;
 use job_text::Job;
 use job_turns::run_job as run_threads;
 use link_core::Linked;
@@ -144,8 +144,7 @@ fn run_linked(alloc: Global, job: &Job, all: Vec<Linked>) -> Result<Transcript, 
 {
     images_hold_tls();
     linked_images_are_modules();
-    programs_print_their_meaning();
-    let _lines = job.lines(1);
+    threads_print_their_meaning();
     let images = images_again(alloc, all)?;
     let modules = Modules::new(alloc, job, images)?;
     run_threads(alloc, job, &modules)

@@ -1,4 +1,4 @@
-use Rattle.std.proofs.Common.{◌≡◌, ◌∙◌, Some, sym, ap}
+use Rattle.std.proofs.Common.{◌∙◌, Some, sym, ap}
 use Rattle.job_turns.specs.declared.asking.LineAnswer.TheVariants.{Closed}
 use Rattle.job_turns.proofs.CutTurns.{close_same}
 use Rattle.job_turns.proofs.answers.close.Goals as goal

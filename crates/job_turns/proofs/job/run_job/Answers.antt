@@ -1,4 +1,4 @@
-use Rattle.std.proofs.Common.{◌*◌, List, ℕ, subst, arith}
+use Rattle.std.proofs.Common.{◌*◌, subst, arith}
 use Rattle.thread_blocks.specs.Turns.{finishing}
 use Rattle.job_turns.specs.Progress.{TakesTurns}
 use Rattle.job_turns.proofs.LastTurn.{all_named, all_shown, first_some}

@@ -1,4 +1,4 @@
-use Rattle.std.proofs.Common.{◌∙◌, ◌+◌, ◌++◌, ◌∷◌, [], sym, ap, arith, take}
+use Rattle.std.proofs.Common.{◌∙◌, ◌++◌, ◌∷◌, [], sym, ap, arith, take}
 use Rattle.thread_space.proofs.Entries.{image_after, one_more, none_there}
 use Rattle.thread_space.proofs.names.names_of.Goals as goal
 use Rattle.thread_space.proofs.names.names_of.Goals.{in-Some+in_ok-new+in_ok-push, in_default}

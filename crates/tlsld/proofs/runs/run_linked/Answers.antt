@@ -1,6 +1,3 @@
-use Rattle.std.proofs.Common.{All, subst}
-use Rattle.job_text.specs.declared.thread_lines.ThreadLine.{ThreadLine}
-use Rattle.job_text.specs.Jobs.{IsLineOf}
 use Rattle.tlsld.proofs.Again.{all_hold, are_modules}
 use Rattle.tlsld.proofs.Transcribed.{ran}
 use Rattle.tlsld.proofs.runs.run_linked.Goals as goal
@@ -17,7 +14,6 @@ new-requires c =
 
 pub returns-clause-ran : goal.returns-clause-ran
 returns-clause-ran c =
-    ran c.programs_print_their_meaning.ensures c.args.job.now
-    (subst (All (IsLineOf c.args.job.now.images)) c.lines-lines.ensures.value c.lines-lines.ensures.placed) c.args.all.items c.in_ok-images.images.items
+    ran c.threads_print_their_meaning.ensures c.args.job.now c.args.all.items c.in_ok-images.images.items
     (record { read = c.in_ok-images.ensures.read; again = c.in_ok-images.ensures.again }) c.in_ok-modules.modules c.in_ok-modules.ensures c.run_job.result
     c.run_job.ensures.transcript

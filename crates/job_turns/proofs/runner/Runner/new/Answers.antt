@@ -1,4 +1,4 @@
-use Rattle.std.proofs.Common.{◌≡◌, refl, sym, ◌∙◌, arith}
+use Rattle.std.proofs.Common.{sym, ◌∙◌, arith}
 use Rattle.std.proofs.lemmas.Grind.{common_steps}
 use Rattle.job_turns.proofs.WholeTurns.{new_startups}
 use Rattle.job_turns.proofs.runner.Runner.new.Goals as goal

@@ -1,12 +1,10 @@
-use Rattle.std.proofs.Common.{◌≡◌, ◌+◌, ◌<◌, length, Option, Some, None, refl, ap, sym, subst, ◌∙◌, arith}
+use Rattle.std.proofs.Common.{◌≡◌, ◌+◌, ◌<◌, length, Option, Some, None, refl, ap, sym, subst, ◌∙◌}
 use Rattle.std.specs.Prelude.{slice_get}
 use Rattle.std.proofs.lemmas.Option.{slice_get_read}
 use Rattle.std.proofs.lemmas.Result.{IfOk-weaker}
 use Rattle.module_table.specs.Past.{after}
 use Rattle.job_turns.specs.Asking.{answer_to}
 use Rattle.job_turns.specs.Standing.{IsGoing, Run, TakesTurn, Waiting, ask_now, ask_of}
-use Rattle.thread_space.specs.Steps.{HasData}
-use Rattle.job_turns.specs.Taking.{BeginsLine, ResumesLine}
 use Rattle.job_turns.proofs.WholeTurns.{begins_line, going_within, looked_answer, looked_pieces, looked_room, looked_startups, resumes_line}
 use Rattle.job_turns.proofs.runner.Runner.turn_with.Goals as goal
 
@@ -101,6 +99,6 @@ returns-in-None-clause-taken c =
     (begins_line c.self.inside.space c.put_data.new.self c.look.new.self c.args.events.now c.args.pieces.now
     (record { vector = c.put_data.ensures.vector; data_is = c.put_data.ensures.data_is ∙ c.replace.ensures.value; stack = c.put_data.ensures.stack })
     c.in_ok-look.ensures.ok c.seen-seen.ensures.left c.self.invariant.startups c.self.inside.lines.now c.self.inside.begun c.self.inside.fuel
-    c.self.inside.said.items c.index-lines-begun.result r c.begin_line.new.data
+    c.self.inside.said.items c.index-lines-begun.result r c.begin_line.new.pieces
     (slice_get_read c.self.inside.lines.now _ c.self.inside.begun c.index-lines-begun.result refl within c.index-lines-begun.is) is))
     c.begin_line.ensures

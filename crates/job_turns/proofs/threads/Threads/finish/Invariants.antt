@@ -1,4 +1,4 @@
-use Rattle.std.proofs.Common.{◌-◌, ◌*◌, ◌≤◌, take}
+use Rattle.std.proofs.Common.{◌-◌, ◌*◌, take}
 use Rattle.thread_blocks.specs.Turns.{finishing}
 use Rattle.job_turns.specs.Progress.{TakesTurns}
 use Rattle.job_turns.proofs.threads.Threads.finish.Given as goal

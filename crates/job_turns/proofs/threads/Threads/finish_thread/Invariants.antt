@@ -1,4 +1,4 @@
-use Rattle.std.proofs.Common.{◌+◌, ◌*◌, replicate}
+use Rattle.std.proofs.Common.{◌*◌, replicate}
 use Rattle.thread_blocks.specs.Turns.{enough}
 use Rattle.job_turns.specs.Progress.{TakesTurns}
 use Rattle.job_turns.proofs.threads.Threads.finish_thread.Given as goal

@@ -1,4 +1,4 @@
-use Rattle.std.proofs.Common.{◌≡◌, ◌∙◌, sym}
+use Rattle.std.proofs.Common.{◌∙◌, sym}
 use Rattle.job_turns.proofs.Orders.{takes_over}
 use Rattle.job_turns.proofs.threads.Threads.turn.Goals as goal
 
