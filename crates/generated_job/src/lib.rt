@@ -1,0 +1,2 @@
+//! The job that `gen N` makes.
+#![tactic(auto)]
