@@ -1,0 +1,4 @@
+pub mod Jobs
+pub mod Linked
+pub mod Reading
+pub mod Sound

@@ -1,0 +1,2 @@
+//! That the job which `gen N` makes has no fault: laws, and no code that runs.
+#![tactic(auto)]
