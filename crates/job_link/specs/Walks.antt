@@ -15,6 +15,10 @@ names_of files = map (λ (file : List ℕ × List ℕ). file.0) files
 abbrev pub is_among : List (List ℕ) → List ℕ → Bool
 is_among names name = list_any (bytes_eq name) names
 
+-- a file behind others, unless one of its name is among them
+abbrev pub with_unseen : Fetched → List ℕ → List ℕ → Fetched
+with_unseen files name bytes = if is_among (names_of files) name then files else files ++ (name, bytes) ∷ []
+
 -- those of some names that were not seen, each once
 abbrev pub unseen : List (List ℕ) → List (List ℕ) → List (List ℕ)
 unseen seen [] = []

@@ -3,12 +3,12 @@
 ghost use Rattle.std.specs.Prelude.{◌≡◌, ◌<◌, ◌∷◌, [], ℕ, List, All, IfOk, IfSome, OnOk};
 ghost use Rattle.ports.specs.Counts.{FetchCounts};
 ghost use Rattle.job_link.specs.Mentions.{bytes_in, object_names, AreFilesOf, Fetches};
-ghost use Rattle.job_link.specs.Walks.{names_of, unseen, Grows};
+ghost use Rattle.job_link.specs.Walks.{names_of, unseen, with_unseen, Grows};
 
 use indexmap::IndexMap;
 use job_text::{Image, Job};
 use ports::{FetchFault, Store};
-use std::alloc::Global;
+use std::alloc::{AllocError, Global};
 use std::marker::Model;
 
 /// Where a file lies among others, one behind another.
@@ -43,13 +43,27 @@ impl<'j> Model for Files<'j> {
 
 impl<'j> Files<'j> {
     /// No file.
-    fn empty(alloc: Global) -> Self
+    pub fn empty(alloc: Global) -> Self
         ensures { result ≡ [] }
     {
         Files {
             bytes: Vec::new(alloc),
             places: IndexMap::new(alloc),
         }
+    }
+
+    /// Adds a file that no store holds, unless one of its name is there.
+    pub fn add(&mut self, name: &'j str, bytes: &[u8]) -> Result<(), AllocError>
+        ensures { OnOk result (self.new ≡ with_unseen self.old name.now bytes.now) }
+    {
+        if self.places.contains_key(name) {
+            return Ok(());
+        }
+        let start = self.bytes.as_slice().len();
+        self.bytes.extend_from_slice(bytes)?;
+        let end = self.bytes.as_slice().len();
+        self.places.insert(name, Extent { start, end })?;
+        Ok(())
     }
 
     /// The bytes of the file of that name; none where it was not fetched.

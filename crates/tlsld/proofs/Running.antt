@@ -21,6 +21,7 @@ use Rattle.tlsld.specs.LinkSteps.{IsImageRefusalOf}
 use Rattle.tlsld.specs.Links.{IsUnlinked}
 use Rattle.tlsld.specs.RunJobs.{BytesRun, ImagesRun, ObjectsRun, links_of}
 use Rattle.tlsld.specs.Runs.{AreLinks}
+use Rattle.tlsld.specs.declared.telling.Telling.{Telling}
 use Rattle.tlsld.proofs.Making.{fault_by, is_given, is_unlinked}
 use Rattle.tlsld.proofs.Mentioned.{given_at, faulty_at}
 use Rattle.tlsld.proofs.Stages.{Text, comes_by, items}
@@ -28,9 +29,9 @@ use Rattle.tlsld.proofs.Together.{kinds as kinds_of, together}
 
 -- ** the files that were fetched
 
-module _ (relax : Bool) (fs : Files) (job : JobParts) (files : Fetched) (are : AreFilesOf fs (object_names job) files)
+module _ (telling : Telling) (relax : Bool) (fs : Files) (job : JobParts) (files : Fetched) (are : AreFilesOf fs (object_names job) files)
     (every : (k : ℕ) → 1 ≤ k → k ≤ length job.images → Contains job.mentions k) where
-  bytes_at_files : (status : ℕ) (text : List ℕ) → BytesRun relax (bytes_in files) job status text → BytesRun relax (bytes_at fs) job status text
+  bytes_at_files : (status : ℕ) (text : List ℕ) → BytesRun telling relax (bytes_in files) job status text → BytesRun telling relax (bytes_at fs) job status text
   bytes_at_files status text (inl read) = inl (record { images = read.images; given = given_at fs job files are every read.images read.given; says = read.says })
   bytes_at_files status text (inr unread) = inr (record {
     name = unread.name;
@@ -41,22 +42,22 @@ module _ (relax : Bool) (fs : Files) (job : JobParts) (files : Fetched) (are : A
     says = unread.says;
   })
 
-  objects_run : (status : ℕ) (text : List ℕ) → BytesRun relax (bytes_in files) job status text → ObjectsRun relax fs job status text
+  objects_run : (status : ℕ) (text : List ℕ) → BytesRun telling relax (bytes_in files) job status text → ObjectsRun telling relax fs job status text
   objects_run status text says = record { there = are.there; says = bytes_at_files status text says }
 
-pub files_run : (relax : Bool) (old : Option Files) (job : JobParts) (files : Fetched) → IfSome old (λ fs. AreFilesOf fs (object_names job) files)
+pub files_run : (telling : Telling) (relax : Bool) (old : Option Files) (job : JobParts) (files : Fetched) → IfSome old (λ fs. AreFilesOf fs (object_names job) files)
     → ((k : ℕ) → 1 ≤ k → k ≤ length job.images → Contains job.mentions k) → (r : Result Text CommandFault)
-    → Comes items (BytesRun relax (bytes_in files) job) r → IfSome old (λ fs. Comes items (ObjectsRun relax fs job) r)
-files_run relax None job files are every r says = tt
-files_run relax (Some fs) job files are every r says =
-    comes_by (BytesRun relax (bytes_in files) job) (ObjectsRun relax fs job) r (objects_run relax fs job files are every) says
+    → Comes items (BytesRun telling relax (bytes_in files) job) r → IfSome old (λ fs. Comes items (ObjectsRun telling relax fs job) r)
+files_run telling relax None job files are every r says = tt
+files_run telling relax (Some fs) job files are every r says =
+    comes_by (BytesRun telling relax (bytes_in files) job) (ObjectsRun telling relax fs job) r (objects_run telling relax fs job files are every) says
 
 -- ** images that do not all link
 
-pub unlinked_run : (job : JobParts) (images : List Given) (relax : Bool) (r : ImageRefusal) (f : CommandFault)
-    → IsImageRefusal images relax r → IsImageRefusalOf job r f → Comes items (ImagesRun relax job images) (Err f)
-unlinked_run job images relax r f is of =
-    fault_by items (IsUnlinked relax job images) (ImagesRun relax job images) f (λ status text says. inr says)
+pub unlinked_run : (telling : Telling) (job : JobParts) (images : List Given) (relax : Bool) (r : ImageRefusal) (f : CommandFault)
+    → IsImageRefusal images relax r → IsImageRefusalOf job r f → Comes items (ImagesRun telling relax job images) (Err f)
+unlinked_run telling job images relax r f is of =
+    fault_by items (IsUnlinked relax job images) (ImagesRun telling relax job images) f (λ status text says. inr says)
     (is_unlinked items relax job images relax r f refl is of)
 
 -- ** the links of a job's images

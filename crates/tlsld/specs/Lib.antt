@@ -1,3 +1,4 @@
+pub mod GeneratedRuns
 pub mod LinkSteps
 pub mod Links
 pub mod Listings

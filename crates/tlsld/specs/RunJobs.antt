@@ -1,5 +1,5 @@
--- What `run JOB` says over the files of a store: of a job whose images all link the transcript, and of any other what
--- `link` says.
+-- What `run JOB` says over the files of a store: of a job whose images all link what is told of its run, and of any other
+-- what `link` says.
 use Rattle.std.specs.Prelude.{◌⊎◌, ℕ, Bool, not, List, [], ◌∷◌, map, Option, Some, None, IsSome, Result, Ok, Err}
 use Rattle.std.specs.List.{All}
 use Rattle.command_replies.specs.Says.{HasFile, Is, JobFaultSays}
@@ -10,9 +10,26 @@ use Rattle.job_text.specs.declared.fault.JobFault.{JobFault}
 use Rattle.job_text.specs.Jobs.{JobParts, job_of}
 use Rattle.link_needs.specs.Linking.{Linking}
 use Rattle.ports.specs.Files.{Files, file_at}
+use Rattle.job_text.specs.declared.images.Image.{Image}
+use Rattle.link_core.specs.Images.{linked_of}
+use Rattle.run_summary.specs.Summaries.{counts_of, summary_text}
+use Rattle.run_summary.specs.declared.sites.SiteCounts.{SiteCounts}
 use Rattle.transcript_text.specs.Texts.{Shown, transcript_text}
+use Rattle.tlsld.specs.declared.telling.Telling.{Telling}
+use Rattle.tlsld.specs.declared.telling.Telling.TheVariants.{Transcript, Summary}
 use Rattle.tlsld.specs.Links.{IsUnlinked, IsUnread}
 use Rattle.tlsld.specs.Runs.{HasRun}
+
+-- ---- what is told
+
+-- of a run of a job with these images, which have so many sites: the transcript, or a line of numbers
+abbrev pub told : Telling → List Image → SiteCounts → Shown → List ℕ
+told Transcript images counts shown = transcript_text images shown
+told (Summary count) images counts shown = summary_text count counts shown
+
+-- of a run of linked images
+abbrev pub told_of : Telling → JobParts → List Linking → Shown → List ℕ
+told_of telling job ls shown = told telling job.images (counts_of (map linked_of ls)) shown
 
 -- ---- a job whose images all link
 
@@ -20,20 +37,20 @@ use Rattle.tlsld.specs.Runs.{HasRun}
 abbrev pub links_of : List Given → Bool → List Linking
 links_of images relax = map (link_in images relax) images
 
--- it ran: 0, and its transcript
-pub record Ran (job : JobParts) (ls : List Linking) (status : ℕ) (text : List ℕ) : Type 0 where
+-- it ran: 0, and what is told of its transcript
+pub record Ran (telling : Telling) (job : JobParts) (ls : List Linking) (status : ℕ) (text : List ℕ) : Type 0 where
   pub transcript : Shown
   pub ran : HasRun job ls transcript
-  pub says : Is 0 (transcript_text job.images transcript) status text
+  pub says : Is 0 (told_of telling job ls transcript) status text
 
 -- ---- the command
 
--- relax: whether sequences may be rewritten
-module _ (relax : Bool) where
+-- telling: what is told of a run; relax: whether sequences may be rewritten
+module _ (telling : Telling) (relax : Bool) where
   -- all images link
   pub record AllRan (job : JobParts) (images : List Given) (status : ℕ) (text : List ℕ) : Type 0 where
     pub links : AllLink images relax
-    pub ran : Ran job (links_of images relax) status text
+    pub ran : Ran telling job (links_of images relax) status text
 
   abbrev pub ImagesRun : JobParts → List Given → ℕ → List ℕ → Type 0
   ImagesRun job images status text = AllRan job images status text ⊎ IsUnlinked relax job images status text
@@ -61,7 +78,7 @@ module _ (relax : Bool) where
 -- `run JOB [--no-relax]`
 abbrev pub RunSays : Files → List ℕ → Bool → ℕ → List ℕ → Type 0
 RunSays fs name no_relax status text =
-    HasFile (file_at fs name) (λ bytes. JobSays (not no_relax) fs (job_of bytes) status text)
+    HasFile (file_at fs name) (λ bytes. JobSays Transcript (not no_relax) fs (job_of bytes) status text)
 
 -- ---- the names asked for
 

@@ -8,6 +8,7 @@ ghost use Rattle.tlsld.specs.Replies.{AnswerSays, AsksOfAnswer};
 ghost use Rattle.tlsld.specs.Listings.{ListingSays};
 ghost use Rattle.tlsld.specs.Tasks.{ShowSays, TaskLeaves, TaskSays, task_names};
 
+use crate::generated::generated;
 use crate::links::{link, sites};
 use crate::runs::run;
 use command_line::Task;
@@ -69,6 +70,7 @@ fn output<S: Store>(alloc: Global, task: &Task, store: &mut S) -> Result<Vec<u8>
         ),
         Task::Sites { job, image } => sites(alloc, store, job.as_str(), image.as_str()),
         Task::Show { file } => show(alloc, store, file.as_str()),
+        Task::Gen { count } => generated(alloc, *count),
     }
 }
 

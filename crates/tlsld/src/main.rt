@@ -29,9 +29,11 @@
 #![tactic(auto)]
 
 mod command;
+mod generated;
 mod links;
 mod made;
 mod runs;
+mod telling;
 #[cfg(test)]
 mod tests;
 mod top;

@@ -17,11 +17,13 @@ ghost use Rattle.job_text.specs.Jobs.{job_of as job_of_text};
 ghost use Rattle.link_core.specs.Images.{linked_of};
 ghost use Rattle.link_needs.specs.Linking.{Linking};
 ghost use Rattle.loaded_modules.specs.Given.{LateLast};
-ghost use Rattle.transcript_text.specs.Texts.{IsImageNumber, transcript_text};
+ghost use Rattle.transcript_text.specs.Texts.{IsImageNumber};
 ghost use Rattle.tlsld.specs.RunJobs.{BytesRun, ImagesRun, JobSays, ObjectsRun, RunSays};
 ghost use Rattle.tlsld.specs.RunJobs.{job_names, run_names};
+ghost use Rattle.tlsld.specs.declared.telling.Telling.TheVariants.{Transcript};
 ghost use Rattle.tlsld.specs.Runs.{AreLinks, HasRun, read_back};
 
+use crate::telling::Telling;
 use crate::unlinked::{unlinked, unread};
 use command_replies::{CommandFault, job_of, whole_file};
 use image_file::Image;
@@ -36,6 +38,7 @@ use linked_modules::laws::linked_images_are_modules;
 use loaded_modules::Modules;
 use loaded_modules::laws::late_images_come_last;
 use ports::Store;
+use run_summary::SiteCounts;
 use std::alloc::{AllocError, Global};
 use transcript_text::Transcript;
 
@@ -68,7 +71,7 @@ fn run_text<S: Store>(
     ensures files { S.files store.new ≡ S.files store.old }
     ensures cause { StoreCounts (S.faults store.old) (S.faults store.new) result }
     ensures says { IfSome (S.files store.old) (λ fs. Comes (λ text. text.items)
-        (JobSays relax fs (job_of_text text.now)) result) }
+        (JobSays Transcript relax fs (job_of_text text.now)) result) }
     ensures asks { Asks (job_names (job_of_text text.now)) (S.asked store.old) (S.asked store.new) result }
 {
     late_images_come_last();
@@ -88,45 +91,53 @@ fn run_job<S: Store>(
     requires late { LateLast (map (λ image. image.kind) job.now.images) }
     ensures files { S.files store.new ≡ S.files store.old }
     ensures cause { StoreCounts (S.faults store.old) (S.faults store.new) result }
-    ensures says { IfSome (S.files store.old) (λ fs. Comes (λ text. text.items) (ObjectsRun relax fs job.now) result) }
+    ensures says { IfSome (S.files store.old) (λ fs. Comes (λ text. text.items) (ObjectsRun Transcript relax fs job.now) result) }
     ensures asks { Asks (object_names job.now) (S.asked store.old) (S.asked store.new) result }
 {
     let _mentions = job.mentions();
     let files = fetch_objects(alloc, store, job)?;
-    run_files(alloc, job, &files, relax)
+    run_files(alloc, job, &files, relax, Telling::Transcript)
 }
 
-/// The transcript of a job that has these files.
-fn run_files(alloc: Global, job: &Job, files: &Files, relax: bool) -> Result<Vec<u8>, CommandFault>
+/// What is told of the run of a job that has these files.
+pub fn run_files(
+    alloc: Global,
+    job: &Job,
+    files: &Files,
+    relax: bool,
+    telling: Telling,
+) -> Result<Vec<u8>, CommandFault>
     requires late { LateLast (map (λ image. image.kind) job.now.images) }
-    ensures says { Comes (λ text. text.items) (BytesRun relax (bytes_in files.now) job.now) result }
+    ensures says { Comes (λ text. text.items) (BytesRun telling relax (bytes_in files.now) job.now) result }
     ensures cause { NoStoreFault result }
 {
     files.are_bytes();
     match read_objects(alloc, job, files) {
-        Ok(images) => run_images(alloc, job, images.as_slice(), relax),
+        Ok(images) => run_images(alloc, job, images.as_slice(), relax, telling),
         Err(refusal) => Err(unread(alloc, refusal)),
     }
 }
 
-/// The transcript of a job whose images are these.
+/// What is told of the run of a job whose images are these.
 fn run_images(
     alloc: Global,
     job: &Job,
     images: &[ImageObjects],
     relax: bool,
+    telling: Telling,
 ) -> Result<Vec<u8>, CommandFault>
     requires given { (bytes : List ℕ → List ℕ) × AreGiven bytes job.now images.now
         × ((name : List ℕ) → AreBytes (bytes name)) }
     requires late { LateLast (map (λ image. image.kind) job.now.images) }
-    ensures says { Comes (λ text. text.items) (ImagesRun relax job.now images.now) result }
+    ensures says { Comes (λ text. text.items) (ImagesRun telling relax job.now images.now) result }
     ensures cause { NoStoreFault result }
 {
     let _images = job.images();
     match link_images(alloc, images, relax) {
         Ok(all) => {
+            let counts = SiteCounts::of(all.as_slice())?;
             let transcript = run_linked(alloc, job, all)?;
-            Ok(text_of(alloc, job, &transcript)?)
+            Ok(telling.text(alloc, job, counts, &transcript)?)
         }
         Err(refusal) => Err(unlinked(alloc, job, refusal)),
     }
@@ -171,14 +182,4 @@ fn image_again(alloc: Global, linked: Linked) -> Result<Image, AllocError>
 {
     let file = into_file(alloc, linked.image)?;
     Ok(Image::from_bytes(file))
-}
-
-/// The text of a transcript.
-fn text_of(alloc: Global, job: &Job, transcript: &Transcript) -> Result<Vec<u8>, AllocError>
-    requires { All (λ event. IsImageNumber job.now.images event.image) transcript.now.events }
-    ensures { IfOk result (λ text. text.items ≡ transcript_text job.now.images transcript.now) }
-{
-    let mut text = Vec::new(alloc);
-    transcript.text(job, &mut text)?;
-    Ok(text)
 }

@@ -1,5 +1,6 @@
 //! Whole commands over a store and a sink in memory: the words, the files, the output and the status.
 
+mod failing;
 mod links;
 mod modules;
 mod objects;

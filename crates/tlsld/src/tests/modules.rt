@@ -124,7 +124,7 @@ fn counter(alloc: Global) -> Result<Vec<u8>, AllocError> {
 }
 
 /// A store with a job, and with the objects of all these jobs.
-fn store_with(alloc: Global, job: &[u8]) -> Result<MemoryStore, Fail> {
+pub fn store_with(alloc: Global, job: &[u8]) -> Result<MemoryStore, Fail> {
     let object = reader(alloc, 0)?;
     let mut store = store_of(alloc, job, object.as_slice())?;
     store.add("writer.o", writer(alloc)?.as_slice())?;

@@ -15,8 +15,8 @@ run_linked-requires-clause-links c = (
 pub unlinked-requires : goal.unlinked-requires
 unlinked-requires c = names_image c.args.job.now c.args.images.now c.args.relax c.requires.given.0 c.requires.given.1 c.in-Err.refusal c.in-Err.ensures.refused
 
-pub returns-in_ok-text_of-in-Ok-clause-says : goal.returns-in_ok-text_of-in-Ok-clause-says
-returns-in_ok-text_of-in-Ok-clause-says c =
+pub returns-in_ok-text-in-Ok-clause-says : goal.returns-in_ok-text-in-Ok-clause-says
+returns-in_ok-text-in-Ok-clause-says c =
     let links =
     are_links c.args.job.now c.args.images.now c.args.relax c.requires.given.0 c.requires.given.1
     (subst (λ is. length is ≤ 64) c.images-images.ensures.value c.images-images.ensures.few) c.requires.given.2 c.in-Ok.ensures.links in
@@ -26,10 +26,10 @@ returns-in_ok-text_of-in-Ok-clause-says c =
         transcript = c.in_ok-transcript-in-Ok.transcript;
         ran = c.in_ok-transcript-in-Ok.ensures.ran (links_of c.args.images.now c.args.relax) links
             (c.in-Ok.ensures.linked ∙ linked_all c.args.images.now c.args.relax c.args.images.now);
-        says = (refl, c.in_ok-text_of-in-Ok.ensures);
+        says = (refl, c.in_ok-text-in-Ok.ensures);
       };
     })
 
 pub returns-in-Err-clause-says : goal.returns-in-Err-clause-says
 returns-in-Err-clause-says c =
-    unlinked_run c.args.job.now c.args.images.now c.args.relax c.in-Err.refusal c.unlinked.result c.in-Err.ensures.refused c.unlinked.ensures.says
+    unlinked_run c.args.telling c.args.job.now c.args.images.now c.args.relax c.in-Err.refusal c.unlinked.result c.in-Err.ensures.refused c.unlinked.ensures.says

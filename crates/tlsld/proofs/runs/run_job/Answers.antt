@@ -3,11 +3,12 @@ use Rattle.std.specs.List.{Contains}
 use Rattle.job_link.specs.Mentions.{object_names}
 use Rattle.tlsld.proofs.Asked.{asks_whole}
 use Rattle.tlsld.proofs.Running.{files_run}
+use Rattle.tlsld.specs.declared.telling.Telling.TheVariants.{Transcript}
 use Rattle.tlsld.proofs.runs.run_job.Goals as goal
 
 pub returns-clause-says : goal.returns-clause-says
 returns-clause-says g c =
-    files_run c.args.relax (g.S.Store.files c.args.store.now) c.args.job.now c.in_ok-files.files c.in_ok-files.ensures.bytes
+    files_run Transcript c.args.relax (g.S.Store.files c.args.store.now) c.args.job.now c.in_ok-files.files c.in_ok-files.ensures.bytes
     (λ k a b. subst (λ ms. Contains ms k) c.mentions-mentions.ensures.value (c.mentions-mentions.ensures.every k a b)) c.run_files.result c.run_files.ensures.says
 
 pub returns-clause-asks : goal.returns-clause-asks

@@ -1,0 +1,76 @@
+//! How many sites images have.
+
+ghost use Rattle.std.specs.Prelude.{◌≡◌, ◌+◌, IfOk, OnOk};
+ghost use Rattle.run_summary.specs.Summaries.{choice_counts, counts_of, image_counts, is_rewritten, plus};
+
+use link_core::Linked;
+use relax_sites::Choice;
+use std::alloc::AllocError;
+
+/// How many sites there are, and in place of how many another sequence stands.
+#[derive(Clone, Copy, PartialEq, Eq, Debug)]
+pub struct SiteCounts {
+    pub sites: u64,
+    pub rewritten: u64,
+}
+
+/// Whether another sequence stands in the site's place.
+fn is_rewritten(choice: Choice) -> bool
+    ensures { result ≡ is_rewritten choice }
+{
+    match choice {
+        Choice::Keep => false,
+        _ => true,
+    }
+}
+
+/// A count and some more; so many that their number needs more than 64 bits no memory holds.
+pub(crate) fn plus(count: u64, more: u64) -> Result<u64, AllocError>
+    ensures { IfOk result (λ sum. sum ≡ count + more) }
+{
+    match count.checked_add(more) {
+        Some(sum) => Ok(sum),
+        None => Err(AllocError),
+    }
+}
+
+impl SiteCounts {
+    /// Those of all these images. The only error is want of memory.
+    pub fn of(images: &[Linked]) -> Result<SiteCounts, AllocError>
+        ensures { IfOk result (λ counts. counts ≡ counts_of images.now) }
+    {
+        let mut counts = SiteCounts {
+            sites: 0,
+            rewritten: 0,
+        };
+        for image in images {
+            counts = counts.with_image(image)?;
+        }
+        Ok(counts)
+    }
+
+    /// With those of an image.
+    fn with_image(self, image: &Linked) -> Result<SiteCounts, AllocError>
+        ensures { IfOk result (λ counts. counts ≡ plus self.entry (image_counts image.now)) }
+    {
+        let mut counts = self;
+        for choices in image.choices.as_slice() {
+            counts = counts.with_object(choices.as_slice())?;
+        }
+        Ok(counts)
+    }
+
+    /// With those of an object, whose sites have these choices.
+    fn with_object(self, choices: &[Choice]) -> Result<SiteCounts, AllocError>
+        ensures { IfOk result (λ counts. counts ≡ plus self.entry (choice_counts choices.now)) }
+    {
+        let rewritten = choices
+            .iter()
+            .filter(|choice| is_rewritten(**choice))
+            .count();
+        Ok(SiteCounts {
+            sites: plus(self.sites, choices.len() as u64)?,
+            rewritten: plus(self.rewritten, rewritten as u64)?,
+        })
+    }
+}
