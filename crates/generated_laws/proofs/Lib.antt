@@ -1,0 +1,5 @@
+mod TextJob
+mod TextLines
+mod TextNames
+mod TextNumbers
+mod TextSteps
