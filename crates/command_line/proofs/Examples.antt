@@ -4,6 +4,7 @@ use Rattle.std.specs.Prelude.{codes}
 use Rattle.clap.specs.Walk.{Text}
 use Rattle.clap.proofs.OnLiterals.{clap_on_literals}
 use Rattle.command_line.specs.declared.tasks.Task.TheVariants as task
+use Rattle.command_line.specs.Counts.{count_of}
 use Rattle.command_line.specs.Words.{asked, takes_words}
 
 -- run job
@@ -66,6 +67,36 @@ a_show = refl
 a_show_with_an_option : asked (codes "show" ∷ codes "app" ∷ codes "--no-relax" ∷ []) ≡ None
 unfolding asked takes_words clap_on_literals
 a_show_with_an_option = refl
+
+-- gen 5
+a_job_of_five : asked (codes "gen" ∷ codes "5" ∷ []) ≡ Some (task.Gen 5)
+unfolding asked takes_words count_of clap_on_literals
+a_job_of_five = refl
+
+-- gen -- 1000
+the_largest_job : asked (codes "gen" ∷ codes "--" ∷ codes "1000" ∷ []) ≡ Some (task.Gen 1000)
+unfolding asked takes_words count_of clap_on_literals
+the_largest_job = refl
+
+-- gen 1001
+a_job_too_large : asked (codes "gen" ∷ codes "1001" ∷ []) ≡ None
+unfolding asked takes_words count_of clap_on_literals
+a_job_too_large = refl
+
+-- gen 05
+a_zero_in_front : asked (codes "gen" ∷ codes "05" ∷ []) ≡ None
+unfolding asked takes_words count_of clap_on_literals
+a_zero_in_front = refl
+
+-- gen +5
+a_sign : asked (codes "gen" ∷ codes "+5" ∷ []) ≡ None
+unfolding asked takes_words count_of clap_on_literals
+a_sign = refl
+
+-- gen 0
+a_job_of_none : asked (codes "gen" ∷ codes "0" ∷ []) ≡ None
+unfolding asked takes_words count_of clap_on_literals
+a_job_of_none = refl
 
 -- run -- JOB, whatever the text JOB is
 any_job : (job : Text) → asked (codes "run" ∷ codes "--" ∷ job ∷ []) ≡ Some (task.Run job false)

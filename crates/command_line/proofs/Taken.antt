@@ -1,5 +1,5 @@
--- Words without a fault name a command, so each of them gives a task.
-use Rattle.std.proofs.Common.{◌≡◌, Bool, true, false, List, [], ◌∷◌, Option, None, Some, is_some, cond, refl, sym, ap, ◌∙◌, inl, inr}
+-- Words without a fault name a command, so each of them gives a task, unless its number is no count.
+use Rattle.std.proofs.Common.{◌≡◌, ℕ, Bool, true, false, List, [], ◌∷◌, Option, None, Some, is_some, cond, refl, sym, ap, ◌∙◌, inl, inr, codes}
 use Rattle.std.specs.Prelude.{◌&&◌, not, find, unwrap_or}
 use Rattle.std.specs.Borrow.{Bor}
 use Rattle.clap.specs.Matches.{first_value}
@@ -15,8 +15,11 @@ use Rattle.clap.specs.Faults.{check_fault, entered_fault, fault_of, level_fault,
 use Rattle.clap.specs.Values.{kind_of}
 use Rattle.clap.specs.declared.error.Error.{Error}
 use Rattle.clap.specs.declared.error.kind.ErrorKind.TheVariants as kind
+use Rattle.command_line.specs.declared.tasks.Task.{Task}
+use Rattle.command_line.specs.declared.tasks.Task.TheVariants as task
 use Rattle.command_line.specs.CommandSet.{tool_app}
-use Rattle.command_line.specs.Words.{asked, has_no_fault, takes_words, task_of}
+use Rattle.command_line.specs.Counts.{count_of}
+use Rattle.command_line.specs.Words.{asked, has_count, has_no_fault, takes_words, task_of, text_at}
 
 -- where neither of two steps fails, the second does not
 no_next : (a b : Kinds) → or_else a b ≡ [] → b ≡ []
@@ -49,27 +52,44 @@ Each P [] = Unit {0}
 Each P (s ∷ ss) = P s × Each P ss
 
 -- what holds of each subcommand, whatever its rows, holds of the one that is found
-each_found : (P : Option (Text × List Row) → Bool) (w : Text) (ws : List Text) (subs : List Shape)
-    → Each (λ s. (rows : List Row) → P (Some (s.name, rows)) ≡ true) subs
+each_found : (P : Option (Text × List Row) → Type 0) (w : Text) (ws : List Text) (subs : List Shape)
+    → Each (λ s. (rows : List Row) → P (Some (s.name, rows))) subs
     → is_some (option_map (λ s. rows_at s ws) (find (λ s. answers_to w (label_of s)) subs)) ≡ true
-    → P (option_map (λ s. rows_at s ws) (find (λ s. answers_to w (label_of s)) subs)) ≡ true
-each_found P w ws [] all e = cc
+    → P (option_map (λ s. rows_at s ws) (find (λ s. answers_to w (label_of s)) subs))
+each_found P w ws [] all e = absurd (not_none e)
+  where
+    not_none : false ≡ true → ⊥
+    not_none e = cc
 each_found P w ws (s ∷ ss) all e = elim (answers_to w (label_of s)) as (λ b.
     is_some (option_map (λ s. rows_at s ws) (cond b (Some s) (find (λ s. answers_to w (label_of s)) ss))) ≡ true
-    → P (option_map (λ s. rows_at s ws) (cond b (Some s) (find (λ s. answers_to w (label_of s)) ss))) ≡ true)
+    → P (option_map (λ s. rows_at s ws) (cond b (Some s) (find (λ s. answers_to w (label_of s)) ss))))
     [ true ↦ λ _. all.0 (rows_at s ws).1 | false ↦ λ h. each_found P w ws ss all.1 h ] e
 
 yes : {X : Type 0} → X → true ≡ true
 yes x = refl
 
--- each subcommand that can be entered gives a task: one `yes` for each
-entered_asks : (stop : Option (Text × List Text)) → is_some (entered (built tool_app) stop) ≡ true
-    → is_some (option_and_then task_of (entered (built tool_app) stop)) ≡ true
-entered_asks None e = e
-entered_asks (Some p) e = each_found (λ o. is_some (option_and_then task_of o)) p.0 p.1 (built tool_app).subs (yes, (yes, (yes, (yes, tt)))) e
+-- a command gives a task where its number is a count
+abbrev Agrees : Option (Text × List Row) → Type 0
+Agrees found = is_some (option_and_then task_of found) ≡ has_count found
 
--- words without a fault give a task
-without_fault : (words : List Text) → fault_of tool_app words ≡ [] → is_some (option_and_then task_of (subcommand_of tool_app words)) ≡ true
+counted : (count : Option ℕ) → is_some (option_map task.Gen count) ≡ is_some count
+counted None = refl
+counted (Some n) = refl
+
+a_count : (rows : List Row) → is_some (option_map task.Gen (count_of (text_at (codes "N") rows))) ≡ is_some (count_of (text_at (codes "N") rows))
+a_count rows = counted (count_of (text_at (codes "N") rows))
+
+-- each subcommand that can be entered: one `yes` for each that has no number
+entered_asks : (stop : Option (Text × List Text)) → is_some (entered (built tool_app) stop) ≡ true
+    → Agrees (entered (built tool_app) stop)
+entered_asks None e = absurd (not_none e)
+  where
+    not_none : false ≡ true → ⊥
+    not_none e = cc
+entered_asks (Some p) e = each_found Agrees p.0 p.1 (built tool_app).subs (yes, (yes, (yes, (yes, (a_count, tt))))) e
+
+-- words without a fault give a task where the number is a count
+without_fault : (words : List Text) → fault_of tool_app words ≡ [] → Agrees (subcommand_of tool_app words)
 without_fault words e =
     let top : Shape = (built tool_app).top in
     let names : Names = names_of (built tool_app) in
@@ -81,31 +101,36 @@ without_fault words e =
 pub refused_words : (words : List Text) (e : Error) → HasKind (fault_of tool_app words) e → (kind_of e ≡ kind.OutOfMemory → ⊥)
     → takes_words words ≡ false
 unfolding takes_words
-refused_words words e h other = elim h [ inl m ↦ absurd (other m) | inr among ↦ some (fault_of tool_app words) among ]
+refused_words words e h other = elim h [ inl m ↦ absurd (other m) | inr among ↦ ap (λ b. b && has_count (subcommand_of tool_app words)) (some (fault_of tool_app words) among) ]
   where
     some : (ks : Kinds) → IsAmong (kind_of e) ks → has_no_fault ks ≡ false
     some [] a = absurd a
     some (k ∷ ks) a = refl
 
-pub taken_words : (words : List Text) → fault_of tool_app words ≡ [] → takes_words words ≡ true
+-- words without a fault are taken where the command that is found gives a task, and only there
+told_words : (words : List Text) (found : Option (Text × List Row)) → fault_of tool_app words ≡ [] → found ≡ subcommand_of tool_app words
+    → takes_words words ≡ is_some (option_and_then task_of found)
 unfolding takes_words
-taken_words words e = rw e refl
+told_words words found none is =
+    ap (λ ks. has_no_fault ks && has_count (subcommand_of tool_app words)) none
+    ∙ sym (without_fault words none) ∙ ap (λ o. is_some (option_and_then task_of o)) (sym is)
+
+pub taken_words : (words : List Text) (found : Option (Text × List Row)) (t : Task) → fault_of tool_app words ≡ [] → found ≡ subcommand_of tool_app words
+    → option_and_then task_of found ≡ Some t → takes_words words ≡ true
+taken_words words found t none is gives = told_words words found none is ∙ ap is_some gives
 
 -- the task of words that are taken is that of the command that is found
-pub asked_found : (words : List Text) (found : Option (Text × List Row)) → fault_of tool_app words ≡ [] → found ≡ subcommand_of tool_app words
-    → option_and_then task_of found ≡ asked words
+pub asked_found : (words : List Text) (found : Option (Text × List Row)) (t : Task) → fault_of tool_app words ≡ [] → found ≡ subcommand_of tool_app words
+    → option_and_then task_of found ≡ Some t → asked words ≡ Some t
 unfolding asked
-asked_found words found none e = rw (e, taken_words words none) refl
+asked_found words found t none is gives =
+    ap (λ b. cond b (option_and_then task_of (subcommand_of tool_app words)) None) (taken_words words found t none is gives)
+    ∙ ap (option_and_then task_of) (sym is) ∙ gives
 
-some_is_not_none : {T : Type 0} (o : Option T) → is_some o ≡ true → o ≡ None → ⊥
-some_is_not_none None there none = cc
-some_is_not_none (Some x) there none = cc
-
--- a command that is found in words without a fault gives a task
-pub found_asks : (words : List Text) (found : Option (Text × List Row)) → fault_of tool_app words ≡ [] → found ≡ subcommand_of tool_app words
-    → option_and_then task_of found ≡ None → ⊥
-found_asks words found none is no_task =
-    some_is_not_none _ (without_fault words none) (sym (ap (option_and_then task_of) is) ∙ no_task)
+-- words without a fault that give no task are not taken
+pub no_words : (words : List Text) (found : Option (Text × List Row)) → fault_of tool_app words ≡ [] → found ≡ subcommand_of tool_app words
+    → option_and_then task_of found ≡ None → takes_words words ≡ false
+no_words words found none is no_task = told_words words found none is ∙ ap is_some no_task
 
 -- the text that a caller reads of an argument, by its rows
 pub text_read : (f : Found) (id : Text) (text : Option (Bor Text)) (other : Bor Text) → option_map (λ s. s.now) text ≡ first_value f id

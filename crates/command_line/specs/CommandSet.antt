@@ -36,6 +36,10 @@ sites_app = with_rule (with_rule (new_app (codes "sites")) (text_rule (codes "JO
 abbrev pub show_app : App
 show_app = with_rule (new_app (codes "show")) (text_rule (codes "FILE"))
 
+-- gen N
+abbrev pub gen_app : App
+gen_app = with_rule (new_app (codes "gen")) (text_rule (codes "N"))
+
 -- the words begin with a command, and there is no command `help`
 abbrev pub top_settings : Shape → Shape
 top_settings s = record s { no_binary_name = true; subcommand_required = true; disable_help_subcommand = true }
@@ -47,6 +51,10 @@ bare_tool = on_top top_settings (new_app (codes "tlsld"))
 abbrev pub linking_tool : App
 linking_tool = with_subcommand (with_subcommand bare_tool run_app.top) link_app.top
 
--- all the commands: behind those the ones that print what is in an image
+-- the commands that read files: behind those the ones that print what is in an image
+abbrev pub reading_tool : App
+reading_tool = with_subcommand (with_subcommand linking_tool sites_app.top) show_app.top
+
+-- all the commands: behind those the one that makes a job
 abbrev pub tool_app : App
-tool_app = with_subcommand (with_subcommand linking_tool sites_app.top) show_app.top
+tool_app = with_subcommand reading_tool gen_app.top

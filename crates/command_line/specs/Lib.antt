@@ -1,2 +1,3 @@
 pub mod CommandSet
+pub mod Counts
 pub mod Words

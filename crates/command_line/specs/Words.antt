@@ -1,6 +1,7 @@
 -- Which words are taken, and the task that they give.
-use Rattle.std.specs.Prelude.{Bool, true, false, List, [], ◌∷◌, Option, Some, None, codes, unwrap_or, if◌then◌else◌}
-use Rattle.std.specs.Option.{option_and_then}
+use Rattle.std.specs.Prelude.{◌≤◌, ◌&&◌, Bool, true, false, List, [], ◌∷◌, Option, Some, None, codes, unwrap_or, if◌then◌else◌}
+use Rattle.std.specs.Prelude.{is_some}
+use Rattle.std.specs.Option.{option_and_then, option_map}
 use Rattle.std.specs.Str.{bytes_eq}
 use Rattle.clap.specs.Walk.{Row, Text, first_of}
 use Rattle.clap.specs.Kinds.{Kinds}
@@ -9,15 +10,12 @@ use Rattle.clap.specs.Simple.{subcommand_of}
 use Rattle.command_line.specs.declared.tasks.Task.{Task}
 use Rattle.command_line.specs.declared.tasks.Task.TheVariants as task
 use Rattle.command_line.specs.CommandSet.{tool_app}
+use Rattle.command_line.specs.Counts.{count_of}
 
 -- nothing is wrong with the words
 abbrev pub has_no_fault : Kinds → Bool
 has_no_fault [] = true
 has_no_fault (k ∷ ks) = false
-
--- `clap` takes the words
-unfoldable pub takes_words : List Text → Bool
-takes_words words = has_no_fault (fault_of tool_app words)
 
 -- the text of an argument; a required one has its own, and the empty text is never taken
 abbrev pub text_at : Text → List Row → Text
@@ -45,6 +43,20 @@ sites_task rows = task.Sites (text_at (codes "JOB") rows) (text_at (codes "IMAGE
 abbrev pub show_task : List Row → Task
 show_task rows = task.Show (text_at (codes "FILE") rows)
 
+-- gen N, where N is a count
+abbrev pub gen_task : List Row → Option Task
+gen_task rows = option_map task.Gen (count_of (text_at (codes "N") rows))
+
+-- the number of `gen` is a count; no other command has a number
+abbrev pub has_count : Option (Text × List Row) → Bool
+has_count None = true
+has_count (Some command) =
+    if bytes_eq command.0 (codes "gen") then is_some (count_of (text_at (codes "N") command.1)) else true
+
+-- `clap` takes the words, and a number among them is a count
+unfoldable pub takes_words : List Text → Bool
+takes_words words = has_no_fault (fault_of tool_app words) && has_count (subcommand_of tool_app words)
+
 -- the task that a command and the values of its arguments give
 abbrev pub task_of : Text × List Row → Option Task
 task_of command =
@@ -52,8 +64,14 @@ task_of command =
     if bytes_eq command.0 (codes "link") then Some (link_task command.1) else
     if bytes_eq command.0 (codes "sites") then Some (sites_task command.1) else
     if bytes_eq command.0 (codes "show") then Some (show_task command.1) else
+    if bytes_eq command.0 (codes "gen") then gen_task command.1 else
     None
 
 -- the task that the words give, where they are taken
 unfoldable pub asked : List Text → Option Task
 asked words = if takes_words words then option_and_then task_of (subcommand_of tool_app words) else None
+
+-- so many objects as `gen` makes
+abbrev pub IsInLimits : Task → Type 0
+IsInLimits (task.Gen count) = (1 ≤ count) × (count ≤ 1000)
+IsInLimits _ = Unit {0}

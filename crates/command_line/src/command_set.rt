@@ -3,8 +3,8 @@ ghost use Rattle.std.specs.Prelude.{◌≡◌, false, IfOk};
 ghost use Rattle.clap.specs.Walk.{rule_of};
 ghost use Rattle.clap.specs.Simple.{app_of};
 ghost use Rattle.clap.specs.declared.builder.command.Command.TheViews.{out-Command};
-ghost use Rattle.command_line.specs.CommandSet.{text_rule, no_relax_rule, run_app, link_app, sites_app, show_app};
-ghost use Rattle.command_line.specs.CommandSet.{bare_tool, linking_tool, tool_app};
+ghost use Rattle.command_line.specs.CommandSet.{text_rule, no_relax_rule, run_app, link_app, sites_app, show_app, gen_app};
+ghost use Rattle.command_line.specs.CommandSet.{bare_tool, linking_tool, reading_tool, tool_app};
 
 use clap::{Arg, ArgAction, Command};
 use std::alloc::{AllocError, Global};
@@ -67,6 +67,14 @@ fn show_command<'a>(alloc: Global) -> Result<Command<'a>, AllocError>
     Command::new(alloc, "show").arg(text_argument(alloc, "FILE"))
 }
 
+/// `gen N`.
+fn gen_command<'a>(alloc: Global) -> Result<Command<'a>, AllocError>
+    ensures app { IfOk result (λ command. app_of command ≡ gen_app) }
+    ensures local { IfOk result (λ command. (out-Command command).has_globals ≡ false) }
+{
+    Command::new(alloc, "gen").arg(text_argument(alloc, "N"))
+}
+
 /// The linker's command line without its commands: the first word is one.
 fn bare_command<'a>(alloc: Global) -> Command<'a>
     ensures { app_of result ≡ bare_tool }
@@ -86,11 +94,18 @@ fn linking_command<'a>(alloc: Global) -> Result<Command<'a>, AllocError>
         .subcommand(link_command(alloc)?)
 }
 
-/// The linker's command line.
-pub(crate) fn tool_command<'a>(alloc: Global) -> Result<Command<'a>, AllocError>
-    ensures { IfOk result (λ command. app_of command ≡ tool_app) }
+/// The linker's command line with the commands that read files.
+fn reading_command<'a>(alloc: Global) -> Result<Command<'a>, AllocError>
+    ensures { IfOk result (λ command. app_of command ≡ reading_tool) }
 {
     linking_command(alloc)?
         .subcommand(sites_command(alloc)?)?
         .subcommand(show_command(alloc)?)
+}
+
+/// The linker's command line.
+pub(crate) fn tool_command<'a>(alloc: Global) -> Result<Command<'a>, AllocError>
+    ensures { IfOk result (λ command. app_of command ≡ tool_app) }
+{
+    reading_command(alloc)?.subcommand(gen_command(alloc)?)
 }

@@ -10,6 +10,7 @@
 //! | `link JOB IMAGE OUT [--no-relax]` | link the images, put the one named IMAGE to the file OUT, and say how long it is |
 //! | `sites JOB IMAGE` | print the code sequences of the image named IMAGE, and what stands in the place of each |
 //! | `show FILE` | print what the image in the file FILE says |
+//! | `gen N` | make a job of N objects and a module in memory, run it, and print a summary |
 //!
 //! ```text
 //! run a.job                    Run { job: "a.job", no_relax: false }
@@ -21,6 +22,10 @@
 //! link a.job app               usage: there is no OUT
 //! sites a.job app              Sites { job: "a.job", image: "app" }
 //! show app                     Show { file: "app" }
+//! gen 5                        Gen { count: 5 }
+//! gen -- 5                     Gen { count: 5 }
+//! gen 05                       usage: no zero stands in front of a number, and no sign
+//! gen 1001                     usage: a number is one from 1 to 1,000
 //! run a.job b.job              usage: there is one word too many
 //! run a.job --no-rel           usage: an option has no shorter forms
 //! --help                       usage: a wish for help is no task
@@ -31,15 +36,18 @@
 //!
 //! **The rule that the crate keeps.** The words are read as one simple command of `clap`, with a subcommand
 //! for each row of the table, and the contract says so in `clap`'s own definitions: `takes_words` says
-//! which words are taken, and `asked` which task they give. [`read_words`] answers `Ok` only for words that
-//! are taken, with the task that they ask for, and `Usage` only for words that are not. What is left open
-//! is `OutOfMemory`, which may come in place of each answer.
+//! which words are taken, and `asked` which task they give. To `clap` all values are texts; that the one of
+//! `gen` is a number, and which one, this crate reads itself, since usual readers of numbers take `05` and
+//! `+5` too. [`read_words`] answers `Ok` only for words that are taken, with the task that they ask for, and
+//! `Usage` only for words that are not. What is left open is `OutOfMemory`, which may come in place of each
+//! answer.
 //!
 //! No other crate stands on `clap`: those above see a [`Task`], whose texts are an own type, [`Text`], that
 //! their contracts read as bytes.
 #![tactic(auto)]
 
 mod command_set;
+mod counts;
 mod tasks;
 mod text;
 mod words;

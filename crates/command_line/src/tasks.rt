@@ -36,6 +36,11 @@ pub enum Task {
         /// The name of the image's file.
         file: Text,
     },
+    /// `gen N`: make a job of that many objects and a module in memory, run it, and print a summary.
+    Gen {
+        /// How many objects, from 1 to 1,000.
+        count: u32,
+    },
 }
 
 /// Why words give no task.

@@ -5,9 +5,10 @@ ghost use Rattle.clap.specs.Matches.{found_of};
 ghost use Rattle.clap.specs.Walk.{rows_of};
 ghost use Rattle.clap.specs.Simple.{subcommand_rows_of};
 ghost use Rattle.command_line.specs.Words.{takes_words, asked, task_of, text_at, flag_at};
-ghost use Rattle.command_line.specs.Words.{run_task, link_task, sites_task, show_task};
+ghost use Rattle.command_line.specs.Words.{run_task, link_task, sites_task, show_task, gen_task, IsInLimits};
 
 use crate::command_set::tool_command;
+use crate::counts::count_of;
 use crate::{Task, Text, WordsFault};
 use clap::ArgMatches;
 use clap::error::ErrorKind;
@@ -75,9 +76,21 @@ fn show_of(alloc: Global, matches: &ArgMatches<'_>) -> Result<Task, AllocError>
     })
 }
 
+fn gen_of(matches: &ArgMatches<'_>) -> Result<Task, WordsFault>
+    ensures ok { IfOk result (λ task. gen_task (rows_of (found_of matches.now)) ≡ Some task) }
+    ensures within { IfOk result IsInLimits }
+    ensures usage { IsErrOf result WordsFault.Usage → gen_task (rows_of (found_of matches.now)) ≡ None }
+{
+    match count_of(text_of(matches, "N")) {
+        Some(count) => Ok(Task::Gen { count }),
+        None => Err(WordsFault::Usage),
+    }
+}
+
 /// The task of the command that `clap` found, with the values of its words.
 fn task_of_matches(alloc: Global, matches: &ArgMatches<'_>) -> Result<Task, WordsFault>
     ensures ok { IfOk result (λ task. option_and_then task_of (subcommand_rows_of matches.now) ≡ Some task) }
+    ensures within { IfOk result IsInLimits }
     ensures usage { IsErrOf result WordsFault.Usage
         → option_and_then task_of (subcommand_rows_of matches.now) ≡ None }
 {
@@ -86,6 +99,7 @@ fn task_of_matches(alloc: Global, matches: &ArgMatches<'_>) -> Result<Task, Word
         Some(("link", values)) => Ok(link_of(alloc, values)?),
         Some(("sites", values)) => Ok(sites_of(alloc, values)?),
         Some(("show", values)) => Ok(show_of(alloc, values)?),
+        Some(("gen", values)) => gen_of(values),
         _ => Err(WordsFault::Usage),
     }
 }
@@ -93,6 +107,7 @@ fn task_of_matches(alloc: Global, matches: &ArgMatches<'_>) -> Result<Task, Word
 /// Reads the words that follow the program's name.
 pub fn read_words(alloc: Global, words: &[String]) -> Result<Task, WordsFault>
     ensures ok { IfOk result (λ task. asked (map string_bytes words.now) ≡ Some task) }
+    ensures within { IfOk result IsInLimits }
     ensures taken { OnOk result (takes_words (map string_bytes words.now) ≡ true) }
     ensures usage { IsErrOf result WordsFault.Usage → takes_words (map string_bytes words.now) ≡ false }
 {

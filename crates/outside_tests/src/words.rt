@@ -30,6 +30,10 @@ sites --no-relax app|sites|--|--no-relax|app
 sites a=b |sites|a=b|
 show image|show|image
 show -|show|-
+gen 5|gen|5
+gen 5|gen|--|5
+gen 1|gen|1
+gen 1000|gen|1000
 usage
 usage|
 usage|-
@@ -70,6 +74,28 @@ usage|sites|--help
 usage|site|a|b
 usage|show
 usage|show|image|more
+usage|gen
+usage|gen|5|6
+usage|gen|05
+usage|gen|+5
+usage|gen|-5
+usage|gen|--|-5
+usage|gen|0x5
+usage|gen|0
+usage|gen|1001
+usage|gen|4294967297
+usage|gen|18446744073709551617
+usage|gen|5 
+usage|gen| 5
+usage|gen|5.0
+usage|gen|5a
+usage|gen|1_000
+usage|gen|
+usage|gen|--
+usage|gen|-
+usage|gen|5|--no-relax
+usage|gen|--no-relax|5
+usage|ge|5
 ";
 
 /// What is asked for, as a case writes it.
@@ -97,6 +123,7 @@ fn told(alloc: Global, task: Result<Task, WordsFault>) -> Result<String, AllocEr
             image.as_str()
         ),
         Ok(Task::Show { file }) => format!(in alloc; "show {}", file.as_str()),
+        Ok(Task::Gen { count }) => format!(in alloc; "gen {count}"),
         Err(fault) => format!(in alloc; "{fault}"),
     }
 }

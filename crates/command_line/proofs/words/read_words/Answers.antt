@@ -7,7 +7,7 @@ use Rattle.clap.specs.Kinds.{HasKind}
 use Rattle.clap.specs.Faults.{fault_of, is_simple_and_free}
 use Rattle.clap.specs.Simple.{app_of, is_simple, subcommand_of, subcommand_rows_of}
 use Rattle.command_line.specs.CommandSet.{tool_app}
-use Rattle.command_line.proofs.Taken.{asked_found, found_asks, refused_words, taken_words}
+use Rattle.command_line.proofs.Taken.{asked_found, no_words, refused_words, taken_words}
 use Rattle.command_line.proofs.words.read_words.Goals as goal
 
 simple : is_simple tool_app ≡ true
@@ -25,14 +25,16 @@ returns-in-Ok-clause-ok c =
     let none : fault_of tool_app words ≡ [] = ap (λ a. fault_of a words) (sym app_is) ∙ c.in-Ok.ensures.kinds (ap is_simple_and_free app_is ∙ free) in
     let found : subcommand_rows_of c.in-Ok.matches ≡ subcommand_of tool_app words =
     (c.in-Ok.ensures.matches (ap is_simple app_is ∙ simple)).1 ∙ ap (λ a. subcommand_of a words) app_is in
-    IfOk-weaker c.task_of_matches.result _ _ (λ task h. sym (asked_found words _ none found) ∙ h) c.task_of_matches.ensures.ok
+    IfOk-weaker c.task_of_matches.result _ _ (λ task h. asked_found words _ task none found h) c.task_of_matches.ensures.ok
 
 pub returns-in-Ok-clause-taken : goal.returns-in-Ok-clause-taken
 returns-in-Ok-clause-taken c =
     let words : List Text = map string_bytes c.args.words.now in
     let app_is : app_of c.in_ok-command.command ≡ tool_app = c.in_ok-command.ensures in
     let none : fault_of tool_app words ≡ [] = ap (λ a. fault_of a words) (sym app_is) ∙ c.in-Ok.ensures.kinds (ap is_simple_and_free app_is ∙ free) in
-    IfOk-weaker c.task_of_matches.result _ _ (λ task h. taken_words words none) c.task_of_matches.ensures.ok
+    let found : subcommand_rows_of c.in-Ok.matches ≡ subcommand_of tool_app words =
+    (c.in-Ok.ensures.matches (ap is_simple app_is ∙ simple)).1 ∙ ap (λ a. subcommand_of a words) app_is in
+    IfOk-weaker c.task_of_matches.result _ _ (λ task h. taken_words words _ task none found h) c.task_of_matches.ensures.ok
 
 pub returns-in-Ok-clause-usage : goal.returns-in-Ok-clause-usage
 returns-in-Ok-clause-usage c =
@@ -41,7 +43,7 @@ returns-in-Ok-clause-usage c =
     let none : fault_of tool_app words ≡ [] = ap (λ a. fault_of a words) (sym app_is) ∙ c.in-Ok.ensures.kinds (ap is_simple_and_free app_is ∙ free) in
     let found : subcommand_rows_of c.in-Ok.matches ≡ subcommand_of tool_app words =
     (c.in-Ok.ensures.matches (ap is_simple app_is ∙ simple)).1 ∙ ap (λ a. subcommand_of a words) app_is in
-    λ usage. absurd (found_asks words _ none found (c.task_of_matches.ensures.usage usage))
+    λ usage. no_words words _ none found (c.task_of_matches.ensures.usage usage)
 
 pub returns-clause-usage : goal.returns-clause-usage
 returns-clause-usage c =
