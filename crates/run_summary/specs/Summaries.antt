@@ -26,11 +26,14 @@ plus a b = record { sites = a.sites + b.sites; rewritten = a.rewritten + b.rewri
 abbrev pub choice_counts : List Choice → SiteCounts
 choice_counts choices = record { sites = length choices; rewritten = length (filter is_rewritten choices) }
 
-abbrev pub image_counts : LinkedImage → SiteCounts
-image_counts image = record {
-  sites = sum_by (λ own. (choice_counts own).sites) image.choices;
-  rewritten = sum_by (λ own. (choice_counts own).rewritten) image.choices;
+abbrev pub objects_counts : List (List Choice) → SiteCounts
+objects_counts objects = record {
+  sites = sum_by (λ own. (choice_counts own).sites) objects;
+  rewritten = sum_by (λ own. (choice_counts own).rewritten) objects;
 }
+
+abbrev pub image_counts : LinkedImage → SiteCounts
+image_counts image = objects_counts image.choices
 
 unfoldable pub counts_of : List LinkedImage → SiteCounts
 counts_of images = record {

@@ -1,6 +1,6 @@
 //! How many sites images have.
 
-ghost use Rattle.std.specs.Prelude.{◌≡◌, ◌+◌, IfOk, OnOk};
+ghost use Rattle.std.specs.Prelude.{◌≡◌, ◌+◌, IfOk};
 ghost use Rattle.run_summary.specs.Summaries.{choice_counts, counts_of, image_counts, is_rewritten, plus};
 
 use link_core::Linked;
@@ -51,7 +51,7 @@ impl SiteCounts {
 
     /// With those of an image.
     fn with_image(self, image: &Linked) -> Result<SiteCounts, AllocError>
-        ensures { IfOk result (λ counts. counts ≡ plus self.entry (image_counts image.now)) }
+        ensures { IfOk result (λ counts. counts ≡ plus self (image_counts image.now)) }
     {
         let mut counts = self;
         for choices in image.choices.as_slice() {
@@ -62,7 +62,7 @@ impl SiteCounts {
 
     /// With those of an object, whose sites have these choices.
     fn with_object(self, choices: &[Choice]) -> Result<SiteCounts, AllocError>
-        ensures { IfOk result (λ counts. counts ≡ plus self.entry (choice_counts choices.now)) }
+        ensures { IfOk result (λ counts. counts ≡ plus self (choice_counts choices.now)) }
     {
         let rewritten = choices
             .iter()

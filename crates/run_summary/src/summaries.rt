@@ -1,6 +1,6 @@
 //! The line.
 
-ghost use Rattle.std.specs.Prelude.{◌≡◌, ◌++◌, ℕ, IfOk, OnOk};
+ghost use Rattle.std.specs.Prelude.{◌≡◌, ◌+◌, ◌%◌, ◌^◌, ◌++◌, IfOk, OnOk};
 ghost use Rattle.run_summary.specs.Summaries.{line_count, lines_sum, returned, returned_sum, shown_in, shown_of, summary_text};
 
 use crate::sites::{SiteCounts, plus};

@@ -28,7 +28,7 @@ impl Telling {
         transcript: &Transcript,
     ) -> Result<Vec<u8>, AllocError>
         requires { All (λ event. IsImageNumber job.now.images event.image) transcript.now.events }
-        ensures { IfOk result (λ text. text.items ≡ told self.entry job.now.images counts transcript.now) }
+        ensures { IfOk result (λ text. text.items ≡ told self job.now.images counts transcript.now) }
     {
         match self {
             Telling::Transcript => {
