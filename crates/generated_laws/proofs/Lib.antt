@@ -1,0 +1,2 @@
+pub mod PlaceSections
+pub mod PlaceLimits
