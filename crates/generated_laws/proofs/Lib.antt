@@ -1,2 +1,3 @@
 pub mod PlaceSections
 pub mod PlaceLimits
+pub mod PlaceShapes
