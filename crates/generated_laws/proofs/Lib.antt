@@ -1,3 +1,4 @@
 pub mod PlaceSections
 pub mod PlaceLimits
 pub mod PlaceShapes
+pub mod FieldNumbers
