@@ -2,3 +2,4 @@ pub mod PlaceSections
 pub mod PlaceLimits
 pub mod PlaceShapes
 pub mod FieldNumbers
+pub mod FieldShapes
