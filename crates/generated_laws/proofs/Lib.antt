@@ -3,3 +3,4 @@ pub mod PlaceLimits
 pub mod PlaceShapes
 pub mod FieldNumbers
 pub mod FieldShapes
+pub mod FieldOverflows
