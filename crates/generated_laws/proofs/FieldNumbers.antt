@@ -1,7 +1,7 @@
 -- The numbers that fields are made of are small, and so what they hold fits.
-use Rattle.std.proofs.Common.{◌≡◌, ◌+◌, ◌-◌, ◌<◌, ◌≤◌, ◌^◌, ◌==◌, ℕ, ℤ, zero, suc, Bool, true, false, List, [], ◌∷◌, max}
-use Rattle.std.proofs.Common.{Option, Some, None, FitsSigned, IsSome, refl, sym, arith}
-use Rattle.std.specs.Prelude.{pos, negsuc, neg_ℤ, nat_lt, cond, fold, ◌+ℤ◌, ◌-ℤ◌, IsNone, unwrap_or, option_and_then}
+use Rattle.std.proofs.Common.{◌≡◌, ◌+◌, ◌-◌, ◌≤◌, ◌^◌, ◌==◌, ℕ, ℤ, zero, suc, Bool, true, false, List, [], ◌∷◌}
+use Rattle.std.proofs.Common.{Option, Some, None, FitsSigned, IsSome, refl, arith}
+use Rattle.std.specs.Prelude.{pos, negsuc, neg_ℤ, nat_lt, cond, fold, ◌+ℤ◌, ◌-ℤ◌, IsNone, unwrap_or}
 use Rattle.std.specs.Prelude.{if◌then◌else◌}
 use Rattle.std.specs.Int.{w32}
 use Rattle.std.specs.Int.Signed.{mag}
@@ -14,7 +14,6 @@ use Rattle.elf_object.specs.declared.symbol.SymbolPlace.TheVariants.{InSection}
 use Rattle.got_pairs.specs.declared.need.Need.{Need}
 use Rattle.got_pairs.specs.Needs.{size_of, start_of, total_size}
 use Rattle.got_pairs.proofs.Served.{within}
-use Rattle.link_faults.specs.ImageKinds.{base_of}
 use Rattle.link_faults.specs.declared.symbol_ref.SymbolRef.{SymbolRef}
 use Rattle.tls_layout.specs.declared.sections.Section.{Section}
 use Rattle.tls_layout.specs.Places.{IsLawful, address_of, greatest_alignment, next_alignment, tls_alignment}

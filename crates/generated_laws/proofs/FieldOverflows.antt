@@ -1,21 +1,20 @@
 -- No field of a generated object overflows.
-use Rattle.std.proofs.Common.{◌≡◌, ◌<◌, ◌≤◌, ◌+◌, ◌∙◌, ℕ, zero, suc, Bool, true, false, List, [], ◌∷◌, map, length, ap}
+use Rattle.std.proofs.Common.{◌≡◌, ◌<◌, ◌≤◌, ◌+◌, ℕ, zero, suc, true, false, List, [], ◌∷◌, map, length, ap}
 use Rattle.std.proofs.Common.{arith}
 use Rattle.std.specs.Prelude.{IsNone, IsSomeAnd, slice_get}
 use Rattle.std.specs.List.{AllByRecursion}
 use Rattle.elf_object.specs.declared.relocation.Relocation.{Relocation}
-use Rattle.elf_object.specs.Lent.{relocation_target, relocations}
-use Rattle.object_faults.specs.Firsts.{nonzero}
+use Rattle.elf_object.specs.Lent.{relocation_target}
 use Rattle.generated_job.specs.Generated.{module_shape, shape_of}
 use Rattle.generated_job.specs.Shapes.{Shape}
-use Rattle.link_faults.specs.declared.image_kind.ImageKind.TheVariants.{Exe, Late}
-use Rattle.tls_symbols.specs.Faults.{held_for, held_in}
+use Rattle.link_faults.specs.declared.image_kind.ImageKind.TheVariants.{Exe}
+use Rattle.tls_symbols.specs.Faults.{held_in}
 use Rattle.link_needs.specs.Given.{FitsTable, IsGiven}
-use Rattle.link_needs.specs.Linking.{Linking, layout, object}
+use Rattle.link_needs.specs.Linking.{Linking, object}
 use Rattle.link_needs.specs.Values.{field, is_replaced}
 use Rattle.link_core.specs.Faults.{Overflows}
 use Rattle.generated_laws.specs.Reading.{ReadsAs, relocation_of}
-use Rattle.generated_laws.proofs.FieldShapes.{AllFit, BindsOwn, Fits, module_fits, program_fits}
+use Rattle.generated_laws.proofs.FieldShapes.{AllFit, BindsOwn, module_fits, program_fits}
 use Rattle.generated_laws.proofs.PlaceShapes.{ModuleIsRead, ProgramIsRead, module_bytes, module_read}
 use Rattle.generated_laws.proofs.PlaceShapes.{program_bytes, program_lawful, program_length, program_read}
 

@@ -1,6 +1,6 @@
 -- Each relocation of a generated object goes with its sequence, or its field holds its value.
-use Rattle.std.proofs.Common.{◌≡◌, ◌+◌, ◌<◌, ◌≤◌, ◌^◌, ◌&&◌, ◌∙◌, ◌∷◌, ℕ, ℤ, Bool, true, false, List, length, map, Option}
-use Rattle.std.proofs.Common.{Some, None, refl, sym, ap, subst, arith}
+use Rattle.std.proofs.Common.{◌≡◌, ◌<◌, ◌≤◌, ◌^◌, ◌∙◌, ℕ, ℤ, Bool, true, false, List, length, map}
+use Rattle.std.proofs.Common.{Some, refl, arith}
 use Rattle.std.specs.Prelude.{pos, negsuc, IsNone}
 use Rattle.std.specs.List.{AllByRecursion}
 use Rattle.std.specs.Prelude.{codes, if◌then◌else◌}
@@ -9,20 +9,17 @@ use Rattle.elf_records.specs.declared.relocation.RelocationKind.TheVariants.{Plt
 use Rattle.elf_object.specs.declared.relocation.Relocation.{Relocation}
 use Rattle.elf_object.specs.declared.symbol.SymbolBinding.TheVariants.{Global}
 use Rattle.elf_object.specs.declared.symbol.SymbolPlace.TheVariants.{InSection}
-use Rattle.elf_object.specs.Lent.{symbol_binding, symbol_name, symbol_place, symbol_value}
 use Rattle.generated_job.specs.Generated.{general_shape, initial_executable_shape, local_shape, module_shape, shape_of}
 use Rattle.generated_job.specs.Shapes.{Shape}
-use Rattle.link_faults.specs.declared.binding.Binding.{Binding}
 use Rattle.link_faults.specs.declared.binding.Binding.TheVariants.{Here, Runtime}
-use Rattle.link_faults.specs.declared.image_kind.ImageKind.{ImageKind}
-use Rattle.link_faults.specs.declared.image_kind.ImageKind.TheVariants.{Exe, Late}
+use Rattle.link_faults.specs.declared.image_kind.ImageKind.TheVariants.{Exe}
 use Rattle.link_faults.specs.declared.symbol_ref.SymbolRef.{SymbolRef}
 use Rattle.tls_layout.specs.Places.{IsLawful}
 use Rattle.tls_symbols.specs.Bindings.{binding_of}
 use Rattle.link_needs.specs.Given.{FitsTable, IsGiven}
 use Rattle.link_needs.specs.Linking.{Linking, binding, block_offset, layout, object, offset, place}
 use Rattle.link_needs.specs.Needs.{need_address, relocation_need, stub_start}
-use Rattle.link_needs.specs.Values.{counts_from_thread_pointer, field, goes, is_replaced, is_rewriting}
+use Rattle.link_needs.specs.Values.{counts_from_thread_pointer, field, goes, is_replaced}
 use Rattle.generated_laws.specs.Reading.{ReadsAs, known_at, known_of, relocation_of}
 use Rattle.generated_laws.proofs.FieldNumbers.{block_small, difference_fits, need_small, not_none, offset_small}
 use Rattle.generated_laws.proofs.FieldNumbers.{place_small, stub_small}

@@ -4,3 +4,4 @@ pub mod PlaceShapes
 pub mod FieldNumbers
 pub mod FieldShapes
 pub mod FieldOverflows
+pub mod FieldLinks

@@ -1,5 +1,5 @@
 -- Sections of at most 1,000 tiny objects are within the limits of a layout.
-use Rattle.std.proofs.Common.{◌≡◌, ◌+◌, ◌-◌, ◌*◌, ◌<◌, ◌≤◌, ◌^◌, ◌++◌, ℕ, zero, suc, List, [], ◌∷◌, length}
+use Rattle.std.proofs.Common.{◌+◌, ◌*◌, ◌<◌, ◌≤◌, ◌^◌, ◌++◌, ℕ, suc, List, [], ◌∷◌, length}
 use Rattle.std.proofs.Common.{true, false, arith}
 use Rattle.std.specs.Prelude.{fold, slice_index_or}
 use Rattle.std.specs.List.{All, flat_map}
@@ -16,7 +16,7 @@ use Rattle.tls_layout.specs.Rounding.{page_up}
 use Rattle.tls_layout.specs.Sections.{IsOrdinary, all_sections, layout_of, sections_of}
 use Rattle.tls_layout.proofs.Ends.{end_of-rises}
 use Rattle.tls_layout.proofs.Rounds.{round_up-near}
-use Rattle.generated_laws.proofs.PlaceSections.{IsTiny, ReadsTiny, eight, eight_end, eight_initial, eight_ordinary}
+use Rattle.generated_laws.proofs.PlaceSections.{ReadsTiny, eight_end, eight_initial, eight_ordinary}
 use Rattle.generated_laws.proofs.PlaceSections.{sections_are}
 
 -- each of these objects reads as some tiny shape

@@ -1,12 +1,11 @@
 -- The sections of one small object, as a layout sees them, and how far they move the end of each class.
-use Rattle.std.proofs.Common.{◌≡◌, ◌≢◌, ◌+◌, ◌*◌, ◌<◌, ◌≤◌, ◌^◌, ◌==◌, ℕ, zero, suc, Bool, true, false, List, [], ◌∷◌}
-use Rattle.std.proofs.Common.{length, map, Option, Some, None, refl, sym, ap, ◌∙◌, arith}
+use Rattle.std.proofs.Common.{◌≡◌, ◌≢◌, ◌+◌, ◌<◌, ◌≤◌, ◌==◌, ℕ, Bool, true, false, List, [], ◌∷◌}
+use Rattle.std.proofs.Common.{length, map, Some, None, refl, ap, ◌∙◌, arith}
 use Rattle.std.specs.Prelude.{fold, if◌then◌else◌}
-use Rattle.std.specs.List.{All, AllByRecursion, range_with_len}
+use Rattle.std.specs.List.{All, range_with_len}
 use Rattle.std.proofs.lemmas.List.Elements.{All-from_recursion}
 use Rattle.elf_object.specs.Lawful.{IsPower}
 use Rattle.elf_object.specs.Lent.{section_class}
-use Rattle.elf_object.specs.Object.{section_count}
 use Rattle.object_faults.specs.declared.class.SectionClass.{SectionClass}
 use Rattle.object_faults.specs.declared.class.SectionClass.TheVariants.{Executable, ReadOnly, Tls, Writable}
 use Rattle.generated_job.specs.Shapes.{Shape, zeros_alignment}

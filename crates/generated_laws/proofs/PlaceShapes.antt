@@ -1,5 +1,5 @@
 -- The program's objects and the module's are tiny.
-use Rattle.std.proofs.Common.{◌≡◌, ◌+◌, ◌<◌, ◌≤◌, ◌%◌, ◌==◌, ◌∙◌, ℕ, zero, suc, Bool, true, false, List, [], ◌∷◌, length, map}
+use Rattle.std.proofs.Common.{◌≡◌, ◌+◌, ◌<◌, ◌≤◌, ◌%◌, ◌==◌, ℕ, zero, suc, Bool, true, false, List, [], ◌∷◌, length, map}
 use Rattle.std.proofs.Common.{refl, sym, ap, subst, arith}
 use Rattle.std.specs.Prelude.{if◌then◌else◌, slice_index_or}
 use Rattle.std.specs.List.{range_with_len}
@@ -12,7 +12,7 @@ use Rattle.tls_layout.specs.Places.{IsLawful, tls_size}
 use Rattle.tls_layout.specs.Sections.{layout_of}
 use Rattle.link_needs.specs.Linking.{Linking, layout, object}
 use Rattle.generated_laws.specs.Reading.{ReadsAs}
-use Rattle.generated_laws.proofs.PlaceSections.{IsTiny, ReadsTiny}
+use Rattle.generated_laws.proofs.PlaceSections.{IsTiny}
 use Rattle.generated_laws.proofs.PlaceLimits.{AreTiny, lawful, tls_some}
 
 -- ** shapes
