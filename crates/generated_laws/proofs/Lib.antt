@@ -1,0 +1,5 @@
+mod KindFits
+mod KindPlain
+mod NameDefinitions
+mod NameFaults
+mod NameSymbols
