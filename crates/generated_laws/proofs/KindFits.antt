@@ -51,7 +51,6 @@ module _ (objects : List (List ℕ)) (shape : ℕ → Shape) (given : ReadAsShap
       none = ne_eqb size 0 (λ e. omega (arith, e, some))
 
   pub few_relocations : relocation_count objects ≤ length objects * 3
-  unfolding relocation_count
   few_relocations =
       sum_by-le own_count 3 objects
       (λ k d there.

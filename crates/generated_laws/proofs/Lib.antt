@@ -1,5 +1,7 @@
 mod KindFits
 mod KindPlain
+mod KindShapes
 mod NameDefinitions
 mod NameFaults
+mod NameSizes
 mod NameSymbols
