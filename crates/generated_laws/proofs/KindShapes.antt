@@ -126,3 +126,15 @@ module_plain = record {
   short_function = omega arith;
   short_variable = omega arith;
 }
+
+pub module_names_apart : module_shape.function ≢ module_shape.variable
+unfolding module_shape
+module_names_apart e = let first : 102 ≡ 118 = ap (λ name. get_or name 0 0) e in omega (arith, first)
+
+pub module_function_named : module_shape.function ≢ get_address
+unfolding module_shape
+module_function_named e = let first : 102 ≡ 95 = ap (λ name. get_or name 0 0) e in omega (arith, first)
+
+pub module_variable_named : module_shape.variable ≢ get_address
+unfolding module_shape
+module_variable_named e = let first : 118 ≡ 95 = ap (λ name. get_or name 0 0) e in omega (arith, first)

@@ -3,5 +3,6 @@ mod KindPlain
 mod KindShapes
 mod NameDefinitions
 mod NameFaults
+mod NameGenerated
 mod NameSizes
 mod NameSymbols
