@@ -33,6 +33,7 @@ pub record IsPlain (s : Shape) : Type 0 where
   pub suits : All (Suits s.calls) (map relocation_of s.relocations)
   pub welcome : All IsWelcome (map relocation_of s.relocations)
   pub few : length s.relocations ≤ 3
+  pub some_initial : 0 < length s.initial
   pub short_function : length s.function ≤ 5
   pub short_variable : length s.variable ≤ 5
 

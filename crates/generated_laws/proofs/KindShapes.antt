@@ -6,9 +6,10 @@ use Rattle.std.specs.List.{All}
 use Rattle.std.proofs.lemmas.Fmt.{decimal_injective, length-decimal-le}
 use Rattle.std.proofs.lemmas.List.{append_cancel_left, length-append}
 use Rattle.elf_object.specs.declared.relocation.Relocation.{Relocation}
+use Rattle.elf_records.specs.Laws.{length-bytes_of}
 use Rattle.tls_symbols.specs.Bindings.{get_address}
 use Rattle.dynamic_symbols.proofs.Lists.{all_cons, all_nil}
-use Rattle.generated_job.specs.Generated.{function_name, general_shape, initial_executable_shape, local_shape, module_shape, shape_of, variable_name}
+use Rattle.generated_job.specs.Generated.{function_name, general_shape, initial_executable_shape, local_shape, module_shape, shape_of, value_of, variable_name}
 use Rattle.generated_job.specs.Shapes.{Shape}
 use Rattle.generated_laws.specs.Reading.{relocation_of}
 use Rattle.generated_laws.proofs.KindPlain.{IsPlain, IsWelcome, Suits}
@@ -63,6 +64,7 @@ general_plain n i few = record {
   welcome = all_two IsWelcome _ _ (record { no_local_exec = λ image. refl; no_narrow = λ image. refl })
       (record { no_local_exec = λ image. refl; no_narrow = λ image. refl });
   few = omega arith;
+  some_initial = omega (arith, length-bytes_of 4 (value_of n i));
   short_function = function_short i few;
   short_variable = variable_short i few;
 }
@@ -72,6 +74,7 @@ initial_executable_plain n i few = record {
   suits = all_one (Suits false) _ (inl (refl, refl));
   welcome = all_one IsWelcome _ (record { no_local_exec = λ image. refl; no_narrow = λ image. refl });
   few = omega arith;
+  some_initial = omega (arith, length-bytes_of 4 (value_of n i));
   short_function = function_short i few;
   short_variable = variable_short i few;
 }
@@ -83,6 +86,7 @@ local_plain n i few = record {
       (record { no_local_exec = λ image. refl; no_narrow = λ image. refl })
       (record { no_local_exec = λ image. refl; no_narrow = λ image. refl });
   few = omega arith;
+  some_initial = omega (arith, length-bytes_of 4 (value_of n i));
   short_function = function_short i few;
   short_variable = variable_short i few;
 }
@@ -123,6 +127,7 @@ module_plain = record {
   welcome = all_two IsWelcome _ _ (record { no_local_exec = λ image. refl; no_narrow = λ image. refl })
       (record { no_local_exec = λ image. refl; no_narrow = λ image. refl });
   few = omega arith;
+  some_initial = omega arith;
   short_function = omega arith;
   short_variable = omega arith;
 }

@@ -1,8 +1,10 @@
 mod KindFits
 mod KindPlain
 mod KindShapes
+mod KindStorage
 mod NameDefinitions
 mod NameFaults
 mod NameGenerated
+mod NameLinked
 mod NameSizes
 mod NameSymbols

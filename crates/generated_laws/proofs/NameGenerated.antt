@@ -7,6 +7,8 @@ use Rattle.link_refusals.specs.Counts.{relocation_count}
 use Rattle.link_refusals.specs.Faults.{FitsKind, FitsStorage}
 use Rattle.sequence_forms.specs.declared.places.Site.{Site}
 use Rattle.sequence_match.specs.Faults.{AreSites}
+use Rattle.tls_layout.specs.Places.{tls_size}
+use Rattle.tls_layout.specs.Sections.{all_sections}
 use Rattle.tls_symbols.specs.Bindings.{get_address, object_at}
 use Rattle.tls_symbols.specs.Faults.{AreResolved}
 use Rattle.dynamic_symbols.specs.Names.{defined_symbols, imports, name_size}
@@ -17,6 +19,7 @@ use Rattle.generated_laws.specs.Reading.{ReadsAs}
 use Rattle.generated_laws.proofs.KindFits.{few_relocations, fits_kind, fits_storage}
 use Rattle.generated_laws.proofs.KindPlain.{ReadAsShapes}
 use Rattle.generated_laws.proofs.KindShapes.{function_named, function_of_shape, functions_apart, kinds_apart, module_function_named, module_names_apart, module_plain, module_variable_named, shape_plain, variable_named, variable_of_shape, variables_apart}
+use Rattle.generated_laws.proofs.KindStorage.{has_storage}
 use Rattle.generated_laws.proofs.NameDefinitions.{AreApart}
 use Rattle.generated_laws.proofs.NameFaults.{resolved}
 use Rattle.generated_laws.proofs.NameSizes.{names_fit, no_imports}
@@ -84,6 +87,9 @@ module _ (n : ℕ) (few : n ≤ 1000) (reads : ProgramReads n) where
       → FitsStorage (program_objects n) startup image size
   program_fits_storage startup image size some = fits_storage (program_objects n) shape given startup image size some
 
+  pub program_has_storage : 1 ≤ n → 0 < tls_size (all_sections (program_objects n))
+  program_has_storage some = has_storage (program_objects n) shape given (omega (arith, program_count, some))
+
   pub program_few : relocation_count (program_objects n) ≤ 2 ^ 19
   program_few = omega (arith, few_relocations (program_objects n) shape given, program_count, few)
 
@@ -129,6 +135,9 @@ module _ (reads : ModuleReads) where
   pub module_fits_storage : (startup : List (List (List ℕ))) (image : ImageKind) (size : ℕ) → 0 < size
       → FitsStorage module_objects startup image size
   module_fits_storage startup image size some = fits_storage module_objects (λ o. module_shape) module_given startup image size some
+
+  pub module_has_storage : 0 < tls_size (all_sections module_objects)
+  module_has_storage = has_storage module_objects (λ o. module_shape) module_given (omega arith)
 
   pub module_few : relocation_count module_objects ≤ 2 ^ 19
   module_few = let few = few_relocations module_objects (λ o. module_shape) module_given in omega (arith, few)
