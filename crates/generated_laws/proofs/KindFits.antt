@@ -1,5 +1,5 @@
 -- What the kind of an image and its storage ask of objects that read as plain shapes, and how many relocations these have.
-use Rattle.std.proofs.Common.{◌≡◌, ◌≢◌, ◌+◌, ◌-◌, ◌*◌, ◌<◌, ◌≤◌, ◌∙◌, ℕ, List, [], map, length, false, refl, subst, sym, ap, arith}
+use Rattle.std.proofs.Common.{◌≡◌, ◌≢◌, ◌-◌, ◌*◌, ◌<◌, ◌≤◌, ◌∙◌, ℕ, List, [], length, false, refl, subst, sym, ap, arith}
 use Rattle.std.specs.Prelude.{◌==◌, slice_index_or, sum_by}
 use Rattle.std.specs.List.{range_with_len}
 use Rattle.std.proofs.lemmas.Bool.{ne_eqb}
@@ -13,13 +13,12 @@ use Rattle.link_refusals.specs.Faults.{FitsKind, FitsStorage, by_storage, by_typ
 use Rattle.tls_symbols.specs.Bindings.{object_at}
 use Rattle.generated_job.specs.Shapes.{Shape}
 use Rattle.generated_laws.specs.Reading.{ReadsAs, relocation_of}
-use Rattle.generated_laws.proofs.KindPlain.{IsWelcome, ReadAsShapes, none_unwelcome}
+use Rattle.generated_laws.proofs.KindPlain.{ReadAsShapes, none_unwelcome}
 
 sum_of_first : (f : ℕ → ℕ) → f 2 ≡ 0 → f 3 ≡ 0 → f 4 ≡ 0 → f 5 ≡ 0 → f 6 ≡ 0 → f 7 ≡ 0 → sum_by f (range_with_len 1 7) ≡ f 1
 sum_of_first f second third fourth fifth sixth seventh = rw (second, third, fourth, fifth, sixth, seventh) (omega arith)
 
 module _ (b : List ℕ) (s : Shape) (reads : ReadsAs b s) where
-
   none_at : (t : ℕ) → t ≢ 1 → length (relocations b t) ≡ 0
   none_at t other = ap length (reads.no_other t other)
 

@@ -1,9 +1,8 @@
 -- Shapes whose relocations name the variable, or the run time's function where they call it, and what a test of
 -- relocations tells of objects that read as such shapes.
-use Rattle.std.proofs.Common.{◌≡◌, ◌≢◌, ◌+◌, ◌<◌, ◌≤◌, ◌⊎◌, ◌∙◌, ℕ, zero, suc, Bool, true, false, List, [], ◌∷◌, map, length, inl, inr, refl, sym, ap, subst, arith}
+use Rattle.std.proofs.Common.{◌≡◌, ◌≢◌, ◌<◌, ◌≤◌, ◌⊎◌, ◌∙◌, ℕ, zero, suc, Bool, true, false, List, [], ◌∷◌, map, length, inl, inr, refl, sym, ap, subst}
 use Rattle.std.specs.List.{All}
 use Rattle.std.proofs.lemmas.Bool.{cases_eq}
-use Rattle.elf_object.specs.Lent.{relocations, relocation_target}
 use Rattle.elf_object.specs.declared.relocation.Relocation.{Relocation}
 use Rattle.object_faults.specs.Firsts.{nonzero}
 use Rattle.link_faults.specs.declared.image_kind.ImageKind.{ImageKind}
@@ -12,7 +11,7 @@ use Rattle.link_refusals.specs.Places.{NoneCharged, Test}
 use Rattle.link_refusals.specs.Refused.{is_refused}
 use Rattle.link_refusals.proofs.Positions.{PassesAt, impossible}
 use Rattle.tls_symbols.specs.Bindings.{object_at}
-use Rattle.tls_symbols.specs.Faults.{held_for, held_in, is_tls_kind, names_symbol}
+use Rattle.tls_symbols.specs.Faults.{held_for, held_in, is_tls_kind}
 use Rattle.tls_symbols.proofs.Search.{first_all, rest_all}
 use Rattle.generated_job.specs.Shapes.{Shape}
 use Rattle.generated_laws.specs.Reading.{ReadsAs, relocation_of}
@@ -29,6 +28,7 @@ pub record IsWelcome (r : Relocation) : Type 0 where
   pub no_local_exec : (image : ImageKind) → is_refused LocalExecInModule image r.kind ≡ false
   pub no_narrow : (image : ImageKind) → is_refused NarrowInModule image r.kind ≡ false
 
+-- few relocations, each of which suits the shape and is welcome, a variable of some bytes, and short names
 pub record IsPlain (s : Shape) : Type 0 where
   pub suits : All (Suits s.calls) (map relocation_of s.relocations)
   pub welcome : All IsWelcome (map relocation_of s.relocations)
@@ -73,7 +73,7 @@ pub record ReadAsShapes (objects : List (List ℕ)) (shape : ℕ → Shape) : Ty
   pub plain : (o : ℕ) → o < length objects → IsPlain (shape o)
 
 module _ (objects : List (List ℕ)) (shape : ℕ → Shape) (given : ReadAsShapes objects shape) where
-  -- none is charged where all that suit and are welcome fail the test
+  -- none is charged where what suits a shape fails the test
   pub none_charged : (test : Test)
       → ((o : ℕ) → o < length objects → (r : Relocation) → Suits (shape o).calls r → test o r ≡ false) → NoneCharged test objects
   none_charged test fails = record {
@@ -82,6 +82,7 @@ module _ (objects : List (List ℕ)) (shape : ℕ → Shape) (given : ReadAsShap
         (fails o here.0) s e here.3;
   }
 
+  -- nor where what is welcome does
   pub none_unwelcome : (test : Test) → ((o : ℕ) (r : Relocation) → IsWelcome r → test o r ≡ false) → NoneCharged test objects
   none_unwelcome test fails = record {
     nowhere = λ o s e here.

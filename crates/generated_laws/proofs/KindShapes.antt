@@ -1,17 +1,15 @@
 -- The shapes that `gen N` makes are plain, and their names are apart.
-use Rattle.std.proofs.Common.{◌≡◌, ◌≢◌, ◌+◌, ◌%◌, ◌<◌, ◌≤◌, ◌∙◌, ℕ, Bool, true, false, List, [], ◌∷◌, ◌++◌, length, inl, inr, refl, sym, ap, arith}
+use Rattle.std.proofs.Common.{◌≡◌, ◌≢◌, ◌%◌, ◌≤◌, ℕ, Bool, true, false, [], ◌∷◌, length, inl, inr, refl, ap, arith}
 use Rattle.std.specs.Prelude.{◌==◌, codes, get_or, if◌then◌else◌}
 use Rattle.std.specs.Fmt.{decimal}
 use Rattle.std.specs.List.{All}
 use Rattle.std.proofs.lemmas.Fmt.{decimal_injective, length-decimal-le}
-use Rattle.std.proofs.lemmas.List.{append_cancel_left, length-append}
+use Rattle.std.proofs.lemmas.List.{append_cancel_left}
 use Rattle.elf_object.specs.declared.relocation.Relocation.{Relocation}
 use Rattle.elf_records.specs.Laws.{length-bytes_of}
 use Rattle.tls_symbols.specs.Bindings.{get_address}
 use Rattle.dynamic_symbols.proofs.Lists.{all_cons, all_nil}
 use Rattle.generated_job.specs.Generated.{function_name, general_shape, initial_executable_shape, local_shape, module_shape, shape_of, value_of, variable_name}
-use Rattle.generated_job.specs.Shapes.{Shape}
-use Rattle.generated_laws.specs.Reading.{relocation_of}
 use Rattle.generated_laws.proofs.KindPlain.{IsPlain, IsWelcome, Suits}
 
 all_one : (P : Relocation → Type 0) (x : Relocation) → P x → All P (x ∷ [])

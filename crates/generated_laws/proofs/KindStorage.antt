@@ -1,6 +1,5 @@
 -- An image of objects that read as plain shapes has storage.
-use Rattle.std.proofs.Common.{◌≡◌, ◌+◌, ◌<◌, ◌≤◌, ◌∙◌, ℕ, zero, suc, Bool, true, false, List, [], ◌∷◌, ◌++◌, map, Some, length, refl, sym, subst, ap, arith}
-use Rattle.std.specs.Prelude.{if◌then◌else◌}
+use Rattle.std.proofs.Common.{◌≡◌, ◌<◌, ◌≤◌, ◌∙◌, ℕ, zero, suc, true, List, [], ◌∷◌, map, Some, length, refl, ap, arith}
 use Rattle.std.specs.List.{range_with_len}
 use Rattle.std.proofs.lemmas.List.{get_or_append_left, length-append}
 use Rattle.std.proofs.lemmas.List.FromFn.{get_or-map-range_with_len}
@@ -8,14 +7,13 @@ use Rattle.object_faults.specs.declared.class.SectionClass.{SectionClass}
 use Rattle.object_faults.specs.declared.class.SectionClass.TheVariants.{Tls}
 use Rattle.tls_layout.specs.declared.sections.Section.{Section}
 use Rattle.tls_layout.specs.Places.{end_of, next_end, tls_size}
-use Rattle.tls_layout.specs.Rounding.{round_up}
 use Rattle.tls_layout.specs.Sections.{all_sections, dropped, is_in, section_at, section_of, sections_of}
 use Rattle.tls_layout.proofs.Ends.{end_of-rises}
 use Rattle.tls_layout.proofs.Listed.{length-sections_of}
 use Rattle.tls_layout.proofs.Together.{tls_beyond_initial}
 use Rattle.generated_job.specs.Shapes.{Shape}
 use Rattle.generated_laws.specs.Reading.{ReadsAs}
-use Rattle.generated_laws.proofs.KindPlain.{IsPlain, ReadAsShapes}
+use Rattle.generated_laws.proofs.KindPlain.{ReadAsShapes}
 
 next_has : (class : SectionClass) (end : ℕ) (section : Section) → is_in class section ≡ true → section.size ≤ next_end class end section
 next_has class end section is = rw is (omega arith)

@@ -1,21 +1,19 @@
 -- What names are bound to, where each object reads as a shape and no two names are the same.
-use Rattle.std.proofs.Common.{◌≡◌, ◌≢◌, ◌+◌, ◌<◌, ◌≤◌, ◌∙◌, ℕ, zero, suc, Bool, true, false, List, [], ◌∷◌, Some, None, ◌&&◌, length, inl, inr, nat_eq, refl, sym, ap, arith}
+use Rattle.std.proofs.Common.{◌≡◌, ◌≢◌, ◌+◌, ◌<◌, ◌∙◌, ℕ, zero, suc, true, false, List, [], ◌∷◌, Some, None, length, refl, sym, ap, arith}
 use Rattle.std.specs.Prelude.{slice_index_or}
 use Rattle.std.specs.Str.{bytes_eq}
-use Rattle.std.proofs.lemmas.Bool.{and_right, eq-eqb, false_from_ne_true}
+use Rattle.std.proofs.lemmas.Bool.{false_from_ne_true}
 use Rattle.std.proofs.lemmas.Slice.Eq.{bytes_eq-Decides}
 use Rattle.elf_object.specs.declared.relocation.Relocation.{Relocation}
 use Rattle.elf_object.specs.declared.symbol.SymbolBinding.{SymbolBinding}
-use Rattle.elf_object.specs.declared.symbol.SymbolBinding.TheVariants.{Global, Weak}
-use Rattle.elf_object.specs.Lent.{section_class, symbol_place}
+use Rattle.elf_object.specs.declared.symbol.SymbolBinding.TheVariants.{Global}
 use Rattle.link_faults.specs.declared.binding.Binding.TheVariants.{Here, Runtime}
 use Rattle.tls_symbols.specs.Bindings.{binding_of, get_address, is_tls_symbol, object_at}
 use Rattle.tls_symbols.specs.Definitions.{definition_of, first_from, first_in}
 use Rattle.tls_symbols.proofs.Numbered.{same_name}
 use Rattle.generated_job.specs.Shapes.{Shape}
-use Rattle.generated_laws.specs.Reading.{ReadsAs}
-use Rattle.generated_laws.proofs.KindPlain.{ReadAsShapes, Suits}
-use Rattle.generated_laws.proofs.NameSymbols.{HasGetter, HasSymbols, defined_by, strong_in, symbols_are}
+use Rattle.generated_laws.proofs.KindPlain.{ReadAsShapes}
+use Rattle.generated_laws.proofs.NameSymbols.{HasSymbols, defined_by, strong_in, symbols_are}
 
 -- no two names are the same
 pub record AreApart (objects : List (List ℕ)) (shape : ℕ → Shape) : Type 0 where
@@ -28,7 +26,7 @@ pub record AreApart (objects : List (List ℕ)) (shape : ℕ → Shape) : Type 0
 pub differs : (x y : List ℕ) → x ≢ y → bytes_eq x y ≡ false
 differs x y other = false_from_ne_true (bytes_eq x y) (λ e. other ((bytes_eq-Decides x y).0 e))
 
--- what object k of these has first, and no earlier one, the name is found there
+-- a name is found where the first of these objects has it
 first_from_at : (binding : SymbolBinding) (name : List ℕ) (more : List (List ℕ)) (o k e : ℕ) → k < length more
     → first_in binding name (slice_index_or more k []) ≡ Some e
     → ((j : ℕ) → j < k → first_in binding name (slice_index_or more j []) ≡ None)

@@ -1,13 +1,11 @@
 -- Names of objects that read as plain shapes have no fault, where no two are the same.
-use Rattle.std.proofs.Common.{◌≡◌, ◌≢◌, ◌+◌, ◌<◌, ◌≤◌, ◌∙◌, ◌||◌, ℕ, zero, suc, Bool, true, false, List, [], ◌∷◌, ◌&&◌, length, inl, inr, nat_eq, refl, sym, arith}
+use Rattle.std.proofs.Common.{◌≡◌, ◌<◌, ◌∙◌, ℕ, zero, suc, Bool, true, false, List, length, inl, inr, nat_eq, refl, sym, arith}
 use Rattle.std.proofs.lemmas.Bool.{and_right, eq-eqb}
 use Rattle.elf_object.specs.declared.relocation.Relocation.{Relocation}
-use Rattle.elf_object.specs.Lent.{symbol_binding, symbol_name, symbol_place}
 use Rattle.elf_object.specs.Parts.{symbol_count}
 use Rattle.link_faults.specs.declared.fault.LinkFaultKind.TheVariants.{Undefined, Duplicate, NotTls}
 use Rattle.link_refusals.proofs.Positions.{impossible}
-use Rattle.tls_symbols.specs.Bindings.{binding_of, get_address, is_symbol, object_at}
-use Rattle.tls_symbols.specs.Definitions.{definition_of}
+use Rattle.tls_symbols.specs.Bindings.{binding_of, get_address, object_at}
 use Rattle.tls_symbols.specs.Faults.{AreResolved, Stands, is_duplicate, is_faulty, is_mismatched, names_symbol}
 use Rattle.generated_job.specs.Shapes.{Shape}
 use Rattle.generated_laws.proofs.KindPlain.{ReadAsShapes, Suits, none_charged}

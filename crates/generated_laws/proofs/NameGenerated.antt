@@ -1,5 +1,5 @@
 -- Generated objects: their names are resolved, no kind of image refuses their relocations, and these and the names are few.
-use Rattle.std.proofs.Common.{◌≡◌, ◌+◌, ◌*◌, ◌^◌, ◌<◌, ◌≤◌, ◌∙◌, ℕ, zero, suc, List, [], ◌∷◌, length, refl, sym, subst, arith}
+use Rattle.std.proofs.Common.{◌≡◌, ◌+◌, ◌^◌, ◌<◌, ◌≤◌, ◌∙◌, ℕ, zero, suc, List, [], ◌∷◌, length, refl, sym, subst, arith}
 use Rattle.std.specs.Prelude.{slice_index_or}
 use Rattle.std.proofs.lemmas.List.FromFn.{get_or-map-range_with_len, length-map-range_with_len}
 use Rattle.link_faults.specs.declared.image_kind.ImageKind.{ImageKind}
@@ -9,7 +9,7 @@ use Rattle.sequence_forms.specs.declared.places.Site.{Site}
 use Rattle.sequence_match.specs.Faults.{AreSites}
 use Rattle.tls_layout.specs.Places.{tls_size}
 use Rattle.tls_layout.specs.Sections.{all_sections}
-use Rattle.tls_symbols.specs.Bindings.{get_address, object_at}
+use Rattle.tls_symbols.specs.Bindings.{object_at}
 use Rattle.tls_symbols.specs.Faults.{AreResolved}
 use Rattle.dynamic_symbols.specs.Names.{defined_symbols, imports, name_size}
 use Rattle.generated_job.specs.Generated.{module_shape, shape_of}
@@ -63,13 +63,13 @@ module _ (n : ℕ) (few : n ≤ 1000) (reads : ProgramReads n) where
   apart = record {
     functions = λ o p there here e.
         (let same : 1 + o ≡ 1 + p =
-            functions_apart (1 + o) (1 + p) (omega (arith, there, program_count, few)) (omega (arith, here, program_count, few))
-            (sym (function_of_shape n (1 + o)) ∙ e ∙ function_of_shape n (1 + p)) in
+        functions_apart (1 + o) (1 + p) (omega (arith, there, program_count, few)) (omega (arith, here, program_count, few))
+        (sym (function_of_shape n (1 + o)) ∙ e ∙ function_of_shape n (1 + p)) in
         omega (arith, same));
     variables = λ o p there here e.
         (let same : 1 + o ≡ 1 + p =
-            variables_apart (1 + o) (1 + p) (omega (arith, there, program_count, few)) (omega (arith, here, program_count, few))
-            (sym (variable_of_shape n (1 + o)) ∙ e ∙ variable_of_shape n (1 + p)) in
+        variables_apart (1 + o) (1 + p) (omega (arith, there, program_count, few)) (omega (arith, here, program_count, few))
+        (sym (variable_of_shape n (1 + o)) ∙ e ∙ variable_of_shape n (1 + p)) in
         omega (arith, same));
     mixed = λ o p there here e.
         kinds_apart (1 + o) (1 + p) (sym (function_of_shape n (1 + o)) ∙ e ∙ variable_of_shape n (1 + p));

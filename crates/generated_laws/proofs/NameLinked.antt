@@ -1,5 +1,5 @@
 -- What generated objects meet of what is asked before an image is laid out.
-use Rattle.std.proofs.Common.{◌≡◌, ◌^◌, ◌<◌, ◌≤◌, ◌∙◌, ℕ, List, length, sym, subst, ap, arith}
+use Rattle.std.proofs.Common.{◌≡◌, ◌^◌, ◌≤◌, ◌∙◌, ℕ, length, sym, subst, ap}
 use Rattle.link_refusals.specs.Counts.{relocation_count}
 use Rattle.link_refusals.specs.Faults.{FitsKind, FitsStorage}
 use Rattle.link_core.specs.Dynamic.{imports, own_symbols}

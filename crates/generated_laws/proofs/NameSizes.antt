@@ -1,5 +1,5 @@
 -- How much room the names of objects take that read as plain shapes.
-use Rattle.std.proofs.Common.{◌≡◌, ◌≢◌, ◌+◌, ◌-◌, ◌*◌, ◌<◌, ◌≤◌, ◌∙◌, ℕ, zero, suc, Bool, true, false, cond, List, [], ◌∷◌, ◌++◌, map, not, Option, Some, None, filter, length, inl, inr, refl, sym, subst, ap, arith}
+use Rattle.std.proofs.Common.{◌≡◌, ◌+◌, ◌-◌, ◌*◌, ◌<◌, ◌≤◌, ◌∙◌, ℕ, zero, suc, Bool, true, false, cond, List, [], ◌∷◌, map, not, Some, filter, length, inl, inr, refl, sym, subst, ap, arith}
 use Rattle.std.specs.Prelude.{slice_get, slice_index_or, sum_by}
 use Rattle.std.specs.List.{All, flat_map, range_with_len}
 use Rattle.std.specs.Str.{bytes_eq}
@@ -12,7 +12,6 @@ use Rattle.elf_object.specs.Parts.{symbol_count}
 use Rattle.sequence_forms.specs.declared.places.Site.{Site}
 use Rattle.sequence_match.specs.Faults.{AreSites, IsSite}
 use Rattle.sequence_match.specs.Sites.{IsEntry, first_of}
-use Rattle.link_faults.specs.declared.symbol_ref.SymbolRef.{SymbolRef}
 use Rattle.tls_symbols.specs.Bindings.{binding_of, object_at}
 use Rattle.tls_symbols.proofs.Search.{first_all, rest_all}
 use Rattle.dynamic_symbols.specs.Names.{defined_at, defined_in, defined_names, defined_symbols, distinct, imported_at, imported_from, imported_in, imports, is_startup, name_of, name_size, size_of}
@@ -74,8 +73,13 @@ sum_of_filter f p (x ∷ xs) = by (p x) (sum_of_filter f p xs)
 sum_of_distinct : (f : List ℕ → ℕ) (names : List (List ℕ)) → sum_by f (distinct names) ≤ sum_by f names
 sum_of_distinct f [] = omega arith
 sum_of_distinct f (x ∷ xs) =
-    omega (arith, sum_of_distinct f xs, sum_of_filter f (λ other. not (bytes_eq x other)) (distinct xs),
-    sum_by-cons f x (filter (λ other. not (bytes_eq x other)) (distinct xs)), sum_by-cons f x xs)
+    omega (
+      arith,
+      sum_of_distinct f xs,
+      sum_of_filter f (λ other. not (bytes_eq x other)) (distinct xs),
+      sum_by-cons f x (filter (λ other. not (bytes_eq x other)) (distinct xs)),
+      sum_by-cons f x xs,
+    )
 
 sum_of_flat : {X Y : Type 0} (f : Y → ℕ) (g : X → List Y) (m : ℕ) (xs : List X) → All (λ x. sum_by f (g x) ≤ m) xs
     → sum_by f (flat_map g xs) ≤ length xs * m
@@ -163,10 +167,10 @@ module _ (objects : List (List ℕ)) (shape : ℕ → Shape) (given : ReadAsShap
   unfolding defined_names
   defined_size =
       let named : sum_by (λ found. size_of (name_of objects found)) (defined_symbols objects) ≡ sum_by size_of (defined_names objects) =
-          sum_of_map size_of (name_of objects) (defined_symbols objects) ∙ ap (sum_by size_of) (symbols_named objects) in
+      sum_of_map size_of (name_of objects) (defined_symbols objects) ∙ ap (sum_by size_of) (symbols_named objects) in
       let once = sum_of_distinct size_of (flat_map defined_in objects) in
       let each = sum_of_flat size_of defined_in 60 objects
-          (λ k d there. subst (λ b. sum_by size_of (defined_in b) ≤ 60) (get_or_default objects k [] d there) (own_size k there)) in
+      (λ k d there. subst (λ b. sum_by size_of (defined_in b) ≤ 60) (get_or_default objects k [] d there) (own_size k there)) in
       omega (arith, named, once, each)
 
   -- all that are defined and imported

@@ -1,5 +1,5 @@
 -- What an object that reads as a shape defines.
-use Rattle.std.proofs.Common.{◌≡◌, ◌≢◌, ◌+◌, ◌-◌, ◌<◌, ◌≤◌, ◌∙◌, ℕ, zero, suc, Bool, true, false, List, [], ◌∷◌, Option, Some, None, ◌&&◌, length, refl, sym, ap, subst, arith}
+use Rattle.std.proofs.Common.{◌≡◌, ◌-◌, ◌<◌, ◌∙◌, ℕ, Bool, true, false, List, Option, Some, None, length, refl, ap, arith}
 use Rattle.std.specs.Prelude.{if◌then◌else◌}
 use Rattle.std.specs.List.{find, range_with_len}
 use Rattle.std.specs.Str.{bytes_eq}
@@ -11,7 +11,7 @@ use Rattle.elf_object.specs.Parts.{symbol_count}
 use Rattle.tls_symbols.specs.Bindings.{get_address}
 use Rattle.tls_symbols.specs.Definitions.{defines, first_in}
 use Rattle.generated_job.specs.Shapes.{Shape}
-use Rattle.generated_laws.specs.Reading.{ReadsAs, known_at, known_of}
+use Rattle.generated_laws.specs.Reading.{ReadsAs, known_of}
 
 -- the run time's function, where it is called
 pub record HasGetter (b : List ℕ) : Type 0 where
