@@ -1,3 +1,13 @@
+mod KindFits
+mod KindPlain
+mod KindShapes
+mod KindStorage
+mod NameDefinitions
+mod NameFaults
+mod NameGenerated
+mod NameLinked
+mod NameSizes
+mod NameSymbols
 mod TextJob
 mod TextLines
 mod TextNames
