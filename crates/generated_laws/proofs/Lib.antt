@@ -1,0 +1,2 @@
+mod ObjectLaid
+mod ObjectRows
