@@ -1,2 +1,4 @@
 mod ObjectLaid
+mod ObjectReads
 mod ObjectRows
+mod ObjectSections

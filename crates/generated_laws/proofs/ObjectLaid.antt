@@ -1,20 +1,19 @@
 -- What stands where in an object's bytes.
-use Rattle.std.proofs.Common.{◌≡◌, ◌+◌, ◌*◌, ◌<◌, ◌≤◌, ◌==◌, ℕ, Bool, true, false, List, [], ◌∷◌, ◌++◌, length}
-use Rattle.std.proofs.Common.{slice_index_or, slice_range, refl, sym, ap, ◌∙◌, arith, rules, length-append, if◌then◌else◌}
+use Rattle.std.proofs.Common.{◌≡◌, ◌+◌, ◌*◌, ◌<◌, ◌≤◌, ℕ, Bool, true, false, List, [], ◌∷◌, ◌++◌, length}
+use Rattle.std.proofs.Common.{slice_index_or, slice_range, refl, sym, ap, ◌∙◌, arith, rules, length-append}
 use Rattle.std.proofs.lemmas.Bool.Decides.{nat_tests}
 use Rattle.std.proofs.lemmas.List.Elements.{All-from_recursion}
 use Rattle.std.specs.List.{All, AllByRecursion as ByRecursion, flat_map}
-use Rattle.elf_records.specs.declared.file_header.Header.{Header}
 use Rattle.elf_records.specs.declared.relocation.Rela.{Rela}
 use Rattle.elf_records.specs.declared.section_header.SectionHeader.{SectionHeader}
 use Rattle.elf_records.specs.declared.symbol.SymbolEntry.{SymbolEntry}
-use Rattle.elf_records.specs.Records.{FitsHeader, FitsSectionHeader, FitsSymbolEntry, FitsRela, header_at, section_at}
+use Rattle.elf_records.specs.Records.{FitsHeader, FitsSectionHeader, FitsSymbolEntry, FitsRela, section_at}
 use Rattle.elf_records.specs.Records.{symbol_at, rela_at, header_bytes, section_bytes, symbol_bytes, rela_bytes}
 use Rattle.elf_records.specs.RecordLaws.{header_again, section_again, symbol_again, rela_again, length-header_bytes}
 use Rattle.elf_records.specs.RecordLaws.{length-section_bytes, length-symbol_bytes, length-rela_bytes}
 use Rattle.object_faults.specs.Parts.{header, section}
 use Rattle.generated_job.specs.Shapes.{Shape, object_bytes, contents_of, file_header, sections_of, section_of}
-use Rattle.generated_job.specs.Shapes.{symbols_of, getter_symbols, names_of, getter_name, section_names, symbols_at}
+use Rattle.generated_job.specs.Shapes.{symbols_of, names_of, getter_name, section_names, symbols_at}
 use Rattle.generated_job.specs.Shapes.{names_at, section_names_at, relocations_at, zeros_alignment}
 use Rattle.generated_laws.specs.Reading.{IsSmall}
 use Rattle.generated_laws.proofs.ObjectRows.{IsRecord, IsBehind, behind, part_behind, row_behind, length_rows}

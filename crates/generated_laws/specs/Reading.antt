@@ -1,5 +1,5 @@
 -- What an object's bytes say, where they are those of a shape: its sections, symbols and relocations.
-use Rattle.std.specs.Prelude.{◌≡◌, ◌≢◌, ◌+◌, ◌<◌, ◌%◌, ◌/◌, ◌^◌, ℕ, Bool, true, false, List, [], ◌∷◌, ◌++◌, codes, length, map}
+use Rattle.std.specs.Prelude.{◌≡◌, ◌≢◌, ◌<◌, ℕ, Bool, true, false, List, [], ◌∷◌, codes, length, map}
 use Rattle.std.specs.Prelude.{Some, None, slice_index_or, if◌then◌else◌, unwrap_or}
 use Rattle.std.specs.List.{All}
 use Rattle.elf_records.specs.Records.{FitsRela, rela_symbol, rela_kind}
