@@ -1,4 +1,6 @@
+mod ObjectEach
 mod ObjectLaid
 mod ObjectReads
 mod ObjectRows
 mod ObjectSections
+mod ObjectSound

@@ -90,7 +90,7 @@ symbol_read b s laid e below =
     rw (sections.symbol_table_is b s laid, laid.sections_are 5 (omega arith))
     (laid.symbols_are e (symbol_of 0 0 0 0) below)
 
-same_count : (s : Shape) → length (symbols_of s) ≡ length (known_of s)
+pub same_count : (s : Shape) → length (symbols_of s) ≡ length (known_of s)
 unfolding symbols_of known_of
 same_count s = same_of s.calls
   where
