@@ -1,5 +1,6 @@
 mod ObjectEach
 mod ObjectLaid
+mod ObjectNames
 mod ObjectReads
 mod ObjectRows
 mod ObjectSections
