@@ -175,7 +175,7 @@ first_is b s laid t same = ap (λ n. (section b n).info) same ∙ ap (λ h. h.in
 
 -- ** symbols
 
-code_kept : (b : List ℕ) (s : Shape) → IsLaid b s → kept_class (section b 1) ≡ Some Executable
+pub code_kept : (b : List ℕ) (s : Shape) → IsLaid b s → kept_class (section b 1) ≡ Some Executable
 unfolding sections_of kept_class class_of
 code_kept b s laid = rw (laid.sections_are 1 (omega arith)) refl
 
