@@ -5,4 +5,5 @@ mod ObjectReads
 mod ObjectRelocs
 mod ObjectRows
 mod ObjectSections
+mod ObjectSites
 mod ObjectSound
