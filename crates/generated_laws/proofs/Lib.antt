@@ -5,5 +5,6 @@ mod ObjectReads
 mod ObjectRelocs
 mod ObjectRows
 mod ObjectSections
+mod ObjectShapes
 mod ObjectSites
 mod ObjectSound
