@@ -1,3 +1,4 @@
+mod ObjectCases
 mod ObjectEach
 mod ObjectLaid
 mod ObjectNames

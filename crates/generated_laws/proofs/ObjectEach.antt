@@ -1,14 +1,13 @@
 -- What holds of the sections, the symbols and the relocations of a shape holds of all that an object of it has.
-use Rattle.std.proofs.Common.{◌≡◌, ◌≢◌, ◌+◌, ◌*◌, ◌/◌, ◌<◌, ◌≤◌, ℕ, zero, suc, Bool, true, false, List, length}
+use Rattle.std.proofs.Common.{◌≡◌, ◌+◌, ◌/◌, ◌<◌, ℕ, zero, suc, Bool, true, false, List, length}
 use Rattle.std.proofs.Common.{slice_index, slice_index_or, slice_range, take, drop, refl, sym, ap, subst, ◌∙◌, arith, ◌-◌}
 use Rattle.std.proofs.lemmas.List.{get_or-take, get_or-drop}
 use Rattle.elf_records.specs.declared.relocation.Rela.{Rela}
 use Rattle.elf_records.specs.declared.section_header.SectionHeader.{SectionHeader}
 use Rattle.elf_records.specs.declared.symbol.SymbolEntry.{SymbolEntry}
-use Rattle.elf_object.specs.Parts.{header, section, symbol, symbol_count, symbol_table, rela, IsSection, IsTable, IsRela}
+use Rattle.elf_object.specs.Parts.{section, symbol, symbol_count, rela, IsSection, IsTable, IsRela}
 use Rattle.object_faults.specs.Relocations.{IsReloc}
-use Rattle.generated_job.specs.Shapes.{Shape, sections_of, symbols_of, symbol_of, getter_name_at, relocations_at}
-use Rattle.generated_laws.specs.Reading.{known_of}
+use Rattle.generated_job.specs.Shapes.{Shape, sections_of, symbols_of, symbol_of, getter_name_at}
 use Rattle.generated_laws.proofs.ObjectLaid.{IsLaid, few_symbols, no_section}
 use Rattle.generated_laws.proofs.ObjectSections as sections
 use Rattle.generated_laws.proofs.ObjectSections.{by_section}

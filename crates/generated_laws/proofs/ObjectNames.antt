@@ -1,10 +1,10 @@
 -- The names of an object's symbols and sections stand in its tables of names, and end there.
-use Rattle.std.proofs.Common.{◌≡◌, ◌≢◌, ◌+◌, ◌<◌, ◌≤◌, ℕ, Bool, true, false, List, [], ◌∷◌, ◌++◌, length, codes}
+use Rattle.std.proofs.Common.{◌≡◌, ◌≢◌, ◌+◌, ◌<◌, ◌≤◌, ℕ, true, List, [], ◌∷◌, ◌++◌, length, codes}
 use Rattle.std.proofs.Common.{slice_index, refl, sym, ap, subst, ◌∙◌, arith, rules, length-append}
 use Rattle.std.proofs.lemmas.List.{get_or-append-add, get_or_append_left, get_or_at}
 use Rattle.std.proofs.lemmas.List.Elements.{All-from_recursion}
 use Rattle.elf_object.specs.Names.{byte_of, Ends}
-use Rattle.elf_object.specs.Parts.{section, symbol_table}
+use Rattle.elf_object.specs.Parts.{section}
 use Rattle.elf_object.specs.Faults.{symbol_strings}
 use Rattle.generated_job.specs.Shapes.{Shape, sections_of, names_of, names_at, section_names, section_names_at}
 use Rattle.generated_job.specs.Shapes.{getter_name, getter_name_at, variable_name_at}

@@ -1,23 +1,21 @@
 -- The relocations of an object have no fault, where those of its shape are in order.
-use Rattle.std.proofs.Common.{◌≡◌, ◌≢◌, ◌+◌, ◌*◌, ◌/◌, ◌%◌, ◌<◌, ◌≤◌, ◌⊎◌, inl, inr, ℕ, List, length, slice_index_or}
-use Rattle.std.proofs.Common.{Option, Some, pos, refl, sym, ap, subst, ◌∙◌, arith}
+use Rattle.std.proofs.Common.{◌≡◌, ◌≢◌, ◌+◌, ◌*◌, ◌%◌, ◌<◌, ◌≤◌, ◌⊎◌, inl, inr, ℕ, List, length, slice_index_or}
+use Rattle.std.proofs.Common.{Some, pos, refl, sym, ap, subst, ◌∙◌, arith}
 use Rattle.std.specs.List.{All, AllPairs}
 use Rattle.elf_records.specs.declared.relocation.Rela.{Rela}
 use Rattle.elf_records.specs.Records.{rela_symbol, rela_kind}
-use Rattle.object_rules.specs.declared.fault.FaultKind.{FaultKind}
 use Rattle.object_rules.specs.declared.fault.FaultKind.TheVariants.{Truncated, NotElf, NotRelocatable, SectionName}
 use Rattle.object_rules.specs.declared.fault.FaultKind.TheVariants.{SectionKind, SectionAlign, TooLarge, SymbolTable}
 use Rattle.object_rules.specs.declared.fault.FaultKind.TheVariants.{SymbolName, SymbolSection, SymbolRange}
 use Rattle.object_rules.specs.declared.fault.FaultKind.TheVariants.{SymbolKind, RelocTarget, RelocSymbol, RelocKind}
 use Rattle.object_rules.specs.declared.fault.FaultKind.TheVariants.{RelocRange, RelocOverlap, Sequence, StrayCall}
 use Rattle.object_rules.specs.declared.fault.FaultKind.TheVariants.{WritableData}
-use Rattle.object_faults.specs.declared.class.SectionClass.{SectionClass}
 use Rattle.object_faults.specs.declared.class.SectionClass.TheVariants.{Executable}
-use Rattle.elf_object.specs.Classes.{kept_class, IsKeptSection}
+use Rattle.elf_object.specs.Classes.{kept_class}
 use Rattle.elf_object.specs.Faults.{Nowhere, Stands, IsObject, IsDropped, IsMistargeted, IsMiskinded, IsSecond}
-use Rattle.elf_object.specs.Faults.{IsUnplaced, Overlaps}
-use Rattle.elf_object.specs.Parts.{section, symbol, symbol_count, rela, IsSection, IsTable}
-use Rattle.object_faults.specs.Relocations.{relocation_kind, width_of, IsReloc, Covers}
+use Rattle.elf_object.specs.Faults.{IsUnplaced}
+use Rattle.elf_object.specs.Parts.{section, symbol, rela, IsSection, IsTable}
+use Rattle.object_faults.specs.Relocations.{relocation_kind, width_of, IsReloc}
 use Rattle.generated_job.specs.Shapes.{Shape, sections_of}
 use Rattle.generated_laws.specs.Reading.{IsSmall, known_of}
 use Rattle.generated_laws.proofs.ObjectLaid.{IsLaid}

@@ -1,21 +1,19 @@
 -- The sequences in an object's code: how a site is shown, and that no relocation is left outside of one.
 use Rattle.std.proofs.Common.{◌≡◌, ◌≢◌, ◌+◌, ◌<◌, ◌≤◌, ◌&&◌, ◌||◌, ◌⊎◌, inl, inr, ℕ, zero, suc, Bool, true, false, List}
-use Rattle.std.proofs.Common.{[], ◌∷◌, length, map, codes, Option, Some, None, not, nat_le, nat_lt, slice_index, slice_index_or}
-use Rattle.std.proofs.Common.{slice_get, IsTrue, refl, sym, ap, subst, ◌∙◌, arith}
+use Rattle.std.proofs.Common.{[], ◌∷◌, length, map, Some, not, nat_le, nat_lt, slice_index, slice_index_or}
+use Rattle.std.proofs.Common.{slice_get, refl, sym, ap, subst, ◌∙◌, arith}
 use Rattle.std.proofs.lemmas.Bool.Decides.{nat_tests}
 use Rattle.std.specs.List.{AllByRecursion as ByRecursion}
-use Rattle.elf_records.specs.declared.relocation.RelocationKind.{RelocationKind}
 use Rattle.elf_object.specs.declared.relocation.Relocation.{Relocation}
 use Rattle.elf_object.specs.declared.symbol.SymbolPlace.TheVariants.{Undefined, InSection}
-use Rattle.elf_object.specs.Lent.{kept_relocation_table, relocations, section_bytes, section_class}
+use Rattle.elf_object.specs.Lent.{kept_relocation_table, relocations, section_bytes}
 use Rattle.elf_object.specs.Relocations.{field_width}
-use Rattle.object_faults.specs.declared.class.SectionClass.TheVariants.{Executable}
 use Rattle.object_rules.specs.declared.fault.FaultKind.{FaultKind}
 use Rattle.sequence_forms.specs.declared.forms.Cell.{Cell}
 use Rattle.sequence_forms.specs.declared.forms.Cell.TheVariants.{Is, Rex, ModRm, Field}
 use Rattle.sequence_forms.specs.declared.places.Site.{Site}
 use Rattle.sequence_forms.specs.Forms.{fits, row}
-use Rattle.sequence_match.specs.Sites.{Covers, IsBare, IsEntry, IsLiteral, IsSecond, IsSiteOf, IsSpelled, StandsIn}
+use Rattle.sequence_match.specs.Sites.{Covers, IsBare, IsLiteral, IsSecond, IsSiteOf, IsSpelled, StandsIn}
 use Rattle.sequence_match.specs.Faults.{code_of, bytes_of_code, IsGetter, IsLoose, IsOfSequence, IsStray, Nowhere, StandsAt}
 use Rattle.generated_job.specs.Shapes.{Shape}
 use Rattle.generated_laws.specs.Reading.{ReadsAs, known_of, known_getter, relocation_of, reserved}

@@ -1,7 +1,6 @@
 -- The headers and symbols of an object have no fault.
 use Rattle.std.proofs.Common.{◌≡◌, ◌≢◌, ◌+◌, ◌*◌, ◌/◌, ◌%◌, ◌^◌, ◌<◌, ◌≤◌, ◌⊎◌, inl, inr, ℕ, Bool, true, false, List, length}
-use Rattle.std.proofs.Common.{Some, None, IsNone, IsSome, bit_and, refl, sym, ap, subst, ◌∙◌, arith, rules, if◌then◌else◌, ◌==◌}
-use Rattle.std.proofs.lemmas.Bool.Decides.{nat_tests}
+use Rattle.std.proofs.Common.{Some, IsNone, bit_and, refl, sym, ap, subst, ◌∙◌, arith, if◌then◌else◌, ◌==◌}
 use Rattle.elf_records.specs.declared.section_header.SectionHeader.{SectionHeader}
 use Rattle.elf_records.specs.declared.symbol.SymbolEntry.{SymbolEntry}
 use Rattle.elf_records.specs.Records.{HasBytes, symbol_binding, symbol_kind}
@@ -10,12 +9,12 @@ use Rattle.object_rules.specs.declared.fault.FaultKind.TheVariants.{SectionKind,
 use Rattle.object_rules.specs.declared.fault.FaultKind.TheVariants.{SymbolName, SymbolSection, SymbolRange}
 use Rattle.object_rules.specs.declared.fault.FaultKind.TheVariants.{SymbolKind}
 use Rattle.object_faults.specs.declared.class.SectionClass.TheVariants.{Executable, Tls}
-use Rattle.elf_object.specs.Classes.{class_of, kept_class, IsAlignment, IsKept, IsKeptSection, IsTls}
-use Rattle.elf_object.specs.Faults.{Nowhere, Stands, IsElf, IsRelocatable, PassesEnd, HasPartPastEnd, IsRefused}
-use Rattle.elf_object.specs.Faults.{IsBadTable, IsSymbol, IsMisplaced, IsMisnamed, symbol_strings, IsDropped}
-use Rattle.elf_object.specs.Faults.{IsMisdefined, IsTlsSection, IsUnknown, IsMistyped}
+use Rattle.elf_object.specs.Classes.{class_of, kept_class, IsAlignment, IsKeptSection}
+use Rattle.elf_object.specs.Faults.{Nowhere, Stands, IsElf, IsRelocatable, PassesEnd, IsRefused}
+use Rattle.elf_object.specs.Faults.{IsBadTable, IsSymbol, IsMisplaced, symbol_strings, IsDropped}
+use Rattle.elf_object.specs.Faults.{IsMisdefined, IsTlsSection, IsMistyped}
 use Rattle.elf_object.specs.Names.{byte_of, Ends}
-use Rattle.elf_object.specs.Parts.{header, section, symbol, symbol_count, symbol_table, entry_count}
+use Rattle.elf_object.specs.Parts.{header, section, symbol, symbol_count}
 use Rattle.elf_object.specs.Parts.{IsSection, IsStrings, IsTable, IsRela}
 use Rattle.generated_job.specs.Shapes.{Shape, file_header, sections_of, symbols_of, names_of, zeros_alignment}
 use Rattle.generated_laws.specs.Reading.{IsSmall}
