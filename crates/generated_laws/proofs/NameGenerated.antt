@@ -20,7 +20,11 @@ use Rattle.generated_laws.proofs.KindFits.{few_relocations, fits_kind, fits_stor
 use Rattle.generated_laws.proofs.KindPlain.{ReadAsShapes}
 use Rattle.generated_laws.proofs.KindShapes.{function_named, function_of_shape, functions_apart, kinds_apart, module_function_named, module_names_apart, module_plain, module_variable_named, shape_plain, variable_named, variable_of_shape, variables_apart}
 use Rattle.generated_laws.proofs.KindStorage.{has_storage}
-use Rattle.generated_laws.proofs.NameDefinitions.{AreApart}
+use Rattle.generated_laws.proofs.NameDefinitions.{AreApart, variable_bound}
+use Rattle.std.proofs.Common.{Some}
+use Rattle.elf_object.specs.declared.relocation.Relocation.{Relocation}
+use Rattle.link_faults.specs.declared.binding.Binding.TheVariants.{Here}
+use Rattle.tls_symbols.specs.Bindings.{binding_of}
 use Rattle.generated_laws.proofs.NameFaults.{resolved}
 use Rattle.generated_laws.proofs.NameSizes.{names_fit, no_imports}
 
@@ -76,6 +80,11 @@ module _ (n : ℕ) (few : n ≤ 1000) (reads : ProgramReads n) where
     function_named = λ o there e. function_named (1 + o) (sym (function_of_shape n (1 + o)) ∙ e);
     variable_named = λ o there e. variable_named (1 + o) (sym (variable_of_shape n (1 + o)) ∙ e);
   }
+
+  -- the variable that an object names is its own
+  pub program_bound : (startup : List (List (List ℕ))) (o : ℕ) (r : Relocation) → o < length (program_objects n)
+      → r.symbol ≡ 2 → binding_of (program_objects n) startup o r ≡ Some (Here (record { object = o; symbol = 2 }))
+  program_bound startup o r = variable_bound (program_objects n) shape given apart startup o r
 
   pub program_resolved : (startup : List (List (List ℕ))) → AreResolved (program_objects n) startup
   program_resolved startup = resolved (program_objects n) shape given apart startup

@@ -16,5 +16,5 @@ program_objects n = map (λ i. object_bytes (shape_of n i)) (range_with_len 1 n)
 pub record GeneratedObjectsLink : Type 0 where
   pub program : (n : ℕ) → 1 ≤ n → n ≤ 1000 → (l : Linking) → IsGiven l → l.relax ≡ true → l.kind ≡ Exe
       → l.objects ≡ program_objects n → Links l
-  pub module : (l : Linking) → IsGiven l → l.relax ≡ true → l.kind ≡ Late
+  pub late : (l : Linking) → IsGiven l → l.relax ≡ true → l.kind ≡ Late
       → l.objects ≡ object_bytes module_shape ∷ [] → Links l

@@ -1,8 +1,8 @@
 -- What an object's bytes say, where they are those of a shape: its sections, symbols and relocations.
-use Rattle.std.specs.Prelude.{◌≡◌, ◌≢◌, ◌+◌, ◌<◌, ◌%◌, ◌/◌, ◌^◌, ℕ, Bool, true, false, List, [], ◌∷◌, ◌++◌, codes, length, map}
+use Rattle.std.specs.Prelude.{◌≡◌, ◌≢◌, ◌<◌, ℕ, Bool, true, false, List, [], ◌∷◌, codes, length, map}
 use Rattle.std.specs.Prelude.{Some, None, slice_index_or, if◌then◌else◌, unwrap_or}
 use Rattle.std.specs.List.{All}
-use Rattle.elf_records.specs.Records.{rela_symbol, rela_kind}
+use Rattle.elf_records.specs.Records.{FitsRela, rela_symbol, rela_kind}
 use Rattle.elf_records.specs.declared.relocation.Rela.{Rela}
 use Rattle.elf_records.specs.declared.relocation.RelocationKind.TheVariants.{Nothing}
 use Rattle.elf_object.specs.Lent.{section_bytes, section_class, section_size, section_alignment, relocations}
@@ -21,7 +21,7 @@ use Rattle.elf_object.specs.declared.symbol.SymbolPlace.{SymbolPlace}
 use Rattle.elf_object.specs.declared.symbol.SymbolPlace.TheVariants.{Undefined, InSection}
 use Rattle.elf_object.specs.declared.symbol.Visibility.TheVariants.{Default}
 use Rattle.object_faults.specs.declared.class.SectionClass.TheVariants.{Executable, Tls}
-use Rattle.generated_job.specs.Shapes.{Shape, symbols_of, zeros_alignment}
+use Rattle.generated_job.specs.Shapes.{Shape, object_bytes, zeros_alignment}
 
 -- ** shapes that a file can hold
 
@@ -41,6 +41,7 @@ pub record IsSmall (s : Shape) : Type 0 where
   pub few_code : length s.code < 256
   pub code_bytes : All IsByte s.code
   pub few_relocations : length s.relocations < 256
+  pub relocations_fit : All FitsRela s.relocations
   pub few_initial : length s.initial < 256
   pub initial_bytes : All IsByte s.initial
   pub few_zeros : s.zeros < 256
@@ -114,5 +115,6 @@ pub record ReadsAs (b : List ℕ) (s : Shape) : Type 0 where
   pub relocations_are : relocations b 1 ≡ map relocation_of s.relocations
   pub no_other : (k : ℕ) → k ≢ 1 → relocations b k ≡ []
 
-abbrev pub ShapesAreRead : (List ℕ → Shape → Type 0) → Type 0
-ShapesAreRead BytesOf = (b : List ℕ) (s : Shape) → IsSmall s → BytesOf b s → ReadsAs b s
+-- each small shape's object
+abbrev pub ShapesAreRead : Type 0
+ShapesAreRead = (s : Shape) → IsSmall s → ReadsAs (object_bytes s) s

@@ -15,4 +15,4 @@ pub record IsFaultless (b : List ℕ) : Type 0 where
 -- each object of each program, and that of the module
 pub record GeneratedObjectsAreFaultless : Type 0 where
   pub program : (n i : ℕ) → n ≤ 1000 → 1 ≤ i → i ≤ n → IsFaultless (object_bytes (shape_of n i))
-  pub module : IsFaultless (object_bytes module_shape)
+  pub late : IsFaultless (object_bytes module_shape)

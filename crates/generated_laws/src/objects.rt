@@ -1,0 +1,15 @@
+//! The laws of one object. The functions do nothing: what each ensures is its law.
+
+ghost use Rattle.generated_laws.specs.Reading.{ShapesAreRead};
+ghost use Rattle.generated_laws.specs.Sound.{GeneratedObjectsAreFaultless};
+
+/// The bytes of a shape's object are read as the shape: its sections, its symbols and its relocations.
+pub fn shapes_are_read()
+    ensures { ShapesAreRead }
+{}
+
+/// Each object of a generated job, and the module's, has no fault of any kind, and all its accesses of thread-local
+/// storage are sequences.
+pub fn generated_objects_are_faultless()
+    ensures { GeneratedObjectsAreFaultless }
+{}
