@@ -70,9 +70,17 @@ shown_of threads = flat_map shown_in threads
 
 -- ** the line
 
+unfoldable pub images_text : ℕ → SiteCounts → List ℕ
+images_text count counts =
+    codes "gen " ++ decimal count ++ codes " sites " ++ decimal counts.sites ++ codes " rewritten "
+    ++ decimal counts.rewritten
+
+unfoldable pub lines_text : ℕ → ℕ → ℕ → List ℕ
+lines_text lines events sum =
+    codes " lines " ++ decimal lines ++ codes " events " ++ decimal events ++ codes " sum " ++ hex16 sum
+
 unfoldable pub summary_text : ℕ → SiteCounts → Shown → List ℕ
 summary_text count counts shown =
-    codes "gen " ++ decimal count ++ codes " sites " ++ decimal counts.sites ++ codes " rewritten "
-    ++ decimal counts.rewritten ++ codes " lines " ++ decimal (line_count shown.threads) ++ codes " events "
-    ++ decimal (length shown.events) ++ codes " sum " ++ hex16 (returned_sum shown.threads) ++ codes " peek "
-    ++ encode_lower (shown_of shown.threads) ++ codes "\n"
+    images_text count counts
+    ++ lines_text (line_count shown.threads) (length shown.events) (returned_sum shown.threads)
+    ++ codes " peek " ++ encode_lower (shown_of shown.threads) ++ codes "\n"

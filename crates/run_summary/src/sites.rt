@@ -1,6 +1,6 @@
 //! How many sites images have.
 
-ghost use Rattle.std.specs.Prelude.{◌≡◌, ◌+◌, IfOk};
+ghost use Rattle.std.specs.Prelude.{◌≡◌, ◌+◌, IfOk, filter, length};
 ghost use Rattle.run_summary.specs.Summaries.{choice_counts, counts_of, image_counts, is_rewritten, plus};
 
 use link_core::Linked;
@@ -24,6 +24,19 @@ fn is_rewritten(choice: Choice) -> bool
     }
 }
 
+/// In place of how many sites, which have these choices, another sequence stands.
+fn rewritten_count(choices: &[Choice]) -> usize
+    ensures count { result ≡ length (filter is_rewritten choices.now) }
+{
+    let mut count = 0;
+    for choice in choices {
+        if is_rewritten(*choice) {
+            count += 1;
+        }
+    }
+    count
+}
+
 /// A count and some more; so many that their number needs more than 64 bits no memory holds.
 pub(crate) fn plus(count: u64, more: u64) -> Result<u64, AllocError>
     ensures { IfOk result (λ sum. sum ≡ count + more) }
@@ -36,6 +49,7 @@ pub(crate) fn plus(count: u64, more: u64) -> Result<u64, AllocError>
 
 impl SiteCounts {
     /// Those of all these images. The only error is want of memory.
+    #[tactic(auto, unfolding(crate::specs::Summaries::counts_of))]
     pub fn of(images: &[Linked]) -> Result<SiteCounts, AllocError>
         ensures { IfOk result (λ counts. counts ≡ counts_of images.now) }
     {
@@ -64,13 +78,9 @@ impl SiteCounts {
     fn with_object(self, choices: &[Choice]) -> Result<SiteCounts, AllocError>
         ensures { IfOk result (λ counts. counts ≡ plus self (choice_counts choices.now)) }
     {
-        let rewritten = choices
-            .iter()
-            .filter(|choice| is_rewritten(**choice))
-            .count();
         Ok(SiteCounts {
             sites: plus(self.sites, choices.len() as u64)?,
-            rewritten: plus(self.rewritten, rewritten as u64)?,
+            rewritten: plus(self.rewritten, rewritten_count(choices) as u64)?,
         })
     }
 }

@@ -1,19 +1,22 @@
 //! The line.
 
 ghost use Rattle.std.specs.Prelude.{◌≡◌, ◌+◌, ◌%◌, ◌^◌, ◌++◌, IfOk, OnOk};
-ghost use Rattle.run_summary.specs.Summaries.{line_count, lines_sum, returned, returned_sum, shown_in, shown_of, summary_text};
+ghost use Rattle.run_summary.specs.Summaries.{images_text, line_count, lines_sum, lines_text, returned};
+ghost use Rattle.run_summary.specs.Summaries.{returned_sum, shown_in, shown_of, summary_text};
+ghost use Rattle.std.specs.String.{string_bytes};
 
 use crate::sites::{SiteCounts, plus};
 use std::alloc::{AllocError, Global};
 use transcript_text::{Line, Outcome, Transcript};
 
 /// How many lines threads have.
+#[tactic(auto, unfolding(crate::specs::Summaries::line_count))]
 fn line_count(transcript: &Transcript) -> Result<u64, AllocError>
     ensures { IfOk result (λ count. count ≡ line_count transcript.now.threads) }
 {
     let mut count = 0;
-    for thread in 1..=transcript.threads() {
-        count = plus(count, transcript.lines(thread).len() as u64)?;
+    for index in 0..transcript.threads() {
+        count = plus(count, transcript.lines(index + 1).len() as u64)?;
     }
     Ok(count)
 }
@@ -40,12 +43,13 @@ fn with_lines(sum: u64, lines: &[Line]) -> u64
 }
 
 /// What all calls returned, added up modulo 2^64.
+#[tactic(auto, unfolding(crate::specs::Summaries::returned_sum))]
 fn returned_sum(transcript: &Transcript) -> u64
     ensures { result ≡ returned_sum transcript.now.threads }
 {
     let mut sum = 0;
-    for thread in 1..=transcript.threads() {
-        sum = with_lines(sum, transcript.lines(thread));
+    for index in 0..transcript.threads() {
+        sum = with_lines(sum, transcript.lines(index + 1));
     }
     sum
 }
@@ -63,14 +67,32 @@ fn push_shown(lines: &[Line], into: &mut Vec<u8>) -> Result<(), AllocError>
 }
 
 /// The bytes that all lines showed.
+#[tactic(auto, unfolding(crate::specs::Summaries::shown_of))]
 fn shown(alloc: Global, transcript: &Transcript) -> Result<Vec<u8>, AllocError>
     ensures { IfOk result (λ bytes. bytes.items ≡ shown_of transcript.now.threads) }
 {
     let mut bytes = Vec::new(alloc);
-    for thread in 1..=transcript.threads() {
-        push_shown(transcript.lines(thread), &mut bytes)?;
+    for index in 0..transcript.threads() {
+        push_shown(transcript.lines(index + 1), &mut bytes)?;
     }
     Ok(bytes)
+}
+
+/// Appends what the line says of the images of the job of `gen count`.
+#[tactic(auto, unfolding(crate::specs::Summaries::images_text))]
+fn push_images(text: &mut String, count: u32, counts: SiteCounts) -> Result<(), AllocError>
+    ensures { OnOk result (string_bytes text.new ≡ string_bytes text.old ++ images_text count counts) }
+{
+    let SiteCounts { sites, rewritten } = counts;
+    write!(text, "gen {count} sites {sites} rewritten {rewritten}")
+}
+
+/// Appends what it says of lines and events, and of what calls returned in all.
+#[tactic(auto, unfolding(crate::specs::Summaries::lines_text))]
+fn push_lines(text: &mut String, lines: u64, events: usize, sum: u64) -> Result<(), AllocError>
+    ensures { OnOk result (string_bytes text.new ≡ string_bytes text.old ++ lines_text lines events sum) }
+{
+    write!(text, " lines {lines} events {events} sum {sum:016x}")
 }
 
 /// The line about a run of the job of `gen count`, whose images have so many sites: `gen N sites S rewritten R lines L
@@ -89,8 +111,11 @@ pub fn summary(
     let sum = returned_sum(transcript);
     let bytes = shown(alloc, transcript)?;
     let digits = hex::encode(alloc, bytes.as_slice())?;
-    let SiteCounts { sites, rewritten } = counts;
-    let mut text = format!(in alloc; "gen {count} sites {sites} rewritten {rewritten} lines {lines} ")?;
-    write!(text, "events {events} sum {sum:016x} peek {digits}\n")?;
+    let mut text = String::new(alloc);
+    push_images(&mut text, count, counts)?;
+    push_lines(&mut text, lines, events, sum)?;
+    text.push_str(" peek ")?;
+    text.push_str(digits.as_str())?;
+    text.push_str("\n")?;
     Ok(text.into_bytes())
 }
