@@ -42,7 +42,7 @@ mod sinks;
 mod stores;
 
 pub use faults::{FetchFault, PutFault};
-pub use host::{HostSink, HostStore, LARGEST_FILE};
+pub use host::{HostSink, HostStore, LARGEST_FILE, ProgressStore};
 pub use memory::{MemorySink, MemoryStore};
 pub use sinks::Sink;
 pub use stores::Store;
