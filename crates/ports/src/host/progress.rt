@@ -68,8 +68,8 @@ impl<'a, R: Clock + Eprint> Progress<'a, R> {
     }
 }
 
-/// A store that says on standard error how far it is, when it takes long: how many files it has fetched, and
-/// that a file is being written. A contract sees it as the store within, which it changes in nothing.
+/// A store that says on standard error how far it is, where that takes long: how many files it has fetched, and
+/// that a file is about to be written. A contract sees it as the store within.
 #[derive(Drop)]
 pub struct ProgressStore<'a, S: Store + Drop, R: Clock + Eprint> {
     store: S,
@@ -83,7 +83,8 @@ impl<'a, S: Store + Drop, R: Clock + Eprint> Model for ProgressStore<'a, S, R> {
 }
 
 impl<'a, S: Store + Drop, R: Clock + Eprint> ProgressStore<'a, S, R> {
-    /// The store, with its progress on `rt`'s standard error if `is_shown`, which is to say if that is a terminal.
+    /// The store, whose progress is shown on `rt`'s standard error where the caller says so, as it does if that is a
+    /// terminal: no bound on a runtime tells.
     pub fn new(store: S, rt: &'a R, is_shown: bool) -> Self
         ensures { result ≡ store }
     {
