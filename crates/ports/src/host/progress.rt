@@ -10,7 +10,7 @@ use std::time::Instant;
 const INTERVAL: u64 = 1;
 
 /// Lines on standard error that say how far a command is: none in its first second, and then at most one a
-/// second. Where none are wanted no clock is asked. A clock or a standard error that fails costs its line and
+/// second. Where none are wanted no clock is asked. A clock or a standard error that fails costs lines and
 /// nothing else.
 #[derive(Drop)]
 struct Progress<'a, R: Clock + Eprint> {
