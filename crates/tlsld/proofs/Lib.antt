@@ -1,6 +1,7 @@
 mod Again
 mod Asked
 mod Kept
+mod MadeFiles
 mod Making
 mod Membership
 mod Mentioned

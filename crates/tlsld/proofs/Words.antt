@@ -4,7 +4,7 @@ use Rattle.command_line.specs.declared.tasks.Task.{Task}
 use Rattle.command_line.specs.Words.{asked, takes_words}
 use Rattle.ports.specs.Files.{Files, untold_files}
 use Rattle.ports.specs.Sinks.{SinkView}
-use Rattle.command_line.specs.declared.tasks.Task.TheVariants.{Run, Link, Sites, Show}
+use Rattle.command_line.specs.declared.tasks.Task.TheVariants.{Run, Link, Sites, Show, Gen}
 use Rattle.command_replies.specs.Statuses.{IsLate}
 use Rattle.command_replies.specs.Steps.{with_names}
 use Rattle.tlsld.specs.Links.{LinkSays, Leaves}
@@ -62,3 +62,4 @@ leave_late files (Some (Run job no_relax)) = refl
 leave_late files (Some (Link job image out no_relax)) = unchanged files (λ fs. LinkSays fs files job image out no_relax)
 leave_late files (Some (Sites job image)) = refl
 leave_late files (Some (Show file)) = refl
+leave_late files (Some (Gen count)) = refl

@@ -2,14 +2,13 @@
 //!
 //! The job and its objects are made in memory, byte for byte as files would have them. From there on the command is
 //! `run`: the same steps read the job and the objects, link, write, read back and run. What is told is one line.
-ghost use Rattle.std.specs.Prelude.{◌≡◌, ◌≤◌, IfOk, map};
+ghost use Rattle.std.specs.Prelude.{◌≡◌, ◌≤◌, IfOk, map, true};
 ghost use Rattle.command_replies.specs.Faults.{NoStoreFault};
 ghost use Rattle.command_replies.specs.Steps.{Comes};
 ghost use Rattle.job_link.specs.Mentions.{bytes_in};
 ghost use Rattle.generated_job.specs.Generated.{generated_files};
 ghost use Rattle.loaded_modules.specs.Given.{LateLast};
 ghost use Rattle.tlsld.specs.GeneratedRuns.{GenSays};
-ghost use Rattle.tlsld.specs.declared.telling.Telling.TheVariants.{Summary};
 ghost use Rattle.tlsld.specs.RunJobs.{BytesRun};
 
 use crate::runs::run_files;
@@ -47,7 +46,7 @@ fn run_generated(alloc: Global, job: &Job, count: u32) -> Result<Vec<u8>, Comman
     requires some { 1 ≤ count }
     requires few { count ≤ 1000 }
     requires late { LateLast (map (λ image. image.kind) job.now.images) }
-    ensures says { Comes (λ text. text.items) (BytesRun (Summary count) true (bytes_in (generated_files count)) job.now) result }
+    ensures says { Comes (λ text. text.items) (BytesRun (Telling.Summary count) true (bytes_in (generated_files count)) job.now) result }
     ensures cause { NoStoreFault result }
 {
     let objects = generated_objects(alloc, count)?;

@@ -20,7 +20,6 @@ ghost use Rattle.loaded_modules.specs.Given.{LateLast};
 ghost use Rattle.transcript_text.specs.Texts.{IsImageNumber};
 ghost use Rattle.tlsld.specs.RunJobs.{BytesRun, ImagesRun, JobSays, ObjectsRun, RunSays};
 ghost use Rattle.tlsld.specs.RunJobs.{job_names, run_names};
-ghost use Rattle.tlsld.specs.declared.telling.Telling.TheVariants.{Transcript};
 ghost use Rattle.tlsld.specs.Runs.{AreLinks, HasRun, read_back};
 
 use crate::telling::Telling;
@@ -71,7 +70,7 @@ fn run_text<S: Store>(
     ensures files { S.files store.new ≡ S.files store.old }
     ensures cause { StoreCounts (S.faults store.old) (S.faults store.new) result }
     ensures says { IfSome (S.files store.old) (λ fs. Comes (λ text. text.items)
-        (JobSays Transcript relax fs (job_of_text text.now)) result) }
+        (JobSays Telling.Transcript relax fs (job_of_text text.now)) result) }
     ensures asks { Asks (job_names (job_of_text text.now)) (S.asked store.old) (S.asked store.new) result }
 {
     late_images_come_last();
@@ -91,7 +90,7 @@ fn run_job<S: Store>(
     requires late { LateLast (map (λ image. image.kind) job.now.images) }
     ensures files { S.files store.new ≡ S.files store.old }
     ensures cause { StoreCounts (S.faults store.old) (S.faults store.new) result }
-    ensures says { IfSome (S.files store.old) (λ fs. Comes (λ text. text.items) (ObjectsRun Transcript relax fs job.now) result) }
+    ensures says { IfSome (S.files store.old) (λ fs. Comes (λ text. text.items) (ObjectsRun Telling.Transcript relax fs job.now) result) }
     ensures asks { Asks (object_names job.now) (S.asked store.old) (S.asked store.new) result }
 {
     let _mentions = job.mentions();

@@ -1,5 +1,6 @@
-use Rattle.std.proofs.Common.{◌∙◌, ◌≤◌, inl, length, refl, subst}
-use Rattle.tlsld.specs.RunJobs.{links_of}
+use Rattle.std.proofs.Common.{◌∙◌, ◌≤◌, ap, inl, length, refl, subst}
+use Rattle.run_summary.specs.Summaries.{counts_of}
+use Rattle.tlsld.specs.RunJobs.{links_of, told}
 use Rattle.tlsld.proofs.Making.{names_image}
 use Rattle.tlsld.proofs.Running.{are_links, linked_all, unlinked_run}
 use Rattle.tlsld.proofs.runs.run_images.Goals as goal
@@ -26,7 +27,12 @@ returns-in_ok-text-in-Ok-clause-says c =
         transcript = c.in_ok-transcript-in-Ok.transcript;
         ran = c.in_ok-transcript-in-Ok.ensures.ran (links_of c.args.images.now c.args.relax) links
             (c.in-Ok.ensures.linked ∙ linked_all c.args.images.now c.args.relax c.args.images.now);
-        says = (refl, c.in_ok-text-in-Ok.ensures);
+        says = (refl,
+            c.in_ok-text-in-Ok.ensures
+            ∙ ap (λ counts. told c.args.telling c.args.job.now.images counts c.in_ok-transcript-in-Ok.transcript)
+            (c.in_ok-counts-in-Ok.ensures
+            ∙ ap counts_of (c.as_slice-in-Ok.ensures.value ∙ c.in-Ok.ensures.linked
+            ∙ linked_all c.args.images.now c.args.relax c.args.images.now)));
       };
     })
 
