@@ -1,2 +1,10 @@
 //! The job that `gen N` makes.
 #![tactic(auto)]
+
+mod access;
+mod files;
+mod shape;
+mod text;
+
+pub use files::{GeneratedFile, generated_objects};
+pub use text::generated_text;

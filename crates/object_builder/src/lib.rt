@@ -26,3 +26,4 @@ mod put;
 
 pub use draft::{Draft, draft_of, object_of};
 pub use given::{Section, Symbol, rela};
+pub use put::{put_header, put_relocations, put_sections, put_symbols};
