@@ -86,22 +86,22 @@ impl Access {
         ensures entries { IfOk result (λ entries. entries.items ≡ entries_of self) }
     {
         match self {
-            Access::GeneralDynamic => vec![in alloc;
+            Access::GeneralDynamic => Ok(vec![in alloc;
                 field_at_end(4, R_X86_64_TLSGD, VARIABLE),
                 field_at_end(12, R_X86_64_PLT32, GETTER)
-            ],
-            Access::InitialExecutable => vec![in alloc;
+            ]?),
+            Access::InitialExecutable => Ok(vec![in alloc;
                 field_at_end(3, R_X86_64_GOTTPOFF, VARIABLE)
-            ],
-            Access::LocalDynamic => vec![in alloc;
+            ]?),
+            Access::LocalDynamic => Ok(vec![in alloc;
                 field_at_end(3, R_X86_64_TLSLD, VARIABLE),
                 field_at_end(8, R_X86_64_PLT32, GETTER),
                 Rela { offset: 14, info: Rela::info_of(VARIABLE, R_X86_64_DTPOFF32), addend: 0 }
-            ],
-            Access::GeneralDynamicWrite => vec![in alloc;
+            ]?),
+            Access::GeneralDynamicWrite => Ok(vec![in alloc;
                 field_at_end(5, R_X86_64_TLSGD, VARIABLE),
                 field_at_end(13, R_X86_64_PLT32, GETTER)
-            ],
+            ]?),
         }
     }
 

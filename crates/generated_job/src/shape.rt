@@ -42,6 +42,9 @@ const CONTENTS: u64 = 576;
 const SECTION_NAMES: [u8; 57] =
     *b"\0.text\0.rela.text\0.tdata\0.tbss\0.symtab\0.strtab\0.shstrtab\0";
 
+const CODE_FLAGS: u64 = SHF_ALLOC | SHF_EXECINSTR;
+const VARIABLE_FLAGS: u64 = SHF_WRITE | SHF_ALLOC | SHF_TLS;
+
 /// The numbers of the sections that others name.
 const TEXT: u16 = 1;
 const TDATA: u16 = 3;
@@ -140,13 +143,12 @@ impl ObjectShape<'_> {
         let names_at = symbols_at + symbol_table;
         let section_names_at = names_at + names.len() as u64;
         let relocations_at = section_names_at + SECTION_NAMES.len() as u64;
-        let variables = SHF_WRITE | SHF_ALLOC | SHF_TLS;
         [
             section_of(0, SHT_NULL, 0, 0, 0, 0),
-            section_of(1, SHT_PROGBITS, SHF_ALLOC | SHF_EXECINSTR, CONTENTS, code, 16),
+            section_of(1, SHT_PROGBITS, CODE_FLAGS, CONTENTS, code, 16),
             table_of(7, SHT_RELA, relocations_at, relocation_table, SYMTAB),
-            section_of(18, SHT_PROGBITS, variables, CONTENTS + code, initial, 4),
-            section_of(25, SHT_NOBITS, variables, symbols_at, self.zeros, self.zeros_alignment()),
+            section_of(18, SHT_PROGBITS, VARIABLE_FLAGS, CONTENTS + code, initial, 4),
+            section_of(25, SHT_NOBITS, VARIABLE_FLAGS, symbols_at, self.zeros, self.zeros_alignment()),
             table_of(31, SHT_SYMTAB, symbols_at, symbol_table, STRTAB),
             section_of(39, SHT_STRTAB, 0, names_at, names.len() as u64, 1),
             section_of(47, SHT_STRTAB, 0, section_names_at, SECTION_NAMES.len() as u64, 1),
