@@ -88,19 +88,23 @@ impl Access {
         match self {
             Access::GeneralDynamic => Ok(vec![in alloc;
                 field_at_end(4, R_X86_64_TLSGD, VARIABLE),
-                field_at_end(12, R_X86_64_PLT32, GETTER)
+                field_at_end(12, R_X86_64_PLT32, GETTER),
             ]?),
             Access::InitialExecutable => Ok(vec![in alloc;
-                field_at_end(3, R_X86_64_GOTTPOFF, VARIABLE)
+                field_at_end(3, R_X86_64_GOTTPOFF, VARIABLE),
             ]?),
             Access::LocalDynamic => Ok(vec![in alloc;
                 field_at_end(3, R_X86_64_TLSLD, VARIABLE),
                 field_at_end(8, R_X86_64_PLT32, GETTER),
-                Rela { offset: 14, info: Rela::info_of(VARIABLE, R_X86_64_DTPOFF32), addend: 0 }
+                Rela {
+                    offset: 14,
+                    info: Rela::info_of(VARIABLE, R_X86_64_DTPOFF32),
+                    addend: 0
+                },
             ]?),
             Access::GeneralDynamicWrite => Ok(vec![in alloc;
                 field_at_end(5, R_X86_64_TLSGD, VARIABLE),
-                field_at_end(13, R_X86_64_PLT32, GETTER)
+                field_at_end(13, R_X86_64_PLT32, GETTER),
             ]?),
         }
     }

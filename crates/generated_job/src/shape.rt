@@ -43,18 +43,25 @@ const SECTION_NAMES: [u8; 57] =
     *b"\0.text\0.rela.text\0.tdata\0.tbss\0.symtab\0.strtab\0.shstrtab\0";
 
 const CODE_FLAGS: u64 = SHF_ALLOC | SHF_EXECINSTR;
+
 const VARIABLE_FLAGS: u64 = SHF_WRITE | SHF_ALLOC | SHF_TLS;
 
 /// The numbers of the sections that others name.
 const TEXT: u16 = 1;
+
 const TDATA: u16 = 3;
+
 const SYMTAB: u32 = 5;
+
 const STRTAB: u32 = 6;
+
 const SHSTRTAB: u16 = 7;
 
 // Bindings times 16 plus types of symbols.
 const GLOBAL_NOTYPE: u8 = 0x10;
+
 const GLOBAL_FUNC: u8 = 0x12;
+
 const GLOBAL_TLS: u8 = 0x16;
 
 const FILE_HEADER: Header = Header {
@@ -104,7 +111,7 @@ impl ObjectShape<'_> {
         let mut symbols = vec![in alloc;
             symbol_of(0, 0, 0, 0),
             symbol_of(1, GLOBAL_FUNC, TEXT, self.code.len() as u64),
-            symbol_of(variable_name, GLOBAL_TLS, TDATA, self.initial.len() as u64)
+            symbol_of(variable_name, GLOBAL_TLS, TDATA, self.initial.len() as u64),
         ]?;
         if self.calls {
             let getter_name = 3 + self.function.len() as u32 + self.variable.len() as u32;
@@ -147,11 +154,32 @@ impl ObjectShape<'_> {
             section_of(0, SHT_NULL, 0, 0, 0, 0),
             section_of(1, SHT_PROGBITS, CODE_FLAGS, CONTENTS, code, 16),
             table_of(7, SHT_RELA, relocations_at, relocation_table, SYMTAB),
-            section_of(18, SHT_PROGBITS, VARIABLE_FLAGS, CONTENTS + code, initial, 4),
-            section_of(25, SHT_NOBITS, VARIABLE_FLAGS, symbols_at, self.zeros, self.zeros_alignment()),
+            section_of(
+                18,
+                SHT_PROGBITS,
+                VARIABLE_FLAGS,
+                CONTENTS + code,
+                initial,
+                4,
+            ),
+            section_of(
+                25,
+                SHT_NOBITS,
+                VARIABLE_FLAGS,
+                symbols_at,
+                self.zeros,
+                self.zeros_alignment(),
+            ),
             table_of(31, SHT_SYMTAB, symbols_at, symbol_table, STRTAB),
             section_of(39, SHT_STRTAB, 0, names_at, names.len() as u64, 1),
-            section_of(47, SHT_STRTAB, 0, section_names_at, SECTION_NAMES.len() as u64, 1),
+            section_of(
+                47,
+                SHT_STRTAB,
+                0,
+                section_names_at,
+                SECTION_NAMES.len() as u64,
+                1,
+            ),
         ]
     }
 

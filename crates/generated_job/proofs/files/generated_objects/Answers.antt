@@ -12,9 +12,11 @@ loop-before-init c = (refl, c.new-files.ensures.items)
 pub loop-before-preserved : goal.loop-before-preserved
 loop-before-preserved c =
     let value : c.value_behind-value.result ≡ value_of c.args.count (c.loop-before.before + 1) = c.value_behind-value.ensures
-    ∙ ap (λ v. (5 * v + 3) % 2 ^ 32) c.loop-before.invariant.0 ∙ sym (next_value c.args.count c.loop-before.before) in
-    (value, files_more c.args.count c.loop-before.before c.value_behind-value.result _ _ _ c.loop-before.invariant.1
-    c.in_ok-push.ensures.items c.in_ok-program_object.ensures value)
+    ∙ ap (λ v. (5 * v + 3) % 2 ^ 32) c.loop-before.invariant.0 ∙ sym (next_value c.args.count c.loop-before.before) in (
+      value,
+      files_more c.args.count c.loop-before.before c.value_behind-value.result _ _ _ c.loop-before.invariant.1
+          c.in_ok-push.ensures.items c.in_ok-program_object.ensures value,
+    )
 
 pub returns : goal.returns
 returns c =
