@@ -1,5 +1,5 @@
 -- The objects of the job, as the code draws them.
-use Rattle.std.proofs.Common.{◌≡◌, ℕ, ◌+◌, ◌<◌, ◌≤◌, ◌^◌, ◌%◌, ◌==◌, Bool, true, false, cond, List, map, [], ◌∷◌, ◌++◌, length, refl, sym, ap, subst, ◌∙◌, arith, codes, length-append}
+use Rattle.std.proofs.Common.{◌≡◌, ℕ, ◌+◌, ◌<◌, ◌≤◌, ◌^◌, ◌%◌, ◌==◌, Bool, true, false, cond, List, map, [], ◌∷◌, ◌++◌, length, refl, sym, ap, ◌∙◌, arith, codes, length-append}
 use Rattle.std.specs.Fmt.{decimal}
 use Rattle.std.specs.List.{range_with_len}
 use Rattle.std.proofs.lemmas.List.FromFn.{map-range_with_len_more}
@@ -13,7 +13,7 @@ use Rattle.generated_job.specs.Accesses.{access_of, calls_of, code_of, entries_o
 use Rattle.generated_job.specs.Drafts.{IsShort}
 use Rattle.generated_job.specs.Generated.{function_name, general_shape, generated_files, initial_executable_shape, local_shape}
 use Rattle.generated_job.specs.Generated.{module_shape, object_name, shape_of, value_of, variable_name}
-use Rattle.generated_job.specs.Shapes.{Shape, object_bytes}
+use Rattle.generated_job.specs.Shapes.{object_bytes}
 
 -- the form of an object, by what its number leaves
 by_form : (n i : ℕ) (one two : Bool) → record {

@@ -1,12 +1,12 @@
 -- The parts of an object, as the code makes them, are those of its shape.
-use Rattle.std.proofs.Common.{◌≡◌, ℕ, ◌+◌, ◌*◌, ◌<◌, Bool, true, false, cond, List, [], ◌∷◌, ◌++◌, length, refl, sym, ap, subst, ◌∙◌, arith, append_assoc, length-append, codes}
+use Rattle.std.proofs.Common.{◌≡◌, ℕ, ◌+◌, ◌*◌, ◌<◌, Bool, true, false, cond, List, [], ◌∷◌, ◌++◌, length, refl, sym, ap, ◌∙◌, arith, append_assoc, length-append, codes}
 use Rattle.std.specs.List.{flat_map}
 use Rattle.elf_records.specs.Records.{header_bytes, section_bytes, symbol_bytes, rela_bytes}
 use Rattle.elf_records.specs.declared.file_header.Header.{Header}
 use Rattle.elf_records.specs.declared.section_header.SectionHeader.{SectionHeader}
 use Rattle.elf_records.specs.declared.symbol.SymbolEntry.{SymbolEntry}
 use Rattle.generated_job.specs.Drafts.{IsShort}
-use Rattle.generated_job.specs.Shapes.{Shape, contents_of, file_header, getter_name, getter_name_at, getter_symbols, names_of, object_bytes}
+use Rattle.generated_job.specs.Shapes.{Shape, contents_of, file_header, getter_name, getter_name_at, names_of, object_bytes}
 use Rattle.generated_job.specs.Shapes.{section_names, section_of, sections_of, symbol_of, symbols_at, symbols_of, variable_name_at, zeros_alignment}
 
 -- ** symbols

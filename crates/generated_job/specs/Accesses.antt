@@ -1,10 +1,10 @@
 -- The code of an object, by the sequence that reaches its variable.
-use Rattle.std.specs.Prelude.{ℕ, ◌%◌, ◌==◌, Bool, true, false, List, [], ◌∷◌, codes, if◌then◌else◌}
+use Rattle.std.specs.Prelude.{ℕ, ◌%◌, ◌==◌, Bool, true, false, List, if◌then◌else◌}
 use Rattle.elf_records.specs.Fields.{bytes_of}
 use Rattle.elf_records.specs.declared.relocation.Rela.{Rela}
 use Rattle.generated_job.specs.declared.access.Access.{Access}
 use Rattle.generated_job.specs.declared.access.Access.TheVariants as access
-use Rattle.generated_job.specs.Generated.{entry_to_end, function_name, variable_name}
+use Rattle.generated_job.specs.Generated.{function_name, variable_name}
 use Rattle.generated_job.specs.Generated.{general_code, general_entries, initial_executable_code, initial_executable_entries}
 use Rattle.generated_job.specs.Generated.{local_code, local_entries, module_code, module_entries}
 use Rattle.generated_job.specs.Shapes.{Shape}

@@ -1,5 +1,5 @@
 -- The shape that code holds, and how large it may be for its numbers to fit.
-use Rattle.std.specs.Prelude.{◌<◌, ℕ, length}
+use Rattle.std.specs.Prelude.{◌<◌, length}
 use Rattle.generated_job.specs.declared.shape.ObjectShape.{ObjectShape}
 use Rattle.generated_job.specs.Shapes.{Shape}
 

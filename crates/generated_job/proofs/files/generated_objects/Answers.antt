@@ -1,5 +1,4 @@
-use Rattle.std.proofs.Common.{◌≡◌, ◌+◌, ◌*◌, ◌%◌, ◌^◌, arith, refl, sym, ap, subst, ◌∙◌, map}
-use Rattle.std.specs.List.{range_with_len}
+use Rattle.std.proofs.Common.{◌≡◌, ◌+◌, ◌*◌, ◌%◌, ◌^◌, arith, refl, sym, ap, ◌∙◌}
 use Rattle.generated_job.specs.Generated.{value_of}
 use Rattle.generated_job.proofs.Counting.{next_value}
 use Rattle.generated_job.proofs.Objects.{files_known, files_more}

@@ -1,4 +1,4 @@
-use Rattle.std.proofs.Common.{List, Vec, Global, ap, ◌∙◌}
+use Rattle.std.proofs.Common.{Vec, Global, ap, ◌∙◌}
 use Rattle.elf_records.specs.declared.symbol.SymbolEntry.{SymbolEntry}
 use Rattle.generated_job.specs.Drafts.{shape_held}
 use Rattle.generated_job.proofs.Parts.{symbols_calling, symbols_plain}
