@@ -63,6 +63,13 @@ local_code =
 abbrev pub local_entries : List Rela
 local_entries = entry_to_end 3 20 2 ∷ entry_to_end 8 4 3 ∷ entry 14 21 2 (pos 0) ∷ []
 
+-- push %rdi; lea v@tlsgd(%rip), %rdi; call __tls_get_addr@plt; pop %rcx; mov %ecx, (%rax); ret
+abbrev pub module_code : List ℕ
+module_code = 0x57 ∷ general (0x59 ∷ 0x89 ∷ 0x08 ∷ 0xc3 ∷ [])
+
+abbrev pub module_entries : List Rela
+module_entries = entry_to_end 5 19 2 ∷ entry_to_end 13 4 3 ∷ []
+
 -- ** objects
 
 abbrev pub general_shape : ℕ → ℕ → Shape
@@ -103,14 +110,13 @@ unfoldable pub shape_of : ℕ → ℕ → Shape
 shape_of n i =
     if i % 3 == 1 then general_shape n i else if i % 3 == 2 then initial_executable_shape n i else local_shape n i
 
--- the module's object writes its argument to its variable, which is 5 at first, and gives the address:
--- push %rdi; the variable by general dynamic; pop %rcx; mov %ecx, (%rax); ret
+-- the module's object writes its argument to its variable, which is 5 at first, and gives the address
 unfoldable pub module_shape : Shape
 module_shape = record {
   function = codes "f";
   variable = codes "v";
-  code = 0x57 ∷ general (0x59 ∷ 0x89 ∷ 0x08 ∷ 0xc3 ∷ []);
-  relocations = entry_to_end 5 19 2 ∷ entry_to_end 13 4 3 ∷ [];
+  code = module_code;
+  relocations = module_entries;
   initial = 5 ∷ 0 ∷ 0 ∷ 0 ∷ [];
   zeros = 4;
   calls = true;
@@ -125,8 +131,11 @@ generated_files n =
 -- ** the job: a program of n objects, a module that comes late, and two threads. The first opens the module and calls each
 -- function of the program; the second calls the module's function with each number, and looks at its variable
 
+abbrev pub object_word : ℕ → List ℕ
+object_word i = codes " " ++ object_name i
+
 unfoldable pub program_line : ℕ → List ℕ
-program_line n = codes "image app exe" ++ flat_map (λ i. codes " " ++ object_name i) (range_with_len 1 n)
+program_line n = codes "image app exe" ++ flat_map object_word (range_with_len 1 n)
 
 unfoldable pub program_call : ℕ → List ℕ
 program_call i = codes "1 call app " ++ (function_name i ++ codes " 0 0 0\n")

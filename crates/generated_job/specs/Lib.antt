@@ -1,2 +1,4 @@
+pub mod Accesses
+pub mod Drafts
 pub mod Generated
 pub mod Shapes

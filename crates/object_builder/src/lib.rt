@@ -18,6 +18,9 @@
 //! For an object that is not as it should be, [`draft_of`] gives the same as records: change a field of one, then
 //! write the [`Draft`]. The bytes are written by `elf_records`, so a field stands where the gABI has it. No call
 //! judges what it is given.
+//!
+//! [`put_header`] and those beside it put records behind the bytes of a file. Each ensures that these bytes are kept, and
+//! that behind them stand those of the records, one after the other.
 #![tactic(auto)]
 
 mod draft;
@@ -26,3 +29,4 @@ mod put;
 
 pub use draft::{Draft, draft_of, object_of};
 pub use given::{Section, Symbol, rela};
+pub use put::{put_header, put_relocations, put_sections, put_symbols};
