@@ -26,20 +26,24 @@ objects_are n images few are =
     let late = late_bytes n in
     are.objects ∙ (rw (program, late) refl)
 
+abbrev LinksIn : List Given → Given → Type 0
+LinksIn images g = Links (link_in images true g)
+
 both_link : GeneratedObjectsLink → (n : ℕ) → 1 ≤ n → n ≤ 1000 → (images : List Given) → map (λ (g : Given). g.kind) images ≡ Exe ∷ Late ∷ []
     → map (λ (g : Given). g.objects) images ≡ program_objects n ∷ (object_bytes module_shape ∷ []) ∷ [] → All IsGiven images → AllLink images true
 unfolding link_in
 both_link laws n some few [] kinds objects given = cc
 both_link laws n some few (program ∷ []) kinds objects given = cc
 both_link laws n some few (program ∷ late ∷ []) kinds objects given =
-    All-cons P program (late ∷ []) (laws.program n some few (link_in images true program) (is_given images true program (omega arith) (given 0 program (omega arith))) refl cc cc)
-    (All-cons P late [] (laws.late (link_in images true late) (is_given images true late (omega arith) (given 1 late (omega arith))) refl cc cc) (All-nil P))
-  where
-    abbrev images : List Given
-    images = program ∷ late ∷ []
-
-    abbrev P : Given → Type 0
-    P g = Links (link_in images true g)
+    let two : List Given = program ∷ late ∷ [] in
+    let is_exe : program.kind ≡ Exe = cc in
+    let is_late : late.kind ≡ Late = cc in
+    let its : program.objects ≡ program_objects n = cc in
+    let own : late.objects ≡ object_bytes module_shape ∷ [] = cc in
+    All-cons (LinksIn two) program (late ∷ [])
+    (laws.program n some few (link_in two true program) (is_given two true program (omega arith) (given 0 program (omega arith))) refl is_exe its)
+    (All-cons (LinksIn two) late []
+    (laws.late (link_in two true late) (is_given two true late (omega arith) (given 1 late (omega arith))) refl is_late own) (All-nil (LinksIn two)))
 both_link laws n some few (program ∷ late ∷ other ∷ more) kinds objects given = cc
 
 pub made_link : GeneratedObjectsLink → (n : ℕ) → 1 ≤ n → n ≤ 1000 → (images : List Given) → AreGiven (bytes_in (generated_files n)) (generated_parts n) images → AllLink images true

@@ -93,18 +93,19 @@ mentions_are : (n : ℕ) → mentions_of (generated_parts n) ≡ map object_name
 unfolding mentions_of generated_parts
 mentions_are n = refl
 
+abbrev IsMadeFaultless : ℕ → List ℕ → Type 0
+IsMadeFaultless n name = IsFaultless (bytes_in (generated_files n) name)
+
 pub mentioned_faultless : GeneratedObjectsAreFaultless → (n : ℕ) → n ≤ 1000 → (name : List ℕ) → In (mentions_of (generated_parts n)) name
     → IsFaultless (bytes_in (generated_files n) name)
-mentioned_faultless objects n few name there = each_name P (late_name ∷ []) 1 n own late name (subst (λ names. In names name) (mentions_are n) there)
+mentioned_faultless objects n few name there =
+    each_name (IsMadeFaultless n) (late_name ∷ []) 1 n own late name (subst (λ names. In names name) (mentions_are n) there)
   where
-    abbrev P : List ℕ → Type 0
-    P other = IsFaultless (bytes_in (generated_files n) other)
-
-    own : (i : ℕ) → 1 ≤ i → i < 1 + n → P (object_name i)
+    own : (i : ℕ) → 1 ≤ i → i < 1 + n → IsMadeFaultless n (object_name i)
     own i low high =
         let below : i ≤ n = omega (arith, high) in
         subst IsFaultless (sym (program_bytes n i few low below)) (objects.program n i few low below)
 
-    late : (other : List ℕ) → In (late_name ∷ []) other → P other
-    late other (inl e) = subst P e (subst IsFaultless (sym (late_bytes n)) objects.late)
+    late : (other : List ℕ) → In (late_name ∷ []) other → IsMadeFaultless n other
+    late other (inl e) = subst (IsMadeFaultless n) e (subst IsFaultless (sym (late_bytes n)) objects.late)
     late other (inr none) = absurd none
