@@ -29,13 +29,13 @@ site_of form start len =
 
 -- ** general dynamic
 
-abbrev gd_first : Relocation
+abbrev pub gd_first : Relocation
 gd_first = relocation_of (entry_to_end 4 19 2)
 
-abbrev gd_second : Relocation
+abbrev pub gd_second : Relocation
 gd_second = relocation_of (entry_to_end 12 4 3)
 
-general_site : (getter : ℕ → Type 0) → getter 3
+pub general_site : (getter : ℕ → Type 0) → getter 3
     → IsSiteOf general_code (map relocation_of general_entries) getter 0 (site_of Gd 0 16)
 unfolding row register
 general_site getter named = record {
@@ -65,10 +65,10 @@ general_stray getter named other = stray_not general_code getter (site_of Gd 0 1
 
 -- ** initial executable
 
-abbrev ie_first : Relocation
+abbrev pub ie_first : Relocation
 ie_first = relocation_of (entry_to_end 3 22 2)
 
-initial_site : (getter : ℕ → Type 0)
+pub initial_site : (getter : ℕ → Type 0)
     → IsSiteOf initial_executable_code (map relocation_of initial_executable_entries) getter 0 (site_of IeMov 0 7)
 unfolding row register
 initial_site getter = record {
@@ -92,16 +92,16 @@ initial_stray getter other = stray_none initial_executable_code getter (ie_first
 
 -- ** local dynamic
 
-abbrev ld_first : Relocation
+abbrev pub ld_first : Relocation
 ld_first = relocation_of (entry_to_end 3 20 2)
 
-abbrev ld_second : Relocation
+abbrev pub ld_second : Relocation
 ld_second = relocation_of (entry_to_end 8 4 3)
 
-abbrev ld_offset : Relocation
+abbrev pub ld_offset : Relocation
 ld_offset = relocation_of (entry 14 21 2 (pos 0))
 
-local_site : (getter : ℕ → Type 0) → getter 3
+pub local_site : (getter : ℕ → Type 0) → getter 3
     → IsSiteOf local_code (map relocation_of local_entries) getter 0 (site_of Ld 0 12)
 unfolding row register
 local_site getter named = record {
@@ -131,13 +131,13 @@ local_stray getter named other = stray_not local_code getter (site_of Ld 0 12) l
 
 -- ** the module's code, general dynamic behind a push
 
-abbrev late_first : Relocation
+abbrev pub late_first : Relocation
 late_first = relocation_of (entry_to_end 5 19 2)
 
-abbrev late_second : Relocation
+abbrev pub late_second : Relocation
 late_second = relocation_of (entry_to_end 13 4 3)
 
-late_site : (getter : ℕ → Type 0) → getter 3
+pub late_site : (getter : ℕ → Type 0) → getter 3
     → IsSiteOf module_shape.code (map relocation_of module_shape.relocations) getter 0 (site_of Gd 1 16)
 unfolding row register module_shape
 late_site getter named = record {
@@ -204,7 +204,7 @@ local_faultless n i few =
     (λ b reads. local_loose (IsGetter b) (getter_named b s reads refl))
     (λ b reads. local_stray (IsGetter b) (getter_named b s reads refl) (variable_not b s reads))
 
-late_calls : module_shape.calls ≡ true
+pub late_calls : module_shape.calls ≡ true
 unfolding module_shape
 late_calls = refl
 

@@ -38,8 +38,11 @@ pub length_names : (s : Shape)
     → length (names_of s) ≡ 3 + length s.function + length s.variable + length (getter_name s.calls)
 unfolding names_of
 length_names s =
-    omega (arith, length-append s.function (0 ∷ s.variable ++ (0 ∷ getter_name s.calls)),
-    length-append s.variable (0 ∷ getter_name s.calls))
+    omega (
+      arith,
+      length-append s.function (0 ∷ s.variable ++ (0 ∷ getter_name s.calls)),
+      length-append s.variable (0 ∷ getter_name s.calls),
+    )
 
 pub few_names : (s : Shape) → IsSmall s → length (names_of s) < 1024
 few_names s small =

@@ -121,7 +121,13 @@ pub record IsSeen (b : List ℕ) (e : ℕ) (known : Known) : Type 0 where
 seen_reserved : (b : List ℕ) → IsSeen b 0 reserved
 unfolding symbol_name symbol_binding symbol_type symbol_visibility symbol_place symbol_value symbol_size
 seen_reserved b = record {
-  name_is = refl; binding_is = refl; kind_is = refl; shown = refl; placed = refl; value_is = refl; size_is = refl;
+  name_is = refl;
+  binding_is = refl;
+  kind_is = refl;
+  shown = refl;
+  placed = refl;
+  value_is = refl;
+  size_is = refl;
 }
 
 -- a name in the table of names
@@ -129,8 +135,12 @@ name_read : (b : List ℕ) (s : Shape) → IsLaid b s → (e : ℕ) (name : List
     → text_at (names_of s) (symbol b e).name ≡ name → symbol_name b e ≡ name
 unfolding symbol_name sections_of
 name_read b s laid e name above is =
-    rw (above_zero e above, sections.symbol_table_is b s laid, laid.sections_are 5 (omega arith),
-    sections.names_bytes b s laid) is
+    rw (
+      above_zero e above,
+      sections.symbol_table_is b s laid,
+      laid.sections_are 5 (omega arith),
+      sections.names_bytes b s laid,
+    ) is
   where
     above_zero : (e : ℕ) → 0 < e → nat_lt 0 e ≡ true
     above_zero e above = grind (arith, nat_tests)

@@ -56,8 +56,10 @@ mistargeted_not b s laid (inr kept) = bad_not kept.1
     whole n = omega arith
 
     table : IsTable b (section b 2).link
-    table = rw (laid.sections_are 2 (omega arith)) (within_eight b s laid 5 (omega arith) (omega arith),
-        ap (λ h. h.kind) (laid.sections_are 5 (omega arith)))
+    table = rw (laid.sections_are 2 (omega arith)) (
+      within_eight b s laid 5 (omega arith) (omega arith),
+      ap (λ h. h.kind) (laid.sections_are 5 (omega arith)),
+    )
 
     bad_not : ((section b 2).entsize ≢ 24) ⊎ ((section b 2).size % 24 ≢ 0) ⊎ (IsTable b (section b 2).link → ⊥)
         ⊎ (((section b (section b 2).info).kind ≡ 8) × ((section b 2).size ≢ 0)) ⊎ IsSecond b 2 → ⊥
@@ -114,8 +116,12 @@ pub relocations_lie_inside : (b : List ℕ) (s : Shape) → IsLaid b s → AreIn
 unfolding Stands sections_of
 relocations_lie_inside b s laid order r e stands =
     let second = (is_reloc b s laid r e stands.0).0 in
-    omega (arith, ap (λ h. h.size) (target_is b s laid r second), stands.1,
-    each_reloc b s laid (λ x. field_end x ≤ length s.code) order.within r e stands.0)
+    omega (
+      arith,
+      ap (λ h. h.size) (target_is b s laid r second),
+      stands.1,
+      each_reloc b s laid (λ x. field_end x ≤ length s.code) order.within r e stands.0,
+    )
 
 -- two fields that share a byte
 overlap_not : (x y : Rela) (k : ℕ) → field_end x ≤ y.offset → k < field_end x → y.offset ≤ k → ⊥

@@ -32,8 +32,11 @@ row_again width bytes read Fits law (r ∷ rs) (suc k) at front back d place fit
     let long = law.length_is r in
     let joined : length (front ++ bytes r) ≡ at + width = omega (arith, length-append front (bytes r)) in
     let further : at + width * suc k ≡ (at + width) + width * k = omega arith in
-    rw (further, append_assoc (bytes r) (flat_map bytes rs) back,
-      ← append_assoc front (bytes r) (flat_map bytes rs ++ back))
+    rw (
+      further,
+      append_assoc (bytes r) (flat_map bytes rs) back,
+      ← append_assoc front (bytes r) (flat_map bytes rs ++ back),
+    )
     (row_again width bytes read Fits law rs k (at + width) (front ++ bytes r) back d joined
     (all_but_first Fits r rs fit) (omega arith))
 

@@ -127,9 +127,12 @@ pub symbol_table_is : (b : List ℕ) (s : Shape) → IsLaid b s → symbol_table
 unfolding symbol_table sections_of first_below
 symbol_table_is b s laid =
     let passes : is_table b 5 ≡ true = rw (laid.sections_are 5 (omega arith)) refl in
-    let none : first_below (is_table b) 5 ≡ 0 = rw
-    (laid.sections_are 1 (omega arith), laid.sections_are 2 (omega arith), laid.sections_are 3 (omega arith),
-    laid.sections_are 4 (omega arith)) refl in
+    let none : first_below (is_table b) 5 ≡ 0 = rw (
+      laid.sections_are 1 (omega arith),
+      laid.sections_are 2 (omega arith),
+      laid.sections_are 3 (omega arith),
+      laid.sections_are 4 (omega arith),
+    ) refl in
     rw (count_is b s laid) (first_found (is_table b) 5 8 (omega arith) none passes (omega arith))
 
 pub table_of_code : (b : List ℕ) (s : Shape) → IsLaid b s → relocation_table b 1 ≡ 2

@@ -73,9 +73,11 @@ cell_of : (code : List ℕ) (xs : List Relocation) (cell : Cell) (place : ℕ) �
     → StandsIn code xs cell place
 cell_of code xs cell place test =
     let fit = fits cell (slice_index code place) in
-    let bare = not (is_literal cell) || is_bare xs place in
-    (left_of fit bare test, λ literal. bare_of xs place
-    (follows (is_literal cell) (is_bare xs place) (right_of fit bare test) (literal_of cell literal)))
+    let bare = not (is_literal cell) || is_bare xs place in (
+      left_of fit bare test,
+      λ literal. bare_of xs place
+          (follows (is_literal cell) (is_bare xs place) (right_of fit bare test) (literal_of cell literal)),
+    )
 
 cells_of : (code : List ℕ) (xs : List Relocation) (cells : List Cell) (start : ℕ) → cells_test code xs cells start ≡ true
     → (k : ℕ) (cell : Cell) → slice_get cells k ≡ Some cell → StandsIn code xs cell (start + k)
@@ -96,7 +98,7 @@ spelled_of code xs cells start inside test = record { inside = inside; stands = 
 
 -- ** entries
 
-each_entry : {X : Type 0} (P : X → Type 0) (xs : List X) → ByRecursion P xs → (f : ℕ) (x : X)
+pub each_entry : {X : Type 0} (P : X → Type 0) (xs : List X) → ByRecursion P xs → (f : ℕ) (x : X)
     → slice_get xs f ≡ Some x → P x
 each_entry P [] all f x is = absurd (cc)
 each_entry P (y ∷ ys) all zero x is =
@@ -146,12 +148,13 @@ variable_not b s reads is =
 pub getter_named : (b : List ℕ) (s : Shape) → ReadsAs b s → s.calls ≡ true → IsGetter b 3
 unfolding known_of
 getter_named b s reads calls =
-    let below : 3 < length (known_of s) = rw calls (omega arith) in
-    (omega (arith, reads.count),
-    reads.placed 3 below ∙ ap (λ c. (slice_index_or (known_getter c) 0 reserved).place) calls,
-    reads.names 3 below ∙ ap (λ c. (slice_index_or (known_getter c) 0 reserved).name) calls)
+    let below : 3 < length (known_of s) = rw calls (omega arith) in (
+      omega (arith, reads.count),
+      reads.placed 3 below ∙ ap (λ c. (slice_index_or (known_getter c) 0 reserved).place) calls,
+      reads.names 3 below ∙ ap (λ c. (slice_index_or (known_getter c) 0 reserved).name) calls,
+    )
 
-code_is : (b : List ℕ) (s : Shape) → ReadsAs b s → code_of b 1 ≡ s.code
+pub code_is : (b : List ℕ) (s : Shape) → ReadsAs b s → code_of b 1 ≡ s.code
 unfolding code_of
 code_is b s reads =
     ap (λ c. bytes_of_code c (section_bytes b 1)) reads.code_class ∙ reads.code_is

@@ -15,7 +15,7 @@ use Rattle.ports.specs.Files.{Files, file_at}
 use Rattle.job_link.specs.declared.fetching.Extent.{Extent}
 use Rattle.job_link.specs.Mentions.{bytes_in, Fetched}
 use Rattle.job_link.specs.Places.{files_in, AreWithin, IsWithin, Places}
-use Rattle.job_link.specs.Walks.{is_among, names_of, Grows}
+use Rattle.job_link.specs.Walks.{is_among, names_of, with_unseen, Grows}
 
 -- the test of a name that is lent, and the test of two
 abbrev pub is_name : List ℕ → Bor (List ℕ) → Bool
@@ -237,19 +237,38 @@ grown told old new entries es k start end result s t within appends insert none 
     files : files_in new entries ≡ files_in old es ++ (k.now, tail old new es k within appends) ∷ []
     files = ap (files_in new) now ∙ new_files old new es k within appends
 
+-- a file whose name is there changes nothing, and another goes last
+pub kept_unseen : (files : Fetched) (name bytes : List ℕ) → is_among (names_of files) name ≡ true
+    → files ≡ with_unseen files name bytes
+kept_unseen files name bytes among = rw among refl
+
+pub new_unseen : (files : Fetched) (name bytes : List ℕ) → is_among (names_of files) name ≡ false
+    → with_unseen files name bytes ≡ files ++ (name, bytes) ∷ []
+new_unseen files name bytes among = rw among refl
+
 -- the files after one was added whose name was not there
 pub added : (old new bytes : List ℕ) (entries es : Places) (k : Bor (List ℕ)) (start end : ℕ)
     → start ≡ length old → end ≡ length new → AreWithin old es → new ≡ old ++ bytes
     → entries ≡ insert_entry same_name es k (record { start = start; end = end })
     → is_some (lookup (is_name k.now) es) ≡ false
     → (files_in new entries ≡ files_in old es ++ (k.now, bytes) ∷ []) × AreWithin new entries
-added old new bytes entries es k start end s t within is insert none =
-    let front : take (length old) new ≡ old = ap (take (length old)) is ∙ take-append-le (length old) old bytes (omega arith) ∙ take_all (length old) old (omega arith) in
-    let same : tail old new es k within front ≡ bytes =
-    append_cancel_left old (tail old new es k within front) bytes (sym (grew old new es k within front) ∙ is) in
-    let places : entries ≡ es ++ last old new es k within front ∷ [] =
-    insert ∙ ap (λ (p : Extent). insert_entry same_name es k p) cc ∙ inserted es k (record { start = length old; end = length new }) none in (
-      ap (files_in new) places ∙ new_files old new es k within front
+added old new bytes entries es k start end s t within is insert none = (
+  ap (files_in new) now ∙ new_files old new es k within front
       ∙ ap (λ (part : List ℕ). files_in old es ++ (k.now, part) ∷ []) same,
-      subst (AreWithin new) (sym places) (new_within old new es k within front),
-    )
+  subst (AreWithin new) (sym now) (new_within old new es k within front),
+)
+  where
+    front : take (length old) new ≡ old
+    front =
+        ap (take (length old)) is ∙ take-append-le (length old) old bytes (omega arith)
+        ∙ take_all (length old) old (omega arith)
+
+    same : tail old new es k within front ≡ bytes
+    same =
+        append_cancel_left old (tail old new es k within front) bytes (sym (grew old new es k within front) ∙ is)
+
+    now : entries ≡ es ++ (k, record { start = length old; end = length new }) ∷ []
+    now =
+        insert ∙ inserted es k (record { start = start; end = end }) none
+        ∙ ap (λ (n : ℕ). es ++ (k, record { start = n; end = end }) ∷ []) s
+        ∙ ap (λ (n : ℕ). es ++ (k, record { start = length old; end = n }) ∷ []) t

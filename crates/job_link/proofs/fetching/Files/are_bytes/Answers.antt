@@ -1,4 +1,4 @@
-use Rattle.std.proofs.Common.{All, subst}
+use Rattle.std.proofs.Common.{subst}
 use Rattle.job_link.specs.Mentions.{bytes_in}
 use Rattle.job_link.proofs.Buffer.{Small, small_files}
 use Rattle.job_link.proofs.fetching.Files.are_bytes.Goals as goal
