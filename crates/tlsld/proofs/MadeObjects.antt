@@ -1,5 +1,5 @@
 -- The objects that are made, by their names.
-use Rattle.std.proofs.Common.{◌≡◌, ◌≢◌, ◌+◌, ◌≤◌, ◌<◌, ◌∙◌, ℕ, zero, suc, true, false, List, [], ◌∷◌, ◌++◌, map, ◌⊎◌, inl, inr, refl, sym, ap, subst, arith}
+use Rattle.std.proofs.Common.{◌≡◌, ◌≢◌, ◌+◌, ◌≤◌, ◌<◌, ℕ, zero, suc, true, false, List, [], ◌∷◌, ◌++◌, map, ◌⊎◌, inl, inr, refl, sym, ap, subst, arith}
 use Rattle.std.specs.Prelude.{codes, get_or}
 use Rattle.std.specs.Fmt.{decimal}
 use Rattle.std.specs.List.{range_with_len}
@@ -108,4 +108,4 @@ mentioned_faultless objects n few name there =
 
     late : (other : List ℕ) → In (late_name ∷ []) other → IsMadeFaultless n other
     late other (inl e) = subst (IsMadeFaultless n) e (subst IsFaultless (sym (late_bytes n)) objects.late)
-    late other (inr none) = absurd none
+    late other (inr never) = absurd never

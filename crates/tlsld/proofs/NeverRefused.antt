@@ -1,5 +1,5 @@
 -- Of a job that is made nothing is refused.
-use Rattle.std.proofs.Common.{◌≡◌, ◌≤◌, ℕ, true, List, Result, Ok, inl, inr, subst}
+use Rattle.std.proofs.Common.{◌≤◌, ℕ, true, List, Result, inl, inr, subst}
 use Rattle.command_replies.specs.declared.fault.CommandFault.{CommandFault}
 use Rattle.command_replies.specs.Steps.{Comes}
 use Rattle.generated_job.specs.Generated.{generated_files, generated_text}
@@ -10,7 +10,7 @@ use Rattle.job_link.specs.Given.{Given, AreGiven}
 use Rattle.job_link.specs.Mentions.{bytes_in, mentions_of}
 use Rattle.job_text.specs.Jobs.{job_of}
 use Rattle.tlsld.specs.GeneratedRuns.{GenSays, MadeSays}
-use Rattle.tlsld.specs.Links.{IsUnlinked, IsUnread}
+use Rattle.tlsld.specs.Links.{IsUnread}
 use Rattle.tlsld.specs.RunJobs.{BytesRun, ImagesRun}
 use Rattle.tlsld.specs.declared.telling.Telling.TheVariants.{Summary}
 use Rattle.tlsld.proofs.MadeImages.{made_link}
