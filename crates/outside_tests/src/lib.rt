@@ -1,7 +1,8 @@
 //! Tests of the program's outside by public calls alone: `ports` and `command_line`.
 //!
 //! No clause says what a disk, a writer or `clap` holds. So a store is tried over the host's files, and over a disk
-//! that fails or stops where a test says; a sink over a writer of that kind; and the words over those that users
+//! that fails or stops where a test says; a sink over a writer of that kind; what is said of
+//! progress over a clock and a standard error of that kind; and the words over those that users
 //! write.
 #![tactic(auto)]
 
@@ -11,6 +12,8 @@ mod disk;
 mod files;
 #[cfg(test)]
 mod memory;
+#[cfg(test)]
+mod progress;
 #[cfg(test)]
 mod words;
 #[cfg(test)]

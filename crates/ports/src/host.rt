@@ -1,7 +1,9 @@
 //! The store and the sink of the host: its file system, and a writer such as its standard output.
+mod progress;
 mod sink;
 mod store;
 mod streams;
 
+pub use progress::ProgressStore;
 pub use sink::HostSink;
 pub use store::{HostStore, LARGEST_FILE};

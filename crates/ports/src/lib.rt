@@ -33,6 +33,9 @@
 //! disk or a pipe holds, so these two are the edge where trust begins: their counts, and how they treat a
 //! buffer and a writer, are proved; that a path names a file, that the host keeps it, and that a writer was
 //! flushed, is only tested.
+//!
+//! [`ProgressStore`] is any store, and says on standard error how far it is where a command takes long. A contract
+//! sees it as the store within, so the clauses are those of that store; what it says, and when, is only tested.
 #![tactic(auto)]
 
 mod faults;
@@ -42,7 +45,7 @@ mod sinks;
 mod stores;
 
 pub use faults::{FetchFault, PutFault};
-pub use host::{HostSink, HostStore, LARGEST_FILE};
+pub use host::{HostSink, HostStore, LARGEST_FILE, ProgressStore};
 pub use memory::{MemorySink, MemoryStore};
 pub use sinks::Sink;
 pub use stores::Store;

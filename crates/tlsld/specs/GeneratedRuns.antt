@@ -1,11 +1,10 @@
 -- What `gen N` says: what is told of the run of a job that is made, over objects that are made.
-use Rattle.std.specs.Prelude.{ℕ, true, List, map, string_bytes, Result, Ok, Err}
+use Rattle.std.specs.Prelude.{ℕ, true, List, Result, Ok, Err}
 use Rattle.command_replies.specs.Says.{JobFaultSays}
 use Rattle.generated_job.specs.Generated.{generated_files}
-use Rattle.generated_job.specs.declared.files.GeneratedFile.{GeneratedFile}
 use Rattle.generated_laws.specs.Jobs.{generated_parts}
 use Rattle.job_link.specs.Given.{Given, AreGiven}
-use Rattle.job_link.specs.Mentions.{Fetched, bytes_in}
+use Rattle.job_link.specs.Mentions.{bytes_in}
 use Rattle.job_text.specs.Jobs.{JobParts}
 use Rattle.job_text.specs.declared.fault.JobFault.{JobFault}
 use Rattle.tlsld.specs.RunJobs.{AllRan, BytesRun}
@@ -18,10 +17,6 @@ pub record GenSays (count status : ℕ) (text : List ℕ) : Type 0 where
   pub ran : AllRan (Summary count) true (generated_parts count) images status text
 
 -- ** on the way
-
--- files that were made, with their names
-abbrev pub made_files : List GeneratedFile → Fetched
-made_files files = map (λ file. (string_bytes file.name, file.bytes.items)) files
 
 -- what a job, or a text that is none, says over objects that were made
 abbrev pub MadeSays : ℕ → Result JobParts JobFault → ℕ → List ℕ → Type 0

@@ -1,5 +1,6 @@
 //! The commands: for each one the steps from its words to its output, in the order in which their faults come.
 ghost use Rattle.std.specs.Prelude.{◌≡◌, [], ◌∷◌, IfOk, IfSome};
+ghost use Rattle.command_line.specs.Words.{IsInLimits};
 ghost use Rattle.command_replies.specs.Faults.{StoreCounts, NoStoreFault, KeepsFiles};
 ghost use Rattle.command_replies.specs.Replies.{AnswerCounts, AnswerKeeps};
 ghost use Rattle.command_replies.specs.Steps.{Asks, Comes};
@@ -21,6 +22,7 @@ use std::alloc::{AllocError, Global};
 /// What a command answers.
 #[tactic(auto, using(crate::proofs::Asked::asks_all))]
 pub fn answer<S: Store>(alloc: Global, task: &Task, store: &mut S) -> Answer
+    requires { IsInLimits task.now }
     ensures files { TaskLeaves (S.files store.old) (S.files store.new) task.now }
     ensures kept { AnswerKeeps (S.files store.old) (S.files store.new) result }
     ensures cause { AnswerCounts (S.faults store.old) (S.faults store.new) result }
@@ -45,6 +47,7 @@ pub fn answer<S: Store>(alloc: Global, task: &Task, store: &mut S) -> Answer
 /// What a command puts where nothing is wrong.
 #[tactic(auto, using(crate::proofs::Kept::keeps_same))]
 fn output<S: Store>(alloc: Global, task: &Task, store: &mut S) -> Result<Vec<u8>, CommandFault>
+    requires { IsInLimits task.now }
     ensures files { TaskLeaves (S.files store.old) (S.files store.new) task.now }
     ensures kept { KeepsFiles (S.files store.old) (S.files store.new) result }
     ensures cause { StoreCounts (S.faults store.old) (S.faults store.new) result }

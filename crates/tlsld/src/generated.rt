@@ -7,9 +7,8 @@ ghost use Rattle.command_replies.specs.Faults.{NoStoreFault};
 ghost use Rattle.command_replies.specs.Steps.{Comes};
 ghost use Rattle.job_link.specs.Mentions.{bytes_in};
 ghost use Rattle.generated_job.specs.Generated.{generated_files};
-ghost use Rattle.job_text.specs.Jobs.{job_of as job_of_text};
 ghost use Rattle.loaded_modules.specs.Given.{LateLast};
-ghost use Rattle.tlsld.specs.GeneratedRuns.{GenSays, MadeSays, made_files};
+ghost use Rattle.tlsld.specs.GeneratedRuns.{GenSays};
 ghost use Rattle.tlsld.specs.declared.telling.Telling.TheVariants.{Summary};
 ghost use Rattle.tlsld.specs.RunJobs.{BytesRun};
 
@@ -17,6 +16,9 @@ use crate::runs::run_files;
 use crate::telling::Telling;
 use command_replies::{CommandFault, job_of};
 use generated_job::{GeneratedFile, generated_objects, generated_text};
+use generated_laws::links::generated_objects_link;
+use generated_laws::objects::generated_objects_are_faultless;
+use generated_laws::texts::generated_texts_are_jobs;
 use job_link::Files;
 use job_text::Job;
 use loaded_modules::laws::late_images_come_last;
@@ -30,6 +32,9 @@ pub fn generated(alloc: Global, count: u32) -> Result<Vec<u8>, CommandFault>
     ensures cause { NoStoreFault result }
 {
     late_images_come_last();
+    generated_texts_are_jobs();
+    generated_objects_are_faultless();
+    generated_objects_link();
     let text = generated_text(alloc, count)?;
     match job_of(alloc, text.as_slice()) {
         Ok(job) => run_generated(alloc, &job, count),
@@ -52,11 +57,11 @@ fn run_generated(alloc: Global, job: &Job, count: u32) -> Result<Vec<u8>, Comman
 
 /// These files, as if they were fetched.
 fn files_of<'o>(alloc: Global, objects: &'o [GeneratedFile]) -> Result<Files<'o>, AllocError>
-    ensures { IfOk result (λ files. bytes_in files ≡ bytes_in (made_files objects.now)) }
+    ensures { IfOk result (λ files. bytes_in files ≡ bytes_in objects.now) }
 {
     let mut files = Files::empty(alloc);
     for object in objects {
-        files.add(object.name.as_str(), object.bytes.as_slice())?;
+        files.add(object.name(), object.bytes())?;
     }
     Ok(files)
 }

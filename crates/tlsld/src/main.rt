@@ -40,7 +40,8 @@ mod top;
 mod unlinked;
 mod wish;
 
-use ports::{HostSink, HostStore};
+use ports::{HostSink, HostStore, ProgressStore};
+use std::io::IsTerminal;
 use std::process::ExitCode;
 use std::{env, io};
 pub use top::{tlsld, tlsld_plain};
@@ -50,7 +51,8 @@ fn main(rt: HostRuntime) -> io::Result<ExitCode> {
     for word in env::args(&rt)?.skip(1) {
         words.push(word)?;
     }
-    let mut store = HostStore::new(&rt, rt.alloc());
+    let files = HostStore::new(&rt, rt.alloc());
+    let mut store = ProgressStore::new(files, &rt, rt.stderr().is_terminal());
     let mut out = HostSink::new(io::writer(&rt));
     let status = tlsld(&rt, rt.alloc(), words.as_slice(), &mut store, &mut out);
     Ok(ExitCode::from(status))

@@ -1,6 +1,6 @@
 //! The top calls, which `main` makes.
 ghost use Rattle.std.specs.Prelude.{◌≢◌, IfSome, None, false, map, string_bytes};
-ghost use Rattle.command_line.specs.Words.{asked, takes_words};
+ghost use Rattle.command_line.specs.Words.{IsInLimits, asked, takes_words};
 ghost use Rattle.command_replies.specs.Statuses.{FilesShown, UsageShown, StoreShown, SinkShown};
 ghost use Rattle.ports.specs.Files.{untold_files};
 ghost use Rattle.tlsld.specs.Replies.{Asked, AskedWords, Shows, ShowsWords, WordsLeave};
@@ -44,6 +44,7 @@ pub fn tlsld<R: Threads + Wait + Sync, S: Store, K: Sink>(
 /// Answers a command that waits for nobody.
 #[tactic(auto, using(crate::proofs::Kept::answer_kept))]
 pub fn tlsld_plain<S: Store, K: Sink>(alloc: Global, task: &Task, store: &mut S, out: &mut K) -> u8
+    requires within { IsInLimits task.now }
     ensures taken { result ≢ 2 }
     ensures store { StoreShown (S.faults store.old) (S.faults store.new) result }
     ensures sink { SinkShown (K.view out.old).faults (K.view out.new).faults result }

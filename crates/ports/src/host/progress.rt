@@ -1,0 +1,115 @@
+//! What a long command tells the person who waits for it.
+ghost use Rattle.std.specs.Prelude.{◌≡◌};
+
+use crate::{FetchFault, PutFault, Store};
+use std::marker::Model;
+use std::rt::Clock;
+use std::time::Instant;
+
+/// The seconds between two lines, and before the first.
+const INTERVAL: u64 = 1;
+
+/// Lines on standard error that say how far a command is: none in its first second, and then at most one a
+/// second. Where none are wanted no clock is asked. A clock or a standard error that fails costs lines and
+/// nothing else.
+#[derive(Drop)]
+struct Progress<'a, R: Clock + Eprint> {
+    rt: &'a R,
+    since: Option<Instant>,
+    fetched: u64,
+}
+
+impl<'a, R: Clock + Eprint> Progress<'a, R> {
+    fn new(rt: &'a R, is_shown: bool) -> Self {
+        let since = if is_shown {
+            Instant::now(rt).ok()
+        } else {
+            None
+        };
+        Progress {
+            rt,
+            since,
+            fetched: 0,
+        }
+    }
+
+    /// One file more was fetched.
+    fn count_file(&mut self) {
+        self.fetched = self.fetched.saturating_add(1);
+        if self.is_due() {
+            let fetched = self.fetched;
+            let _ = eprintln!(self.rt; "tlsld: {fetched} files fetched");
+        }
+    }
+
+    /// The output is about to be written.
+    fn begin_output(&mut self) {
+        if self.is_due() {
+            let _ = eprintln!(self.rt; "tlsld: writing out");
+        }
+    }
+
+    /// Whether it is time for a line. The next one is due a second later.
+    fn is_due(&mut self) -> bool {
+        let (Some(since), Some(now)) = (self.since, self.now()) else {
+            return false;
+        };
+        let is_due = now.duration_since(since).as_secs() >= INTERVAL;
+        if is_due {
+            self.since = Some(now);
+        }
+        is_due
+    }
+
+    /// The time, where lines are wanted and the clock tells it.
+    fn now(&self) -> Option<Instant> {
+        self.since?;
+        Instant::now(self.rt).ok()
+    }
+}
+
+/// A store that says on standard error how far it is, where that takes long: how many files it has fetched, and
+/// that a file is about to be written. A contract sees it as the store within.
+#[derive(Drop)]
+pub struct ProgressStore<'a, S: Store + Drop, R: Clock + Eprint> {
+    store: S,
+    progress: Progress<'a, R>,
+}
+
+impl<'a, S: Store + Drop, R: Clock + Eprint> Model for ProgressStore<'a, S, R> {
+    ghost Value = { S };
+
+    ghost view = { λ a. a.store };
+}
+
+impl<'a, S: Store + Drop, R: Clock + Eprint> ProgressStore<'a, S, R> {
+    /// The store, whose progress is shown on `rt`'s standard error where the caller says so, as it does if that is a
+    /// terminal: no bound on a runtime tells.
+    pub fn new(store: S, rt: &'a R, is_shown: bool) -> Self
+        ensures { result ≡ store }
+    {
+        ProgressStore {
+            store,
+            progress: Progress::new(rt, is_shown),
+        }
+    }
+}
+
+impl<'a, S: Store + Drop, R: Clock + Eprint> Store for ProgressStore<'a, S, R> {
+    ghost files = { S.files };
+
+    ghost faults = { S.faults };
+
+    ghost asked = { S.asked };
+
+    fn fetch(&mut self, name: &str, into: &mut Vec<u8>) -> Result<(), FetchFault> {
+        self.store.fetch(name, into)?;
+        self.progress.count_file();
+        Ok(())
+    }
+
+    fn put(&mut self, name: &str, bytes: &[u8]) -> Result<(), PutFault> {
+        self.progress.begin_output();
+        self.store.put(name, bytes)
+    }
+}
