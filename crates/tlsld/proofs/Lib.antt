@@ -2,9 +2,13 @@ mod Again
 mod Asked
 mod Kept
 mod MadeFiles
+mod MadeImages
+mod MadeObjects
 mod Making
 mod Membership
 mod Mentioned
+mod NeverRefused
+mod NoFault
 mod Places
 mod Running
 mod Shown
