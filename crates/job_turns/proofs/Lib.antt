@@ -1,6 +1,7 @@
 pub mod Answering
 pub mod AtOnce
 pub mod CutTurns
+pub mod Dataless
 pub mod FinishedTurns
 pub mod FirstTurn
 pub mod HeldWith
@@ -11,6 +12,7 @@ pub mod Numbers
 pub mod OneTurn
 pub mod OpensBegun
 pub mod Orders
+pub mod OwnTurns
 pub mod Resuming
 pub mod RunTurns
 pub mod RunningOn

@@ -32,6 +32,12 @@
 //! The clause of a turn (`specs/Standing`, `TakesTurn`) speaks of every thread of the definitions that the runner stands
 //! for: the turn that the definitions take with it leaves a thread that the runner stands for again.
 //!
+//! Where no image of the job has data that threads share ([`has_data`]), nothing goes from turn to turn but the history.
+//! [`Runner::turn`] is for such jobs, and its clause (`specs/Alone`, `TakesOwnTurn`) has no data in it: the turn is the one
+//! that the thread takes alone. A runner can be moved to another thread ([`laws`]), so threads that run at once can each
+//! have one. That it is the same turn as with the data in its hands, of which there are none, is shown both ways in
+//! `proofs/OwnTurns`.
+//!
 //! Between two turns the code *stands for* the definition's threads (`specs/Progress`, `Stands`): the history and the data
 //! are the same, and each runner stands for its thread and has seen a front of the history. A turn of thread k keeps this:
 //!
@@ -44,9 +50,11 @@
 //! (`proofs/FinishedTurns`).
 #![tactic(auto)]
 
+mod alone;
 mod answers;
 mod asking;
 mod job;
+pub mod laws;
 mod lines;
 mod runner;
 mod running;
@@ -54,6 +62,7 @@ mod taking;
 mod threads;
 mod turning;
 
+pub use alone::has_data;
 pub use asking::{Ask, LineAnswer};
 pub use job::run_job;
 pub use runner::Runner;

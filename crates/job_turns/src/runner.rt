@@ -1,8 +1,9 @@
 //! A thread's lines, turn by turn.
 
-ghost use Rattle.std.specs.Prelude.{◌≡◌, ◌≤◌, ◌<◌, ◌+◌, ◌*◌, ◌^◌, ◌∷◌, ◌++◌, ℕ, List, None, true, [], IfOk, OnOk, length, option_map, slice_get};
+ghost use Rattle.std.specs.Prelude.{◌≡◌, ◌≤◌, ◌<◌, ◌+◌, ◌*◌, ◌^◌, ◌∷◌, ◌++◌, ℕ, List, None, true, false, [], IfOk, OnOk, length, option_map, slice_get};
 ghost use Rattle.module_table.specs.Past.{after, is_legal};
 ghost use Rattle.thread_vector.specs.Holding.{IsLeftBy};
+ghost use Rattle.job_turns.specs.Alone.{TakesOwnTurn, has_data};
 ghost use Rattle.job_turns.specs.Asking.{answer_to, ask_by, ask_next};
 ghost use Rattle.thread_space.specs.Live.{HasStartups};
 ghost use Rattle.job_turns.specs.Standing.{IsFirstRun, IsGoing, TakesTurn, ask_of};
@@ -296,6 +297,24 @@ impl<'j, 'n, 'm> Runner<'j, 'n, 'm> {
             Some(call) => resume_line(script, begun, space, said, call, pieces),
             None => begin_line(script, begun, space, said, &lines[begun], answer, pieces),
         }
+    }
+
+    /// Takes the thread's next turn as [`Runner::turn_with`] does, in a job none of whose images has data that threads
+    /// share: so nothing is handed from turn to turn but the history, and threads that run at once can take theirs.
+    pub fn turn(
+        self,
+        events: &[Event],
+        answer: Option<LineAnswer>,
+    ) -> Result<Runner<'j, 'n, 'm>, AllocError>
+        requires going { IsGoing (ask_of self) }
+        requires legal { is_legal self.kept.vector.past events.now ≡ true }
+        requires room { self.kept.vector.past.seen + length events.now + 1 < 2 ^ 62 }
+        requires alone { has_data self.kept.vector.images ≡ false }
+        requires answer { answer ≡ answer_to (after self.kept.vector.past events.now) (ask_of self) }
+        ensures { IfOk result (λ r. TakesOwnTurn self.entry events.now r) }
+    {
+        let mut none = Data::new(self.alloc, self.names.modules())?;
+        self.turn_with(events, answer, &mut none)
     }
 
     /// What the thread said of its lines.
