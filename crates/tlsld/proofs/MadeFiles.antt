@@ -1,10 +1,11 @@
 -- Files that are held as if they were fetched: the first of each name.
-use Rattle.std.proofs.Common.{◌≡◌, ◌∙◌, ◌||◌, ℕ, Bool, true, false, cond, List, [], ◌∷◌, ◌++◌, Option, Some, None, is_some, inl, inr, refl, sym, ap, subst}
+use Rattle.std.proofs.Common.{◌≡◌, ◌∙◌, ◌+◌, ◌<◌, ◌≤◌, ◌||◌, ℕ, get_or, length, take, take_all, Bool, true, false, cond, List, [], ◌∷◌, ◌++◌, Option, Some, None, is_some, inl, inr, refl, sym, ap, subst}
 use Rattle.std.specs.Prelude.{◌⊎◌, unwrap_or, if◌then◌else◌}
 use Rattle.std.specs.List.{find}
 use Rattle.std.specs.Option.{option_map, option_or}
 use Rattle.std.specs.Str.{bytes_eq}
 use Rattle.std.proofs.Math.Path.{fun_ext}
+use Rattle.std.proofs.lemmas.List.{take_more}
 use Rattle.std.proofs.lemmas.List.Folds.{find-append}
 use Rattle.std.proofs.lemmas.Slice.Eq.{bytes_eq-Decides}
 use Rattle.job_link.specs.Mentions.{Fetched, bytes_in}
@@ -68,3 +69,19 @@ find_more files others name bytes alike x = by (is_among (names_of files) name) 
 pub bytes_alike : (files others : Fetched) → FindAlike files others → bytes_in files ≡ bytes_in others
 bytes_alike files others alike =
     fun_ext (λ name. ap (λ (f : Option File). unwrap_or (option_map (λ (file : File). file.1) f) []) (alike name))
+
+-- all of some files
+pub all_alike : (files others : Fetched) (i : ℕ) → FindAlike files (take i others) → length others ≤ i → bytes_in files ≡ bytes_in others
+all_alike files others i alike past =
+    bytes_alike files others (subst (λ (fs : Fetched). FindAlike files fs) (take_all i others past) alike)
+
+-- the next of them
+pub next_alike : (files after others : Fetched) (i : ℕ) (file : File) (name bytes : List ℕ) → FindAlike files (take i others)
+    → after ≡ with_unseen files name bytes → name ≡ file.0 → bytes ≡ file.1 → i < length others
+    → file ≡ get_or others i file → FindAlike after (take (i + 1) others)
+next_alike files after others i file name bytes alike is n b below here =
+    let pair : file ≡ (name, bytes) = rw (n, b) refl in
+    let last : take (i + 1) others ≡ take i others ++ (name, bytes) ∷ [] =
+    take_more others i file below ∙ ap (λ (f : File). take i others ++ f ∷ []) (sym here ∙ pair) in
+    subst (λ (fs : Fetched). FindAlike fs (take (i + 1) others)) (sym is)
+    (subst (λ (fs : Fetched). FindAlike (with_unseen files name bytes) fs) (sym last) (find_more files (take i others) name bytes alike))

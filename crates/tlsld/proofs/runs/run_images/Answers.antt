@@ -31,7 +31,7 @@ returns-in_ok-text-in-Ok-clause-says c =
             c.in_ok-text-in-Ok.ensures
             ∙ ap (λ counts. told c.args.telling c.args.job.now.images counts c.in_ok-transcript-in-Ok.transcript)
             (c.in_ok-counts-in-Ok.ensures
-            ∙ ap counts_of (c.as_slice-in-Ok.ensures.value ∙ c.in-Ok.ensures.linked
+            ∙ ap counts_of (c.as_slice.ensures.value ∙ c.in-Ok.ensures.linked
             ∙ linked_all c.args.images.now c.args.relax c.args.images.now)));
       };
     })
