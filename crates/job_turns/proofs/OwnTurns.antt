@@ -1,26 +1,24 @@
 -- Where no image has data, the turn with the shared data in a thread's hands is one that the thread takes alone.
-use Rattle.std.proofs.Common.{◌≡◌, ◌∙◌, ◌+◌, ◌-◌, ◌*◌, ◌++◌, ℕ, Bool, false, List, [], ◌∷◌, length, Option, Some, None, refl, sym, ap, subst, append-nil}
+use Rattle.std.proofs.Common.{◌≡◌, ◌∙◌, ◌+◌, ◌-◌, ◌++◌, ℕ, Bool, false, List, [], ◌∷◌, length, Option, Some, None, refl, sym, ap, subst, append-nil}
 use Rattle.std.specs.Prelude.{drop, slice_get}
 use Rattle.std.proofs.lemmas.List.{drop_more}
-use Rattle.std.proofs.lemmas.Option.{none-some}
 use Rattle.guest_arithmetic.specs.Plain.{plain_operations}
 use Rattle.guest_machine.specs.Run.{Outcome, Ended, Waits, run}
 use Rattle.guest_operands.specs.declared.state.State.{State}
 use Rattle.guest_operands.specs.Use.{left}
 use Rattle.job_text.specs.declared.thread_lines.ThreadLine.{ThreadLine}
-use Rattle.loaded_modules.specs.Images.{JobImages, infos, last_offset}
 use Rattle.module_data.specs.Pieces.{Piece}
 use Rattle.module_table.specs.declared.events.Event.{Event}
-use Rattle.module_table.specs.Past.{after, past}
+use Rattle.module_table.specs.Past.{after}
 use Rattle.thread_blocks.specs.declared.asked.Asked.{Asked}
 use Rattle.thread_blocks.specs.Held.{Owned, Owner, looked, looked_at, owned_by, owners_of, ranges_in, with_owned}
 use Rattle.thread_blocks.specs.Instances.{Loads}
 use Rattle.thread_blocks.specs.JobLoads.{job_loads}
 use Rattle.thread_blocks.specs.JobStatements.{HasNoData}
 use Rattle.thread_blocks.specs.JobWorlds.{blocks_in, changed, held_in, numbered_lines, with_data, without_data}
-use Rattle.thread_blocks.specs.Lines.{Line, begin_line, begun_by, event_by}
-use Rattle.thread_blocks.specs.RunTime.{Runs, resume_line, shows, thread_steps, thread_turns}
-use Rattle.thread_blocks.specs.Turns.{Said, Begun, Says, Calls, Turns, Phase, Idle, Mid, Thread, after_look, after_run, event_of, turn, turn_at, with_event, with_last}
+use Rattle.thread_blocks.specs.Lines.{Line, begin_line, begun_by}
+use Rattle.thread_blocks.specs.RunTime.{Runs, resume_line, shows, thread_turns}
+use Rattle.thread_blocks.specs.Turns.{Said, Begun, Says, Calls, Turns, Phase, Idle, Mid, Thread, after_look, after_run, turn, turn_at, with_last}
 use Rattle.thread_blocks.proofs.OwnBlocks.{BegunHolds, HoldsBlocks, OutHolds, begin_holds, blocks_again, no_data, owners_again, ranges_again, resume_holds, run_holds}
 use Rattle.thread_space.specs.Kept.{Kept, blocks_of, shared_of}
 use Rattle.thread_space.proofs.Owners.{owned_again}

@@ -6,7 +6,8 @@ use ports::{MemorySink, MemoryStore};
 use std::test::Fail;
 
 /// A module that is called, closed and opened again.
-const JOB: &[u8] = b"image app exe a.o\nimage plug late writer.o\n1 open plug\n1 call plug f 7 0 0\n1 peek plug v 4\n\
+const JOB: &[u8] =
+    b"image app exe a.o\nimage plug late writer.o\n1 open plug\n1 call plug f 7 0 0\n1 peek plug v 4\n\
     1 close plug\n1 open plug\n1 peek plug v 4\n";
 
 const LINES: &[u8] =

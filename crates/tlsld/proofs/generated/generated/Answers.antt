@@ -1,9 +1,9 @@
-use Rattle.std.proofs.Common.{◌∙◌, subst, sym, ap, Ok}
+use Rattle.std.proofs.Common.{◌∙◌, subst, sym, ap}
 use Rattle.job_text.specs.Jobs.{job_of}
 use Rattle.tlsld.specs.GeneratedRuns.{MadeSays}
 use Rattle.tlsld.proofs.NeverRefused.{never_refused_comes}
-use Rattle.tlsld.proofs.Stages.{items}
 use Rattle.command_replies.specs.Steps.{Comes}
+use Rattle.tlsld.proofs.Stages.{items}
 use Rattle.tlsld.proofs.generated.generated.Goals as goal
 
 pub returns-in-Ok-clause-says : goal.returns-in-Ok-clause-says

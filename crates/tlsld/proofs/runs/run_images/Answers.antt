@@ -27,12 +27,14 @@ returns-in_ok-text-in-Ok-clause-says c =
         transcript = c.in_ok-transcript-in-Ok.transcript;
         ran = c.in_ok-transcript-in-Ok.ensures.ran (links_of c.args.images.now c.args.relax) links
             (c.in-Ok.ensures.linked ∙ linked_all c.args.images.now c.args.relax c.args.images.now);
-        says = (refl,
-            c.in_ok-text-in-Ok.ensures
-            ∙ ap (λ counts. told c.args.telling c.args.job.now.images counts c.in_ok-transcript-in-Ok.transcript)
-            (c.in_ok-counts-in-Ok.ensures
-            ∙ ap counts_of (c.as_slice.ensures.value ∙ c.in-Ok.ensures.linked
-            ∙ linked_all c.args.images.now c.args.relax c.args.images.now)));
+        says = (
+          refl,
+          c.in_ok-text-in-Ok.ensures
+              ∙ ap (λ counts. told c.args.telling c.args.job.now.images counts c.in_ok-transcript-in-Ok.transcript)
+              (c.in_ok-counts-in-Ok.ensures
+              ∙ ap counts_of (c.as_slice.ensures.value ∙ c.in-Ok.ensures.linked
+              ∙ linked_all c.args.images.now c.args.relax c.args.images.now)),
+        );
       };
     })
 
