@@ -1,0 +1,2 @@
+mod Staged
+mod Together

@@ -1,0 +1,66 @@
+//! What a registry answers to a thread.
+
+ghost use Rattle.std.specs.Prelude.{◌≡◌, IfOk, OnOk};
+ghost use Rattle.module_table.specs.History.{left};
+ghost use Rattle.job_turns.specs.declared.asking.Ask.TheVariants.{Closes, Opens};
+ghost use Rattle.job_turns.specs.Asking.{answer_to};
+ghost use Rattle.job_turns.specs.Turning.{AddsAsked};
+
+use job_turns::{Ask, LineAnswer};
+use module_table::{CloseRefusal, OpenRefusal, Registry};
+use std::alloc::AllocError;
+
+/// The answer to an open. The only error is want of memory.
+#[tactic(auto, unfolding(module_table::specs::History::open_answer, module_table::specs::History::opened_of))]
+fn open(
+    registry: &mut Registry,
+    thread: u32,
+    line: u32,
+    image: u32,
+) -> Result<Option<LineAnswer>, AllocError>
+    ensures answer { IfOk result (λ answer. answer ≡ answer_to (left registry.old) (Opens line image)) }
+    ensures adds { OnOk result (AddsAsked thread (Opens line image) registry.old registry.new) }
+{
+    match registry.open(thread, line, image) {
+        Ok(opened) => Ok(Some(LineAnswer::Opened(Ok(opened)))),
+        Err(OpenRefusal::OutOfMemory) => Err(AllocError),
+        Err(refusal) => Ok(Some(LineAnswer::Opened(Err(refusal)))),
+    }
+}
+
+/// The answer to a close. The only error is want of memory.
+#[tactic(auto, unfolding(module_table::specs::History::close_answer, module_table::specs::History::closed_of))]
+fn close(
+    registry: &mut Registry,
+    thread: u32,
+    line: u32,
+    image: u32,
+) -> Result<Option<LineAnswer>, AllocError>
+    ensures answer { IfOk result (λ answer. answer ≡ answer_to (left registry.old) (Closes line image)) }
+    ensures adds { OnOk result (AddsAsked thread (Closes line image) registry.old registry.new) }
+{
+    match registry.close(thread, line, image) {
+        Ok(closed) => Ok(Some(LineAnswer::Closed(Ok(closed)))),
+        Err(CloseRefusal::OutOfMemory) => Err(AllocError),
+        Err(refusal) => Ok(Some(LineAnswer::Closed(Err(refusal)))),
+    }
+}
+
+/// The answer to what a thread asks; an open or a close that is accepted stands in the history then.
+pub fn answer(
+    registry: &mut Registry,
+    thread: u32,
+    ask: Ask,
+) -> Result<Option<LineAnswer>, AllocError>
+    ensures answer { IfOk result (λ answer. answer ≡ answer_to (left registry.old) ask) }
+    ensures adds { OnOk result (AddsAsked thread ask registry.old registry.new) }
+{
+    match ask {
+        Ask::Done | Ask::Look(_) => {
+            registry.len();
+            Ok(None)
+        }
+        Ask::Opens(line, image) => open(registry, thread, line, image),
+        Ask::Closes(line, image) => close(registry, thread, line, image),
+    }
+}
