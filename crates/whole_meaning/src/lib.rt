@@ -1,0 +1,6 @@
+//! Sequences as steps.
+#![tactic(auto)]
+
+mod marks;
+
+pub use marks::Mark;
