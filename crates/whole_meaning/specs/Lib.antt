@@ -2,6 +2,7 @@ pub mod Bytes
 pub mod Code
 pub mod Fields
 pub mod Jobs
+pub mod Laws
 pub mod Loads
 pub mod Meanings
 pub mod Reading

@@ -101,8 +101,8 @@ after_call state = without_flags (record state {
 
 -- ** the step
 
--- thread: the thread that runs it; start: where that thread's block of the target's instance begins
-module _ {M : Type 0} (stack : Stack M) (s : Sequence) (thread start : ℕ) where
+-- start: where the thread's block of the target's instance begins
+module _ (s : Sequence) (start : ℕ) where
   -- the address of the variable, and its distance from the thread pointer
   abbrev pub variable_address : ℕ
   variable_address = plus start s.offset
@@ -110,6 +110,8 @@ module _ {M : Type 0} (stack : Stack M) (s : Sequence) (thread start : ℕ) wher
   abbrev pub variable_distance : ℕ → ℕ
   variable_distance pointer = plus variable_address (2 ^ 64 - pointer)
 
+-- thread: the thread that runs it
+module _ {M : Type 0} (stack : Stack M) (s : Sequence) (thread start : ℕ) where
   -- the base of the thread's own block
   abbrev pub own_base : Word
   own_base = Marked (Base (record { thread = thread; instance = s.instance; start = start }))
@@ -123,14 +125,14 @@ module _ {M : Type 0} (stack : Stack M) (s : Sequence) (thread start : ℕ) wher
   -- a register holds the distance
   abbrev pub loaded : State Word Flag → M → Result (After Word Flag M) Stop
   loaded state memory =
-      Ok (left (at_place (with_word state s.register (Number (variable_distance state.thread_pointer))) s.next) memory)
+      Ok (left (at_place (with_word state s.register (Number (variable_distance s start state.thread_pointer))) s.next) memory)
 
   -- the distance is added to a register, and the flags are unknown
   abbrev pub added : State Word Flag → M → Result (After Word Flag M) Stop
   added state memory = do
     number ← clean state.place (used_number (register_of state.registers s.register))
     Ok (left (at_place (without_flags
-        (with_word state s.register (Number (plus number (variable_distance state.thread_pointer))))) s.next) memory)
+        (with_word state s.register (Number (plus number (variable_distance s start state.thread_pointer))))) s.next) memory)
 
   -- %rax holds the descriptor
   abbrev pub described : State Word Flag → M → Result (After Word Flag M) Stop
@@ -144,13 +146,13 @@ module _ {M : Type 0} (stack : Stack M) (s : Sequence) (thread start : ℕ) wher
   abbrev pub descriptor_called : State Word Flag → M → Result (After Word Flag M) Stop
   descriptor_called state memory = do
     uses ← clean state.place (descriptor_calls state memory)
-    Ok (left (at_place (without_flags (with_answer (Number (variable_distance state.thread_pointer)) state)) s.next)
+    Ok (left (at_place (without_flags (with_answer (Number (variable_distance s start state.thread_pointer)) state)) s.next)
         (stack.forget memory uses.1))
 
   -- what the form does
   abbrev pub does : Form → State Word Flag → M → Result (After Word Flag M) Stop
-  does Gd state memory = called_with (Number variable_address) state memory
-  does GdInd state memory = called_with (Number variable_address) state memory
+  does Gd state memory = called_with (Number (variable_address s start)) state memory
+  does GdInd state memory = called_with (Number (variable_address s start)) state memory
   does Ld state memory = called_with own_base state memory
   does LdInd state memory = called_with own_base state memory
   does IeMov state memory = loaded state memory
