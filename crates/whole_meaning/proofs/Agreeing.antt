@@ -1,25 +1,19 @@
 -- Where code is usual the step is that of a meaning that knows of no field and no sequence.
-use Rattle.std.proofs.Common.{◌≡◌, ℕ, zero, suc, ◌+◌, Bool, true, false, List, length, take, Option, Some, None, Result, refl, sym, ap, ◌∙◌}
+use Rattle.std.proofs.Common.{◌≡◌, ℕ, zero, suc, ◌+◌, Bool, true, false, List, length, take, Option, Some, None, refl}
 use Rattle.std.specs.Prelude.{◌||◌, if◌then◌else◌}
 use Rattle.std.specs.List.{list_any}
 use Rattle.amd64_subset.specs.declared.instr.Decoded.{Decoded}
-use Rattle.amd64_subset.specs.declared.instr.Instr.{Instr}
 use Rattle.amd64_subset.specs.Beginning.{begins_of}
 use Rattle.amd64_subset.specs.Decoding.{decoded}
 use Rattle.guest_arithmetic.specs.declared.cause.Cause.{Cause}
 use Rattle.guest_arithmetic.specs.Values.{Operations}
-use Rattle.guest_operands.specs.declared.frame.Frame.{Frame}
 use Rattle.guest_operands.specs.declared.state.State.{State}
-use Rattle.guest_operands.specs.declared.stop.Stop.{Stop}
 use Rattle.guest_operands.specs.Access.{Accesses, fetch_of}
 use Rattle.guest_operands.specs.Frame.{frame_of}
-use Rattle.guest_operands.specs.Use.{After, plus}
-use Rattle.guest_machine.specs.declared.touch.Touches.{Touches}
-use Rattle.guest_machine.specs.Step.{act, act_if}
-use Rattle.guest_machine.specs.Touch.{next_touches, touched, touches_if, touches_of}
+use Rattle.guest_machine.specs.Step.{act_if}
+use Rattle.guest_machine.specs.Touch.{next_touches, touched, touches_if}
 use Rattle.job_meaning.specs.declared.marks.Mark.TheVariants.{Usual as Plain}
-use Rattle.job_meaning.specs.Reading.{beside_linker, hindrance as plain_hindrance, completed, meaning_step, read_step, reaches_linker as reaches_plain}
-use Rattle.whole_meaning.specs.declared.marks.Mark.{Mark}
+use Rattle.job_meaning.specs.Reading.{hindrance as plain_hindrance, completed, meaning_step, read_step, reaches_linker as reaches_plain}
 use Rattle.whole_meaning.specs.declared.marks.Mark.TheVariants.{Usual}
 use Rattle.whole_meaning.specs.Fields.{address_at, marked_frame, number_in}
 use Rattle.whole_meaning.specs.Laws.{UsualCodeAgrees}

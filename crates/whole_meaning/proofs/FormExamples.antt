@@ -1,18 +1,14 @@
 -- Each form of sequence, in a program that has the variable itself: files of objects, and what their jobs say.
-use Rattle.std.proofs.Common.{◌≡◌, ℕ, Bool, true, false, List, [], ◌∷◌, Some, None, refl}
+use Rattle.std.proofs.Common.{◌≡◌, ℕ, true, List, [], ◌∷◌, refl}
 use Rattle.std.specs.Prelude.{codes}
-use Rattle.job_text.specs.declared.thread_lines.Action.TheVariants.{Call, Open, Close, Peek}
-use Rattle.job_text.specs.declared.thread_lines.ThreadLine.{ThreadLine}
-use Rattle.link_faults.specs.declared.image_kind.ImageKind.TheVariants.{Exe, Pie, Start, Late}
+use Rattle.job_text.specs.declared.thread_lines.Action.TheVariants.{Call, Peek}
+use Rattle.link_faults.specs.declared.image_kind.ImageKind.TheVariants.{Exe}
 use Rattle.link_needs.specs.Linking.{Linking}
-use Rattle.guest_arithmetic.specs.declared.cause.Cause.TheVariants.{Inside, Field, Linker, Undefined, Flags, Base, Descriptor, Answer, Steps}
-use Rattle.guest_operands.specs.declared.stop.Stop.TheVariants.{Returned, Address, Code}
-use Rattle.transcript_text.specs.declared.outcomes.LineFault.TheVariants.{Unloaded}
-use Rattle.transcript_text.specs.declared.outcomes.LineRefusal.TheVariants as refused
-use Rattle.transcript_text.specs.declared.outcomes.Outcome.TheVariants.{Opened, Closed, Bytes, Fault, Refused}
+use Rattle.guest_operands.specs.declared.stop.Stop.TheVariants.{Returned}
+use Rattle.transcript_text.specs.declared.outcomes.Outcome.TheVariants.{Bytes}
 use Rattle.thread_blocks.specs.Turns.{Answered, Stopped}
 use Rattle.sequence_forms.specs.declared.forms.Form.TheVariants.{Gd, Ld, IeMov, IeAdd, GdInd, LdInd, DescLea, DescCall}
-use Rattle.whole_meaning.proofs.Opened.{file, verdict, told}
+use Rattle.whole_meaning.proofs.Opened.{file, told}
 
 general_b_o : List ℕ
 unfolding file

@@ -1,8 +1,6 @@
 -- Distances from the thread pointer, and numbers of symbols.
-use Rattle.std.proofs.Common.{◌≡◌, ◌<◌, ◌^◌, ℕ, arith, ap}
-use Rattle.link_faults.specs.declared.symbol_ref.SymbolRef.{SymbolRef}
+use Rattle.std.proofs.Common.{arith}
 use Rattle.whole_meaning.specs.Laws.{AnswersAgree, NumbersAreOwn}
-use Rattle.whole_meaning.specs.Sequences.{Sequence}
 
 pub answers : AnswersAgree
 answers s start pointer low = omega (arith, low)

@@ -15,7 +15,6 @@ use Rattle.link_faults.specs.declared.symbol_ref.SymbolRef.{SymbolRef}
 use Rattle.link_needs.specs.Linking.{Linking, address, binding, block_offset, layout, object, offset, place}
 use Rattle.object_faults.specs.declared.class.SectionClass.{SectionClass}
 use Rattle.object_faults.specs.declared.class.SectionClass.TheVariants.{Executable, Tls}
-use Rattle.tls_layout.specs.declared.extent.Extent.{Extent}
 use Rattle.tls_layout.specs.Laws.{extent_for}
 use Rattle.tls_layout.specs.Places.{executable, tls_size}
 use Rattle.tls_layout.specs.Sections.{is_class}
@@ -23,7 +22,7 @@ use Rattle.tls_relocs.specs.declared.fields.Field.{Field}
 use Rattle.tls_relocs.specs.declared.fields.Field.TheVariants.{Empty}
 use Rattle.tls_relocs.specs.Fields.{field_bytes}
 use Rattle.tls_relocs.specs.Values.{stored_field}
-use Rattle.tls_symbols.specs.Bindings.{is_tls_symbol, object_at}
+use Rattle.tls_symbols.specs.Bindings.{is_tls_symbol}
 use Rattle.tls_symbols.specs.Definitions.{definition_of}
 use Rattle.whole_meaning.specs.Spots.{Spot, spot_in}
 

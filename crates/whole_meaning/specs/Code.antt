@@ -1,5 +1,5 @@
 -- What each place of an instance's code is, and which sequence begins there.
-use Rattle.std.specs.Prelude.{ℕ, pos, ◌+ℤ◌, ◌+◌, ◌-◌, ◌*◌, ◌%◌, ◌^◌, ◌==◌, ◌&&◌, Bool, List, Option, Some, None, nat_le, nat_lt, unwrap_or, option_map, option_and_then, slice_get}
+use Rattle.std.specs.Prelude.{ℕ, pos, ◌+ℤ◌, ◌+◌, ◌-◌, ◌*◌, ◌%◌, ◌^◌, ◌==◌, ◌&&◌, Bool, List, Option, Some, None, nat_le, nat_lt, unwrap_or, option_map, option_and_then}
 use Rattle.std.specs.List.{find}
 use Rattle.amd64_subset.specs.Register.{register_of as numbered_register}
 use Rattle.elf_object.specs.declared.relocation.Relocation.{Relocation}
@@ -7,9 +7,9 @@ use Rattle.elf_object.specs.Lent.{relocations, symbol_name}
 use Rattle.elf_records.specs.declared.relocation.RelocationKind.{RelocationKind}
 use Rattle.elf_records.specs.declared.relocation.RelocationKind.TheVariants.{DtpOff32, GotPcRel, GotPcRelX, RexGotPcRelX}
 use Rattle.link_faults.specs.declared.binding.Binding.{Binding}
-use Rattle.link_faults.specs.declared.binding.Binding.TheVariants.{Here, Startup, Runtime}
+use Rattle.link_faults.specs.declared.binding.Binding.TheVariants.{Here, Startup}
 use Rattle.link_faults.specs.declared.symbol_ref.SymbolRef.{SymbolRef}
-use Rattle.link_needs.specs.Linking.{Linking, address, binding, layout, object, offset, sites_at}
+use Rattle.link_needs.specs.Linking.{Linking, binding, object, offset, sites_at}
 use Rattle.object_faults.specs.declared.class.SectionClass.TheVariants.{Executable}
 use Rattle.sequence_forms.specs.declared.forms.Form.{Form}
 use Rattle.sequence_forms.specs.declared.forms.Form.TheVariants.{Ld, LdInd}
@@ -22,7 +22,7 @@ use Rattle.whole_meaning.specs.declared.marks.Mark.{Mark}
 use Rattle.whole_meaning.specs.declared.marks.Mark.TheVariants.{Usual, Offset, Address, Inside}
 use Rattle.whole_meaning.specs.Bytes.{covers, symbol_number}
 use Rattle.whole_meaning.specs.Sequences.{Sequence}
-use Rattle.whole_meaning.specs.Spots.{Spot, begin_of, bias_of, spot_in}
+use Rattle.whole_meaning.specs.Spots.{Spot, bias_of, spot_in}
 
 -- ** sequences in sections
 

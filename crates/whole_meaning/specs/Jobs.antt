@@ -1,6 +1,6 @@
 -- What all threads of a job mean, and whether that is clean: the turns are those of the machine's threads, in the same
 -- order, and the data goes from turn to turn.
-use Rattle.std.specs.Prelude.{ℕ, ◌+◌, ◌*◌, ◌++◌, Bool, true, suc, List, [], ◌∷◌, codes, map, Option, Some, None}
+use Rattle.std.specs.Prelude.{ℕ, ◌+◌, ◌*◌, ◌++◌, true, suc, List, [], ◌∷◌, codes, map, Option, Some, None}
 use Rattle.std.specs.Fmt.{decimal}
 use Rattle.std.specs.List.{flat_map}
 use Rattle.std.specs.Option.{option_or}

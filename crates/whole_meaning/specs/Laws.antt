@@ -1,5 +1,5 @@
 -- What is so of the meaning, in words that know nothing of how it is defined.
-use Rattle.std.specs.Prelude.{◌≡◌, ◌<◌, ◌≤◌, ◌^◌, ℕ, Bool}
+use Rattle.std.specs.Prelude.{◌≡◌, ◌<◌, ◌^◌, ℕ, Bool}
 use Rattle.guest_operands.specs.declared.state.State.{State}
 use Rattle.guest_operands.specs.Access.{Accesses}
 use Rattle.guest_operands.specs.Use.{plus}

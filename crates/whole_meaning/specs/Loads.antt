@@ -1,6 +1,6 @@
 -- The meaning of a job's images, made of their objects: each section of a live instance at its place. There is no table
 -- of a linker's, no module id, and nothing that a loader would write.
-use Rattle.std.specs.Prelude.{ℕ, ◌+◌, ◌-◌, ◌&&◌, Bool, true, false, List, [], ◌∷◌, Option, Some, None, map, nat_lt, option_and_then, option_map, if◌then◌else◌}
+use Rattle.std.specs.Prelude.{ℕ, ◌+◌, ◌&&◌, Bool, true, false, List, [], ◌∷◌, Option, Some, None, map, nat_lt, option_and_then, option_map, if◌then◌else◌}
 use Rattle.std.specs.List.{list_any}
 use Rattle.guest_machine.specs.Ranges.{Range}
 use Rattle.job_meaning.specs.declared.values.Byte.{Byte}
@@ -18,15 +18,12 @@ use Rattle.sequence_forms.specs.declared.forms.Form.TheVariants.{IeMov, IeAdd}
 use Rattle.sequence_forms.specs.declared.places.Site.{Site}
 use Rattle.thread_blocks.specs.Instances.{Loads}
 use Rattle.thread_blocks.specs.Turns.{at_number}
-use Rattle.tls_layout.specs.declared.extent.Extent.{Extent}
 use Rattle.tls_layout.specs.Laws.{extent_for}
 use Rattle.tls_layout.specs.Places.{tls_alignment, tls_size}
-use Rattle.whole_meaning.specs.declared.marks.Mark.{Mark}
 use Rattle.whole_meaning.specs.declared.marks.Mark.TheVariants.{Usual}
 use Rattle.whole_meaning.specs.Bytes.{block_bytes, class_bytes, function_of, variable_of}
 use Rattle.whole_meaning.specs.Code.{mark_of, sequence_of}
 use Rattle.whole_meaning.specs.Meanings.{Meaning}
-use Rattle.whole_meaning.specs.Sequences.{Sequence}
 use Rattle.whole_meaning.specs.Spots.{bias_of, in_room}
 
 -- ** what is known of an image from the start

@@ -1,5 +1,5 @@
 -- Runs of the meaning: a sequence is one step, and so is any other instruction.
-use Rattle.std.specs.Prelude.{ℕ, ◌==◌, Bool, Option, Some, None, Result, if◌then◌else◌}
+use Rattle.std.specs.Prelude.{ℕ, ◌==◌, Bool, Option, Some, None, if◌then◌else◌}
 use Rattle.guest_arithmetic.specs.declared.cause.Cause.TheVariants as cause
 use Rattle.guest_arithmetic.specs.Values.{Operations}
 use Rattle.guest_operands.specs.declared.stop.Stop.{Stop}

@@ -1,24 +1,20 @@
 -- The step of a sequence, each form by a sentence of its own (Drepper, "ELF Handling For Thread-Local Storage",
 -- section 4; psABI, "Thread-Local Storage"): what it finds, what it leaves unknown, and what it asks of the stack.
-use Rattle.std.specs.Prelude.{ℕ, ◌+◌, ◌-◌, ◌%◌, ◌^◌, ◌==◌, ◌&&◌, Bool, true, false, Result, Ok, Err, if◌then◌else◌}
+use Rattle.std.specs.Prelude.{ℕ, ◌-◌, ◌^◌, Bool, true, false, Result, Ok, Err, if◌then◌else◌}
 use Rattle.std.specs.List.{list_all}
 use Rattle.amd64_words.specs.declared.register.Register.{Register}
-use Rattle.amd64_subset.specs.Register.{register_of as numbered_register}
 use Rattle.guest_arithmetic.specs.declared.cause.Cause.{Cause}
 use Rattle.guest_arithmetic.specs.declared.cause.Cause.TheVariants as cause
 use Rattle.guest_arithmetic.specs.declared.flags.Flags.{Flags}
-use Rattle.guest_arithmetic.specs.Cause.{both, used}
-use Rattle.guest_operands.specs.declared.state.Registers.{Registers}
+use Rattle.guest_arithmetic.specs.Cause.{both}
 use Rattle.guest_operands.specs.declared.state.State.{State}
 use Rattle.guest_operands.specs.declared.stop.Stop.{Stop}
 use Rattle.guest_operands.specs.State.{at_place, register_of, with_word}
 use Rattle.guest_operands.specs.Use.{◌>>=◌, After, clean, left, plus}
-use Rattle.guest_machine.specs.Run.{Next, Goes, Ends, Looks, next_of}
+use Rattle.guest_machine.specs.Run.{Next, Ends, Looks, next_of}
 use Rattle.guest_machine.specs.Touch.{places_from}
-use Rattle.job_meaning.specs.declared.values.Block.{Block}
 use Rattle.job_meaning.specs.declared.values.Flag.{Flag}
 use Rattle.job_meaning.specs.declared.values.Flag.TheVariants.{Unsettled}
-use Rattle.job_meaning.specs.declared.values.Token.{Token}
 use Rattle.job_meaning.specs.declared.values.Token.TheVariants.{Base, Descriptor}
 use Rattle.job_meaning.specs.declared.values.Word.{Word}
 use Rattle.job_meaning.specs.declared.values.Word.TheVariants.{Number, Undefined, Marked}

@@ -1,5 +1,5 @@
 -- Where the sections of an image's objects stand, and where an instance of it lies.
-use Rattle.std.specs.Prelude.{ℕ, ◌+◌, ◌-◌, ◌*◌, ◌^◌, ◌&&◌, Bool, List, [], ◌∷◌, Option, Some, None, nat_le, nat_lt, unwrap_or, option_map, if◌then◌else◌}
+use Rattle.std.specs.Prelude.{ℕ, ◌+◌, ◌-◌, ◌*◌, ◌^◌, ◌&&◌, Bool, List, [], ◌∷◌, Option, None, nat_le, nat_lt, unwrap_or, option_map, if◌then◌else◌}
 use Rattle.std.specs.List.{find, range_with_len}
 use Rattle.std.specs.Option.{option_or}
 use Rattle.elf_object.specs.Lent.{section_class, section_size}

@@ -1,6 +1,6 @@
 -- What a thread means: its steps, its looks and its lines. The lines, looks, blocks and data are those of the machine's
 -- threads, over marked values; the steps have sequences besides.
-use Rattle.std.specs.Prelude.{ℕ, ◌+◌, ◌-◌, ◌++◌, ◌||◌, ◌&&◌, ◌==◌, Bool, true, false, List, [], ◌∷◌, length, drop, Option, Some, None, Result, Ok, Err, nat_lt, position, replicate, unwrap_or, option_and_then, option_map, if◌then◌else◌}
+use Rattle.std.specs.Prelude.{ℕ, ◌+◌, ◌-◌, ◌++◌, ◌&&◌, ◌==◌, Bool, true, false, List, [], ◌∷◌, drop, Option, Some, None, Result, Ok, Err, nat_lt, position, replicate, unwrap_or, option_and_then, option_map, if◌then◌else◌}
 use Rattle.std.specs.List.{list_any}
 use Rattle.std.specs.Option.{option_or}
 use Rattle.guest_arithmetic.specs.declared.cause.Cause.{Cause}
@@ -18,7 +18,6 @@ use Rattle.guest_machine.specs.Use.{After, left}
 use Rattle.job_meaning.specs.declared.values.Byte.{Byte}
 use Rattle.job_meaning.specs.declared.values.Byte.TheVariants.{Value, Hidden, Part}
 use Rattle.job_meaning.specs.declared.values.Flag.{Flag}
-use Rattle.job_meaning.specs.declared.values.Token.{Token}
 use Rattle.job_meaning.specs.declared.values.Token.TheVariants.{Base, Descriptor}
 use Rattle.job_meaning.specs.declared.values.Word.{Word}
 use Rattle.job_meaning.specs.declared.values.Word.TheVariants.{Number}
@@ -32,7 +31,7 @@ use Rattle.module_table.specs.Past.{startup_count}
 use Rattle.transcript_text.specs.declared.outcomes.LineFault.TheVariants.{Unloaded}
 use Rattle.transcript_text.specs.declared.outcomes.Outcome.TheVariants.{Bytes, Fault}
 use Rattle.thread_blocks.specs.Held.{Held, looked, reached}
-use Rattle.thread_blocks.specs.Instances.{Loads, block_start, fixed_at, instance_at, instances, numbered_instance}
+use Rattle.thread_blocks.specs.Instances.{block_start, fixed_at, instance_at, instances, numbered_instance}
 use Rattle.thread_blocks.specs.Lines.{Line, begin_line}
 use Rattle.thread_blocks.specs.MachineTurns.{pointer_word, stack_start}
 use Rattle.thread_blocks.specs.Spaces.{Space, open_everywhere, space_accesses, stack_range}
