@@ -44,7 +44,8 @@ covers k r = nat_le r.offset k && nat_lt k (r.offset + field_width r.kind)
 
 -- bias: how far the instance is moved
 module _ (l : Linking) (bias : ℕ) where
-  -- S, the symbol's place at the instance, or O, its offset in the TLS segment
+  -- S, the symbol's place at the instance, or O, its offset in the TLS segment; a field that names the run time's
+  -- function lies in a sequence, of which no byte is read
   abbrev pub symbol_number : RelocationKind → Option Binding → ℕ
   symbol_number TpOff32 (Some (Here found)) = offset l found
   symbol_number kind (Some (Here found)) = address l found + bias

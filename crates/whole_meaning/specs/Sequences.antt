@@ -123,12 +123,15 @@ module _ {M : Type 0} (stack : Stack M) (s : Sequence) (thread start : ℕ) wher
   loaded state memory =
       Ok (left (at_place (with_word state s.register (Number (variable_distance s start state.thread_pointer))) s.next) memory)
 
-  -- the distance is added to a register, and the flags are unknown
+  -- a register holds a sum, and the flags are unknown
+  abbrev pub with_sum : ℕ → State Word Flag → State Word Flag
+  with_sum number state = without_flags (with_word state s.register (Number number))
+
+  -- the distance is added to a register
   abbrev pub added : State Word Flag → M → Result (After Word Flag M) Stop
   added state memory = do
     number ← clean state.place (used_number (register_of state.registers s.register))
-    Ok (left (at_place (without_flags
-        (with_word state s.register (Number (plus number (variable_distance s start state.thread_pointer))))) s.next) memory)
+    Ok (left (at_place (with_sum (plus number (variable_distance s start state.thread_pointer)) state) s.next) memory)
 
   -- %rax holds the descriptor
   abbrev pub described : State Word Flag → M → Result (After Word Flag M) Stop

@@ -53,7 +53,7 @@ Memory = Space Event Byte
 abbrev pub Meant : Type 0
 Meant = Held Word Flag Byte
 
--- the byte of which nothing is known
+-- a stack of whose lowest bytes nothing is known
 abbrev pub hidden_below : ℕ → List Byte → List Byte
 hidden_below count stack = replicate count Hidden ++ drop count stack
 
