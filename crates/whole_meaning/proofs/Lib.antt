@@ -5,5 +5,6 @@ mod FormExamples
 mod LateExamples
 pub mod Numbers
 mod Opened
+mod ShownExamples
 mod StartupExamples
 mod UseExamples
