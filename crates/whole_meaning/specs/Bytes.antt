@@ -1,0 +1,111 @@
+-- What the sections of an instance hold, by the table of relocations alone (psABI, "Relocation Types"), and its
+-- variables and functions. No table that a linker makes enters.
+use Rattle.std.specs.Prelude.{ℕ, ◌+◌, ◌-◌, ◌&&◌, ◌++◌, Bool, true, false, List, Option, Some, None, length, map, nat_le, nat_lt, replicate, slice_index_or, unwrap_or, option_and_then, if◌then◌else◌}
+use Rattle.std.specs.List.{find, range_with_len}
+use Rattle.elf_object.specs.declared.relocation.Relocation.{Relocation}
+use Rattle.elf_object.specs.declared.symbol.SymbolPlace.{SymbolPlace}
+use Rattle.elf_object.specs.declared.symbol.SymbolPlace.TheVariants.{InSection}
+use Rattle.elf_object.specs.Lent.{relocations, section_bytes, section_class, symbol_place}
+use Rattle.elf_records.specs.declared.relocation.RelocationKind.{RelocationKind}
+use Rattle.elf_records.specs.declared.relocation.RelocationKind.TheVariants.{Absolute64, Pc32, Plt32, Absolute32, Absolute32Signed, TpOff32}
+use Rattle.elf_records.specs.Relocations.{field_width}
+use Rattle.link_faults.specs.declared.binding.Binding.{Binding}
+use Rattle.link_faults.specs.declared.binding.Binding.TheVariants.{Here}
+use Rattle.link_faults.specs.declared.symbol_ref.SymbolRef.{SymbolRef}
+use Rattle.link_needs.specs.Linking.{Linking, address, binding, block_offset, layout, object, offset, place}
+use Rattle.object_faults.specs.declared.class.SectionClass.{SectionClass}
+use Rattle.object_faults.specs.declared.class.SectionClass.TheVariants.{Executable, Tls}
+use Rattle.tls_layout.specs.Laws.{extent_for}
+use Rattle.tls_layout.specs.Places.{executable, tls_size}
+use Rattle.tls_layout.specs.Sections.{is_class}
+use Rattle.tls_relocs.specs.declared.fields.Field.{Field}
+use Rattle.tls_relocs.specs.declared.fields.Field.TheVariants.{Empty}
+use Rattle.tls_relocs.specs.Fields.{field_bytes}
+use Rattle.tls_relocs.specs.Values.{stored_field}
+use Rattle.tls_symbols.specs.Bindings.{is_tls_symbol}
+use Rattle.tls_symbols.specs.Definitions.{definition_of}
+use Rattle.whole_meaning.specs.Spots.{Spot, spot_in}
+
+-- ** fields
+
+-- the types whose field holds a number of the program's own
+abbrev pub has_value : RelocationKind → Bool
+has_value Absolute64 = true
+has_value Pc32 = true
+has_value Plt32 = true
+has_value Absolute32 = true
+has_value Absolute32Signed = true
+has_value TpOff32 = true
+has_value kind = false
+
+-- byte k of a section lies in the relocation's field
+abbrev pub covers : ℕ → Relocation → Bool
+covers k r = nat_le r.offset k && nat_lt k (r.offset + field_width r.kind)
+
+-- bias: how far the instance is moved
+module _ (l : Linking) (bias : ℕ) where
+  -- S, the symbol's place at the instance, or O, its offset in the TLS segment; a field that names the run time's
+  -- function lies in a sequence, of which no byte is read
+  abbrev pub symbol_number : RelocationKind → Option Binding → ℕ
+  symbol_number TpOff32 (Some (Here found)) = offset l found
+  symbol_number kind (Some (Here found)) = address l found + bias
+  symbol_number kind bound = 0
+
+  -- what is subtracted from an offset
+  abbrev pub subtracted : RelocationKind → ℕ
+  subtracted TpOff32 = block_offset l
+  subtracted kind = 0
+
+  -- what the field of a relocation of section s of object o holds at the instance's place
+  unfoldable pub value_of : ℕ → ℕ → Relocation → Option Field
+  value_of o s r =
+      stored_field r.kind (symbol_number r.kind (binding l o r)) r.addend (place l o s r.offset + bias) (subtracted r.kind)
+
+  -- ** bytes
+
+  abbrev pub byte_by : ℕ → ℕ → ℕ → Option Relocation → ℕ
+  byte_by o s k None = slice_index_or (section_bytes (object l o) s) k 0
+  byte_by o s k (Some r) = slice_index_or (field_bytes (unwrap_or (value_of o s r) Empty)) (k - r.offset) 0
+
+  -- a byte of a section: of the field that covers it, else the section's own
+  abbrev pub byte_of : Option Spot → ℕ
+  byte_of None = 0
+  byte_of (Some spot) = byte_by spot.object spot.section spot.within
+      (find (λ r. has_value r.kind && covers spot.within r) (relocations (object l spot.object) spot.section))
+
+  -- the bytes of a class, from where it begins to where it ends; between sections they are zeros
+  unfoldable pub class_bytes : SectionClass → List ℕ
+  class_bytes class =
+      let extent = extent_for class (layout l) in
+      map (λ address. byte_of (spot_in l class address)) (range_with_len extent.start (extent.end - extent.start))
+
+  -- a thread's block before any write: the initial image and then zeros (gABI, "Program Loading")
+  abbrev pub block_bytes : List ℕ
+  block_bytes = let initial = class_bytes (Tls true) in
+      initial ++ replicate (tls_size (layout l).sections - length initial) 0
+
+-- ** functions and variables
+
+-- a symbol of object o that lies so far behind the start of its section, if it is a byte of the executable class
+abbrev pub below : ℕ → ℕ → Option ℕ
+below end at = if nat_lt at end then Some at else None
+
+abbrev pub code_place : Linking → SymbolRef → SymbolPlace → Option ℕ
+code_place l found (InSection s) = if is_class Executable (section_class (object l found.object) s)
+    then below (executable (layout l).kind (layout l).sections).end (address l found)
+    else None
+code_place l found at = None
+
+abbrev pub function_at : Linking → SymbolRef → Option ℕ
+function_at l found = code_place l found (symbol_place (object l found.object) found.symbol)
+
+abbrev pub variable_at : Linking → SymbolRef → Option ℕ
+variable_at l found =
+    if is_tls_symbol (object l found.object) found.symbol then Some (offset l found) else None
+
+-- where a function begins by its name, before its image is moved, and how far into a block a variable lies
+unfoldable pub function_of : Linking → List ℕ → Option ℕ
+function_of l name = option_and_then (function_at l) (definition_of l.objects name)
+
+unfoldable pub variable_of : Linking → List ℕ → Option ℕ
+variable_of l name = option_and_then (variable_at l) (definition_of l.objects name)

@@ -1,0 +1,12 @@
+pub mod Bytes
+pub mod Code
+pub mod Fields
+pub mod Jobs
+pub mod Laws
+pub mod Loads
+pub mod Meanings
+pub mod Reading
+pub mod Running
+pub mod Sequences
+pub mod Spots
+pub mod Threads

@@ -1,0 +1,58 @@
+-- Where the sections of an image's objects stand, and where an instance of it lies.
+use Rattle.std.specs.Prelude.{ℕ, ◌+◌, ◌-◌, ◌*◌, ◌^◌, ◌&&◌, Bool, List, [], ◌∷◌, Option, None, nat_le, nat_lt, unwrap_or, option_map, if◌then◌else◌}
+use Rattle.std.specs.List.{find, range_with_len}
+use Rattle.std.specs.Option.{option_or}
+use Rattle.elf_object.specs.Lent.{section_class, section_size}
+use Rattle.elf_object.specs.Object.{section_count}
+use Rattle.link_faults.specs.declared.image_kind.ImageKind.{ImageKind}
+use Rattle.link_faults.specs.ImageKinds.{base_of, is_moved}
+use Rattle.link_needs.specs.Linking.{Linking, layout}
+use Rattle.object_faults.specs.declared.class.SectionClass.{SectionClass}
+use Rattle.tls_layout.specs.Places.{address_of, room}
+use Rattle.tls_layout.specs.Sections.{Layout, is_class}
+
+-- ** instances
+
+-- how far an instance is moved from where its image was laid out
+abbrev pub bias_of : ImageKind → ℕ → ℕ
+bias_of kind number = if is_moved kind then 2 ^ 32 + number * 2 ^ 26 else 0
+
+-- whether a place is in the room of an instance: from behind all of its sections to where its part of the addresses ends
+unfoldable pub in_room : Linking → ℕ → ℕ → Bool
+in_room l bias place =
+    nat_le (room (layout l).kind (layout l).sections + bias) place && nat_lt place (base_of l.kind + 2 ^ 26 + bias)
+
+-- ** sections
+
+-- a byte of a section
+pub record Spot : Type 0 where
+  pub object : ℕ
+  pub section : ℕ
+  pub within : ℕ
+
+abbrev pub begin_of : Layout → ℕ → ℕ → ℕ
+begin_of p o s = unwrap_or (address_of p o s) 0
+
+-- section s of object o is of the class, and stands at the address
+abbrev pub stands_at : Layout → SectionClass → ℕ → List ℕ → ℕ → ℕ → Bool
+stands_at p class o b address s =
+    is_class class (section_class b s)
+    && (nat_le (begin_of p o s) address && nat_lt address (begin_of p o s + section_size b s))
+
+abbrev pub spot_at : Layout → ℕ → ℕ → ℕ → Spot
+spot_at p o address s = record { object = o; section = s; within = address - begin_of p o s }
+
+-- the section of object o that does, if there is one
+abbrev pub object_spot : Layout → SectionClass → ℕ → List ℕ → ℕ → Option Spot
+object_spot p class o b address =
+    option_map (spot_at p o address) (find (stands_at p class o b address) (range_with_len 0 (section_count b)))
+
+-- that of the objects from number o on
+abbrev pub spot_from : Layout → SectionClass → ℕ → List (List ℕ) → ℕ → Option Spot
+spot_from p class o [] address = None
+spot_from p class o (b ∷ more) address =
+    option_or (object_spot p class o b address) (spot_from p class (o + 1) more address)
+
+-- what stands at an address of the class; between two sections nothing does
+unfoldable pub spot_in : Linking → SectionClass → ℕ → Option Spot
+spot_in l class address = spot_from (layout l) class 0 l.objects address
