@@ -4,9 +4,10 @@
 //! job's threads does: it asks a runner what comes next, has the registry answer, hands the runner the events that it has
 //! not seen, and at the end compares what the threads say of their lines with text that was worked out on paper.
 //!
-//! A test is a row of two: a job, whose `order` has all of its turns, and the text. Objects stand in `objects`, under the
-//! names that jobs have for them; `linked` links a job's images and reads them back from their files, as a loader finds
-//! them; a `Stage` (`stage`) has the registry, the data and a runner for each thread. For example:
+//! A test is a row of two: a job, whose `order` has all of its turns, and the text. Objects are those of
+//! [`sample_objects`], under the names that jobs have for them; `linked` links a job's images and reads them back from
+//! their files, as a loader finds them; a `Stage` (`stage`) has the registry, the data and a runner for each thread. For
+//! example:
 //!
 //! ```text
 //! threads 2                        turn    what happens
@@ -26,7 +27,6 @@
 
 mod answers;
 pub mod linked;
-mod objects;
 #[cfg(test)]
 mod rows;
 pub mod stage;

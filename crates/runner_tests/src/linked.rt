@@ -7,7 +7,6 @@ ghost use Rattle.job_link.specs.Given.{AreGiven};
 ghost use Rattle.loaded_modules.specs.Given.{LateLast};
 ghost use Rattle.runner_tests.specs.Links.{AreLinkedOf};
 
-use crate::objects::store;
 use image_file::Image;
 use image_writer::into_file;
 use job_link::{Files, ImageObjects, fetch_objects, link_images, read_objects};
@@ -17,6 +16,7 @@ use link_core::laws::images_hold_tls;
 use linked_modules::laws::linked_images_are_modules;
 use loaded_modules::Modules;
 use loaded_modules::laws::late_images_come_last;
+use sample_objects::store;
 use std::alloc::{AllocError, Global};
 use std::test::Fail;
 

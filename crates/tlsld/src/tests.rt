@@ -6,8 +6,8 @@ mod modules;
 mod objects;
 
 use crate::tlsld;
-use objects::{callee, caller, function, reader};
 use ports::{MemorySink, MemoryStore};
+use sample_objects::{callee, caller, function, reader};
 use std::alloc::Global;
 use std::process::Abort;
 use std::sync::Wait;

@@ -1,8 +1,8 @@
 //! `link` and `sites` over a store in memory: what a failing call leaves, and a job of as many images as one may have.
 
-use super::objects::{function, reader};
 use super::{check, ends, store_of};
 use ports::MemorySink;
+use sample_objects::{function, reader};
 use std::alloc::{AllocError, Global};
 use std::test::Fail;
 

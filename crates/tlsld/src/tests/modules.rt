@@ -1,138 +1,17 @@
 //! Jobs of several images, threads and lines: what `run` shows of modules that are opened and closed while threads call
 //! them, of data that threads share, and of programs that lie anywhere.
 
-use super::objects::reader;
-use super::{check, store_of};
-use elf_records::Rela;
-use elf_records::relocation::{
-    R_X86_64_GOTPC32_TLSDESC, R_X86_64_GOTTPOFF, R_X86_64_PC32, R_X86_64_PLT32,
-    R_X86_64_TLSDESC_CALL, R_X86_64_TLSGD,
-};
-use elf_records::symbol::{STT_FUNC, STT_NOTYPE, STT_OBJECT, STT_TLS};
-use object_builder::{Section, Symbol, object_of, rela};
+use super::check;
 use ports::MemoryStore;
-use std::alloc::{AllocError, Global};
+use sample_objects::{reader, store};
+use std::alloc::Global;
 use std::test::Fail;
-
-/// The thread-local variable `v` holds 5 and has 4 zeros behind it.
-const FIVE: &[u8] = b"\x05\0\0\0";
-
-/// The thread-local variable `x` holds 42, behind 8 zeros, and has 8 more behind it.
-const BETWEEN_ZEROS: &[u8] = b"\0\0\0\0\0\0\0\0\x2a\0\0\0\0\0\0\0\0\0\0\0";
-
-/// A section whose address is a multiple.
-fn aligned(section: Section<'_>, alignment: u64) -> Section<'_> {
-    let mut section = section;
-    section.alignment = alignment;
-    section
-}
-
-/// An object of the function `f` over the variable `v`.
-fn of_five(alloc: Global, code: &[u8], relocations: &[Rela]) -> Result<Vec<u8>, AllocError> {
-    let sections = [
-        aligned(Section::code(code).with(relocations), 16),
-        aligned(Section::variables(FIVE), 4),
-        aligned(Section::zero_variables(4), 4),
-    ];
-    let symbols = [
-        Symbol::global(b"f", STT_FUNC, 1, 0, code.len() as u64),
-        Symbol::global(b"v", STT_TLS, 3, 0, 4),
-        Symbol::global(b"__tls_get_addr", STT_NOTYPE, 0, 0, 0),
-    ];
-    object_of(alloc, &sections, &symbols)
-}
-
-/// An object of the function `f` over the variable `x`.
-fn of_forty_two(alloc: Global, code: &[u8], relocations: &[Rela]) -> Result<Vec<u8>, AllocError> {
-    let sections = [
-        aligned(Section::code(code).with(relocations), 16),
-        aligned(Section::variables(BETWEEN_ZEROS), 8),
-    ];
-    let symbols = [
-        Symbol::global(b"f", STT_FUNC, 1, 0, code.len() as u64),
-        Symbol::global(b"x", STT_TLS, 3, 8, 4),
-        Symbol::global(b"__tls_get_addr", STT_NOTYPE, 0, 0, 0),
-    ];
-    object_of(alloc, &sections, &symbols)
-}
-
-/// Writes its argument into `v`, and returns where that is: push %rdi; the general dynamic sequence of v; pop %rcx;
-/// mov %ecx, (%rax); ret.
-fn writer(alloc: Global) -> Result<Vec<u8>, AllocError> {
-    let code = b"\x57\x66\x48\x8d\x3d\0\0\0\0\x66\x66\x48\xe8\0\0\0\0\x59\x89\x08\xc3";
-    let relocations = [
-        rela(5, R_X86_64_TLSGD, 2, -4),
-        rela(13, R_X86_64_PLT32, 3, -4),
-    ];
-    of_five(alloc, code, &relocations)
-}
-
-/// Asks twice where `v` is: the general dynamic sequence, twice; ret.
-fn twice_asker(alloc: Global) -> Result<Vec<u8>, AllocError> {
-    let code =
-        b"\x66\x48\x8d\x3d\0\0\0\0\x66\x66\x48\xe8\0\0\0\0\x66\x48\x8d\x3d\0\0\0\0\x66\x66\x48\xe8\0\0\0\0\xc3";
-    let relocations = [
-        rela(4, R_X86_64_TLSGD, 2, -4),
-        rela(12, R_X86_64_PLT32, 3, -4),
-        rela(20, R_X86_64_TLSGD, 2, -4),
-        rela(28, R_X86_64_PLT32, 3, -4),
-    ];
-    of_five(alloc, code, &relocations)
-}
-
-/// How far from the thread pointer `v` is: mov v@gottpoff(%rip), %rax; ret.
-fn distance_reader(alloc: Global) -> Result<Vec<u8>, AllocError> {
-    let relocations = [rela(3, R_X86_64_GOTTPOFF, 2, -4)];
-    of_five(alloc, b"\x48\x8b\x05\0\0\0\0\xc3", &relocations)
-}
-
-/// Asks a descriptor how far from the thread pointer `x` is: lea x@tlsdesc(%rip), %rax; call *x@tlscall(%rax); ret.
-fn descriptor_asker(alloc: Global) -> Result<Vec<u8>, AllocError> {
-    let relocations = [
-        rela(3, R_X86_64_GOTPC32_TLSDESC, 2, -4),
-        rela(7, R_X86_64_TLSDESC_CALL, 2, 0),
-    ];
-    of_forty_two(alloc, b"\x48\x8d\x05\0\0\0\0\xff\x10\xc3", &relocations)
-}
-
-/// Asks where `x` is: its general dynamic sequence; ret.
-fn asker(alloc: Global) -> Result<Vec<u8>, AllocError> {
-    let code = b"\x66\x48\x8d\x3d\0\0\0\0\x66\x66\x48\xe8\0\0\0\0\xc3";
-    let relocations = [
-        rela(4, R_X86_64_TLSGD, 2, -4),
-        rela(12, R_X86_64_PLT32, 3, -4),
-    ];
-    of_forty_two(alloc, code, &relocations)
-}
-
-/// Counts in the data `n`, which begins as 5: mov n(%rip), %eax; add $1, %eax; mov %eax, n(%rip); ret.
-fn counter(alloc: Global) -> Result<Vec<u8>, AllocError> {
-    let code = b"\x8b\x05\0\0\0\0\x83\xc0\x01\x89\x05\0\0\0\0\xc3";
-    let relocations = [
-        rela(2, R_X86_64_PC32, 2, -4),
-        rela(11, R_X86_64_PC32, 2, -4),
-    ];
-    let sections = [
-        aligned(Section::code(code).with(&relocations), 16),
-        aligned(Section::data(FIVE), 4),
-    ];
-    let symbols = [
-        Symbol::global(b"f", STT_FUNC, 1, 0, 16),
-        Symbol::global(b"n", STT_OBJECT, 3, 0, 4),
-    ];
-    object_of(alloc, &sections, &symbols)
-}
 
 /// A store with a job, and with the objects of all these jobs.
 pub fn store_with(alloc: Global, job: &[u8]) -> Result<MemoryStore, Fail> {
-    let object = reader(alloc, 0)?;
-    let mut store = store_of(alloc, job, object.as_slice())?;
-    store.add("writer.o", writer(alloc)?.as_slice())?;
-    store.add("twice.o", twice_asker(alloc)?.as_slice())?;
-    store.add("distance.o", distance_reader(alloc)?.as_slice())?;
-    store.add("descriptor.o", descriptor_asker(alloc)?.as_slice())?;
-    store.add("asker.o", asker(alloc)?.as_slice())?;
-    store.add("counter.o", counter(alloc)?.as_slice())?;
+    let mut store = store(alloc)?;
+    store.add("job", job)?;
+    store.add("a.o", reader(alloc, 0)?.as_slice())?;
     Ok(store)
 }
 

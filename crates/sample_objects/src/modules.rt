@@ -1,4 +1,6 @@
-//! Objects of one function, `f`, from which the images of the tests are linked.
+//! Functions over variables of programs and of modules.
+
+ghost use Rattle.std.specs.Prelude.{◌≡◌};
 
 use elf_records::Rela;
 use elf_records::relocation::{
@@ -17,7 +19,9 @@ const FIVE: &[u8] = b"\x05\0\0\0";
 const FORTY_TWO: &[u8] = b"\0\0\0\0\0\0\0\0\x2a\0\0\0\0\0\0\0\0\0\0\0";
 
 /// A section whose address is a multiple.
-fn aligned(section: Section<'_>, alignment: u64) -> Section<'_> {
+fn aligned(section: Section<'_>, alignment: u64) -> Section<'_>
+    ensures { result.alignment ≡ alignment }
+{
     let mut section = section;
     section.alignment = alignment;
     section
@@ -52,6 +56,7 @@ fn of_forty_two(alloc: Global, code: &[u8], relocations: &[Rela]) -> Result<Vec<
     let symbols = [
         Symbol::global(b"f", STT_FUNC, 1, 0, code.len() as u64),
         Symbol::global(b"x", STT_TLS, 3, 8, 4),
+        Symbol::global(b"__tls_get_addr", STT_NOTYPE, 0, 0, 0),
     ];
     object_of(alloc, &sections, &symbols)
 }
@@ -128,6 +133,16 @@ fn descriptor_asker(alloc: Global) -> Result<Vec<u8>, AllocError> {
     of_forty_two(alloc, b"\x48\x8d\x05\0\0\0\0\xff\x10\xc3", &relocations)
 }
 
+/// Asks where `x` is: its general dynamic sequence; ret.
+fn asker(alloc: Global) -> Result<Vec<u8>, AllocError> {
+    let code = b"\x66\x48\x8d\x3d\0\0\0\0\x66\x66\x48\xe8\0\0\0\0\xc3";
+    let relocations = [
+        rela(4, R_X86_64_TLSGD, 2, -4),
+        rela(12, R_X86_64_PLT32, 3, -4),
+    ];
+    of_forty_two(alloc, code, &relocations)
+}
+
 /// Counts in the data `n`, which begins as 5: mov n(%rip), %eax; add $1, %eax; mov %eax, n(%rip); ret.
 fn counter(alloc: Global) -> Result<Vec<u8>, AllocError> {
     let relocations = [
@@ -146,7 +161,7 @@ fn counter(alloc: Global) -> Result<Vec<u8>, AllocError> {
     object_of(alloc, &sections, &symbols)
 }
 
-/// All of them, by the names that jobs have for them.
+/// A store of all of them, by the names that jobs have for them.
 pub fn store(alloc: Global) -> Result<MemoryStore, AllocError> {
     let mut store = MemoryStore::new(alloc);
     store.add("reader.o", reader(alloc)?.as_slice())?;
@@ -157,6 +172,7 @@ pub fn store(alloc: Global) -> Result<MemoryStore, AllocError> {
     store.add("distance.o", distance_reader(alloc, 4)?.as_slice())?;
     store.add("large.o", distance_reader(alloc, 4092)?.as_slice())?;
     store.add("descriptor.o", descriptor_asker(alloc)?.as_slice())?;
+    store.add("asker.o", asker(alloc)?.as_slice())?;
     store.add("counter.o", counter(alloc)?.as_slice())?;
     Ok(store)
 }
