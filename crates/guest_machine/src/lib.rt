@@ -54,4 +54,5 @@ mod touch;
 pub use guest_operands::{Access, Registers, Size, Space, State, Stop};
 pub use machine::Machine;
 pub use run::{DESCRIPTOR, GET_ADDRESS, RETURN};
-pub use touch::{Direction, Touch, Touches};
+pub use step::act;
+pub use touch::{Direction, Touch, Touches, touches_of};

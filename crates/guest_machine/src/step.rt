@@ -21,7 +21,7 @@ use guest_operands::{Frame, Space, State, Stop, frame_at};
 
 /// One instruction.
 #[tactic(auto, unfolding(crate::specs::Step::act))]
-fn act<V: Values, S: Space<V>>(
+pub fn act<V: Values, S: Space<V>>(
     frame: &Frame,
     operation: &Operation,
     state: &mut State<V::Word, V::Flag>,

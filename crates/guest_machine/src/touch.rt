@@ -222,7 +222,7 @@ fn jump_touches<V: Values>(
 
 /// An instruction's accesses.
 #[tactic(auto, unfolding(crate::specs::Touch::touches_of))]
-pub(crate) fn touches_of<V: Values>(
+pub fn touches_of<V: Values>(
     frame: &Frame,
     state: &State<V::Word, V::Flag>,
     operation: &Operation,

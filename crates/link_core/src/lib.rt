@@ -60,3 +60,4 @@ mod writing;
 
 pub use linked::Linked;
 pub use linking::link;
+pub use prepared::{Prepared, prepare};
