@@ -56,7 +56,8 @@ use Rattle.whole_meaning.specs.Sequences.{sequence_result}
 use Rattle.whole_meaning.specs.Spots.{in_room, spot_in}
 use Rattle.whole_meaning.specs.Threads.{meant_accesses, meant_steps, resume_meant, begin_meant, meant_turns}
 use Rattle.thread_blocks.specs.Turns.{Said}
-use Rattle.whole_meaning.specs.Jobs.{UncleanStep, lines_of}
+use Rattle.whole_meaning.specs.declared.unclean.UncleanStep.{UncleanStep}
+use Rattle.whole_meaning.specs.Jobs.{lines_of}
 
 -- ** files as hexadecimal digits
 

@@ -21,7 +21,7 @@ use Rattle.tls_symbols.specs.Definitions.{definition_of}
 use Rattle.whole_meaning.specs.declared.marks.Mark.{Mark}
 use Rattle.whole_meaning.specs.declared.marks.Mark.TheVariants.{Usual, Offset, Address, Inside}
 use Rattle.whole_meaning.specs.Bytes.{covers, symbol_number}
-use Rattle.whole_meaning.specs.Sequences.{Sequence}
+use Rattle.whole_meaning.specs.declared.sequences.Sequence.{Sequence}
 use Rattle.whole_meaning.specs.Spots.{Spot, bias_of, spot_in}
 
 -- ** sequences in sections

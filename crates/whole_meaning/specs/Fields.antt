@@ -1,5 +1,5 @@
 -- What an instruction may do with a field that stands in it: a number that only the linker knows.
-use Rattle.std.specs.Prelude.{ℕ, ℤ, pos, negsuc, suc, ◌-◌, ◌^◌, ◌==◌, ◌&&◌, ◌||◌, Bool, true, false, not, nat_lt, Option, Some, None, option_and_then, Result, Ok, Err, if◌then◌else◌}
+use Rattle.std.specs.Prelude.{ℕ, ℤ, pos, negsuc, suc, ◌-◌, ◌%◌, ◌^◌, ◌==◌, ◌&&◌, ◌||◌, Bool, true, false, not, nat_lt, Option, Some, None, option_and_then, Result, Ok, Err, if◌then◌else◌}
 use Rattle.amd64_subset.specs.declared.instr.Arithmetic.TheVariants.{Add, Compare}
 use Rattle.amd64_subset.specs.declared.instr.Decoded.{Decoded}
 use Rattle.amd64_subset.specs.declared.instr.Operation.{Operation}
@@ -163,22 +163,26 @@ module _ {W F B : Type 0} (ops : Operations W F B) (mark : ℕ → Mark) (state 
   takes_address addend k it =
       (is_at it.disp k && reads_next (read_in it.instr.operation)) && is_minus addend (it.len - k)
 
+-- an address field's word stands at address 0 for the step, where nothing else is: what the object has in the field's
+-- place counts for nothing
+abbrev pub lent_frame : Option ℕ → Frame → Frame
+lent_frame None frame = frame
+lent_frame (Some number) frame = record frame { displacement = (2 ^ 64 - frame.next) % 2 ^ 64 }
+
 module _ {W F B : Type 0} (ops : Operations W F B) where
   -- byte k of a word that is lent, and behind its eight bytes what is there
   abbrev pub lent_byte : ℕ → ℕ → Result B Refusal → Result B Refusal
   lent_byte number k other = if nat_lt k 8 then Ok (ops.byte_of (ops.word number) k) else other
 
-  -- a memory with a word lent at an address, to be read alone
-  abbrev pub lent_at : {M : Type 0} → Accesses M B → ℕ → ℕ → Accesses M B
-  lent_at acc address number = record acc {
-    byte = λ memory place. lent_byte number (plus place (2 ^ 64 - address)) (acc.byte memory place);
-  }
+  -- a memory with a word lent at address 0, to be read alone
+  abbrev pub lent_at : {M : Type 0} → Accesses M B → ℕ → Accesses M B
+  lent_at acc number = record acc { byte = λ memory place. lent_byte number place (acc.byte memory place) }
 
 -- the word that an address field stands for is the operand; no memory is touched for it
 module _ {W F M B : Type 0} (ops : Operations W F B) (acc : Accesses M B) where
-  abbrev pub lent : Option ℕ → Frame → Accesses M B
-  lent None frame = acc
-  lent (Some number) frame = lent_at ops acc (plus frame.displacement frame.next) number
+  abbrev pub lent : Option ℕ → Accesses M B
+  lent None = acc
+  lent (Some number) = lent_at ops acc number
 
 abbrev pub without_operand : Option ℕ → Touches → Touches
 without_operand None touches = touches

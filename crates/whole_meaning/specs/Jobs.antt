@@ -19,6 +19,7 @@ use Rattle.thread_blocks.specs.Instances.{instances}
 use Rattle.thread_blocks.specs.JobWorlds.{Shared, numbered_lines, shared_order}
 use Rattle.thread_blocks.specs.Lines.{Line, event_by}
 use Rattle.thread_blocks.specs.Turns.{Answered, Ending, Said, Stopped, Thread, ready, whole_order}
+use Rattle.whole_meaning.specs.declared.unclean.UncleanStep.{UncleanStep}
 use Rattle.whole_meaning.specs.Meanings.{Meaning}
 use Rattle.whole_meaning.specs.Threads.{Meant, meant_ready, meant_turns}
 
@@ -48,13 +49,6 @@ abbrev pub lines_of : Shared Word Flag Byte Line → List (List Said)
 lines_of w = map (λ t. t.said) w.threads
 
 -- ** clean or not
-
--- an unclean step: the thread and the line, from 1, the address and the cause
-pub record UncleanStep : Type 0 where
-  pub thread : ℕ
-  pub line : ℕ
-  pub address : ℕ
-  pub cause : Cause
 
 abbrev pub unclean_stop : ℕ → ℕ → Stop → Option UncleanStep
 unclean_stop thread line (Returned number) = None

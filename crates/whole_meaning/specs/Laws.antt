@@ -12,7 +12,8 @@ use Rattle.link_faults.specs.declared.symbol_ref.SymbolRef.{SymbolRef}
 use Rattle.whole_meaning.specs.declared.marks.Mark.TheVariants.{Usual}
 use Rattle.whole_meaning.specs.Code.{definition_number}
 use Rattle.whole_meaning.specs.Reading.{marked_step}
-use Rattle.whole_meaning.specs.Sequences.{Sequence, variable_address, variable_distance}
+use Rattle.whole_meaning.specs.Sequences.{variable_address, variable_distance}
+use Rattle.whole_meaning.specs.declared.sequences.Sequence.{Sequence}
 use Rattle.whole_meaning.specs.Threads.{Memory, ops}
 
 -- code without fields and sequences means what it means where none can be told apart: the step is that of `job_meaning`

@@ -5,7 +5,7 @@ use Rattle.job_meaning.specs.declared.values.Byte.{Byte}
 use Rattle.loaded_modules.specs.declared.instance.Instance.{Instance}
 use Rattle.thread_blocks.specs.Instances.{Loads}
 use Rattle.whole_meaning.specs.declared.marks.Mark.{Mark}
-use Rattle.whole_meaning.specs.Sequences.{Sequence}
+use Rattle.whole_meaning.specs.declared.sequences.Sequence.{Sequence}
 
 pub record Meaning : Type 0 where
   pub loads : Loads Byte

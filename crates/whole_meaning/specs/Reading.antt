@@ -20,7 +20,7 @@ use Rattle.guest_machine.specs.Touch.{paired, touched, touches_of}
 use Rattle.job_meaning.specs.Reading.{beside_linker, completed, place_at}
 use Rattle.whole_meaning.specs.declared.marks.Mark.{Mark}
 use Rattle.whole_meaning.specs.declared.marks.Mark.TheVariants.{Usual, Offset, Address, Inside}
-use Rattle.whole_meaning.specs.Fields.{address_at, lent, marked_frame, takes_address, takes_offset, without_operand}
+use Rattle.whole_meaning.specs.Fields.{address_at, lent, lent_frame, marked_frame, takes_address, takes_offset, without_operand}
 
 module _ {W F B : Type 0} (ops : Operations W F B) (mark : ℕ → Mark) (state : State W F) where
   -- ** reading
@@ -67,8 +67,8 @@ module _ {W F B M : Type 0} (ops : Operations W F B) (acc : Accesses M B) (mark 
 
   -- an instruction that was read
   abbrev pub acted : Frame → Decoded → State W F → M → Result (After W F M) Stop
-  acted frame it state memory =
-      act ops (lent ops acc (address_at mark state.place it.disp) frame) frame it.instr.operation state memory
+  acted frame it state memory = let number = address_at mark state.place it.disp in
+      act ops (lent ops acc number) (lent_frame number frame) it.instr.operation state memory
 
   abbrev pub done : Option Cause → Option Decoded → State W F → M → Result (After W F M) Stop
   done (Some why) it state memory = Err (Unclean state.place why)

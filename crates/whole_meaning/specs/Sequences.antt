@@ -2,7 +2,6 @@
 -- section 4; psABI, "Thread-Local Storage"): what it finds, what it leaves unknown, and what it asks of the stack.
 use Rattle.std.specs.Prelude.{ℕ, ◌-◌, ◌^◌, Bool, true, false, Result, Ok, Err, if◌then◌else◌}
 use Rattle.std.specs.List.{list_all}
-use Rattle.amd64_words.specs.declared.register.Register.{Register}
 use Rattle.guest_arithmetic.specs.declared.cause.Cause.{Cause}
 use Rattle.guest_arithmetic.specs.declared.cause.Cause.TheVariants as cause
 use Rattle.guest_arithmetic.specs.declared.flags.Flags.{Flags}
@@ -21,21 +20,7 @@ use Rattle.job_meaning.specs.declared.values.Word.TheVariants.{Number, Undefined
 use Rattle.job_meaning.specs.Marked.{is_same, used_number}
 use Rattle.sequence_forms.specs.declared.forms.Form.{Form}
 use Rattle.sequence_forms.specs.declared.forms.Form.TheVariants.{Gd, Ld, IeMov, IeAdd, GdInd, LdInd, DescLea, DescCall}
-
--- a sequence of an instance's code
-pub record Sequence : Type 0 where
-  pub form : Form
-  -- where it ends
-  pub next : ℕ
-  -- the register that it names, of the forms that name one
-  pub register : Register
-  -- the instance whose code it is
-  pub instance : ℕ
-  -- the symbol that it names, as a number that no other symbol has
-  pub symbol : ℕ
-  -- the instance whose blocks hold the variable, and the variable's offset in them
-  pub target : ℕ
-  pub offset : ℕ
+use Rattle.whole_meaning.specs.declared.sequences.Sequence.{Sequence}
 
 -- what a thread's memory says of its stack
 pub record Stack (M : Type 0) : Type 0 where

@@ -40,7 +40,8 @@ use Rattle.whole_meaning.specs.declared.marks.Mark.{Mark}
 use Rattle.whole_meaning.specs.declared.marks.Mark.TheVariants.{Usual}
 use Rattle.whole_meaning.specs.Meanings.{Meaning}
 use Rattle.whole_meaning.specs.Running.{meaning}
-use Rattle.whole_meaning.specs.Sequences.{Sequence, Stack, asks, looks_first, sequence_result}
+use Rattle.whole_meaning.specs.Sequences.{Stack, asks, looks_first, sequence_result}
+use Rattle.whole_meaning.specs.declared.sequences.Sequence.{Sequence}
 
 -- the operations of marked values; whose code stands at a place, its address says
 abbrev pub ops : Operations Word Flag Byte

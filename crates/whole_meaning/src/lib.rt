@@ -140,5 +140,9 @@
 
 pub mod laws;
 mod marks;
+mod sequences;
+mod unclean;
 
 pub use marks::Mark;
+pub use sequences::Sequence;
+pub use unclean::UncleanStep;

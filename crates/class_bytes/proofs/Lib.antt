@@ -1,0 +1,11 @@
+pub mod RangeLists
+pub mod Spotted
+pub mod Placing
+pub mod Laid
+pub mod Filled
+pub mod Words
+pub mod Founds
+pub mod Moving
+pub mod Keeping
+pub mod Movable
+pub mod Ranging

@@ -1,0 +1,149 @@
+-- What is made of tables is what the meaning loads.
+use Rattle.std.proofs.Common.{◌≡◌, ◌<◌, ◌≤◌, ◌+◌, ◌-◌, ◌∙◌, ℕ, zero, suc, Bool, true, false, List, [], ◌∷◌, ◌++◌, Option, None, Some, IsSome, length, map, replicate, refl, sym, ap, arith, inl, inr}
+use Rattle.std.specs.Prelude.{◌&&◌, nat_le, nat_lt, option_map, slice_get, if◌then◌else◌}
+use Rattle.std.specs.List.{range_with_len}
+use Rattle.std.specs.Option.{option_or}
+use Rattle.std.proofs.lemmas.Bool.{and_parts, cases_lt, le-ltb, lt-ltb, ltb-true}
+use Rattle.std.proofs.lemmas.List.{length-map}
+use Rattle.std.proofs.lemmas.List.FromFn.{length-map-range_with_len, map-range_with_len_more}
+use Rattle.std.proofs.lemmas.Option.{slice_get-get_or}
+use Rattle.guest_operands.specs.declared.space.Access.{Access}
+use Rattle.guest_operands.specs.declared.space.Access.TheVariants.{Read, Write, Run}
+use Rattle.guest_operands.specs.Ranges.{Range, byte_in, holds}
+use Rattle.job_meaning.specs.declared.values.Byte.{Byte}
+use Rattle.job_meaning.specs.declared.values.Byte.TheVariants.{Value}
+use Rattle.link_needs.specs.Linking.{Linking, layout}
+use Rattle.object_faults.specs.declared.class.SectionClass.{SectionClass}
+use Rattle.object_faults.specs.declared.class.SectionClass.TheVariants.{Executable, ReadOnly, Tls, Writable}
+use Rattle.tls_layout.specs.Laws.{extent_for}
+use Rattle.tls_layout.specs.Places.{tls_size}
+use Rattle.whole_meaning.specs.Bytes.{block_bytes, class_bytes}
+use Rattle.whole_meaning.specs.Loads.{class_range, data_ranges, still_ranges}
+use Rattle.class_bytes.specs.Still.{AreStill, StillTables, still_byte}
+use Rattle.class_bytes.specs.Tables.{ClassTable, IsClass, Keeps, byte_at, byte_of_place, bytes_at}
+use Rattle.class_bytes.proofs.Moving.{bytes_length}
+
+-- ** lists
+
+none_past : (xs : List Byte) (i : ℕ) → length xs ≤ i → None ≡ slice_get xs i
+none_past [] i h = refl
+none_past (x ∷ xs) zero h = absurd (omega arith)
+none_past (x ∷ xs) (suc i) h = none_past xs i (omega arith)
+
+mapped : (xs : List ℕ) (k : ℕ) → option_map Value (slice_get xs k) ≡ slice_get (map Value xs) k
+mapped [] k = refl
+mapped (x ∷ xs) zero = refl
+mapped (x ∷ xs) (suc k) = mapped xs k
+
+guarded : (xs : List Byte) (k : ℕ) → slice_get xs k ≡ (if nat_lt k (length xs) then slice_get xs k else None)
+guarded xs k = elim (cases_lt k (length xs)) [
+  | inl below ↦ rw (lt-ltb k (length xs) below) refl
+  | inr past ↦ rw (le-ltb k (length xs) past) (sym (none_past xs k past))
+]
+
+place_byte : (start : ℕ) (xs : List ℕ) (place : ℕ) → option_map Value (if nat_le start place then slice_get xs (place - start) else None)
+    ≡ (if nat_le start place && nat_lt (place - start) (length (map Value xs)) then slice_get (map Value xs) (place - start) else None)
+place_byte start xs place = by_test (nat_le start place)
+  where
+    by_test : (t : Bool) → option_map Value (if t then slice_get xs (place - start) else None)
+        ≡ (if t && nat_lt (place - start) (length (map Value xs)) then slice_get (map Value xs) (place - start) else None)
+    by_test true = mapped xs (place - start) ∙ guarded (map Value xs) (place - start)
+    by_test false = refl
+
+-- the first of two ranges that holds a place
+or_read : (t : Bool) (own other : Option Byte) (a b : Option ℕ) → option_map Value a ≡ (if t then own else None) → option_map Value b ≡ other
+    → (t ≡ true → IsSome own) → option_map Value (option_or a b) ≡ (if t then own else other)
+or_read true own other (Some v) b e f some = e
+or_read true own other None b e f some = absurd (empty own e (some refl))
+  where
+    empty : (own : Option Byte) → None ≡ own → IsSome own → ⊥
+    empty None e h = cc
+    empty (Some v) e h = cc
+or_read false own other (Some v) b e f some = absurd (impossible e)
+  where
+    impossible : Some (Value v) ≡ None → ⊥
+    impossible h = cc
+or_read false own other None b e f some = f
+
+-- ** tables
+
+module _ (l : Linking) (bias : ℕ) (keeps : Keeps l bias) where
+  class_byte : (class : SectionClass) (c : ClassTable) → IsClass l class c → (place : ℕ)
+      → option_map Value (byte_of_place c bias place)
+      ≡ (if holds (class_range l bias class) place then slice_get (class_range l bias class).bytes (place - (class_range l bias class).start) else None)
+  unfolding byte_of_place
+  class_byte class c is place =
+      ap (λ xs. option_map Value (if nat_le (c.start + bias) place then slice_get xs (place - (c.start + bias)) else None)) (is.bytes_are bias keeps)
+      ∙ place_byte (c.start + bias) (class_bytes l bias class) place
+      ∙ ap (λ n. if nat_le (n + bias) place && nat_lt (place - (n + bias)) (length (map Value (class_bytes l bias class))) then slice_get (map Value (class_bytes l bias class)) (place - (n + bias)) else None) is.start_is
+
+  held : (range : Range Byte) (place : ℕ) → holds range place ≡ true → IsSome (slice_get range.bytes (place - range.start))
+  held range place h =
+      let parts = and_parts (nat_le range.start place) (nat_lt (place - range.start) (length range.bytes)) h in
+      let below = ltb-true (place - range.start) (length range.bytes) parts.1 in
+      rw (slice_get-get_or range.bytes (place - range.start) (Value 0) below) refl
+
+  pub still_is : (s : StillTables) (access : Access) (place : ℕ) → AreStill l s → option_map Value (still_byte access s bias place) ≡ byte_in access (still_ranges l bias) place
+  unfolding still_byte
+  still_is s Run place are = class_byte Executable s.code are.code_is place
+  still_is s Read place are =
+      or_read (holds (class_range l bias ReadOnly) place) (slice_get (class_range l bias ReadOnly).bytes (place - (class_range l bias ReadOnly).start)) _
+      (byte_of_place s.constants bias place) (byte_of_place s.initial bias place)
+      (class_byte ReadOnly s.constants are.constants_are place) (class_byte (Tls true) s.initial are.initial_is place)
+      (held (class_range l bias ReadOnly) place)
+  still_is s Write place are = refl
+
+  class_length : (class : SectionClass) → length (class_bytes l bias class) ≡ (extent_for class (layout l)).end - (extent_for class (layout l)).start
+  unfolding class_bytes
+  class_length class = length-map-range_with_len _ (extent_for class (layout l)).start ((extent_for class (layout l)).end - (extent_for class (layout l)).start)
+
+  table_length : (class : SectionClass) (c : ClassTable) → IsClass l class c → length c.bytes ≡ (extent_for class (layout l)).end - (extent_for class (layout l)).start
+  table_length class c is = sym (bytes_length c bias) ∙ ap length (is.bytes_are bias keeps) ∙ class_length class
+
+  pub no_data : (c : ClassTable) → IsClass l (Writable true) c → length c.bytes ≡ 0 → None ≡ data_ranges l bias
+  no_data c is none =
+      let len = table_length (Writable true) c is in
+      rw (le-ltb (extent_for (Writable true) (layout l)).start (extent_for (Writable true) (layout l)).end (omega arith)) refl
+
+  pub some_data : (c : ClassTable) (start : ℕ) (bytes : List Byte) → IsClass l (Writable true) c → 0 < length c.bytes → start ≡ c.start + bias
+      → bytes ≡ map Value (bytes_at c bias)
+      → Some (record { start = start; bytes = bytes; readable = true; writable = true; runnable = false }) ≡ data_ranges l bias
+  some_data c start bytes is some at all =
+      let len = table_length (Writable true) c is in
+      let from : start ≡ (extent_for (Writable true) (layout l)).start + bias = at ∙ ap (λ n. n + bias) is.start_is in
+      let own : bytes ≡ map Value (class_bytes l bias (Writable true)) = all ∙ ap (map Value) (is.bytes_are bias keeps) in
+      rw (lt-ltb (extent_for (Writable true) (layout l)).start (extent_for (Writable true) (layout l)).end (omega arith), from, own) refl
+
+  pub block_is : (c : ClassTable) (size : ℕ) (values block : List Byte) → IsClass l (Tls true) c → size ≡ tls_size (layout l).sections
+      → values ≡ map Value (bytes_at c bias) → block ≡ values ++ replicate (size - length values) (Value 0)
+      → block ≡ map Value (block_bytes l bias)
+  block_is c size values block is e all padded =
+      let own : values ≡ map Value (class_bytes l bias (Tls true)) = all ∙ ap (map Value) (is.bytes_are bias keeps) in
+      let len : length values ≡ length (class_bytes l bias (Tls true)) = ap length own ∙ length-map (class_bytes l bias (Tls true)) Value in
+      rw (padded, own, length-map (class_bytes l bias (Tls true)) Value, e) (sym (both (class_bytes l bias (Tls true)) (tls_size (layout l).sections - length (class_bytes l bias (Tls true)))))
+    where
+      zeros : (n : ℕ) → map Value (replicate n 0) ≡ replicate n (Value 0)
+      zeros zero = refl
+      zeros (suc n) = ap (λ xs. Value 0 ∷ xs) (zeros n)
+
+      both : (xs : List ℕ) (n : ℕ) → map Value (xs ++ replicate n 0) ≡ map Value xs ++ replicate n (Value 0)
+      both [] n = zeros n
+      both (x ∷ xs) n = ap (λ ys. Value x ∷ ys) (both xs n)
+
+-- ** all bytes of a table
+
+pub no_values : (c : ClassTable) (bias : ℕ) → [] ≡ map Value (map (byte_at c bias) (range_with_len 0 0))
+no_values c bias = refl
+
+pub all_values : (c : ClassTable) (bias n : ℕ) (values : List Byte) → n ≡ length c.bytes → values ≡ map Value (map (byte_at c bias) (range_with_len 0 n)) → values ≡ map Value (bytes_at c bias)
+unfolding bytes_at
+all_values c bias n values e all = all ∙ ap (λ k. map Value (map (byte_at c bias) (range_with_len 0 k))) e
+
+pub more_values : (c : ClassTable) (bias n v : ℕ) (values : List Byte) → values ≡ map Value (map (byte_at c bias) (range_with_len 0 n)) → v ≡ byte_at c bias n
+    → values ++ (Value v ∷ []) ≡ map Value (map (byte_at c bias) (range_with_len 0 (n + 1)))
+more_values c bias n v values all e =
+    rw (map-range_with_len_more (byte_at c bias) 0 n n (omega arith), all, e) (sym (push (map (byte_at c bias) (range_with_len 0 n)) (byte_at c bias n)))
+  where
+    push : (xs : List ℕ) (x : ℕ) → map Value (xs ++ (x ∷ [])) ≡ map Value xs ++ (Value x ∷ [])
+    push [] x = refl
+    push (y ∷ xs) x = ap (λ ys. Value y ∷ ys) (push xs x)

@@ -1,0 +1,4 @@
+pub mod Laying
+pub mod Filling
+pub mod Tables
+pub mod Still

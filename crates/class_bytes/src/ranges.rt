@@ -1,0 +1,132 @@
+//! The ranges of an instance, as a job loads them.
+
+ghost use Rattle.std.specs.Prelude.{◌≡◌, ◌++◌, ◌-◌, ◌<◌, ◌≤◌, ◌^◌, true, IfOk, OnOk, length, map};
+ghost use Rattle.std.specs.Prelude.{option_map, replicate};
+ghost use Rattle.guest_operands.specs.Ranges.{byte_in};
+ghost use Rattle.link_needs.specs.Linking.{Linking, layout};
+ghost use Rattle.object_faults.specs.declared.class.SectionClass.TheVariants.{Tls, Writable};
+ghost use Rattle.tls_layout.specs.Places.{tls_size};
+ghost use Rattle.class_bytes.specs.Still.{AreStill, still_byte};
+ghost use Rattle.class_bytes.specs.Tables.{IsClass, Keeps};
+ghost use Rattle.whole_meaning.specs.Bytes.{block_bytes};
+ghost use Rattle.whole_meaning.specs.Loads.{data_ranges, still_ranges};
+
+use crate::class_bytes::ClassBytes;
+use elf_object::SectionClass;
+use guest_memory::{GuestRange, Rights};
+use guest_operands::Access;
+use job_meaning::Byte;
+use link_needs::Inputs;
+use std::alloc::{AllocError, Global};
+use std::marker::Model;
+
+/// The bytes of an instance that nothing writes: code, constants and the initial image of thread-local storage.
+#[derive(Drop)]
+pub struct StillBytes {
+    code: ClassBytes,
+    constants: ClassBytes,
+    initial: ClassBytes,
+}
+
+impl Model for StillBytes {
+    ghost use Rattle.class_bytes.specs.Still.{StillTables};
+
+    ghost Value = { StillTables };
+
+    ghost view = { λ s. record { code = s.code; constants = s.constants; initial = s.initial } };
+}
+
+impl StillBytes {
+    /// Those of an image.
+    pub fn of(alloc: Global, inputs: &Inputs) -> Result<StillBytes, AllocError>
+        ensures { IfOk result (AreStill inputs.now) }
+    {
+        Ok(StillBytes {
+            code: ClassBytes::of(alloc, inputs, SectionClass::Executable)?,
+            constants: ClassBytes::of(alloc, inputs, SectionClass::ReadOnly)?,
+            initial: ClassBytes::of(alloc, inputs, SectionClass::Tls { initial: true })?,
+        })
+    }
+
+    /// The initial image of thread-local storage, of which blocks are made.
+    pub fn initial(&self) -> &ClassBytes
+        ensures { result.now ≡ self.now.initial }
+    {
+        &self.initial
+    }
+
+    /// The byte at a place that may be accessed so.
+    #[tactic(auto, unfolding(crate::specs::Still::still_byte))]
+    fn byte_for(&self, access: Access, bias: u64, place: u64) -> Option<u8>
+        requires { bias < 2 ^ 60 }
+        ensures { result ≡ still_byte access self.now bias place }
+    {
+        match access {
+            Access::Run => self.code.byte(bias, place),
+            Access::Read => match self.constants.byte(bias, place) {
+                Some(byte) => Some(byte),
+                None => self.initial.byte(bias, place),
+            },
+            Access::Write => None,
+        }
+    }
+
+    /// The byte at a place of an instance that is moved by `bias`, if it may be accessed so: code is run, and the
+    /// others are read.
+    pub fn byte(&self, access: Access, bias: u64, place: u64) -> Option<u8>
+        requires { bias < 2 ^ 60 }
+        ensures { (l : Linking) → AreStill l self.now → Keeps l bias
+            → option_map Byte.Value result ≡ byte_in access (still_ranges l bias) place }
+    {
+        self.byte_for(access, bias, place)
+    }
+}
+
+/// Fills a block with zeros up to a length, if it is shorter.
+fn pad_block(block: &mut Vec<Byte>, len: usize) -> Result<(), AllocError>
+    ensures { OnOk result (block.new.items
+        ≡ block.old.items ++ replicate (len - length block.old.items) (Byte.Value 0)) }
+{
+    if block.len() < len {
+        block.resize(len, Byte::Value(0))?;
+    }
+    Ok(())
+}
+
+/// A thread's block before any write, of an instance that is moved by `bias`: the initial image, and zeros up to the
+/// size of the segment.
+pub fn block_of(
+    alloc: Global,
+    initial: &ClassBytes,
+    size: u64,
+    bias: u64,
+) -> Result<Vec<Byte>, AllocError>
+    requires { bias < 2 ^ 60 }
+    ensures { IfOk result (λ block. (l : Linking) → IsClass l (Tls true) initial.now → Keeps l bias
+        → size ≡ tls_size (layout l).sections → block.items ≡ map Byte.Value (block_bytes l bias)) }
+{
+    let mut block = initial.values(alloc, bias)?;
+    pad_block(&mut block, size as usize)?;
+    Ok(block)
+}
+
+/// The data of an instance that is moved by `bias`, if there is any.
+pub fn data_of(
+    alloc: Global,
+    writable: &ClassBytes,
+    bias: u64,
+) -> Result<Option<GuestRange<Byte>>, AllocError>
+    requires { bias < 2 ^ 60 }
+    ensures { IfOk result (λ range. (l : Linking) → IsClass l (Writable true) writable.now → Keeps l bias
+        → range ≡ data_ranges l bias) }
+{
+    if writable.is_empty() {
+        return Ok(None);
+    }
+    let rights = Rights {
+        readable: true,
+        writable: true,
+        runnable: false,
+    };
+    Ok(Some(GuestRange::new(writable.place(bias), writable.values(alloc, bias)?, rights)))
+}

@@ -1,0 +1,18 @@
+use Rattle.std.proofs.Common.{ℕ, ◌∙◌, ◌+◌, ◌-◌, ◌*◌, sym, ap, arith}
+use Rattle.guest_operands.specs.declared.state.State.{State}
+use Rattle.guest_operands.specs.State.{start_of}
+use Rattle.job_meaning.specs.declared.values.Flag.{Flag}
+use Rattle.job_meaning.specs.declared.values.Word.{Word}
+use Rattle.job_meaning.specs.declared.values.Word.TheVariants.{Number}
+use Rattle.whole_meaning.specs.Threads.{ops}
+use Rattle.job_check.proofs.LinesBegun.{marked_start}
+use Rattle.job_check.proofs.lines.registers_at.Goals as goal
+
+pub returns : goal.returns
+returns c = λ symbol.
+    let pointed : State Word Flag → State Word Flag = λ s. record s { thread_pointer = c.from-thread.result * 1099511627776 + 274877906944 } in
+    let started : ℕ → State Word Flag = λ t.
+    record (start_of ops c.args.place (t * 1099511627776 + 549755813888 - 8) (Number c.args.a) (Number c.args.b) (Number c.args.c))
+    { thread_pointer = t * 1099511627776 + 274877906944 } in
+    ap pointed c.start-state.ensures ∙ ap started c.from-thread.ensures
+    ∙ sym (marked_start c.args.thread c.args.place c.args.a c.args.b c.args.c symbol (omega arith) (omega arith) (omega arith))

@@ -1,0 +1,19 @@
+use Rattle.std.proofs.Common.{◌∙◌, ◌+◌, ap}
+use Rattle.meant_space.specs.Kept.{Kept}
+use Rattle.job_check.specs.Standing.{run_after}
+use Rattle.job_check.proofs.thread.begin_line.Goals as goal
+
+pub ended-requires-clause-lent : goal.ended-requires-clause-lent
+ended-requires-clause-lent c =
+    ap (λ (k : Kept). k.lent) c.in_ok-shared.ensures.blocks ∙ c.in_ok-taken.ensures.keeps.lent ∙ c.requires.lent
+
+pub returns : goal.returns
+returns c = record {
+  taken = c.in_ok-taken.taken;
+  new = c.take_begin.new.space;
+  begins = c.in_ok-taken.ensures;
+  shared = c.in_ok-shared.ensures.taken;
+  is = c.ended.ensures
+      ∙ ap (run_after c.args.script.lines.now c.args.script.fuel (c.args.begun + 1) c.args.unclean c.in_ok-taken.taken)
+      c.in_ok-shared.ensures.blocks;
+}

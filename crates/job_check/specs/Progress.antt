@@ -1,0 +1,91 @@
+-- How far the threads of a job have come: what the code keeps between two turns, and the definition's threads that this
+-- stands for.
+use Rattle.std.specs.Prelude.{◌≡◌, ◌+◌, ℕ, suc, Bool, true, List, [], ◌∷◌, length, slice_get, Option, Some, None}
+use Rattle.std.specs.Option.{option_or}
+use Rattle.job_meaning.specs.declared.values.Byte.{Byte}
+use Rattle.job_meaning.specs.declared.values.Flag.{Flag}
+use Rattle.job_meaning.specs.declared.values.Word.{Word}
+use Rattle.job_text.specs.Jobs.{JobParts}
+use Rattle.link_needs.specs.Linking.{Linking}
+use Rattle.module_table.specs.declared.events.Event.{Event}
+use Rattle.module_table.specs.Past.{Past, start}
+use Rattle.thread_blocks.specs.Held.{Owned}
+use Rattle.thread_blocks.specs.Instances.{left_by}
+use Rattle.thread_blocks.specs.JobWorlds.{Shared, blocks_in, data_in, shared_order}
+use Rattle.thread_blocks.specs.Lines.{Line, event_by}
+use Rattle.thread_blocks.specs.Turns.{Thread, at_number}
+use Rattle.whole_meaning.specs.declared.unclean.UncleanStep.{UncleanStep}
+use Rattle.whole_meaning.specs.Jobs.{first_data}
+use Rattle.whole_meaning.specs.Loads.{loads_of, meaning_of}
+use Rattle.whole_meaning.specs.Threads.{Meant, meant_turns}
+use Rattle.job_check.specs.Histories.{IsHistory, infos_of, last_of}
+use Rattle.job_check.specs.Standing.{IsFirstRun, Run, StandsFor, is_done}
+
+-- what the history leaves, the data of all instances, and each thread, thread 1 first
+pub record Progress : Type 0 where
+  pub past : Past
+  pub shared : List (Owned Byte)
+  pub runs : List Run
+
+-- ** which threads are over
+
+-- it has nothing left to do, or there is no such thread
+abbrev pub is_over : Option Run → Bool
+is_over None = true
+is_over (Some r) = is_done r
+
+abbrev pub is_thread_over : List Run → ℕ → Bool
+is_thread_over runs thread = is_over (at_number runs thread)
+
+-- ** what it stands for
+
+-- of a job with these images and this fuel, what is kept of a thread and the thread that it stands for
+pub record IsRunOf (ls : List Linking) (fuel thread : ℕ) (r : Run) (t : Thread Meant Line Event) : Type 0 where
+  pub thread_is : r.kept.thread ≡ thread
+  pub images_are : r.kept.images ≡ ls
+  pub fuel_is : r.fuel ≡ fuel
+  pub stands : StandsFor r t
+
+pub record Stands (ls : List Linking) (fuel : ℕ) (w : Shared Word Flag Byte Line) (x : Progress) : Type 0 where
+  pub legal : IsHistory ls w.events
+  pub leaves : left_by (loads_of ls) w.events ≡ x.past
+  pub shared_is : w.shared ≡ x.shared
+  pub are_data : data_in x.shared ≡ x.shared
+  pub no_blocks : blocks_in x.shared ≡ []
+  pub count : length x.runs ≡ length w.threads
+  pub each : (k : ℕ) (r : Run) (t : Thread Meant Line Event) → slice_get x.runs k ≡ Some r
+      → slice_get w.threads k ≡ Some t → IsRunOf ls fuel (suc k) r t
+
+-- it stands for threads of some job
+pub record StandsForSome (x : Progress) : Type 0 where
+  pub images : List Linking
+  pub fuel : ℕ
+  pub world : Shared Word Flag Byte Line
+  pub stands : Stands images fuel world x
+
+-- ** turns
+
+abbrev pub meant_order : List Linking → ℕ → List ℕ → Shared Word Flag Byte Line → Shared Word Flag Byte Line
+meant_order ls fuel order w = let m = meaning_of ls in
+    shared_order (λ thread. meant_turns m thread fuel) (λ thread. event_by m.loads thread) order w
+
+-- whatever it stood for before, it stands for that after turns in this order
+pub record TakesTurns (old : Progress) (order : List ℕ) (new : Progress) : Type 0 where
+  pub turns : (ls : List Linking) (fuel : ℕ) (w : Shared Word Flag Byte Line) → Stands ls fuel w old
+      → Stands ls fuel (meant_order ls fuel order w) new
+
+-- ** before the first turn
+
+-- it stands before the first turn of a job over these images
+pub record IsFirst (ls : List Linking) (job : JobParts) (x : Progress) : Type 0 where
+  pub legal : IsHistory ls []
+  pub past_is : x.past ≡ start (infos_of ls) (last_of ls)
+  pub shared_is : x.shared ≡ first_data (meaning_of ls)
+  pub count : length x.runs ≡ length job.lines
+  pub each : (k : ℕ) (r : Run) → slice_get x.runs k ≡ Some r → IsFirstRun (k + 1) ls job r
+
+-- ** the verdict so far
+
+abbrev pub first_unclean : List Run → Option UncleanStep
+first_unclean [] = None
+first_unclean (r ∷ runs) = option_or r.unclean (first_unclean runs)

@@ -1,0 +1,173 @@
+-- Which threads of the definition a thread of the code stands for, between two turns.
+use Rattle.std.specs.Prelude.{◌≡◌, ◌+◌, ℕ, Bool, false, List, [], Option, Some, None, drop, length, nat_le}
+use Rattle.std.specs.Option.{option_or}
+use Rattle.guest_operands.specs.declared.state.State.{State}
+use Rattle.job_meaning.specs.declared.values.Byte.{Byte}
+use Rattle.job_meaning.specs.declared.values.Flag.{Flag}
+use Rattle.job_meaning.specs.declared.values.Word.{Word}
+use Rattle.job_text.specs.declared.thread_lines.ThreadLine.{ThreadLine}
+use Rattle.job_text.specs.Jobs.{JobParts}
+use Rattle.job_text.specs.Threads.{of_thread}
+use Rattle.link_needs.specs.Linking.{Linking}
+use Rattle.module_table.specs.declared.events.Event.{Event}
+use Rattle.module_table.specs.Past.{Past, start}
+use Rattle.thread_blocks.specs.Held.{Owned, owned_by}
+use Rattle.thread_blocks.specs.Instances.{instances_in, left_by}
+use Rattle.thread_blocks.specs.JobWorlds.{blocks_in, data_in, held_in, numbered_lines, with_data, without_data}
+use Rattle.thread_blocks.specs.Lines.{Line, event_by}
+use Rattle.thread_blocks.specs.Turns.{Idle, Mid, Phase, Thread, event_of, turn, with_event}
+use Rattle.whole_meaning.specs.declared.unclean.UncleanStep.{UncleanStep}
+use Rattle.whole_meaning.specs.Jobs.{first_in}
+use Rattle.whole_meaning.specs.Loads.{loads_of, meaning_of}
+use Rattle.whole_meaning.specs.Threads.{Meant, meant_turns}
+use Rattle.meant_space.specs.declared.space.Wanted.TheVariants.{Fixed}
+use Rattle.job_check.specs.declared.thread.Taken.{Taken}
+use Rattle.job_check.specs.declared.thread.Taken.TheVariants.{Over, Waits}
+use Rattle.job_check.specs.declared.thread.Waiting.{Waiting}
+use Rattle.job_check.specs.Histories.{infos_of, last_of}
+use Rattle.meant_space.specs.Kept.{Kept, held_at}
+use Rattle.meant_space.specs.Spaces.{with_held}
+use Rattle.job_check.specs.Taking.{BeginsTo, ResumesTo}
+
+-- what contracts see of a thread: its lines and how many are begun, the most steps of a call, what its memory keeps,
+-- the call that waits, if one does, and its first unclean step so far
+pub record Run : Type 0 where
+  pub lines : List ThreadLine
+  pub fuel : ℕ
+  pub begun : ℕ
+  pub kept : Kept
+  pub call : Option Waiting
+  pub unclean : Option UncleanStep
+
+-- nothing is left to do
+abbrev pub is_done_with : List ThreadLine → ℕ → Option Waiting → Bool
+is_done_with lines begun None = nat_le (length lines) begun
+is_done_with lines begun (Some c) = false
+
+abbrev pub is_done : Run → Bool
+is_done r = is_done_with r.lines r.begun r.call
+
+-- ** threads that it stands for, while the shared data are in no thread's hands
+
+-- between two lines its registers do not count
+pub record IsIdle (k : Kept) (h : Meant) : Type 0 where
+  pub seen : List Event
+  pub state : State Word Flag
+  pub holds : h ≡ held_at seen state k
+
+-- in the middle of a call
+pub record IsMid (k : Kept) (c : Waiting) (steps : ℕ) (h : Meant) : Type 0 where
+  pub seen : List Event
+  pub steps_left : steps ≡ c.steps
+  pub holds : h ≡ held_at seen c.state k
+
+abbrev pub PhaseIs : Kept → Option Waiting → Phase Meant → Type 0
+PhaseIs k None (Idle h) = IsIdle k h
+PhaseIs k None (Mid steps points h) = ⊥
+PhaseIs k (Some c) (Idle h) = ⊥
+PhaseIs k (Some c) (Mid steps points h) = IsMid k c steps h
+
+-- how many lines are begun where so many are over
+abbrev pub begun_of : ℕ → Option Waiting → ℕ
+begun_of over None = over
+begun_of over (Some c) = over + 1
+
+pub record StandsFor (r : Run) (t : Thread Meant Line Event) : Type 0 where
+  pub todo : t.todo ≡ numbered_lines (r.begun + 1) (drop r.begun r.lines)
+  pub count : begun_of (length t.said) r.call ≡ r.begun
+  pub unclean : first_in r.kept.thread 1 t.said ≡ r.unclean
+  pub blocks : blocks_in r.kept.own ≡ r.kept.own
+  pub no_data : data_in r.kept.own ≡ []
+  pub phase : PhaseIs r.kept r.call t.phase
+
+-- ** a turn
+
+-- a thread after a turn with the shared data in its hands: this stands for it, the data are these, and the events leave
+-- this history
+pub record StandsAfter (r : Run) (p : Past) (d : List (Owned Byte)) (now : List Event)
+    (t : Thread Meant Line Event) : Type 0 where
+  pub stands : StandsFor r (without_data t)
+  pub shared : data_in (owned_by (held_in t.phase)) ≡ d
+  pub leaves : left_by (loads_of r.kept.images) now ≡ p
+
+-- what is the same of a thread after a turn
+pub record IsSameThread (old new : Run) : Type 0 where
+  pub thread : new.kept.thread ≡ old.kept.thread
+  pub images : new.kept.images ≡ old.kept.images
+  pub lines : new.lines ≡ old.lines
+  pub fuel : new.fuel ≡ old.fuel
+
+-- of each thread that the old one stands for, the turn at a history that leaves this, with the data in its hands, is
+-- one that the new one stands for
+pub record TakesTurn (old : Run) (p : Past) (d : List (Owned Byte)) (new : Run) (p' : Past)
+    (d' : List (Owned Byte)) : Type 0 where
+  pub same : IsSameThread old new
+  pub turns : (t : Thread Meant Line Event) (seen : List Event) → StandsFor old t
+      → left_by (loads_of old.kept.images) seen ≡ p
+      → let m = meaning_of old.kept.images in
+      let thread = old.kept.thread in
+      StandsAfter new p' d' (with_event seen (event_of (event_by m.loads thread) t seen))
+      (turn (meant_turns m thread old.fuel) (with_data d t) seen)
+
+-- ** once a turn is over
+
+-- what is kept while the shared data are out of the thread's hands
+abbrev pub emptied : Kept → Kept
+emptied k = record k { own = blocks_in k.own }
+
+abbrev pub run_after : List ThreadLine → ℕ → ℕ → Option UncleanStep → Taken → Kept → Run
+run_after lines fuel begun unclean (Over found) k = record {
+  lines = lines;
+  fuel = fuel;
+  begun = begun;
+  kept = k;
+  call = None;
+  unclean = option_or unclean found;
+}
+run_after lines fuel begun unclean (Waits call) k = record {
+  lines = lines;
+  fuel = fuel;
+  begun = begun;
+  kept = k;
+  call = Some call;
+  unclean = unclean;
+}
+
+-- it began its next line, and its turn came to this
+pub record BeginsLine (lines : List ThreadLine) (fuel begun : ℕ) (unclean : Option UncleanStep) (line : ThreadLine)
+    (p : Past) (k : Kept) (r : Run) (p' : Past) (d : List (Owned Byte)) : Type 0 where
+  pub taken : Taken
+  pub new : Kept
+  pub begins : BeginsTo fuel (record { number = begun + 1; told = line }) p k taken p' new
+  pub shared : d ≡ data_in new.own
+  pub is : r ≡ run_after lines fuel (begun + 1) unclean taken (emptied new)
+
+-- it went on with a call, and its turn came to this
+pub record ResumesLine (lines : List ThreadLine) (fuel begun : ℕ) (unclean : Option UncleanStep) (c : Waiting)
+    (k : Kept) (r : Run) (d : List (Owned Byte)) : Type 0 where
+  pub taken : Taken
+  pub new : Kept
+  pub resumes : ResumesTo fuel begun c k taken new
+  pub shared : d ≡ data_in new.own
+  pub is : r ≡ run_after lines fuel begun unclean taken (emptied new)
+
+-- ** before the first turn
+
+-- it holds the blocks of the images that start with the program
+pub record IsFirstKept (thread : ℕ) (ls : List Linking) (k : Kept) : Type 0 where
+  pub is : k ≡ with_held (instances_in (infos_of ls) (start (infos_of ls) (last_of ls))) [] Fixed (record {
+    thread = thread;
+    images = ls;
+    live = [];
+    stack = [];
+    own = [];
+    lent = None;
+  })
+
+pub record IsFirstRun (thread : ℕ) (ls : List Linking) (job : JobParts) (r : Run) : Type 0 where
+  pub lines : r.lines ≡ of_thread job.lines thread
+  pub fuel : r.fuel ≡ job.fuel
+  pub begun : r.begun ≡ 0
+  pub kept : IsFirstKept thread ls r.kept
+  pub call : r.call ≡ None
+  pub unclean : r.unclean ≡ None

@@ -1,0 +1,326 @@
+//! What the first look of a thread's line comes to.
+
+ghost use Rattle.std.specs.Prelude.{◌≡◌, ◌≤◌, ◌<◌, ◌+◌, ◌^◌, ℕ, List, IfOk, OnOk, is_some, length, map, option_map};
+ghost use Rattle.job_meaning.specs.Marked.{values_of};
+ghost use Rattle.module_table.specs.Past.{module_of};
+ghost use Rattle.thread_blocks.specs.Instances.{instances_in, loaded_instance};
+ghost use Rattle.thread_blocks.specs.MachineTurns.{call_start};
+ghost use Rattle.whole_meaning.specs.Loads.{info_of};
+ghost use Rattle.whole_meaning.specs.Threads.{ops};
+ghost use Rattle.job_check.specs.Histories.{IsLeftBy, infos_of};
+ghost use Rattle.job_check.specs.Lines.{BeginsCall, BeginsClose, BeginsOpen, BeginsPeek, LoadsNew, Sees, Starts, byte_cause, is_for, shown_step, step_in, unclean_bytes, unclean_for};
+
+use crate::live::{block_start, live_instance, live_instances};
+use crate::verdict::unclean_stop;
+use guest_arithmetic::Cause;
+use guest_operands::{State, Stop, start};
+use job_meaning::{Byte, Flag, MarkedValues, Token, Word};
+use job_text::{Action, ThreadLine};
+use meant_space::{MeantSpace, Wanted};
+use module_table::{Event, ModuleTable};
+use std::alloc::{AllocError, Global};
+use whole_meaning::UncleanStep;
+
+/// What the first look of a line comes to.
+#[derive(Clone, Copy, Debug)]
+pub(crate) enum Started {
+    /// The line is over; it shows bytes that are no numbers, or nothing is unclean.
+    Says(Option<UncleanStep>),
+    /// A call begins, with these registers.
+    Calls(State<Word, Flag>),
+}
+
+/// A line that is over, and of which nothing is unclean.
+const CLEAN: Started = Started::Says(None);
+
+// ** calls
+
+/// The registers before a call of the function at a place.
+fn registers_at(thread: u32, place: u64, a: u64, b: u64, c: u64) -> State<Word, Flag>
+    requires { thread ≤ 64 }
+    ensures { (symbol : List ℕ) → result
+        ≡ call_start ops thread place (record { symbol = symbol; a = a; b = b; c = c }) }
+{
+    let thread = u64::from(thread);
+    let stack = thread * (1 << 40) + (1 << 39) - 8;
+    let mut state = start::<MarkedValues>(
+        place,
+        stack,
+        Word::Number(a),
+        Word::Number(b),
+        Word::Number(c),
+    );
+    state.thread_pointer = thread * (1 << 40) + (1 << 38);
+    state
+}
+
+/// Begins a call of the function of a name, in the live instance of the line's image. It finds a fresh stack, and the
+/// blocks as the line before left them.
+fn call(
+    space: &mut MeantSpace,
+    table: &ModuleTable,
+    line: &ThreadLine,
+    symbol: &[u8],
+    a: u64,
+    b: u64,
+    c: u64,
+) -> Result<Started, AllocError>
+    requires { space.old.live ≡ instances_in (infos_of space.old.images) table.now }
+    ensures { IfOk result (λ started. (number : ℕ)
+        → BeginsCall (record { number = number; told = line.now }) symbol.now a b c
+        table.now space.old started table.now space.new) }
+{
+    let Some(instance) = live_instance(space.images(), table, line.image) else {
+        return Ok(CLEAN);
+    };
+    let Some(place) = space.images().function(&instance, symbol) else {
+        return Ok(CLEAN);
+    };
+    space.renew_stack()?;
+    Ok(Started::Calls(registers_at(space.thread(), place, a, b, c)))
+}
+
+// ** opens and closes
+
+/// A thread sees the history as it is now.
+fn see(alloc: Global, space: &mut MeantSpace, table: &ModuleTable) -> Result<(), AllocError>
+    requires { IsLeftBy space.old.images table.now }
+    ensures { OnOk result (Sees space.old table.now space.new) }
+{
+    let live = live_instances(alloc, space.images(), table)?;
+    space.hold(live, Vec::new(alloc), Wanted::Fixed)
+}
+
+/// Fills the data of an image that was not loaded before.
+fn load_new(
+    space: &mut MeantSpace,
+    table: &ModuleTable,
+    was: bool,
+    image: u32,
+) -> Result<(), AllocError>
+    ensures { OnOk result (LoadsNew was
+        (loaded_instance (infos_of space.old.images) image (module_of table.now image)) space.old space.new) }
+{
+    if !was {
+        if let Some(instance) = live_instance(space.images(), table, image) {
+            space.load(instance.number)?;
+        }
+    }
+    Ok(())
+}
+
+/// An open of the line's image. One that is accepted is in the history then, and a load fills the data of the instance.
+fn open(
+    alloc: Global,
+    space: &mut MeantSpace,
+    table: &mut ModuleTable,
+    number: u32,
+    line: &ThreadLine,
+) -> Result<Started, AllocError>
+    requires live { space.old.live ≡ instances_in (infos_of space.old.images) table.old }
+    requires past { IsLeftBy space.old.images table.old }
+    requires room { table.old.seen < 2 ^ 61 }
+    ensures { IfOk result (λ started.
+        BeginsOpen (record { number = number; told = line.now }) table.old space.old started table.new space.new) }
+{
+    if table.open_refusal(line.image).is_some() {
+        return Ok(CLEAN);
+    }
+    let was = table.module(line.image).is_loaded();
+    let event = Event {
+        thread: space.thread(),
+        line: number,
+        opens: true,
+        image: line.image,
+    };
+    table.accept(event);
+    see(alloc, space, table)?;
+    load_new(space, table, was, line.image)?;
+    Ok(CLEAN)
+}
+
+/// A close of the line's image. One that is accepted is in the history then.
+fn close(
+    alloc: Global,
+    space: &mut MeantSpace,
+    table: &mut ModuleTable,
+    number: u32,
+    line: &ThreadLine,
+) -> Result<Started, AllocError>
+    requires live { space.old.live ≡ instances_in (infos_of space.old.images) table.old }
+    requires past { IsLeftBy space.old.images table.old }
+    requires room { table.old.seen < 2 ^ 61 }
+    ensures { IfOk result (λ started.
+        BeginsClose (record { number = number; told = line.now }) table.old space.old started table.new space.new) }
+{
+    if table.close_refusal(line.image).is_some() {
+        return Ok(CLEAN);
+    }
+    let event = Event {
+        thread: space.thread(),
+        line: number,
+        opens: false,
+        image: line.image,
+    };
+    table.accept(event);
+    see(alloc, space, table)?;
+    Ok(CLEAN)
+}
+
+// ** peeks
+
+/// Why a byte is no number.
+fn byte_cause(byte: Byte) -> Option<Cause>
+    ensures { result ≡ byte_cause byte }
+{
+    match byte {
+        Byte::Value(_) => None,
+        Byte::Hidden => Some(Cause::Undefined),
+        Byte::Part(Token::Base(_), _) => Some(Cause::Base),
+        Byte::Part(Token::Descriptor(_, _), _) => Some(Cause::Descriptor),
+    }
+}
+
+/// Whether this is why a byte is no number.
+fn is_for(cause: Cause, byte: Byte) -> bool
+    ensures { result ≡ is_for cause (byte_cause byte) }
+{
+    match byte_cause(byte) {
+        Some(other) => cause == other,
+        None => false,
+    }
+}
+
+/// The lowest byte that is no number for this cause.
+fn unclean_for(address: u64, bytes: &[Byte], cause: Cause) -> Option<Stop>
+    requires { address + length bytes.now < 2 ^ 64 }
+    ensures { result ≡ unclean_for address bytes.now cause }
+{
+    for (index, byte) in bytes.iter().enumerate() {
+        if is_for(cause, *byte) {
+            return Some(Stop::Unclean(address + index as u64, cause));
+        }
+    }
+    None
+}
+
+/// Of the causes the first, whichever byte comes first.
+fn unclean_bytes(address: u64, bytes: &[Byte]) -> Stop
+    requires { address + length bytes.now < 2 ^ 64 }
+    ensures { result ≡ unclean_bytes address bytes.now }
+{
+    unclean_for(address, bytes, Cause::Undefined)
+        .or(unclean_for(address, bytes, Cause::Base).or(unclean_for(
+            address,
+            bytes,
+            Cause::Descriptor,
+        )))
+        .unwrap_or(Stop::Unclean(address, Cause::Undefined))
+}
+
+/// Whether each byte is a number.
+fn are_numbers(bytes: &[Byte]) -> bool
+    ensures { result ≡ is_some (values_of bytes.now) }
+{
+    for byte in bytes {
+        match byte {
+            Byte::Value(_) => {}
+            Byte::Hidden | Byte::Part(_, _) => return false,
+        }
+    }
+    true
+}
+
+/// The unclean step of a line that shows bytes from an address on, if they are no numbers.
+fn shown_step(thread: u32, line: u32, address: u64, bytes: &[Byte]) -> Option<UncleanStep>
+    requires { address + length bytes.now < 2 ^ 64 }
+    ensures { result ≡ shown_step thread line address bytes.now (values_of bytes.now) }
+{
+    if are_numbers(bytes) {
+        return None;
+    }
+    unclean_stop(thread, line, unclean_bytes(address, bytes))
+}
+
+/// The unclean step of a line that shows bytes of a block, from an offset on, if it has one.
+fn step_in(
+    thread: u32,
+    line: u32,
+    start: u64,
+    size: u32,
+    offset: u64,
+    block: Option<&[Byte]>,
+) -> Option<UncleanStep>
+    requires { start < 2 ^ 57 }
+    ensures { result ≡ step_in thread line start size offset (option_map (λ b. b.now) block.entry) }
+{
+    let block = block?;
+    match offset.checked_add(u64::from(size)) {
+        Some(end) if end <= block.len() as u64 => {
+            let bytes = &block[offset as usize..end as usize];
+            shown_step(thread, line, start + offset, bytes)
+        }
+        _ => None,
+    }
+}
+
+/// Shows bytes of a variable, from the block of the live instance of the line's image. The block is reached, also where
+/// the line is then refused.
+fn peek(
+    space: &mut MeantSpace,
+    table: &ModuleTable,
+    number: u32,
+    line: &ThreadLine,
+    symbol: &[u8],
+    size: u32,
+) -> Result<Started, AllocError>
+    requires { space.old.live ≡ instances_in (infos_of space.old.images) table.now }
+    ensures { IfOk result (λ started. BeginsPeek (record { number = number; told = line.now }) symbol.now size
+        table.now space.old started table.now space.new) }
+{
+    let Some(instance) = live_instance(space.images(), table, line.image) else {
+        return Ok(CLEAN);
+    };
+    space.reach(instance.number)?;
+    let Some(offset) = space.images().variable(line.image, symbol) else {
+        return Ok(CLEAN);
+    };
+    let thread = space.thread();
+    let start = block_start(thread, &instance);
+    let block = space.block(instance.number);
+    Ok(Started::Says(step_in(thread, number, start, size, offset, block)))
+}
+
+// ** lines
+
+/// The first look of a line, of this number from 1, of a thread that has seen all events. An open or a close that is
+/// accepted is in the history then. The only error is want of memory, and then nothing is said of the thread.
+pub(crate) fn begin(
+    alloc: Global,
+    space: &mut MeantSpace,
+    table: &mut ModuleTable,
+    number: u32,
+    line: &ThreadLine,
+) -> Result<Started, AllocError>
+    requires live { space.old.live ≡ instances_in (map info_of space.old.images) table.old }
+    requires past { IsLeftBy space.old.images table.old }
+    requires room { table.old.seen < 2 ^ 61 }
+    ensures { IfOk result (λ started.
+        Starts (record { number = number; told = line.now }) table.old space.old started table.new space.new) }
+{
+    match &line.action {
+        Action::Call { symbol, a, b, c } => {
+            call(space, table, line, symbol.as_str().as_bytes(), *a, *b, *c)
+        }
+        Action::Open => open(alloc, space, table, number, line),
+        Action::Close => close(alloc, space, table, number, line),
+        Action::Peek { symbol, length } => peek(
+            space,
+            table,
+            number,
+            line,
+            symbol.as_str().as_bytes(),
+            *length,
+        ),
+    }
+}

@@ -1,0 +1,73 @@
+//! The instances that a history leaves, and their blocks.
+
+ghost use Rattle.std.specs.Prelude.{◌≡◌, ◌≤◌, ◌<◌, ◌^◌, IfOk};
+ghost use Rattle.thread_blocks.specs.Instances.{block_start, instances_in, loaded_instance};
+ghost use Rattle.module_table.specs.Past.{module_of};
+ghost use Rattle.job_check.specs.Histories.{IsLeftBy, infos_of};
+
+use loaded_modules::Instance;
+use meant_images::MeantImages;
+use module_table::ModuleTable;
+use std::alloc::{AllocError, Global};
+
+/// One more than the most images that a job has.
+const NUMBERS: u32 = 65;
+
+/// The live instance of an image.
+pub(crate) fn live_instance(
+    images: &MeantImages,
+    table: &ModuleTable,
+    image: u32,
+) -> Option<Instance>
+    ensures { result ≡ loaded_instance (infos_of images.now) image (module_of table.now image) }
+{
+    let module = table.module(image);
+    if !module.is_loaded() {
+        return None;
+    }
+    let offset = if module.info.late {
+        module.offset
+    } else {
+        Some(images.static_offset(image))
+    };
+    Some(Instance {
+        image,
+        number: module.instance,
+        id: module.id,
+        offset,
+    })
+}
+
+/// The live instances, in the order of their images.
+pub(crate) fn live_instances(
+    alloc: Global,
+    images: &MeantImages,
+    table: &ModuleTable,
+) -> Result<Vec<Instance>, AllocError>
+    requires { IsLeftBy images.now table.now }
+    ensures { IfOk result (λ live. live.items ≡ instances_in (infos_of images.now) table.now) }
+{
+    let mut live = Vec::new(alloc);
+    for image in 0..NUMBERS {
+        if let Some(instance) = live_instance(images, table, image) {
+            live.push(instance)?;
+        }
+    }
+    Ok(live)
+}
+
+/// Where a thread's block of an instance begins.
+pub(crate) fn block_start(thread: u32, instance: &Instance) -> u64
+    requires { thread ≤ 64 }
+    ensures value { result ≡ block_start thread instance.now }
+    ensures low { result < 2 ^ 57 }
+{
+    let thread = u64::from(thread);
+    match instance.offset {
+        Some(offset) => (thread * (1 << 40) + (1 << 38)).saturating_sub(offset),
+        None => {
+            let number = instance.number;
+            thread * (1 << 40) + u64::from(number) * (1 << 24)
+        }
+    }
+}

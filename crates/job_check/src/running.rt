@@ -1,0 +1,141 @@
+//! The steps of a thread's call, up to its next look.
+
+ghost use Rattle.std.specs.Prelude.{◌≡◌, None, IfOk};
+ghost use Rattle.guest_machine.specs.Run.{returned};
+ghost use Rattle.whole_meaning.specs.Running.{asked};
+ghost use Rattle.whole_meaning.specs.Threads.{Meant};
+ghost use Rattle.job_check.specs.Running.{Resumes, RunsOn, stepped_as};
+ghost use Rattle.job_check.specs.Stepping.{Asks, ResumesAs, resumed_of, sequence_resumed};
+
+use crate::sequence::do_sequence;
+use crate::step::{Stepped, step};
+use guest_arithmetic::{Cause, Values};
+use guest_machine::RETURN;
+use guest_operands::{State, Stop};
+use job_meaning::{Flag, MarkedValues, Word};
+use meant_space::MeantSpace;
+use std::alloc::AllocError;
+use whole_meaning::Sequence;
+
+/// What a run comes to.
+#[derive(Clone, Copy, Debug)]
+pub(crate) enum Ran {
+    /// It stopped, with so many steps left.
+    Ended(Stop, u64),
+    /// A sequence looks, with so many steps left: its own is among them.
+    Waits(u64),
+}
+
+/// What a look in the middle of a call comes to.
+#[derive(Clone, Copy, Debug)]
+pub(crate) enum Resumed {
+    /// The sequence is done, and the call goes on.
+    Goes,
+    /// The instance is gone whose code asks.
+    Unloaded,
+    /// The sequence is not done.
+    Ends(Stop),
+}
+
+/// What a call returned, from %rax.
+fn returned(answer: Result<u64, Cause>, place: u64) -> Stop
+    ensures { result ≡ returned answer place }
+{
+    match answer {
+        Ok(number) => Stop::Returned(number),
+        Err(_) => Stop::Unclean(place, Cause::Answer),
+    }
+}
+
+/// The stop of a step that may not be made any more: its own cause, or that steps are wanting.
+fn asked_stop(place: u64, stepped: Stepped) -> Stop
+    ensures { (h : Meant) → asked place (stepped_as stepped h) ≡ result }
+{
+    match stepped {
+        Stepped::Ends(Stop::Unclean(at, cause)) => Stop::Unclean(at, cause),
+        _ => Stop::Unclean(place, Cause::Steps),
+    }
+}
+
+/// The same step, asked without its effect.
+fn asked(state: &State<Word, Flag>, space: &MeantSpace) -> Result<Stop, AllocError>
+    requires { space.now.lent ≡ None }
+    ensures { IfOk result (λ stop. Asks stop state.now space.now) }
+{
+    let mut state = *state;
+    let place = state.place;
+    let mut tried = space.copy()?;
+    let stepped = step(&mut state, &mut tried)?;
+    Ok(asked_stop(place, stepped))
+}
+
+/// Steps up to a stop or a look, at most so many. The step that would be one too many is asked for its cause, and not
+/// made. The only error is want of memory, and then nothing is said of the thread.
+pub(crate) fn run(
+    state: &mut State<Word, Flag>,
+    space: &mut MeantSpace,
+    count: u64,
+) -> Result<Ran, AllocError>
+    requires { space.old.lent ≡ None }
+    ensures { IfOk result (λ ran. RunsOn count state.old space.old ran state.new space.new) }
+{
+    let mut left = count;
+    loop {
+        if state.place == RETURN {
+            let answer = MarkedValues::number_of(state.registers.rax);
+            return Ok(Ran::Ended(returned(answer, state.place), left));
+        }
+        if left == 0 {
+            return Ok(Ran::Ended(asked(state, space)?, left));
+        }
+        match step(state, space)? {
+            Stepped::Goes => left -= 1,
+            Stepped::Looks => return Ok(Ran::Waits(left)),
+            Stepped::Ends(stop) => return Ok(Ran::Ended(stop, left)),
+        }
+    }
+}
+
+/// What a sequence comes to behind its look.
+fn as_resumed(done: Result<(), Stop>) -> Resumed
+    ensures { result ≡ resumed_of done }
+{
+    match done {
+        Ok(()) => Resumed::Goes,
+        Err(stop) => Resumed::Ends(stop),
+    }
+}
+
+/// Does a sequence behind its look: the thread reaches its block of the variable's instance.
+fn resume_at(
+    sequence: &Sequence,
+    state: &mut State<Word, Flag>,
+    space: &mut MeantSpace,
+) -> Result<Resumed, AllocError>
+    ensures { IfOk result (λ resumed.
+        ResumesAs state.old space.old resumed state.new space.new (sequence_resumed sequence.now state.old space.old)) }
+{
+    match space.numbered(sequence.target) {
+        None => Ok(Resumed::Goes),
+        Some(instance) => {
+            space.reach(instance.number)?;
+            Ok(as_resumed(do_sequence(sequence, state, space)))
+        }
+    }
+}
+
+/// Does the sequence at which a call waits, behind its look: the thread reaches its block of the variable's instance.
+/// The only error is want of memory, and then nothing is said of the thread.
+pub(crate) fn resume(
+    state: &mut State<Word, Flag>,
+    space: &mut MeantSpace,
+) -> Result<Resumed, AllocError>
+    requires { space.old.lent ≡ None }
+    ensures { IfOk result (λ resumed. Resumes state.old space.old resumed state.new space.new) }
+{
+    match (space.owner(state.place), space.sequence(state.place)) {
+        (None, _) => Ok(Resumed::Unloaded),
+        (Some(_), None) => Ok(Resumed::Goes),
+        (Some(_), Some(sequence)) => resume_at(&sequence, state, space),
+    }
+}

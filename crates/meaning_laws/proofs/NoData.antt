@@ -1,0 +1,28 @@
+-- Images whose objects have no byte in a writable section have no data that threads write.
+use Rattle.std.proofs.Common.{◌≡◌, ℕ, zero, suc, false, List, [], ◌∷◌, Option, None, refl}
+use Rattle.std.specs.Prelude.{slice_get}
+use Rattle.std.specs.List.{All}
+use Rattle.std.proofs.lemmas.List.Elements.{All-head, All-tail}
+use Rattle.guest_machine.specs.Ranges.{Range}
+use Rattle.job_meaning.specs.declared.values.Byte.{Byte}
+use Rattle.link_needs.specs.Linking.{Linking}
+use Rattle.thread_blocks.specs.Turns.{at_number}
+use Rattle.whole_meaning.specs.Loads.{at_bias, data_ranges, has_data, loads_of, meaning_of}
+use Rattle.meaning_laws.specs.Laws.{ImagesWithoutDataShareNone}
+
+-- an image at its place
+none_in : (ls : List Linking) (i number : ℕ) → All (λ l. has_data l ≡ false) ls
+    → ◌≡◌ {A = Option (Range Byte)} (at_bias None data_ranges number (slice_get ls i)) None
+none_in [] i number all = refl
+none_in (l ∷ ls) zero number all = rw (All-head (λ l. has_data l ≡ false) l ls all) refl
+none_in (l ∷ ls) (suc i) number all = none_in ls i number (All-tail (λ l. has_data l ≡ false) l ls all)
+
+none_at : (ls : List Linking) (image number : ℕ) → All (λ l. has_data l ≡ false) ls
+    → ◌≡◌ {A = Option (Range Byte)} (at_bias None data_ranges number (at_number ls image)) None
+none_at ls zero number all = refl
+none_at ls (suc i) number all = none_in ls i number all
+
+-- the law
+pub share_none : ImagesWithoutDataShareNone
+unfolding meaning_of loads_of
+share_none ls all = λ x. none_at ls x.image x.number all

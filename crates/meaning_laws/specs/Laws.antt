@@ -1,0 +1,32 @@
+-- What each thread of a job means by itself, and where that is all.
+use Rattle.std.specs.Prelude.{◌≡◌, ℕ, false, List, [], Some, None}
+use Rattle.std.specs.List.{All}
+use Rattle.job_text.specs.declared.thread_lines.ThreadLine.{ThreadLine}
+use Rattle.link_needs.specs.Linking.{Linking}
+use Rattle.loaded_modules.specs.declared.instance.Instance.{Instance}
+use Rattle.module_table.specs.declared.events.Event.{Event}
+use Rattle.thread_blocks.specs.JobWorlds.{numbered_lines}
+use Rattle.thread_blocks.specs.Turns.{at_number, ready, turns}
+use Rattle.thread_blocks.specs.TurnsAlike.{AllFronts, IsFront, Rises}
+use Rattle.whole_meaning.specs.Jobs.{meant_world}
+use Rattle.whole_meaning.specs.Loads.{has_data, meaning_of}
+use Rattle.whole_meaning.specs.Meanings.{Meaning}
+use Rattle.whole_meaning.specs.Threads.{meant_ready, meant_turns}
+
+-- no image has data that threads write
+abbrev pub HasNoData : Meaning → Type 0
+HasNoData m = (x : Instance) → m.loads.shared x ≡ None
+
+-- a thread among others takes the turns that it would take alone, at fronts of the history, each of which the next one
+-- continues, and so says the same of its lines
+abbrev pub ThreadsMeanTheirOwn : Type 0
+ThreadsMeanTheirOwn = (m : Meaning) (fuel : ℕ) (lines : List (List ThreadLine)) (order : List ℕ)
+    → (thread : ℕ) (own : List ThreadLine) → HasNoData m → at_number lines thread ≡ Some own
+    → (points : List (List Event)) × Rises IsFront [] points
+    × AllFronts points (meant_world m fuel lines order).events
+    × (at_number (meant_world m fuel lines order).threads thread
+    ≡ Some (turns (meant_turns m thread fuel) (ready (meant_ready m thread) (numbered_lines 1 own)) points))
+
+-- images whose objects have no byte in a writable section have no such data
+abbrev pub ImagesWithoutDataShareNone : Type 0
+ImagesWithoutDataShareNone = (ls : List Linking) → All (λ l. has_data l ≡ false) ls → HasNoData (meaning_of ls)

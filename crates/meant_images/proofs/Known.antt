@@ -1,0 +1,51 @@
+-- What is known of the images of a job, and what is ready of the image of a number.
+use Rattle.std.proofs.Common.{◌≡◌, ◌∙◌, ◌<◌, ◌≤◌, ◌-◌, ℕ, zero, suc, List, [], ◌∷◌, All, Bor, length, map, get_or, Option, Some, None, IfSome, refl, sym, ap, arith}
+use Rattle.std.specs.Prelude.{option_map, slice_get}
+use Rattle.std.specs.Slice.{IsItemAt}
+use Rattle.std.proofs.lemmas.List.{length-map}
+use Rattle.std.proofs.lemmas.Option.{slice_get_past, slice_get_read}
+use Rattle.job_text.specs.LateImages.{LateLast, is_late}
+use Rattle.link_faults.specs.declared.image_kind.ImageKind.TheVariants.{Exe}
+use Rattle.link_needs.specs.Linking.{Linking}
+use Rattle.module_table.specs.declared.modules.ImageInfo.{ImageInfo}
+use Rattle.module_table.specs.Modules.{AreInfos, IsInfo}
+use Rattle.thread_blocks.specs.Turns.{at_number}
+use Rattle.whole_meaning.specs.Loads.{info_of}
+use Rattle.meant_images.specs.Images.{AreTables}
+use Rattle.meant_images.specs.declared.images.Tables.{Tables}
+
+late_at : (ls : List Linking) (i : ℕ) (d : ImageInfo) → i < length ls → (get_or (map info_of ls) i d).late ≡ is_late (get_or (map (λ l. l.kind) ls) i Exe)
+unfolding info_of
+late_at [] i d inside = absurd (omega (arith, inside))
+late_at (l ∷ ls) zero d inside = refl
+late_at (l ∷ ls) (suc i) d inside = late_at ls i d (omega (arith, inside))
+
+pub are_infos : (ls : List Linking) → 1 ≤ length ls → length ls ≤ 64 → LateLast (map (λ l. l.kind) ls) → All IsInfo (map info_of ls) → AreInfos (map info_of ls)
+are_infos ls some few late each =
+    let long = length-map ls info_of in
+    let kinds = length-map ls (λ l. l.kind) in
+    record {
+      some = omega (arith, long, some);
+      few = omega (arith, long, few);
+      late_last = λ i j d below inside is.
+          late_at ls j d (omega (arith, long, inside))
+          ∙ late i j Exe below (omega (arith, long, kinds, inside)) (sym (late_at ls i d (omega (arith, long, below, inside))) ∙ is);
+      each = each;
+    }
+
+-- the place of a number in a list
+pub place_of : {X : Type 0} (xs : List X) (n : ℕ) (x : X) → at_number xs n ≡ Some x → slice_get xs (n - 1) ≡ Some x
+place_of xs zero x at = absurd (cc at)
+place_of xs (suc i) x at = ap (slice_get xs) (omega arith) ∙ at
+
+-- what a read of a slice gives
+pub seen : {X : Type 0} (xs : List X) (i : ℕ) (r : Option (Bor X)) → IsItemAt xs i r → option_map (λ (b : Bor X). b.now) r ≡ slice_get xs i
+seen xs i None is = sym (slice_get_past xs i is.3)
+seen xs i (Some b) is = sym (slice_get_read xs (length xs) i b.now refl is.3.0 is.1)
+
+-- what is read of the tables
+pub table_is : (ls : List Linking) (ts : List Tables) (i : ℕ) (l : Linking) (r : Option (Bor Tables))
+    → ((i : ℕ) (l : Linking) (t : Tables) → slice_get ls i ≡ Some l → slice_get ts i ≡ Some t → AreTables ls l t)
+    → slice_get ls i ≡ Some l → option_map (λ (b : Bor Tables). b.now) r ≡ slice_get ts i → IfSome r (λ t. AreTables ls l t.now)
+table_is ls ts i l None each at is = tt
+table_is ls ts i l (Some b) each at is = each i l b.now at (sym is)

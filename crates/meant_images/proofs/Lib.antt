@@ -1,0 +1,10 @@
+pub mod Celled
+pub mod Grown
+pub mod Marking
+pub mod Numbered
+pub mod Painted
+pub mod Shown
+pub mod Starts
+pub mod Known
+pub mod Powers
+pub mod Ready

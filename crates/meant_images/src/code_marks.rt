@@ -1,0 +1,150 @@
+//! What each place of an image's code is, and which sequence begins there.
+
+ghost use Rattle.std.specs.Prelude.{◌≡◌, ◌<◌, ◌≤◌, ◌^◌, IfOk, length, slice_index_or};
+ghost use Rattle.std.specs.List.{All};
+ghost use Rattle.link_needs.specs.Given.{IsGiven};
+ghost use Rattle.link_needs.specs.Linking.{layout};
+ghost use Rattle.meant_images.specs.Marked.{cell_at};
+ghost use Rattle.meant_images.specs.Targets.{HasFewObjects};
+ghost use Rattle.tls_layout.specs.Places.{IsLawful, executable};
+ghost use Rattle.whole_meaning.specs.Code.{mark_of, sequence_of};
+ghost use Rattle.whole_meaning.specs.Spots.{bias_of};
+
+use crate::entries::Entry;
+use crate::kept::{Kept, keep};
+use crate::painting::{Cell, Painter};
+use class_bytes::lay;
+use elf_object::SectionClass;
+use link_faults::ImageKind;
+use link_needs::Inputs;
+use std::alloc::{AllocError, Global};
+use std::marker::Model;
+use whole_meaning::{Mark, Sequence};
+
+/// What each place of an image's code is. Contracts see the image, and all images of its job.
+#[derive(Drop)]
+pub struct CodeMarks<'i, 'l, 's, 'a> {
+    images: &'i [Inputs<'l, 's, 'a>],
+    inputs: &'i Inputs<'l, 's, 'a>,
+    /// Where code begins, before the image is moved.
+    start: u64,
+    /// A cell for each byte from there on.
+    cells: Vec<Cell>,
+    /// What bytes are one of.
+    entries: Vec<Entry>,
+}
+
+impl<'i, 'l, 's, 'a> Model for CodeMarks<'i, 'l, 's, 'a> {
+    ghost use Rattle.meant_images.specs.Marked.{AreMarks, MarkedImage};
+
+    ghost Value = { MarkedImage };
+
+    ghost view = { λ m. record { all = m.images.now; own = m.inputs.now } };
+
+    ghost invariant = { λ m. AreMarks m.images.now m.inputs.now m.start m.cells.items m.entries.items };
+}
+
+/// How far an instance is moved from where its image was laid out.
+pub(crate) fn bias_of(kind: ImageKind, number: u32) -> u64
+    ensures bias { result ≡ bias_of kind number }
+    ensures small { result ≤ 2 ^ 60 }
+{
+    match kind {
+        ImageKind::Exe => 0,
+        ImageKind::Pie | ImageKind::Start | ImageKind::Late => {
+            (1 << 32) + u64::from(number) * (1 << 26)
+        }
+    }
+}
+
+/// Where the code of an image begins, before the image is moved.
+fn code_start(inputs: &Inputs) -> u64
+    ensures start { result ≡ (executable (layout inputs.now).kind (layout inputs.now).sections).start }
+    ensures given { IsGiven inputs.now }
+    ensures lawful { IsLawful (layout inputs.now) }
+{
+    inputs.placement.executable().start
+}
+
+/// The cell of an address, before the image is moved, in a table that begins at a place.
+fn cell_at(cells: &[Cell], start: u64, address: u64) -> Option<Cell>
+    ensures { result ≡ cell_at start cells.now address }
+{
+    if address < start {
+        return None;
+    }
+    cells.get((address - start) as usize).copied()
+}
+
+/// An entry, by its number.
+fn entry_at(entries: &[Entry], number: u32) -> Entry
+    requires { number < length entries.now }
+    ensures { result ≡ slice_index_or entries.now number Entry.Usual }
+{
+    entries[number as usize]
+}
+
+impl<'i, 'l, 's, 'a> CodeMarks<'i, 'l, 's, 'a> {
+    /// Those of an image. `images` are all of its job, in image order.
+    pub fn of(
+        alloc: Global,
+        images: &'i [Inputs<'l, 's, 'a>],
+        inputs: &'i Inputs<'l, 's, 'a>,
+    ) -> Result<CodeMarks<'i, 'l, 's, 'a>, AllocError>
+        requires few { length images.now ≤ 64 }
+        requires small { All HasFewObjects images.now }
+        requires own { HasFewObjects inputs.now }
+        ensures all { IfOk result (λ marks. marks.all ≡ images.now) }
+        ensures own { IfOk result (λ marks. marks.own ≡ inputs.now) }
+    {
+        let Kept { entries, objects } = keep(alloc, images, inputs)?;
+        let painter = Painter {
+            alloc,
+            inputs,
+            objects: &objects,
+        };
+        let cells = lay(alloc, inputs, SectionClass::Executable, &painter)?;
+        Ok(CodeMarks {
+            images,
+            inputs,
+            start: code_start(inputs),
+            cells,
+            entries,
+        })
+    }
+
+    /// What a place is, where the image is so far moved, modulo 2^64.
+    pub fn mark(&self, bias: u64, place: u64) -> Mark
+        ensures { result ≡ mark_of self.now.own bias place }
+    {
+        match cell_at(
+            self.cells.as_slice(),
+            self.start,
+            place.saturating_sub(bias),
+        ) {
+            Some(cell) => entry_at(self.entries.as_slice(), cell.entry).mark(bias, cell.byte),
+            None => Mark::Usual,
+        }
+    }
+
+    /// The sequence of an instance that begins at a place, if one does. `image` is the number of the image, and
+    /// `number` that of the instance.
+    pub fn sequence(&self, image: u32, number: u32, place: u64) -> Option<Sequence>
+        requires image { image ≤ 64 }
+        ensures { result ≡ sequence_of self.now.all image number self.now.own place }
+    {
+        let inputs = self.inputs;
+        let bias = bias_of(inputs.kind, number);
+        match cell_at(
+            self.cells.as_slice(),
+            self.start,
+            place.saturating_sub(bias),
+        ) {
+            Some(cell) => {
+                let entry = entry_at(self.entries.as_slice(), cell.entry);
+                entry.sequence(image, number, place, cell.byte)
+            }
+            None => None,
+        }
+    }
+}

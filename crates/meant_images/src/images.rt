@@ -1,0 +1,394 @@
+//! All images of a job, as they are meant.
+
+ghost use Rattle.std.specs.Prelude.{◌≡◌, ◌<◌, ◌≤◌, ◌+◌, ◌*◌, ◌^◌, ℕ, All, IfOk, IfSome, IsSome, Some, true, length, map, option_map, slice_get, take};
+ghost use Rattle.guest_operands.specs.Ranges.{Range, byte_in};
+ghost use Rattle.job_meaning.specs.declared.values.Byte.{Byte};
+ghost use Rattle.job_meaning.specs.declared.values.Byte.TheVariants.{Value};
+ghost use Rattle.job_text.specs.LateImages.{LateLast};
+ghost use Rattle.loaded_modules.specs.Ends.{end_behind};
+ghost use Rattle.module_table.specs.Laws.{startup_end};
+ghost use Rattle.module_table.specs.Modules.{AreInfos, IsInfo};
+ghost use Rattle.thread_blocks.specs.Turns.{at_number};
+ghost use Rattle.class_bytes.specs.Tables.{IsClass, Keeps};
+ghost use Rattle.object_faults.specs.declared.class.SectionClass.TheVariants.{Writable};
+ghost use Rattle.whole_meaning.specs.Bytes.{function_of};
+ghost use Rattle.whole_meaning.specs.Loads.{data_ranges, info_of, loads_of, meaning_of};
+ghost use Rattle.whole_meaning.specs.Spots.{bias_of};
+ghost use Rattle.link_needs.specs.Linking.{Linking};
+ghost use Rattle.meant_images.specs.Images.{AreSound, AreTables};
+ghost use Rattle.meant_images.specs.declared.images.Tables.{Tables};
+
+use crate::code_marks::{CodeMarks, bias_of};
+use crate::names::{function, info, is_in_room, variable};
+use class_bytes::laws::linked_instances_keep_fields;
+use class_bytes::{ClassBytes, StillBytes, WritableRange, block_of};
+use elf_object::SectionClass;
+use guest_operands::Access;
+use job_meaning::Byte;
+use link_needs::Inputs;
+use loaded_modules::Instance;
+use module_table::ImageInfo;
+use std::alloc::{AllocError, Global};
+use std::marker::Model;
+use whole_meaning::{Mark, Sequence};
+
+/// What is made ready of one image.
+#[derive(Drop)]
+pub struct Tables<'i> {
+    /// What each place of its code is.
+    marks: CodeMarks<'i, 'i, 'i, 'i>,
+    /// Code, constants, the initial image of blocks.
+    still: StillBytes,
+    /// Data.
+    writable: ClassBytes,
+}
+
+/// The images of a job in image order, as they are meant. Contracts see what each is linked from.
+#[derive(Drop)]
+pub struct MeantImages<'i> {
+    inputs: &'i [Inputs<'i, 'i, 'i>],
+    infos: Vec<ImageInfo>,
+    tables: Vec<Tables<'i>>,
+}
+
+impl<'i> Model for MeantImages<'i> {
+    ghost use Rattle.std.specs.Prelude.{List};
+    ghost use Rattle.link_needs.specs.Linking.{Linking};
+    ghost use Rattle.meant_images.specs.Images.{HoldsImages};
+
+    ghost Value = { List Linking };
+
+    ghost view = { λ images. images.inputs.now };
+
+    ghost invariant = { λ images. HoldsImages images.inputs.now images.infos.items images.tables.items };
+}
+
+/// What is known of each image.
+fn infos_of(alloc: Global, inputs: &[Inputs]) -> Result<Vec<ImageInfo>, AllocError>
+    ensures infos { IfOk result (λ infos. infos.items ≡ map info_of inputs.now) }
+    ensures each { IfOk result (λ infos. All IsInfo infos.items) }
+{
+    let mut infos = Vec::with_capacity(alloc, inputs.len())?;
+    for own in inputs {
+        infos.push(info(own))?;
+    }
+    Ok(infos)
+}
+
+/// What is made ready of an image of a job.
+fn tables_of<'i>(
+    alloc: Global,
+    images: &'i [Inputs<'i, 'i, 'i>],
+    own: &'i Inputs<'i, 'i, 'i>,
+) -> Result<Tables<'i>, AllocError>
+    requires few { length images.now ≤ 64 }
+    requires small { All (λ l. length l.objects < 2 ^ 32) images.now }
+    requires own { length own.now.objects < 2 ^ 32 }
+    ensures { IfOk result (AreTables images.now own.now) }
+{
+    Ok(Tables {
+        marks: CodeMarks::of(alloc, images, own)?,
+        still: StillBytes::of(alloc, own)?,
+        writable: ClassBytes::of(alloc, own, SectionClass::Writable { initial: true })?,
+    })
+}
+
+/// What is made ready of each image of a job.
+fn all_tables<'i>(
+    alloc: Global,
+    images: &'i [Inputs<'i, 'i, 'i>],
+) -> Result<Vec<Tables<'i>>, AllocError>
+    requires few { length images.now ≤ 64 }
+    requires small { All (λ l. length l.objects < 2 ^ 32) images.now }
+    ensures count { IfOk result (λ all. length all.items ≡ length images.now) }
+    ensures each { IfOk result (λ all. (i : ℕ) (l : Linking) (t : Tables) → slice_get images.now i ≡ Some l
+        → slice_get all.items i ≡ Some t → AreTables images.now l t) }
+{
+    let mut all = Vec::with_capacity(alloc, images.len())?;
+    for own in images {
+        all.push(tables_of(alloc, images, own)?)?;
+    }
+    Ok(all)
+}
+
+/// Where blocks end, counted from the thread pointer down, with that of an image where it starts with the program.
+fn end_with(taken: u64, info: ImageInfo) -> u64
+    requires room { taken ≤ 2 ^ 32 }
+    requires kept { IsInfo info }
+    ensures value { result ≡ end_behind taken info }
+    ensures close { result ≤ taken + 2 ^ 20 + 4096 }
+{
+    if info.late {
+        return taken;
+    }
+    (taken + info.size).next_multiple_of(info.align)
+}
+
+/// Where the blocks end of those of these images that start with the program.
+fn end_of(infos: &[ImageInfo]) -> u64
+    requires few { length infos.now ≤ 64 }
+    requires each { All IsInfo infos.now }
+    ensures value { result ≡ startup_end infos.now 0 }
+    ensures low { result ≤ length infos.now * (2 ^ 20 + 4096) }
+{
+    let mut end = 0;
+    for info in infos {
+        end = end_with(end, *info);
+    }
+    end
+}
+
+/// Where a function begins in an instance of an image, by its name.
+fn function_in(own: &Inputs, number: u32, name: &[u8]) -> Option<u64>
+    ensures { result ≡ option_map (λ at. at + bias_of own.now.kind number) (function_of own.now name.now) }
+{
+    match function(own, name) {
+        Some(at) => Some(at + bias_of(own.kind, number)),
+        None => None,
+    }
+}
+
+/// Where data begin that are moved by `bias`, if there are any.
+fn start_of(writable: &ClassBytes, bias: u64) -> Option<u64>
+    requires { bias < 2 ^ 60 }
+    ensures { (l : Linking) → IsClass l (Writable true) writable.now → Keeps l bias
+        → result ≡ option_map (λ (range : Range Byte). range.start) (data_ranges l bias) }
+{
+    if writable.is_empty() {
+        None
+    } else {
+        Some(writable.place(bias))
+    }
+}
+
+/// Data that are moved by `bias`, if there are any.
+fn data_in(
+    alloc: Global,
+    writable: &ClassBytes,
+    bias: u64,
+) -> Result<Option<WritableRange>, AllocError>
+    requires { bias < 2 ^ 60 }
+    ensures { IfOk result (λ range. (l : Linking) → IsClass l (Writable true) writable.now → Keeps l bias
+        → range ≡ data_ranges l bias) }
+{
+    if writable.is_empty() {
+        return Ok(None);
+    }
+    let start = writable.place(bias);
+    let bytes = writable.values(alloc, bias)?;
+    Ok(Some(WritableRange { start, bytes }))
+}
+
+impl<'i> MeantImages<'i> {
+    /// Those of these images, which stand in image order and link. The only error is want of memory, and more than 2^32
+    /// objects are said to want it.
+    pub fn new(
+        alloc: Global,
+        inputs: &'i [Inputs<'i, 'i, 'i>],
+    ) -> Result<MeantImages<'i>, AllocError>
+        requires some { 1 ≤ length inputs.now }
+        requires few { length inputs.now ≤ 64 }
+        requires late { LateLast (map (λ l. l.kind) inputs.now) }
+        requires sound { AreSound inputs.now }
+        ensures { IfOk result (λ images. images ≡ inputs.now) }
+    {
+        if inputs.iter().any(|own| own.objects.len() >= 1 << 32) {
+            return Err(AllocError);
+        }
+        let infos = infos_of(alloc, inputs)?;
+        let tables = all_tables(alloc, inputs)?;
+        Ok(MeantImages {
+            inputs,
+            infos,
+            tables,
+        })
+    }
+
+    /// How many there are.
+    pub fn count(&self) -> u32
+        ensures value { result ≡ length self.now }
+        ensures few { result ≤ 64 }
+    {
+        self.infos.as_slice().len() as u32
+    }
+
+    /// What is known of each image before anything is loaded.
+    pub fn infos(&self) -> &[ImageInfo]
+        ensures value { result.now ≡ map info_of self.now }
+        ensures kept { AreInfos result.now }
+    {
+        self.infos.as_slice()
+    }
+
+    /// How far below the thread pointer the block of an image that starts with the program begins. Where the number is a
+    /// late image's, or none, that of the last one that starts with it.
+    pub fn static_offset(&self, image: u32) -> u64
+        ensures value { result ≡ startup_end (take image (map info_of self.now)) 0 }
+        ensures low { result < 2 ^ 27 }
+    {
+        let infos = self.infos();
+        let count = (image as usize).min(infos.len());
+        end_of(&infos[..count])
+    }
+
+    /// An image, by its number from 1.
+    fn image(&self, number: u32) -> Option<&'i Inputs<'i, 'i, 'i>>
+        ensures { option_map (λ own. own.now) result ≡ at_number self.now number }
+    {
+        if number == 0 {
+            return None;
+        }
+        self.inputs.get(number as usize - 1)
+    }
+
+    /// What is made ready of an image, by its number from 1.
+    fn tables(&self, number: u32) -> Option<&Tables<'i>>
+        ensures there { (l : Linking) → at_number self.now number ≡ Some l → IsSome result }
+        ensures each { (l : Linking) → at_number self.now number ≡ Some l → IfSome result (λ t. AreTables self.now l t.now) }
+        ensures sound { AreSound self.now }
+    {
+        let _images = self.inputs;
+        if number == 0 {
+            return None;
+        }
+        self.tables.as_slice().get(number as usize - 1)
+    }
+
+    /// Where the function of a name begins in an instance, where there is one that can be called.
+    #[tactic(auto, unfolding(whole_meaning::specs::Loads::loads_of))]
+    pub fn function(&self, instance: &Instance, name: &[u8]) -> Option<u64>
+        ensures { result ≡ (loads_of self.now).function instance.now name.now }
+    {
+        match self.image(instance.image) {
+            Some(own) => function_in(own, instance.number, name),
+            None => None,
+        }
+    }
+
+    /// The offset of the thread-local variable of a name in the blocks of an image, where there is one.
+    #[tactic(auto, unfolding(whole_meaning::specs::Loads::loads_of))]
+    pub fn variable(&self, image: u32, name: &[u8]) -> Option<u64>
+        ensures { result ≡ (loads_of self.now).variable image name.now }
+    {
+        match self.image(image) {
+            Some(own) => variable(own, name),
+            None => None,
+        }
+    }
+
+    /// Whether a place is one where a linker may put what it makes for an instance.
+    #[tactic(auto, unfolding(whole_meaning::specs::Loads::meaning_of))]
+    pub fn is_in_room(&self, instance: &Instance, place: u64) -> bool
+        ensures { result ≡ (meaning_of self.now).room instance.now place }
+    {
+        match self.image(instance.image) {
+            Some(own) => is_in_room(own, bias_of(own.kind, instance.number), place),
+            None => false,
+        }
+    }
+
+    /// What a place of an instance's code is.
+    #[tactic(auto, unfolding(whole_meaning::specs::Loads::meaning_of))]
+    pub fn mark(&self, instance: &Instance, place: u64) -> Mark
+        ensures { result ≡ (meaning_of self.now).mark instance.now place }
+    {
+        let Some(own) = self.image(instance.image) else {
+            return Mark::Usual;
+        };
+        match self.tables(instance.image) {
+            Some(tables) => tables.marks.mark(bias_of(own.kind, instance.number), place),
+            None => Mark::Usual,
+        }
+    }
+
+    /// The sequence that begins at a place of an instance's code, if one does.
+    #[tactic(auto, unfolding(whole_meaning::specs::Loads::meaning_of))]
+    pub fn sequence(&self, instance: &Instance, place: u64) -> Option<Sequence>
+        ensures { result ≡ (meaning_of self.now).sequence instance.now place }
+    {
+        let Some(_) = self.image(instance.image) else {
+            return None;
+        };
+        if instance.image > self.count() {
+            return None;
+        }
+        match self.tables(instance.image) {
+            Some(tables) => tables
+                .marks
+                .sequence(instance.image, instance.number, place),
+            None => None,
+        }
+    }
+
+    /// The byte at a place of an instance that no thread writes, where it may be accessed so.
+    #[tactic(auto, unfolding(whole_meaning::specs::Loads::loads_of))]
+    pub fn fixed_byte(&self, instance: &Instance, access: Access, place: u64) -> Option<u8>
+        ensures { option_map Value result ≡ byte_in access ((loads_of self.now).fixed instance.now) place }
+    {
+        linked_instances_keep_fields();
+        let Some(own) = self.image(instance.image) else {
+            return None;
+        };
+        match self.tables(instance.image) {
+            Some(tables) => {
+                tables
+                    .still
+                    .byte(access, bias_of(own.kind, instance.number), place)
+            }
+            None => None,
+        }
+    }
+
+    /// Where the data of an instance begin that threads write, if its image has any.
+    #[tactic(auto, unfolding(whole_meaning::specs::Loads::loads_of))]
+    pub fn data_start(&self, instance: &Instance) -> Option<u64>
+        ensures { result ≡ option_map (λ (range : Range Byte). range.start) ((loads_of self.now).shared instance.now) }
+    {
+        linked_instances_keep_fields();
+        let Some(own) = self.image(instance.image) else {
+            return None;
+        };
+        match self.tables(instance.image) {
+            Some(tables) => start_of(&tables.writable, bias_of(own.kind, instance.number)),
+            None => None,
+        }
+    }
+
+    /// The data that threads write, as a load of the instance makes it, if its image has any.
+    #[tactic(auto, unfolding(whole_meaning::specs::Loads::loads_of))]
+    pub fn fresh_data(
+        &self,
+        alloc: Global,
+        instance: &Instance,
+    ) -> Result<Option<WritableRange>, AllocError>
+        ensures { IfOk result (λ range. range ≡ (loads_of self.now).shared instance.now) }
+    {
+        linked_instances_keep_fields();
+        let Some(own) = self.image(instance.image) else {
+            return Ok(None);
+        };
+        match self.tables(instance.image) {
+            Some(tables) => { data_in(alloc, &tables.writable, bias_of(own.kind, instance.number)) }
+            None => Ok(None),
+        }
+    }
+
+    /// A thread's block of the instance before any write.
+    #[tactic(auto, unfolding(whole_meaning::specs::Loads::loads_of))]
+    pub fn block(&self, alloc: Global, instance: &Instance) -> Result<Vec<Byte>, AllocError>
+        ensures { IfOk result (λ bytes. bytes.items ≡ (loads_of self.now).block instance.now) }
+    {
+        linked_instances_keep_fields();
+        let Some(own) = self.image(instance.image) else {
+            return Ok(Vec::new(alloc));
+        };
+        match self.tables(instance.image) {
+            Some(tables) => {
+                let bias = bias_of(own.kind, instance.number);
+                let size = own.placement.tls_size();
+                block_of(alloc, tables.still.initial(), size, bias)
+            }
+            None => Ok(Vec::new(alloc)),
+        }
+    }
+}

@@ -1,0 +1,178 @@
+//! What is known of an image before anything of it is loaded: its functions and variables by their names, its blocks,
+//! and its room.
+
+ghost use Rattle.std.specs.Prelude.{◌≡◌, ◌^◌, ◌<◌, ◌≤◌, IfSome};
+ghost use Rattle.std.specs.List.{list_any};
+ghost use Rattle.job_text.specs.LateImages.{is_late};
+ghost use Rattle.elf_object.specs.Lent.{section_class};
+ghost use Rattle.link_needs.specs.Linking.{layout};
+ghost use Rattle.module_table.specs.Modules.{IsInfo};
+ghost use Rattle.sequence_forms.specs.declared.places.Site.{Site};
+ghost use Rattle.tls_layout.specs.Sections.{is_class};
+ghost use Rattle.tls_layout.specs.Places.{executable};
+ghost use Rattle.tls_symbols.specs.Bindings.{is_tls_class, is_tls_place};
+ghost use Rattle.tls_symbols.specs.Definitions.{IsWithin};
+ghost use Rattle.whole_meaning.specs.Bytes.{below, function_at, function_of, variable_at, variable_of};
+ghost use Rattle.whole_meaning.specs.Loads.{info_of, is_initial, wants_surplus};
+ghost use Rattle.whole_meaning.specs.Spots.{in_room};
+
+use elf_object::{Object, SectionClass, SymbolPlace};
+use link_faults::{ImageKind, SymbolRef};
+use link_needs::Inputs;
+use module_table::ImageInfo;
+use sequence_match::{Form, Site};
+
+/// How many addresses an instance has for its own.
+const SPAN: u64 = 1 << 26;
+
+/// A place, if it lies below an end.
+fn below(end: u64, at: u64) -> Option<u64>
+    ensures value { result ≡ below end at }
+    ensures low { IfSome result (λ at. at < end) }
+{
+    if at < end { Some(at) } else { None }
+}
+
+/// The class that linking keeps a section in, if there is one.
+#[tactic(auto, using(tls_symbols::proofs::Sections::past_class))]
+fn class_of(object: &Object, section: u32) -> Option<SectionClass>
+    ensures { result ≡ section_class object.now section }
+{
+    match object.section(section) {
+        Some(part) => part.class,
+        None => None,
+    }
+}
+
+/// Whether a section is one of code.
+pub(crate) fn is_code(object: &Object, section: u32) -> bool
+    ensures { result ≡ is_class SectionClass.Executable (section_class object.now section) }
+{
+    matches!(class_of(object, section), Some(SectionClass::Executable))
+}
+
+/// Whether what is defined at a place is thread-local.
+fn is_variable(object: &Object, place: SymbolPlace) -> bool
+    ensures { result ≡ is_tls_place object.now place }
+{
+    match place {
+        SymbolPlace::InSection(section) => {
+            matches!(class_of(object, section), Some(SectionClass::Tls { .. }))
+        }
+        _ => false,
+    }
+}
+
+/// Where the code of an image ends, before the image is moved.
+fn code_end(inputs: &Inputs) -> u64
+    ensures end { result ≡ (executable (layout inputs.now).kind (layout inputs.now).sections).end }
+    ensures low { result ≤ 2 ^ 25 }
+{
+    inputs.placement.executable().end
+}
+
+/// Where code begins that is named by a symbol of the image.
+fn function_at(inputs: &Inputs, found: SymbolRef) -> Option<u64>
+    requires { IsWithin inputs.now.objects found }
+    ensures value { result ≡ function_at inputs.now found }
+    ensures low { IfSome result (λ at. at ≤ 2 ^ 25) }
+{
+    let object = inputs.object(found.object as usize);
+    let part = object.symbol(found.symbol)?;
+    match part.place {
+        SymbolPlace::InSection(section) if is_code(object, section) => {
+            below(code_end(inputs), inputs.address(found))
+        }
+        _ => None,
+    }
+}
+
+/// How far into a block a variable lies that is named by a symbol of the image.
+fn variable_at(inputs: &Inputs, found: SymbolRef) -> Option<u64>
+    requires { IsWithin inputs.now.objects found }
+    ensures { result ≡ variable_at inputs.now found }
+{
+    let object = inputs.object(found.object as usize);
+    let part = object.symbol(found.symbol)?;
+    if is_variable(object, part.place) {
+        return Some(inputs.offset(found));
+    }
+    None
+}
+
+/// Where a function begins, by its name, before its image is moved. `None` where the image defines no such name, or
+/// where what it defines is no byte of its code.
+#[tactic(auto, unfolding(whole_meaning::specs::Bytes::function_of))]
+pub fn function(inputs: &Inputs, name: &[u8]) -> Option<u64>
+    ensures value { result ≡ function_of inputs.now name.now }
+    ensures low { IfSome result (λ at. at ≤ 2 ^ 25) }
+{
+    let found = inputs.bindings.definition(name)?;
+    function_at(inputs, found)
+}
+
+/// How far into a block a variable lies, by its name. `None` where the image defines no such name, or where what it
+/// defines is not thread-local.
+#[tactic(auto, unfolding(whole_meaning::specs::Bytes::variable_of))]
+pub fn variable(inputs: &Inputs, name: &[u8]) -> Option<u64>
+    ensures { result ≡ variable_of inputs.now name.now }
+{
+    let found = inputs.bindings.definition(name)?;
+    variable_at(inputs, found)
+}
+
+/// Whether an object has code that finds a variable at a fixed distance from the thread pointer.
+fn has_initial(own: &[Site]) -> bool
+    ensures { result ≡ list_any (λ (site : Site). is_initial site.form) own.now }
+{
+    own.iter()
+        .any(|site| matches!(site.form, Form::IeMov | Form::IeAdd))
+}
+
+/// Whether one of these objects does.
+fn any_initial(sites: &[Vec<Site>]) -> bool
+    ensures { result ≡ list_any (λ own. list_any (λ (site : Site). is_initial site.form) own.items) sites.now }
+{
+    sites.iter().any(|own| has_initial(own.as_slice()))
+}
+
+/// Whether the image is a module that wants its blocks below the thread pointer.
+#[tactic(auto, using(link_core::proofs::DraftLemmas::any_seen), unfolding(whole_meaning::specs::Loads::wants_surplus))]
+fn wants_surplus(inputs: &Inputs) -> bool
+    ensures { result ≡ wants_surplus inputs.now }
+{
+    inputs.kind.is_module() && any_initial(inputs.sites)
+}
+
+/// Whether an image is loaded by an open; else it starts with the program.
+fn is_late(kind: ImageKind) -> bool
+    ensures { result ≡ is_late kind }
+{
+    matches!(kind, ImageKind::Late)
+}
+
+/// What is known of an image from the start: when it is loaded, and its TLS segment.
+#[tactic(auto, unfolding(whole_meaning::specs::Loads::info_of))]
+pub fn info(inputs: &Inputs) -> ImageInfo
+    ensures value { result ≡ info_of inputs.now }
+    ensures kept { IsInfo result }
+{
+    ImageInfo {
+        late: is_late(inputs.kind),
+        statics: wants_surplus(inputs),
+        size: inputs.placement.tls_size(),
+        align: inputs.placement.tls_alignment(),
+    }
+}
+
+/// Whether a place is in the room of an instance that is so far moved: from behind all of its sections to where its
+/// part of the addresses ends.
+#[tactic(auto, unfolding(whole_meaning::specs::Spots::in_room))]
+pub fn is_in_room(inputs: &Inputs, bias: u64, place: u64) -> bool
+    requires { bias ≤ 2 ^ 60 }
+    ensures { result ≡ in_room inputs.now bias place }
+{
+    let begin = inputs.placement.room() + bias;
+    let end = inputs.kind.base() + SPAN + bias;
+    begin <= place && place < end
+}

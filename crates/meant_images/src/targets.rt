@@ -1,0 +1,145 @@
+//! Which variable a sequence names.
+
+ghost use Rattle.std.specs.Prelude.{◌≡◌, ◌<◌, ◌≤◌, ◌^◌, ℕ, length};
+ghost use Rattle.std.specs.List.{All};
+ghost use Rattle.elf_object.specs.Parts.{symbol_count};
+ghost use Rattle.meant_images.specs.Targets.{HasFewObjects, HasNumber, IsBound, IsNumbered, IsShared, IsTarget};
+ghost use Rattle.meant_images.specs.Targets.{variable_seen};
+ghost use Rattle.tls_symbols.specs.Bindings.{object_at};
+ghost use Rattle.whole_meaning.specs.Code.{definition_number};
+
+use link_faults::{Binding, SymbolRef};
+use link_needs::Inputs;
+use sequence_match::{Form, Site, first_of};
+use std::marker::Model;
+
+/// One more than the greatest number of an object, and of a symbol, in the number of a definition.
+const OBJECTS: u64 = 1 << 32;
+
+const SYMBOLS: u64 = 1 << 24;
+
+/// A variable as a sequence of an instance knows it.
+#[derive(Drop)]
+pub struct Variable {
+    /// The number of the instance in whose blocks it lies.
+    pub target: u64,
+    /// Its offset there.
+    pub offset: u64,
+    /// The number of its definition.
+    pub symbol: u64,
+}
+
+impl Model for Variable {
+    ghost use Rattle.whole_meaning.specs.Code.{Variable as MeantVariable};
+
+    ghost Value = { MeantVariable };
+
+    ghost view = { λ v. record { target = v.target; offset = v.offset; symbol = v.symbol } };
+}
+
+/// The variable that a sequence names, as it is known before there is an instance.
+#[derive(Clone, Copy)]
+pub enum Target {
+    /// None: the symbol is bound to no variable.
+    Unknown,
+    /// The block of the code's own instance.
+    OwnBlock,
+    /// A variable of the code's own image: its definition and its offset.
+    Own(SymbolRef, u64),
+    /// A variable of a startup image, whose number is its instance's: its definition and its offset.
+    Shared(u32, SymbolRef, u64),
+}
+
+/// The number of a definition in an image.
+fn definition_number(image: u32, found: SymbolRef) -> u64
+    requires image { image ≤ 64 }
+    requires small { HasNumber found }
+    ensures { result ≡ definition_number image found }
+{
+    (u64::from(image) * OBJECTS + found.object) * SYMBOLS + u64::from(found.symbol)
+}
+
+impl Target {
+    /// The variable, in the code of an instance of an image.
+    pub fn variable(self, image: u32, number: u32) -> Variable
+        requires image { image ≤ 64 }
+        requires numbered { IsNumbered self }
+        ensures { result ≡ variable_seen image number self }
+    {
+        match self {
+            Target::Unknown => Variable {
+                target: 0,
+                offset: 0,
+                symbol: 0,
+            },
+            Target::OwnBlock => Variable {
+                target: u64::from(number),
+                offset: 0,
+                symbol: 0,
+            },
+            Target::Own(found, offset) => Variable {
+                target: u64::from(number),
+                offset,
+                symbol: definition_number(image, found),
+            },
+            Target::Shared(shared, found, offset) => Variable {
+                target: u64::from(shared),
+                offset,
+                symbol: definition_number(shared, found),
+            },
+        }
+    }
+}
+
+/// The variable that a startup image exports by a name.
+fn shared_target(images: &[Inputs], image: u32, name: &[u8]) -> Target
+    requires few { length images.now ≤ 64 }
+    requires small { All HasFewObjects images.now }
+    ensures target { IsShared images.now image name.now result }
+    ensures numbered { IsNumbered result }
+{
+    if image == 0 || images.len() < image as usize {
+        return Target::Unknown;
+    }
+    let shared = &images[image as usize - 1];
+    match shared.bindings.definition(name) {
+        Some(found) => Target::Shared(image, found, shared.offset(found)),
+        None => Target::Unknown,
+    }
+}
+
+/// The variable that a sequence asks for by its symbol.
+fn bound_target(images: &[Inputs], inputs: &Inputs, number: usize, site: &Site) -> Target
+    requires few { length images.now ≤ 64 }
+    requires small { All HasFewObjects images.now }
+    requires own { HasFewObjects inputs.now }
+    requires object { number < length inputs.now.objects }
+    requires symbol { site.now.symbol < symbol_count (object_at inputs.now.objects number) }
+    ensures target { IsBound images.now inputs.now number site.now result }
+    ensures numbered { IsNumbered result }
+{
+    match inputs.bindings.binding(number, &first_of(site)) {
+        Some(Binding::Here(found)) => Target::Own(found, inputs.offset(found)),
+        Some(Binding::Startup(image)) => {
+            let name = inputs.object(number).symbol_name(site.symbol);
+            shared_target(images, image, name)
+        }
+        _ => Target::Unknown,
+    }
+}
+
+/// The variable that a sequence of an object asks for.
+pub fn target_of(images: &[Inputs], inputs: &Inputs, number: usize, site: &Site) -> Target
+    requires few { length images.now ≤ 64 }
+    requires small { All HasFewObjects images.now }
+    requires own { HasFewObjects inputs.now }
+    requires object { number < length inputs.now.objects }
+    requires symbol { site.now.symbol < symbol_count (object_at inputs.now.objects number) }
+    ensures target { IsTarget images.now inputs.now number site.now result }
+    ensures numbered { IsNumbered result }
+{
+    match site.form {
+        Form::Ld | Form::LdInd => Target::OwnBlock,
+        _ => bound_target(images, inputs, number, site),
+    }
+}

@@ -1,0 +1,5 @@
+pub mod Sought
+pub mod SpaceImages
+pub mod Stacks
+pub mod Takes
+pub mod Writes

@@ -1,0 +1,39 @@
+-- What clauses say of a thread's memory before and after a call.
+use Rattle.std.specs.Prelude.{◌≡◌, ◌==◌, ◌-◌, ◌++◌, ℕ, Bool, false, List, is_some}
+use Rattle.std.specs.List.{AllPairs}
+use Rattle.job_meaning.specs.declared.values.Byte.{Byte}
+use Rattle.loaded_modules.specs.declared.instance.Instance.{Instance}
+use Rattle.thread_blocks.specs.Held.{Owned, held_of}
+use Rattle.thread_blocks.specs.MachineTurns.{stack_start}
+use Rattle.whole_meaning.specs.Loads.{loads_of}
+use Rattle.whole_meaning.specs.Threads.{hidden_below}
+use Rattle.meant_space.specs.declared.space.Wanted.{Wanted}
+use Rattle.meant_space.specs.declared.space.Wanted.TheVariants.{Fixed, BlockOf, DataOf}
+use Rattle.meant_space.specs.Kept.{Kept}
+
+-- the blocks that are made fresh where the thread has none
+abbrev pub reaches : Wanted → Instance → Bool
+reaches Fixed x = is_some x.offset
+reaches (BlockOf number) x = x.number == number
+reaches (DataOf number) x = false
+
+-- the data that are made fresh
+abbrev pub fills : Wanted → Instance → Bool
+fills Fixed x = false
+fills (BlockOf number) x = false
+fills (DataOf number) x = x.number == number
+
+-- no two instances have one number
+abbrev pub HaveOwnNumbers : List Instance → Type 0
+HaveOwnNumbers live = AllPairs (λ (x y : Instance). (x.number == y.number) ≡ false) live
+
+-- of these instances it holds what it held and was handed, and what is wanted; of others nothing
+unfoldable pub with_held : List Instance → List (Owned Byte) → Wanted → Kept → Kept
+with_held live handed wanted k = record k {
+  live = live;
+  own = held_of (loads_of k.images) k.thread (reaches wanted) (fills wanted) live (k.own ++ handed);
+}
+
+-- nothing is known any more of the stack below a place
+unfoldable pub with_hidden : ℕ → Kept → Kept
+with_hidden place k = record k { stack = hidden_below (place - stack_start k.thread) k.stack }

@@ -1,0 +1,112 @@
+//! The code that a thread may run, and its stack.
+
+ghost use Rattle.std.specs.Prelude.{◌≡◌, ◌≤◌, ◌==◌, ◌-◌, length, option_map};
+ghost use Rattle.std.specs.List.{find, list_any};
+ghost use Rattle.guest_machine.specs.Run.{is_look};
+ghost use Rattle.thread_blocks.specs.Held.{block_bytes};
+ghost use Rattle.thread_blocks.specs.MachineTurns.{stack_start};
+ghost use Rattle.whole_meaning.specs.Loads.{meaning_of};
+ghost use Rattle.meant_space.specs.Kept.{is_stack, mark_in, owner_in, sequence_in, shut_in};
+ghost use Rattle.meant_space.specs.Spaces.{with_hidden};
+
+use crate::owned;
+use crate::space::MeantSpace;
+use crate::words::stack_start;
+use guest_machine::{DESCRIPTOR, GET_ADDRESS};
+use job_meaning::Byte;
+use loaded_modules::Instance;
+use whole_meaning::{Mark, Sequence};
+
+/// Whether the run time is called there.
+fn is_look(place: u64) -> bool
+    ensures { result ≡ is_look place }
+{
+    place == GET_ADDRESS || place == DESCRIPTOR
+}
+
+impl<'m> MeantSpace<'m> {
+    /// The live instance of a number.
+    pub fn numbered(&self, number: u64) -> Option<Instance>
+        ensures { result ≡ find (λ (x : Instance). x.number == number) self.now.live }
+    {
+        for instance in &self.live {
+            if u64::from(instance.number) == number {
+                return Some(*instance);
+            }
+        }
+        None
+    }
+
+    /// The bytes of the block that the thread has of an instance.
+    pub fn block(&self, instance: u32) -> Option<&[Byte]>
+        ensures { option_map (λ b. b.now) result ≡ block_bytes instance self.now.own }
+    {
+        owned::block(&self.own, instance)
+    }
+
+    /// The live instance whose code stands at a place.
+    pub fn owner(&self, place: u64) -> Option<Instance>
+        ensures { result ≡ owner_in self.now place }
+    {
+        self.numbered(job_meaning::owner(place))
+    }
+
+    /// What a place of code is.
+    #[tactic(auto, unfolding(crate::specs::Kept::mark_in))]
+    pub fn mark(&self, place: u64) -> Mark
+        ensures { result ≡ mark_in self.now place }
+    {
+        match self.owner(place) {
+            Some(instance) => self.images.mark(&instance, place),
+            None => Mark::Usual,
+        }
+    }
+
+    /// Whether a place is in the room of a live instance.
+    fn is_in_room(&self, place: u64) -> bool
+        ensures { result ≡ list_any (λ x. (meaning_of self.now.images).room x place) self.now.live }
+    {
+        for instance in &self.live {
+            if self.images.is_in_room(instance, place) {
+                return true;
+            }
+        }
+        false
+    }
+
+    /// Whether a place is the linker's own.
+    #[tactic(auto, unfolding(crate::specs::Kept::shut_in))]
+    pub fn is_shut(&self, place: u64) -> bool
+        ensures { result ≡ shut_in self.now place }
+    {
+        is_look(place) || self.is_in_room(place)
+    }
+
+    /// The sequence that begins at a place, if one does.
+    #[tactic(auto, unfolding(crate::specs::Kept::sequence_in))]
+    pub fn sequence(&self, place: u64) -> Option<Sequence>
+        ensures { result ≡ sequence_in self.now place }
+    {
+        match self.owner(place) {
+            Some(instance) => self.images.sequence(&instance, place),
+            None => None,
+        }
+    }
+
+    /// Whether the byte at a place is one of the stack.
+    pub fn is_stack(&self, place: u64) -> bool
+        ensures { result ≡ is_stack self.now place }
+    {
+        let start = stack_start(self.thread);
+        start <= place && place - start < self.stack.len()
+    }
+
+    /// Forgets the bytes of the stack below a place.
+    pub fn forget(&mut self, place: u64)
+        requires { place - stack_start self.old.thread ≤ length self.old.stack }
+        ensures { self.new ≡ with_hidden place self.old }
+    {
+        let start = stack_start(self.thread);
+        self.stack.hide(place.saturating_sub(start));
+    }
+}

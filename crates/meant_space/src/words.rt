@@ -1,0 +1,84 @@
+//! Where a thread's parts lie, and the bytes of a number.
+
+ghost use Rattle.std.specs.Prelude.{◌≡◌, ◌<◌, ◌≤◌, IfOk};
+ghost use Rattle.thread_blocks.specs.Instances.{block_start};
+ghost use Rattle.thread_blocks.specs.MachineTurns.{pointer_of, pointer_word, stack_end, stack_start, word_bytes};
+ghost use Rattle.whole_meaning.specs.Threads.{ops};
+
+use crate::stack::STACK_SIZE;
+use guest_arithmetic::Values;
+use guest_memory::{GuestRange, Rights};
+use job_meaning::{Byte, MarkedValues};
+use loaded_modules::Instance;
+use std::alloc::{AllocError, Global};
+
+/// What may be done with the word at a thread pointer.
+const CONSTANT: Rights = Rights {
+    readable: true,
+    writable: false,
+    runnable: false,
+};
+
+/// The thread pointer of a thread, from 1.
+pub(crate) fn thread_pointer(thread: u32) -> u64
+    requires { thread ≤ 64 }
+    ensures { result ≡ pointer_of thread }
+{
+    u64::from(thread) * (1 << 40) + (1 << 38)
+}
+
+/// Where a thread's stack begins, with its lowest byte.
+pub(crate) fn stack_start(thread: u32) -> u64
+    requires { thread ≤ 64 }
+    ensures { result ≡ stack_start thread }
+{
+    u64::from(thread) * (1 << 40) + (1 << 39) - STACK_SIZE
+}
+
+/// Where a thread's block of an instance begins.
+pub(crate) fn block_start(thread: u32, instance: &Instance) -> u64
+    requires { thread ≤ 64 }
+    ensures { result ≡ block_start thread instance.now }
+{
+    match instance.offset {
+        Some(offset) => thread_pointer(thread).saturating_sub(offset),
+        None => {
+            let number = instance.number;
+            u64::from(thread) * (1 << 40) + u64::from(number) * (1 << 24)
+        }
+    }
+}
+
+/// One byte of a number, the lowest being byte 0.
+fn byte_of(number: u64, index: u8) -> Byte
+    requires { index < 8 }
+    ensures { result ≡ ops.byte_of (ops.word number) index }
+{
+    MarkedValues::byte_of(MarkedValues::word(number), index)
+}
+
+/// The eight bytes of a number, the lowest first.
+pub(crate) fn word_bytes(number: u64) -> [Byte; 8]
+    ensures { result ≡ word_bytes ops number }
+{
+    [
+        byte_of(number, 0),
+        byte_of(number, 1),
+        byte_of(number, 2),
+        byte_of(number, 3),
+        byte_of(number, 4),
+        byte_of(number, 5),
+        byte_of(number, 6),
+        byte_of(number, 7),
+    ]
+}
+
+/// The eight bytes at the thread pointer, which hold it and can only be read.
+pub(crate) fn pointer_word(alloc: Global, thread: u32) -> Result<GuestRange<Byte>, AllocError>
+    requires { thread ≤ 64 }
+    ensures { IfOk result (λ range. range ≡ pointer_word ops thread) }
+{
+    let pointer = thread_pointer(thread);
+    let bytes = Vec::from_slice(alloc, &word_bytes(pointer))?;
+    Ok(GuestRange::new(pointer, bytes, CONSTANT))
+}

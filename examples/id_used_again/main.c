@@ -1,0 +1,4 @@
+/* A program that has no part in what the modules do. */
+void nothing(void)
+{
+}

@@ -1,0 +1,6 @@
+_Thread_local int count = 200;
+
+int next(void)
+{
+    return ++count;
+}

@@ -1,0 +1,4 @@
+/* A program with no variables, for a job whose count.o is a module. */
+void nothing(void)
+{
+}

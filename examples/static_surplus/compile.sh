@@ -1,0 +1,6 @@
+#!/bin/sh
+# Makes the objects here, which gcc 12.2 made.
+set -eu
+cd "$(dirname "$0")"
+gcc -c -O1 -fPIC main.c
+gcc -c -O1 -fPIC -ftls-model=initial-exec plug.c
