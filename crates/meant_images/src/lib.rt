@@ -24,6 +24,9 @@
 //! does, and the rest stays ([`CodeMarks::mark`]). Where a sequence names a variable that a startup image exports, that
 //! image is asked while the entries are made. Both answers take constant time ([`CodeMarks::sequence`]).
 //!
+//! [`MeantImages`] has this of all images of a job, and beside it what is loaded of each instance: the bytes of its
+//! sections (`class_bytes`), its functions and variables by name, and a thread's fresh block.
+//!
 //! Of two fields or two sequences that share a byte the first would have it, by the definitions; the last is written
 //! first, so that it does.
 #![tactic(auto)]

@@ -1,6 +1,6 @@
 //! What a thread of a job may reach while it is checked.
 //!
-//! `tlsld check` runs a job as its objects mean it (`whole_meaning`), with marked bytes where only a linker knows more. The
+//! `job_check` runs a job as its objects mean it (`whole_meaning`), with marked bytes where only a linker knows more. The
 //! machine that does it (`guest_machine`) asks a memory for bytes, and this is that memory, of one thread:
 //!
 //! ```text
