@@ -17,7 +17,7 @@ use Rattle.meant_images.specs.CodeCells.{Shows, code_cell, no_cell}
 use Rattle.meant_images.specs.Entries.{mark_by, sequence_by}
 use Rattle.meant_images.specs.Kept.{AreEntries, KeepAll}
 use Rattle.class_bytes.specs.Laying.{IsOfClass, cell_of, cells_from, class_cells}
-use Rattle.meant_images.specs.Marked.{AreMarks, Says, cell_at}
+use Rattle.meant_images.specs.Marked.{AreMarks, Says, cell_at, moved_cell}
 use Rattle.class_bytes.proofs.Founds.{spot_is}
 use Rattle.class_bytes.proofs.Laid.{extent_low, extent_rises}
 use Rattle.meant_images.proofs.Shown.{code_shows}
@@ -29,7 +29,7 @@ use Rattle.tls_layout.specs.Places.{IsLawful, address_of, class_of, executable, 
 use Rattle.tls_layout.specs.Sections.{is_class}
 use Rattle.whole_meaning.specs.declared.marks.Mark.TheVariants as mark
 use Rattle.whole_meaning.specs.Code.{mark_of, sequence_of}
-use Rattle.whole_meaning.specs.Spots.{Spot, begin_of, bias_of, spot_in, stands_at}
+use Rattle.whole_meaning.specs.Spots.{Spot, begin_of, bias_of, moved_spot, spot_in, stands_at}
 
 -- ** what stands in code stands where code lies
 
@@ -176,34 +176,44 @@ module _ (ls : List Linking) (l : Linking) (entries : List Entry) (kept : List K
 -- ** what is read from it
 
 module _ (ls : List Linking) (l : Linking) (first : ℕ) (cells : List Cell) (entries : List Entry) (marks : AreMarks ls l first cells entries) where
-  pub shown_at : (a : ℕ) (cell : Cell) → cell_at first cells a ≡ Some cell → Shows ls l entries (spot_in l Executable a) cell
-  shown_at a cell is = subst (λ (found : Option Cell). Says ls l entries (spot_in l Executable a) found) is (marks.say a)
+  says_where : (address : ℕ) (is_below : Bool) → Says ls l entries
+      (if is_below then None else spot_in l Executable address) (if is_below then None else cell_at first cells address)
+  says_where address true = refl
+  says_where address false = marks.say address
 
-  pub none_at : (a : ℕ) → cell_at first cells a ≡ None → spot_in l Executable a ≡ None
-  none_at a is = subst (λ (found : Option Cell). Says ls l entries (spot_in l Executable a) found) is (marks.say a)
+  moved : (bias place : ℕ) → Says ls l entries (moved_spot l Executable bias place) (moved_cell first cells bias place)
+  moved bias place = says_where (place - bias) (nat_lt place bias)
 
-  pub mark_some : (bias place : ℕ) (cell : Cell) → cell_at first cells (place - bias) ≡ Some cell
+  pub shown_at : (bias place : ℕ) (cell : Cell) → moved_cell first cells bias place ≡ Some cell
+      → Shows ls l entries (moved_spot l Executable bias place) cell
+  shown_at bias place cell is =
+      subst (λ (found : Option Cell). Says ls l entries (moved_spot l Executable bias place) found) is (moved bias place)
+
+  none_at : (bias place : ℕ) → moved_cell first cells bias place ≡ None → moved_spot l Executable bias place ≡ None
+  none_at bias place is =
+      subst (λ (found : Option Cell). Says ls l entries (moved_spot l Executable bias place) found) is (moved bias place)
+
+  pub mark_some : (bias place : ℕ) (cell : Cell) → moved_cell first cells bias place ≡ Some cell
       → mark_by bias (slice_index_or entries cell.entry Usual) cell.byte ≡ mark_of l bias place
   unfolding mark_of
-  mark_some bias place cell is = (shown_at (place - bias) cell is).marked bias
+  mark_some bias place cell is = (shown_at bias place cell is).marked bias
 
-  pub mark_none : (bias place : ℕ) → cell_at first cells (place - bias) ≡ None → mark.Usual ≡ mark_of l bias place
+  pub mark_none : (bias place : ℕ) → moved_cell first cells bias place ≡ None → mark.Usual ≡ mark_of l bias place
   unfolding mark_of
-  mark_none bias place is = rw (none_at (place - bias) is) refl
+  mark_none bias place is = rw (none_at bias place is) refl
 
-  pub sequence_some : (image number place : ℕ) (cell : Cell) → cell_at first cells (place - bias_of l.kind number) ≡ Some cell
+  pub sequence_some : (image number place : ℕ) (cell : Cell) → moved_cell first cells (bias_of l.kind number) place ≡ Some cell
       → sequence_by image number place (slice_index_or entries cell.entry Usual) cell.byte ≡ sequence_of ls image number l place
   unfolding sequence_of
-  sequence_some image number place cell is = (shown_at (place - bias_of l.kind number) cell is).begins image number place
+  sequence_some image number place cell is = (shown_at (bias_of l.kind number) place cell is).begins image number place
 
-  pub sequence_none : (image number place : ℕ) → cell_at first cells (place - bias_of l.kind number) ≡ None
+  pub sequence_none : (image number place : ℕ) → moved_cell first cells (bias_of l.kind number) place ≡ None
       → None ≡ sequence_of ls image number l place
   unfolding sequence_of
-  sequence_none image number place is = rw (none_at (place - bias_of l.kind number) is) refl
+  sequence_none image number place is = rw (none_at (bias_of l.kind number) place is) refl
 
-  -- a place that has a cell is low
-  pub low_at : (bias place : ℕ) (cell : Cell) → bias ≤ 2 ^ 60 → cell_at first cells (place - bias) ≡ Some cell → place < 2 ^ 63
-  low_at bias place cell few is = elim (cases_lt (place - bias) first) [
+  low_above : (bias place : ℕ) (cell : Cell) → bias ≤ 2 ^ 60 → cell_at first cells (place - bias) ≡ Some cell → place < 2 ^ 63
+  low_above bias place cell few is = elim (cases_lt (place - bias) first) [
     | inl below ↦ let low = marks.low in omega (arith, below, low)
     | inr from ↦
         let yes : nat_le first (place - bias) ≡ true = grind (arith, nat_tests) in
@@ -212,4 +222,14 @@ module _ (ls : List Linking) (l : Linking) (first : ℕ) (cells : List Cell) (en
         let within = slice_get_within cells (place - bias - first) cell some in
         let low = marks.low in
         omega (arith, within, low, from)
+  ]
+
+  -- a place that has a cell is low
+  pub low_at : (bias place : ℕ) (cell : Cell) → bias ≤ 2 ^ 60 → moved_cell first cells bias place ≡ Some cell → place < 2 ^ 63
+  low_at bias place cell few is = elim (cases_lt place bias) [
+    | inl below ↦ omega (arith, below, few)
+    | inr above ↦
+        let no : nat_lt place bias ≡ false = grind (arith, nat_tests) in
+        low_above bias place cell few
+        (sym (ap (λ (t : Bool). if t then None else cell_at first cells (place - bias)) no) ∙ is)
   ]

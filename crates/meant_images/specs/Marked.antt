@@ -1,5 +1,5 @@
 -- What is kept of an image's code.
-use Rattle.std.specs.Prelude.{◌≡◌, ◌-◌, ◌+◌, ◌≤◌, ◌^◌, ℕ, List, Option, None, Some, length, nat_le, slice_get}
+use Rattle.std.specs.Prelude.{◌≡◌, ◌-◌, ◌+◌, ◌≤◌, ◌^◌, ℕ, List, Option, None, Some, length, nat_le, nat_lt, slice_get}
 use Rattle.std.specs.Prelude.{if◌then◌else◌}
 use Rattle.std.specs.List.{All}
 use Rattle.link_needs.specs.Linking.{Linking}
@@ -18,6 +18,10 @@ pub record MarkedImage : Type 0 where
 -- the cell of an address, in a table that begins at a place
 abbrev pub cell_at : ℕ → List Cell → ℕ → Option Cell
 cell_at start cells address = if nat_le start address then slice_get cells (address - start) else None
+
+-- that of a place, where the image is so far moved
+abbrev pub moved_cell : ℕ → List Cell → ℕ → ℕ → Option Cell
+moved_cell start cells bias place = if nat_lt place bias then None else cell_at start cells (place - bias)
 
 -- the cell says what stands at the address; where there is none, nothing does
 abbrev pub Says : List Linking → Linking → List Entry → Option Spot → Option Cell → Type 0

@@ -4,7 +4,7 @@ ghost use Rattle.std.specs.Prelude.{◌≡◌, ◌<◌, ◌≤◌, ◌^◌, IfOk
 ghost use Rattle.std.specs.List.{All};
 ghost use Rattle.link_needs.specs.Given.{IsGiven};
 ghost use Rattle.link_needs.specs.Linking.{layout};
-ghost use Rattle.meant_images.specs.Marked.{cell_at};
+ghost use Rattle.meant_images.specs.Marked.{moved_cell};
 ghost use Rattle.meant_images.specs.Targets.{HasFewObjects};
 ghost use Rattle.tls_layout.specs.Places.{IsLawful, executable};
 ghost use Rattle.whole_meaning.specs.Code.{mark_of, sequence_of};
@@ -66,10 +66,11 @@ fn code_start(inputs: &Inputs) -> u64
     inputs.placement.executable().start
 }
 
-/// The cell of an address, before the image is moved, in a table that begins at a place.
-fn cell_at(cells: &[Cell], start: u64, address: u64) -> Option<Cell>
-    ensures { result ≡ cell_at start cells.now address }
+/// The cell of a place, where the image is so far moved, in a table that begins at an address.
+fn cell_at(cells: &[Cell], start: u64, bias: u64, place: u64) -> Option<Cell>
+    ensures { result ≡ moved_cell start cells.now bias place }
 {
+    let address = place.checked_sub(bias)?;
     if address < start {
         return None;
     }
@@ -117,11 +118,7 @@ impl<'i, 'l, 's, 'a> CodeMarks<'i, 'l, 's, 'a> {
     pub fn mark(&self, bias: u64, place: u64) -> Mark
         ensures { result ≡ mark_of self.now.own bias place }
     {
-        match cell_at(
-            self.cells.as_slice(),
-            self.start,
-            place.saturating_sub(bias),
-        ) {
+        match cell_at(self.cells.as_slice(), self.start, bias, place) {
             Some(cell) => entry_at(self.entries.as_slice(), cell.entry).mark(bias, cell.byte),
             None => Mark::Usual,
         }
@@ -135,11 +132,7 @@ impl<'i, 'l, 's, 'a> CodeMarks<'i, 'l, 's, 'a> {
     {
         let inputs = self.inputs;
         let bias = bias_of(inputs.kind, number);
-        match cell_at(
-            self.cells.as_slice(),
-            self.start,
-            place.saturating_sub(bias),
-        ) {
+        match cell_at(self.cells.as_slice(), self.start, bias, place) {
             Some(cell) => {
                 let entry = entry_at(self.entries.as_slice(), cell.entry);
                 entry.sequence(image, number, place, cell.byte)

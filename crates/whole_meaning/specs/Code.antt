@@ -22,7 +22,7 @@ use Rattle.whole_meaning.specs.declared.marks.Mark.{Mark}
 use Rattle.whole_meaning.specs.declared.marks.Mark.TheVariants.{Usual, Offset, Address, Inside}
 use Rattle.whole_meaning.specs.Bytes.{covers, symbol_number}
 use Rattle.whole_meaning.specs.declared.sequences.Sequence.{Sequence}
-use Rattle.whole_meaning.specs.Spots.{Spot, bias_of, spot_in}
+use Rattle.whole_meaning.specs.Spots.{Spot, bias_of, moved_spot}
 
 -- ** sequences in sections
 
@@ -72,7 +72,7 @@ module _ (l : Linking) (bias : ℕ) where
 
   -- what a place of the instance is
   unfoldable pub mark_of : ℕ → Mark
-  mark_of place = spot_mark (spot_in l Executable (place - bias))
+  mark_of place = spot_mark (moved_spot l Executable bias place)
 
 -- ** symbols as numbers
 
@@ -134,4 +134,4 @@ module _ (ls : List Linking) (image number : ℕ) where
   -- that of the image's instance at a place, if one begins there
   unfoldable pub sequence_of : Linking → ℕ → Option Sequence
   sequence_of l place =
-      option_and_then (sequence_in l place) (spot_in l Executable (place - bias_of l.kind number))
+      option_and_then (sequence_in l place) (moved_spot l Executable (bias_of l.kind number) place)

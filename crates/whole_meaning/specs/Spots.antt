@@ -56,3 +56,7 @@ spot_from p class o (b ∷ more) address =
 -- what stands at an address of the class; between two sections nothing does
 unfoldable pub spot_in : Linking → SectionClass → ℕ → Option Spot
 spot_in l class address = spot_from (layout l) class 0 l.objects address
+
+-- what stands at a place where the image is so far moved; nothing does below that distance
+abbrev pub moved_spot : Linking → SectionClass → ℕ → ℕ → Option Spot
+moved_spot l class bias place = if nat_lt place bias then None else spot_in l class (place - bias)
