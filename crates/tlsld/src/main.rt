@@ -1,50 +1,14 @@
-//! A static linker for thread-local storage on x86-64, with a run time that shows what the linked images do.
+//! The program `tlsld`: the words of its command line, the host's files and its standard output, handed to
+//! [`commands::tlsld`], whose contract says what comes of them.
 //!
-//! A thread-local variable has one name and a copy for each thread. The compiler can't know where a thread's copy
-//! stands, so it leaves a field in the instruction, and says in a relocation what belongs there. For a variable of the
-//! executable itself that is a constant, the distance from the thread pointer, because each thread's block of the
-//! executable ends right at the thread pointer (variant II of Drepper's "ELF Handling For Thread-Local Storage"):
-//!
-//!     64 8b 04 25 00 00 00 00    mov %fs:x@tpoff, %eax      as the compiler left it
-//!     64 8b 04 25 fc ff ff ff    mov %fs:-4, %eax           linked: x begins 4 bytes below the thread pointer
-//!
-//! A wrong byte there gives one thread another thread's data, and no test of the program shows it at once. So what
-//! this program says of its input is a contract: the clauses of `tlsld` and `tlsld_plain`, in `top`.
-//!
-//! A command is read from top to bottom in `command`. For `show` the file is fetched, read as an image, and what it
-//! says is written. The other three are about a job, and refuse it for the same reasons, in the same order: the job is
-//! fetched and read, the objects of all its images are fetched and read, and all images are linked. Only then
-//! does a command go its own way. `link` and `sites` (`links`) name an image, which must be one of the job's before any
-//! object is fetched, and make something of it (`made`): its file, which is put into the store whole, or the lines of
-//! its sites. `run` (`runs`) runs the job's threads over all images, and writes the transcript.
-//!
-//!     link a.job app app.elf      linked app 12417          and the store's file app.elf has the image's 12,417 bytes
-//!     sites a.job app             main.o 1 0000000000000000 gd gd-le x
-//!
-//! Each step may end the command; what it ends with is a `CommandFault`, and what is said of it a `Reply`, which
-//! reaches the sink in one piece (`command_replies`).
-//!
-//! Only `link` changes the store's files, and only by one put, of whole bytes, when all else is done: a command that is
-//! refused leaves them as they were, and one that says so has put all that it says.
+//! On a terminal a long fetch of files tells how far it is, on standard error (`ports::ProgressStore`).
 #![tactic(auto)]
 
-mod command;
-mod generated;
-mod links;
-mod made;
-mod runs;
-mod telling;
-#[cfg(test)]
-mod tests;
-mod top;
-mod unlinked;
-mod wish;
-
+use commands::tlsld;
 use ports::{HostSink, HostStore, ProgressStore};
 use std::io::IsTerminal;
 use std::process::ExitCode;
 use std::{env, io};
-pub use top::{tlsld, tlsld_plain};
 
 fn main(rt: HostRuntime) -> io::Result<ExitCode> {
     let mut words = Vec::new(rt.alloc());

@@ -1,0 +1,40 @@
+-- What an answer shows.
+use Rattle.std.proofs.Common.{◌≡◌, ◌≤◌, ℕ, List, Option, Some, None, IfSome, ◌⊎◌, inl, inr, refl, sym, subst, arith}
+use Rattle.command_line.specs.declared.tasks.Task.{Task}
+use Rattle.command_replies.specs.Delivery.{Delivered}
+use Rattle.command_replies.specs.Replies.{AnswerCounts, IsAnswer, IsOfFiles}
+use Rattle.command_replies.specs.Statuses.{code_of}
+use Rattle.command_replies.specs.declared.replies.Answer.{Answer}
+use Rattle.command_replies.specs.declared.replies.Answer.TheVariants.{Replies, StoreFails, NoMemory}
+use Rattle.command_replies.specs.declared.statuses.Status.{Status}
+use Rattle.command_replies.specs.declared.statuses.Status.TheVariants as status
+use Rattle.ports.specs.Files.{Files}
+use Rattle.ports.specs.Sinks.{SinkView}
+use Rattle.commands.specs.Replies.{AnswerSays, MaySay, Shows}
+
+-- what may say more says as much
+delivered_weaker : (P Q : ℕ → List ℕ → Type 0) (old new : SinkView) (code : ℕ) → ((own : ℕ) (text : List ℕ) → P own text → Q own text) → Delivered P old new code → Delivered Q old new code
+delivered_weaker P Q old new code more (inl line) = inl line
+delivered_weaker P Q old new code more (inr (own, (text, (may, delivers)))) = inr (own, (text, (more own text may, delivers)))
+
+own_code : (s : Status) → IsOfFiles s → (code_of s ≡ 0) ⊎ (5 ≤ code_of s)
+own_code status.Done h = inl refl
+own_code status.Usage h = absurd h
+own_code status.Store h = absurd h
+own_code status.Job h = inr (omega arith)
+own_code status.Object h = inr (omega arith)
+own_code status.Link h = inr (omega arith)
+own_code status.Image h = inr (omega arith)
+
+answer_may : (files after : Option Files) (task : Task) (answer : Answer) (before now own : ℕ) (text : List ℕ) → AnswerCounts before now answer → IfSome files (λ fs. AnswerSays fs after task answer)
+    → IsAnswer answer own text → MaySay files after task own text
+answer_may None after task (Replies reply) before now own text counts says is = inr (subst (λ (c : ℕ). (c ≡ 0) ⊎ (5 ≤ c)) (sym is.0) (own_code reply.status counts.1))
+answer_may (Some fs) after task (Replies reply) before now own text counts says is = inr (rw (is.0, is.1) says)
+answer_may None after task StoreFails before now own text counts says is = inl is
+answer_may (Some fs) after task StoreFails before now own text counts says is = inl is
+answer_may files after task NoMemory before now own text counts says is = absurd is
+
+pub answer_shows : (files after : Option Files) (task : Task) (answer : Answer) (before now : ℕ) (old new : SinkView) (code : ℕ) → AnswerCounts before now answer
+    → IfSome files (λ fs. AnswerSays fs after task answer) → Delivered (IsAnswer answer) old new code → Shows files after task old new code
+answer_shows files after task answer before now old new code counts says delivered =
+    delivered_weaker (IsAnswer answer) (MaySay files after task) old new code (λ own text is. answer_may files after task answer before now own text counts says is) delivered

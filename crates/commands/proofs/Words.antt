@@ -1,0 +1,65 @@
+-- What is shown of words.
+use Rattle.std.proofs.Common.{◌≡◌, inl, inr, ℕ, List, [], Option, Some, None, IfSome, false, refl, sym, ap, append-nil}
+use Rattle.command_line.specs.declared.tasks.Task.{Task}
+use Rattle.command_line.specs.Words.{asked, takes_words}
+use Rattle.ports.specs.Files.{Files, untold_files}
+use Rattle.ports.specs.Sinks.{SinkView}
+use Rattle.command_line.specs.declared.tasks.Task.TheVariants.{Run, Link, Sites, Show, Gen}
+use Rattle.command_replies.specs.Statuses.{IsLate}
+use Rattle.command_replies.specs.Steps.{with_names}
+use Rattle.commands.specs.Links.{LinkSays, Leaves}
+use Rattle.commands.specs.Tasks.{TaskLeaves}
+use Rattle.commands.specs.Replies.{Shows, ShowsWords, Asked, AskedWords, WordsLeave}
+use Rattle.commands.proofs.Asked.{answered}
+
+abbrev Names : Type 0
+Names = List (List ℕ)
+
+none_more : (old : Option Names) → old ≡ with_names [] old
+none_more None = refl
+none_more (Some names) = ap (λ (ns : Names). Some ns) (sym (append-nil names))
+
+pub asked_late : (files : Option Files) (task : Option Task) (old : Option Names) (code : ℕ) → IsLate code → IfSome files (λ fs. AskedWords fs task old old code)
+asked_late None task old code late = tt
+asked_late (Some fs) None old code late = refl
+asked_late (Some fs) (Some task) old code late = record { front = (0, none_more old); all = λ own. absurd (answered code (inr late) own) }
+
+not_asked : (words : List (List ℕ)) → takes_words words ≡ false → asked words ≡ None
+unfolding asked
+not_asked words other = rw other refl
+
+pub shows_usage : (files after : Option Files) (words : List (List ℕ)) (old new : SinkView) (code : ℕ) → takes_words words ≡ false → ShowsWords untold_files untold_files None old new code
+    → ShowsWords files after (asked words) old new code
+shows_usage files after words old new code other shown = rw (not_asked words other) shown
+
+pub asked_usage : (files : Option Files) (words : List (List ℕ)) (old : Option Names) (code : ℕ) → takes_words words ≡ false → IfSome files (λ fs. AskedWords fs (asked words) old old code)
+asked_usage None words old code other = tt
+asked_usage (Some fs) words old code other = rw (not_asked words other) refl
+
+pub shows_task : (files after : Option Files) (words : List (List ℕ)) (task : Task) (old new : SinkView) (code : ℕ) → asked words ≡ Some task → Shows files after task old new code
+    → ShowsWords files after (asked words) old new code
+shows_task files after words task old new code e shown = rw e shown
+
+pub asked_task : (files : Option Files) (words : List (List ℕ)) (task : Task) (old new : Option Names) (code : ℕ) → asked words ≡ Some task → IfSome files (λ fs. Asked fs task old new code)
+    → IfSome files (λ fs. AskedWords fs (asked words) old new code)
+asked_task None words task old new code e shown = tt
+asked_task (Some fs) words task old new code e shown = rw e shown
+
+-- the files after words
+pub leave_usage : (files : Option Files) (words : List (List ℕ)) → takes_words words ≡ false → WordsLeave files files (asked words)
+leave_usage files words other = rw (not_asked words other) refl
+
+pub leave_task : (files after : Option Files) (words : List (List ℕ)) (task : Task) → asked words ≡ Some task → TaskLeaves files after task → WordsLeave files after (asked words)
+leave_task files after words task e left = rw e left
+
+unchanged : (files : Option Files) (Says : Files → ℕ → List ℕ → Type 0) → Leaves files files Says
+unchanged None Says = refl
+unchanged (Some fs) Says = inl refl
+
+pub leave_late : (files : Option Files) (task : Option Task) → WordsLeave files files task
+leave_late files None = refl
+leave_late files (Some (Run job no_relax)) = refl
+leave_late files (Some (Link job image out no_relax)) = unchanged files (λ fs. LinkSays fs files job image out no_relax)
+leave_late files (Some (Sites job image)) = refl
+leave_late files (Some (Show file)) = refl
+leave_late files (Some (Gen count)) = refl

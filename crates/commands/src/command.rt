@@ -1,0 +1,119 @@
+//! The commands: for each one the steps from its words to its output, in the order in which their faults come.
+ghost use Rattle.std.specs.Prelude.{◌≡◌, [], ◌∷◌, IfOk, IfSome};
+ghost use Rattle.command_line.specs.Words.{IsInLimits};
+ghost use Rattle.command_replies.specs.Faults.{StoreCounts, NoStoreFault, KeepsFiles};
+ghost use Rattle.command_replies.specs.Replies.{AnswerCounts, AnswerKeeps};
+ghost use Rattle.command_replies.specs.Steps.{Asks, Comes};
+ghost use Rattle.image_text.specs.Shown.{shown};
+ghost use Rattle.commands.specs.Replies.{AnswerSays, AsksOfAnswer};
+ghost use Rattle.commands.specs.Listings.{ListingSays};
+ghost use Rattle.commands.specs.Tasks.{ShowSays, TaskLeaves, TaskSays, task_names};
+
+use crate::generated::generated;
+use crate::links::{link, sites};
+use crate::telling::Telling;
+use crate::told::{Purpose, told};
+use command_line::Task;
+use command_replies::{Answer, CommandFault, InputRefusal, Reply, Status, reply_of, whole_file};
+use image_file::{Image, ImageFault, read_owned};
+use image_text::push_shown;
+use ports::Store;
+use std::alloc::{AllocError, Global};
+
+/// What a command answers.
+#[tactic(auto, using(crate::proofs::Asked::asks_all))]
+pub fn answer<S: Store>(alloc: Global, task: &Task, store: &mut S) -> Answer
+    requires { IsInLimits task.now }
+    ensures files { TaskLeaves (S.files store.old) (S.files store.new) task.now }
+    ensures kept { AnswerKeeps (S.files store.old) (S.files store.new) result }
+    ensures cause { AnswerCounts (S.faults store.old) (S.faults store.new) result }
+    ensures says { IfSome (S.files store.old) (λ fs. AnswerSays fs (S.files store.new) task.now result) }
+    ensures asks { IfSome (S.files store.old) (λ fs. AsksOfAnswer fs task.now
+        (S.asked store.old) (S.asked store.new) result) }
+{
+    match output(alloc, task, store) {
+        Ok(text) => Answer::Replies(Reply {
+            status: Status::Done,
+            text,
+        }),
+        Err(CommandFault::Store) => Answer::StoreFails,
+        Err(CommandFault::OutOfMemory) => Answer::NoMemory,
+        Err(CommandFault::Refused(refusal)) => match reply_of(alloc, &refusal) {
+            Ok(reply) => Answer::Replies(reply),
+            Err(_) => Answer::NoMemory,
+        },
+    }
+}
+
+/// What a command puts where nothing is wrong.
+#[tactic(auto, using(crate::proofs::Kept::keeps_same))]
+fn output<S: Store>(alloc: Global, task: &Task, store: &mut S) -> Result<Vec<u8>, CommandFault>
+    requires { IsInLimits task.now }
+    ensures files { TaskLeaves (S.files store.old) (S.files store.new) task.now }
+    ensures kept { KeepsFiles (S.files store.old) (S.files store.new) result }
+    ensures cause { StoreCounts (S.faults store.old) (S.faults store.new) result }
+    ensures says { IfSome (S.files store.old) (λ fs. Comes (λ text. text.items)
+        (TaskSays fs (S.files store.new) task.now) result) }
+    ensures asks { IfSome (S.files store.old) (λ fs. Asks (task_names fs task.now)
+        (S.asked store.old) (S.asked store.new) result) }
+{
+    match task {
+        Task::Run { job, no_relax } => {
+            let purpose = Purpose::Run(Telling::Transcript);
+            told(alloc, store, job.as_str(), !*no_relax, purpose)
+        }
+        Task::Check { job } => told(alloc, store, job.as_str(), true, Purpose::Check),
+        Task::Link {
+            job,
+            image,
+            out,
+            no_relax,
+        } => link(
+            alloc,
+            store,
+            job.as_str(),
+            image.as_str(),
+            out.as_str(),
+            *no_relax,
+        ),
+        Task::Sites { job, image } => sites(alloc, store, job.as_str(), image.as_str()),
+        Task::Show { file } => show(alloc, store, file.as_str()),
+        Task::Gen { count } => generated(alloc, *count),
+    }
+}
+
+/// `show FILE`: what the image says.
+fn show<S: Store>(alloc: Global, store: &mut S, name: &str) -> Result<Vec<u8>, CommandFault>
+    ensures files { S.files store.new ≡ S.files store.old }
+    ensures cause { StoreCounts (S.faults store.old) (S.faults store.new) result }
+    ensures says { IfSome (S.files store.old) (λ fs. Comes (λ text. text.items) (ShowSays fs name.now) result) }
+    ensures asks { Asks (name.now ∷ []) (S.asked store.old) (S.asked store.new) result }
+{
+    match whole_file(alloc, store, name) {
+        Ok(bytes) => show_file(alloc, bytes),
+        Err(fault) => Err(fault),
+    }
+}
+
+/// What the image of these bytes says.
+fn show_file(alloc: Global, bytes: Vec<u8>) -> Result<Vec<u8>, CommandFault>
+    ensures says { Comes (λ text. text.items) (ListingSays bytes.items) result }
+    ensures cause { NoStoreFault result }
+{
+    match read_owned(bytes) {
+        Ok(image) => Ok(listing_of(alloc, &image)?),
+        Err(ImageFault::OutOfMemory) => Err(CommandFault::OutOfMemory),
+        Err(ImageFault::At { offset, kind }) => {
+            Err(CommandFault::Refused(InputRefusal::Image { offset, kind }))
+        }
+    }
+}
+
+/// What an image says.
+fn listing_of(alloc: Global, image: &Image) -> Result<Vec<u8>, AllocError>
+    ensures { IfOk result (λ text. text.items ≡ shown image.now) }
+{
+    let mut text = Vec::new(alloc);
+    push_shown(image, &mut text)?;
+    Ok(text)
+}

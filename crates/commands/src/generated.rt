@@ -1,0 +1,68 @@
+//! `gen N`: what `run` does, of a job that is made and not fetched.
+//!
+//! The job and its objects are made in memory, byte for byte as files would have them. From there on the command is
+//! `run`: the same steps read the job and the objects, link, write, read back and run. What is told is one line.
+ghost use Rattle.std.specs.Prelude.{◌≡◌, ◌≤◌, IfOk, map, true};
+ghost use Rattle.command_replies.specs.Faults.{NoStoreFault};
+ghost use Rattle.command_replies.specs.Steps.{Comes};
+ghost use Rattle.job_link.specs.Mentions.{bytes_in};
+ghost use Rattle.generated_job.specs.Generated.{generated_files};
+ghost use Rattle.loaded_modules.specs.Given.{LateLast};
+ghost use Rattle.commands.specs.GeneratedRuns.{GenSays};
+ghost use Rattle.commands.specs.RunJobs.{BytesRun};
+
+use crate::telling::Telling;
+use crate::told::{Purpose, told_of_files};
+use command_replies::{CommandFault, job_of};
+use generated_job::{GeneratedFile, generated_objects, generated_text};
+use generated_laws::links::generated_objects_link;
+use generated_laws::objects::generated_objects_are_faultless;
+use generated_laws::texts::generated_texts_are_jobs;
+use job_link::Files;
+use job_text::Job;
+use loaded_modules::laws::late_images_come_last;
+use std::alloc::{AllocError, Global};
+
+/// `gen N`, of 1 to 1,000 objects: the line about its run.
+pub fn generated(alloc: Global, count: u32) -> Result<Vec<u8>, CommandFault>
+    requires some { 1 ≤ count }
+    requires few { count ≤ 1000 }
+    ensures says { Comes (λ text. text.items) (GenSays count) result }
+    ensures cause { NoStoreFault result }
+{
+    late_images_come_last();
+    generated_texts_are_jobs();
+    generated_objects_are_faultless();
+    generated_objects_link();
+    let text = generated_text(alloc, count)?;
+    match job_of(alloc, text.as_slice()) {
+        Ok(job) => run_generated(alloc, &job, count),
+        Err(fault) => Err(fault),
+    }
+}
+
+/// The line about the run of this job over generated objects.
+fn run_generated(alloc: Global, job: &Job, count: u32) -> Result<Vec<u8>, CommandFault>
+    requires some { 1 ≤ count }
+    requires few { count ≤ 1000 }
+    requires late { LateLast (map (λ image. image.kind) job.now.images) }
+    ensures says { Comes (λ text. text.items) (BytesRun (Purpose.Run (Telling.Summary count)) true
+        (bytes_in (generated_files count)) job.now) result }
+    ensures cause { NoStoreFault result }
+{
+    let objects = generated_objects(alloc, count)?;
+    let files = files_of(alloc, objects.as_slice())?;
+    let purpose = Purpose::Run(Telling::Summary { count });
+    told_of_files(alloc, job, &files, true, purpose)
+}
+
+/// These files, as if they were fetched.
+fn files_of<'o>(alloc: Global, objects: &'o [GeneratedFile]) -> Result<Files<'o>, AllocError>
+    ensures { IfOk result (λ files. bytes_in files ≡ bytes_in objects.now) }
+{
+    let mut files = Files::empty(alloc);
+    for object in objects {
+        files.add(object.name(), object.bytes())?;
+    }
+    Ok(files)
+}

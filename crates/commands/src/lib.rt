@@ -1,0 +1,48 @@
+//! The commands of `tlsld`, a static linker for thread-local storage on x86-64 with a run time that shows what the linked
+//! images do.
+//!
+//! A thread-local variable has one name and a copy for each thread. The compiler can't know where a thread's copy
+//! stands, so it leaves a field in the instruction, and says in a relocation what belongs there. For a variable of the
+//! executable itself that is a constant, the distance from the thread pointer, because each thread's block of the
+//! executable ends right at the thread pointer (variant II of Drepper's "ELF Handling For Thread-Local Storage"):
+//!
+//!     64 8b 04 25 00 00 00 00    mov %fs:x@tpoff, %eax      as the compiler left it
+//!     64 8b 04 25 fc ff ff ff    mov %fs:-4, %eax           linked: x begins 4 bytes below the thread pointer
+//!
+//! A wrong byte there gives one thread another thread's data, and no test of the program shows it at once. So what
+//! this program says of its input is a contract: the clauses of `tlsld` and `tlsld_plain`, in `top`.
+//!
+//! A command is read from top to bottom in `command`. For `show` the file is fetched, read as an image, and what it
+//! says is written. The others are about a job, and refuse it for the same reasons, in the same order: the job is
+//! fetched and read, the objects of all its images are fetched and read, and all images are linked. Only then
+//! does a command go its own way. `link` and `sites` (`links`) name an image, which must be one of the job's before any
+//! object is fetched, and make something of it (`made`): its file, which is put into the store whole, or the lines of
+//! its sites. `run` and `check` (`told`) are about the job as a whole: `run` (`runs`) runs its threads over all images
+//! and writes the transcript, and `check` (`checks`) says whether the job is clean, so that what `run` prints is what the
+//! objects mean. `gen` (`generated`) is `run` of a job that is made and not fetched.
+//!
+//!     link a.job app app.elf      linked app 12417          and the store's file app.elf has the image's 12,417 bytes
+//!     sites a.job app             main.o 1 0000000000000000 gd gd-le x
+//!     run a.job                   t1 l1 g0 = 000000000000002a
+//!     check a.job                 clean                     or, with status 9, the first unclean step and its cause
+//!
+//! Each step may end the command; what it ends with is a `CommandFault`, and what is said of it a `Reply`, which
+//! reaches the sink in one piece (`command_replies`).
+//!
+//! Only `link` changes the store's files, and only by one put, of whole bytes, when all else is done: a command that is
+//! refused leaves them as they were, and one that says so has put all that it says.
+#![tactic(auto)]
+
+mod checks;
+mod command;
+mod generated;
+mod links;
+mod made;
+mod runs;
+mod telling;
+mod told;
+mod top;
+mod unlinked;
+mod wish;
+
+pub use top::{tlsld, tlsld_plain};

@@ -1,0 +1,88 @@
+//! What is told of a run of a job whose images all link.
+//!
+//! Each image is written into its file and read back from it, and then all threads of the job take their turns over the
+//! images that were read. So what is printed comes of bytes that `link` would put into files, by a reader and a run time
+//! that know nothing of this linker.
+ghost use Rattle.std.specs.Prelude.{◌≡◌, List, All, IfOk, map};
+ghost use Rattle.commands.specs.RunJobs.{IsTold};
+ghost use Rattle.commands.specs.Runs.{AreLinks, HasRun, read_back};
+ghost use Rattle.image_file.specs.Spelled.{spelled};
+ghost use Rattle.image_writer.specs.Loadable.{HoldsTls};
+ghost use Rattle.image_writer.specs.Outlined.{outline_of};
+ghost use Rattle.image_writer.specs.Written.{written};
+ghost use Rattle.link_core.specs.Images.{linked_of};
+ghost use Rattle.link_needs.specs.Linking.{Linking};
+ghost use Rattle.loaded_modules.specs.Given.{LateLast};
+ghost use Rattle.transcript_text.specs.Texts.{IsImageNumber};
+
+use crate::telling::Telling;
+use image_file::Image;
+use image_writer::into_file;
+use job_run::laws::threads_print_their_meaning;
+use job_text::Job;
+use job_turns::run_job;
+use link_core::Linked;
+use link_core::laws::images_hold_tls;
+use linked_modules::laws::linked_images_are_modules;
+use loaded_modules::Modules;
+use run_summary::SiteCounts;
+use std::alloc::{AllocError, Global};
+use transcript_text::Transcript;
+
+/// What is told of the run of a job whose images are linked.
+pub fn told_run(
+    alloc: Global,
+    job: &Job,
+    all: Vec<Linked>,
+    telling: Telling,
+) -> Result<Vec<u8>, AllocError>
+    requires links { (ls : List Linking) × AreLinks job.now ls × (all.items ≡ map linked_of ls) }
+    requires late { LateLast (map (λ image. image.kind) job.now.images) }
+    ensures { IfOk result (λ text. (ls : List Linking) → AreLinks job.now ls → all.items ≡ map linked_of ls
+        → IsTold telling job.now ls text.items) }
+{
+    let counts = SiteCounts::of(all.as_slice())?;
+    let transcript = run_linked(alloc, job, all)?;
+    telling.text(alloc, job, counts, &transcript)
+}
+
+/// What a job shows whose images are linked: each is written and read back, and all threads run over those that were
+/// read.
+fn run_linked(alloc: Global, job: &Job, all: Vec<Linked>) -> Result<Transcript, AllocError>
+    requires links { (ls : List Linking) × AreLinks job.now ls × (all.items ≡ map linked_of ls) }
+    requires late { LateLast (map (λ image. image.kind) job.now.images) }
+    ensures ran { IfOk result (λ transcript. (ls : List Linking) → AreLinks job.now ls → all.items ≡ map linked_of ls
+        → HasRun job.now ls transcript) }
+    ensures images { IfOk result (λ transcript.
+        All (λ event. IsImageNumber job.now.images event.image) transcript.events) }
+{
+    images_hold_tls();
+    linked_images_are_modules();
+    threads_print_their_meaning();
+    let images = images_again(alloc, all)?;
+    let modules = Modules::new(alloc, job, images)?;
+    run_job(alloc, job, &modules)
+}
+
+/// All linked images, each as it is read from the file that is written of it.
+fn images_again(alloc: Global, all: Vec<Linked>) -> Result<Vec<Image>, AllocError>
+    requires { All (λ linked. HoldsTls (outline_of linked.image)) all.items }
+    ensures read { IfOk result (λ images. images.items ≡ map read_back all.items) }
+    ensures again { IfOk result (λ images. images.items ≡ map (λ linked. linked.image) all.items) }
+{
+    let mut images = Vec::new(alloc);
+    for linked in all {
+        images.push(image_again(alloc, linked)?)?;
+    }
+    Ok(images)
+}
+
+/// A linked image, as it is read from the file that is written of it.
+fn image_again(alloc: Global, linked: Linked) -> Result<Image, AllocError>
+    requires { HoldsTls (outline_of linked.image) }
+    ensures read { IfOk result (λ image. image ≡ read_back linked) }
+    ensures again { IfOk result (λ image. image ≡ linked.image) }
+{
+    let file = into_file(alloc, linked.image)?;
+    Ok(Image::from_bytes(file))
+}

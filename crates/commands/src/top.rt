@@ -1,0 +1,68 @@
+//! The top calls, which `main` makes.
+ghost use Rattle.std.specs.Prelude.{◌≢◌, IfSome, None, false, map, string_bytes};
+ghost use Rattle.command_line.specs.Words.{IsInLimits, asked, takes_words};
+ghost use Rattle.command_replies.specs.Statuses.{FilesShown, UsageShown, StoreShown, SinkShown};
+ghost use Rattle.ports.specs.Files.{untold_files};
+ghost use Rattle.commands.specs.Replies.{Asked, AskedWords, Shows, ShowsWords, WordsLeave};
+ghost use Rattle.commands.specs.Tasks.{TaskLeaves};
+
+use crate::command::answer;
+use command_line::{Task, WordsFault, read_words};
+use command_replies::{Status, deliver, say, say_no_memory};
+use ports::{Sink, Store};
+use std::alloc::Global;
+use std::sync::Wait;
+use std::thread::Threads;
+
+/// Reads the words, which hold no program name, and answers the command that they are: puts its output, or the one line
+/// that says why there is none, and gives the status to end with.
+#[tactic(auto, using(crate::proofs::Words::asked_late, crate::proofs::Words::asked_usage, crate::proofs::Words::shows_task, crate::proofs::Words::asked_task, crate::proofs::Words::leave_task, crate::proofs::Words::leave_usage, crate::proofs::Words::leave_late))]
+pub fn tlsld<R: Threads + Wait + Sync, S: Store, K: Sink>(
+    _rt: &R,
+    alloc: Global,
+    words: &[String],
+    store: &mut S,
+    out: &mut K,
+) -> u8
+    ensures usage { UsageShown (takes_words (map string_bytes words.now)) result }
+    ensures store { StoreShown (S.faults store.old) (S.faults store.new) result }
+    ensures sink { SinkShown (K.view out.old).faults (K.view out.new).faults result }
+    ensures kept { FilesShown (S.files store.old) (S.files store.new) result }
+    ensures files { WordsLeave (S.files store.old) (S.files store.new) (asked (map string_bytes words.now)) }
+    ensures shows { ShowsWords (S.files store.old) (S.files store.new) (asked (map string_bytes words.now))
+        (K.view out.old) (K.view out.new) result }
+    ensures asked { IfSome (S.files store.old) (λ fs. AskedWords fs (asked (map string_bytes words.now))
+        (S.asked store.old) (S.asked store.new) result) }
+{
+    match read_words(alloc, words) {
+        Ok(task) => tlsld_plain(alloc, &task, store, out),
+        Err(WordsFault::Usage) => say_usage(out),
+        Err(WordsFault::OutOfMemory) => say_no_memory(out),
+    }
+}
+
+/// Answers a command that waits for nobody.
+#[tactic(auto, using(crate::proofs::Kept::answer_kept))]
+pub fn tlsld_plain<S: Store, K: Sink>(alloc: Global, task: &Task, store: &mut S, out: &mut K) -> u8
+    requires within { IsInLimits task.now }
+    ensures taken { result ≢ 2 }
+    ensures store { StoreShown (S.faults store.old) (S.faults store.new) result }
+    ensures sink { SinkShown (K.view out.old).faults (K.view out.new).faults result }
+    ensures kept { FilesShown (S.files store.old) (S.files store.new) result }
+    ensures files { TaskLeaves (S.files store.old) (S.files store.new) task.now }
+    ensures shows { Shows (S.files store.old) (S.files store.new) task.now (K.view out.old) (K.view out.new) result }
+    ensures asked { IfSome (S.files store.old)
+        (λ fs. Asked fs task.now (S.asked store.old) (S.asked store.new) result) }
+{
+    let answer = answer(alloc, task, store);
+    deliver(out, &answer)
+}
+
+/// Puts the line for words that are not taken.
+fn say_usage<K: Sink>(out: &mut K) -> u8
+    ensures usage { UsageShown false result }
+    ensures shows { ShowsWords untold_files untold_files None (K.view out.old) (K.view out.new) result }
+    ensures sink { SinkShown (K.view out.old).faults (K.view out.new).faults result }
+{
+    say(out, Status::Usage, b"usage\n")
+}
