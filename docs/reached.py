@@ -2,7 +2,7 @@
 """reached.py [FILE]: which files of definitions the clauses of a source file reach, by what these files use of one another.
 
 Prints them crate by crate, each with its lines, in the order in which they are reached; then how many there are. Without FILE it
-takes the top calls, crates/tlsld/src/top.rt. A file counts whole, also where one of its definitions is reached.
+takes the top calls, crates/commands/src/top.rt. A file counts whole, also where one of its definitions is reached.
 """
 import os
 import re
@@ -23,7 +23,7 @@ def file_of(crate, path):
 
 
 def main():
-    begun = os.path.abspath(sys.argv[1]) if len(sys.argv) > 1 else f"{TOP}/crates/tlsld/src/top.rt"
+    begun = os.path.abspath(sys.argv[1]) if len(sys.argv) > 1 else f"{TOP}/crates/commands/src/top.rt"
     found, left = {}, [begun]
     while left:
         with open(left.pop(0), encoding="utf-8") as file:

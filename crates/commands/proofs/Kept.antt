@@ -26,6 +26,7 @@ output_done status.Job h = absurd h
 output_done status.Object h = absurd h
 output_done status.Link h = absurd h
 output_done status.Image h = absurd h
+output_done status.Unclean h = absurd h
 
 -- what an answer keeps, the number shows
 pub answer_kept : (before after : Option Files) (answer : Answer) (code : ℕ) → AnswerKeeps before after answer → IsDelivered answer code → FilesShown before after code

@@ -15,5 +15,6 @@ mod Shown
 mod SiteLines
 mod Stages
 mod Together
+mod Told
 mod Transcribed
 mod Words

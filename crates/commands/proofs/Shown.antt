@@ -25,6 +25,7 @@ own_code status.Job h = inr (omega arith)
 own_code status.Object h = inr (omega arith)
 own_code status.Link h = inr (omega arith)
 own_code status.Image h = inr (omega arith)
+own_code status.Unclean h = inr (omega arith)
 
 answer_may : (files after : Option Files) (task : Task) (answer : Answer) (before now own : ℕ) (text : List ℕ) → AnswerCounts before now answer → IfSome files (λ fs. AnswerSays fs after task answer)
     → IsAnswer answer own text → MaySay files after task own text

@@ -5,7 +5,7 @@ use Rattle.std.specs.List.{Contains}
 use Rattle.command_replies.specs.declared.fault.CommandFault.{CommandFault}
 use Rattle.command_replies.specs.declared.fault.CommandFault.TheVariants as fault
 use Rattle.command_replies.specs.declared.fault.InputRefusal.{InputRefusal}
-use Rattle.command_replies.specs.declared.fault.InputRefusal.TheVariants.{Job, Object, Link, Image}
+use Rattle.command_replies.specs.declared.fault.InputRefusal.TheVariants.{Job, Object, Link, Image, Unclean}
 use Rattle.command_replies.specs.Faults.{IsFetchFault}
 use Rattle.command_replies.specs.Says.{HasFile}
 use Rattle.command_replies.specs.Steps.{Comes, refusal_code, refusal_text}
@@ -159,6 +159,7 @@ some_code (Job line kind) = lit≤ tt
 some_code (Object name section entry kind) = lit≤ tt
 some_code (Link image kind object section entry) = lit≤ tt
 some_code (Image offset kind) = lit≤ tt
+some_code (Unclean line) = lit≤ tt
 
 never_made : (wish : Wish) (job : JobParts) (place : ℕ) (l : Linking) (refusal : InputRefusal) → made_of wish job place l (refusal_code refusal) (refusal_text refusal) → ⊥
 never_made (File out relax) job place l refusal is = omega (arith, is.0, some_code refusal)

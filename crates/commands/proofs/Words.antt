@@ -4,7 +4,7 @@ use Rattle.command_line.specs.declared.tasks.Task.{Task}
 use Rattle.command_line.specs.Words.{asked, takes_words}
 use Rattle.ports.specs.Files.{Files, untold_files}
 use Rattle.ports.specs.Sinks.{SinkView}
-use Rattle.command_line.specs.declared.tasks.Task.TheVariants.{Run, Link, Sites, Show, Gen}
+use Rattle.command_line.specs.declared.tasks.Task.TheVariants.{Run, Check, Link, Sites, Show, Gen}
 use Rattle.command_replies.specs.Statuses.{IsLate}
 use Rattle.command_replies.specs.Steps.{with_names}
 use Rattle.commands.specs.Links.{LinkSays, Leaves}
@@ -59,6 +59,7 @@ unchanged (Some fs) Says = inl refl
 pub leave_late : (files : Option Files) (task : Option Task) → WordsLeave files files task
 leave_late files None = refl
 leave_late files (Some (Run job no_relax)) = refl
+leave_late files (Some (Check job)) = refl
 leave_late files (Some (Link job image out no_relax)) = unchanged files (λ fs. LinkSays fs files job image out no_relax)
 leave_late files (Some (Sites job image)) = refl
 leave_late files (Some (Show file)) = refl

@@ -18,8 +18,8 @@
 //! does a command go its own way. `link` and `sites` (`links`) name an image, which must be one of the job's before any
 //! object is fetched, and make something of it (`made`): its file, which is put into the store whole, or the lines of
 //! its sites. `run` and `check` (`told`) are about the job as a whole: `run` (`runs`) runs its threads over all images
-//! and writes the transcript, and `check` (`checks`) says whether the job is clean, so that what `run` prints is what the
-//! objects mean. `gen` (`generated`) is `run` of a job that is made and not fetched.
+//! and writes the transcript, and `check` (`checks`) says whether what they do is in the objects alone, or hangs on what a
+//! linker chooses. `gen` (`generated`) is `run` of a job that is made and not fetched.
 //!
 //!     link a.job app app.elf      linked app 12417          and the store's file app.elf has the image's 12,417 bytes
 //!     sites a.job app             main.o 1 0000000000000000 gd gd-le x
