@@ -14,6 +14,18 @@ use link_needs::Inputs;
 use std::alloc::{AllocError, Global};
 use tls_symbols::Exports;
 
+/// What is known of an image, where no writer of its file asks for more.
+fn inputs_of<'i, 'a>(prepared: Prepared<'i, 'i, 'a>) -> Inputs<'i, 'i, 'a>
+    ensures { result ≡ prepared.entry }
+{
+    let Prepared {
+        inputs,
+        own: _,
+        imports: _,
+    } = prepared;
+    inputs
+}
+
 /// What is known of an image that links beside startup images that export these names. The only error is want of memory.
 fn prepare_one<'i, 'a>(
     alloc: Global,
@@ -33,7 +45,7 @@ fn prepare_one<'i, 'a>(
         startup,
         relax,
     ) {
-        Ok(Prepared { inputs, own: _, imports: _ }) => Ok(inputs),
+        Ok(prepared) => Ok(inputs_of(prepared)),
         Err(LinkFault::OutOfMemory) => Err(AllocError),
         Err(LinkFault::At { .. }) => unreachable!(),
     }

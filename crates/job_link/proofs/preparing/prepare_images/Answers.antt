@@ -1,4 +1,4 @@
-use Rattle.std.proofs.Common.{◌≡◌, ◌∙◌, ◌<◌, ◌∷◌, ◌++◌, [], List, length, map, take, sym, ap, subst, arith}
+use Rattle.std.proofs.Common.{◌∙◌, ◌∷◌, ◌++◌, [], List, length, map, take, sym, ap, subst, arith}
 use Rattle.link_core.specs.Faults.{Links}
 use Rattle.link_needs.specs.Linking.{Linking}
 use Rattle.job_link.specs.Given.{Given}
@@ -27,7 +27,7 @@ loop-image-preserved c =
     let i = c.loop-image.image-index in
     let g = c.image-item.result in
     c.in_ok-push.ensures.items
-    ∙ ap (λ (all : List Linking). all ++ c.in_ok-prepare_one.val ∷ []) c.loop-image.invariant
+    ∙ ap (λ (all : List Linking). all ++ c.in_ok-prepare_one.field-0 ∷ []) c.loop-image.invariant
     ∙ ap (λ (last : Linking). map (link_in images relax) (take i images) ++ last ∷ [])
     (c.in_ok-prepare_one.ensures ∙ beside images c.args.startup.now relax g c.requires.startup)
     ∙ sym (made_more images relax i g c.image-item.is c.loop-image-test.true (link_in images relax))
