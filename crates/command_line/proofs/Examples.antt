@@ -68,6 +68,16 @@ a_show_with_an_option : asked (codes "show" ∷ codes "app" ∷ codes "--no-rela
 unfolding asked takes_words clap_on_literals
 a_show_with_an_option = refl
 
+-- check job
+a_check : asked (codes "check" ∷ codes "job" ∷ []) ≡ Some (task.Check (codes "job"))
+unfolding asked takes_words clap_on_literals
+a_check = refl
+
+-- check job --no-relax
+a_check_with_an_option : asked (codes "check" ∷ codes "job" ∷ codes "--no-relax" ∷ []) ≡ None
+unfolding asked takes_words clap_on_literals
+a_check_with_an_option = refl
+
 -- gen 5
 a_job_of_five : asked (codes "gen" ∷ codes "5" ∷ []) ≡ Some (task.Gen 5)
 unfolding asked takes_words count_of clap_on_literals
@@ -112,6 +122,11 @@ any_link job image out = refl
 any_sites : (job image : Text) → asked (codes "sites" ∷ codes "--" ∷ job ∷ image ∷ []) ≡ Some (task.Sites job image)
 unfolding asked takes_words clap_on_literals
 any_sites job image = refl
+
+-- check -- JOB
+any_check : (job : Text) → asked (codes "check" ∷ codes "--" ∷ job ∷ []) ≡ Some (task.Check job)
+unfolding asked takes_words clap_on_literals
+any_check job = refl
 
 -- run --no-relax -- JOB
 any_job_without_rewriting : (job : Text) → asked (codes "run" ∷ codes "--no-relax" ∷ codes "--" ∷ job ∷ []) ≡ Some (task.Run job true)

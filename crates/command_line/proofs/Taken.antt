@@ -86,7 +86,7 @@ entered_asks None e = absurd (not_none e)
   where
     not_none : false ≡ true → ⊥
     not_none e = cc
-entered_asks (Some p) e = each_found Agrees p.0 p.1 (built tool_app).subs (yes, (yes, (yes, (yes, (a_count, tt))))) e
+entered_asks (Some p) e = each_found Agrees p.0 p.1 (built tool_app).subs (yes, (yes, (yes, (yes, (yes, (a_count, tt)))))) e
 
 -- words without a fault give a task where the number is a count
 without_fault : (words : List Text) → fault_of tool_app words ≡ [] → Agrees (subcommand_of tool_app words)

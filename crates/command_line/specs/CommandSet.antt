@@ -36,6 +36,10 @@ sites_app = with_rule (with_rule (new_app (codes "sites")) (text_rule (codes "JO
 abbrev pub show_app : App
 show_app = with_rule (new_app (codes "show")) (text_rule (codes "FILE"))
 
+-- check JOB
+abbrev pub check_app : App
+check_app = with_rule (new_app (codes "check")) (text_rule (codes "JOB"))
+
 -- gen N
 abbrev pub gen_app : App
 gen_app = with_rule (new_app (codes "gen")) (text_rule (codes "N"))
@@ -55,6 +59,6 @@ linking_tool = with_subcommand (with_subcommand bare_tool run_app.top) link_app.
 abbrev pub reading_tool : App
 reading_tool = with_subcommand (with_subcommand linking_tool sites_app.top) show_app.top
 
--- all the commands: behind those the one that makes a job
+-- all the commands: behind those the one that checks a job, and the one that makes a job
 abbrev pub tool_app : App
-tool_app = with_subcommand reading_tool gen_app.top
+tool_app = with_subcommand (with_subcommand reading_tool check_app.top) gen_app.top

@@ -43,6 +43,10 @@ sites_task rows = task.Sites (text_at (codes "JOB") rows) (text_at (codes "IMAGE
 abbrev pub show_task : List Row → Task
 show_task rows = task.Show (text_at (codes "FILE") rows)
 
+-- check JOB
+abbrev pub check_task : List Row → Task
+check_task rows = task.Check (text_at (codes "JOB") rows)
+
 -- gen N, where N is a count
 abbrev pub gen_task : List Row → Option Task
 gen_task rows = option_map task.Gen (count_of (text_at (codes "N") rows))
@@ -64,6 +68,7 @@ task_of command =
     if bytes_eq command.0 (codes "link") then Some (link_task command.1) else
     if bytes_eq command.0 (codes "sites") then Some (sites_task command.1) else
     if bytes_eq command.0 (codes "show") then Some (show_task command.1) else
+    if bytes_eq command.0 (codes "check") then Some (check_task command.1) else
     if bytes_eq command.0 (codes "gen") then gen_task command.1 else
     None
 

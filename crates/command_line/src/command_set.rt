@@ -3,7 +3,7 @@ ghost use Rattle.std.specs.Prelude.{◌≡◌, false, IfOk};
 ghost use Rattle.clap.specs.Walk.{rule_of};
 ghost use Rattle.clap.specs.Simple.{app_of};
 ghost use Rattle.clap.specs.declared.builder.command.Command.TheViews.{out-Command};
-ghost use Rattle.command_line.specs.CommandSet.{text_rule, no_relax_rule, run_app, link_app, sites_app, show_app, gen_app};
+ghost use Rattle.command_line.specs.CommandSet.{text_rule, no_relax_rule, run_app, link_app, sites_app, show_app, check_app, gen_app};
 ghost use Rattle.command_line.specs.CommandSet.{bare_tool, linking_tool, reading_tool, tool_app};
 
 use clap::{Arg, ArgAction, Command};
@@ -67,6 +67,14 @@ fn show_command<'a>(alloc: Global) -> Result<Command<'a>, AllocError>
     Command::new(alloc, "show").arg(text_argument(alloc, "FILE"))
 }
 
+/// `check JOB`.
+fn check_command<'a>(alloc: Global) -> Result<Command<'a>, AllocError>
+    ensures app { IfOk result (λ command. app_of command ≡ check_app) }
+    ensures local { IfOk result (λ command. (out-Command command).has_globals ≡ false) }
+{
+    Command::new(alloc, "check").arg(text_argument(alloc, "JOB"))
+}
+
 /// `gen N`.
 fn gen_command<'a>(alloc: Global) -> Result<Command<'a>, AllocError>
     ensures app { IfOk result (λ command. app_of command ≡ gen_app) }
@@ -107,5 +115,7 @@ fn reading_command<'a>(alloc: Global) -> Result<Command<'a>, AllocError>
 pub(crate) fn tool_command<'a>(alloc: Global) -> Result<Command<'a>, AllocError>
     ensures { IfOk result (λ command. app_of command ≡ tool_app) }
 {
-    reading_command(alloc)?.subcommand(gen_command(alloc)?)
+    reading_command(alloc)?
+        .subcommand(check_command(alloc)?)?
+        .subcommand(gen_command(alloc)?)
 }

@@ -10,6 +10,7 @@
 //! | `link JOB IMAGE OUT [--no-relax]` | link the images, put the one named IMAGE to the file OUT, and say how long it is |
 //! | `sites JOB IMAGE` | print the code sequences of the image named IMAGE, and what stands in the place of each |
 //! | `show FILE` | print what the image in the file FILE says |
+//! | `check JOB` | print whether the job is clean, or its first step that uses what only a linker can know |
 //! | `gen N` | make a job of N objects and a module in memory, run it, and print a summary |
 //!
 //! ```text
@@ -22,12 +23,14 @@
 //! link a.job app               usage: there is no OUT
 //! sites a.job app              Sites { job: "a.job", image: "app" }
 //! show app                     Show { file: "app" }
+//! check a.job                  Check { job: "a.job" }
 //! gen 5                        Gen { count: 5 }
 //! gen -- 5                     Gen { count: 5 }
 //! gen 05                       usage: no zero stands in front of a number, and no sign
 //! gen 1001                     usage: a number is one from 1 to 1,000
 //! run a.job b.job              usage: there is one word too many
 //! run a.job --no-rel           usage: an option has no shorter forms
+//! check a.job --no-relax       usage: `check` takes no option
 //! --help                       usage: a wish for help is no task
 //! ```
 //!

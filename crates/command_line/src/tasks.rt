@@ -36,6 +36,11 @@ pub enum Task {
         /// The name of the image's file.
         file: Text,
     },
+    /// `check JOB`: print whether the job is clean, or its first step that uses what only a linker can know.
+    Check {
+        /// The name of the job's file.
+        job: Text,
+    },
     /// `gen N`: make a job of that many objects and a module in memory, run it, and print a summary.
     Gen {
         /// How many objects, from 1 to 1,000.

@@ -5,7 +5,7 @@ ghost use Rattle.clap.specs.Matches.{found_of};
 ghost use Rattle.clap.specs.Walk.{rows_of};
 ghost use Rattle.clap.specs.Simple.{subcommand_rows_of};
 ghost use Rattle.command_line.specs.Words.{takes_words, asked, task_of, text_at, flag_at};
-ghost use Rattle.command_line.specs.Words.{run_task, link_task, sites_task, show_task, gen_task, IsInLimits};
+ghost use Rattle.command_line.specs.Words.{run_task, link_task, sites_task, show_task, check_task, gen_task, IsInLimits};
 
 use crate::command_set::tool_command;
 use crate::counts::count_of;
@@ -76,6 +76,14 @@ fn show_of(alloc: Global, matches: &ArgMatches<'_>) -> Result<Task, AllocError>
     })
 }
 
+fn check_of(alloc: Global, matches: &ArgMatches<'_>) -> Result<Task, AllocError>
+    ensures { IfOk result (λ task. task ≡ check_task (rows_of (found_of matches.now))) }
+{
+    Ok(Task::Check {
+        job: Text::copy_of(alloc, text_of(matches, "JOB"))?,
+    })
+}
+
 fn gen_of(matches: &ArgMatches<'_>) -> Result<Task, WordsFault>
     ensures ok { IfOk result (λ task. gen_task (rows_of (found_of matches.now)) ≡ Some task) }
     ensures within { IfOk result IsInLimits }
@@ -99,6 +107,7 @@ fn task_of_matches(alloc: Global, matches: &ArgMatches<'_>) -> Result<Task, Word
         Some(("link", values)) => Ok(link_of(alloc, values)?),
         Some(("sites", values)) => Ok(sites_of(alloc, values)?),
         Some(("show", values)) => Ok(show_of(alloc, values)?),
+        Some(("check", values)) => Ok(check_of(alloc, values)?),
         Some(("gen", values)) => gen_of(values),
         _ => Err(WordsFault::Usage),
     }

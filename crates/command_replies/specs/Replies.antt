@@ -18,6 +18,7 @@ IsOfFiles status.Job = Unit {0}
 IsOfFiles status.Object = Unit {0}
 IsOfFiles status.Link = Unit {0}
 IsOfFiles status.Image = Unit {0}
+IsOfFiles status.Unclean = Unit {0}
 
 -- the store's count of faults rose where the answer is that the store failed, and only there
 abbrev pub AnswerCounts : ℕ → ℕ → Answer → Type 0
@@ -34,6 +35,7 @@ IsOutput status.Job = ⊥
 IsOutput status.Object = ⊥
 IsOutput status.Link = ⊥
 IsOutput status.Image = ⊥
+IsOutput status.Unclean = ⊥
 
 abbrev pub AnswerKeeps : Option Files → Option Files → Answer → Type 0
 AnswerKeeps before after (Replies reply) = IsOutput reply.status ⊎ (after ≡ before)

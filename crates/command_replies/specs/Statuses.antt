@@ -3,7 +3,7 @@ use Rattle.std.specs.Prelude.{◌≡◌, ℕ, ◌<◌, ◌≤◌, ◌⊎◌, Boo
 use Rattle.ports.specs.Files.{Files}
 use Rattle.ports.specs.Counts.{Rose}
 use Rattle.command_replies.specs.declared.statuses.Status.{Status}
-use Rattle.command_replies.specs.declared.statuses.Status.TheVariants.{Done, Usage, Store, Job, Object, Link, Image}
+use Rattle.command_replies.specs.declared.statuses.Status.TheVariants.{Done, Usage, Store, Job, Object, Link, Image, Unclean}
 
 -- the number of a status that a command gives itself; 1 and 4 come of putting its text
 abbrev pub code_of : Status → ℕ
@@ -14,6 +14,7 @@ code_of Job = 5
 code_of Object = 6
 code_of Link = 7
 code_of Image = 8
+code_of Unclean = 9
 
 -- the text did not get through, so that the number is not the command's own: want of memory, or a sink that failed
 abbrev pub IsLate : ℕ → Type 0

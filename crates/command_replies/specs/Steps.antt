@@ -9,7 +9,7 @@ use Rattle.command_replies.specs.Says.{fault_text, image_fault_text, job_fault_t
 use Rattle.command_replies.specs.declared.fault.CommandFault.{CommandFault}
 use Rattle.command_replies.specs.declared.fault.CommandFault.TheVariants as fault
 use Rattle.command_replies.specs.declared.fault.InputRefusal.{InputRefusal}
-use Rattle.command_replies.specs.declared.fault.InputRefusal.TheVariants.{Job, Object, Link, Image}
+use Rattle.command_replies.specs.declared.fault.InputRefusal.TheVariants.{Job, Object, Link, Image, Unclean}
 
 -- the status and the text of a refusal
 abbrev pub refusal_code : InputRefusal → ℕ
@@ -17,6 +17,7 @@ refusal_code (Job line kind) = 5
 refusal_code (Object name section entry kind) = 6
 refusal_code (Link image kind object section entry) = 7
 refusal_code (Image offset kind) = 8
+refusal_code (Unclean line) = 9
 
 abbrev pub refusal_text : InputRefusal → List ℕ
 refusal_text (Job line kind) = job_fault_text line kind
@@ -24,6 +25,7 @@ refusal_text (Object name section entry kind) = fault_text (string_bytes name) s
 refusal_text (Link image kind object section entry) =
     link_line (string_bytes image) kind (string_bytes object) section entry
 refusal_text (Image offset kind) = image_fault_text offset kind
+refusal_text (Unclean line) = string_bytes line
 
 -- a step's answer is what says, but that the store may fail, and memory may be wanting
 abbrev pub Comes : {T : Type 0} → (T → List ℕ) → (ℕ → List ℕ → Type 0) → Result T CommandFault → Type 0

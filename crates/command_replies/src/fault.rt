@@ -46,6 +46,10 @@ pub enum InputRefusal {
         offset: u64,
         kind: image_rules::FaultKind,
     },
+    /// The job is unclean: this whole line says at which step, and why.
+    Unclean {
+        line: String,
+    },
 }
 
 impl From<FetchFault> for CommandFault {

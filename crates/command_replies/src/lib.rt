@@ -17,6 +17,7 @@
 //! 6  object b.o section 2 entry 0 RelocRange       relocation 0 in section 2 of b.o
 //! 7  link app Undefined b.o section 2 entry 1      the image app, at relocation 1 there
 //! 8  image 12456 TlsPlace                          the offset in an image's file
+//! 9  unclean t1 l1 at 0000000000400013 undefined   the first unclean step of thread 1, in its line 1
 //! ```
 //!
 //! A step of a command answers a value or a [`CommandFault`], as [`whole_file`], [`job_of`] and [`image_place`] do.

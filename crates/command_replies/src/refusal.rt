@@ -54,6 +54,10 @@ pub fn reply_of(alloc: Global, refusal: &InputRefusal) -> Result<Reply, AllocErr
             status: Status::Image,
             text: image_line(alloc, *offset, *kind)?,
         }),
+        InputRefusal::Unclean { line } => Ok(Reply {
+            status: Status::Unclean,
+            text: Vec::from_slice(alloc, line.as_bytes())?,
+        }),
     }
 }
 

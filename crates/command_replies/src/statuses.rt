@@ -18,6 +18,8 @@ pub enum Status {
     Link,
     /// 8: an image has a fault.
     Image,
+    /// 9: the job is unclean.
+    Unclean,
 }
 
 impl Status {
@@ -35,6 +37,7 @@ impl Status {
             Status::Object => 6,
             Status::Link => 7,
             Status::Image => 8,
+            Status::Unclean => 9,
         }
     }
 }

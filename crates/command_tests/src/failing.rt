@@ -1,4 +1,4 @@
-//! `run` over a store and a sink that fail, and `gen`, which asks no store.
+//! `run` and `check` over a store and a sink that fail, and `gen`, which asks no store.
 
 use crate::modules::store_with;
 use crate::whole::{check, ends};
@@ -26,6 +26,10 @@ fn a_store_may_fail_at_each_call(rt: HostRuntime) -> Result<(), Fail> {
         store.fail_at(call);
         check(&rt, alloc, &["run", "job"], &mut store, status, text)?;
         assert_eq!(rt; store.faults(), if status == 3 { 1 } else { 0 });
+        let text = if status == 3 { FAULT } else { b"clean\n" };
+        let mut store = store_with(alloc, JOB)?;
+        store.fail_at(call);
+        check(&rt, alloc, &["check", "job"], &mut store, status, text)?;
     }
     Ok(())
 }
@@ -33,7 +37,8 @@ fn a_store_may_fail_at_each_call(rt: HostRuntime) -> Result<(), Fail> {
 #[test]
 fn a_sink_may_take_a_front(rt: HostRuntime) -> Result<(), Fail> {
     let alloc = rt.alloc();
-    let rows: [(&[&str], u64, &[u8]); 4] = [
+    let rows: [(&[&str], u64, &[u8]); 5] = [
+        (&["check", "job"], 3, b"cle"),
         (&["run", "job"], 0, b""),
         (&["run", "job"], 12, b"t1 l1 g0 ope"),
         (&["run", "nojob"], 0, b""),

@@ -64,8 +64,11 @@ pub(crate) fn check<R: Threads + Wait + Sync + Abort>(
 fn each_status_has_its_line(rt: HostRuntime) -> Result<(), Fail> {
     let alloc = rt.alloc();
     // A call that always wants memory is proved as well: with ample memory the answer is none.
-    let rows: [(&[&str], u64, u8, &[u8]); 8] = [
+    let rows: [(&[&str], u64, u8, &[u8]); 11] = [
         (&["run", "job"], 0, 0, ANSWER),
+        (&["check", "job"], 0, 0, b"clean\n"),
+        (&["check"], 0, 2, b"usage\n"),
+        (&["check", "nojob"], 0, 3, b"store fault\n"),
         (&["link", "job", "plug", "app"], 0, 5, b"job 0 Name\n"),
         (&["sites", "job", "plug"], 0, 5, b"job 0 Name\n"),
         (&["run", "job", "--no-relax"], 0, 0, ANSWER),
@@ -118,6 +121,7 @@ fn refuses_jobs(rt: HostRuntime) -> Result<(), Fail> {
     for (job, status, text) in rows {
         let mut store = store_of(alloc, job, object.as_slice())?;
         check(&rt, alloc, &["run", "job"], &mut store, status, text)?;
+        check(&rt, alloc, &["check", "job"], &mut store, status, text)?;
     }
     Ok(())
 }

@@ -7,12 +7,12 @@ use Rattle.generated_job.specs.Shapes.{object_bytes}
 use Rattle.generated_laws.specs.Jobs.{generated_parts}
 use Rattle.generated_laws.specs.Linked.{GeneratedObjectsLink, program_objects}
 use Rattle.job_link.specs.Given.{Given, AreGiven, IsGiven}
+use Rattle.job_link.specs.LinkLaws.{is_given}
 use Rattle.job_link.specs.Linked.{AllLink, link_in}
 use Rattle.job_link.specs.Mentions.{bytes_in}
 use Rattle.link_core.specs.Faults.{Links}
 use Rattle.link_faults.specs.declared.image_kind.ImageKind.TheVariants.{Exe, Late}
 use Rattle.commands.proofs.MadeObjects.{late_bytes, program_mapped}
-use Rattle.commands.proofs.Making.{is_given}
 
 kinds_are : (n : ℕ) (images : List Given) → AreGiven (bytes_in (generated_files n)) (generated_parts n) images → map (λ (g : Given). g.kind) images ≡ Exe ∷ Late ∷ []
 unfolding generated_parts

@@ -1,21 +1,19 @@
 -- What all linked images make of one of them.
-use Rattle.std.proofs.Common.{◌≡◌, ◌∙◌, ◌+◌, ◌-◌, ◌<◌, ◌≤◌, ◌^◌, ℕ, zero, suc, Bool, true, false, cond, List, [], ◌∷◌, get_or, length, map, Err, inl, inr, refl, sym, ap, subst, arith}
-use Rattle.std.specs.Prelude.{filter}
+use Rattle.std.proofs.Common.{◌≡◌, ◌∙◌, ◌+◌, ◌<◌, ◌≤◌, ℕ, zero, suc, Bool, List, [], ◌∷◌, get_or, length, map, Err, inl, inr, refl, sym, ap, subst, arith}
 use Rattle.std.specs.Option.{option_map_or}
 use Rattle.std.proofs.lemmas.List.{length-map}
-use Rattle.std.proofs.lemmas.List.Elements.{All-weaker}
 use Rattle.std.proofs.lemmas.Option.{slice_get_within}
 use Rattle.command_replies.specs.declared.fault.CommandFault.{CommandFault}
 use Rattle.command_replies.specs.declared.fault.CommandFault.TheVariants as fault
 use Rattle.command_replies.specs.Steps.{Comes}
 use Rattle.dynamic_symbols.specs.Laws.{SitesHaveSymbols}
-use Rattle.elf_object.specs.Faults.{IsObject}
 use Rattle.image_writer.specs.Loadable.{HoldsTls}
 use Rattle.image_writer.specs.Outlined.{outline_of}
 use Rattle.job_link.specs.declared.linked_images.ImageRefusal.{ImageRefusal}
 use Rattle.job_link.specs.declared.linked_images.ImageRefusal.TheVariants as refusal
-use Rattle.job_link.specs.Given.{Given, AreGiven, IsGiven as IsGivenImage, IsSound}
-use Rattle.job_link.specs.Linked.{AllLink, exports_of, is_startup, link_in, linked_in}
+use Rattle.job_link.specs.Given.{Given, AreGiven, IsGiven as IsGivenImage}
+use Rattle.job_link.specs.Linked.{AllLink, link_in, linked_in}
+use Rattle.job_link.specs.LinkLaws.{is_given}
 use Rattle.job_link.specs.Refusals.{IsImageRefusal}
 use Rattle.job_text.specs.declared.images.Image.{Image}
 use Rattle.job_text.specs.Jobs.{JobParts}
@@ -29,7 +27,6 @@ use Rattle.commands.specs.declared.wish.Wish.TheVariants.{File, Sites}
 use Rattle.commands.specs.Links.{Output, ImagesSay, IsUnlinked}
 use Rattle.commands.specs.LinkSteps.{IsImageRefusalOf, NamesImage, made_of}
 use Rattle.image_writer.specs.Written.{written}
-use Rattle.tls_symbols.specs.Bindings.{exported_names}
 use Rattle.commands.specs.Wishes.{CanMake, image_lines, objects_of, relax_of, wished_bytes}
 use Rattle.commands.proofs.Places.{both_at, mapped_at, some_at}
 
@@ -45,30 +42,6 @@ choices_each l s (own ∷ more) zero = length-map own (choice l s)
 choices_each l s (own ∷ more) (suc o) = choices_each l (s + 1) more o
 
 -- ** the link of one image
-
-fewer : {X : Type 0} (t : X → Bool) (xs : List X) → length (filter t xs) ≤ length xs
-fewer t [] = omega arith
-fewer t (x ∷ xs) = kept (t x) (fewer t xs)
-  where
-    kept : (b : Bool) → length (filter t xs) ≤ length xs → length (cond b (x ∷ filter t xs) (filter t xs)) ≤ length (x ∷ xs)
-    kept true h = omega arith
-    kept false h = omega arith
-
-few_exports : (images : List Given) → length images ≤ 64 → length (exports_of images) < 2 ^ 32 - 1
-unfolding exports_of
-few_exports images few =
-    let all = length-map (filter (λ (g : Given). is_startup g.kind) images) (λ (g : Given). exported_names g.objects) in
-    let some = fewer (λ (g : Given). is_startup g.kind) images in
-    omega (arith, all, some)
-
-pub is_given : (images : List Given) (relax : Bool) (g : Given) → length images ≤ 64 → IsGivenImage g → IsGiven (link_in images relax g)
-unfolding link_in
-is_given images relax g few given = record {
-  few_startup = few_exports images few;
-  are_objects = All-weaker IsSound IsObject (λ b s. s.object) g.objects given.sound;
-  each = given.each;
-  are_sites = given.own;
-}
 
 module _ (tls : (l : Linking) → IsGiven l → Links l → HoldsTls (outline_of (image_of l))) (have : SitesHaveSymbols) (job : JobParts) (images : List Given) (relax : Bool) (place : ℕ)
     (bytes : List ℕ → List ℕ) (are : AreGiven bytes job images) (few : length job.images ≤ 64) (links : AllLink images relax) (below : place < length job.images)

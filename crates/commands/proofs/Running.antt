@@ -8,6 +8,7 @@ use Rattle.command_replies.specs.Steps.{Comes}
 use Rattle.job_link.specs.declared.linked_images.ImageRefusal.{ImageRefusal}
 use Rattle.job_link.specs.Given.{Given, AreGiven, IsGiven as IsGivenImage}
 use Rattle.job_link.specs.Linked.{AllLink, link_in}
+use Rattle.job_link.specs.LinkLaws.{is_given, kinds_linked}
 use Rattle.job_link.specs.Mentions.{AreFilesOf, Fetched, bytes_at, bytes_in, object_names}
 use Rattle.job_link.specs.Refusals.{IsImageRefusal}
 use Rattle.job_run.specs.Plain.{AreBytes}
@@ -22,10 +23,10 @@ use Rattle.commands.specs.Links.{IsUnlinked}
 use Rattle.commands.specs.RunJobs.{BytesRun, ImagesRun, ObjectsRun, links_of}
 use Rattle.commands.specs.Runs.{AreLinks}
 use Rattle.commands.specs.declared.told.Purpose.{Purpose}
-use Rattle.commands.proofs.Making.{fault_by, is_given, is_unlinked}
+use Rattle.commands.proofs.Making.{fault_by, is_unlinked}
 use Rattle.commands.proofs.Mentioned.{given_at, faulty_at}
 use Rattle.commands.proofs.Stages.{Text, comes_by, items}
-use Rattle.commands.proofs.Together.{kinds as kinds_of, together}
+use Rattle.commands.proofs.Together.{together}
 
 -- ** the files that were fetched
 
@@ -92,7 +93,7 @@ module _ (job : JobParts) (images : List Given) (relax : Bool) (bytes : List ℕ
   pub are_links : ((name : List ℕ) → AreBytes (bytes name)) → AllLink images relax → AreLinks job (links_of images relax)
   are_links each links = record {
     together = together images relax all_given links;
-    kinds = kinds_of images relax images ∙ are.kinds;
+    kinds = kinds_linked images relax images ∙ are.kinds;
     bytes = all_small each;
   }
 

@@ -46,11 +46,6 @@ module _ (images : List Given) (relax : Bool) where
   unfolding link_in exports_of
   beside g = same_from images
 
-  pub kinds : (gs : List Given) → map (λ (l : Linking). l.kind) (map (link_in images relax) gs) ≡ map (λ (g : Given). g.kind) gs
-  unfolding link_in
-  kinds [] = refl
-  kinds (g ∷ gs) = ap (λ ks. g.kind ∷ ks) (kinds gs)
-
   pub together : All (λ g. IsGiven (link_in images relax g)) images → AllLink images relax
       → AreTogether (map (link_in images relax) images)
   together given links = record {

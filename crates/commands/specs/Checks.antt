@@ -9,7 +9,7 @@ use Rattle.whole_meaning.specs.declared.unclean.UncleanStep.{UncleanStep}
 
 -- the first unclean step of the lowest thread that makes one, of what the job means over its objects' own sections; none
 -- where no step of any thread is unclean
-unfoldable pub verdict : JobParts → List Linking → Option UncleanStep
+abbrev pub verdict : JobParts → List Linking → Option UncleanStep
 verdict job ls = verdict_of (lines_of (meant_world (meaning_of ls) job.fuel job.lines job.order))
 
 -- 0 where there is none; else 9, and its thread, line, address and cause

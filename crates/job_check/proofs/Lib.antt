@@ -1,6 +1,7 @@
 mod Acting
 mod FirstTurn
 mod Histories
+mod ImagesSound
 mod LinesBegun
 mod Listed
 mod Lists

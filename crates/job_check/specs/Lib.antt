@@ -1,4 +1,5 @@
 pub mod Histories
+pub mod Jobs
 pub mod Lines
 pub mod Progress
 pub mod Running

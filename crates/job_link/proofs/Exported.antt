@@ -2,7 +2,7 @@
 use Rattle.std.proofs.Common.{◌≡◌, ◌∙◌, ◌+◌, ◌<◌, ◌≤◌, inl, inr, ℕ, Bool, true, false, cond, List, [], ◌∷◌, ◌++◌}
 use Rattle.std.proofs.Common.{Some}
 use Rattle.std.proofs.Common.{filter, map, refl, sym, ap, subst, append_assoc, length, take, drop, get_or, arith}
-use Rattle.std.specs.Prelude.{if◌then◌else◌, slice_get}
+use Rattle.std.specs.Prelude.{if◌then◌else◌, slice_get, slice_index_or}
 use Rattle.std.specs.Global.{Vec}
 use Rattle.std.proofs.lemmas.List.{map-append, take_more}
 use Rattle.std.proofs.lemmas.Option.{slice_get-get_or}
@@ -13,9 +13,10 @@ use Rattle.link_faults.specs.declared.fault.LinkFault.{LinkFault}
 use Rattle.link_faults.specs.declared.fault.LinkFault.TheVariants as link
 use Rattle.link_faults.specs.declared.image_kind.ImageKind.{ImageKind}
 use Rattle.sequence_forms.specs.declared.places.Site.{Site}
+use Rattle.sequence_match.specs.Faults.{AreSites}
 use Rattle.tls_symbols.specs.Bindings.{exported_names}
 use Rattle.job_link.specs.Beside.{link_beside}
-use Rattle.job_link.specs.Given.{Given}
+use Rattle.job_link.specs.Given.{Given, IsGiven}
 use Rattle.job_link.specs.Linked.{exports_of, is_startup, link_in, AllLink}
 use Rattle.job_link.specs.Refusals.{refusal_of, IsImageRefusal}
 use Rattle.job_link.proofs.Pushed.{below_or_at}
@@ -31,6 +32,16 @@ made_beside objects sites kind startup relax g o s k =
     ∙ ap (λ (kind : ImageKind). link_of g.objects sites kind startup relax) k
     ∙ ap (λ (own : List (List Site)). let l : Linking =
     record { kind = g.kind; objects = g.objects; startup = startup; sites = own; relax = relax } in l) s
+
+-- the sequences of its objects, as code holds them
+pub sites_held : (objects : List (List ℕ)) (sites : List (Vec Site)) (g : Given) → objects ≡ g.objects
+    → map (λ own. own.items) sites ≡ g.sites → IsGiven g → (o : ℕ) → o < length objects
+    → AreSites (slice_index_or objects o []) (slice_index_or (map (λ own. own.items) sites) o [])
+sites_held objects sites g o s given =
+    let P : List (List ℕ) → List (List Site) → Type 0 = λ objects sites. (o : ℕ) → o < length objects
+    → AreSites (slice_index_or objects o []) (slice_index_or sites o []) in
+    subst (λ (objects : List (List ℕ)). P objects (map (λ own. own.items) sites)) (sym o)
+    (subst (P g.objects) (sym s) given.own)
 
 -- that beside all startup images
 beside_all : (images : List Given) (relax : Bool) (g : Given)
@@ -64,17 +75,6 @@ pub exports-nil : exports_of [] ≡ []
 unfolding exports_of
 exports-nil = refl
 
--- at most as many as there are images
-pub exports_few : (images : List Given) → length (exports_of images) ≤ length images
-exports_few [] = omega (arith, ap length exports-nil)
-exports_few (g ∷ images) = by (is_startup g.kind) (exports-cons g images) (exports_few images)
-  where
-    by : (b : Bool) → exports_of (g ∷ images)
-        ≡ (if b then exported_names g.objects ∷ exports_of images else exports_of images)
-        → length (exports_of images) ≤ length images → length (exports_of (g ∷ images)) ≤ length (g ∷ images)
-    by true e more = omega (arith, ap length e, more)
-    by false e more = omega (arith, ap length e, more)
-
 -- what is left to export, after an image
 module _ (seen : List (List (List ℕ))) (images : List Given) (i : ℕ) (g : Given)
     (rest : drop i images ≡ g ∷ drop (i + 1) images) where
@@ -101,12 +101,11 @@ linked_as images relax g = linked_of (link_in images relax g)
 
 module _ (images : List Given) (relax : Bool) (i : ℕ) (g : Given) (is : g ≡ get_or images i g)
     (inside : i < length images) where
-  pub linked_more : map (linked_as images relax) (take (i + 1) images) ≡ map (linked_as images relax) (take i images)
-      ++ linked_of (link_in images relax g) ∷ []
-  linked_more =
-      ap (map (linked_as images relax)) (take_more images i g inside
-      ∙ ap (λ (h : Given). take i images ++ h ∷ []) (sym is))
-      ∙ map-append (linked_as images relax) (take i images) (g ∷ [])
+  -- what is made of each, of one more
+  pub made_more : {X : Type 0} (f : Given → X) → map f (take (i + 1) images) ≡ map f (take i images) ++ f g ∷ []
+  made_more f =
+      ap (map f) (take_more images i g inside ∙ ap (λ (h : Given). take i images ++ h ∷ []) (sym is))
+      ∙ map-append f (take i images) (g ∷ [])
 
   pub there : slice_get images i ≡ Some g
   there = slice_get-get_or images i g inside ∙ ap Some (sym is)

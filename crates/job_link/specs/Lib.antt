@@ -1,7 +1,9 @@
 pub mod Beside
 pub mod Given
+pub mod LinkLaws
 pub mod Linked
 pub mod Mentions
+pub mod NoFault
 pub mod Places
 pub mod Reads
 pub mod Refusals

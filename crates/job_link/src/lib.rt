@@ -1,13 +1,15 @@
 //! The images of a job: their objects fetched, read and linked.
 //!
 //! A job names its images, and each image the object files that it is made of. Between that text and images that run
-//! there are three steps, and this crate is their order:
+//! there are three steps, and for whoever asks what a job means a fourth. This crate is their order:
 //!
 //! 1. [`fetch_objects`] asks a store for each object file, and keeps the bytes of all of them in one buffer.
 //! 2. [`read_objects`] reads the objects of each image, and finds the sequences of code that reach thread-local
 //!    storage.
 //! 3. [`link_images`] links each image beside the names that the startup images export: the program, and the modules
 //!    that start with it.
+//! 4. [`prepare_images`] gives of each image that links what is known before its fields are filled in, beside the same
+//!    names ([`startup_exports`]). A checker asks what the objects mean, and needs no file of them.
 //!
 //! Two orders meet here. The job's lines **mention** images in any order; in **image order** the program is first, then
 //! come the modules that start with it, then the late ones. Files are fetched and read as they are mentioned, so that a
@@ -43,9 +45,11 @@
 mod fetching;
 mod images;
 mod linked_images;
+mod preparing;
 mod reading;
 
 pub use fetching::{Files, fetch_objects};
 pub use images::ImageObjects;
-pub use linked_images::{ImageRefusal, link_images};
+pub use linked_images::{ImageRefusal, link_images, startup_exports};
+pub use preparing::prepare_images;
 pub use reading::{ReadRefusal, read_objects};

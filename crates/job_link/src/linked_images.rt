@@ -61,7 +61,7 @@ fn is_startup(kind: ImageKind) -> bool
 }
 
 /// What the startup images export: the program, and the modules that start with it.
-fn startup_exports<'a>(
+pub fn startup_exports<'a>(
     alloc: Global,
     images: &[ImageObjects<'a>],
 ) -> Result<Vec<Exports<'a>>, AllocError>

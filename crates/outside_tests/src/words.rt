@@ -30,6 +30,9 @@ sites --no-relax app|sites|--|--no-relax|app
 sites a=b |sites|a=b|
 show image|show|image
 show -|show|-
+check job|check|job
+check -|check|-
+check --no-relax|check|--|--no-relax
 gen 5|gen|5
 gen 5|gen|--|5
 gen 1|gen|1
@@ -74,6 +77,12 @@ usage|sites|--help
 usage|site|a|b
 usage|show
 usage|show|image|more
+usage|check
+usage|check|job|more
+usage|check|job|--no-relax
+usage|check|--no-relax|job
+usage|check|--help
+usage|chec|job
 usage|gen
 usage|gen|5|6
 usage|gen|05
@@ -123,6 +132,7 @@ fn told(alloc: Global, task: Result<Task, WordsFault>) -> Result<String, AllocEr
             image.as_str()
         ),
         Ok(Task::Show { file }) => format!(in alloc; "show {}", file.as_str()),
+        Ok(Task::Check { job }) => format!(in alloc; "check {}", job.as_str()),
         Ok(Task::Gen { count }) => format!(in alloc; "gen {count}"),
         Err(fault) => format!(in alloc; "{fault}"),
     }

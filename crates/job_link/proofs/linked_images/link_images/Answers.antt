@@ -2,8 +2,9 @@ use Rattle.std.proofs.Common.{◌∙◌, ◌∷◌, ◌++◌, [], List, length, 
 use Rattle.link_core.specs.Faults.{IsLinkFault, Links}
 use Rattle.link_core.specs.Images.{linked_of, LinkedImage}
 use Rattle.link_needs.specs.Linking.{Linking}
+use Rattle.job_link.specs.LinkLaws.{exports_few}
 use Rattle.job_link.specs.Refusals.{IsImageRefusal}
-use Rattle.job_link.proofs.Exported.{all_link, beside, exports_few, first_refused, linked_as, linked_more, links_more}
+use Rattle.job_link.proofs.Exported.{all_link, beside, first_refused, linked_as, links_more, made_more}
 use Rattle.job_link.proofs.linked_images.link_images.Goals as goal
 
 pub link_one-requires : goal.link_one-requires
@@ -41,7 +42,7 @@ loop-number-preserved c =
           ∙ ap (λ (all : List LinkedImage). all ++ c.in-Ok.linked ∷ []) c.loop-number.invariant.linked
           ∙ ap (λ (last : LinkedImage). map (linked_as images relax) (take i images) ++ last ∷ [])
           (c.in-Ok.ensures.linked ∙ ap linked_of same)
-          ∙ sym (linked_more images relax i g c.index-images-number.is c.loop-number-test.true);
+          ∙ sym (made_more images relax i g c.index-images-number.is c.loop-number-test.true (linked_as images relax));
       links =
           links_more images relax i g c.index-images-number.is c.loop-number-test.true c.loop-number.invariant.links
           (subst (λ (l : Linking). Links l) same c.in-Ok.ensures.links);
