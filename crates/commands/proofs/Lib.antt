@@ -1,4 +1,5 @@
 mod Again
+mod Answered
 mod Asked
 mod Kept
 mod MadeFiles
@@ -15,6 +16,5 @@ mod Shown
 mod SiteLines
 mod Stages
 mod Together
-mod Told
 mod Transcribed
 mod Words

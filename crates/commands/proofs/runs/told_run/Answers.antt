@@ -1,6 +1,6 @@
 use Rattle.std.proofs.Common.{◌∙◌, ap}
 use Rattle.run_summary.specs.Summaries.{counts_of}
-use Rattle.commands.proofs.Told.{run_told}
+use Rattle.commands.proofs.Answered.{run_told}
 use Rattle.commands.proofs.runs.told_run.Goals as goal
 
 pub returns : goal.returns

@@ -2,7 +2,7 @@ use Rattle.std.proofs.Common.{◌∙◌, ◌≤◌, length, refl, subst}
 use Rattle.commands.specs.RunJobs.{links_of}
 use Rattle.commands.proofs.Making.{names_image}
 use Rattle.commands.proofs.Running.{are_links, linked_all, unlinked_run}
-use Rattle.commands.proofs.Told.{told_images}
+use Rattle.commands.proofs.Answered.{told_images}
 use Rattle.commands.proofs.told.told_of_images.Goals as goal
 
 pub told_run-requires-clause-links : goal.told_run-requires-clause-links
