@@ -1,5 +1,5 @@
 -- The links of a job's images, as what is made ready of them wants them.
-use Rattle.std.proofs.Common.{◌≡◌, ◌∙◌, ◌≤◌, ℕ, Bool, List, length, map, sym, ap, subst, arith}
+use Rattle.std.proofs.Common.{◌≡◌, ◌∙◌, ◌≤◌, ℕ, Bool, List, [], length, map, sym, ap, subst, arith}
 use Rattle.std.proofs.lemmas.List.{length-map}
 use Rattle.std.proofs.lemmas.List.Elements.{All-map, All-weaker}
 use Rattle.job_link.specs.Given.{Given, AreGiven, IsGiven}
@@ -29,6 +29,15 @@ module _ (bytes : List ℕ → List ℕ) (job : JobParts) (images : List Given) 
   pub kinds_are : map (λ (l : Linking). l.kind) (map (link_in images relax) images)
       ≡ map (λ (image : Image). image.kind) job.images
   kinds_are = kinds_linked images relax images ∙ are.kinds
+
+  count_linked : length (map (link_in images relax) images) ≡ length job.images
+  count_linked = length-map images (link_in images relax) ∙ count_is
+
+  pub some_linked : 1 ≤ length job.images → 1 ≤ length (map (link_in images relax) images)
+  some_linked some = omega (arith, count_linked, some)
+
+  pub few_linked : length job.images ≤ 64 → length (map (link_in images relax) images) ≤ 64
+  few_linked few = omega (arith, count_linked, few)
 
   pub late_last : LateLast (map (λ (image : Image). image.kind) job.images)
       → LateLast (map (λ (l : Linking). l.kind) (map (link_in images relax) images))
