@@ -51,9 +51,9 @@ fn put(plan: &Plan, place: u64, field: Field, file: &mut [u8])
     }
 }
 
-/// Writes the field of a relocation of a section that begins at this address, if it has one.
+/// Fills the field of a relocation of a section that begins at this address, if it has one.
 #[inline(always)]
-fn write_field(
+fn fill_field(
     plan: &Plan,
     object: usize,
     section: u32,
@@ -86,6 +86,35 @@ fn write_field(
             Ok(())
         }
         Err(unfit) => Err(unfit),
+    }
+}
+
+/// Fills the field of a relocation. What depends on its type is decided here, once for each of the types that objects
+/// have most of: `fill_field` is compiled for each of them.
+#[inline(always)]
+fn write_field(
+    plan: &Plan,
+    object: usize,
+    section: u32,
+    address: u64,
+    relocation: &Relocation,
+    file: &mut [u8],
+) -> Result<(), Overflow>
+    requires object { object < length plan.now.objects }
+    requires own { Contains (relocations (object_at plan.now.objects object) section) relocation.now }
+    requires address { address ≡ unwrap_or (address_of (layout plan.now) object section) 0 }
+    requires filled { length file.old ≡ length (raw_file plan.now) }
+    ensures written { OnOk result (file.new ≡ with_field plan.now object section file.old relocation.now) }
+    ensures filled { length file.new ≡ length (raw_file plan.now) }
+    ensures fits { OnOk result (IsFilled plan.now object section relocation.now) }
+    ensures overflow { OnErr result (IsOverflow plan.now object section relocation.now) }
+{
+    match relocation.kind {
+        RelocationKind::Pc32 => fill_field(plan, object, section, address, relocation, file),
+        RelocationKind::Plt32 => fill_field(plan, object, section, address, relocation, file),
+        RelocationKind::TpOff32 => fill_field(plan, object, section, address, relocation, file),
+        RelocationKind::Absolute64 => fill_field(plan, object, section, address, relocation, file),
+        _ => fill_field(plan, object, section, address, relocation, file),
     }
 }
 

@@ -7,7 +7,7 @@ use Rattle.link_needs.specs.Linking.{layout}
 use Rattle.link_core.proofs.WritingFields.{field_fills, field_overflows, field_writes, names_symbol, nothing_fills}
 use Rattle.link_core.proofs.WritingFields.{nothing_writes, replaced_as, replaced_fills, replaced_writes}
 use Rattle.link_core.proofs.WritingRoom.{field_room}
-use Rattle.link_core.proofs.writing.write_field.Goals as goal
+use Rattle.link_core.proofs.writing.fill_field.Goals as goal
 
 pub returns-in-Nothing-clause-written : goal.returns-in-Nothing-clause-written
 returns-in-Nothing-clause-written c =
