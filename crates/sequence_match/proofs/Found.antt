@@ -1,5 +1,5 @@
 -- The sequences that are found, one relocation after another, then one section after another.
-use Rattle.std.proofs.Common.{◌≡◌, ◌≢◌, ◌+◌, ◌<◌, ◌⊎◌, ◌∙◌, ◌++◌, ◌∷◌, ℕ, List, [], Option, Some, None, length, get_or, sym, ap, subst, inl, inr, arith}
+use Rattle.std.proofs.Common.{◌≡◌, ◌≢◌, ◌+◌, ◌<◌, ◌⊎◌, ◌∙◌, ◌++◌, ◌∷◌, ℕ, List, [], Option, Some, None, length, get_or, sym, ap, subst, inl, inr, below_more, arith}
 use Rattle.std.specs.List.{All, AllPairs, Contains}
 use Rattle.std.proofs.lemmas.List.Elements.{All-push, Contains-append_left, Contains-push}
 use Rattle.std.proofs.lemmas.List.Quantifiers.{all_pairs_push}
@@ -13,7 +13,8 @@ use Rattle.sequence_match.specs.declared.matching.Code.{Code}
 use Rattle.sequence_forms.specs.declared.places.Site.{Site}
 use Rattle.sequence_match.specs.Code.{IsFound, IsNoFirst, IsSiteIn, Names}
 use Rattle.sequence_match.specs.Faults.{StandsAt}
-use Rattle.sequence_match.specs.Finding.{AreSitesIn}
+use Rattle.elf_object.specs.Faults.{IsFirstAt}
+use Rattle.sequence_match.specs.Finding.{AreSitesIn, IsLeastBelow, IsLooseIn}
 use Rattle.sequence_forms.specs.Forms.{row, register}
 use Rattle.sequence_match.specs.Sites.{Calls, HasSecond, IsSecond, IsSiteOf, IsSpelled}
 use Rattle.sequence_match.proofs.Entries.{same_entry}
@@ -153,3 +154,21 @@ stands_with P Q StrayCall code xs e to from h = (
   λ d site s second. h.4 d site (site_with Q P code xs d site from s) (second_with Q P (row site.form).second xs site.start e from second),
 )
 stands_with P Q _ code xs e to from h = h
+
+-- one number more, at which P does not hold
+pub least_more : (P : ℕ → Type 0) (n : ℕ) (least : Option ℕ) → IsLeastBelow P n least → (P n → ⊥) → IsLeastBelow P (n + 1) least
+least_more P n None least none = below_more (λ e. P e → ⊥) n least none
+least_more P n (Some e) least none = least
+
+-- one number more, at which it does
+pub least_at : (P : ℕ → Type 0) (n : ℕ) → IsLeastBelow P n None → P n → IsLeastBelow P (n + 1) (Some n)
+least_at P n least here = (here, least)
+
+-- none of the numbers that count is left
+pub least_all : (P : ℕ → Type 0) (n : ℕ) (least : Option ℕ) → ((e : ℕ) → P e → e < n) → IsLeastBelow P n least → IsFirstAt P least
+least_all P n None within least = λ e h. least e (within e h) h
+least_all P n (Some e) within least = least
+
+-- what opens a sequence is not loose
+pub found_not_loose : (code : Code) (n : ℕ) (p : Site) → IsFound code p.form n p → IsLooseIn code n → ⊥
+found_not_loose code n p found loose = loose.3 p found.2

@@ -47,6 +47,15 @@ is_use getters x = is_of_sequence x.kind || slice_index_or getters x.symbol fals
 abbrev pub IsOf : Code → Site → Type 0
 IsOf code site = (site.section ≡ code.section) × ((e : ℕ) × IsSiteIn code e site)
 
+-- relocation number e of the code belongs to a sequence and opens none
+abbrev pub IsLooseIn : Code → ℕ → Type 0
+IsLooseIn code e = IsLoose code.bytes.now code.relocations.now (Names code.getters.now) e
+
+-- the least number at which P holds, where n is above one, or that there is none below n
+abbrev pub IsLeastBelow : (ℕ → Type 0) → ℕ → Option ℕ → Type 0
+IsLeastBelow P n None = (e : ℕ) → e < n → P e → ⊥
+IsLeastBelow P n (Some e) = P e × ((f : ℕ) → f < e → P f → ⊥)
+
 -- exactly the sequences of the code, no two at one place
 pub record AreSitesIn (code : Code) (sites : List Site) : Type 0 where
   pub only : All (IsOf code) sites

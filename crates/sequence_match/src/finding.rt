@@ -9,10 +9,10 @@ ghost use Rattle.object_rules.specs.declared.fault.ObjectFault.TheVariants.{At};
 ghost use Rattle.elf_object.specs.Faults.{Earlier, IsFirstAt, IsObject};
 ghost use Rattle.elf_object.specs.Lent.{relocations as relocations_in_file};
 ghost use Rattle.sequence_match.specs.Code.{IsReady, Names};
-ghost use Rattle.sequence_match.specs.Faults.{AreSites, IsFault, IsGetter, Nowhere, StandsAt, StandsOf};
+ghost use Rattle.sequence_match.specs.Faults.{AreSites, IsFault, IsGetter, IsStray, Nowhere, StandsOf};
 ghost use Rattle.sequence_match.specs.Faults.{code_of as bytes_of};
-ghost use Rattle.sequence_match.specs.Finding.{AreFindings, AreFindingsIn, AreGetters, AreSitesIn, IsFirstBelow};
-ghost use Rattle.sequence_match.specs.Finding.{IsLower, IsSurvey, is_use, kind_of};
+ghost use Rattle.sequence_match.specs.Finding.{AreFindings, AreFindingsIn, AreGetters, AreSitesIn, IsFirstBelow, IsLeastBelow};
+ghost use Rattle.sequence_match.specs.Finding.{IsLooseIn, IsLower, IsSurvey, is_use, kind_of};
 
 use crate::index::{Reach, index};
 use crate::matching::{Code, is_loose, is_of_sequence, is_stray, names_getter, site_of};
@@ -37,6 +37,15 @@ enum Asked {
 struct Spot {
     table: u32,
     entry: u32,
+}
+
+/// What the relocations of a section's code open.
+#[derive(Drop)]
+struct Openings {
+    /// The sequences, in the order of their first relocations.
+    sites: Vec<Site>,
+    /// The first relocation at which there is a `Loose`.
+    loose: Option<u32>,
 }
 
 /// What is found in a section.
@@ -145,45 +154,49 @@ impl Asked {
     }
 }
 
-/// Whether the kind stands at a relocation.
-fn stands(asked: Asked, code: &Code, entry: u32) -> bool
-    requires ready { IsReady code.now }
-    requires entry { entry < length code.now.relocations.now }
-    ensures { IsTrue result
-        ↔ StandsAt (kind_of asked) code.now.bytes.now code.now.relocations.now (Names code.now.getters.now) entry }
-{
-    match asked {
-        Asked::Loose => is_loose(code, entry),
-        Asked::Stray => is_stray(code, entry),
-    }
-}
-
-/// The first relocation at which the kind stands.
-fn first_entry(asked: Asked, code: &Code) -> Option<u32>
+/// The first relocation at which there is a `Stray`.
+fn first_stray(code: &Code) -> Option<u32>
     requires { IsReady code.now }
-    ensures { IsFirstAt
-        (StandsAt (kind_of asked) code.now.bytes.now code.now.relocations.now (Names code.now.getters.now)) result }
+    ensures { IsFirstAt (IsStray code.now.bytes.now code.now.relocations.now (Names code.now.getters.now)) result }
 {
     for entry in 0..code.relocations.len() as u32 {
-        if stands(asked, code, entry) {
+        if is_stray(code, entry) {
             return Some(entry);
         }
     }
     None
 }
 
-/// The sites of a section's code, in the order of its relocations.
-fn sites_in(alloc: Global, code: &Code) -> Result<Vec<Site>, AllocError>
+/// The first relocation up to this one at which there is a `Loose`. `loose` is that of the relocations before it.
+fn loose_up_to(code: &Code, entry: u32, loose: Option<u32>) -> Option<u32>
+    requires ready { IsReady code.now }
+    requires entry { entry < length code.now.relocations.now }
+    requires before { IsLeastBelow (IsLooseIn code.now) entry loose }
+    ensures { IsLeastBelow (IsLooseIn code.now) (entry + 1) result }
+{
+    match loose {
+        Some(first) => Some(first),
+        None if is_loose(code, entry) => Some(entry),
+        None => None,
+    }
+}
+
+/// What the relocations of a section's code open, in their order. Each is matched once: none that opens a sequence is
+/// loose.
+fn openings_in(alloc: Global, code: &Code) -> Result<Openings, AllocError>
     requires { IsReady code.now }
-    ensures { IfOk result (λ sites. AreSitesIn code.now sites.items) }
+    ensures sites { IfOk result (λ openings. AreSitesIn code.now openings.sites.items) }
+    ensures loose { IfOk result (λ openings. IsFirstAt (IsLooseIn code.now) openings.loose) }
 {
     let mut sites = Vec::new(alloc);
+    let mut loose = None;
     for entry in 0..code.relocations.len() as u32 {
-        if let Some(site) = site_of(code, entry) {
-            sites.push(site)?;
+        match site_of(code, entry) {
+            Some(site) => sites.push(site)?,
+            None => loose = loose_up_to(code, entry, loose),
         }
     }
-    Ok(sites)
+    Ok(Openings { sites, loose })
 }
 
 /// Sites, rising by their starts.
@@ -200,12 +213,15 @@ fn find_in_code(alloc: Global, code: &Code) -> Result<Findings, AllocError>
     requires { IsReady code.now }
     ensures { IfOk result (AreFindingsIn code.now) }
 {
-    let unsorted = sites_in(alloc, code)?;
+    let Openings {
+        sites: unsorted,
+        loose,
+    } = openings_in(alloc, code)?;
     let sites = rising(unsorted)?;
     Ok(Findings {
         sites,
-        loose: first_entry(Asked::Loose, code),
-        stray: first_entry(Asked::Stray, code),
+        loose,
+        stray: first_stray(code),
     })
 }
 
