@@ -6,11 +6,22 @@
 
 use commands::tlsld;
 use ports::{HostSink, HostStore, ProgressStore};
+use std::alloc::Global;
 use std::io::IsTerminal;
 use std::process::ExitCode;
 use std::{env, io};
 
+/// How many bytes a request may have and be served from memory that is kept.
+const LARGEST_KEPT: usize = 1 << 21;
+
+/// Has the C library keep freed memory for later requests, where they are not larger: it counts as large no more than
+/// what was asked for and given back. Otherwise each table of an object is taken from the host anew.
+fn keep_freed(alloc: Global) {
+    let _given_back = Vec::<u8>::with_capacity(alloc, LARGEST_KEPT);
+}
+
 fn main(rt: HostRuntime) -> io::Result<ExitCode> {
+    keep_freed(rt.alloc());
     let mut words = Vec::new(rt.alloc());
     for word in env::args(&rt)?.skip(1) {
         words.push(word)?;

@@ -152,7 +152,7 @@ descriptor_app = record {
   relax = true;
 }
 
--- 1 is added to a descriptor
+-- a number is added to a descriptor
 descriptor : verdict (descriptor_app ∷ []) 4 ((record { image = 1; action = Call (0x66 ∷ []) 0 0 0 } ∷ []) ∷ []) ([])
     ≡ Some (record { thread = 1; line = 1; address = 0x400007; cause = Descriptor })
 unfolding verdict descriptor_app descriptor_dz_o
