@@ -1,5 +1,6 @@
 #!/bin/sh
-# Runs every example on the program, and compares what it prints with what stands in the example's folder.
+# Runs every example on the program, and compares what it prints with what stands in the example's folder. The gate makes the
+# same runs in memory, over copies of these files (crates/example_runs); at the end this says whether the copies are in step.
 #
 #     sh tests/examples.sh [TLSLD]
 #
@@ -92,6 +93,7 @@ done
 for name in a.o job; do
     cmp "$top/examples/thread_local_42/$name" "$top/crates/tlsld/data/$name" || failed=$((failed + 1))
 done
+python3 "$top/tests/example_data.py" --check || failed=$((failed + 1))
 [ "$unasked" -eq 0 ] || echo "the program has no command check: $unasked verdicts were not asked"
 [ "$failed" -eq 0 ] && echo "$ran runs of examples print what stands beside them"
 [ "$failed" -eq 0 ]

@@ -1,0 +1,1 @@
+app.o 1 0000000000000000 ie-mov keep error

@@ -1,0 +1,118 @@
+#!/usr/bin/env python3
+"""example_data.py [--check]: copies examples/ to where the gate can see it, crates/example_runs; or says whether it is in step.
+
+The gate runs a program over files of its own crate alone. So the data of the crate example_runs are the folders of examples/ whose
+jobs have something to print: these jobs, the objects, what stands beside the jobs, and `runs`, the list of what is to be run. Its
+`stdout` is the line that the program ends with where all is well. tests/examples.sh says which file beside a job means which
+runs, and crates/example_runs/src/main.rt what the lines of `runs` are.
+"""
+import os
+import re
+import shutil
+import sys
+
+TOP = os.path.dirname(os.path.dirname(os.path.abspath(__file__)))
+CRATE = f"{TOP}/crates/example_runs"
+HEAD = "# Written by tests/example_data.py from examples/.\n"
+SETTINGS = ([], ["--no-relax"])
+
+
+def read(path):
+    with open(path, "rb") as file:
+        return file.read()
+
+
+def refusal_status(line):
+    """The status that goes with the line of a refusal."""
+    return {b"job": 5, b"object": 6}.get(line.split()[0], 7)
+
+
+def verdict_status(line):
+    """The status that goes with the line of a verdict."""
+    return 0 if line == b"clean\n" else 9
+
+
+def runs_of(job, files):
+    """What is run of a job, by the names of the files beside it: a status, a file with what is printed, and words."""
+    end = job[len("job"):]
+    transcript, refusal, verdict = f"transcript{end}", f"refusal{end}", f"verdict{end}"
+    if transcript in files:
+        kept = f"{transcript}.kept"
+        for expected, setting in zip((transcript, kept if kept in files else transcript), SETTINGS):
+            yield 0, expected, ["run", job, *setting]
+    for name in sorted(files):
+        if name.startswith(f"sites{end}."):
+            yield 0, name, ["sites", job, name[len(f"sites{end}."):]]
+    if refusal in files:
+        for setting in SETTINGS:
+            yield refusal_status(files[refusal]), refusal, ["run", job, *setting]
+    if verdict in files:
+        yield verdict_status(files[verdict]), verdict, ["check", job]
+
+
+def folders():
+    """Each folder below examples/ with runs: its name, the contents of the files that they need, and the runs."""
+    for path, below, names in os.walk(f"{TOP}/examples"):
+        below.sort()
+        files = {name: read(f"{path}/{name}") for name in names}
+        jobs = [name for name in sorted(files) if re.fullmatch(r"job(-.*)?", name)]
+        runs = [run for job in jobs for run in runs_of(job, files)]
+        needed = {name for _, expected, words in runs for name in (expected, words[1])}
+        kept = {name: files[name] for name in sorted(files) if name in needed or name.endswith(".o")}
+        if runs:
+            yield os.path.relpath(path, f"{TOP}/examples"), kept, runs
+
+
+def plain(name):
+    """A name that can be a word of a line."""
+    if not re.fullmatch(r"[!-~]+", name):
+        sys.exit(f"no name for a line of runs: {name!r}")
+    return name
+
+
+def wanted():
+    """The files of the crate that come from examples/, by name."""
+    listed, made, count, ran = [HEAD], {}, 0, 0
+    for folder, files, runs in folders():
+        listed.append(f"folder {plain(folder)}\n")
+        listed += [f"file {plain(name)}\n" for name in files]
+        listed += [f"run {status} {expected} {' '.join(map(plain, words))}\n" for status, expected, words in runs]
+        made |= {f"data/{folder}/{name}": content for name, content in files.items()}
+        count, ran = count + 1, ran + len(runs)
+    made["data/runs"] = "".join(listed).encode()
+    made["stdout"] = f"{ran} runs of {count} folders print what stands beside them\n".encode()
+    return made
+
+
+def found():
+    """These files as they stand."""
+    there = [f"{path}/{name}" for path, _, names in os.walk(f"{CRATE}/data") for name in names] + [f"{CRATE}/stdout"]
+    return {os.path.relpath(path, CRATE): read(path) for path in there if os.path.exists(path)}
+
+
+def check(made):
+    """Ends with whether the crate's files are those."""
+    there = found()
+    others = sorted(name for name in made.keys() | there.keys() if made.get(name) != there.get(name))
+    for name in others:
+        print(f"crates/example_runs/{name} is not what examples/ gives")
+    print("run tests/example_data.py" if others else "crates/example_runs is in step with examples/")
+    sys.exit(1 if others else 0)
+
+
+def write(made):
+    shutil.rmtree(f"{CRATE}/data", ignore_errors=True)
+    for name, content in made.items():
+        os.makedirs(os.path.dirname(f"{CRATE}/{name}"), exist_ok=True)
+        with open(f"{CRATE}/{name}", "wb") as file:
+            file.write(content)
+
+
+def main():
+    if sys.argv[1:] not in ([], ["--check"]):
+        sys.exit(__doc__)
+    made = wanted()
+    check(made) if sys.argv[1:] else write(made)
+
+
+main()
