@@ -1,8 +1,8 @@
 //! Whole commands over a store and a sink in memory, and what the others share: a store with a job, and a command that is
 //! run over it.
 
-use commands::tlsld;
 use crate::objects::rows;
+use commands::tlsld;
 use ports::{MemorySink, MemoryStore};
 use sample_objects::{callee, caller, function, reader};
 use std::alloc::Global;

@@ -1,13 +1,11 @@
 -- What is told of a job whose images all link.
-use Rattle.std.proofs.Common.{◌≡◌, ◌∙◌, ℕ, Bool, List, map, Option, Some, None, IfOk, Result, Ok, Err, inl, ap, refl, subst}
-use Rattle.command_replies.specs.declared.fault.CommandFault.{CommandFault}
-use Rattle.command_replies.specs.Steps.{Comes}
-use Rattle.commands.specs.Checks.{SaysOf, VerdictSays, verdict}
-use Rattle.commands.specs.RunJobs.{ImagesRun, IsTold, Says, links_of, told}
+use Rattle.std.proofs.Common.{◌≡◌, ◌∙◌, ℕ, Bool, List, map, IfOk, Result, Ok, Err, inl, ap, refl, sym, subst}
+use Rattle.commands.specs.RunJobs.{ImagesRun, IsTold, links_of, told}
 use Rattle.commands.specs.Runs.{AreLinks, HasRun}
 use Rattle.commands.specs.declared.telling.Telling.{Telling}
 use Rattle.commands.specs.declared.told.Purpose.{Purpose}
-use Rattle.commands.proofs.Stages.{Text, comes_by, items}
+use Rattle.commands.specs.declared.told.Purpose.TheVariants.{Run}
+use Rattle.commands.proofs.Stages.{Text}
 use Rattle.job_link.specs.Given.{Given}
 use Rattle.job_link.specs.Linked.{AllLink}
 use Rattle.job_text.specs.Jobs.{JobParts}
@@ -16,13 +14,6 @@ use Rattle.link_needs.specs.Linking.{Linking}
 use Rattle.run_summary.specs.Summaries.{counts_of}
 use Rattle.run_summary.specs.declared.sites.SiteCounts.{SiteCounts}
 use Rattle.transcript_text.specs.Texts.{Shown}
-use Rattle.whole_meaning.specs.declared.unclean.UncleanStep.{UncleanStep}
-
--- what is said of links is said of their images
-pub told_images : (purpose : Purpose) (relax : Bool) (job : JobParts) (images : List Given) → AllLink images relax → (r : Result Text CommandFault)
-    → Comes items (Says purpose job (links_of images relax)) r → Comes items (ImagesRun purpose relax job images) r
-told_images purpose relax job images links r =
-    comes_by (Says purpose job (links_of images relax)) (ImagesRun purpose relax job images) r (λ status text says. inl (record { links = links; says = says }))
 
 -- ** a run
 
@@ -41,8 +32,9 @@ module _ (telling : Telling) (job : JobParts) (all : List LinkedImage) (counts :
   run_told (Ok text) text_is = is_told text.items text_is
   run_told (Err e) text_is = tt
 
--- ** a verdict
-
-pub verdict_says : (job : JobParts) (ls : List Linking) (found : Option UncleanStep) (status : ℕ) (text : List ℕ)
-    → found ≡ verdict job ls → SaysOf found status text → VerdictSays job ls status text
-verdict_says job ls found status text is says = subst (λ (v : Option UncleanStep). SaysOf v status text) is says
+-- so of a job that is to be run, over the links of its images
+pub images_run : (purpose : Purpose) (telling : Telling) → purpose ≡ Run telling → (relax : Bool) (job : JobParts) (images : List Given)
+    → AllLink images relax → (text : List ℕ) → IsTold telling job (links_of images relax) text
+    → ImagesRun purpose relax job images 0 text
+images_run purpose telling is relax job images links text told =
+    subst (λ p. ImagesRun p relax job images 0 text) (sym is) (inl (record { links = links; says = (refl, told) }))

@@ -2,7 +2,7 @@
 -- whether it is clean, and of any other what `link` says.
 use Rattle.std.specs.Prelude.{◌≡◌, ◌⊎◌, ℕ, Bool, true, not, List, [], ◌∷◌, map, Option, Some, None, IsSome, Result, Ok, Err}
 use Rattle.std.specs.List.{All}
-use Rattle.command_replies.specs.Says.{HasFile, Is, JobFaultSays}
+use Rattle.command_replies.specs.Says.{HasFile, JobFaultSays}
 use Rattle.job_link.specs.Given.{Given, AreGiven}
 use Rattle.job_link.specs.Linked.{AllLink, link_in}
 use Rattle.job_link.specs.Mentions.{bytes_at, object_names}
