@@ -27,6 +27,10 @@ runs() {
 
 runs run job
 ends 0 't1 l1 g0 = 000000000000002a'
+runs check job
+ends 0 'clean'
+runs check job --no-relax
+ends 2 'usage'
 runs --no-relax
 ends 2 'usage'
 runs run nothing
@@ -51,6 +55,11 @@ ends 4 ''
 printf 'image app pie a.o\n1 call app f 0 0 0\n' > job
 runs run job
 ends 0 't1 l1 g0 = 000000000000002a'
+
+cp "$top/examples/unclean/flags/f.o" .
+printf 'image app exe f.o\n1 call app f 0 0 0\n' > job
+runs check job
+ends 9 'unclean t1 l1 at 0000000000400010 flags'
 
 # The largest file that is fetched has 2^28 bytes.
 printf 'image app exe large\n1 call app f 0 0 0\n' > job
