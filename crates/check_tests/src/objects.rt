@@ -2,7 +2,7 @@
 //! Each has its assembly text beside it, without the prefixes that only pad a sequence.
 
 /// A name of an object, and its digits.
-pub type Object = (&'static str, &'static str);
+pub(crate) type Object = (&'static str, &'static str);
 
 /// lea x@tlsgd(%rip), %rdi; call __tls_get_addr; ret
 pub const GENERAL: Object = (

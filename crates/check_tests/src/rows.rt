@@ -10,7 +10,7 @@ use std::test::Fail;
 use std::thread::Threads;
 
 /// A job, the objects that it names, and what is printed.
-pub type Row = (&'static str, &'static [Object], &'static str);
+pub(crate) type Row = (&'static str, &'static [Object], &'static str);
 
 /// A store with a job and objects.
 fn store_of(alloc: Global, job: &str, objects: &[Object]) -> Result<MemoryStore, Fail> {
@@ -41,7 +41,7 @@ fn checked<R: Threads + Wait + Sync>(
 }
 
 /// Compares what `check` says.
-pub fn check_rows<R: Threads + Wait + Sync + Abort>(
+pub(crate) fn check_rows<R: Threads + Wait + Sync + Abort>(
     rt: &R,
     alloc: Global,
     rows: &[Row],

@@ -8,7 +8,7 @@ use std::alloc::Global;
 use std::test::Fail;
 
 /// A store with a job, and with the objects of all these jobs.
-pub fn store_with(alloc: Global, job: &[u8]) -> Result<MemoryStore, Fail> {
+pub(crate) fn store_with(alloc: Global, job: &[u8]) -> Result<MemoryStore, Fail> {
     let mut store = store(alloc)?;
     store.add("job", job)?;
     store.add("a.o", reader(alloc, 0)?.as_slice())?;

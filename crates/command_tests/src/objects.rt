@@ -12,7 +12,7 @@ use std::alloc::{AllocError, Global};
 type Row = (Vec<u8>, u8, &'static [u8]);
 
 /// Objects that run, and objects that are refused.
-pub fn rows(alloc: Global) -> Result<Vec<Row>, AllocError> {
+pub(crate) fn rows(alloc: Global) -> Result<Vec<Row>, AllocError> {
     let no_function = b"t1 l1 g0 refused symbol\n".as_slice();
     let distance = b"t1 l1 g0 = fffffffffffffffc\n".as_slice();
     let nothing = b"t1 l1 g0 = 0000000000000000\n".as_slice();
