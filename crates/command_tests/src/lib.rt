@@ -8,6 +8,8 @@
 #[cfg(test)]
 mod failing;
 #[cfg(test)]
+mod large;
+#[cfg(test)]
 mod links;
 #[cfg(test)]
 mod modules;

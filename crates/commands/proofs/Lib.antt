@@ -1,6 +1,7 @@
 mod Again
 mod Answered
 mod Asked
+mod ImagesSound
 mod Kept
 mod MadeFiles
 mod MadeImages

@@ -28,10 +28,6 @@ abbrev pub made_of : Wish → Output
 made_of (File out relax) job number l status text = Is 0 (written (image_of l)) status text
 made_of Sites job number l status text = SitesOutput job number l status text
 
--- nothing is made of it
-abbrev pub NoOutput : Output
-NoOutput job number l status text = status ≡ 0
-
 -- what a command of an image says
 abbrev pub WishSays : Wish → Files → Option Files → List ℕ → List ℕ → ℕ → List ℕ → Type 0
 WishSays wish fs after job image status text =

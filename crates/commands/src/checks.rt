@@ -1,18 +1,40 @@
 //! `check`: whether a job is clean whose images all link.
-ghost use Rattle.std.specs.Prelude.{◌≡◌, ℕ, List, map};
+ghost use Rattle.std.specs.Prelude.{◌≡◌, ℕ, List, IfOk, map};
 ghost use Rattle.command_replies.specs.Faults.{NoStoreFault};
 ghost use Rattle.command_replies.specs.Steps.{Comes};
-ghost use Rattle.commands.specs.Checks.{VerdictSays};
+ghost use Rattle.commands.specs.Checks.{VerdictSays, verdict};
 ghost use Rattle.commands.specs.RunJobs.{links_of};
 ghost use Rattle.job_link.specs.Given.{AreGiven};
 ghost use Rattle.job_link.specs.Linked.{AllLink};
 ghost use Rattle.loaded_modules.specs.Given.{LateLast};
 
 use command_replies::{CommandFault, InputRefusal};
-use job_check::{verdict_of, verdict_text};
-use job_link::ImageObjects;
+use job_check::{check_job, verdict_text};
+use job_link::{ImageObjects, prepare_images, startup_exports};
 use job_text::Job;
-use std::alloc::Global;
+use meant_images::MeantImages;
+use std::alloc::{AllocError, Global};
+use whole_meaning::UncleanStep;
+
+/// The first unclean step of the lowest thread of a job that makes one, or `None`. Its images link, and mean something
+/// before their fields are filled.
+fn verdict_of(
+    alloc: Global,
+    job: &Job,
+    images: &[ImageObjects],
+    relax: bool,
+) -> Result<Option<UncleanStep>, AllocError>
+    requires given { (bytes : List ℕ → List ℕ) × AreGiven bytes job.now images.now }
+    requires late { LateLast (map (λ image. image.kind) job.now.images) }
+    requires links { AllLink images.now relax }
+    ensures { IfOk result (λ found. found ≡ verdict job.now (links_of images.now relax)) }
+{
+    let _images = job.images();
+    let startup = startup_exports(alloc, images)?;
+    let inputs = prepare_images(alloc, images, startup.as_slice(), relax)?;
+    let meant = MeantImages::new(alloc, inputs.as_slice())?;
+    check_job(alloc, job, &meant)
+}
 
 /// `clean`, or the refusal that tells the first unclean step.
 pub fn verdict_line(

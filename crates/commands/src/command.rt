@@ -19,10 +19,16 @@ use image_file::{Image, ImageFault, read_owned};
 use image_text::push_shown;
 use ports::Store;
 use std::alloc::{AllocError, Global};
+use std::thread::Threads;
 
 /// What a command answers.
 #[tactic(auto, using(crate::proofs::Asked::asks_all))]
-pub fn answer<S: Store>(alloc: Global, task: &Task, store: &mut S) -> Answer
+pub fn answer<R: Threads + Sync, S: Store>(
+    rt: &R,
+    alloc: Global,
+    task: &Task,
+    store: &mut S,
+) -> Answer
     requires { IsInLimits task.now }
     ensures files { TaskLeaves (S.files store.old) (S.files store.new) task.now }
     ensures kept { AnswerKeeps (S.files store.old) (S.files store.new) result }
@@ -31,7 +37,7 @@ pub fn answer<S: Store>(alloc: Global, task: &Task, store: &mut S) -> Answer
     ensures asks { IfSome (S.files store.old) (λ fs. AsksOfAnswer fs task.now
         (S.asked store.old) (S.asked store.new) result) }
 {
-    match output(alloc, task, store) {
+    match output(rt, alloc, task, store) {
         Ok(text) => Answer::Replies(Reply {
             status: Status::Done,
             text,
@@ -47,7 +53,12 @@ pub fn answer<S: Store>(alloc: Global, task: &Task, store: &mut S) -> Answer
 
 /// What a command puts where nothing is wrong.
 #[tactic(auto, using(crate::proofs::Kept::keeps_same))]
-fn output<S: Store>(alloc: Global, task: &Task, store: &mut S) -> Result<Vec<u8>, CommandFault>
+fn output<R: Threads + Sync, S: Store>(
+    rt: &R,
+    alloc: Global,
+    task: &Task,
+    store: &mut S,
+) -> Result<Vec<u8>, CommandFault>
     requires { IsInLimits task.now }
     ensures files { TaskLeaves (S.files store.old) (S.files store.new) task.now }
     ensures kept { KeepsFiles (S.files store.old) (S.files store.new) result }
@@ -60,15 +71,16 @@ fn output<S: Store>(alloc: Global, task: &Task, store: &mut S) -> Result<Vec<u8>
     match task {
         Task::Run { job, no_relax } => {
             let purpose = Purpose::Run(Telling::Transcript);
-            told(alloc, store, job.as_str(), !*no_relax, purpose)
+            told(rt, alloc, store, job.as_str(), !*no_relax, purpose)
         }
-        Task::Check { job } => told(alloc, store, job.as_str(), true, Purpose::Check),
+        Task::Check { job } => told(rt, alloc, store, job.as_str(), true, Purpose::Check),
         Task::Link {
             job,
             image,
             out,
             no_relax,
         } => link(
+            rt,
             alloc,
             store,
             job.as_str(),
@@ -76,9 +88,9 @@ fn output<S: Store>(alloc: Global, task: &Task, store: &mut S) -> Result<Vec<u8>
             out.as_str(),
             *no_relax,
         ),
-        Task::Sites { job, image } => sites(alloc, store, job.as_str(), image.as_str()),
+        Task::Sites { job, image } => sites(rt, alloc, store, job.as_str(), image.as_str()),
         Task::Show { file } => show(alloc, store, file.as_str()),
-        Task::Gen { count } => generated(alloc, *count),
+        Task::Gen { count } => generated(rt, alloc, *count),
     }
 }
 

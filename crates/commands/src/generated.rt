@@ -22,9 +22,14 @@ use job_link::Files;
 use job_text::Job;
 use loaded_modules::laws::late_images_come_last;
 use std::alloc::{AllocError, Global};
+use std::thread::Threads;
 
 /// `gen N`, of 1 to 1,000 objects: the line about its run.
-pub fn generated(alloc: Global, count: u32) -> Result<Vec<u8>, CommandFault>
+pub fn generated<R: Threads + Sync>(
+    rt: &R,
+    alloc: Global,
+    count: u32,
+) -> Result<Vec<u8>, CommandFault>
     requires some { 1 ≤ count }
     requires few { count ≤ 1000 }
     ensures says { Comes (λ text. text.items) (GenSays count) result }
@@ -36,13 +41,18 @@ pub fn generated(alloc: Global, count: u32) -> Result<Vec<u8>, CommandFault>
     generated_objects_link();
     let text = generated_text(alloc, count)?;
     match job_of(alloc, text.as_slice()) {
-        Ok(job) => run_generated(alloc, &job, count),
+        Ok(job) => run_generated(rt, alloc, &job, count),
         Err(fault) => Err(fault),
     }
 }
 
 /// The line about the run of this job over generated objects.
-fn run_generated(alloc: Global, job: &Job, count: u32) -> Result<Vec<u8>, CommandFault>
+fn run_generated<R: Threads + Sync>(
+    rt: &R,
+    alloc: Global,
+    job: &Job,
+    count: u32,
+) -> Result<Vec<u8>, CommandFault>
     requires some { 1 ≤ count }
     requires few { count ≤ 1000 }
     requires late { LateLast (map (λ image. image.kind) job.now.images) }
@@ -53,7 +63,7 @@ fn run_generated(alloc: Global, job: &Job, count: u32) -> Result<Vec<u8>, Comman
     let objects = generated_objects(alloc, count)?;
     let files = files_of(alloc, objects.as_slice())?;
     let purpose = Purpose::Run(Telling::Summary { count });
-    told_of_files(alloc, job, &files, true, purpose)
+    told_of_files(rt, alloc, job, &files, true, purpose)
 }
 
 /// These files, as if they were fetched.

@@ -21,9 +21,11 @@ use job_text::Job;
 use link_core::laws::images_hold_tls;
 use ports::Store;
 use std::alloc::Global;
+use std::thread::Threads;
 
 /// `link JOB IMAGE OUT`: the image, put into the file OUT, and how long it is.
-pub fn link<S: Store>(
+pub fn link<R: Threads + Sync, S: Store>(
+    rt: &R,
     alloc: Global,
     store: &mut S,
     job: &str,
@@ -41,11 +43,12 @@ pub fn link<S: Store>(
         (S.asked store.old) (S.asked store.new) result) }
 {
     let relax = !no_relax;
-    image_command(alloc, store, job, image, Wish::File { out, relax })
+    image_command(rt, alloc, store, job, image, Wish::File { out, relax })
 }
 
 /// `sites JOB IMAGE`: the lines of the image's sites.
-pub fn sites<S: Store>(
+pub fn sites<R: Threads + Sync, S: Store>(
+    rt: &R,
     alloc: Global,
     store: &mut S,
     job: &str,
@@ -58,11 +61,12 @@ pub fn sites<S: Store>(
     ensures asks { IfSome (S.files store.old) (λ fs. Asks (image_names fs job.now image.now)
         (S.asked store.old) (S.asked store.new) result) }
 {
-    image_command(alloc, store, job, image, Wish::Sites)
+    image_command(rt, alloc, store, job, image, Wish::Sites)
 }
 
 /// What is asked of an image of the job in the file of that name.
-fn image_command<S: Store>(
+fn image_command<R: Threads + Sync, S: Store>(
+    rt: &R,
     alloc: Global,
     store: &mut S,
     name: &str,
@@ -79,13 +83,14 @@ fn image_command<S: Store>(
         (S.asked store.old) (S.asked store.new) result) }
 {
     match whole_file(alloc, store, name) {
-        Ok(text) => image_of_text(alloc, store, text.as_slice(), image, wish),
+        Ok(text) => image_of_text(rt, alloc, store, text.as_slice(), image, wish),
         Err(fault) => Err(fault),
     }
 }
 
 /// What is asked of an image of the job of a text.
-fn image_of_text<S: Store>(
+fn image_of_text<R: Threads + Sync, S: Store>(
+    rt: &R,
     alloc: Global,
     store: &mut S,
     text: &[u8],
@@ -102,13 +107,14 @@ fn image_of_text<S: Store>(
         (S.asked store.old) (S.asked store.new) result }
 {
     match job_of(alloc, text) {
-        Ok(job) => image_of_name(alloc, store, &job, image, wish),
+        Ok(job) => image_of_name(rt, alloc, store, &job, image, wish),
         Err(fault) => Err(fault),
     }
 }
 
 /// What is asked of the image of that name.
-fn image_of_name<S: Store>(
+fn image_of_name<R: Threads + Sync, S: Store>(
+    rt: &R,
     alloc: Global,
     store: &mut S,
     job: &Job,
@@ -124,13 +130,14 @@ fn image_of_name<S: Store>(
     ensures asks { Asks (image_job_names image.now (Ok job.now)) (S.asked store.old) (S.asked store.new) result }
 {
     match image_place(job, image) {
-        Ok(place) => image_of_job(alloc, store, job, place, image, wish),
+        Ok(place) => image_of_job(rt, alloc, store, job, place, image, wish),
         Err(fault) => Err(fault),
     }
 }
 
 /// What is asked of the image at that place, whose name is given.
-fn image_of_job<S: Store>(
+fn image_of_job<R: Threads + Sync, S: Store>(
+    rt: &R,
     alloc: Global,
     store: &mut S,
     job: &Job,
@@ -149,14 +156,15 @@ fn image_of_job<S: Store>(
 {
     let _mentions = job.mentions();
     let files = fetch_objects(alloc, store, job)?;
-    match made(alloc, job, &files, place, wish) {
+    match made(rt, alloc, job, &files, place, wish) {
         Ok(bytes) => put_image(alloc, store, image, bytes, wish),
         Err(fault) => Err(fault),
     }
 }
 
 /// What is made of the image at that place, whose job has these files.
-fn made(
+fn made<R: Threads + Sync>(
+    rt: &R,
     alloc: Global,
     job: &Job,
     files: &Files,
@@ -168,7 +176,7 @@ fn made(
         (BytesSay (relax_of wish.entry) (made_of wish.entry) (bytes_in files.now) job.now place) result }
     ensures cause { NoStoreFault result }
 {
-    match read_objects(alloc, job, files) {
+    match read_objects(rt, alloc, job, files) {
         Ok(images) => made_of_images(alloc, job, images.as_slice(), place, wish),
         Err(refusal) => Err(unread(alloc, refusal)),
     }

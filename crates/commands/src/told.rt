@@ -23,6 +23,7 @@ use job_text::Job;
 use loaded_modules::laws::late_images_come_last;
 use ports::Store;
 use std::alloc::Global;
+use std::thread::Threads;
 
 /// What is asked of a job whose images all link.
 #[derive(Clone, Copy)]
@@ -34,7 +35,8 @@ pub enum Purpose {
 }
 
 /// What is told of the job in the file of that name. `relax` says whether sequences may be rewritten.
-pub fn told<S: Store>(
+pub fn told<R: Threads + Sync, S: Store>(
+    rt: &R,
     alloc: Global,
     store: &mut S,
     name: &str,
@@ -49,13 +51,14 @@ pub fn told<S: Store>(
         (S.asked store.old) (S.asked store.new) result) }
 {
     match whole_file(alloc, store, name) {
-        Ok(text) => told_of_text(alloc, store, text.as_slice(), relax, purpose),
+        Ok(text) => told_of_text(rt, alloc, store, text.as_slice(), relax, purpose),
         Err(fault) => Err(fault),
     }
 }
 
 /// What is told of the job of a text.
-fn told_of_text<S: Store>(
+fn told_of_text<R: Threads + Sync, S: Store>(
+    rt: &R,
     alloc: Global,
     store: &mut S,
     text: &[u8],
@@ -70,13 +73,14 @@ fn told_of_text<S: Store>(
 {
     late_images_come_last();
     match job_of(alloc, text) {
-        Ok(job) => told_of_job(alloc, store, &job, relax, purpose),
+        Ok(job) => told_of_job(rt, alloc, store, &job, relax, purpose),
         Err(fault) => Err(fault),
     }
 }
 
 /// What is told of a job.
-fn told_of_job<S: Store>(
+fn told_of_job<R: Threads + Sync, S: Store>(
+    rt: &R,
     alloc: Global,
     store: &mut S,
     job: &Job,
@@ -92,11 +96,12 @@ fn told_of_job<S: Store>(
 {
     let _mentions = job.mentions();
     let files = fetch_objects(alloc, store, job)?;
-    told_of_files(alloc, job, &files, relax, purpose)
+    told_of_files(rt, alloc, job, &files, relax, purpose)
 }
 
 /// What is told of a job that has these files.
-pub fn told_of_files(
+pub fn told_of_files<R: Threads + Sync>(
+    rt: &R,
     alloc: Global,
     job: &Job,
     files: &Files,
@@ -108,7 +113,7 @@ pub fn told_of_files(
     ensures cause { NoStoreFault result }
 {
     files.are_bytes();
-    match read_objects(alloc, job, files) {
+    match read_objects(rt, alloc, job, files) {
         Ok(images) => told_of_images(alloc, job, images.as_slice(), relax, purpose),
         Err(refusal) => Err(unread(alloc, refusal)),
     }

@@ -18,7 +18,7 @@ use std::thread::Threads;
 /// that says why there is none, and gives the status to end with.
 #[tactic(auto, using(crate::proofs::Words::asked_late, crate::proofs::Words::asked_usage, crate::proofs::Words::shows_task, crate::proofs::Words::asked_task, crate::proofs::Words::leave_task, crate::proofs::Words::leave_usage, crate::proofs::Words::leave_late))]
 pub fn tlsld<R: Threads + Wait + Sync, S: Store, K: Sink>(
-    _rt: &R,
+    rt: &R,
     alloc: Global,
     words: &[String],
     store: &mut S,
@@ -35,7 +35,7 @@ pub fn tlsld<R: Threads + Wait + Sync, S: Store, K: Sink>(
         (S.asked store.old) (S.asked store.new) result) }
 {
     match read_words(alloc, words) {
-        Ok(task) => tlsld_plain(alloc, &task, store, out),
+        Ok(task) => tlsld_plain(rt, alloc, &task, store, out),
         Err(WordsFault::Usage) => say_usage(out),
         Err(WordsFault::OutOfMemory) => say_no_memory(out),
     }
@@ -43,7 +43,13 @@ pub fn tlsld<R: Threads + Wait + Sync, S: Store, K: Sink>(
 
 /// Answers a command that waits for nobody.
 #[tactic(auto, using(crate::proofs::Kept::answer_kept))]
-pub fn tlsld_plain<S: Store, K: Sink>(alloc: Global, task: &Task, store: &mut S, out: &mut K) -> u8
+pub fn tlsld_plain<R: Threads + Sync, S: Store, K: Sink>(
+    rt: &R,
+    alloc: Global,
+    task: &Task,
+    store: &mut S,
+    out: &mut K,
+) -> u8
     requires within { IsInLimits task.now }
     ensures taken { result ≢ 2 }
     ensures store { StoreShown (S.faults store.old) (S.faults store.new) result }
@@ -54,7 +60,7 @@ pub fn tlsld_plain<S: Store, K: Sink>(alloc: Global, task: &Task, store: &mut S,
     ensures asked { IfSome (S.files store.old)
         (λ fs. Asked fs task.now (S.asked store.old) (S.asked store.new) result) }
 {
-    let answer = answer(alloc, task, store);
+    let answer = answer(rt, alloc, task, store);
     deliver(out, &answer)
 }
 

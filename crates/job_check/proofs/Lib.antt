@@ -1,7 +1,6 @@
 mod Acting
 mod FirstTurn
 mod Histories
-mod ImagesSound
 mod LinesBegun
 mod Listed
 mod Lists

@@ -1,5 +1,4 @@
 pub mod Histories
-pub mod Jobs
 pub mod Lines
 pub mod Progress
 pub mod Running

@@ -12,9 +12,6 @@
 //!     add $1, %rdx                    unclean t1 l1 at 0000000000400013 undefined
 //! ```
 //!
-//! [`verdict_of`] answers the same from a job's images as `job_link` has read them: it makes ready what `meant_images`
-//! keeps of each, and asks [`check_job`]. The images have to link, and then they are sound enough to mean something.
-//!
 //! **A step** (`step`) asks its questions in the order of the definition. An unclean one has no effect.
 //!
 //! 1. Does a sequence begin here? It is one step (`sequence`). One that asks for a variable of an instance that came
@@ -36,7 +33,6 @@
 #![tactic(auto)]
 
 mod check;
-mod images;
 mod lines;
 mod live;
 mod plain;
@@ -48,5 +44,4 @@ mod turns;
 mod verdict;
 
 pub use check::check_job;
-pub use images::verdict_of;
 pub use verdict::verdict_text;

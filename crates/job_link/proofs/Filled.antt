@@ -1,6 +1,6 @@
 -- Images that are read one after another.
 use Rattle.std.proofs.Common.{◌≡◌, ◌∙◌, ◌+◌, ◌-◌, ◌<◌, ◌≤◌, inl, inr, ℕ, zero, suc, List, [], ◌∷◌, ◌++◌, Some, Bor}
-use Rattle.std.proofs.Common.{map, sym, ap, subst, append_assoc, length, take, drop, get_or, set, arith}
+use Rattle.std.proofs.Common.{refl, map, sym, ap, subst, append_assoc, length, take, drop, get_or, set, arith}
 use Rattle.std.specs.Prelude.{slice_get}
 use Rattle.std.specs.List.{All, Contains}
 use Rattle.std.proofs.lemmas.Bool.{cases_eq, cases_lt}
@@ -17,7 +17,7 @@ use Rattle.job_link.specs.declared.reading.ReadRefusal.{ReadRefusal}
 use Rattle.job_link.specs.declared.reading.ReadRefusal.TheVariants as unread
 use Rattle.job_link.specs.Given.{AreGiven, Given, IsFileFault, IsGiven, IsSound}
 use Rattle.job_link.specs.Mentions.{mentions_of}
-use Rattle.job_link.specs.Reads.{kinds_of, objects_of, read_refusal_of, IsReadIn, IsRefusalIn}
+use Rattle.job_link.specs.Reads.{kinds_of, objects_of, read_refusal_of, IsReadIn, IsRefusalIn, IsRefusalOf}
 use Rattle.job_link.specs.Refusals.{IsReadRefusal}
 
 -- ** images
@@ -145,16 +145,21 @@ sound_before bytes xs all k other e =
     subst (λ (name : List ℕ). IsSound (bytes name)) (get_or_from_slice_get xs k other other e)
     (All-get_or (λ name. IsSound (bytes name)) xs k other (slice_get_within xs k other e) all)
 
--- an object behind sound ones
-pub refused_at : (bytes : List ℕ → List ℕ) (names : List (List ℕ)) (i : ℕ) (name : Bor (List ℕ)) (fault : ObjectFault)
-    → i < length names → name.now ≡ get_or names i name.now
-    → All (λ name. IsSound (bytes name)) (take i names) → IsFileFault (bytes name.now) fault
-    → IsRefusalIn bytes names (read_refusal_of name fault)
-refused_at bytes names i name object.OutOfMemory inside is sound here = tt
-refused_at bytes names i name (object.At section entry kind) inside is sound here = record {
+-- what is told of a file by its fault
+pub told_of : (bytes : List ℕ → List ℕ) (name : Bor (List ℕ)) (fault : ObjectFault) → IsFileFault (bytes name.now) fault
+    → IsRefusalOf bytes name.now (read_refusal_of name fault)
+told_of bytes name object.OutOfMemory here = tt
+told_of bytes name (object.At section entry kind) here = (refl, here)
+
+-- a refusal behind sound objects
+pub refused_at : (bytes : List ℕ → List ℕ) (names : List (List ℕ)) (i : ℕ) (refusal : ReadRefusal)
+    → i < length names → All (λ name. IsSound (bytes name)) (take i names)
+    → IsRefusalOf bytes (get_or names i []) refusal → IsRefusalIn bytes names refusal
+refused_at bytes names i unread.OutOfMemory inside sound here = tt
+refused_at bytes names i (unread.At name section entry kind) inside sound here = record {
   at = i;
-  there = slice_get-get_or names i name.now inside ∙ ap Some (sym is);
-  here = here;
+  there = slice_get-get_or names i [] inside ∙ ap Some (sym here.0);
+  here = subst (λ (n : List ℕ). IsFileFault (bytes n) (object.At section entry kind)) (sym here.0) here.1;
   before = λ k other less e. sound_before bytes (take i names) sound k other (up_to k other less e);
 }
   where

@@ -1,5 +1,6 @@
 -- Objects that are read one after another.
 use Rattle.std.specs.Prelude.{◌≡◌, ◌+◌, ◌<◌, ℕ, List, [], Some, length, map, slice_get, slice_index_or}
+use Rattle.std.specs.Prelude.{MatchResult, Result}
 use Rattle.std.specs.Borrow.{Bor}
 use Rattle.std.specs.List.{All, Contains}
 use Rattle.object_rules.specs.declared.fault.FaultKind.{FaultKind}
@@ -8,6 +9,8 @@ use Rattle.object_rules.specs.declared.fault.ObjectFault.TheVariants as object
 use Rattle.link_faults.specs.declared.image_kind.ImageKind.{ImageKind}
 use Rattle.job_text.specs.declared.images.Image.{Image}
 use Rattle.job_text.specs.Jobs.{JobParts}
+use Rattle.sequence_match.specs.Faults.{AreSites}
+use Rattle.job_link.specs.declared.images.ReadObject.{ReadObject}
 use Rattle.job_link.specs.declared.reading.ReadRefusal.{ReadRefusal}
 use Rattle.job_link.specs.declared.reading.ReadRefusal.TheVariants as unread
 use Rattle.job_link.specs.Given.{Given, IsFileFault, IsGiven, IsSound}
@@ -24,6 +27,18 @@ pub record IsFirstIn (bytes : List ℕ → List ℕ) (names : List (List ℕ)) (
 abbrev pub IsRefusalIn : (List ℕ → List ℕ) → List (List ℕ) → ReadRefusal → Type 0
 IsRefusalIn bytes names unread.OutOfMemory = Unit {0}
 IsRefusalIn bytes names (unread.At name section entry kind) = IsFirstIn bytes names name.now section entry kind
+
+-- what is told of the file of this name; of want of memory nothing
+abbrev pub IsRefusalOf : (List ℕ → List ℕ) → List ℕ → ReadRefusal → Type 0
+IsRefusalOf bytes name unread.OutOfMemory = Unit {0}
+IsRefusalOf bytes name (unread.At told section entry kind) =
+    (told.now ≡ name) × IsFileFault (bytes name) (object.At section entry kind)
+
+-- what comes of reading the file of this name
+abbrev pub IsReading : (List ℕ → List ℕ) → List ℕ → Result ReadObject ReadRefusal → Type 0
+IsReading bytes name came = MatchResult came
+    (λ read. (read.object ≡ bytes name) × AreSites (bytes name) read.sites.items × IsSound (bytes name))
+    (IsRefusalOf bytes name)
 
 -- what is told of an object of this name that has this fault
 abbrev pub read_refusal_of : Bor (List ℕ) → ObjectFault → ReadRefusal

@@ -23,6 +23,9 @@ fn are_small(bytes: &[u8])
     ensures { All (λ (byte : ℕ). byte < 256) bytes.now }
 {}
 
+/// How many bytes of objects are worth a thread of their own.
+const WORTH_A_THREAD: usize = 1 << 18;
+
 /// The files of a job's objects, in one buffer. Contracts see each name with its bytes.
 #[derive(Drop)]
 pub struct Files<'j> {
@@ -74,6 +77,12 @@ impl<'j> Files<'j> {
             Some(place) => &self.bytes[place.start..place.end],
             None => &[],
         }
+    }
+
+    /// How many files of the mean size are worth a thread of their own, at least one.
+    pub(crate) fn share(&self) -> usize {
+        let mean = self.bytes.as_slice().len() / self.places.len().max(1);
+        WORTH_A_THREAD / mean.max(1) + 1
     }
 
     /// Files hold bytes, numbers below 256. The call only tells a proof so.

@@ -1,6 +1,6 @@
 //! The objects of an image.
 
-ghost use Rattle.std.specs.Prelude.{◌≡◌, [], ◌∷◌, ◌++◌, IfErr, OnOk, map};
+ghost use Rattle.std.specs.Prelude.{◌≡◌, [], ◌∷◌, ◌++◌, IfErr, IfOk, OnOk, map};
 ghost use Rattle.sequence_match.specs.Faults.{AreSites};
 ghost use Rattle.job_link.specs.Given.{IsFileFault, IsGiven, IsSound};
 
@@ -9,6 +9,32 @@ use link_faults::ImageKind;
 use sequence_match::{Site, sites};
 use std::alloc::{AllocError, Global};
 use std::marker::Model;
+
+/// An object that was read, with its sequences.
+#[derive(Drop)]
+pub(crate) struct ReadObject<'a> {
+    object: Object<'a>,
+    sites: Vec<Site>,
+}
+
+impl<'a> ReadObject<'a> {
+    /// Reads the object of these bytes, or answers its first fault, those of its sequences last.
+    pub(crate) fn read(alloc: Global, bytes: &'a [u8]) -> Result<ReadObject<'a>, ObjectFault>
+        ensures object { IfOk result (λ read. read.object ≡ bytes.now) }
+        ensures sites { IfOk result (λ read. AreSites bytes.now read.sites.items) }
+        ensures sound { OnOk result (IsSound bytes.now) }
+        ensures fault { IfErr result (IsFileFault bytes.now) }
+    {
+        let object = match Object::read(alloc, bytes) {
+            Ok(object) => object,
+            Err(fault) => return Err(fault),
+        };
+        match sites(alloc, &object) {
+            Ok(sites) => Ok(ReadObject { object, sites }),
+            Err(fault) => Err(fault),
+        }
+    }
+}
 
 /// The objects of an image of a job, each with its sequences.
 #[derive(Drop)]
@@ -74,37 +100,18 @@ impl<'a> ImageObjects<'a> {
         self.sites.as_slice()
     }
 
-    /// Adds the object of these bytes, or answers its first fault, those of its sequences last.
-    pub(crate) fn push(&mut self, alloc: Global, bytes: &'a [u8]) -> Result<(), ObjectFault>
+    /// Adds an object with its sequences.
+    pub(crate) fn push(&mut self, read: ReadObject<'a>) -> Result<(), AllocError>
+        requires sound { IsSound read.object }
+        requires sites { AreSites read.object read.sites.items }
         ensures kind { self.new.kind ≡ self.old.kind }
-        ensures objects { OnOk result (self.new.objects ≡ self.old.objects ++ bytes.now ∷ []) }
-        ensures given { OnOk result (IsGiven self.new) }
-        ensures sound { OnOk result (IsSound bytes.now) }
-        ensures fault { IfErr result (IsFileFault bytes.now) }
-    {
-        let object = match Object::read(alloc, bytes) {
-            Ok(object) => object,
-            Err(fault) => return Err(fault),
-        };
-        let own = match sites(alloc, &object) {
-            Ok(own) => own,
-            Err(fault) => return Err(fault),
-        };
-        Ok(self.add(object, own)?)
-    }
-
-    /// Adds an object and its sequences.
-    fn add(&mut self, object: Object<'a>, own: Vec<Site>) -> Result<(), AllocError>
-        requires sound { IsSound object }
-        requires sites { AreSites object own.items }
-        ensures kind { self.new.kind ≡ self.old.kind }
-        ensures objects { OnOk result (self.new.objects ≡ self.old.objects ++ object.entry ∷ []) }
+        ensures objects { OnOk result (self.new.objects ≡ self.old.objects ++ read.entry.object ∷ []) }
         ensures given { IsGiven self.new }
     {
         self.objects.reserve(1)?;
         self.sites.reserve(1)?;
-        self.objects.push(object).unwrap();
-        self.sites.push(own).unwrap();
+        self.objects.push(read.object).unwrap();
+        self.sites.push(read.sites).unwrap();
         Ok(())
     }
 }

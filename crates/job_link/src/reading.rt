@@ -1,18 +1,21 @@
 //! The objects of all images of a job, read.
 
 ghost use Rattle.std.specs.Prelude.{◌≡◌, ◌<◌, All, IfErr, IfOk, OnOk, length, map, slice_set};
+ghost use Rattle.std.specs.List.{AllZip};
 ghost use Rattle.job_text.specs.declared.images.Image.{Image as DeclaredImage};
 ghost use Rattle.job_link.specs.Given.{AreGiven, Given, IsGiven, IsSound};
 ghost use Rattle.job_link.specs.Mentions.{bytes_in};
-ghost use Rattle.job_link.specs.Reads.{kinds_of, read_refusal_of, IsRefusalIn};
+ghost use Rattle.job_link.specs.Reads.{kinds_of, read_refusal_of, IsReading, IsRefusalIn};
 ghost use Rattle.job_link.specs.Refusals.{IsReadRefusal};
 
 use crate::fetching::Files;
-use crate::images::ImageObjects;
+use crate::images::{ImageObjects, ReadObject};
 use elf_object::{FaultKind, ObjectFault};
-use job_text::{Image, Job};
+use job_text::{Image, Job, Name};
+use rayon::prelude::*;
 use std::alloc::{AllocError, Global};
 use std::mem;
+use std::thread::Threads;
 
 /// Why the objects of a job are not read.
 #[derive(Clone, Copy)]
@@ -71,8 +74,43 @@ fn refused(name: &str, fault: ObjectFault) -> ReadRefusal<'_>
     }
 }
 
+/// Reads the object of this name.
+fn read_object<'j, 'a>(
+    alloc: Global,
+    name: &'j str,
+    files: &'a Files,
+) -> Result<ReadObject<'a>, ReadRefusal<'j>>
+    ensures { IsReading (bytes_in files.now) name.now result }
+{
+    match ReadObject::read(alloc, files.file(name)) {
+        Ok(read) => Ok(read),
+        Err(fault) => Err(refused(name, fault)),
+    }
+}
+
+/// Reads the objects of these names. What one says hangs on no other, so that threads share them.
+fn read_each<'j, 'a, R: Threads + Sync>(
+    rt: &R,
+    alloc: Global,
+    names: &'j [Name],
+    files: &'a Files,
+) -> Result<Vec<Result<ReadObject<'a>, ReadRefusal<'j>>>, AllocError>
+    ensures { IfOk result (λ readings. AllZip (IsReading (bytes_in files.now)) names.now readings.items) }
+{
+    names
+        .par_iter()
+        .with_min_len(files.share())
+        .map(
+            |name: &Name| -> Result<ReadObject, ReadRefusal>
+                ensures { IsReading (bytes_in files.entry.now) name.entry.now result }
+            { read_object(alloc, name.as_str(), files) },
+        )
+        .collect(rt, alloc)
+}
+
 /// The objects of an image, or the first that has a fault.
-fn read_image<'j, 'a>(
+fn read_image<'j, 'a, R: Threads + Sync>(
+    rt: &R,
     alloc: Global,
     image: &'j Image,
     files: &'a Files,
@@ -83,12 +121,12 @@ fn read_image<'j, 'a>(
     ensures sound { OnOk result (All (λ name. IsSound (bytes_in files.now name)) image.now.objects) }
     ensures refused { IfErr result (IsRefusalIn (bytes_in files.now) image.now.objects) }
 {
+    let readings = read_each(rt, alloc, image.objects.as_slice(), files)?;
     let mut read = ImageObjects::new(alloc, image.kind);
-    for object in image.objects.as_slice() {
-        let name = object.as_str();
-        match read.push(alloc, files.file(name)) {
-            Ok(()) => {}
-            Err(fault) => return Err(refused(name, fault)),
+    for reading in readings {
+        match reading {
+            Ok(object) => read.push(object)?,
+            Err(refusal) => return Err(refusal),
         }
     }
     Ok(read)
@@ -103,8 +141,9 @@ fn put<'a>(images: &mut Vec<ImageObjects<'a>>, at: usize, read: ImageObjects<'a>
 }
 
 /// The objects of all images of a job, which stand in image order. They are read in the order in which the job mentions
-/// them, and the first that has a fault is answered.
-pub fn read_objects<'j, 'a>(
+/// them, and the first that has a fault is answered. Threads share the objects of an image.
+pub fn read_objects<'j, 'a, R: Threads + Sync>(
+    rt: &R,
     alloc: Global,
     job: &'j Job,
     files: &'a Files,
@@ -114,7 +153,7 @@ pub fn read_objects<'j, 'a>(
 {
     let mut images = empty_images(alloc, job)?;
     for number in job.mentions() {
-        match read_image(alloc, job.image(*number), files) {
+        match read_image(rt, alloc, job.image(*number), files) {
             Ok(read) => put(&mut images, *number as usize - 1, read),
             Err(refusal) => return Err(refusal),
         }

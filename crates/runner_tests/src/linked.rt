@@ -19,6 +19,7 @@ use loaded_modules::laws::late_images_come_last;
 use sample_objects::store;
 use std::alloc::{AllocError, Global};
 use std::test::Fail;
+use std::thread::Threads;
 
 /// An image as it is read from the file that is written of it.
 fn image_again(alloc: Global, linked: Linked) -> Result<Image, AllocError>
@@ -78,24 +79,29 @@ fn from_objects(alloc: Global, job: &Job, objects: &[ImageObjects]) -> Result<Mo
 }
 
 /// The images of a job that has these files.
-fn from_files(alloc: Global, job: &Job, files: &Files) -> Result<Modules, Fail>
+fn from_files<R: Threads + Sync>(
+    rt: &R,
+    alloc: Global,
+    job: &Job,
+    files: &Files,
+) -> Result<Modules, Fail>
     requires { LateLast (map (λ image. image.kind) job.now.images) }
     ensures { IfOk result (λ modules. modules.kinds ≡ map (λ image. image.kind) job.now.images) }
 {
-    match read_objects(alloc, job, files) {
+    match read_objects(rt, alloc, job, files) {
         Ok(objects) => from_objects(alloc, job, objects.as_slice()),
         Err(_) => Err("an object is not in order")?,
     }
 }
 
 /// The images of a job whose objects the tests have.
-pub fn modules_of(alloc: Global, job: &Job) -> Result<Modules, Fail>
+pub fn modules_of<R: Threads + Sync>(rt: &R, alloc: Global, job: &Job) -> Result<Modules, Fail>
     requires { LateLast (map (λ image. image.kind) job.now.images) }
     ensures { IfOk result (λ modules. modules.kinds ≡ map (λ image. image.kind) job.now.images) }
 {
     let mut store = store(alloc)?;
     match fetch_objects(alloc, &mut store, job) {
-        Ok(files) => from_files(alloc, job, &files),
+        Ok(files) => from_files(rt, alloc, job, &files),
         Err(_) => Err("an object is missing")?,
     }
 }

@@ -5,15 +5,16 @@ use crate::stage::Stage;
 use std::alloc::Global;
 use std::process::Abort;
 use std::test::Fail;
+use std::thread::Threads;
 use thread_space::JobNames;
 
 /// A job, whose `order` has each turn, and what the threads say.
 type Row = (&'static [u8], &'static str);
 
 /// What the threads of a job say after the turns of its order.
-fn said(alloc: Global, text: &[u8]) -> Result<String, Fail> {
+fn said<R: Threads + Sync>(rt: &R, alloc: Global, text: &[u8]) -> Result<String, Fail> {
     let job = job_of(alloc, text)?;
-    let modules = modules_of(alloc, &job)?;
+    let modules = modules_of(rt, alloc, &job)?;
     let names = JobNames::new(alloc, &modules)?;
     let mut stage = Stage::new(alloc, &job, &modules, &names)?;
     for thread in job.order() {
@@ -22,9 +23,9 @@ fn said(alloc: Global, text: &[u8]) -> Result<String, Fail> {
     stage.said(alloc, &job)
 }
 
-fn check(rt: &impl Abort, alloc: Global, rows: &[Row]) -> Result<(), Fail> {
+fn check<R: Threads + Sync + Abort>(rt: &R, alloc: Global, rows: &[Row]) -> Result<(), Fail> {
     for (job, want) in rows {
-        let found = said(alloc, job)?;
+        let found = said(rt, alloc, job)?;
         assert!(rt; found.as_str() == *want, "{found}");
     }
     Ok(())

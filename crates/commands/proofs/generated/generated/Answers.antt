@@ -7,7 +7,7 @@ use Rattle.commands.proofs.Stages.{items}
 use Rattle.commands.proofs.generated.generated.Goals as goal
 
 pub returns-in-Ok-clause-says : goal.returns-in-Ok-clause-says
-returns-in-Ok-clause-says c =
+returns-in-Ok-clause-says g c =
     let job = sym (ap job_of (c.as_slice.ensures.value ∙ c.in_ok-text.ensures)) ∙ c.in-Ok.ensures.job in
     never_refused_comes c.generated_texts_are_jobs.ensures c.generated_objects_are_faultless.ensures c.generated_objects_link.ensures
     c.args.count c.requires.some c.requires.few c.run_generated.result

@@ -1,58 +1,89 @@
-use Rattle.std.proofs.Common.{◌≡◌, ◌∙◌, ◌+◌, ◌<◌, ◌∷◌, ◌++◌, [], List, ℕ, get_or, length, map, take, sym, ap, subst}
-use Rattle.std.proofs.Common.{arith}
+use Rattle.std.proofs.Common.{◌≡◌, ◌∙◌, ◌∷◌, ◌++◌, [], List, ℕ, get_or, length, map, take, rules, sym, ap, subst, arith}
 use Rattle.std.specs.List.{All}
-use Rattle.std.proofs.lemmas.List.{get_or_read, map-append, take_all}
+use Rattle.std.proofs.lemmas.List.{length_push, map-append, take_more}
 use Rattle.std.proofs.lemmas.List.Elements.{All-push}
-use Rattle.job_link.specs.Given.{IsFileFault, IsSound}
+use Rattle.sequence_match.specs.Faults.{AreSites}
+use Rattle.job_link.specs.Given.{IsSound}
 use Rattle.job_link.specs.Mentions.{bytes_in}
-use Rattle.job_link.specs.Reads.{read_refusal_of, IsRefusalIn}
+use Rattle.job_link.specs.Reads.{IsReading}
 use Rattle.job_link.proofs.Filled.{refused_at}
-use Rattle.job_link.proofs.Unseen.{one_more}
+use Rattle.job_link.proofs.Read.{as_many, given_count, next_of}
 use Rattle.job_link.proofs.reading.read_image.Goals as goal
 
-pub returns-in-Err-clause-refused : goal.returns-in-Err-clause-refused
-returns-in-Err-clause-refused c =
-    let items = c.as_slice-object-items.result.now in
-    let i = c.loop-object.object-index in
-    let name = c.as_str-name.result in
+pub push-requires-clause-sound : goal.push-requires-clause-sound
+push-requires-clause-sound g c =
     let bytes = bytes_in c.args.files.now in
-    let inside : i < length items = omega arith in
-    let is : name.now ≡ get_or items i name.now = c.as_str-name.ensures
-    ∙ get_or_read items i c.object-item.result inside c.object-item.is name.now in
-    let here : IsFileFault (bytes name.now) c.in-Err.fault =
-    subst (λ (b : List ℕ). IsFileFault b c.in-Err.fault) c.file.ensures c.in-Err.ensures.fault in
-    subst (IsRefusalIn bytes c.args.image.now.objects) (sym c.refused.ensures)
-    (subst (λ (names : List (List ℕ)). IsRefusalIn bytes names (read_refusal_of name c.in-Err.fault))
-    c.loop-object.invariant.items
-    (refused_at bytes items i name c.in-Err.fault inside is c.loop-object.invariant.sound here))
+    let read = next_of (IsReading bytes) c.args.image.now.objects c.into_iter-reading-iterator.result c.loop-reading.reading-iterator
+    c.next.new.self c.loop-reading.yielded c.in-Some.reading [] (search rules) c.loop-reading.yielded_by c.in-Some.ensures.steps.0 in
+    let its = subst (IsReading bytes (get_or c.args.image.now.objects (length c.loop-reading.yielded) [])) c.in-Ok.is read.1 in
+    subst (λ (b : List ℕ). IsSound b) (sym its.0) its.2
 
-pub loop-object-preserved : goal.loop-object-preserved
-loop-object-preserved c =
-    let items = c.as_slice-object-items.result.now in
-    let i = c.loop-object.object-index in
-    let name = c.as_str-name.result.now in
+pub push-requires-clause-sites : goal.push-requires-clause-sites
+push-requires-clause-sites g c =
     let bytes = bytes_in c.args.files.now in
-    let inside : i < length items = omega arith in
-    let is : name ≡ get_or items i name = c.as_str-name.ensures
-    ∙ get_or_read items i c.object-item.result inside c.object-item.is name in
-    let more : take (i + 1) items ≡ take i items ++ name ∷ [] = one_more items i name is inside in
+    let read = next_of (IsReading bytes) c.args.image.now.objects c.into_iter-reading-iterator.result c.loop-reading.reading-iterator
+    c.next.new.self c.loop-reading.yielded c.in-Some.reading [] (search rules) c.loop-reading.yielded_by c.in-Some.ensures.steps.0 in
+    let its = subst (IsReading bytes (get_or c.args.image.now.objects (length c.loop-reading.yielded) [])) c.in-Ok.is read.1 in
+    subst (λ (b : List ℕ). AreSites b c.in-Ok.object.sites.items) (sym its.0) its.1
+
+pub loop-reading-preserved : goal.loop-reading-preserved
+loop-reading-preserved g c =
+    let bytes = bytes_in c.args.files.now in
+    let names = c.args.image.now.objects in
+    let i = length c.loop-reading.yielded in
+    let name = get_or names i [] in
+    let read = next_of (IsReading bytes) names c.into_iter-reading-iterator.result c.loop-reading.reading-iterator
+    c.next.new.self c.loop-reading.yielded c.in-Some.reading [] (search rules) c.loop-reading.yielded_by c.in-Some.ensures.steps.0 in
+    let its = subst (IsReading bytes name) c.in-Ok.is read.1 in
+    let more : take (length (c.loop-reading.yielded ++ c.in-Some.reading ∷ [])) names ≡ take i names ++ name ∷ [] =
+    ap (λ n. take n names) (length_push c.loop-reading.yielded c.in-Some.reading) ∙ take_more names i [] read.0 in
     record {
-      items = c.loop-object.invariant.items;
-      kind = c.in-Ok.ensures.kind ∙ c.loop-object.invariant.kind;
+      kind = c.push.ensures.kind ∙ c.loop-reading.invariant.kind;
       objects =
-          c.in-Ok.ensures.objects
-          ∙ ap (λ (os : List (List ℕ)). os ++ c.file.result.now ∷ []) c.loop-object.invariant.objects
-          ∙ ap (λ (b : List ℕ). map bytes (take i items) ++ b ∷ []) c.file.ensures
-          ∙ sym (map-append bytes (take i items) (name ∷ [])) ∙ ap (map bytes) (sym more);
-      given = c.in-Ok.ensures.given;
+          c.in_ok-push-in-Ok.ensures.objects
+          ∙ ap (λ (os : List (List ℕ)). os ++ c.in-Ok.object.object ∷ []) c.loop-reading.invariant.objects
+          ∙ ap (λ (b : List ℕ). map bytes (take i names) ++ b ∷ []) its.0
+          ∙ sym (map-append bytes (take i names) (name ∷ [])) ∙ ap (map bytes) (sym more);
+      given = c.push.ensures.given;
       sound =
           subst (λ (ns : List (List ℕ)). All (λ name. IsSound (bytes name)) ns) (sym more)
-          (All-push (λ name. IsSound (bytes name)) (take i items) name c.loop-object.invariant.sound
-          (subst (λ (b : List ℕ). IsSound b) c.file.ensures c.in-Ok.ensures.sound));
+          (All-push (λ name. IsSound (bytes name)) (take i names) name c.loop-reading.invariant.sound its.2);
     }
 
+pub returns-in-Err-clause-refused : goal.returns-in-Err-clause-refused
+returns-in-Err-clause-refused g c =
+    let bytes = bytes_in c.args.files.now in
+    let names = c.args.image.now.objects in
+    let i = length c.loop-reading.yielded in
+    let read = next_of (IsReading bytes) names c.into_iter-reading-iterator.result c.loop-reading.reading-iterator
+    c.next.new.self c.loop-reading.yielded c.in-Some.reading [] (search rules) c.loop-reading.yielded_by c.in-Some.ensures.steps.0 in
+    refused_at bytes names i c.in-Err.refusal read.0 c.loop-reading.invariant.sound
+    (subst (IsReading bytes (get_or names i [])) c.in-Err.is read.1)
+
+pub returns-clause-objects : goal.returns-clause-objects
+returns-clause-objects g c =
+    let all : length c.loop-reading.yielded ≡ length c.in_ok-readings.readings.items =
+    omega (
+      arith,
+      given_count c.loop-reading.yielded c.into_iter-reading-iterator.result c.loop-reading.reading-iterator c.loop-reading.yielded_by,
+      c.into_iter-reading-iterator.ensures.into_iter_gives.1,
+      c.in-None.ensures.steps.0,
+      c.in_ok-readings.readings.ok,
+    ) in
+    c.loop-reading.invariant.objects
+    ∙ ap (map (bytes_in c.args.files.now)) (as_many (IsReading (bytes_in c.args.files.now)) c.args.image.now.objects
+    c.in_ok-readings.readings.items c.loop-reading.yielded (search rules) all)
+
 pub returns-clause-sound : goal.returns-clause-sound
-returns-clause-sound c =
+returns-clause-sound g c =
+    let all : length c.loop-reading.yielded ≡ length c.in_ok-readings.readings.items =
+    omega (
+      arith,
+      given_count c.loop-reading.yielded c.into_iter-reading-iterator.result c.loop-reading.reading-iterator c.loop-reading.yielded_by,
+      c.into_iter-reading-iterator.ensures.into_iter_gives.1,
+      c.in-None.ensures.steps.0,
+      c.in_ok-readings.readings.ok,
+    ) in
     subst (λ (ns : List (List ℕ)). All (λ name. IsSound (bytes_in c.args.files.now name)) ns)
-    (take_all c.loop-object.object-index c.as_slice-object-items.result.now c.loop-object-test.false
-    ∙ c.loop-object.invariant.items) c.loop-object.invariant.sound
+    (as_many (IsReading (bytes_in c.args.files.now)) c.args.image.now.objects c.in_ok-readings.readings.items
+    c.loop-reading.yielded (search rules) all) c.loop-reading.invariant.sound

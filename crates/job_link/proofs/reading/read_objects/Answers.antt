@@ -12,7 +12,7 @@ use Rattle.job_link.proofs.Unseen.{mentions_are, names_around, names_more, numbe
 use Rattle.job_link.proofs.reading.read_objects.Goals as goal
 
 pub returns-in-Err-clause-refused : goal.returns-in-Err-clause-refused
-returns-in-Err-clause-refused c =
+returns-in-Err-clause-refused g c =
     let job = c.args.job.now in
     let items = c.mentions-number-items.result.now in
     let i = c.loop-number.number-index in
@@ -26,7 +26,7 @@ returns-in-Err-clause-refused c =
     c.loop-number.invariant.sound c.in-Err.ensures.refused
 
 pub loop-number-preserved : goal.loop-number-preserved
-loop-number-preserved c =
+loop-number-preserved g c =
     let job = c.args.job.now in
     let bytes = bytes_in c.args.files.now in
     let items = c.mentions-number-items.result.now in
@@ -54,7 +54,7 @@ loop-number-preserved c =
     }
 
 pub returns-clause-read : goal.returns-clause-read
-returns-clause-read c =
+returns-clause-read g c =
     let items = c.mentions-number-items.result.now in
     let i = c.loop-number.number-index in
     let all : take i items ≡ items = take_all i items c.loop-number-test.false in

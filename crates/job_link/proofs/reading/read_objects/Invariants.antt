@@ -7,7 +7,7 @@ use Rattle.job_link.specs.Walks.{names_in}
 use Rattle.job_link.proofs.reading.read_objects.Given as goal
 
 abbrev pub invariant-loop-number : goal.invariant-loop-number
-invariant-loop-number l = record {
+invariant-loop-number g l = record {
   items : l.number-items ≡ l.job.mentions;
   read : IsReadIn (bytes_in l.files) l.job (take l.number-index l.number-items) l.images.items;
   sound : All (λ name. IsSound (bytes_in l.files name)) (names_in l.job (take l.number-index l.number-items));

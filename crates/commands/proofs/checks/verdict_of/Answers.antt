@@ -2,8 +2,8 @@ use Rattle.std.proofs.Common.{◌∙◌, ◌≤◌, List, length, map, subst, sy
 use Rattle.job_text.specs.LateImages.{LateLast}
 use Rattle.link_needs.specs.Linking.{Linking}
 use Rattle.meant_images.specs.Images.{AreSound}
-use Rattle.job_check.proofs.ImagesSound.{are_sound, count_is, few_linked, late_last, some_linked}
-use Rattle.job_check.proofs.images.verdict_of.Goals as goal
+use Rattle.commands.proofs.ImagesSound.{are_sound, count_is, few_linked, late_last, some_linked}
+use Rattle.commands.proofs.checks.verdict_of.Goals as goal
 
 pub prepare_images-requires-clause-few : goal.prepare_images-requires-clause-few
 prepare_images-requires-clause-few c =
