@@ -5,7 +5,7 @@
 //!
 //! 1. [`fetch_objects`] asks a store for each object file, and keeps the bytes of all of them in one buffer.
 //! 2. [`read_objects`] reads the objects of each image, and finds the sequences of code that reach thread-local
-//!    storage.
+//!    storage. Threads share them, and what each says is taken in order.
 //! 3. [`link_images`] links each image beside the names that the startup images export: the program, and the modules
 //!    that start with it.
 //! 4. [`prepare_images`] gives of each image that links what is known before its fields are filled in, beside the same
