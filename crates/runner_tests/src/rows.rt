@@ -227,7 +227,7 @@ fn sixty_four_threads_have_their_own(rt: HostRuntime) -> Result<(), Fail> {
             "t{thread} l1 g0 = 0000{thread:02x}3ffffffff8\nt{thread} l2 g0 bytes {thread:02x}\n"
         )?;
     }
-    let found = said(alloc, job.as_bytes())?;
+    let found = said(&rt, alloc, job.as_bytes())?;
     assert!(rt; found.as_str() == want.as_str(), "{found}");
     Ok(())
 }
