@@ -47,7 +47,7 @@ fn close(
 }
 
 /// The answer to what a thread asks; an open or a close that is accepted stands in the history then.
-pub fn answer(
+pub(crate) fn answer(
     registry: &mut Registry,
     thread: u32,
     ask: Ask,

@@ -43,7 +43,7 @@ fn images_again(alloc: Global, all: Vec<Linked>) -> Result<Vec<Image>, AllocErro
 }
 
 /// A job that is in order.
-pub fn job_of(alloc: Global, text: &[u8]) -> Result<Job, Fail>
+pub(crate) fn job_of(alloc: Global, text: &[u8]) -> Result<Job, Fail>
     ensures { IfOk result (λ job. LateLast (map (λ image. image.kind) job.images)) }
 {
     late_images_come_last();
@@ -95,7 +95,11 @@ fn from_files<R: Threads + Sync>(
 }
 
 /// The images of a job whose objects the tests have.
-pub fn modules_of<R: Threads + Sync>(rt: &R, alloc: Global, job: &Job) -> Result<Modules, Fail>
+pub(crate) fn modules_of<R: Threads + Sync>(
+    rt: &R,
+    alloc: Global,
+    job: &Job,
+) -> Result<Modules, Fail>
     requires { LateLast (map (λ image. image.kind) job.now.images) }
     ensures { IfOk result (λ modules. modules.kinds ≡ map (λ image. image.kind) job.now.images) }
 {

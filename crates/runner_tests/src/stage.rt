@@ -101,7 +101,7 @@ fn take_turn<'j, 'n, 'm>(
 
 impl<'j, 'n, 'm> Stage<'j, 'n, 'm> {
     /// The threads of a job before their first turns.
-    pub fn new(
+    pub(crate) fn new(
         alloc: Global,
         job: &'j Job,
         modules: &'m Modules,
@@ -125,7 +125,7 @@ impl<'j, 'n, 'm> Stage<'j, 'n, 'm> {
     }
 
     /// The next turn of a thread, which has one. A refusal drops the stage.
-    pub fn turn(self, thread: u32) -> Result<Stage<'j, 'n, 'm>, Fail> {
+    pub(crate) fn turn(self, thread: u32) -> Result<Stage<'j, 'n, 'm>, Fail> {
         let Stage {
             modules,
             mut registry,
@@ -151,7 +151,7 @@ impl<'j, 'n, 'm> Stage<'j, 'n, 'm> {
     }
 
     /// What the threads said of their lines, as text.
-    pub fn said(self, alloc: Global, job: &Job) -> Result<String, Fail> {
+    pub(crate) fn said(self, alloc: Global, job: &Job) -> Result<String, Fail> {
         let Stage { runners, .. } = self;
         if runners.as_slice().len() > 64 {
             return Err("a job has at most 64 threads")?;
