@@ -177,13 +177,14 @@ fn made<R: Threads + Sync>(
     ensures cause { NoStoreFault result }
 {
     match read_objects(rt, alloc, job, files) {
-        Ok(images) => made_of_images(alloc, job, images.as_slice(), place, wish),
+        Ok(images) => made_of_images(rt, alloc, job, images.as_slice(), place, wish),
         Err(refusal) => Err(unread(alloc, refusal)),
     }
 }
 
 /// What is made of the image at that place, where all these are linked.
-fn made_of_images(
+fn made_of_images<R: Threads>(
+    rt: &R,
     alloc: Global,
     job: &Job,
     images: &[ImageObjects],
@@ -197,7 +198,7 @@ fn made_of_images(
     ensures cause { NoStoreFault result }
 {
     let names = job.images()[place].objects.as_slice();
-    match link_images(alloc, images, wish.relax()) {
+    match link_images(rt, alloc, images, wish.relax()) {
         Ok(mut all) => {
             images_hold_tls();
             sites_have_symbols();

@@ -114,13 +114,14 @@ pub fn told_of_files<R: Threads + Sync>(
 {
     files.are_bytes();
     match read_objects(rt, alloc, job, files) {
-        Ok(images) => told_of_images(alloc, job, images.as_slice(), relax, purpose),
+        Ok(images) => told_of_images(rt, alloc, job, images.as_slice(), relax, purpose),
         Err(refusal) => Err(unread(alloc, refusal)),
     }
 }
 
 /// What is told of a job whose images are these.
-fn told_of_images(
+fn told_of_images<R: Threads>(
+    rt: &R,
     alloc: Global,
     job: &Job,
     images: &[ImageObjects],
@@ -134,7 +135,7 @@ fn told_of_images(
     ensures cause { NoStoreFault result }
 {
     let _images = job.images();
-    match link_images(alloc, images, relax) {
+    match link_images(rt, alloc, images, relax) {
         Ok(all) => match purpose {
             Purpose::Run(telling) => Ok(told_run(alloc, job, all, telling)?),
             Purpose::Check => verdict_line(alloc, job, images, relax),

@@ -82,7 +82,7 @@ impl<'j> Files<'j> {
     /// How many files of the mean size are worth a thread of their own, at least one.
     pub(crate) fn share(&self) -> usize {
         let mean = self.bytes.as_slice().len() / self.places.len().max(1);
-        WORTH_A_THREAD / mean.max(1) + 1
+        WORTH_A_THREAD.div_ceil(mean.max(1))
     }
 
     /// Files hold bytes, numbers below 256. The call only tells a proof so.

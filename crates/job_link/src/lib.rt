@@ -7,7 +7,7 @@
 //! 2. [`read_objects`] reads the objects of each image, and finds the sequences of code that reach thread-local
 //!    storage. Threads share them, and what each says is taken in order.
 //! 3. [`link_images`] links each image beside the names that the startup images export: the program, and the modules
-//!    that start with it.
+//!    that start with it. Two threads share a large one.
 //! 4. [`prepare_images`] gives of each image that links what is known before its fields are filled in, beside the same
 //!    names ([`startup_exports`]). A checker asks what the objects mean, and needs no file of them.
 //!
@@ -16,9 +16,9 @@
 //! user is told of the first line that is wrong; images are linked in image order, in which the loader numbers them.
 //!
 //! The rule that the crate keeps: **each file is fetched once, and each step does what the job says or names the
-//! first thing that stops it.** A step goes through its things in one order and stops at the first that fails: what
-//! stands before it is sound, and nothing behind it is looked at. Want of memory can stop any step, and is its own
-//! answer.
+//! first thing that stops it.** A step goes through its things in one order and tells of the first that fails: what
+//! stands before it is sound, and of what lies behind it nothing is said, though other objects of the same image may
+//! have been read. Want of memory can stop any step, and is its own answer.
 //!
 //! Take a job whose two images share an object:
 //!

@@ -11,6 +11,7 @@ use crate::images::ImageObjects;
 use link_core::{Linked, link};
 use link_faults::{ImageKind, LinkFault, LinkFaultKind};
 use std::alloc::{AllocError, AllocFailed, Global};
+use std::thread::Threads;
 use tls_symbols::{Exports, exports};
 
 /// Why the images of a job do not link.
@@ -77,7 +78,8 @@ pub fn startup_exports<'a>(
 }
 
 /// Links an image beside startup images that export these names.
-fn link_one<'a>(
+fn link_one<'a, R: Threads>(
+    rt: &R,
     alloc: Global,
     image: &ImageObjects<'a>,
     startup: &[Exports<'a>],
@@ -89,6 +91,7 @@ fn link_one<'a>(
     ensures fault { IfErr result (IsLinkFault (link_beside startup.now relax image.now)) }
 {
     link(
+        rt,
         alloc,
         image.objects(),
         image.sites(),
@@ -121,7 +124,8 @@ fn refused(image: usize, fault: LinkFault) -> ImageRefusal
 
 /// Links the images of a job, which stand in image order, or answers the first that does not link. `relax` says whether
 /// sequences may be rewritten.
-pub fn link_images(
+pub fn link_images<R: Threads>(
+    rt: &R,
     alloc: Global,
     images: &[ImageObjects],
     relax: bool,
@@ -134,7 +138,7 @@ pub fn link_images(
     let startup = startup_exports(alloc, images)?;
     let mut all = Vec::with_capacity(alloc, images.len())?;
     for (number, image) in images.iter().enumerate() {
-        match link_one(alloc, image, startup.as_slice(), relax) {
+        match link_one(rt, alloc, image, startup.as_slice(), relax) {
             Ok(linked) => all.push(linked)?,
             Err(fault) => return Err(refused(number, fault)),
         }

@@ -4,8 +4,10 @@ ghost use Rattle.std.specs.Prelude.{◌≡◌, ◌<◌, ◌-◌, ◌^◌, ◌++�
 ghost use Rattle.std.specs.List.{flat_map};
 ghost use Rattle.elf_records.specs.Fields.{bytes_of};
 ghost use Rattle.got_pairs.specs.Entries.{words};
+ghost use Rattle.section_file.specs.Files.{sections_file};
 ghost use Rattle.tls_relocs.specs.Fields.{field_bytes};
 ghost use Rattle.tls_relocs.specs.Laid.{zeros};
+ghost use Rattle.link_needs.specs.Linking.{layout};
 ghost use Rattle.link_core.specs.Bytes.{file as file_of_link, raw_file as raw_file_of};
 ghost use Rattle.link_core.specs.Bytes.{table_bytes, with_got, with_stub};
 ghost use Rattle.link_core.specs.Overflows.{IsFirstOverflow, IsOverflowFault, NoOverflow};
@@ -15,8 +17,7 @@ use elf_object::RelocationKind;
 use got_pairs::{Entry, GotPlan, Need, Word};
 use link_faults::LinkFault;
 use link_needs::Plan;
-use section_file::lay_sections;
-use std::alloc::{AllocError, Global};
+use std::alloc::AllocError;
 use tls_relocs::{Field, value};
 
 /// Puts zeros behind the file, up to an offset.
@@ -103,16 +104,15 @@ fn push_stub(plan: &Plan, file: &mut Vec<u8>) -> Result<(), AllocError>
     }
 }
 
-/// All parts of a link as they lie, before fields are written.
+/// All parts of a link as they lie behind its sections, before fields are written.
 #[tactic(auto, unfolding(crate::specs::Bytes::raw_file))]
-fn raw_file(alloc: Global, plan: &Plan) -> Result<Vec<u8>, AllocError>
+fn raw_file(plan: &Plan, mut sections: Vec<u8>) -> Result<Vec<u8>, AllocError>
+    requires { sections.items ≡ sections_file (layout plan.now) plan.now.objects }
     ensures { IfOk result (λ file. file.items ≡ raw_file_of plan.now) }
 {
-    let inputs = plan.inputs;
-    let mut file = lay_sections(alloc, &inputs.placement, inputs.kind, inputs.objects)?;
-    push_got(plan, &mut file)?;
-    push_stub(plan, &mut file)?;
-    Ok(file)
+    push_got(plan, &mut sections)?;
+    push_stub(plan, &mut sections)?;
+    Ok(sections)
 }
 
 /// Writes all fields and sequences, or answers the first field that does not hold its value.
@@ -130,13 +130,14 @@ fn write_all(plan: &Plan, file: &mut [u8]) -> Result<(), LinkFault>
     Ok(())
 }
 
-/// The file of a link, or the first field that does not hold its value.
-pub fn file_of(alloc: Global, plan: &Plan) -> Result<Vec<u8>, LinkFault>
+/// The file of a link whose sections are laid down, or the first field that does not hold its value.
+pub fn file_of(plan: &Plan, sections: Vec<u8>) -> Result<Vec<u8>, LinkFault>
+    requires { sections.items ≡ sections_file (layout plan.now) plan.now.objects }
     ensures file { IfOk result (λ file. file.items ≡ file_of_link plan.now) }
     ensures fits { OnOk result (NoOverflow plan.now) }
     ensures overflow { IfErr result (IsOverflowFault plan.now) }
 {
-    let mut file = raw_file(alloc, plan)?;
+    let mut file = raw_file(plan, sections)?;
     write_all(plan, file.as_mut_slice())?;
     Ok(file)
 }

@@ -50,6 +50,7 @@
 
 mod draft;
 mod file;
+mod laid;
 pub mod laws;
 mod linked;
 mod linking;

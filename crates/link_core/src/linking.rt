@@ -5,7 +5,8 @@ ghost use Rattle.image_writer.specs.Contents.{contents_of};
 ghost use Rattle.sequence_match.specs.Faults.{AreSites};
 ghost use Rattle.sequence_match.specs.Sites.{HaveSymbols};
 ghost use Rattle.tls_symbols.specs.Bindings.{object_at};
-ghost use Rattle.link_needs.specs.Linking.{link_of};
+ghost use Rattle.section_file.specs.Files.{sections_file};
+ghost use Rattle.link_needs.specs.Linking.{layout, link_of};
 ghost use Rattle.link_core.specs.Bytes.{file as file_of_link};
 ghost use Rattle.link_core.specs.Dynamic.{image_relocations, names, symbols as symbols_of_link};
 ghost use Rattle.link_core.specs.Faults.{IsLinkFault, IsSound, Links};
@@ -17,7 +18,8 @@ ghost use Rattle.link_core.specs.Overflows.{IsOverflowFault, NoOverflow};
 use crate::draft::{file_kind, is_flagged, push_made, section_places, tls_part};
 use crate::file::file_of;
 use crate::linked::Linked;
-use crate::prepared::{Prepared, prepare};
+use crate::laid::{Laid, bind_and_lay};
+use crate::prepared::{Prepared, within_limits};
 use crate::relocation_list::relocations;
 use crate::symbol_list::symbols;
 use elf_object::Object;
@@ -25,9 +27,11 @@ use image_file::{Image, ImageRelocation};
 use image_writer::{Draft, NamedSymbol, PartPlace, image_of};
 use link_faults::{ImageKind, LinkFault};
 use link_needs::{Inputs, Plan, plan_of};
+use link_refusals::ask_kind;
 use relax_sites::Choice;
 use sequence_match::Site;
 use std::alloc::{AllocError, Global};
+use std::thread::Threads;
 use tls_symbols::Exports;
 
 /// What is known of an image before its dynamic tables are laid.
@@ -86,14 +90,20 @@ fn finished(
 }
 
 /// The image of a link that no earlier fault stands in, or the first field that does not hold its value.
-fn image(alloc: Global, plan: &Plan, prepared: &Prepared) -> Result<Image, LinkFault>
+fn image(
+    alloc: Global,
+    plan: &Plan,
+    prepared: &Prepared,
+    sections: Vec<u8>,
+) -> Result<Image, LinkFault>
     requires same { plan.now ≡ prepared.now }
     requires sound { IsSound plan.now }
+    requires laid { sections.items ≡ sections_file (layout plan.now) plan.now.objects }
     ensures image { IfOk result (λ image. image ≡ image_of_link plan.now) }
     ensures fits { OnOk result (NoOverflow plan.now) }
     ensures overflow { IfErr result (IsOverflowFault plan.now) }
 {
-    let file = file_of(alloc, plan)?;
+    let file = file_of(plan, sections)?;
     Ok(finished(alloc, plan, prepared, file)?)
 }
 
@@ -128,15 +138,16 @@ fn choices(alloc: Global, inputs: &Inputs) -> Result<Vec<Vec<Choice>>, AllocErro
 
 /// What a link that no earlier fault stands in gives, or the first field that does not hold its value.
 #[tactic(auto, unfolding(crate::specs::Images::linked_of))]
-fn linked(alloc: Global, prepared: &Prepared) -> Result<Linked, LinkFault>
-    requires { IsSound prepared.now }
+fn linked(alloc: Global, prepared: &Prepared, sections: Vec<u8>) -> Result<Linked, LinkFault>
+    requires sound { IsSound prepared.now }
+    requires laid { sections.items ≡ sections_file (layout prepared.now) prepared.now.objects }
     ensures linked { IfOk result (λ linked. linked ≡ linked_of prepared.now) }
     ensures fits { OnOk result (NoOverflow prepared.now) }
     ensures overflow { IfErr result (IsOverflowFault prepared.now) }
 {
     let inputs = &prepared.inputs;
     let plan = plan_of(alloc, inputs)?;
-    let image = image(alloc, &plan, prepared)?;
+    let image = image(alloc, &plan, prepared, sections)?;
     let choices = choices(alloc, inputs)?;
     Ok(Linked { image, choices })
 }
@@ -145,7 +156,8 @@ fn linked(alloc: Global, prepared: &Prepared) -> Result<Linked, LinkFault>
 /// order, the image's own included where it is one. `sites` has the sequences of each object, and `relax` says whether
 /// they may be rewritten. Answers the first fault: the kinds in their order, `Overflow` last, and within a kind the
 /// first object, section and entry.
-pub fn link<'a>(
+pub fn link<'a, R: Threads>(
+    rt: &R,
     alloc: Global,
     objects: &[Object<'a>],
     sites: &[Vec<Site>],
@@ -162,6 +174,10 @@ pub fn link<'a>(
     ensures links { OnOk result (Links (link_of objects.now sites.now kind startup.now relax)) }
     ensures fault { IfErr result (IsLinkFault (link_of objects.now sites.now kind startup.now relax)) }
 {
-    let prepared = prepare(alloc, objects, sites, kind, startup, relax)?;
-    linked(alloc, &prepared)
+    let (bindings, laid) = bind_and_lay(rt, alloc, objects, startup, kind);
+    let bindings = bindings?;
+    ask_kind(objects, kind)?;
+    let Laid { placement, file } = laid?;
+    let prepared = within_limits(alloc, objects, sites, kind, relax, bindings, placement)?;
+    linked(alloc, &prepared, file)
 }

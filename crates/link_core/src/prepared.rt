@@ -2,9 +2,12 @@
 
 ghost use Rattle.std.specs.Prelude.{◌≡◌, ◌-◌, ◌<◌, ◌^◌, ℕ, [], None, IfErr, IfOk, OnOk, length, map, slice_index_or};
 ghost use Rattle.sequence_match.specs.Faults.{AreSites};
-ghost use Rattle.tls_layout.specs.Places.{tls_alignment, tls_size};
+ghost use Rattle.link_refusals.specs.Faults.{FitsKind};
+ghost use Rattle.tls_layout.specs.Places.{tls_alignment, tls_size, IsLawful};
 ghost use Rattle.tls_layout.specs.Rounding.{round_up};
+ghost use Rattle.tls_layout.specs.Sections.{layout_of};
 ghost use Rattle.tls_symbols.specs.Bindings.{object_at};
+ghost use Rattle.tls_symbols.specs.Faults.{AreResolved};
 ghost use Rattle.link_needs.specs.Linking.{link_of};
 ghost use Rattle.link_core.specs.Faults.{IsLinkFault, IsSound};
 
@@ -18,7 +21,7 @@ use sequence_match::Site;
 use std::alloc::{AllocError, Global};
 use std::marker::Model;
 use tls_layout::{Placement, TlsSize, place, static_offsets};
-use tls_symbols::{Exports, resolve};
+use tls_symbols::{Bindings, Exports, resolve};
 
 /// What is known of an image within the limits. Contracts see what decides it.
 #[derive(Drop)]
@@ -68,27 +71,31 @@ fn too_large() -> LinkFault
     }
 }
 
-/// What the linker knows of an image before it fills in fields, or the first fault of another kind than `Overflow`.
-pub fn prepare<'l, 's, 'a>(
+/// What the linker knows of an image whose names are bound so and whose sections go there, or the first fault that is
+/// left, of another kind than `Overflow`.
+pub fn within_limits<'l, 's, 'a>(
     alloc: Global,
     objects: &'l [Object<'a>],
     sites: &'l [Vec<Site>],
     kind: ImageKind,
-    startup: &'s [Exports<'a>],
     relax: bool,
+    bindings: Bindings<'l, 's, 'a>,
+    placement: Placement,
 ) -> Result<Prepared<'l, 's, 'a>, LinkFault>
-    requires few { length startup.now < 2 ^ 32 - 1 }
+    requires few { length bindings.startup < 2 ^ 32 - 1 }
     requires each { length sites.now ≡ length objects.now }
     requires sites { (o : ℕ) → o < length objects.now
         → AreSites (object_at objects.now o) (slice_index_or (map (λ own. own.items) sites.now) o []) }
-    ensures inputs { IfOk result (λ prepared. prepared ≡ link_of objects.now sites.now kind startup.now relax) }
-    ensures sound { OnOk result (IsSound (link_of objects.now sites.now kind startup.now relax)) }
-    ensures fault { IfErr result (IsLinkFault (link_of objects.now sites.now kind startup.now relax)) }
+    requires objects { bindings.objects ≡ objects.now }
+    requires resolved { AreResolved objects.now bindings.startup }
+    requires kind { FitsKind objects.now kind }
+    requires places { placement ≡ layout_of kind objects.now }
+    requires lawful { IsLawful placement }
+    ensures inputs { IfOk result (λ prepared. prepared ≡ link_of objects.now sites.now kind bindings.entry.startup relax) }
+    ensures sound { OnOk result (IsSound (link_of objects.now sites.now kind bindings.entry.startup relax)) }
+    ensures fault { IfErr result (IsLinkFault (link_of objects.now sites.now kind bindings.entry.startup relax)) }
 {
     let few = has_few_relocations(objects);
-    let bindings = resolve(alloc, objects, startup)?;
-    ask_kind(objects, kind)?;
-    let placement = place(alloc, objects, kind)?;
     let own = defined_symbols(alloc, objects, &bindings)?;
     let imports = imports(alloc, objects, &bindings, sites)?;
     if !few || !names_fit(objects, own.as_slice(), imports.as_slice()) {
@@ -110,4 +117,27 @@ pub fn prepare<'l, 's, 'a>(
         own,
         imports,
     })
+}
+
+/// What the linker knows of an image before it fills in fields, or the first fault of another kind than `Overflow`.
+pub fn prepare<'l, 's, 'a>(
+    alloc: Global,
+    objects: &'l [Object<'a>],
+    sites: &'l [Vec<Site>],
+    kind: ImageKind,
+    startup: &'s [Exports<'a>],
+    relax: bool,
+) -> Result<Prepared<'l, 's, 'a>, LinkFault>
+    requires few { length startup.now < 2 ^ 32 - 1 }
+    requires each { length sites.now ≡ length objects.now }
+    requires sites { (o : ℕ) → o < length objects.now
+        → AreSites (object_at objects.now o) (slice_index_or (map (λ own. own.items) sites.now) o []) }
+    ensures inputs { IfOk result (λ prepared. prepared ≡ link_of objects.now sites.now kind startup.now relax) }
+    ensures sound { OnOk result (IsSound (link_of objects.now sites.now kind startup.now relax)) }
+    ensures fault { IfErr result (IsLinkFault (link_of objects.now sites.now kind startup.now relax)) }
+{
+    let bindings = resolve(alloc, objects, startup)?;
+    ask_kind(objects, kind)?;
+    let placement = place(alloc, objects, kind)?;
+    within_limits(alloc, objects, sites, kind, relax, bindings, placement)
 }

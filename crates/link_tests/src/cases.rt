@@ -13,6 +13,7 @@ use sequence_match::{Site, sites};
 use std::alloc::{AllocError, Global};
 use std::process::Abort;
 use std::test::Fail;
+use std::thread::Threads;
 use tls_symbols::{Exports, exports};
 
 /// What is loaded with each image: y, w and errno.
@@ -62,6 +63,7 @@ fn all_sites(alloc: Global, objects: &[Object]) -> Result<Vec<Vec<Site>>, Fail>
 
 /// Links objects beside what is loaded with them.
 fn linked<'a>(
+    rt: &impl Threads,
     alloc: Global,
     kind: &str,
     objects: &[Object<'a>],
@@ -69,11 +71,13 @@ fn linked<'a>(
 ) -> Result<Result<Linked, LinkFault>, Fail> {
     let sites = all_sites(alloc, objects)?;
     let (kind, relax) = kind_of(kind);
-    Ok(link(alloc, objects, sites.as_slice(), kind, startup, relax))
+    let sites = sites.as_slice();
+    Ok(link(rt, alloc, objects, sites, kind, startup, relax))
 }
 
 /// Links the objects of files beside a module of objects.
 fn answer<'a>(
+    rt: &impl Threads,
     alloc: Global,
     kind: &str,
     files: &'a [Vec<u8>],
@@ -82,7 +86,7 @@ fn answer<'a>(
     let module = read(alloc, module)?;
     let startup = [exports(alloc, module.as_slice())?];
     let objects = read(alloc, files)?;
-    linked(alloc, kind, objects.as_slice(), &startup)
+    linked(rt, alloc, kind, objects.as_slice(), &startup)
 }
 
 /// Adds an image as text, and which sequences stand in the place of those of each object.
@@ -115,11 +119,11 @@ fn push_bytes(alloc: Global, text: &mut String, linked: &Linked) -> Result<(), A
 }
 
 /// What is told of a link.
-fn told(alloc: Global, kind: &str, objects: &str) -> Result<String, Fail> {
+fn told(rt: &impl Threads, alloc: Global, kind: &str, objects: &str) -> Result<String, Fail> {
     let files = files_of(alloc, objects)?;
     let module = files_of(alloc, STARTUP)?;
     let mut text = String::new(alloc);
-    match answer(alloc, kind, files.as_slice(), module.as_slice())? {
+    match answer(rt, alloc, kind, files.as_slice(), module.as_slice())? {
         Ok(linked) => {
             push_image(alloc, &mut text, &linked)?;
             text = text.replace(alloc, "0000000000", "")?;
@@ -146,14 +150,14 @@ fn squeezed(alloc: Global, text: &str) -> Result<String, AllocError> {
 }
 
 /// Compares what is told in each kind of image. Among bytes a dash stands for eight zeros.
-fn check(rt: &impl Abort, alloc: Global, case: &str) -> Result<(), Fail> {
+fn check(rt: &(impl Abort + Threads), alloc: Global, case: &str) -> Result<(), Fail> {
     let (given, want) = case.split_once(" -> ").ok_or("an answer")?;
     let (kinds, objects) = given.split_once(' ').ok_or("objects")?;
     let (text, digits) = want.split_once(" # ").unwrap_or((want, ""));
     let digits = digits.replace(alloc, " ", "")?;
     let digits = digits.replace(alloc, "-", "0000000000000000")?;
     for kind in kinds.split('/') {
-        let told = told(alloc, kind, objects)?;
+        let told = told(rt, alloc, kind, objects)?;
         let (shown, held) = told.split_once(" # ").unwrap_or((told.as_str(), ""));
         let links = text == "links" && shown.starts_with("kind");
         let holds = digits.is_empty() || held == digits.as_str();
@@ -163,7 +167,7 @@ fn check(rt: &impl Abort, alloc: Global, case: &str) -> Result<(), Fail> {
 }
 
 /// Compares what is told of each case. A star begins a case.
-pub(crate) fn check_all(rt: &impl Abort, alloc: Global, cases: &str) -> Result<(), Fail> {
+pub(crate) fn check_all(rt: &(impl Abort + Threads), alloc: Global, cases: &str) -> Result<(), Fail> {
     for case in cases.split('*') {
         let case = squeezed(alloc, case)?;
         if !case.is_empty() {

@@ -66,13 +66,18 @@ fn from_linked(alloc: Global, job: &Job, all: Vec<Linked>) -> Result<Modules, Al
 }
 
 /// The images of a job that has these objects.
-fn from_objects(alloc: Global, job: &Job, objects: &[ImageObjects]) -> Result<Modules, Fail>
+fn from_objects<R: Threads>(
+    rt: &R,
+    alloc: Global,
+    job: &Job,
+    objects: &[ImageObjects],
+) -> Result<Modules, Fail>
     requires given { (bytes : List ℕ → List ℕ) × AreGiven bytes job.now objects.now }
     requires late { LateLast (map (λ image. image.kind) job.now.images) }
     ensures { IfOk result (λ modules. modules.kinds ≡ map (λ image. image.kind) job.now.images) }
 {
     let _images = job.images();
-    match link_images(alloc, objects, true) {
+    match link_images(rt, alloc, objects, true) {
         Ok(all) => Ok(from_linked(alloc, job, all)?),
         Err(_) => Err("an image does not link")?,
     }
@@ -89,7 +94,7 @@ fn from_files<R: Threads + Sync>(
     ensures { IfOk result (λ modules. modules.kinds ≡ map (λ image. image.kind) job.now.images) }
 {
     match read_objects(rt, alloc, job, files) {
-        Ok(objects) => from_objects(alloc, job, objects.as_slice()),
+        Ok(objects) => from_objects(rt, alloc, job, objects.as_slice()),
         Err(_) => Err("an object is not in order")?,
     }
 }

@@ -6,7 +6,7 @@ use Rattle.commands.proofs.Answered.{images_run}
 use Rattle.commands.proofs.told.told_of_images.Goals as goal
 
 pub told_run-requires-clause-links : goal.told_run-requires-clause-links
-told_run-requires-clause-links c = (
+told_run-requires-clause-links g c = (
   links_of c.args.images.now c.args.relax,
   are_links c.args.job.now c.args.images.now c.args.relax c.requires.given.0 c.requires.given.1
       (subst (λ is. length is ≤ 64) c.images-images.ensures.value c.images-images.ensures.few) c.requires.given.2 c.in-Ok.ensures.links,
@@ -14,10 +14,10 @@ told_run-requires-clause-links c = (
 )
 
 pub unlinked-requires : goal.unlinked-requires
-unlinked-requires c = names_image c.args.job.now c.args.images.now c.args.relax c.requires.given.0 c.requires.given.1 c.in-Err.refusal c.in-Err.ensures.refused
+unlinked-requires g c = names_image c.args.job.now c.args.images.now c.args.relax c.requires.given.0 c.requires.given.1 c.in-Err.refusal c.in-Err.ensures.refused
 
 pub returns-in_ok-told_run-in-Run-clause-says : goal.returns-in_ok-told_run-in-Run-clause-says
-returns-in_ok-told_run-in-Run-clause-says c =
+returns-in_ok-told_run-in-Run-clause-says g c =
     let links =
     are_links c.args.job.now c.args.images.now c.args.relax c.requires.given.0 c.requires.given.1
     (subst (λ is. length is ≤ 64) c.images-images.ensures.value c.images-images.ensures.few) c.requires.given.2 c.in-Ok.ensures.links in
@@ -27,5 +27,5 @@ returns-in_ok-told_run-in-Run-clause-says c =
     (c.in-Ok.ensures.linked ∙ linked_all c.args.images.now c.args.relax c.args.images.now))
 
 pub returns-in-Err-clause-says : goal.returns-in-Err-clause-says
-returns-in-Err-clause-says c =
+returns-in-Err-clause-says g c =
     unlinked_run c.args.purpose c.args.job.now c.args.images.now c.args.relax c.in-Err.refusal c.unlinked.result c.in-Err.ensures.refused c.unlinked.ensures.says

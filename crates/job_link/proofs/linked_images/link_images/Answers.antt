@@ -8,7 +8,7 @@ use Rattle.job_link.proofs.Exported.{all_link, beside, first_refused, linked_as,
 use Rattle.job_link.proofs.linked_images.link_images.Goals as goal
 
 pub link_one-requires : goal.link_one-requires
-link_one-requires c =
+link_one-requires g c =
     omega (
       arith,
       ap length (c.as_slice.ensures.value
@@ -18,7 +18,7 @@ link_one-requires c =
     )
 
 pub returns-in-Err-clause-refused : goal.returns-in-Err-clause-refused
-returns-in-Err-clause-refused c =
+returns-in-Err-clause-refused g c =
     let images = c.args.images.now in
     let g = c.index-images-number.result in
     let same = beside images c.as_slice.result.now c.args.relax g (c.as_slice.ensures.value
@@ -29,7 +29,7 @@ returns-in-Err-clause-refused c =
     (subst (λ (l : Linking). IsLinkFault l c.in-Err.fault) same c.in-Err.ensures.fault))
 
 pub loop-number-preserved : goal.loop-number-preserved
-loop-number-preserved c =
+loop-number-preserved g c =
     let images = c.args.images.now in
     let relax = c.args.relax in
     let i = c.loop-number.number in
@@ -49,5 +49,5 @@ loop-number-preserved c =
     }
 
 pub returns-clause-links : goal.returns-clause-links
-returns-clause-links c =
+returns-clause-links g c =
     all_link c.args.images.now c.args.relax c.loop-number.number c.loop-number-test.false c.loop-number.invariant.links

@@ -7,26 +7,26 @@ use Rattle.job_link.proofs.Exported.{made_beside, sites_held}
 use Rattle.job_link.proofs.linked_images.link_one.Goals as goal
 
 pub link-requires-clause-sites : goal.link-requires-clause-sites
-link-requires-clause-sites c =
+link-requires-clause-sites g c =
     sites_held c.objects.result.now c.sites.result.now c.args.image.now c.objects.ensures.objects c.sites.ensures.sites
     c.objects.ensures.given
 
 pub returns-clause-linked : goal.returns-clause-linked
-returns-clause-linked c =
+returns-clause-linked g c =
     subst (λ (l : Linking). IfOk c.link.result (λ linked. linked ≡ linked_of l))
     (made_beside c.objects.result.now c.sites.result.now c.kind.result c.args.startup.now c.args.relax c.args.image.now
     c.objects.ensures.objects c.sites.ensures.sites c.kind.ensures.kind)
     c.link.ensures.linked
 
 pub returns-clause-links : goal.returns-clause-links
-returns-clause-links c =
+returns-clause-links g c =
     subst (λ (l : Linking). OnOk c.link.result (Links l))
     (made_beside c.objects.result.now c.sites.result.now c.kind.result c.args.startup.now c.args.relax c.args.image.now
     c.objects.ensures.objects c.sites.ensures.sites c.kind.ensures.kind)
     c.link.ensures.links
 
 pub returns-clause-fault : goal.returns-clause-fault
-returns-clause-fault c =
+returns-clause-fault g c =
     subst (λ (l : Linking). IfErr c.link.result (IsLinkFault l))
     (made_beside c.objects.result.now c.sites.result.now c.kind.result c.args.startup.now c.args.relax c.args.image.now
     c.objects.ensures.objects c.sites.ensures.sites c.kind.ensures.kind)

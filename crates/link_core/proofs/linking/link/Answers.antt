@@ -7,19 +7,19 @@ use Rattle.link_core.proofs.LinkFaults.{fault_of, links_of}
 use Rattle.link_core.proofs.linking.link.Goals as goal
 
 pub returns-clause-linked : goal.returns-clause-linked
-returns-clause-linked c =
+returns-clause-linked g c =
     subst (λ (l : Linking). IfOk c.linked.result (λ linked. linked ≡ linked_of l)) c.in_ok-prepared.ensures.inputs
     c.linked.ensures.linked
 
 pub returns-clause-links : goal.returns-clause-links
-returns-clause-links c =
+returns-clause-links g c =
     let l = link_of c.args.objects.now c.args.sites.now c.args.kind c.args.startup.now c.args.relax in
     links_of l c.linked.result c.in_ok-prepared.ensures.sound
     (subst (λ (given : Linking). OnOk c.linked.result (NoOverflow given)) c.in_ok-prepared.ensures.inputs
     c.linked.ensures.fits)
 
 pub returns-clause-fault : goal.returns-clause-fault
-returns-clause-fault c =
+returns-clause-fault g c =
     let l = link_of c.args.objects.now c.args.sites.now c.args.kind c.args.startup.now c.args.relax in
     fault_of l c.linked.result c.in_ok-prepared.ensures.sound
     (subst (λ (given : Linking). IfErr c.linked.result (IsOverflowFault given)) c.in_ok-prepared.ensures.inputs

@@ -1,4 +1,4 @@
-use Rattle.std.proofs.Common.{◌∙◌, ◌<◌, ◌≤◌, ◌^◌, ◌-◌, ◌⊎◌, length, map, inl, inr, sym, ap, subst}
+use Rattle.std.proofs.Common.{◌∙◌, ◌<◌, ◌≤◌, ◌^◌, ◌-◌, ◌⊎◌, length, map, inl, inr, refl, sym, ap, subst}
 use Rattle.std.proofs.lemmas.List.{length-map}
 use Rattle.std.proofs.lemmas.Result.{err_from_is_err_and}
 use Rattle.std.specs.Global.{Vec}
@@ -12,9 +12,9 @@ use Rattle.link_needs.specs.Linking.{link_of, block_offset, layout}
 use Rattle.link_core.specs.Faults.{FitsLimits, IsCrowded, IsLinkFault, IsWordy}
 use Rattle.link_core.proofs.LinkFaults.{exceeds, limit_fault, same_storage, storage_fault}
 use Rattle.link_core.proofs.LinkLists.{names_are, size_is}
-use Rattle.link_core.proofs.prepared.prepare.Goals as goal
-use Rattle.link_core.proofs.prepared.prepare.Goals.{then-not-few-via-then-not-few}
-use Rattle.link_core.proofs.prepared.prepare.Goals.{then-not-few-via-else-not-few+then-not-names_fit}
+use Rattle.link_core.proofs.prepared.within_limits.Goals as goal
+use Rattle.link_core.proofs.prepared.within_limits.Goals.{then-not-few-via-then-not-few}
+use Rattle.link_core.proofs.prepared.within_limits.Goals.{then-not-few-via-else-not-few+then-not-names_fit}
 
 pub imports-requires-clause-symbols : goal.imports-requires-clause-symbols
 imports-requires-clause-symbols c = λ o there.
@@ -22,9 +22,9 @@ imports-requires-clause-symbols c = λ o there.
 
 pub returns-then-not-few-clause-fault : goal.returns-then-not-few-clause-fault
 returns-then-not-few-clause-fault c =
-    let l = link_of c.args.objects.now c.args.sites.now c.args.kind c.args.startup.now c.args.relax in
+    let l = link_of c.args.objects.now c.args.sites.now c.args.kind c.args.bindings.startup c.args.relax in
     let lawful : IsLawful (layout l) =
-    subst IsLawful c.in_ok-placement.ensures.places c.in_ok-placement.ensures.lawful in
+    subst IsLawful c.requires.places c.requires.lawful in
     let large : IsCrowded l ⊎ IsWordy l =
     elim c.then-not-few.branch [
       | then-not-few-via-then-not-few w ↦
@@ -34,18 +34,18 @@ returns-then-not-few-clause-fault c =
           inr (subst (λ n. 2 ^ 22 < n)
           (size_is l w.as_slice.result.now (map (λ name. name.now) w.as_slice-else-not-few.result.now)
           (w.as_slice.ensures.value ∙ c.in_ok-own.ensures.symbols)
-          (names_are l c.in_ok-bindings.bindings.startup w.as_slice-else-not-few.result.now c.in_ok-imports.imports.keys
-          w.as_slice-else-not-few.ensures.keys c.in_ok-imports.ensures c.in_ok-bindings.ensures.startup))
+          (names_are l c.args.bindings.startup w.as_slice-else-not-few.result.now c.in_ok-imports.imports.keys
+          w.as_slice-else-not-few.ensures.keys c.in_ok-imports.ensures refl))
           (exceeds _ (2 ^ 22) w.names_fit.result w.if-not-names_fit.true w.names_fit.ensures))
     ] in
     subst (IsLinkFault l) (sym c.too_large.ensures)
-    (limit_fault l c.in_ok-bindings.ensures.resolved c.in_ok-ask_kind.ensures lawful.small_tls large)
+    (limit_fault l c.requires.resolved c.requires.kind lawful.small_tls large)
 
 pub returns-in_err-ask_tls-clause-fault : goal.returns-in_err-ask_tls-clause-fault
 returns-in_err-ask_tls-clause-fault c =
-    let l = link_of c.args.objects.now c.args.sites.now c.args.kind c.args.startup.now c.args.relax in
+    let l = link_of c.args.objects.now c.args.sites.now c.args.kind c.args.bindings.startup c.args.relax in
     let lawful : IsLawful (layout l) =
-    subst IsLawful c.in_ok-placement.ensures.places c.in_ok-placement.ensures.lawful in
+    subst IsLawful c.requires.places c.requires.lawful in
     let limits : FitsLimits l = record {
       lawful = lawful;
       few = c.has_few_relocations-few.ensures.few.0 c.if-not-few.false;
@@ -53,32 +53,32 @@ returns-in_err-ask_tls-clause-fault c =
           subst (λ n. n ≤ 2 ^ 22)
           (size_is l c.as_slice.result.now (map (λ name. name.now) c.as_slice-else-not-few.result.now)
           (c.as_slice.ensures.value ∙ c.in_ok-own.ensures.symbols)
-          (names_are l c.in_ok-bindings.bindings.startup c.as_slice-else-not-few.result.now c.in_ok-imports.imports.keys
-          c.as_slice-else-not-few.ensures.keys c.in_ok-imports.ensures c.in_ok-bindings.ensures.startup))
+          (names_are l c.args.bindings.startup c.as_slice-else-not-few.result.now c.in_ok-imports.imports.keys
+          c.as_slice-else-not-few.ensures.keys c.in_ok-imports.ensures refl))
           (c.names_fit.ensures.0 c.if-not-names_fit.false);
     } in
     let residual = c.from_residual-in_err-ask_tls in
     let p = err_from_is_err_and residual.result residual.ensures.1 in
     rw (p.1, p.2)
-    (storage_fault l c.in_ok-bindings.ensures.resolved c.in_ok-ask_kind.ensures limits _
-    (same_storage l c.in_ok-bindings.bindings.objects c.in_ok-bindings.bindings.startup c.tls_size.result
-    c.in_ok-bindings.ensures.objects c.in_ok-bindings.ensures.startup
-    (c.tls_size.ensures.size ∙ ap (λ (p : Layout). tls_size p.sections) c.in_ok-placement.ensures.places) _
+    (storage_fault l c.requires.resolved c.requires.kind limits _
+    (same_storage l c.args.bindings.objects c.args.bindings.startup c.tls_size.result
+    c.requires.objects refl
+    (c.tls_size.ensures.size ∙ ap (λ (p : Layout). tls_size p.sections) c.requires.places) _
     c.in_err-ask_tls.ensures))
 
 pub invariant_of-inputs : goal.invariant_of-inputs
 unfolding block_offset
 invariant_of-inputs c = record {
   given = record {
-    few_startup = subst (λ names. length names < 2 ^ 32 - 1) (sym c.in_ok-bindings.ensures.startup) c.requires.few;
+    few_startup = c.requires.few;
     are_objects = c.has_few_relocations-few.ensures.objects;
     each = length-map c.args.sites.now (λ (own : Vec Site). own.items) ∙ c.requires.each;
     are_sites = c.requires.sites;
   };
-  objects_are = c.in_ok-bindings.ensures.objects;
-  placed = c.in_ok-placement.ensures.places;
-  lawful = c.in_ok-placement.ensures.lawful;
+  objects_are = c.requires.objects;
+  placed = c.requires.places;
+  lawful = c.requires.lawful;
   distance_is =
       c.in_ok-block_offset.ensures
-      ∙ ap (λ (p : Layout). round_up (tls_size p.sections) (tls_alignment p.sections)) c.in_ok-placement.ensures.places;
+      ∙ ap (λ (p : Layout). round_up (tls_size p.sections) (tls_alignment p.sections)) c.requires.places;
 }
