@@ -183,7 +183,7 @@ fn made<R: Threads + Sync>(
 }
 
 /// What is made of the image at that place, where all these are linked.
-fn made_of_images<R: Threads>(
+fn made_of_images<R: Threads + Sync>(
     rt: &R,
     alloc: Global,
     job: &Job,

@@ -120,7 +120,7 @@ pub fn told_of_files<R: Threads + Sync>(
 }
 
 /// What is told of a job whose images are these.
-fn told_of_images<R: Threads>(
+fn told_of_images<R: Threads + Sync>(
     rt: &R,
     alloc: Global,
     job: &Job,

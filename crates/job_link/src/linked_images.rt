@@ -78,7 +78,7 @@ pub fn startup_exports<'a>(
 }
 
 /// Links an image beside startup images that export these names.
-fn link_one<'a, R: Threads>(
+fn link_one<'a, R: Threads + Sync>(
     rt: &R,
     alloc: Global,
     image: &ImageObjects<'a>,
@@ -124,7 +124,7 @@ fn refused(image: usize, fault: LinkFault) -> ImageRefusal
 
 /// Links the images of a job, which stand in image order, or answers the first that does not link. `relax` says whether
 /// sequences may be rewritten.
-pub fn link_images<R: Threads>(
+pub fn link_images<R: Threads + Sync>(
     rt: &R,
     alloc: Global,
     images: &[ImageObjects],

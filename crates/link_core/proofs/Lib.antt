@@ -26,6 +26,10 @@ pub mod LoadsParts
 pub mod LoadsPlaces
 pub mod LoadsTables
 pub mod LoadsTls
+pub mod PartFields
+pub mod PartSplit
+pub mod PartSteps
+pub mod PartsWritten
 pub mod Relatives
 pub mod RelativesApart
 pub mod RelativesFields

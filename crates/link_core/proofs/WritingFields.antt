@@ -1,5 +1,5 @@
 -- What one relocation writes.
-use Rattle.std.proofs.Common.{◌≡◌, ◌≢◌, ◌<◌, ◌∙◌, ◌&&◌, ℕ, Bool, true, false, List, [], ◌∷◌, Some, None, length}
+use Rattle.std.proofs.Common.{◌≡◌, ◌≢◌, ◌<◌, ◌∙◌, ◌-◌, ◌&&◌, ℕ, Bool, true, false, List, [], ◌∷◌, Some, None, length}
 use Rattle.std.proofs.Common.{refl, sym, ap, subst, arith}
 use Rattle.std.specs.List.{Contains}
 use Rattle.std.proofs.lemmas.List.Elements.{All-contains}
@@ -18,7 +18,7 @@ use Rattle.tls_relocs.specs.Patches.{patched}
 use Rattle.tls_relocs.specs.Values.{stored_field}
 use Rattle.link_needs.specs.declared.symbol_values.SymbolValue.{SymbolValue}
 use Rattle.link_needs.specs.Linking.{Linking, binding, layout, object, place}
-use Rattle.link_core.specs.Bytes.{with_field}
+use Rattle.link_core.specs.Parts.{part_with_field}
 use Rattle.link_needs.specs.Given.{IsGiven}
 use Rattle.link_core.specs.Overflows.{IsFilled, IsOverflow}
 use Rattle.link_needs.specs.SymbolNumbers.{goes_by, value_of}
@@ -43,16 +43,19 @@ module _ (l : Linking) (o t : ℕ) (r : Relocation) where
       ap (λ b. is_rewriting l && b) (sym (takes_part l o r)) ∙ ap (λ x. is_rewriting l && goes_by x r.kind) (sym e)
 
   -- one that goes with its sequence writes nothing
-  pub replaced_writes : (file : List ℕ) → is_replaced l o r ≡ true → file ≡ with_field l o t file r
-  replaced_writes file e = rw e refl
+  pub replaced_writes : (from : ℕ) (part : List ℕ) → is_replaced l o r ≡ true
+      → part ≡ part_with_field l from o t part r
+  replaced_writes from part e = rw e refl
 
   pub replaced_fills : is_replaced l o r ≡ true → IsFilled l o t r
   replaced_fills e wrong = let no = wrong.0 in cc
 
   -- one with a field writes it
-  pub field_writes : (file : List ℕ) (value : Field) → is_replaced l o r ≡ false → Some value ≡ field l o t r
-      → patched (field_patch (offset_of (layout l) (place l o t r.offset)) value ∷ []) file ≡ with_field l o t file r
-  field_writes file value e is = rw (e, ← is) refl
+  pub field_writes : (from : ℕ) (part : List ℕ) (value : Field) → is_replaced l o r ≡ false
+      → Some value ≡ field l o t r
+      → patched (field_patch (offset_of (layout l) (place l o t r.offset) - from) value ∷ []) part
+      ≡ part_with_field l from o t part r
+  field_writes from part value e is = rw (e, ← is) refl
 
   pub field_fills : (value : Field) → Some value ≡ field l o t r → IsFilled l o t r
   field_fills value is wrong =
@@ -72,14 +75,14 @@ module _ (l : Linking) (o t : ℕ) (r : Relocation) where
       ≡ stored_field k (own_number l k (binding l o r)) r.addend (place l o t r.offset) (other_number l o r k) in
       subst P (sym e) refl
 
-  pub nothing_writes : (file : List ℕ) → r.kind ≡ Nothing → file ≡ with_field l o t file r
-  nothing_writes file e = of_test (is_replaced l o r) refl
+  pub nothing_writes : (from : ℕ) (part : List ℕ) → r.kind ≡ Nothing → part ≡ part_with_field l from o t part r
+  nothing_writes from part e = of_test (is_replaced l o r) refl
     where
-      of_test : (b : Bool) → is_replaced l o r ≡ b → file ≡ with_field l o t file r
-      of_test true is = replaced_writes file is
+      of_test : (b : Bool) → is_replaced l o r ≡ b → part ≡ part_with_field l from o t part r
+      of_test true is = replaced_writes from part is
       of_test false is =
-          sym (patched_nothing (offset_of (layout l) (place l o t r.offset)) Empty file (omega arith))
-          ∙ field_writes file Empty is (none_of e)
+          sym (patched_nothing (offset_of (layout l) (place l o t r.offset) - from) Empty part (omega arith))
+          ∙ field_writes from part Empty is (none_of e)
 
   pub nothing_fills : r.kind ≡ Nothing → IsFilled l o t r
   nothing_fills e = field_fills Empty (none_of e)

@@ -3,7 +3,7 @@ use Rattle.std.proofs.Common.{◌≡◌, ◌+◌, ◌<◌, ◌∙◌, ℕ, zero,
 use Rattle.std.proofs.Common.{◌≢◌, ◌-◌, Result, Ok, Err, true, false, append-nil, sym, ap, append_assoc, arith}
 use Rattle.std.specs.List.{flat_map}
 use Rattle.std.specs.Option.{option_map}
-use Rattle.std.specs.Prelude.{◌==◌, OnOk, negsuc, slice_get, unwrap_or}
+use Rattle.std.specs.Prelude.{◌==◌, IfErr, OnOk, negsuc, slice_get, unwrap_or}
 use Rattle.std.proofs.lemmas.Bool.Decides.{nat_tests}
 use Rattle.got_pairs.specs.declared.entry.Entry.{Entry}
 use Rattle.got_pairs.specs.declared.need.Need.{Need}
@@ -23,6 +23,10 @@ use Rattle.link_core.specs.Bytes.{got_bytes, stub_bytes, table_bytes, with_got, 
 pub on_ok_then : {V E P Q : Type 0} (r : Result V E) → (P → Q) → OnOk r P → OnOk r Q
 on_ok_then (Ok v) f p = f p
 on_ok_then (Err e) f p = tt
+
+pub if_err_then : {V E : Type 0} {P Q : E → Type 0} (r : Result V E) → ((e : E) → P e → Q e) → IfErr r P → IfErr r Q
+if_err_then (Ok v) f p = tt
+if_err_then (Err e) f p = f e p
 
 -- an entry, and then those behind it
 pub entries_step : (g : Need → Entry) (f : Entry → List ℕ) (file : List ℕ) (n : ℕ) (ks : List Need) (entry : Entry)

@@ -1,6 +1,6 @@
 -- The fields of relocations and of sequences have room in the file.
 use Rattle.std.proofs.Common.{◌≡◌, ◌≢◌, ◌+◌, ◌<◌, ◌≤◌, ◌^◌, ◌∙◌, ℕ, List, [], ◌∷◌, Option, Some, None, length, IsSome}
-use Rattle.std.proofs.Common.{false, refl, subst, arith}
+use Rattle.std.proofs.Common.{false, refl, sym, ap, subst, arith}
 use Rattle.std.proofs.lemmas.List.{take-append-drop}
 use Rattle.elf_records.specs.Fields.{splice}
 use Rattle.tls_layout.proofs.Together.{page_up-above}
@@ -44,6 +44,9 @@ use Rattle.link_core.specs.Room.{HasRoom}
 use Rattle.link_needs.specs.Usable.{IsUsable}
 use Rattle.link_core.proofs.Lengths.{field_inside, site_inside}
 use Rattle.link_core.proofs.LengthsInside.{form_some, is_code, is_object, is_relocated}
+use Rattle.link_core.specs.Parts.{IsInside}
+use Rattle.link_core.proofs.StandingPlaces.{field_in}
+use Rattle.std.proofs.lemmas.Option.{same_Some}
 use Rattle.link_needs.proofs.UsableSites.{usable}
 
 -- ** the table and the stub
@@ -100,6 +103,30 @@ field_room l o t r given limits there is =
       near = omega arith;
       above = λ wide. omega arith;
       inside = λ wide. field_inside l o t r given limits there is wide;
+    }
+
+-- so it has among the bytes of a part that its section lies in
+pub record FitsPart (l : Linking) (from n place width : ℕ) : Type 0 where
+  pub room : HasRoom l place width (from + n)
+  pub behind : 0 < width → from ≤ offset_of (layout l) place
+
+pub part_room : (l : Linking) (from n o t address : ℕ) (r : Relocation) → IsGiven l → FitsTable l
+    → o < length l.objects → Contains (relocations (object l o) t) r → address_of (layout l) o t ≡ Some address
+    → IsInside l from n o t address → FitsPart l from n (address + r.offset) (field_width r.kind)
+part_room l from n o t address r given limits there is at inside =
+    let whole = field_room l o t r given limits there is in
+    let own = field_in l given limits o t r there is in
+    let same : own.address ≡ address = same_Some own.address address (sym own.lies.address_is ∙ at) in
+    let fits = own.fits in
+    let above = own.lies.above in
+    let begins : place l o t r.offset ≡ address + r.offset = own.place_is ∙ ap (λ a. a + r.offset) same in
+    record {
+      room = record {
+        near = omega (arith, whole.near, begins);
+        above = λ wide. omega (arith, above, same);
+        inside = λ wide. let ends = inside (omega (arith, fits)) in omega (arith, ends.1, fits, above, same);
+      };
+      behind = λ wide. let ends = inside (omega (arith, fits)) in omega (arith, ends.0, above, same);
     }
 
 -- ** sequences

@@ -1,7 +1,10 @@
 -- Fields that are written one after another, and the first that overflows.
-use Rattle.std.proofs.Common.{◌≡◌, ◌+◌, ◌-◌, ◌<◌, ◌≤◌, ◌∙◌, ℕ, zero, suc, List, [], ◌∷◌, Option, Some, None, length}
+use Rattle.std.proofs.Common.{◌≡◌, ◌+◌, ◌-◌, ◌<◌, ◌≤◌, ◌∙◌, ◌&&◌, ℕ, zero, suc, Bool, true, false, List, [], ◌∷◌}
+use Rattle.std.proofs.Common.{Option, Some, None, length}
 use Rattle.std.proofs.Common.{drop, inl, inr, refl, sym, ap, subst, arith}
-use Rattle.std.specs.Prelude.{IsSomeAnd, fold, slice_get, slice_index_or}
+use Rattle.std.specs.Prelude.{IsSome, IsSomeAnd, fold, nat_le, nat_lt, slice_get, slice_index_or, if◌then◌else◌}
+use Rattle.section_file.specs.Files.{offset_of}
+use Rattle.tls_layout.specs.Sections.{Layout}
 use Rattle.std.specs.List.{Contains, range_with_len}
 use Rattle.std.proofs.Math.ListN.{drop_of_length-le}
 use Rattle.std.proofs.lemmas.Bool.{cases_lt}
@@ -17,10 +20,11 @@ use Rattle.link_faults.specs.declared.fault.LinkFaultKind.TheVariants as fault
 use Rattle.tls_symbols.specs.Faults.{Earlier, held_for, held_in}
 use Rattle.tls_symbols.proofs.Search.{range_first, range_none}
 use Rattle.link_needs.specs.Linking.{Linking, object}
-use Rattle.link_core.specs.Bytes.{with_field, with_fields, with_fields_from, with_table}
 use Rattle.link_core.specs.Faults.{Overflows}
-use Rattle.link_core.specs.Overflows.{IsFilled, IsFirstOverflow, IsFirstOverflowIn, IsFirstOverflowOf, IsOverflow}
-use Rattle.link_core.specs.Overflows.{NoOverflow, NoOverflowIn, NoOverflowOf}
+use Rattle.link_core.specs.Overflows.{IsFilled, IsFirstAtAll, IsFirstIn, IsFirstOf, IsOverflow}
+use Rattle.link_core.specs.Overflows.{NoneAtAll, NoneIn, NoneOf}
+use Rattle.link_core.specs.Parts.{part_with_field, part_with_fields, part_with_fields_from, part_with_held}
+use Rattle.link_core.specs.Parts.{part_with_table, start_at, start_in, OverflowsIn}
 
 -- ** the walk over a list
 
@@ -106,7 +110,7 @@ module _ (l : Linking) (o s : ℕ) where
   pub first_told : (t e : ℕ) (r : Relocation) → o < length l.objects → (0 < s) × (s < section_count (object l o))
       → nonzero (relocation_target (object l o) s) ≡ Some t
       → slice_get (relocations (object l o) t) e ≡ Some r → IsOverflow l o t r → NoneBefore e
-      → IsFirstOverflowIn l o s (At fault.Overflow (Some o) s e)
+      → IsFirstIn (Overflows l) o s (At fault.Overflow (Some o) s e)
   first_told t e r there table target at over before =
       let held = held_is (object l o) s t target in
       let found = ap (λ xs. slice_get xs e) held.0 ∙ at in
@@ -117,7 +121,7 @@ module _ (l : Linking) (o s : ℕ) where
 
   -- none is left
   pub none_in : (t e : ℕ) → nonzero (relocation_target (object l o) s) ≡ Some t
-      → [] ≡ drop e (relocations (object l o) t) → NoneBefore e → NoOverflowIn l o s
+      → [] ≡ drop e (relocations (object l o) t) → NoneBefore e → NoneIn (Overflows l) o s
   none_in t e target end before f over =
       elim (cases_lt f e) [
         | inl less ↦ before f less over
@@ -127,102 +131,151 @@ module _ (l : Linking) (o s : ℕ) where
       ]
 
   -- none is held
-  pub none_held : nonzero (relocation_target (object l o) s) ≡ None → NoOverflowIn l o s
+  pub none_held : nonzero (relocation_target (object l o) s) ≡ None → NoneIn (Overflows l) o s
   none_held none f over =
       none_behind (held_in (object l o) s) 0 f _ (sym (held_none (object l o) s none)) (omega arith) over.3
 
-  pub nothing_held : (file : List ℕ) → nonzero (relocation_target (object l o) s) ≡ None
-      → file ≡ with_table l o (object l o) file s
-  nothing_held file none = rw (held_none (object l o) s none) refl
+  -- it writes nothing
+  pub nothing_held : (from to : ℕ) (part : List ℕ) → nonzero (relocation_target (object l o) s) ≡ None
+      → part ≡ part_with_table l from to o (object l o) part s
+  nothing_held from to part none = of_start (start_in l from to o (relocation_target (object l o) s))
+    where
+      of_start : (start : Option ℕ) → part ≡ part_with_held l from o (object l o) part s start
+      of_start None = refl
+      of_start (Some address) = rw (held_none (object l o) s none) refl
 
   -- the fields of a section are those of its table
-  pub table_written : (t : ℕ) (file : List ℕ) → nonzero (relocation_target (object l o) s) ≡ Some t
-      → fold (with_field l o t) file (relocations (object l o) t) ≡ with_table l o (object l o) file s
-  table_written t file target =
+  pub table_written : (from t address : ℕ) (part : List ℕ) → nonzero (relocation_target (object l o) s) ≡ Some t
+      → fold (part_with_field l from o t) part (relocations (object l o) t)
+      ≡ part_with_held l from o (object l o) part s (Some address)
+  table_written from t address part target =
       let held = held_is (object l o) s t target in rw (held.0, held.1) refl
+
+  -- ** in a part of the file
+
+  -- the section that a table belongs to begins in the part, or it does not
+  pub start_of : (from to t : ℕ) (start : Option ℕ) → nonzero (relocation_target (object l o) s) ≡ Some t
+      → start ≡ start_in l from to o t → start_in l from to o (relocation_target (object l o) s) ≡ start
+  start_of from to t start target is =
+      ap (start_in l from to o) (held_is (object l o) s t target).1 ∙ sym is
+
+  pub held_written : (from to : ℕ) (part : List ℕ) (start : Option ℕ)
+      → start_in l from to o (relocation_target (object l o) s) ≡ start
+      → part_with_held l from o (object l o) part s start ≡ part_with_table l from to o (object l o) part s
+  held_written from to part start is = ap (part_with_held l from o (object l o) part s) (sym is)
+
+  -- none of all is none of those of a part
+  pub none_of_part : (from to : ℕ) → NoneIn (Overflows l) o s → NoneIn (OverflowsIn l from to) o s
+  none_of_part from to none e over = none e over.0
+
+  -- where the section begins elsewhere there is none
+  pub none_elsewhere : (from to : ℕ) → start_in l from to o (relocation_target (object l o) s) ≡ None
+      → NoneIn (OverflowsIn l from to) o s
+  none_elsewhere from to none e over = let some : IsSome {T = ℕ} None = subst IsSome none over.1 in absurd (cc)
+
+  -- the first of all is the first of the part where the section begins
+  pub first_of_part : (from to address : ℕ) (told : LinkFault)
+      → start_in l from to o (relocation_target (object l o) s) ≡ Some address
+      → IsFirstIn (Overflows l) o s told → IsFirstIn (OverflowsIn l from to) o s told
+  first_of_part from to address OutOfMemory is first = first
+  first_of_part from to address (At kind told section e) is first =
+      (first.0, first.1, first.2, (first.3, rw is refl), λ f less over. first.4 f less over.0)
+
+-- the address of a section that begins in a part
+pub start_known : (p : Layout) (from to : ℕ) (at : Option ℕ) (address : ℕ) → Some address ≡ start_at p from to at
+    → at ≡ Some address
+start_known p from to None address is = absurd (cc)
+start_known p from to (Some other) address is =
+    of_test (nat_le from (offset_of p other) && nat_lt (offset_of p other) to) is
+  where
+    of_test : (t : Bool) → Some address ≡ (if t then Some other else None) → Some other ≡ Some address
+    of_test true e = sym e
+    of_test false e = absurd (cc)
 
 -- ** the tables of an object
 
-module _ (l : Linking) (o : ℕ) where
+module _ (l : Linking) (from to o : ℕ) where
   -- none of the tables before t overflows
   abbrev pub NoneInTables : ℕ → Type 0
-  NoneInTables t = (s e : ℕ) → s < t → Overflows l o s e → ⊥
+  NoneInTables t = (s e : ℕ) → s < t → OverflowsIn l from to o s e → ⊥
 
   pub no_tables : NoneInTables 1
-  no_tables s e below over = let some = over.1 in omega arith
+  no_tables s e below over = let some = over.0.1 in omega arith
 
-  pub next_table : (t : ℕ) → NoneInTables t → NoOverflowIn l o t → NoneInTables (t + 1)
+  pub next_table : (t : ℕ) → NoneInTables t → NoneIn (OverflowsIn l from to) o t → NoneInTables (t + 1)
   next_table t before here s e below over = elim (cases_lt s t) [
     | inl less ↦ before s e less over
     | inr same ↦
-        let is : s ≡ t = omega arith in here e (subst (λ s. Overflows l o s e) is over)
+        let is : s ≡ t = omega arith in here e (subst (λ s. OverflowsIn l from to o s e) is over)
   ]
 
-  pub all_tables : (t : ℕ) → section_count (object l o) ≤ t → NoneInTables t → NoOverflowOf l o
-  all_tables t past before s e over = let below = over.2 in before s e (omega arith) over
+  pub all_tables : (t : ℕ) → section_count (object l o) ≤ t → NoneInTables t → NoneOf (OverflowsIn l from to) o
+  all_tables t past before s e over = let below = over.0.2 in before s e (omega arith) over
 
-  pub table_told : (t : ℕ) (told : LinkFault) → NoneInTables t → IsFirstOverflowIn l o t told
-      → IsFirstOverflowOf l o told
+  pub table_told : (t : ℕ) (told : LinkFault) → NoneInTables t → IsFirstIn (OverflowsIn l from to) o t told
+      → IsFirstOf (OverflowsIn l from to) o told
   table_told t OutOfMemory before first = absurd first
   table_told t (At kind told s e) before first =
-      (first.0, first.1, subst (λ s. Overflows l o s e) (sym first.2) first.3, earlier)
+      (first.0, first.1, subst (λ s. OverflowsIn l from to o s e) (sym first.2) first.3, earlier)
     where
-      earlier : (u f : ℕ) → Earlier o u f o s e → Overflows l o u f → ⊥
+      earlier : (u f : ℕ) → Earlier o u f o s e → OverflowsIn l from to o u f → ⊥
       earlier u f (inl less) over = omega arith
       earlier u f (inr (same, inl less)) over = let is = first.2 in before u f (omega arith) over
       earlier u f (inr (same, inr (at, less))) over =
           let is = first.2 in
-          first.4 f less (subst (λ s. Overflows l o s f) (at ∙ is) over)
+          first.4 f less (subst (λ s. OverflowsIn l from to o s f) (at ∙ is) over)
 
   -- the fields of a table, and then those of the tables behind it
-  pub tables_step : (file : List ℕ) (t n : ℕ) → t < n
-      → fold (with_table l o (object l o)) (with_table l o (object l o) file t) (range_with_len (t + 1) (n - (t + 1)))
-      ≡ fold (with_table l o (object l o)) file (range_with_len t (n - t))
-  tables_step file t n below = rw (range_first t n below) refl
+  pub tables_step : (part : List ℕ) (t n : ℕ) → t < n
+      → fold (part_with_table l from to o (object l o)) (part_with_table l from to o (object l o) part t)
+      (range_with_len (t + 1) (n - (t + 1)))
+      ≡ fold (part_with_table l from to o (object l o)) part (range_with_len t (n - t))
+  tables_step part t n below = rw (range_first t n below) refl
 
-  pub tables_end : (file : List ℕ) (t n : ℕ) → n ≤ t
-      → fold (with_table l o (object l o)) file (range_with_len t (n - t)) ≡ file
-  tables_end file t n past = rw (range_none t n past) refl
+  pub tables_end : (part : List ℕ) (t n : ℕ) → n ≤ t
+      → fold (part_with_table l from to o (object l o)) part (range_with_len t (n - t)) ≡ part
+  tables_end part t n past = rw (range_none t n past) refl
 
 -- ** the objects
 
-module _ (l : Linking) where
+module _ (l : Linking) (from to : ℕ) where
   -- none of the objects before n overflows
   abbrev pub NoneInObjects : ℕ → Type 0
-  NoneInObjects n = (o s e : ℕ) → o < n → Overflows l o s e → ⊥
+  NoneInObjects n = (o s e : ℕ) → o < n → OverflowsIn l from to o s e → ⊥
 
   pub no_objects : NoneInObjects 0
   no_objects o s e below = absurd (omega arith)
 
-  pub next_object : (n : ℕ) → NoneInObjects n → NoOverflowOf l n → NoneInObjects (n + 1)
+  pub next_object : (n : ℕ) → NoneInObjects n → NoneOf (OverflowsIn l from to) n → NoneInObjects (n + 1)
   next_object n before here o s e below over = elim (cases_lt o n) [
     | inl less ↦ before o s e less over
     | inr same ↦
-        let is : o ≡ n = omega arith in here s e (subst (λ o. Overflows l o s e) is over)
+        let is : o ≡ n = omega arith in here s e (subst (λ o. OverflowsIn l from to o s e) is over)
   ]
 
-  pub all_objects : (n : ℕ) → length l.objects ≤ n → NoneInObjects n → NoOverflow l
-  all_objects n past before o s e over = let below = over.0 in before o s e (omega arith) over
+  pub all_objects : (n : ℕ) → length l.objects ≤ n → NoneInObjects n → NoneAtAll (OverflowsIn l from to)
+  all_objects n past before o s e over = let below = over.0.0 in before o s e (omega arith) over
 
-  pub object_told : (n : ℕ) (told : LinkFault) → NoneInObjects n → IsFirstOverflowOf l n told
-      → IsFirstOverflow l told
+  pub object_told : (n : ℕ) (told : LinkFault) → NoneInObjects n → IsFirstOf (OverflowsIn l from to) n told
+      → IsFirstAtAll (OverflowsIn l from to) told
   object_told n OutOfMemory before first = absurd first
   object_told n (At kind told s e) before first =
-      let P : LinkFaultKind → Option ℕ → Type 0 = λ kind told. IsFirstOverflow l (At kind told s e) in
+      let P : LinkFaultKind → Option ℕ → Type 0 = λ kind told. IsFirstAtAll (OverflowsIn l from to) (At kind told s e) in
       let is : P fault.Overflow (Some n) = (first.2, earlier) in
       subst (λ kind. P kind told) (sym first.0) (subst (P fault.Overflow) (sym first.1) is)
     where
-      earlier : (p u f : ℕ) → Earlier p u f n s e → Overflows l p u f → ⊥
+      earlier : (p u f : ℕ) → Earlier p u f n s e → OverflowsIn l from to p u f → ⊥
       earlier p u f (inl less) over = before p u f less over
       earlier p u f (inr (same, later)) over =
-          first.3 u f (inr (refl, later)) (subst (λ o. Overflows l o u f) same over)
+          first.3 u f (inr (refl, later)) (subst (λ o. OverflowsIn l from to o u f) same over)
 
   -- the fields of an object, and then those of the objects behind it
-  pub objects_step : (file : List ℕ) (n : ℕ) (b : List ℕ) → drop n l.objects ≡ b ∷ drop (n + 1) l.objects
-      → with_fields_from l (n + 1) (drop (n + 1) l.objects) (with_fields l n b file)
-      ≡ with_fields_from l n (drop n l.objects) file
-  objects_step file n b here = ap (λ bs. with_fields_from l n bs file) (sym here)
+  pub objects_step : (part : List ℕ) (n : ℕ) (b : List ℕ) → drop n l.objects ≡ b ∷ drop (n + 1) l.objects
+      → part_with_fields_from l from to (n + 1) (drop (n + 1) l.objects) (part_with_fields l from to n b part)
+      ≡ part_with_fields_from l from to n (drop n l.objects) part
+  objects_step part n b here = ap (λ bs. part_with_fields_from l from to n bs part) (sym here)
 
-  pub objects_end : (file : List ℕ) (n : ℕ) → length l.objects ≤ n
-      → with_fields_from l n (drop n l.objects) file ≡ file
-  objects_end file n past = ap (λ bs. with_fields_from l n bs file) (drop_of_length-le l.objects past)
+  pub objects_end : (part : List ℕ) (n : ℕ) → length l.objects ≤ n
+      → part_with_fields_from l from to n (drop n l.objects) part ≡ part
+  objects_end part n past =
+      ap (λ bs. part_with_fields_from l from to n bs part) (drop_of_length-le l.objects past)

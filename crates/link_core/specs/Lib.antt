@@ -6,4 +6,5 @@ pub mod Laws
 pub mod Meant
 pub mod Named
 pub mod Overflows
+pub mod Parts
 pub mod Room

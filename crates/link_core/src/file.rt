@@ -12,12 +12,14 @@ ghost use Rattle.link_core.specs.Bytes.{file as file_of_link, raw_file as raw_fi
 ghost use Rattle.link_core.specs.Bytes.{table_bytes, with_got, with_stub};
 ghost use Rattle.link_core.specs.Overflows.{IsFirstOverflow, IsOverflowFault, NoOverflow};
 
-use crate::writing::{place_in_file, write_fields, write_sites};
+use crate::parts::write_fields;
+use crate::writing::{place_in_file, write_sites};
 use elf_object::RelocationKind;
 use got_pairs::{Entry, GotPlan, Need, Word};
 use link_faults::LinkFault;
 use link_needs::Plan;
 use std::alloc::AllocError;
+use std::thread::Threads;
 use tls_relocs::{Field, value};
 
 /// Puts zeros behind the file, up to an offset.
@@ -117,13 +119,13 @@ fn raw_file(plan: &Plan, mut sections: Vec<u8>) -> Result<Vec<u8>, AllocError>
 
 /// Writes all fields and sequences, or answers the first field that does not hold its value.
 #[tactic(auto, unfolding(crate::specs::Bytes::file))]
-fn write_all(plan: &Plan, file: &mut [u8]) -> Result<(), LinkFault>
+fn write_all<R: Threads + Sync>(rt: &R, plan: &Plan, file: &mut [u8]) -> Result<(), LinkFault>
     requires { file.old ≡ raw_file_of plan.now }
     ensures written { OnOk result (file.new ≡ file_of_link plan.now) }
     ensures fits { OnOk result (NoOverflow plan.now) }
     ensures overflow { IfErr result (IsFirstOverflow plan.now) }
 {
-    if let Err(fault) = write_fields(plan, file) {
+    if let Err(fault) = write_fields(rt, plan, file) {
         return Err(fault);
     }
     write_sites(plan, file);
@@ -131,13 +133,17 @@ fn write_all(plan: &Plan, file: &mut [u8]) -> Result<(), LinkFault>
 }
 
 /// The file of a link whose sections are laid down, or the first field that does not hold its value.
-pub fn file_of(plan: &Plan, sections: Vec<u8>) -> Result<Vec<u8>, LinkFault>
+pub fn file_of<R: Threads + Sync>(
+    rt: &R,
+    plan: &Plan,
+    sections: Vec<u8>,
+) -> Result<Vec<u8>, LinkFault>
     requires { sections.items ≡ sections_file (layout plan.now) plan.now.objects }
     ensures file { IfOk result (λ file. file.items ≡ file_of_link plan.now) }
     ensures fits { OnOk result (NoOverflow plan.now) }
     ensures overflow { IfErr result (IsOverflowFault plan.now) }
 {
     let mut file = raw_file(plan, sections)?;
-    write_all(plan, file.as_mut_slice())?;
+    write_all(rt, plan, file.as_mut_slice())?;
     Ok(file)
 }

@@ -54,6 +54,7 @@ mod laid;
 pub mod laws;
 mod linked;
 mod linking;
+mod parts;
 mod prepared;
 mod relocation_list;
 mod symbol_list;

@@ -90,7 +90,8 @@ fn finished(
 }
 
 /// The image of a link that no earlier fault stands in, or the first field that does not hold its value.
-fn image(
+fn image<R: Threads + Sync>(
+    rt: &R,
     alloc: Global,
     plan: &Plan,
     prepared: &Prepared,
@@ -103,7 +104,7 @@ fn image(
     ensures fits { OnOk result (NoOverflow plan.now) }
     ensures overflow { IfErr result (IsOverflowFault plan.now) }
 {
-    let file = file_of(plan, sections)?;
+    let file = file_of(rt, plan, sections)?;
     Ok(finished(alloc, plan, prepared, file)?)
 }
 
@@ -138,7 +139,12 @@ fn choices(alloc: Global, inputs: &Inputs) -> Result<Vec<Vec<Choice>>, AllocErro
 
 /// What a link that no earlier fault stands in gives, or the first field that does not hold its value.
 #[tactic(auto, unfolding(crate::specs::Images::linked_of))]
-fn linked(alloc: Global, prepared: &Prepared, sections: Vec<u8>) -> Result<Linked, LinkFault>
+fn linked<R: Threads + Sync>(
+    rt: &R,
+    alloc: Global,
+    prepared: &Prepared,
+    sections: Vec<u8>,
+) -> Result<Linked, LinkFault>
     requires sound { IsSound prepared.now }
     requires laid { sections.items ≡ sections_file (layout prepared.now) prepared.now.objects }
     ensures linked { IfOk result (λ linked. linked ≡ linked_of prepared.now) }
@@ -147,7 +153,7 @@ fn linked(alloc: Global, prepared: &Prepared, sections: Vec<u8>) -> Result<Linke
 {
     let inputs = &prepared.inputs;
     let plan = plan_of(alloc, inputs)?;
-    let image = image(alloc, &plan, prepared, sections)?;
+    let image = image(rt, alloc, &plan, prepared, sections)?;
     let choices = choices(alloc, inputs)?;
     Ok(Linked { image, choices })
 }
@@ -156,7 +162,7 @@ fn linked(alloc: Global, prepared: &Prepared, sections: Vec<u8>) -> Result<Linke
 /// order, the image's own included where it is one. `sites` has the sequences of each object, and `relax` says whether
 /// they may be rewritten. Answers the first fault: the kinds in their order, `Overflow` last, and within a kind the
 /// first object, section and entry.
-pub fn link<'a, R: Threads>(
+pub fn link<'a, R: Threads + Sync>(
     rt: &R,
     alloc: Global,
     objects: &[Object<'a>],
@@ -179,5 +185,5 @@ pub fn link<'a, R: Threads>(
     ask_kind(objects, kind)?;
     let Laid { placement, file } = laid?;
     let prepared = within_limits(alloc, objects, sites, kind, relax, bindings, placement)?;
-    linked(alloc, &prepared, file)
+    linked(rt, alloc, &prepared, file)
 }

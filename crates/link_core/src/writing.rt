@@ -1,7 +1,7 @@
 //! The fields of relocations, and the sequences in the place of rewritten ones, written in the file.
 
-ghost use Rattle.std.specs.Prelude.{◌≡◌, ◌+◌, ◌^◌, ◌<◌, ◌≤◌, [], ◌∷◌, IfErr, OnErr, OnOk, Some};
-ghost use Rattle.std.specs.Prelude.{fold, length, unwrap_or};
+ghost use Rattle.std.specs.Prelude.{◌≡◌, ◌+◌, ◌-◌, ◌^◌, ◌<◌, ◌≤◌, ◌&&◌, [], ◌∷◌, IfErr, OnErr, OnOk, Some};
+ghost use Rattle.std.specs.Prelude.{fold, length, nat_le, nat_lt, unwrap_or};
 ghost use Rattle.std.specs.List.{Contains};
 ghost use Rattle.elf_object.specs.Lent.{relocation_target, relocations};
 ghost use Rattle.elf_object.specs.Object.{section_count};
@@ -12,11 +12,13 @@ ghost use Rattle.tls_layout.specs.Places.{address_of};
 ghost use Rattle.tls_relocs.specs.Fields.{field_patch, width_of};
 ghost use Rattle.tls_relocs.specs.Patches.{patched};
 ghost use Rattle.tls_symbols.specs.Bindings.{object_at};
-ghost use Rattle.link_core.specs.Bytes.{raw_file, with_field, with_fields, with_fields_from, with_table};
-ghost use Rattle.link_core.specs.Bytes.{with_new_field, with_site, with_sites_from};
+ghost use Rattle.link_core.specs.Bytes.{raw_file, with_new_field, with_site, with_sites_from};
+ghost use Rattle.link_core.specs.Faults.{Overflows};
 ghost use Rattle.link_needs.specs.Linking.{choice, layout, sites_at};
-ghost use Rattle.link_core.specs.Overflows.{IsFirstOverflow, IsFirstOverflowIn, IsFirstOverflowOf};
-ghost use Rattle.link_core.specs.Overflows.{IsFilled, IsOverflow, NoOverflow, NoOverflowIn, NoOverflowOf};
+ghost use Rattle.link_core.specs.Overflows.{IsFilled, IsFirstAtAll, IsFirstIn, IsFirstOf, IsOverflow};
+ghost use Rattle.link_core.specs.Overflows.{NoneAtAll, NoneIn, NoneOf};
+ghost use Rattle.link_core.specs.Parts.{part_with_field, part_with_fields, part_with_fields_from, part_with_held};
+ghost use Rattle.link_core.specs.Parts.{part_with_table, start_in, IsInside, IsPart, OverflowsIn};
 ghost use Rattle.link_core.specs.Room.{HasRoom};
 ghost use Rattle.relax_sites.specs.Rows.{new_field as new_field_of};
 
@@ -27,6 +29,13 @@ use relax_sites::{NewField, new_field, rewrite};
 use section_file::offset_of;
 use sequence_match::Site;
 use tls_relocs::{Field, Overflow, apply};
+
+/// Whether a number stands from one on and before another.
+fn is_between(from: u64, number: u64, to: u64) -> bool
+    ensures { result ≡ (nat_le from number && nat_lt number to) }
+{
+    from <= number && number < to
+}
 
 /// Where the byte of an address stands in the file.
 #[inline(always)]
@@ -39,15 +48,16 @@ pub fn place_in_file(plan: &Plan, address: u64) -> u64
     offset_of(inputs.kind, address)
 }
 
-/// Writes a field at an address, if it has bytes.
+/// Writes a field at an address, if it has bytes, in a part of the file that begins there.
 #[tactic(auto, using(crate::proofs::WritingRoom::patched_nothing))]
 #[inline(always)]
-fn put(plan: &Plan, place: u64, field: Field, file: &mut [u8])
-    requires room { HasRoom plan.now place (width_of field) (length file.old) }
-    ensures { file.new ≡ patched (field_patch (file_offset (layout plan.now) place) field ∷ []) file.old }
+fn put(plan: &Plan, from: u64, place: u64, field: Field, part: &mut [u8])
+    requires room { HasRoom plan.now place (width_of field) (from + length part.old) }
+    requires behind { 0 < width_of field → from ≤ file_offset (layout plan.now) place }
+    ensures { part.new ≡ patched (field_patch (file_offset (layout plan.now) place - from) field ∷ []) part.old }
 {
     if field.width() > 0 {
-        apply(field, file, place_in_file(plan, place) as usize);
+        apply(field, part, (place_in_file(plan, place) - from) as usize);
     }
 }
 
@@ -55,18 +65,19 @@ fn put(plan: &Plan, place: u64, field: Field, file: &mut [u8])
 #[inline(always)]
 fn fill_field(
     plan: &Plan,
+    from: u64,
     object: usize,
     section: u32,
     address: u64,
     relocation: &Relocation,
-    file: &mut [u8],
+    part: &mut [u8],
 ) -> Result<(), Overflow>
     requires object { object < length plan.now.objects }
     requires own { Contains (relocations (object_at plan.now.objects object) section) relocation.now }
-    requires address { address ≡ unwrap_or (address_of (layout plan.now) object section) 0 }
-    requires filled { length file.old ≡ length (raw_file plan.now) }
-    ensures written { OnOk result (file.new ≡ with_field plan.now object section file.old relocation.now) }
-    ensures filled { length file.new ≡ length (raw_file plan.now) }
+    requires address { address_of (layout plan.now) object section ≡ Some address }
+    requires inside { IsInside plan.now from (length part.old) object section address }
+    ensures written { OnOk result (part.new ≡ part_with_field plan.now from object section part.old relocation.now) }
+    ensures filled { length part.new ≡ length part.old }
     ensures fits { OnOk result (IsFilled plan.now object section relocation.now) }
     ensures overflow { OnErr result (IsOverflow plan.now object section relocation.now) }
 {
@@ -82,7 +93,7 @@ fn fill_field(
     let place = address + relocation.offset;
     match plan.field(object, place, relocation, symbol) {
         Ok(field) => {
-            put(plan, place, field, file);
+            put(plan, from, place, field, part);
             Ok(())
         }
         Err(unfit) => Err(unfit),
@@ -94,27 +105,28 @@ fn fill_field(
 #[inline(always)]
 fn write_field(
     plan: &Plan,
+    from: u64,
     object: usize,
     section: u32,
     address: u64,
     relocation: &Relocation,
-    file: &mut [u8],
+    part: &mut [u8],
 ) -> Result<(), Overflow>
     requires object { object < length plan.now.objects }
     requires own { Contains (relocations (object_at plan.now.objects object) section) relocation.now }
-    requires address { address ≡ unwrap_or (address_of (layout plan.now) object section) 0 }
-    requires filled { length file.old ≡ length (raw_file plan.now) }
-    ensures written { OnOk result (file.new ≡ with_field plan.now object section file.old relocation.now) }
-    ensures filled { length file.new ≡ length (raw_file plan.now) }
+    requires address { address_of (layout plan.now) object section ≡ Some address }
+    requires inside { IsInside plan.now from (length part.old) object section address }
+    ensures written { OnOk result (part.new ≡ part_with_field plan.now from object section part.old relocation.now) }
+    ensures filled { length part.new ≡ length part.old }
     ensures fits { OnOk result (IsFilled plan.now object section relocation.now) }
     ensures overflow { OnErr result (IsOverflow plan.now object section relocation.now) }
 {
     match relocation.kind {
-        RelocationKind::Pc32 => fill_field(plan, object, section, address, relocation, file),
-        RelocationKind::Plt32 => fill_field(plan, object, section, address, relocation, file),
-        RelocationKind::TpOff32 => fill_field(plan, object, section, address, relocation, file),
-        RelocationKind::Absolute64 => fill_field(plan, object, section, address, relocation, file),
-        _ => fill_field(plan, object, section, address, relocation, file),
+        RelocationKind::Pc32 => fill_field(plan, from, object, section, address, relocation, part),
+        RelocationKind::Plt32 => fill_field(plan, from, object, section, address, relocation, part),
+        RelocationKind::TpOff32 => fill_field(plan, from, object, section, address, relocation, part),
+        RelocationKind::Absolute64 => fill_field(plan, from, object, section, address, relocation, part),
+        _ => fill_field(plan, from, object, section, address, relocation, part),
     }
 }
 
@@ -130,28 +142,30 @@ fn overflow(object: usize, section: u32, entry: u64) -> LinkFault
     }
 }
 
-/// Writes the fields of the relocations of a section, which the table holds.
+/// Writes the fields of the relocations of a section, which the table holds. The section begins at this address.
 fn write_held(
     plan: &Plan,
+    from: u64,
     number: usize,
     table: u32,
     section: u32,
-    file: &mut [u8],
+    address: u64,
+    part: &mut [u8],
 ) -> Result<(), LinkFault>
     requires object { number < length plan.now.objects }
     requires table { (0 < table) × (table < section_count (object_at plan.now.objects number)) }
     requires target { nonzero (relocation_target (object_at plan.now.objects number) table) ≡ Some section }
-    requires filled { length file.old ≡ length (raw_file plan.now) }
-    ensures written { OnOk result
-        (file.new ≡ with_table plan.now number (object_at plan.now.objects number) file.old table) }
-    ensures filled { length file.new ≡ length (raw_file plan.now) }
-    ensures fits { OnOk result (NoOverflowIn plan.now number table) }
-    ensures overflow { IfErr result (IsFirstOverflowIn plan.now number table) }
+    requires address { address_of (layout plan.now) number section ≡ Some address }
+    requires inside { IsInside plan.now from (length part.old) number section address }
+    ensures written { OnOk result (part.new ≡ part_with_held
+        plan.now from number (object_at plan.now.objects number) part.old table (Some address)) }
+    ensures filled { length part.new ≡ length part.old }
+    ensures fits { OnOk result (NoneIn (Overflows plan.now) number table) }
+    ensures overflow { IfErr result (IsFirstIn (Overflows plan.now) number table) }
 {
-    let address = plan.inputs.section_address(number, section);
     let mut entry = 0;
     for relocation in plan.inputs.object(number).relocs(section) {
-        if let Err(_) = write_field(plan, number, section, address, &relocation, file) {
+        if let Err(_) = write_field(plan, from, number, section, address, &relocation, part) {
             return Err(overflow(number, table, entry));
         }
         entry += 1;
@@ -159,52 +173,103 @@ fn write_held(
     Ok(())
 }
 
-/// Writes the fields of the relocations that a section holds, if it holds any.
-fn write_table(plan: &Plan, number: usize, table: u32, file: &mut [u8]) -> Result<(), LinkFault>
+/// Where a section begins, if that is in the file from one offset on and before another.
+fn start_in(plan: &Plan, from: u64, to: u64, number: usize, section: u32) -> Option<u64>
+    ensures { result ≡ start_in plan.now from to number section }
+{
+    let inputs = plan.inputs;
+    match inputs.placement.address(number, section) {
+        Some(address) if is_between(from, place_in_file(plan, address), to) => Some(address),
+        _ => None,
+    }
+}
+
+/// Writes the fields of the relocations of a section, which the table holds, if the section begins in the part.
+fn write_section(
+    plan: &Plan,
+    from: u64,
+    to: u64,
+    number: usize,
+    table: u32,
+    section: u32,
+    part: &mut [u8],
+) -> Result<(), LinkFault>
     requires object { number < length plan.now.objects }
     requires table { (0 < table) × (table < section_count (object_at plan.now.objects number)) }
-    requires filled { length file.old ≡ length (raw_file plan.now) }
-    ensures written { OnOk result
-        (file.new ≡ with_table plan.now number (object_at plan.now.objects number) file.old table) }
-    ensures filled { length file.new ≡ length (raw_file plan.now) }
-    ensures fits { OnOk result (NoOverflowIn plan.now number table) }
-    ensures overflow { IfErr result (IsFirstOverflowIn plan.now number table) }
+    requires target { nonzero (relocation_target (object_at plan.now.objects number) table) ≡ Some section }
+    requires part { IsPart plan.now from to (length part.old) }
+    ensures written { OnOk result (part.new ≡ part_with_table
+        plan.now from to number (object_at plan.now.objects number) part.old table) }
+    ensures filled { length part.new ≡ length part.old }
+    ensures fits { OnOk result (NoneIn (OverflowsIn plan.now from to) number table) }
+    ensures overflow { IfErr result (IsFirstIn (OverflowsIn plan.now from to) number table) }
 {
-    match plan.inputs.object(number).relocation_target(table) {
-        Some(section) => write_held(plan, number, table, section, file),
+    match start_in(plan, from, to, number, section) {
+        Some(address) => write_held(plan, from, number, table, section, address, part),
         None => Ok(()),
     }
 }
 
-/// Writes the fields of an object's relocations.
-fn write_object(plan: &Plan, number: usize, file: &mut [u8]) -> Result<(), LinkFault>
+/// Writes the fields of the relocations that a section holds, if it holds any, and theirs begins in the part.
+fn write_table(
+    plan: &Plan,
+    from: u64,
+    to: u64,
+    number: usize,
+    table: u32,
+    part: &mut [u8],
+) -> Result<(), LinkFault>
     requires object { number < length plan.now.objects }
-    requires filled { length file.old ≡ length (raw_file plan.now) }
-    ensures written { OnOk result
-        (file.new ≡ with_fields plan.now number (object_at plan.now.objects number) file.old) }
-    ensures filled { length file.new ≡ length (raw_file plan.now) }
-    ensures fits { OnOk result (NoOverflowOf plan.now number) }
-    ensures overflow { IfErr result (IsFirstOverflowOf plan.now number) }
+    requires table { (0 < table) × (table < section_count (object_at plan.now.objects number)) }
+    requires part { IsPart plan.now from to (length part.old) }
+    ensures written { OnOk result (part.new ≡ part_with_table
+        plan.now from to number (object_at plan.now.objects number) part.old table) }
+    ensures filled { length part.new ≡ length part.old }
+    ensures fits { OnOk result (NoneIn (OverflowsIn plan.now from to) number table) }
+    ensures overflow { IfErr result (IsFirstIn (OverflowsIn plan.now from to) number table) }
+{
+    match plan.inputs.object(number).relocation_target(table) {
+        Some(section) => write_section(plan, from, to, number, table, section, part),
+        None => Ok(()),
+    }
+}
+
+/// Writes the fields of an object's relocations in a part of the file.
+fn write_object(
+    plan: &Plan,
+    from: u64,
+    to: u64,
+    number: usize,
+    part: &mut [u8],
+) -> Result<(), LinkFault>
+    requires object { number < length plan.now.objects }
+    requires part { IsPart plan.now from to (length part.old) }
+    ensures written { OnOk result (part.new ≡ part_with_fields
+        plan.now from to number (object_at plan.now.objects number) part.old) }
+    ensures filled { length part.new ≡ length part.old }
+    ensures fits { OnOk result (NoneOf (OverflowsIn plan.now from to) number) }
+    ensures overflow { IfErr result (IsFirstOf (OverflowsIn plan.now from to) number) }
 {
     for table in 1..plan.inputs.object(number).section_count() {
-        if let Err(fault) = write_table(plan, number, table, file) {
+        if let Err(fault) = write_table(plan, from, to, number, table, part) {
             return Err(fault);
         }
     }
     Ok(())
 }
 
-/// Writes the fields of all relocations, or answers the first that does not hold its value.
-pub fn write_fields(plan: &Plan, file: &mut [u8]) -> Result<(), LinkFault>
-    requires filled { length file.old ≡ length (raw_file plan.now) }
-    ensures written { OnOk result (file.new ≡ with_fields_from plan.now 0 plan.now.objects file.old) }
-    ensures filled { length file.new ≡ length (raw_file plan.now) }
-    ensures fits { OnOk result (NoOverflow plan.now) }
-    ensures overflow { IfErr result (IsFirstOverflow plan.now) }
+/// Writes the fields of all relocations whose sections begin in a part of the file, at an offset of the file from one
+/// on, where the part begins, and before another; or answers the first that does not hold its value.
+pub fn write_part(plan: &Plan, from: u64, to: u64, part: &mut [u8]) -> Result<(), LinkFault>
+    requires { IsPart plan.now from to (length part.old) }
+    ensures written { OnOk result (part.new ≡ part_with_fields_from plan.now from to 0 plan.now.objects part.old) }
+    ensures filled { length part.new ≡ length part.old }
+    ensures fits { OnOk result (NoneAtAll (OverflowsIn plan.now from to)) }
+    ensures overflow { IfErr result (IsFirstAtAll (OverflowsIn plan.now from to)) }
 {
     let inputs = plan.inputs;
     for number in 0..inputs.objects.len() {
-        if let Err(fault) = write_object(plan, number, file) {
+        if let Err(fault) = write_object(plan, from, to, number, part) {
             return Err(fault);
         }
     }
@@ -235,7 +300,7 @@ fn write_new_field(
     let symbol = plan.symbol_value(object, relocation.symbol);
     // Distances inside an image fit.
     if let Ok(value) = plan.field(object, place, &relocation, symbol) {
-        put(plan, place, value, file);
+        put(plan, 0, place, value, file);
     }
 }
 

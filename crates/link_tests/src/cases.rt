@@ -63,7 +63,7 @@ fn all_sites(alloc: Global, objects: &[Object]) -> Result<Vec<Vec<Site>>, Fail>
 
 /// Links objects beside what is loaded with them.
 fn linked<'a>(
-    rt: &impl Threads,
+    rt: &(impl Threads + Sync),
     alloc: Global,
     kind: &str,
     objects: &[Object<'a>],
@@ -77,7 +77,7 @@ fn linked<'a>(
 
 /// Links the objects of files beside a module of objects.
 fn answer<'a>(
-    rt: &impl Threads,
+    rt: &(impl Threads + Sync),
     alloc: Global,
     kind: &str,
     files: &'a [Vec<u8>],
@@ -119,7 +119,7 @@ fn push_bytes(alloc: Global, text: &mut String, linked: &Linked) -> Result<(), A
 }
 
 /// What is told of a link.
-fn told(rt: &impl Threads, alloc: Global, kind: &str, objects: &str) -> Result<String, Fail> {
+fn told(rt: &(impl Threads + Sync), alloc: Global, kind: &str, objects: &str) -> Result<String, Fail> {
     let files = files_of(alloc, objects)?;
     let module = files_of(alloc, STARTUP)?;
     let mut text = String::new(alloc);
@@ -150,7 +150,7 @@ fn squeezed(alloc: Global, text: &str) -> Result<String, AllocError> {
 }
 
 /// Compares what is told in each kind of image. Among bytes a dash stands for eight zeros.
-fn check(rt: &(impl Abort + Threads), alloc: Global, case: &str) -> Result<(), Fail> {
+fn check(rt: &(impl Abort + Threads + Sync), alloc: Global, case: &str) -> Result<(), Fail> {
     let (given, want) = case.split_once(" -> ").ok_or("an answer")?;
     let (kinds, objects) = given.split_once(' ').ok_or("objects")?;
     let (text, digits) = want.split_once(" # ").unwrap_or((want, ""));
@@ -167,7 +167,7 @@ fn check(rt: &(impl Abort + Threads), alloc: Global, case: &str) -> Result<(), F
 }
 
 /// Compares what is told of each case. A star begins a case.
-pub(crate) fn check_all(rt: &(impl Abort + Threads), alloc: Global, cases: &str) -> Result<(), Fail> {
+pub(crate) fn check_all(rt: &(impl Abort + Threads + Sync), alloc: Global, cases: &str) -> Result<(), Fail> {
     for case in cases.split('*') {
         let case = squeezed(alloc, case)?;
         if !case.is_empty() {

@@ -66,7 +66,7 @@ fn from_linked(alloc: Global, job: &Job, all: Vec<Linked>) -> Result<Modules, Al
 }
 
 /// The images of a job that has these objects.
-fn from_objects<R: Threads>(
+fn from_objects<R: Threads + Sync>(
     rt: &R,
     alloc: Global,
     job: &Job,

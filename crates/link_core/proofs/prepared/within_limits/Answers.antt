@@ -4,6 +4,7 @@ use Rattle.std.proofs.lemmas.Result.{err_from_is_err_and}
 use Rattle.std.specs.Global.{Vec}
 use Rattle.sequence_match.proofs.SitesSymbols.{sites_symbols}
 use Rattle.link_refusals.specs.Counts.{relocation_count}
+use Rattle.link_refusals.specs.Faults.{FitsStorage}
 use Rattle.sequence_forms.specs.declared.places.Site.{Site}
 use Rattle.tls_layout.specs.Places.{tls_alignment, tls_size, IsLawful}
 use Rattle.tls_layout.specs.Rounding.{round_up}
@@ -82,3 +83,53 @@ invariant_of-inputs c = record {
       c.in_ok-block_offset.ensures
       ∙ ap (λ (p : Layout). round_up (tls_size p.sections) (tls_alignment p.sections)) c.requires.places;
 }
+
+pub returns-clause-sound : goal.returns-clause-sound
+returns-clause-sound c = record {
+  resolved = c.requires.resolved;
+  kind = c.requires.kind;
+  limits = record {
+    lawful = subst IsLawful c.requires.places c.requires.lawful;
+    few = c.has_few_relocations-few.ensures.few.0 c.if-not-few.false;
+    short =
+        subst (λ n. n ≤ 2 ^ 22)
+        (size_is (link_of c.args.objects.now c.args.sites.now c.args.kind c.args.bindings.startup c.args.relax)
+        c.as_slice.result.now (map (λ name. name.now) c.as_slice-else-not-few.result.now)
+        (c.as_slice.ensures.value ∙ c.in_ok-own.ensures.symbols)
+        (names_are (link_of c.args.objects.now c.args.sites.now c.args.kind c.args.bindings.startup c.args.relax)
+        c.args.bindings.startup c.as_slice-else-not-few.result.now c.in_ok-imports.imports.keys
+        c.as_slice-else-not-few.ensures.keys c.in_ok-imports.ensures refl))
+        (c.names_fit.ensures.0 c.if-not-names_fit.false);
+  };
+  storage =
+      subst (λ xs. FitsStorage xs c.args.bindings.startup c.args.kind (tls_size
+      (layout (link_of c.args.objects.now c.args.sites.now c.args.kind c.args.bindings.startup c.args.relax)).sections))
+      c.requires.objects
+      (subst (λ n. FitsStorage c.args.bindings.objects c.args.bindings.startup c.args.kind n)
+      (c.tls_size.ensures.size ∙ ap (λ (p : Layout). tls_size p.sections) c.requires.places) c.in_ok-ask_tls.ensures);
+}
+
+pub invariant_of-result : goal.invariant_of-result
+invariant_of-result c =
+    let l = link_of c.args.objects.now c.args.sites.now c.args.kind c.args.bindings.startup c.args.relax in record {
+      given = record {
+        few_startup = c.requires.few;
+        are_objects = c.has_few_relocations-few.ensures.objects;
+        each = length-map c.args.sites.now (λ (own : Vec Site). own.items) ∙ c.requires.each;
+        are_sites = c.requires.sites;
+      };
+      limits = record {
+        lawful = subst IsLawful c.requires.places c.requires.lawful;
+        few = c.has_few_relocations-few.ensures.few.0 c.if-not-few.false;
+        short =
+            subst (λ n. n ≤ 2 ^ 22)
+            (size_is l c.as_slice.result.now (map (λ name. name.now) c.as_slice-else-not-few.result.now)
+            (c.as_slice.ensures.value ∙ c.in_ok-own.ensures.symbols)
+            (names_are l c.args.bindings.startup c.as_slice-else-not-few.result.now c.in_ok-imports.imports.keys
+            c.as_slice-else-not-few.ensures.keys c.in_ok-imports.ensures refl))
+            (c.names_fit.ensures.0 c.if-not-names_fit.false);
+      };
+      own_are = c.in_ok-own.ensures.symbols;
+      within = c.in_ok-own.ensures.within;
+      imports_are = c.in_ok-imports.ensures;
+    }

@@ -1,4 +1,5 @@
-use Rattle.std.proofs.Common.{[], ◌∷◌, ◌∙◌, ap, arith, sym, subst, ◌+◌}
+use Rattle.std.proofs.Common.{[], ◌∷◌, ◌∙◌, length, refl, ap, arith, sym, subst, ◌+◌, ◌-◌}
+use Rattle.std.specs.Prelude.{unwrap_or}
 use Rattle.section_file.specs.Files.{offset_of}
 use Rattle.tls_relocs.specs.Fields.{field_patch}
 use Rattle.tls_relocs.specs.Patches.{patched}
@@ -6,12 +7,13 @@ use Rattle.link_needs.specs.Given.{FitsTable, IsGiven}
 use Rattle.link_needs.specs.Linking.{layout}
 use Rattle.link_core.proofs.WritingFields.{field_fills, field_overflows, field_writes, names_symbol, nothing_fills}
 use Rattle.link_core.proofs.WritingFields.{nothing_writes, replaced_as, replaced_fills, replaced_writes}
-use Rattle.link_core.proofs.WritingRoom.{field_room}
+use Rattle.link_core.proofs.WritingRoom.{field_room, part_room}
 use Rattle.link_core.proofs.writing.fill_field.Goals as goal
 
 pub returns-in-Nothing-clause-written : goal.returns-in-Nothing-clause-written
 returns-in-Nothing-clause-written c =
-    nothing_writes c.args.plan.now c.args.object c.args.section c.args.relocation.now c.args.file.now c.in-Nothing.is
+    nothing_writes c.args.plan.now c.args.object c.args.section c.args.relocation.now c.args.from c.args.part.now
+    c.in-Nothing.is
 
 pub returns-in-Nothing-clause-fits : goal.returns-in-Nothing-clause-fits
 returns-in-Nothing-clause-fits c =
@@ -31,8 +33,8 @@ returns-then-is_replaced c =
     let is = replaced_as l o c.args.section r c.symbol_value-symbol.result c.symbol_value-symbol.ensures
     ∙ sym c.is_replaced.ensures ∙ c.if-is_replaced.true in
     record {
-      written = replaced_writes l o c.args.section r c.args.file.now is;
-      filled = c.requires.filled;
+      written = replaced_writes l o c.args.section r c.args.from c.args.part.now is;
+      filled = refl;
       fits = replaced_fills l o c.args.section r is;
       overflow = tt;
     }
@@ -44,7 +46,8 @@ overflow_add-place c =
     let limits = subst FitsTable c.plan.view_is c.plan.invariant.limits in
     let room = field_room l c.args.object c.args.section c.args.relocation.now given limits c.requires.object
     c.requires.own in
-    omega (arith, room.near, c.requires.address)
+    let begins = ap (λ a. unwrap_or a 0 + c.args.relocation.now.offset) c.requires.address in
+    omega (arith, room.near, begins)
 
 pub field-requires-clause-number : goal.field-requires-clause-number
 field-requires-clause-number c =
@@ -58,8 +61,9 @@ put-requires c =
     let r = c.args.relocation.now in
     let given = subst IsGiven c.plan.view_is c.plan.invariant.given in
     let limits = subst FitsTable c.plan.view_is c.plan.invariant.limits in
-    let room = field_room l c.args.object c.args.section r given limits c.requires.object c.requires.own in
-    record { room = rw (c.in-Ok.ensures.width, c.requires.address, c.requires.filled) room }
+    let room = part_room l c.args.from (length c.args.part.now) c.args.object c.args.section c.args.address r given
+    limits c.requires.object c.requires.own c.requires.address c.requires.inside in
+    record { room = rw c.in-Ok.ensures.width room.room; behind = rw c.in-Ok.ensures.width room.behind }
 
 pub returns-in-Ok : goal.returns-in-Ok
 returns-in-Ok c =
@@ -69,13 +73,15 @@ returns-in-Ok c =
     let r = c.args.relocation.now in
     let is = replaced_as l o t r c.symbol_value-symbol.result c.symbol_value-symbol.ensures
     ∙ sym c.is_replaced.ensures ∙ c.if-is_replaced.false in
-    let place = ap (λ n. n + r.offset) c.requires.address in
+    let from = c.args.from in
+    let part = c.args.part.now in
+    let place = sym (ap (λ a. unwrap_or a 0 + r.offset) c.requires.address) in
     let value = c.in-Ok.ensures.field t place in
     let put = c.put.ensures
-    ∙ ap (λ n. patched (field_patch (offset_of (layout l) n) c.in-Ok.field ∷ []) c.args.file.now) place in
+    ∙ ap (λ n. patched (field_patch (offset_of (layout l) n - from) c.in-Ok.field ∷ []) part) place in
     record {
-      written = put ∙ field_writes l o t r c.args.file.now c.in-Ok.field is value;
-      filled = c.put.auto.file ∙ c.requires.filled;
+      written = put ∙ field_writes l o t r from part c.in-Ok.field is value;
+      filled = c.put.auto.part;
       fits = field_fills l o t r c.in-Ok.field value;
       overflow = tt;
     }
@@ -90,7 +96,9 @@ returns-in-Err c =
     ∙ sym c.is_replaced.ensures ∙ c.if-is_replaced.false in
     record {
       written = tt;
-      filled = c.requires.filled;
+      filled = refl;
       fits = tt;
-      overflow = field_overflows l o t r is (c.in-Err.ensures.field t (ap (λ n. n + r.offset) c.requires.address));
+      overflow =
+          field_overflows l o t r is
+          (c.in-Err.ensures.field t (sym (ap (λ a. unwrap_or a 0 + r.offset) c.requires.address)));
     }

@@ -1,8 +1,9 @@
 use Rattle.std.proofs.Common.{◌∙◌, fold, length, sym, ap, arith, subst}
 use Rattle.elf_object.specs.Lent.{relocations}
-use Rattle.link_core.specs.Bytes.{with_field}
+use Rattle.link_core.specs.Faults.{Overflows}
 use Rattle.link_needs.specs.Linking.{object}
-use Rattle.link_core.specs.Overflows.{IsFirstOverflowIn}
+use Rattle.link_core.specs.Overflows.{IsFirstIn}
+use Rattle.link_core.specs.Parts.{part_with_field}
 use Rattle.link_core.proofs.WritingWalks.{first_at, first_told, none_in, none_next, rest_after, table_written}
 use Rattle.link_core.proofs.writing.write_held.Goals as goal
 
@@ -18,7 +19,7 @@ returns-in-Err-clause-overflow c =
     let here = first_at (relocations (object l o) t) c.next.new.self e r (sym c.in-Some.ensures.steps ∙ kept.2) in
     let told = first_told l o s t e r c.requires.object c.requires.table c.requires.target here
     c.in-Err.ensures.overflow kept.5 in
-    subst (IsFirstOverflowIn l o s) (sym c.overflow.ensures) told
+    subst (IsFirstIn (Overflows l) o s) (sym c.overflow.ensures) told
 
 pub loop-relocation-preserved : goal.loop-relocation-preserved
 loop-relocation-preserved c =
@@ -32,14 +33,15 @@ loop-relocation-preserved c =
     let kept = c.loop-relocation.invariant in
     let first = c.in-Some.ensures.steps in
     let left = sym first ∙ kept.2 in
+    let from = c.args.from in
     let all = relocations (object l o) t in (
       tt,
       tt,
       rest_after all rest e r left,
-      ap (λ file. fold (with_field l o t) file rest) c.in_default.ensures.written
-          ∙ ap (fold (with_field l o t) c.loop-relocation.file) (sym first)
+      ap (λ part. fold (part_with_field l from o t) part rest) c.in_default.ensures.written
+          ∙ ap (fold (part_with_field l from o t) c.loop-relocation.part) (sym first)
           ∙ kept.3,
-      c.write_field.ensures.filled,
+      c.write_field.ensures.filled ∙ kept.4,
       none_next l o s t e r c.requires.target (first_at all rest e r left) c.in_default.ensures.fits kept.5,
       omega (arith, kept.6, ap length first),
     )
@@ -50,8 +52,8 @@ returns-clause-written c =
     let o = c.args.number in
     let t = c.args.section in
     let kept = c.loop-relocation.invariant in
-    ap (fold (with_field l o t) c.loop-relocation.file) (sym c.in-None.ensures.steps.0)
-    ∙ kept.3 ∙ table_written l o c.args.table t c.args.file.now c.requires.target
+    ap (fold (part_with_field l c.args.from o t) c.loop-relocation.part) (sym c.in-None.ensures.steps.0)
+    ∙ kept.3 ∙ table_written l o c.args.table c.args.from t c.args.address c.args.part.now c.requires.target
 
 pub returns-clause-fits : goal.returns-clause-fits
 returns-clause-fits c =

@@ -1,4 +1,4 @@
-use Rattle.std.proofs.Common.{◌+◌, ◌∙◌, [], ◌∷◌, Some, ap, subst, arith}
+use Rattle.std.proofs.Common.{◌≡◌, ◌+◌, ◌-◌, ◌∙◌, [], ◌∷◌, Some, zero-add, ap, subst, arith}
 use Rattle.elf_object.specs.declared.relocation.Relocation.{Relocation}
 use Rattle.section_file.specs.Files.{offset_of}
 use Rattle.tls_relocs.specs.Fields.{field_patch}
@@ -58,7 +58,9 @@ put-requires c =
     let fits = new_room l c.args.object site (choice l c.args.object site) c.args.field.now room c.requires.field in
     record {
       room =
-          rw (c.in-Ok.ensures.width, c.new_relocation-relocation.ensures, c.requires.address, c.requires.filled) fits;
+          rw (zero-add, c.in-Ok.ensures.width, c.new_relocation-relocation.ensures, c.requires.address,
+          c.requires.filled) fits;
+      behind = λ wide. omega arith;
     }
 
 pub returns-in-Ok-clause-written : goal.returns-in-Ok-clause-written
@@ -72,8 +74,10 @@ returns-in-Ok-clause-written c =
     let begins = ap (λ n. n + c.new_relocation-relocation.result.offset) c.requires.address in
     let at = begins ∙ ap (λ (r : Relocation). place l o t r.offset) same in
     let is = c.in-Ok.ensures.field t begins ∙ ap (field l o t) same in
+    let start : offset_of (layout l) (c.args.address + c.new_relocation-relocation.result.offset) - 0
+    ≡ offset_of (layout l) (c.args.address + c.new_relocation-relocation.result.offset) = omega arith in
     c.put.ensures
-    ∙ ap (λ n. patched (field_patch (offset_of (layout l) n) c.in-Ok.value ∷ []) c.args.file.now) at
+    ∙ ap (λ n. patched (field_patch n c.in-Ok.value ∷ []) c.args.file.now) (start ∙ ap (offset_of (layout l)) at)
     ∙ new_writes l o site c.args.file.now f (Some c.in-Ok.value) is
 
 pub returns-in_default-clause-written : goal.returns-in_default-clause-written

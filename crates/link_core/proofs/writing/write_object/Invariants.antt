@@ -1,7 +1,7 @@
 use Rattle.std.proofs.Common.{◌≡◌, ◌-◌, fold, length}
 use Rattle.std.specs.List.{range_with_len}
 use Rattle.elf_object.specs.Object.{section_count}
-use Rattle.link_core.specs.Bytes.{raw_file, with_fields, with_table}
+use Rattle.link_core.specs.Parts.{part_with_fields, part_with_table}
 use Rattle.link_needs.specs.Linking.{object}
 use Rattle.link_core.proofs.WritingWalks.{NoneInTables}
 use Rattle.link_core.proofs.writing.write_object.Given as goal
@@ -9,8 +9,8 @@ use Rattle.link_core.proofs.writing.write_object.Given as goal
 -- the tables that are left write what all do; none so far overflows
 abbrev pub invariant-loop-table : goal.invariant-loop-table
 invariant-loop-table l =
-    (fold (with_table l.plan l.number (object l.plan l.number)) l.file
+    (fold (part_with_table l.plan l.from l.to l.number (object l.plan l.number)) l.part
     (range_with_len l.table (section_count (object l.plan l.number) - l.table))
-    ≡ with_fields l.plan l.number (object l.plan l.number) l.fn.file) ×
-    (length l.file ≡ length (raw_file l.plan)) ×
-    NoneInTables l.plan l.number l.table
+    ≡ part_with_fields l.plan l.from l.to l.number (object l.plan l.number) l.fn.part) ×
+    (length l.part ≡ length l.fn.part) ×
+    NoneInTables l.plan l.from l.to l.number l.table

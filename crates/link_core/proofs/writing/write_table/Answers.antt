@@ -2,7 +2,7 @@ use Rattle.std.proofs.Common.{◌∙◌, sym, ap}
 use Rattle.object_faults.specs.Firsts.{nonzero}
 use Rattle.elf_object.specs.Lent.{relocation_target}
 use Rattle.link_needs.specs.Linking.{object}
-use Rattle.link_core.proofs.WritingWalks.{none_held, nothing_held}
+use Rattle.link_core.proofs.WritingWalks.{none_held, none_of_part, nothing_held}
 use Rattle.link_core.proofs.writing.write_table.Goals as goal
 
 pub returns-in-None-clause-written : goal.returns-in-None-clause-written
@@ -11,7 +11,8 @@ returns-in-None-clause-written c =
     let o = c.args.number in
     let s = c.args.table in
     let b = c.object.ensures ∙ ap (λ l. object l o) c.plan.view_is in
-    nothing_held l o s c.args.file.now (sym (c.in-None.ensures.target ∙ ap (λ b. nonzero (relocation_target b s)) b))
+    nothing_held l o s c.args.from c.args.to c.args.part.now
+    (sym (c.in-None.ensures.target ∙ ap (λ b. nonzero (relocation_target b s)) b))
 
 pub returns-in-None-clause-fits : goal.returns-in-None-clause-fits
 returns-in-None-clause-fits c =
@@ -19,4 +20,5 @@ returns-in-None-clause-fits c =
     let o = c.args.number in
     let s = c.args.table in
     let b = c.object.ensures ∙ ap (λ l. object l o) c.plan.view_is in
-    none_held l o s (sym (c.in-None.ensures.target ∙ ap (λ b. nonzero (relocation_target b s)) b))
+    none_of_part l o s c.args.from c.args.to
+    (none_held l o s (sym (c.in-None.ensures.target ∙ ap (λ b. nonzero (relocation_target b s)) b)))

@@ -1,0 +1,329 @@
+-- The fields of a part of the file are those of the two parts that a cut makes of it.
+use Rattle.std.proofs.Common.{◌≡◌, ◌+◌, ◌-◌, ◌<◌, ◌≤◌, ◌^◌, ◌∙◌, ◌++◌, ℕ, suc, Bool, true, false, List, [], ◌∷◌}
+use Rattle.std.proofs.Common.{Option, Some, None, length, inl, inr, refl, sym, ap, subst, arith}
+use Rattle.std.specs.Prelude.{fold, slice_index_or, unwrap_or, if◌then◌else◌}
+use Rattle.std.specs.List.{Contains, range_with_len}
+use Rattle.std.proofs.lemmas.Bool.{cases_lt}
+use Rattle.std.proofs.lemmas.Option.{same_Some}
+use Rattle.elf_records.specs.Fields.{splice}
+use Rattle.elf_object.specs.declared.relocation.Relocation.{Relocation}
+use Rattle.elf_object.specs.Lent.{relocation_target, relocations, section_size}
+use Rattle.elf_object.specs.Object.{section_count}
+use Rattle.elf_object.specs.Relocations.{field_width}
+use Rattle.section_file.specs.Files.{offset_of}
+use Rattle.tls_layout.specs.Places.{address_of}
+use Rattle.tls_relocs.specs.declared.fields.Field.TheVariants.{Empty}
+use Rattle.tls_relocs.specs.Fields.{field_bytes}
+use Rattle.tls_symbols.specs.Faults.{held_in}
+use Rattle.link_needs.specs.Linking.{Linking, layout, object, place}
+use Rattle.link_needs.specs.Given.{FitsTable, IsGiven}
+use Rattle.link_needs.specs.Values.{field, is_replaced}
+use Rattle.link_core.specs.Bytes.{with_field, with_fields, with_fields_from, with_table}
+use Rattle.link_core.specs.Parts.{IsCut, IsPart, part_with_field, part_with_fields, part_with_fields_from}
+use Rattle.link_core.specs.Parts.{part_with_held, part_with_table, start_at, start_in}
+use Rattle.link_core.proofs.LengthsKept.{field_at_most}
+use Rattle.link_core.proofs.PartSplit.{address_near, begins_in, first_part, start_before, start_behind, start_yes}
+use Rattle.link_core.proofs.PartSteps.{Splits, fold_none, fold_same, fold_still, splits_after, splits_back}
+use Rattle.link_core.proofs.PartSteps.{splits_fold, splits_front, splits_nothing}
+use Rattle.link_core.proofs.StandingAway.{held_of}
+use Rattle.link_core.proofs.StandingPlaces.{field_in}
+use Rattle.link_core.proofs.StandingSteps.{from_zero}
+
+-- what is written for a relocation
+abbrev bytes_for : Linking → ℕ → ℕ → Relocation → List ℕ
+bytes_for l o t r = field_bytes (unwrap_or (field l o t r) Empty)
+
+-- it stands in its section, which begins at the address
+record StandsIn (l : Linking) (o t address : ℕ) (r : Relocation) : Type 0 where
+  at : offset_of (layout l) (place l o t r.offset) ≡ offset_of (layout l) address + r.offset
+  fits : r.offset + length (bytes_for l o t r) ≤ section_size (object l o) t
+
+module _ (l : Linking) (given : IsGiven l) (limits : FitsTable l) where
+  stands_in : (o t address : ℕ) (r : Relocation) → o < length l.objects → Contains (relocations (object l o) t) r
+      → address_of (layout l) o t ≡ Some address → StandsIn l o t address r
+  unfolding field
+  stands_in o t address r there has at =
+      let is = field_in l given limits o t r there has in
+      let same : is.address ≡ address = same_Some is.address address (sym is.lies.address_is ∙ at) in
+      let few : length (bytes_for l o t r) ≤ field_width r.kind = field_at_most r.kind _ r.addend _ _ in record {
+        at = omega (arith, is.place_is, is.lies.above, same);
+        fits = omega (arith, is.fits, few);
+      }
+
+  -- the relocations that a section holds have a section that has an address
+  pub has_address : (o s : ℕ) (r : Relocation) → o < length l.objects → Contains (held_in (object l o) s) r
+      → address_of (layout l) o (relocation_target (object l o) s) ≡ None → ⊥
+  unfolding held_in
+  has_address o s r there has none =
+      let t = relocation_target (object l o) s in
+      let is = field_in l given limits o t r there (held_of (object l o) t r has) in
+      let some = is.lies.address_is in cc
+
+  -- ** a cut
+
+  module _ (from cut to m : ℕ) (low : from ≤ cut) (high : from < cut → cut ≤ to)
+      (first : IsPart l from cut (cut - from)) (second : IsPart l cut to m) where
+    abbrev n : ℕ
+    n = cut - from
+
+    -- a field of a section that begins before the cut
+    front_field : (o t address : ℕ) (r : Relocation) → o < length l.objects → Contains (relocations (object l o) t) r
+        → address_of (layout l) o t ≡ Some address → from ≤ offset_of (layout l) address
+        → offset_of (layout l) address < cut
+        → Splits n m (λ now. part_with_field l from o t now r) (λ now. part_with_field l from o t now r) (λ now. now)
+    front_field o t address r there has at above below = of_test (is_replaced l o r)
+      where
+        place_of : ℕ
+        place_of = offset_of (layout l) (place l o t r.offset) - from
+
+        bytes : List ℕ
+        bytes = bytes_for l o t r
+
+        inside : 0 < length bytes → place_of + length bytes ≤ n
+        inside some =
+            let is = stands_in o t address r there has at in
+            let begin : start_in l from cut o t ≡ Some address =
+            ap (start_at (layout l) from cut) at ∙ start_yes (layout l) from cut address above below in
+            let ends = first o t address there begin (omega (arith, is.fits, some)) in
+            omega (arith, is.at, is.fits, ends.1, above, low)
+
+        of_test : (test : Bool)
+            → Splits n m (λ now. if test then now else splice place_of bytes now)
+            (λ now. if test then now else splice place_of bytes now) (λ now. now)
+        of_test true = splits_nothing n m
+        of_test false = splits_front n m place_of bytes inside
+
+    -- of one that begins behind it
+    back_field : (o t address : ℕ) (r : Relocation) → o < length l.objects → Contains (relocations (object l o) t) r
+        → address_of (layout l) o t ≡ Some address → cut ≤ offset_of (layout l) address
+        → offset_of (layout l) address < to
+        → Splits n m (λ now. part_with_field l from o t now r) (λ now. now) (λ now. part_with_field l cut o t now r)
+    back_field o t address r there has at above below = of_test (is_replaced l o r)
+      where
+        place_of : ℕ
+        place_of = offset_of (layout l) (place l o t r.offset) - from
+
+        next : ℕ
+        next = offset_of (layout l) (place l o t r.offset) - cut
+
+        bytes : List ℕ
+        bytes = bytes_for l o t r
+
+        is : StandsIn l o t address r
+        is = stands_in o t address r there has at
+
+        same : place_of ≡ n + next
+        same = omega (arith, is.at, above, low)
+
+        inside : 0 < length bytes → next + length bytes ≤ m
+        inside some =
+            let begin : start_in l cut to o t ≡ Some address =
+            ap (start_at (layout l) cut to) at ∙ start_yes (layout l) cut to address above below in
+            let ends = second o t address there begin (omega (arith, is.fits, some)) in
+            omega (arith, is.at, is.fits, ends.1, above)
+
+        of_test : (test : Bool)
+            → Splits n m (λ now. if test then now else splice place_of bytes now) (λ now. now)
+            (λ now. if test then now else splice next bytes now)
+        of_test true = splits_nothing n m
+        of_test false = splits_back n m place_of next bytes same inside
+
+    -- the relocations of one table, by where its section begins in the whole and in the two parts
+    abbrev Held : ℕ → ℕ → Option ℕ → Option ℕ → Option ℕ → Type 0
+    Held o s whole front back =
+        Splits n m (λ now. part_with_held l from o (object l o) now s whole)
+        (λ now. part_with_held l from o (object l o) now s front)
+        (λ now. part_with_held l cut o (object l o) now s back)
+
+    none_held : (o s : ℕ) (x y z : Option ℕ) → x ≡ None → y ≡ None → z ≡ None → Held o s x y z
+    none_held o s x y z e f g = rw (e, f, g) (splits_nothing n m)
+
+    front_held : (o s address : ℕ) (x y z : Option ℕ) → o < length l.objects
+        → address_of (layout l) o (relocation_target (object l o) s) ≡ Some address
+        → from ≤ offset_of (layout l) address → offset_of (layout l) address < cut
+        → x ≡ Some address → y ≡ Some address → z ≡ None → Held o s x y z
+    unfolding held_in
+    front_held o s address x y z there at above below e f g =
+        let b = object l o in
+        let t = relocation_target b s in
+        let step = part_with_field l from o t in
+        rw (e, f, g) (λ xs ys front back.
+        let h = splits_fold n m step step (λ now r. now) (held_in b s) (λ r has.
+        front_field o t address r there (held_of b t r has) at above below) xs ys front back in
+        let same = fold_still (held_in b s) ys in
+        (h.0 ∙ ap (λ now. fold step xs (held_in b s) ++ now) same, h.1, back))
+
+    back_held : (o s address : ℕ) (x y z : Option ℕ) → o < length l.objects
+        → address_of (layout l) o (relocation_target (object l o) s) ≡ Some address
+        → cut ≤ offset_of (layout l) address → offset_of (layout l) address < to
+        → x ≡ Some address → y ≡ None → z ≡ Some address → Held o s x y z
+    unfolding held_in
+    back_held o s address x y z there at above below e f g =
+        let b = object l o in
+        let t = relocation_target b s in
+        let step = part_with_field l from o t in
+        let next = part_with_field l cut o t in
+        rw (e, f, g) (λ xs ys front back.
+        let h = splits_fold n m step (λ now r. now) next (held_in b s) (λ r has.
+        back_field o t address r there (held_of b t r has) at above below) xs ys front back in
+        let same = fold_still (held_in b s) xs in
+        (h.0 ∙ ap (λ now. now ++ fold next ys (held_in b s)) same, front, h.2))
+
+    -- one table
+    table_splits : (o s : ℕ) → o < length l.objects
+        → Splits n m (λ now. part_with_table l from to o (object l o) now s)
+        (λ now. part_with_table l from cut o (object l o) now s)
+        (λ now. part_with_table l cut to o (object l o) now s)
+    table_splits o s there = of_address (address_of (layout l) o (relocation_target (object l o) s)) refl
+      where
+        of_address : (found : Option ℕ) → address_of (layout l) o (relocation_target (object l o) s) ≡ found
+            → Held o s (start_at (layout l) from to found) (start_at (layout l) from cut found)
+            (start_at (layout l) cut to found)
+        of_address None e = splits_nothing n m
+        of_address (Some address) e =
+            let p = layout l in
+            let at = offset_of p address in
+            elim (cases_lt at from) [
+              | inl before ↦
+                  none_held o s _ _ _ (start_before p from to address before) (start_before p from cut address before)
+                  (start_before p cut to address (omega arith))
+              | inr above ↦ elim (cases_lt at cut) [
+                | inl front ↦
+                    front_held o s address _ _ _ there e above front
+                    (start_yes p from to address above (omega (arith, high (omega arith))))
+                    (start_yes p from cut address above front)
+                    (start_before p cut to address front)
+                | inr later ↦ elim (cases_lt at to) [
+                  | inl back ↦
+                      back_held o s address _ _ _ there e later back (start_yes p from to address above back)
+                      (start_behind p from cut address later) (start_yes p cut to address later back)
+                  | inr behind ↦
+                      none_held o s _ _ _ (start_behind p from to address behind)
+                      (start_behind p from cut address later) (start_behind p cut to address behind)
+                ]
+              ]
+            ]
+
+    -- one object
+    object_splits : (o : ℕ) → o < length l.objects
+        → Splits n m (part_with_fields l from to o (object l o)) (part_with_fields l from cut o (object l o))
+        (part_with_fields l cut to o (object l o))
+    unfolding part_with_fields
+    object_splits o there =
+        let b = object l o in
+        splits_fold n m (part_with_table l from to o b) (part_with_table l from cut o b) (part_with_table l cut to o b)
+        (range_with_len 1 (section_count b - 1)) (λ s has. table_splits o s there)
+
+    -- those from one number on
+    abbrev One : ℕ → List ℕ → Type 0
+    One o b =
+        Splits n m (part_with_fields l from to o b) (part_with_fields l from cut o b) (part_with_fields l cut to o b)
+
+    objects_split : (o : ℕ) (bs : List (List ℕ)) → ((k : ℕ) → k < length bs → One (o + k) (slice_index_or bs k []))
+        → Splits n m (part_with_fields_from l from to o bs) (part_with_fields_from l from cut o bs)
+        (part_with_fields_from l cut to o bs)
+    objects_split o [] each = splits_nothing n m
+    objects_split o (b ∷ bs) each =
+        splits_after n m (part_with_fields l from to o b) (part_with_fields l from cut o b)
+        (part_with_fields l cut to o b) (part_with_fields_from l from to (o + 1) bs)
+        (part_with_fields_from l from cut (o + 1) bs) (part_with_fields_from l cut to (o + 1) bs)
+        (subst (λ i. One i b) here (each 0 (omega arith)))
+        (objects_split (o + 1) bs (λ k below. next k (each (suc k) (omega arith))))
+      where
+        here : o + 0 ≡ o
+        here = omega arith
+
+        next : (k : ℕ) → One (o + suc k) (slice_index_or bs k []) → One (o + 1 + k) (slice_index_or bs k [])
+        next k h = let same : o + suc k ≡ o + 1 + k = omega arith in subst (λ i. One i (slice_index_or bs k [])) same h
+
+    -- all objects
+    pub all_split : Splits n m (part_with_fields_from l from to 0 l.objects)
+        (part_with_fields_from l from cut 0 l.objects) (part_with_fields_from l cut to 0 l.objects)
+    all_split = objects_split 0 l.objects (λ k below.
+        subst (λ i. One i (object l k)) (from_zero k) (object_splits k below))
+
+  -- the law of a cut
+  pub parts_join : (from cut to : ℕ) (xs ys : List ℕ) → from ≤ cut → cut ≤ to → length xs ≡ cut - from → IsCut l cut
+      → IsPart l cut to (length ys)
+      → part_with_fields_from l from to 0 l.objects (xs ++ ys)
+      ≡ part_with_fields_from l from cut 0 l.objects xs ++ part_with_fields_from l cut to 0 l.objects ys
+  parts_join from cut to xs ys low high long is_cut part =
+      (all_split from cut to (length ys) low (λ some. high) (first_part l from cut low is_cut) part xs ys long refl).0
+
+  -- a part stays as long as it was
+  pub part_keeps : (from to : ℕ) (part : List ℕ) → IsPart l from to (length part)
+      → length (part_with_fields_from l from to 0 l.objects part) ≡ length part
+  part_keeps from to part is =
+      let none : 0 ≡ from - from = omega arith in
+      (all_split from from to (length part) (omega arith) (λ some. absurd (omega arith)) (λ o t address there e some.
+      let b = begins_in l from from o t address e in absurd (omega (arith, b.low, b.high))) is [] part none refl).2
+
+  -- ** the whole
+
+  module _ (limit : ℕ) (large : 2 ^ 27 ≤ limit) where
+    whole_field : (o t : ℕ) (r : Relocation) (now : List ℕ) → part_with_field l 0 o t now r ≡ with_field l o t now r
+    whole_field o t r now = of_test (is_replaced l o r)
+      where
+        at : ℕ
+        at = offset_of (layout l) (place l o t r.offset)
+
+        same : at - 0 ≡ at
+        same = omega arith
+
+        of_test : (test : Bool) → (if test then now else splice (at - 0) (bytes_for l o t r) now)
+            ≡ (if test then now else splice at (bytes_for l o t r) now)
+        of_test true = refl
+        of_test false = ap (λ i. splice i (bytes_for l o t r) now) same
+
+    whole_table : (o s : ℕ) (now : List ℕ) → o < length l.objects
+        → part_with_table l 0 limit o (object l o) now s ≡ with_table l o (object l o) now s
+    whole_table o s now there = of_address (address_of (layout l) o (relocation_target (object l o) s)) refl
+      where
+        t : ℕ
+        t = relocation_target (object l o) s
+
+        of_start : (start : Option ℕ) (address : ℕ) → start ≡ Some address
+            → part_with_held l 0 o (object l o) now s start ≡ with_table l o (object l o) now s
+        of_start start address e =
+            rw e (fold_same (part_with_field l 0 o t) (with_field l o t) (held_in (object l o) s) now
+            (λ r has file. whole_field o t r file))
+
+        of_address : (found : Option ℕ) → address_of (layout l) o (relocation_target (object l o) s) ≡ found
+            → part_with_held l 0 o (object l o) now s (start_at (layout l) 0 limit found)
+            ≡ with_table l o (object l o) now s
+        of_address None e =
+            sym (fold_none (with_field l o t) (held_in (object l o) s) now (λ r has. has_address o s r there has e))
+        of_address (Some address) e =
+            of_start (start_at (layout l) 0 limit (Some address)) address
+            (start_yes (layout l) 0 limit address (omega arith)
+            (omega (arith, address_near l o t address limits e, large)))
+
+    whole_object : (o : ℕ) (now : List ℕ) → o < length l.objects
+        → part_with_fields l 0 limit o (object l o) now ≡ with_fields l o (object l o) now
+    unfolding part_with_fields with_fields
+    whole_object o now there =
+        let b = object l o in
+        fold_same (part_with_table l 0 limit o b) (with_table l o b) (range_with_len 1 (section_count b - 1)) now
+        (λ s has file. whole_table o s file there)
+
+    abbrev Alike : ℕ → List ℕ → Type 0
+    Alike o b = (now : List ℕ) → part_with_fields l 0 limit o b now ≡ with_fields l o b now
+
+    whole_from : (o : ℕ) (bs : List (List ℕ)) (now : List ℕ)
+        → ((k : ℕ) → k < length bs → Alike (o + k) (slice_index_or bs k []))
+        → part_with_fields_from l 0 limit o bs now ≡ with_fields_from l o bs now
+    whole_from o [] now each = refl
+    whole_from o (b ∷ bs) now each =
+        let here : o + 0 ≡ o = omega arith in
+        ap (part_with_fields_from l 0 limit (o + 1) bs) (subst (λ i. Alike i b) here (each 0 (omega arith)) now)
+        ∙ whole_from (o + 1) bs (with_fields l o b now) (λ k below. next k (each (suc k) (omega arith)))
+      where
+        next : (k : ℕ) → Alike (o + suc k) (slice_index_or bs k []) → Alike (o + 1 + k) (slice_index_or bs k [])
+        next k h =
+            let same : o + suc k ≡ o + 1 + k = omega arith in subst (λ i. Alike i (slice_index_or bs k [])) same h
+
+    -- as a part, it has the same fields
+    pub whole_part : (file : List ℕ)
+        → part_with_fields_from l 0 limit 0 l.objects file ≡ with_fields_from l 0 l.objects file
+    whole_part file = whole_from 0 l.objects file (λ k below.
+        subst (λ i. Alike i (object l k)) (from_zero k) (λ now. whole_object k now below))

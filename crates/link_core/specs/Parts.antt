@@ -1,0 +1,107 @@
+-- Fields that are written in a part of the file alone. They are those of the sections that begin in the part, and a
+-- place counts from where the part begins.
+use Rattle.std.specs.Prelude.{◌≡◌, ◌+◌, ◌-◌, ◌<◌, ◌≤◌, ◌⊎◌, ◌&&◌, ◌∷◌, ℕ, List, [], Option, Some, None, IsSome}
+use Rattle.std.specs.Prelude.{Result, OnErr, OnOk, fold, length, nat_le, nat_lt, unwrap_or, if◌then◌else◌}
+use Rattle.std.specs.List.{range_with_len}
+use Rattle.elf_object.specs.declared.relocation.Relocation.{Relocation}
+use Rattle.elf_object.specs.Lent.{relocation_target, section_size}
+use Rattle.elf_object.specs.Object.{section_count}
+use Rattle.link_faults.specs.declared.fault.LinkFault.{LinkFault}
+use Rattle.section_file.specs.Files.{offset_of}
+use Rattle.tls_layout.specs.Places.{address_of}
+use Rattle.tls_layout.specs.Sections.{Layout}
+use Rattle.tls_relocs.specs.declared.fields.Field.TheVariants.{Empty}
+use Rattle.tls_relocs.specs.Fields.{field_patch}
+use Rattle.tls_relocs.specs.Patches.{patched}
+use Rattle.tls_symbols.specs.Faults.{held_in}
+use Rattle.link_core.specs.Faults.{Overflows}
+use Rattle.link_core.specs.Overflows.{NoOverflow, NoneAtAll}
+use Rattle.link_needs.specs.Linking.{Linking, layout, object, place}
+use Rattle.link_needs.specs.Values.{field, is_replaced}
+
+-- ** where a section begins
+
+-- the address, if there is one that stands in the file from one offset on and before another
+abbrev pub start_at : Layout → ℕ → ℕ → Option ℕ → Option ℕ
+start_at p from to None = None
+start_at p from to (Some address) =
+    if nat_le from (offset_of p address) && nat_lt (offset_of p address) to then Some address else None
+
+-- that of section t of object o
+abbrev pub start_in : Linking → ℕ → ℕ → ℕ → ℕ → Option ℕ
+start_in l from to o t = start_at (layout l) from to (address_of (layout l) o t)
+
+-- the bytes of section t of object o, at this address, lie among n bytes of the file from an offset on. (The guard
+-- 0 < size is there since a section with no bytes may have an address past the end of the file.)
+abbrev pub IsInside : Linking → ℕ → ℕ → ℕ → ℕ → ℕ → Type 0
+IsInside l from n o t address =
+    0 < section_size (object l o) t
+    → (from ≤ offset_of (layout l) address) × (offset_of (layout l) address + section_size (object l o) t ≤ from + n)
+
+-- every section that begins in the part ends in its n bytes
+abbrev pub IsPart : Linking → ℕ → ℕ → ℕ → Type 0
+IsPart l from to n =
+    (o t address : ℕ) → o < length l.objects → start_in l from to o t ≡ Some address → IsInside l from n o t address
+
+-- no section lies on both sides of an offset
+abbrev pub IsCut : Linking → ℕ → Type 0
+IsCut l cut =
+    (o t address : ℕ) → o < length l.objects → address_of (layout l) o t ≡ Some address
+    → (offset_of (layout l) address + section_size (object l o) t ≤ cut) ⊎ (cut ≤ offset_of (layout l) address)
+
+-- ** its fields
+
+-- with the field of a relocation of section t of object o
+abbrev pub part_with_field : Linking → ℕ → ℕ → ℕ → List ℕ → Relocation → List ℕ
+part_with_field l from o t part r =
+    if is_replaced l o r
+    then part
+    else patched
+    (field_patch (offset_of (layout l) (place l o t r.offset) - from) (unwrap_or (field l o t r) Empty) ∷ []) part
+
+-- with those of the relocations that section s holds, whose own section begins there
+abbrev pub part_with_held : Linking → ℕ → ℕ → List ℕ → List ℕ → ℕ → Option ℕ → List ℕ
+part_with_held l from o b part s None = part
+part_with_held l from o b part s (Some start) = fold (part_with_field l from o (relocation_target b s)) part (held_in b s)
+
+abbrev pub part_with_table : Linking → ℕ → ℕ → ℕ → List ℕ → List ℕ → ℕ → List ℕ
+part_with_table l from to o b part s = part_with_held l from o b part s (start_in l from to o (relocation_target b s))
+
+-- with those of object o
+unfoldable pub part_with_fields : Linking → ℕ → ℕ → ℕ → List ℕ → List ℕ → List ℕ
+part_with_fields l from to o b part =
+    fold (part_with_table l from to o b) part (range_with_len 1 (section_count b - 1))
+
+-- with those of the objects from number o on
+abbrev pub part_with_fields_from : Linking → ℕ → ℕ → ℕ → List (List ℕ) → List ℕ → List ℕ
+part_with_fields_from l from to o [] part = part
+part_with_fields_from l from to o (b ∷ more) part =
+    part_with_fields_from l from to (o + 1) more (part_with_fields l from to o b part)
+
+-- ** those that do not hold their values
+
+-- entry e of section s of object o is one, and its own section begins in the part
+abbrev pub OverflowsIn : Linking → ℕ → ℕ → ℕ → ℕ → ℕ → Type 0
+OverflowsIn l from to o s e =
+    Overflows l o s e × IsSome (start_in l from to o (relocation_target (object l o) s))
+
+-- ** what writing a part leaves
+
+-- all its fields are written, or one overflows
+pub record IsWritten (l : Linking) (from to : ℕ) (before after : List ℕ) {V : Type 0} (result : Result V LinkFault)
+    : Type 0 where
+  pub written : OnOk result (after ≡ part_with_fields_from l from to 0 l.objects before)
+  pub filled : length after ≡ length before
+  pub fits : OnOk result (NoneAtAll (OverflowsIn l from to))
+  pub overflow : OnErr result (NoOverflow l → ⊥)
+
+-- the same of two parts, one behind the other
+pub record AreWritten (l : Linking) (from cut to : ℕ) (front front' back back' : List ℕ) {V : Type 0}
+    (result : Result V LinkFault) : Type 0 where
+  pub in_front : OnOk result (front' ≡ part_with_fields_from l from cut 0 l.objects front)
+  pub behind : OnOk result (back' ≡ part_with_fields_from l cut to 0 l.objects back)
+  pub front_filled : length front' ≡ length front
+  pub back_filled : length back' ≡ length back
+  pub front_fits : OnOk result (NoneAtAll (OverflowsIn l from cut))
+  pub back_fits : OnOk result (NoneAtAll (OverflowsIn l cut to))
+  pub overflow : OnErr result (NoOverflow l → ⊥)

@@ -1,0 +1,155 @@
+//! The fields of all relocations, written in several parts of the file at once.
+//!
+//! A part begins where a section does, so that no field lies in two, and each thread writes what lies in its own.
+
+ghost use Rattle.std.specs.Prelude.{◌≡◌, ◌+◌, ◌<◌, ◌≤◌, ◌^◌, IfErr, OnOk, length};
+ghost use Rattle.std.specs.Thread.{IsSync};
+ghost use Rattle.tls_symbols.specs.Bindings.{object_at};
+ghost use Rattle.link_core.specs.Bytes.{raw_file, with_fields_from};
+ghost use Rattle.link_core.specs.Overflows.{IsFirstOverflow, NoOverflow};
+ghost use Rattle.link_core.specs.Parts.{AreWritten, IsCut, IsPart, IsWritten};
+
+use crate::writing::{place_in_file, write_part};
+use link_faults::LinkFault;
+use link_needs::Plan;
+use std::thread::{Threads, join_mut};
+
+/// How many bytes of the file are worth a thread of their own.
+const WORTH_A_THREAD: usize = 256 << 10;
+
+/// How often the file is halved at most.
+const HALVINGS: u32 = 3;
+
+/// No file is as long.
+const BEHIND_ALL: u64 = 1 << 30;
+
+/// The later of two places where the file may be cut: one so far, and where a section begins, if that is not too far.
+fn later(plan: &Plan, number: usize, section: u32, limit: u64, cut: u64) -> u64
+    requires object { number < length plan.now.objects }
+    requires cut { IsCut plan.now cut }
+    requires near { cut ≤ limit }
+    ensures cut { IsCut plan.now result }
+    ensures near { result ≤ limit }
+{
+    let inputs = plan.inputs;
+    match inputs.placement.address(number, section) {
+        Some(address) => {
+            let place = place_in_file(plan, address);
+            if cut < place && place <= limit { place } else { cut }
+        }
+        None => cut,
+    }
+}
+
+/// The last place up to a limit where a section of an object begins, if that lies behind the last so far.
+fn last_of(plan: &Plan, number: usize, limit: u64, so_far: u64) -> u64
+    requires object { number < length plan.now.objects }
+    requires cut { IsCut plan.now so_far }
+    requires near { so_far ≤ limit }
+    ensures cut { IsCut plan.now result }
+    ensures near { result ≤ limit }
+{
+    let mut cut = so_far;
+    for section in 1..plan.inputs.object(number).section_count() {
+        cut = later(plan, number, section, limit, cut);
+    }
+    cut
+}
+
+/// Where the file may be cut: the last place up to a limit where a section begins, else its start.
+fn cut_before(plan: &Plan, limit: u64) -> u64
+    ensures cut { IsCut plan.now result }
+    ensures near { result ≤ limit }
+{
+    let inputs = plan.inputs;
+    let mut cut = 0;
+    for number in 0..inputs.objects.len() {
+        cut = last_of(plan, number, limit, cut);
+    }
+    cut
+}
+
+/// Writes the fields of a part of the file, by as many threads as it is worth.
+#[cycle(halves)]
+fn write_halves<R: Threads + Sync>(
+    rt: &R,
+    plan: &Plan,
+    from: u64,
+    to: u64,
+    halvings: u32,
+    part: &mut [u8],
+) -> Result<(), LinkFault>
+    requires part { IsPart plan.now from to (length part.old) }
+    requires near { from + length part.old ≤ to }
+    requires far { to ≤ 2 ^ 30 }
+    ensures { IsWritten plan.now from to part.old part.new result }
+{
+    // What is known of a plan is known where a part of it is read.
+    let _inputs = plan.inputs;
+    if halvings == 0 || part.len() < WORTH_A_THREAD {
+        return write_part(plan, from, to, part);
+    }
+    let cut = cut_before(plan, from + part.len() as u64 / 2);
+    if cut <= from {
+        return write_part(plan, from, to, part);
+    }
+    let (front, back) = part.split_at_mut((cut - from) as usize);
+    write_both(rt, plan, from, cut, to, halvings - 1, front, back)
+}
+
+/// Writes the fields of two parts of the file, one behind the other, side by side.
+#[cycle(halves)]
+fn write_both<R: Threads + Sync>(
+    rt: &R,
+    plan: &Plan,
+    from: u64,
+    cut: u64,
+    to: u64,
+    halvings: u32,
+    front: &mut [u8],
+    back: &mut [u8],
+) -> Result<(), LinkFault>
+    requires front { IsPart plan.now from cut (length front.old) }
+    requires ends { from + length front.old ≡ cut }
+    requires back { IsPart plan.now cut to (length back.old) }
+    requires near { cut + length back.old ≤ to }
+    requires far { to ≤ 2 ^ 30 }
+    ensures { AreWritten plan.now from cut to front.old front.new back.old back.new result }
+{
+    let mut first = || -> Result<(), LinkFault>
+        requires { IsSync R.row × IsPart plan.now from cut (length front.now) × (from + length front.now ≤ cut)
+            × (cut ≤ 2 ^ 30) }
+        ensures { IsWritten plan.entry.now from cut front.entry.now front.exit.now result }
+    { write_halves(rt, plan, from, cut, halvings, front) };
+    let mut second = || -> Result<(), LinkFault>
+        requires { IsSync R.row × IsPart plan.now cut to (length back.now) × (cut + length back.now ≤ to)
+            × (to ≤ 2 ^ 30) }
+        ensures { IsWritten plan.entry.now cut to back.entry.now back.exit.now result }
+    { write_halves(rt, plan, cut, to, halvings, back) };
+    let (in_front, behind) = join_mut(rt, &mut first, &mut second);
+    match in_front {
+        Ok(()) => behind,
+        Err(fault) => Err(fault),
+    }
+}
+
+/// Writes the fields of all relocations, or answers the first that does not hold its value. Where one doesn't, all are
+/// written once more, in order, up to the first.
+pub fn write_fields<R: Threads + Sync>(
+    rt: &R,
+    plan: &Plan,
+    file: &mut [u8],
+) -> Result<(), LinkFault>
+    requires filled { length file.old ≡ length (raw_file plan.now) }
+    ensures written { OnOk result (file.new ≡ with_fields_from plan.now 0 plan.now.objects file.old) }
+    ensures filled { length file.new ≡ length (raw_file plan.now) }
+    ensures fits { OnOk result (NoOverflow plan.now) }
+    ensures overflow { IfErr result (IsFirstOverflow plan.now) }
+{
+    // What is known of a plan is known where a part of it is read.
+    let _inputs = plan.inputs;
+    match write_halves(rt, plan, 0, BEHIND_ALL, HALVINGS, file) {
+        Ok(()) => Ok(()),
+        Err(_) => write_part(plan, 0, BEHIND_ALL, file),
+    }
+}
