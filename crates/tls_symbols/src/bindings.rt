@@ -13,7 +13,7 @@ use crate::image_names::{ImageNames, binding, definition_named, know_names};
 use crate::uses::{Charge, first_charged, first_use};
 use elf_object::{Object, Relocation};
 use link_faults::{Binding, LinkFault, LinkFaultKind, SymbolRef};
-use std::alloc::Global;
+use std::alloc::{AllocError, Global};
 use std::marker::Model;
 
 /// What the names of an image are bound to. Contracts see its objects and what the startup images export.
@@ -35,19 +35,19 @@ impl<'l, 's, 'a> Model for Bindings<'l, 's, 'a> {
 }
 
 /// The first fault of the names of an image. Where no relocation is unfit, one walk over them says so.
-fn first_fault(names: &ImageNames) -> Option<LinkFault>
+fn first_fault(alloc: Global, names: &ImageNames) -> Result<Option<LinkFault>, AllocError>
     requires { IsKnown names.now }
-    ensures { MatchOption result (AreResolved names.now.objects.now names.now.startup.now)
-        (IsFault names.now.objects.now names.now.startup.now) }
+    ensures { IfOk result (λ fault. MatchOption fault (AreResolved names.now.objects.now names.now.startup.now)
+        (IsFault names.now.objects.now names.now.startup.now)) }
 {
-    let unfit = first_use(names, Charge::Either);
-    match first_charged(names, unfit, Charge::Unbound) {
-        Some(place) => Some(place.fault(LinkFaultKind::Undefined)),
+    let unfit = first_use(alloc, names, Charge::Either)?;
+    match first_charged(alloc, names, unfit, Charge::Unbound)? {
+        Some(place) => Ok(Some(place.fault(LinkFaultKind::Undefined))),
         None => match first_duplicate(names) {
-            Some(place) => Some(place.fault(LinkFaultKind::Duplicate)),
-            None => match first_charged(names, unfit, Charge::Unsuited) {
-                Some(place) => Some(place.fault(LinkFaultKind::NotTls)),
-                None => None,
+            Some(place) => Ok(Some(place.fault(LinkFaultKind::Duplicate))),
+            None => match first_charged(alloc, names, unfit, Charge::Unsuited)? {
+                Some(place) => Ok(Some(place.fault(LinkFaultKind::NotTls))),
+                None => Ok(None),
             },
         },
     }
@@ -68,7 +68,7 @@ pub fn resolve<'l, 's, 'a>(
     ensures fault { IfErr result (IsFault objects.now startup.now) }
 {
     let names = know_names(alloc, objects, startup)?;
-    match first_fault(&names) {
+    match first_fault(alloc, &names)? {
         Some(fault) => Err(fault),
         None => Ok(Bindings { names }),
     }

@@ -128,7 +128,7 @@ pub fn is_run_time(names: &ImageNames, object: usize, symbol: u32) -> bool
 }
 
 /// Whether a relocation of this type may name what another image exports.
-fn may_import(kind: RelocationKind) -> bool
+pub fn may_import(kind: RelocationKind) -> bool
     ensures { result ≡ may_import kind }
 {
     matches!(

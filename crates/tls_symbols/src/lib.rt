@@ -50,6 +50,7 @@ mod image_names;
 pub mod laws;
 mod numbers;
 mod place;
+mod standings;
 mod symbols;
 mod tls_place;
 mod uses;
