@@ -1,15 +1,17 @@
 //! What the symbols of an image's relocations are bound to.
 
-ghost use Rattle.std.specs.Prelude.{◌≡◌, ◌<◌, ◌-◌, ◌^◌, IfErr, IfOk, IfSome, MatchOption, OnOk, length};
+ghost use Rattle.std.specs.Prelude.{◌≡◌, ◌<◌, ◌-◌, ◌^◌, IfErr, IfOk, IfSome, MatchOption, OnOk, false, length};
+ghost use Rattle.elf_object.specs.Lent.{symbol_binding, symbol_name};
+ghost use Rattle.elf_object.specs.declared.symbol.SymbolBinding.TheVariants.{Local};
 ghost use Rattle.elf_object.specs.Parts.{symbol_count};
 ghost use Rattle.tls_symbols.specs.Bindings.{binding_of, object_at, IsBindingWithin};
-ghost use Rattle.tls_symbols.specs.Definitions.{definition_of, IsWithin};
+ghost use Rattle.tls_symbols.specs.Definitions.{definition_of, same_binding, IsWithin};
 ghost use Rattle.tls_symbols.specs.Faults.{AreResolved, IsFault};
 ghost use Rattle.tls_symbols.specs.Known.{IsKnown};
 
 use crate::duplicates::first_duplicate;
 use crate::export_list::Exports;
-use crate::image_names::{ImageNames, binding, definition_named, know_names};
+use crate::image_names::{ImageNames, binding, definition_named, know_names, symbol_definition};
 use crate::uses::{Charge, first_charged, first_use};
 use elf_object::{Object, Relocation};
 use link_faults::{Binding, LinkFault, LinkFaultKind, SymbolRef};
@@ -95,5 +97,19 @@ impl Bindings<'_, '_, '_> {
         ensures resolved { AreResolved self.now.objects self.now.startup }
     {
         definition_named(&self.names, name)
+    }
+
+    /// The definition that the name of a symbol binds to, one that is not LOCAL, in time that does not depend on the
+    /// names. `object` is the object's place in the list, from 0.
+    pub fn symbol_definition(&self, object: usize, symbol: u32) -> Option<SymbolRef>
+        requires object { object < length self.now.objects }
+        requires symbol { symbol < symbol_count (object_at self.now.objects object) }
+        requires shared { same_binding Local (symbol_binding (object_at self.now.objects object) symbol) ≡ false }
+        ensures definition { result ≡ definition_of self.now.objects
+            (symbol_name (object_at self.now.objects object) symbol) }
+        ensures within { IfSome result (IsWithin self.now.objects) }
+        ensures resolved { AreResolved self.now.objects self.now.startup }
+    {
+        symbol_definition(&self.names, object, symbol)
     }
 }
