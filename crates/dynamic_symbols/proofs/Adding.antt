@@ -1,12 +1,14 @@
 -- Names that are added one by one, and the list that they come to.
-use Rattle.std.proofs.Common.{◌≡◌, ◌+◌, ◌-◌, ◌<◌, ◌≤◌, ◌∙◌, ◌&&◌, ◌||◌, ℕ, Bool, true, false, not, cond, List}
-use Rattle.std.proofs.Common.{[], ◌∷◌, ◌++◌, Some, None, drop, filter, map, refl, sym, ap, Bor, append_assoc, append-nil, length}
+use Rattle.std.proofs.Common.{◌≡◌, ◌+◌, ◌-◌, ◌<◌, ◌≤◌, ◌∙◌, ◌&&◌, ◌||◌, ℕ, Bool, true, false, not, cond, List, Option}
+use Rattle.std.proofs.Common.{[], ◌∷◌, ◌++◌, drop, filter, map, refl, sym, ap, Bor, append_assoc, append-nil, length}
 use Rattle.std.specs.Global.{Vec}
 use Rattle.std.specs.Prelude.{if◌then◌else◌, slice_index_or}
 use Rattle.std.specs.List.{cons_option, filter_map, flat_map, list_any, range_with_len}
 use Rattle.std.specs.Str.{bytes_eq}
 use Rattle.std.proofs.Math.ListN.{drop_of_length-le}
+use Rattle.std.proofs.lemmas.Bool.{not-true}
 use Rattle.std.proofs.lemmas.List.{get_or_default, map-append}
+use Rattle.std.proofs.lemmas.List.Elements.{filter_map-append}
 use Rattle.std.proofs.lemmas.List.Folds.{list_any-append}
 use Rattle.std.proofs.lemmas.Slice.Eq.{bytes_eq-Decides}
 use Rattle.indexmap.specs.IndexSet.{insert_key}
@@ -17,7 +19,6 @@ use Rattle.link_faults.specs.declared.symbol_ref.SymbolRef.{SymbolRef}
 use Rattle.tls_symbols.specs.Bindings.{object_at}
 use Rattle.tls_symbols.specs.Definitions.{definition_of}
 use Rattle.tls_symbols.proofs.Search.{range_first}
-use Rattle.sequence_match.proofs.OwnSites.{drop_at}
 use Rattle.dynamic_symbols.specs.Names.{defined_at, distinct, imported_at, imported_from, imported_in, is_definition, is_import}
 use Rattle.dynamic_symbols.specs.Walks.{with_name, with_names}
 
@@ -170,24 +171,18 @@ object_is objects i b is below = get_or_default objects i [] b below ∙ sym is
 
 -- ** a definition for each name
 
-module _ (objects : List (List ℕ)) (seen : List SymbolRef) (zs : List (Bor (List ℕ))) (i : ℕ) where
-  pub bound_some : (d : Bor (List ℕ)) (found : SymbolRef) → i < length zs → Some found ≡ definition_of objects (slice_index_or zs i d).now
-      → (seen ++ found ∷ []) ++ filter_map (definition_of objects) (map (λ z. z.now) (drop (i + 1) zs)) ≡ seen ++ filter_map (definition_of objects) (map (λ z. z.now) (drop i zs))
-  bound_some d found below is =
-      let rest = filter_map (definition_of objects) (map (λ z. z.now) (drop (i + 1) zs)) in
-      append_assoc seen (found ∷ []) rest
-      ∙ ap (λ o. seen ++ cons_option o rest) is
-      ∙ ap (λ ws. seen ++ filter_map (definition_of objects) (map (λ z. z.now) ws)) (sym (drop_at zs i d below))
+-- one more name, which may be new
+module _ (ks new : List (Bor (List ℕ))) (k : Bor (List ℕ)) (name : List ℕ) (keys : new ≡ insert_key same_names ks k) (named : k.now ≡ name) where
+  pub inserted_name : map (λ x. x.now) new ≡ with_name (map (λ x. x.now) ks) name
+  inserted_name = ap (map (λ x. x.now)) keys ∙ inserted ks k ∙ ap (with_name (map (λ x. x.now) ks)) named
 
-  pub bound_none : (d : Bor (List ℕ)) → i < length zs → None ≡ definition_of objects (slice_index_or zs i d).now
-      → seen ++ filter_map (definition_of objects) (map (λ z. z.now) (drop (i + 1) zs)) ≡ seen ++ filter_map (definition_of objects) (map (λ z. z.now) (drop i zs))
-  bound_none d below is =
-      let rest = filter_map (definition_of objects) (map (λ z. z.now) (drop (i + 1) zs)) in
-      ap (λ o. seen ++ cons_option o rest) is
-      ∙ ap (λ ws. seen ++ filter_map (definition_of objects) (map (λ z. z.now) ws)) (sym (drop_at zs i d below))
-
-  pub bound_all : length zs ≤ i → seen ≡ seen ++ filter_map (definition_of objects) (map (λ z. z.now) (drop i zs))
-  bound_all past = sym (ap (λ ws. seen ++ filter_map (definition_of objects) (map (λ z. z.now) ws)) (drop_of_length-le zs past) ∙ append-nil seen)
+  -- where it is new, what it binds to
+  pub bound_new : (objects : List (List ℕ)) (symbols : List SymbolRef) (found : Option SymbolRef)
+      → symbols ≡ filter_map (definition_of objects) (map (λ x. x.now) ks) → true ≡ not (list_any (same_names k) ks) → found ≡ definition_of objects name
+      → symbols ++ cons_option found [] ≡ filter_map (definition_of objects) (map (λ x. x.now) new)
+  bound_new objects symbols found bound fresh is =
+      let other : list_any (same_names k) ks ≡ false = not-true (list_any (same_names k) ks) (sym fresh) in
+      rw (keys, other, bound, is, sym named, map-append (λ x. x.now) ks (k ∷ []), filter_map-append (definition_of objects) (map (λ x. x.now) ks) (k.now ∷ [])) refl
 
 -- ** the names of sites
 

@@ -1,17 +1,30 @@
 //! What an image defines.
 
-ghost use Rattle.std.specs.Prelude.{◌≡◌, ◌<◌, IfOk, OnOk, map};
+ghost use Rattle.std.specs.Prelude.{◌≡◌, ◌<◌, false, IfOk, OnOk, length};
 ghost use Rattle.std.specs.List.{All};
+ghost use Rattle.elf_object.specs.Lent.{symbol_binding, symbol_name};
+ghost use Rattle.elf_object.specs.declared.symbol.SymbolBinding.TheVariants.{Local};
 ghost use Rattle.elf_object.specs.Parts.{symbol_count};
-ghost use Rattle.tls_symbols.specs.Definitions.{IsWithin};
-ghost use Rattle.dynamic_symbols.specs.Names.{defined_in, defined_names, defined_symbols, is_definition};
-ghost use Rattle.dynamic_symbols.specs.Walks.{with_names};
+ghost use Rattle.tls_symbols.specs.Bindings.{object_at};
+ghost use Rattle.tls_symbols.specs.Definitions.{same_binding, IsWithin};
+ghost use Rattle.dynamic_symbols.specs.Found.{names_of, IsBound};
+ghost use Rattle.dynamic_symbols.specs.Names.{defined_in, defined_symbols, is_definition};
+ghost use Rattle.dynamic_symbols.specs.Walks.{with_name, with_names};
 
 use elf_object::{Object, SymbolBinding, SymbolPlace};
 use indexmap::IndexSet;
 use link_faults::SymbolRef;
 use std::alloc::{AllocError, Global};
 use tls_symbols::Bindings;
+
+/// What was found so far.
+#[derive(Drop)]
+struct Found<'a> {
+    /// The names that are defined, each once.
+    names: IndexSet<&'a [u8]>,
+    /// The definitions that they bind to.
+    symbols: Vec<SymbolRef>,
+}
 
 /// Whether a symbol, GLOBAL or WEAK, defines its name.
 fn is_definition(object: &Object, number: u32) -> bool
@@ -26,31 +39,49 @@ fn is_definition(object: &Object, number: u32) -> bool
     }
 }
 
-/// Adds the names that an object's symbols define.
-fn add_defined<'a>(object: &Object<'a>, names: &mut IndexSet<&'a [u8]>) -> Result<(), AllocError>
-    ensures { OnOk result (map (λ name. name.now) names.new.keys
-        ≡ with_names (map (λ name. name.now) names.old.keys) (defined_in object.now)) }
+/// Adds the name of a symbol that defines it, and where the name is new the definition that it binds to.
+fn add_name<'a>(
+    bindings: &Bindings,
+    index: usize,
+    object: &Object<'a>,
+    symbol: u32,
+    found: &mut Found<'a>,
+) -> Result<(), AllocError>
+    requires object { index < length bindings.now.objects }
+    requires here { object.now ≡ object_at bindings.now.objects index }
+    requires symbol { symbol < symbol_count object.now }
+    requires shared { same_binding Local (symbol_binding object.now symbol) ≡ false }
+    requires bound { IsBound bindings.now.objects found.old }
+    ensures names { OnOk result (names_of found.new ≡ with_name (names_of found.old) (symbol_name object.now symbol)) }
+    ensures bound { OnOk result (IsBound bindings.now.objects found.new) }
 {
-    for symbol in 1..object.symbol_count() {
-        if is_definition(object, symbol) {
-            names.insert(object.symbol_name(symbol))?;
+    if found.names.insert(object.symbol_name(symbol))? {
+        if let Some(definition) = bindings.symbol_definition(index, symbol) {
+            found.symbols.push(definition)?;
         }
     }
     Ok(())
 }
 
-/// The names that the objects define, in the order of the first symbols that do.
-fn defined_names<'a>(
-    alloc: Global,
-    objects: &[Object<'a>],
-) -> Result<IndexSet<&'a [u8]>, AllocError>
-    ensures { IfOk result (λ names. map (λ name. name.now) names.keys ≡ defined_names objects.now) }
+/// Adds the names that an object's symbols define, and the definitions that they bind to.
+fn add_defined<'a>(
+    bindings: &Bindings,
+    index: usize,
+    object: &Object<'a>,
+    found: &mut Found<'a>,
+) -> Result<(), AllocError>
+    requires object { index < length bindings.now.objects }
+    requires here { object.now ≡ object_at bindings.now.objects index }
+    requires bound { IsBound bindings.now.objects found.old }
+    ensures names { OnOk result (names_of found.new ≡ with_names (names_of found.old) (defined_in object.now)) }
+    ensures bound { OnOk result (IsBound bindings.now.objects found.new) }
 {
-    let mut names = IndexSet::new(alloc);
-    for object in objects {
-        add_defined(object, &mut names)?;
+    for symbol in 1..object.symbol_count() {
+        if is_definition(object, symbol) {
+            add_name(bindings, index, object, symbol, found)?;
+        }
     }
-    Ok(names)
+    Ok(())
 }
 
 /// The symbols that an image of these objects defines for others: of each name that some GLOBAL or WEAK symbol
@@ -65,12 +96,12 @@ pub fn defined_symbols(
     ensures symbols { IfOk result (λ symbols. symbols.items ≡ defined_symbols objects.now) }
     ensures within { IfOk result (λ symbols. All (IsWithin objects.now) symbols.items) }
 {
-    let names = defined_names(alloc, objects)?;
-    let mut symbols = Vec::new(alloc);
-    for name in names.as_slice() {
-        if let Some(found) = bindings.definition(name) {
-            symbols.push(found)?;
-        }
+    let mut found = Found {
+        names: IndexSet::new(alloc),
+        symbols: Vec::new(alloc),
+    };
+    for (index, object) in objects.iter().enumerate() {
+        add_defined(bindings, index, object, &mut found)?;
     }
-    Ok(symbols)
+    Ok(found.symbols)
 }

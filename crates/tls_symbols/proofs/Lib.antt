@@ -1,3 +1,4 @@
+pub mod BoundAlike
 pub mod Exported
 pub mod ExportLaw
 pub mod FirstFaults

@@ -7,3 +7,4 @@ pub mod Laws
 pub mod Numbers
 pub mod Resolved
 pub mod Searches
+pub mod Standings

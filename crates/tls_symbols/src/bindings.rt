@@ -1,19 +1,21 @@
 //! What the symbols of an image's relocations are bound to.
 
-ghost use Rattle.std.specs.Prelude.{◌≡◌, ◌<◌, ◌-◌, ◌^◌, IfErr, IfOk, IfSome, MatchOption, OnOk, length};
+ghost use Rattle.std.specs.Prelude.{◌≡◌, ◌<◌, ◌-◌, ◌^◌, IfErr, IfOk, IfSome, MatchOption, OnOk, false, length};
+ghost use Rattle.elf_object.specs.Lent.{symbol_binding, symbol_name};
+ghost use Rattle.elf_object.specs.declared.symbol.SymbolBinding.TheVariants.{Local};
 ghost use Rattle.elf_object.specs.Parts.{symbol_count};
 ghost use Rattle.tls_symbols.specs.Bindings.{binding_of, object_at, IsBindingWithin};
-ghost use Rattle.tls_symbols.specs.Definitions.{definition_of, IsWithin};
+ghost use Rattle.tls_symbols.specs.Definitions.{definition_of, same_binding, IsWithin};
 ghost use Rattle.tls_symbols.specs.Faults.{AreResolved, IsFault};
 ghost use Rattle.tls_symbols.specs.Known.{IsKnown};
 
 use crate::duplicates::first_duplicate;
 use crate::export_list::Exports;
-use crate::image_names::{ImageNames, binding, definition_named, know_names};
+use crate::image_names::{ImageNames, binding, definition_named, know_names, symbol_definition};
 use crate::uses::{Charge, first_charged, first_use};
 use elf_object::{Object, Relocation};
 use link_faults::{Binding, LinkFault, LinkFaultKind, SymbolRef};
-use std::alloc::Global;
+use std::alloc::{AllocError, Global};
 use std::marker::Model;
 
 /// What the names of an image are bound to. Contracts see its objects and what the startup images export.
@@ -35,19 +37,19 @@ impl<'l, 's, 'a> Model for Bindings<'l, 's, 'a> {
 }
 
 /// The first fault of the names of an image. Where no relocation is unfit, one walk over them says so.
-fn first_fault(names: &ImageNames) -> Option<LinkFault>
+fn first_fault(alloc: Global, names: &ImageNames) -> Result<Option<LinkFault>, AllocError>
     requires { IsKnown names.now }
-    ensures { MatchOption result (AreResolved names.now.objects.now names.now.startup.now)
-        (IsFault names.now.objects.now names.now.startup.now) }
+    ensures { IfOk result (λ fault. MatchOption fault (AreResolved names.now.objects.now names.now.startup.now)
+        (IsFault names.now.objects.now names.now.startup.now)) }
 {
-    let unfit = first_use(names, Charge::Either);
-    match first_charged(names, unfit, Charge::Unbound) {
-        Some(place) => Some(place.fault(LinkFaultKind::Undefined)),
+    let unfit = first_use(alloc, names, Charge::Either)?;
+    match first_charged(alloc, names, unfit, Charge::Unbound)? {
+        Some(place) => Ok(Some(place.fault(LinkFaultKind::Undefined))),
         None => match first_duplicate(names) {
-            Some(place) => Some(place.fault(LinkFaultKind::Duplicate)),
-            None => match first_charged(names, unfit, Charge::Unsuited) {
-                Some(place) => Some(place.fault(LinkFaultKind::NotTls)),
-                None => None,
+            Some(place) => Ok(Some(place.fault(LinkFaultKind::Duplicate))),
+            None => match first_charged(alloc, names, unfit, Charge::Unsuited)? {
+                Some(place) => Ok(Some(place.fault(LinkFaultKind::NotTls))),
+                None => Ok(None),
             },
         },
     }
@@ -68,7 +70,7 @@ pub fn resolve<'l, 's, 'a>(
     ensures fault { IfErr result (IsFault objects.now startup.now) }
 {
     let names = know_names(alloc, objects, startup)?;
-    match first_fault(&names) {
+    match first_fault(alloc, &names)? {
         Some(fault) => Err(fault),
         None => Ok(Bindings { names }),
     }
@@ -95,5 +97,19 @@ impl Bindings<'_, '_, '_> {
         ensures resolved { AreResolved self.now.objects self.now.startup }
     {
         definition_named(&self.names, name)
+    }
+
+    /// The definition that the name of a symbol binds to, one that is not LOCAL, in time that does not depend on the
+    /// names. `object` is the object's place in the list, from 0.
+    pub fn symbol_definition(&self, object: usize, symbol: u32) -> Option<SymbolRef>
+        requires object { object < length self.now.objects }
+        requires symbol { symbol < symbol_count (object_at self.now.objects object) }
+        requires shared { same_binding Local (symbol_binding (object_at self.now.objects object) symbol) ≡ false }
+        ensures definition { result ≡ definition_of self.now.objects
+            (symbol_name (object_at self.now.objects object) symbol) }
+        ensures within { IfSome result (IsWithin self.now.objects) }
+        ensures resolved { AreResolved self.now.objects self.now.startup }
+    {
+        symbol_definition(&self.names, object, symbol)
     }
 }

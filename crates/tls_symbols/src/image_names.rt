@@ -104,8 +104,9 @@ pub fn symbol_definition(names: &ImageNames, object: usize, symbol: u32) -> Opti
     requires object { object < length names.now.objects.now }
     requires symbol { symbol < symbol_count (object_at names.now.objects.now object) }
     requires shared { same_binding Local (symbol_binding (object_at names.now.objects.now object) symbol) ≡ false }
-    ensures { result ≡ definition_of names.now.objects.now
+    ensures definition { result ≡ definition_of names.now.objects.now
         (symbol_name (object_at names.now.objects.now object) symbol) }
+    ensures within { IfSome result (IsWithin names.now.objects.now) }
 {
     match symbol_at(names, object, symbol).name {
         Some(number) => definition_at(names, number),
@@ -128,7 +129,7 @@ pub fn is_run_time(names: &ImageNames, object: usize, symbol: u32) -> bool
 }
 
 /// Whether a relocation of this type may name what another image exports.
-fn may_import(kind: RelocationKind) -> bool
+pub fn may_import(kind: RelocationKind) -> bool
     ensures { result ≡ may_import kind }
 {
     matches!(

@@ -28,7 +28,7 @@
 //! a name that a relocation uses and that nothing binds; then `Duplicate`, a second strong definition, used or not;
 //! then `NotTls`, a relocation of thread-local storage that names something else, or the other way round, judged by the
 //! definition that the name binds to. Within a kind the first object, section and entry counts. [`Bindings`] then tells
-//! of each relocation what its symbol is bound to, and of a name its definition in the image.
+//! of each relocation what its symbol is bound to, and of a name or a symbol the definition in the image.
 //!
 //! The rule of cost: **a name is read and hashed once, and is a number from then on.** Names are numbered in the order
 //! in which they are met, each symbol keeps the number of its name and whether it is thread-local, and tables over
@@ -38,7 +38,8 @@
 //!
 //! `specs/Definitions` says which definition a name has, `specs/Bindings` what a symbol is bound to and what an image
 //! exports, and `specs/Faults` what each kind of fault means and which is the first. The other files of specs/ speak of
-//! what the code keeps: numbers (`Numbers`), tables (`Firsts`, `Known`) and searches (`Searches`).
+//! what the code keeps: numbers (`Numbers`), tables (`Firsts`, `Known`), what each symbol stands for (`Standings`) and
+//! searches (`Searches`).
 #![tactic(auto)]
 
 mod bindings;
@@ -50,6 +51,7 @@ mod image_names;
 pub mod laws;
 mod numbers;
 mod place;
+mod standings;
 mod symbols;
 mod tls_place;
 mod uses;

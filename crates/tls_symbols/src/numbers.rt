@@ -105,7 +105,7 @@ fn number_symbols<'a>(
     ensures numbers { IfOk result (λ numbers. AreNumbered names.new.keys object.now numbers.items) }
     ensures grows { OnOk result (Grows names.old.keys names.new.keys) }
 {
-    let mut numbers = Vec::new(alloc);
+    let mut numbers = Vec::with_capacity(alloc, object.symbol_count() as usize)?;
     for symbol in 0..object.symbol_count() {
         let known = know_symbol(object, symbol, names)?;
         numbers.push(known)?;
@@ -123,7 +123,7 @@ fn number_objects<'a>(
         AllNumbered names.new.keys objects.now (map (λ own. own.items) numbers.items)) }
     ensures grows { OnOk result (Grows names.old.keys names.new.keys) }
 {
-    let mut numbers = Vec::new(alloc);
+    let mut numbers = Vec::with_capacity(alloc, objects.len())?;
     for object in objects {
         let own = number_symbols(alloc, object, names)?;
         numbers.push(own)?;

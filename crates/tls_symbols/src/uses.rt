@@ -1,19 +1,21 @@
 //! The first relocation whose symbol has no binding, or one that does not suit it.
 
-ghost use Rattle.std.specs.Prelude.{◌≡◌, ◌≢◌, ◌<◌, IfSome, length};
+ghost use Rattle.std.specs.Prelude.{◌≡◌, ◌≢◌, ◌<◌, IfOk};
 ghost use Rattle.std.specs.List.{position_from};
 ghost use Rattle.elf_object.specs.Lent.{relocations};
 ghost use Rattle.elf_object.specs.Parts.{symbol_count};
 ghost use Rattle.tls_symbols.specs.declared.uses.Charge.TheVariants.{Either};
-ghost use Rattle.tls_symbols.specs.Bindings.{is_tls_binding, object_at, IsBindingWithin};
-ghost use Rattle.tls_symbols.specs.Faults.{is_mismatched, is_tls_kind};
+ghost use Rattle.tls_symbols.specs.Bindings.{object_at};
+ghost use Rattle.tls_symbols.specs.Faults.{is_tls_kind};
 ghost use Rattle.tls_symbols.specs.Known.{IsKnown};
 ghost use Rattle.tls_symbols.specs.Searches.{first_entry, first_use_from, first_use_in, test_of};
+ghost use Rattle.tls_symbols.specs.Standings.{is_unbound, is_unsuited, AreStandings};
 
-use crate::image_names::{ImageNames, binding, is_tls};
+use crate::image_names::ImageNames;
 use crate::place::Place;
+use crate::standings::{Bound, Standing, standings};
 use elf_object::{Object, Relocation, RelocationKind};
-use link_faults::Binding;
+use std::alloc::{AllocError, Global};
 
 /// A fault that a relocation may have by what its symbol is bound to.
 #[derive(Clone, Copy)]
@@ -42,36 +44,34 @@ fn is_tls_kind(kind: RelocationKind) -> bool
     )
 }
 
-/// Whether what a symbol is bound to is thread-local.
-fn is_tls_binding(names: &ImageNames, binding: Binding) -> bool
-    requires known { IsKnown names.now }
-    requires within { IsBindingWithin names.now.objects.now binding }
-    ensures { result ≡ is_tls_binding names.now.objects.now binding }
+/// Whether there is nothing that a symbol is bound to.
+fn is_nothing(bound: Bound) -> bool
+    ensures { result ≡ is_unbound bound }
 {
-    match binding {
-        Binding::Here(found) => is_tls(names, found),
-        Binding::Startup(_) => true,
-        Binding::Runtime => false,
-    }
+    matches!(bound, Bound::Nothing)
 }
 
 /// Whether a relocation of this type may not name what is bound so.
-fn is_mismatched(names: &ImageNames, kind: RelocationKind, bound: Option<Binding>) -> bool
-    requires known { IsKnown names.now }
-    requires within { IfSome bound (IsBindingWithin names.now.objects.now) }
-    ensures { result ≡ is_mismatched names.now.objects.now kind bound }
+fn is_mismatched(bound: Bound, kind: RelocationKind) -> bool
+    ensures { result ≡ is_unsuited kind bound }
 {
     match bound {
-        Some(binding) if is_tls_kind(kind) => !is_tls_binding(names, binding),
-        Some(binding) => is_tls_binding(names, binding),
-        None => false,
+        Bound::Nothing => false,
+        Bound::ThreadLocal => !is_tls_kind(kind),
+        Bound::Ordinary => is_tls_kind(kind),
     }
 }
 
 /// Whether a relocation has this fault.
-fn is_charged(names: &ImageNames, charge: Charge, index: usize, relocation: &Relocation) -> bool
-    requires known { IsKnown names.now }
-    requires object { index < length names.now.objects.now }
+fn is_charged(
+    names: &ImageNames,
+    standings: &[Standing],
+    charge: Charge,
+    index: usize,
+    relocation: &Relocation,
+) -> bool
+    requires standings { AreStandings names.now.objects.now names.now.startup.now index
+        (symbol_count (object_at names.now.objects.now index)) standings.now }
     requires symbol { relocation.now.kind ≢ RelocationKind.Nothing
         → relocation.now.symbol < symbol_count (object_at names.now.objects.now index) }
     ensures { result ≡ test_of charge names.now.objects.now names.now.startup.now index relocation.now }
@@ -79,31 +79,32 @@ fn is_charged(names: &ImageNames, charge: Charge, index: usize, relocation: &Rel
     if relocation.kind == RelocationKind::Nothing {
         return false;
     }
-    let bound = binding(names, index, relocation);
+    let bound = standings[relocation.symbol as usize].bound(relocation.kind);
     match charge {
-        Charge::Unbound => bound.is_none(),
-        Charge::Unsuited => is_mismatched(names, relocation.kind, bound),
-        Charge::Either => bound.is_none() || is_mismatched(names, relocation.kind, bound),
+        Charge::Unbound => is_nothing(bound),
+        Charge::Unsuited => is_mismatched(bound, relocation.kind),
+        Charge::Either => is_nothing(bound) || is_mismatched(bound, relocation.kind),
     }
 }
 
 /// The first relocation of a section that has the fault.
 fn first_relocation(
     names: &ImageNames,
+    standings: &[Standing],
     charge: Charge,
     index: usize,
     object: &Object,
     target: u32,
 ) -> Option<u64>
-    requires known { IsKnown names.now }
-    requires object { index < length names.now.objects.now }
+    requires standings { AreStandings names.now.objects.now names.now.startup.now index
+        (symbol_count (object_at names.now.objects.now index)) standings.now }
     requires here { object.now ≡ object_at names.now.objects.now index }
     ensures { result ≡ position_from (test_of charge names.now.objects.now names.now.startup.now index) 0
         (relocations object.now target) }
 {
     let mut entry = 0;
     for relocation in object.relocs(target) {
-        if is_charged(names, charge, index, &relocation) {
+        if is_charged(names, standings, charge, index, &relocation) {
             return Some(entry);
         }
         entry += 1;
@@ -115,32 +116,39 @@ fn first_relocation(
 #[tactic(auto, unfolding(crate::specs::Searches::first_entry, crate::specs::Faults::held_in))]
 fn first_entry(
     names: &ImageNames,
+    standings: &[Standing],
     charge: Charge,
     index: usize,
     object: &Object,
     section: u32,
 ) -> Option<u64>
-    requires known { IsKnown names.now }
-    requires object { index < length names.now.objects.now }
+    requires standings { AreStandings names.now.objects.now names.now.startup.now index
+        (symbol_count (object_at names.now.objects.now index)) standings.now }
     requires here { object.now ≡ object_at names.now.objects.now index }
     ensures { result ≡ first_entry (test_of charge names.now.objects.now names.now.startup.now) index object.now section }
 {
     match object.relocation_target(section) {
-        Some(target) => first_relocation(names, charge, index, object, target),
+        Some(target) => first_relocation(names, standings, charge, index, object, target),
         None => None,
     }
 }
 
 /// The first in an object.
 #[tactic(auto, using(crate::proofs::Places::sections_none, crate::proofs::Places::sections_later, crate::proofs::Places::sections_here), unfolding(crate::specs::Searches::first_use_in))]
-fn first_use_in(names: &ImageNames, charge: Charge, index: usize, object: &Object) -> Option<Place>
-    requires known { IsKnown names.now }
-    requires object { index < length names.now.objects.now }
+fn first_use_in(
+    names: &ImageNames,
+    standings: &[Standing],
+    charge: Charge,
+    index: usize,
+    object: &Object,
+) -> Option<Place>
+    requires standings { AreStandings names.now.objects.now names.now.startup.now index
+        (symbol_count (object_at names.now.objects.now index)) standings.now }
     requires here { object.now ≡ object_at names.now.objects.now index }
     ensures { result ≡ first_use_in (test_of charge names.now.objects.now names.now.startup.now) index object.now }
 {
     for section in 1..object.section_count() {
-        if let Some(entry) = first_entry(names, charge, index, object, section) {
+        if let Some(entry) = first_entry(names, standings, charge, index, object, section) {
             return Some(Place {
                 object: index as u64,
                 section: u64::from(section),
@@ -151,30 +159,40 @@ fn first_use_in(names: &ImageNames, charge: Charge, index: usize, object: &Objec
     None
 }
 
-/// The first relocation that has the fault.
-pub fn first_use(names: &ImageNames, charge: Charge) -> Option<Place>
+/// The first relocation that has the fault. What the symbols of an object stand for is kept as long as it is searched.
+pub fn first_use(
+    alloc: Global,
+    names: &ImageNames,
+    charge: Charge,
+) -> Result<Option<Place>, AllocError>
     requires { IsKnown names.now }
-    ensures { result ≡ first_use_from (test_of charge names.now.objects.now names.now.startup.now) 0
-        names.now.objects.now }
+    ensures { IfOk result (λ place.
+        place ≡ first_use_from (test_of charge names.now.objects.now names.now.startup.now) 0 names.now.objects.now) }
 {
     for (index, object) in names.objects.iter().enumerate() {
-        if let Some(place) = first_use_in(names, charge, index, object) {
-            return Some(place);
+        let standings = standings(alloc, names, index, object)?;
+        if let Some(place) = first_use_in(names, &standings, charge, index, object) {
+            return Ok(Some(place));
         }
     }
-    None
+    Ok(None)
 }
 
 /// The first relocation that has the fault, where the first that has any is known. There is no search where none has.
-pub fn first_charged(names: &ImageNames, unfit: Option<Place>, charge: Charge) -> Option<Place>
+pub fn first_charged(
+    alloc: Global,
+    names: &ImageNames,
+    unfit: Option<Place>,
+    charge: Charge,
+) -> Result<Option<Place>, AllocError>
     requires known { IsKnown names.now }
     requires unfit { unfit ≡ first_use_from (test_of Either names.now.objects.now names.now.startup.now) 0
         names.now.objects.now }
-    ensures { result ≡ first_use_from (test_of charge names.now.objects.now names.now.startup.now) 0
-        names.now.objects.now }
+    ensures { IfOk result (λ place.
+        place ≡ first_use_from (test_of charge names.now.objects.now names.now.startup.now) 0 names.now.objects.now) }
 {
     match unfit {
-        Some(_) => first_use(names, charge),
-        None => None,
+        Some(_) => first_use(alloc, names, charge),
+        None => Ok(None),
     }
 }

@@ -1,10 +1,12 @@
-use Rattle.std.proofs.Common.{◌≡◌, ◌++◌, drop, map}
-use Rattle.std.specs.List.{filter_map}
-use Rattle.tls_symbols.specs.Definitions.{definition_of}
-use Rattle.dynamic_symbols.specs.Names.{defined_symbols}
+use Rattle.std.proofs.Common.{◌≡◌, [], drop}
+use Rattle.std.specs.List.{flat_map}
+use Rattle.dynamic_symbols.specs.Found.{names_of, IsBound}
+use Rattle.dynamic_symbols.specs.Names.{defined_in}
+use Rattle.dynamic_symbols.specs.Walks.{with_names}
 use Rattle.dynamic_symbols.proofs.defining.defined_symbols.Given as goal
 
--- with those of the names that are left, the symbols are those that are wanted
-abbrev pub invariant-loop-name : goal.invariant-loop-name
-invariant-loop-name l =
-    l.symbols.items ++ filter_map (definition_of l.bindings.objects) (map (λ name. name.now) (drop l.name-index l.name-items)) ≡ defined_symbols l.bindings.objects
+-- with those of the objects that are left, the names are those that are wanted; each has what it binds to
+abbrev pub invariant-loop-index : goal.invariant-loop-index
+invariant-loop-index l =
+    (with_names (names_of l.found) (flat_map defined_in (drop l.index l.objects)) ≡ with_names [] (flat_map defined_in l.objects)) ×
+    IsBound l.bindings.objects l.found
