@@ -1,7 +1,7 @@
 -- What is left when parts of the file are written, each and together.
-use Rattle.std.proofs.Common.{◌≡◌, ◌+◌, ◌-◌, ◌<◌, ◌≤◌, ◌^◌, ◌∙◌, ◌++◌, ℕ, Bool, true, false, List, Option, Some, None, IsSome, length}
-use Rattle.std.proofs.Common.{inl, inr, refl, sym, ap, subst, arith}
-use Rattle.std.specs.Prelude.{Result, Ok, Err, IfErr, OnErr, OnOk, IsSomeAnd, slice_get, unwrap_or, if◌then◌else◌}
+use Rattle.std.proofs.Common.{◌≡◌, ◌+◌, ◌-◌, ◌≤◌, ◌^◌, ◌∙◌, ◌++◌, ℕ, Bool, true, false, List, Option, Some, None, IsSome, length}
+use Rattle.std.proofs.Common.{inl, inr, refl, sym, ap, arith}
+use Rattle.std.specs.Prelude.{Result, Ok, Err, IfErr, OnOk, IsSomeAnd, slice_get, unwrap_or, if◌then◌else◌}
 use Rattle.std.specs.List.{Contains}
 use Rattle.std.proofs.lemmas.Bool.{cases_lt}
 use Rattle.std.proofs.lemmas.List.{length-append}
@@ -13,7 +13,7 @@ use Rattle.link_faults.specs.declared.fault.LinkFault.TheVariants.{OutOfMemory, 
 use Rattle.link_faults.specs.declared.fault.LinkFaultKind.TheVariants as fault
 use Rattle.section_file.specs.Files.{offset_of}
 use Rattle.tls_layout.specs.Places.{address_of}
-use Rattle.tls_symbols.specs.Faults.{held_in, Earlier}
+use Rattle.tls_symbols.specs.Faults.{held_in}
 use Rattle.link_needs.specs.Given.{FitsTable, IsGiven}
 use Rattle.link_needs.specs.Linking.{Linking, layout, object}
 use Rattle.link_needs.specs.Needs.{has_stub, stub_start}
@@ -25,6 +25,12 @@ use Rattle.link_core.proofs.LengthsPlaces.{got_end, got_end-before}
 use Rattle.link_core.proofs.LengthsRaw.{raw_length, stub_small}
 use Rattle.link_core.proofs.PartFields.{has_address, parts_join}
 use Rattle.link_core.proofs.PartSplit.{address_near, begins_in, start_yes}
+
+-- lists as long as two others are together as long as these
+same_length : (xs xs' ys ys' : List ℕ) → length xs' ≡ length xs → length ys' ≡ length ys
+    → length (xs' ++ ys') ≡ length (xs ++ ys)
+same_length xs xs' ys ys' first second =
+    let old = length-append xs ys in let new = length-append xs' ys' in omega arith
 
 module _ (l : Linking) where
   -- where one is told, one overflows
@@ -90,22 +96,12 @@ module _ (l : Linking) where
       fits = none_in_both from cut to both.front_fits both.back_fits;
       overflow = tt;
     }
-      where
-        same_length : (xs xs' ys ys' : List ℕ) → length xs' ≡ length xs → length ys' ≡ length ys
-            → length (xs' ++ ys') ≡ length (xs ++ ys)
-        same_length xs xs' ys ys' first second =
-            let old = length-append xs ys in let new = length-append xs' ys' in omega arith
     joined from cut to front front' back back' (Err told) low high long is_cut part both = record {
       written = tt;
       filled = same_length front front' back back' both.front_filled both.back_filled;
       fits = tt;
       overflow = both.overflow;
     }
-      where
-        same_length : (xs xs' ys ys' : List ℕ) → length xs' ≡ length xs → length ys' ≡ length ys
-            → length (xs' ++ ys') ≡ length (xs ++ ys)
-        same_length xs xs' ys ys' first second =
-            let old = length-append xs ys in let new = length-append xs' ys' in omega arith
 
     module _ (limit : ℕ) (large : 2 ^ 27 ≤ limit) where
       -- of all fields each belongs to the whole

@@ -16,7 +16,7 @@ use tls_layout::{Placement, place};
 use tls_symbols::{Bindings, Exports, resolve};
 
 /// How many bytes of sections are worth the start of a thread.
-const WORTH_A_THREAD: u64 = 256 << 10;
+const WORTH_A_THREAD: u64 = 64 << 10;
 
 /// Where the sections of an image go, and the file of them.
 #[derive(Drop)]
@@ -92,9 +92,9 @@ pub fn bind_and_lay<'l, 'a, R: Threads>(
     let bind = move || -> Result<Bindings, LinkFault>
         requires { length sources.startup.now < 2 ^ 32 - 1 }
         ensures { (IfOk result (λ bindings. bindings.objects ≡ sources.entry.objects.now))
-        × (IfOk result (λ bindings. bindings.startup ≡ sources.entry.startup.now))
-        × (OnOk result (AreResolved sources.entry.objects.now sources.entry.startup.now))
-        × (IfErr result (IsFault sources.entry.objects.now sources.entry.startup.now)) }
+            × (IfOk result (λ bindings. bindings.startup ≡ sources.entry.startup.now))
+            × (OnOk result (AreResolved sources.entry.objects.now sources.entry.startup.now))
+            × (IfErr result (IsFault sources.entry.objects.now sources.entry.startup.now)) }
     { bind(alloc, sources) };
     let (file, bindings) = join(rt, lay, bind);
     (bindings, with_file(placement, file))

@@ -44,6 +44,10 @@
 //! Names are compared by hash, each section is copied once, and each relocation is looked at by a fixed number of walks:
 //! time is linear in objects, symbols, relocations and bytes.
 //!
+//! Threads share a large image: its sections are laid while its names are bound, and its fields are written in parts of
+//! the file, cut where a section begins. No clause knows of it. `specs/Parts` says what is written in a part, and its
+//! proofs that the parts together are the whole.
+//!
 //! The rules are those of "ELF Handling For Thread-Local Storage" (Drepper), of the psABI ("Thread-Local Storage",
 //! "Relocation Types") and of the gABI ("Program Loading and Dynamic Linking").
 #![tactic(auto)]

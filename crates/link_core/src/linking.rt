@@ -17,8 +17,8 @@ ghost use Rattle.link_core.specs.Overflows.{IsOverflowFault, NoOverflow};
 
 use crate::draft::{file_kind, is_flagged, push_made, section_places, tls_part};
 use crate::file::file_of;
-use crate::linked::Linked;
 use crate::laid::{Laid, bind_and_lay};
+use crate::linked::Linked;
 use crate::prepared::{Prepared, within_limits};
 use crate::relocation_list::relocations;
 use crate::symbol_list::symbols;

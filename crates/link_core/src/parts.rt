@@ -14,8 +14,8 @@ use link_faults::LinkFault;
 use link_needs::Plan;
 use std::thread::{Threads, join_mut};
 
-/// How many bytes of the file are worth a thread of their own.
-const WORTH_A_THREAD: usize = 256 << 10;
+/// How many bytes of the file are halved: each half is worth a thread of its own.
+const WORTH_TWO_THREADS: usize = 1 << 20;
 
 /// How often the file is halved at most.
 const HALVINGS: u32 = 3;
@@ -35,7 +35,11 @@ fn later(plan: &Plan, number: usize, section: u32, limit: u64, cut: u64) -> u64
     match inputs.placement.address(number, section) {
         Some(address) => {
             let place = place_in_file(plan, address);
-            if cut < place && place <= limit { place } else { cut }
+            if cut < place && place <= limit {
+                place
+            } else {
+                cut
+            }
         }
         None => cut,
     }
@@ -86,7 +90,7 @@ fn write_halves<R: Threads + Sync>(
 {
     // What is known of a plan is known where a part of it is read.
     let _inputs = plan.inputs;
-    if halvings == 0 || part.len() < WORTH_A_THREAD {
+    if halvings == 0 || part.len() < WORTH_TWO_THREADS {
         return write_part(plan, from, to, part);
     }
     let cut = cut_before(plan, from + part.len() as u64 / 2);

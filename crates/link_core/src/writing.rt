@@ -124,8 +124,12 @@ fn write_field(
     match relocation.kind {
         RelocationKind::Pc32 => fill_field(plan, from, object, section, address, relocation, part),
         RelocationKind::Plt32 => fill_field(plan, from, object, section, address, relocation, part),
-        RelocationKind::TpOff32 => fill_field(plan, from, object, section, address, relocation, part),
-        RelocationKind::Absolute64 => fill_field(plan, from, object, section, address, relocation, part),
+        RelocationKind::TpOff32 => fill_field(
+            plan, from, object, section, address, relocation, part,
+        ),
+        RelocationKind::Absolute64 => fill_field(
+            plan, from, object, section, address, relocation, part,
+        ),
         _ => fill_field(plan, from, object, section, address, relocation, part),
     }
 }

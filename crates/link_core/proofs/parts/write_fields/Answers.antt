@@ -1,7 +1,5 @@
-use Rattle.std.proofs.Common.{◌≡◌, ◌+◌, ◌≤◌, ◌∙◌, length, zero-add, sym, subst, arith}
-use Rattle.std.specs.Prelude.{IfErr, OnOk}
+use Rattle.std.proofs.Common.{◌∙◌, sym, subst, arith}
 use Rattle.link_needs.specs.Given.{FitsTable, IsGiven}
-use Rattle.link_core.specs.Bytes.{raw_file}
 use Rattle.link_core.specs.Parts.{IsPart}
 use Rattle.link_core.proofs.PartFields.{whole_part}
 use Rattle.link_core.proofs.PartSplit.{whole_is_part}

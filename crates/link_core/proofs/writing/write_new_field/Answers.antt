@@ -58,8 +58,13 @@ put-requires c =
     let fits = new_room l c.args.object site (choice l c.args.object site) c.args.field.now room c.requires.field in
     record {
       room =
-          rw (zero-add, c.in-Ok.ensures.width, c.new_relocation-relocation.ensures, c.requires.address,
-          c.requires.filled) fits;
+          rw (
+            zero-add,
+            c.in-Ok.ensures.width,
+            c.new_relocation-relocation.ensures,
+            c.requires.address,
+            c.requires.filled,
+          ) fits;
       behind = λ wide. omega arith;
     }
 
