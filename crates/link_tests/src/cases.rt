@@ -119,7 +119,12 @@ fn push_bytes(alloc: Global, text: &mut String, linked: &Linked) -> Result<(), A
 }
 
 /// What is told of a link.
-fn told(rt: &(impl Threads + Sync), alloc: Global, kind: &str, objects: &str) -> Result<String, Fail> {
+fn told(
+    rt: &(impl Threads + Sync),
+    alloc: Global,
+    kind: &str,
+    objects: &str,
+) -> Result<String, Fail> {
     let files = files_of(alloc, objects)?;
     let module = files_of(alloc, STARTUP)?;
     let mut text = String::new(alloc);
@@ -167,7 +172,11 @@ fn check(rt: &(impl Abort + Threads + Sync), alloc: Global, case: &str) -> Resul
 }
 
 /// Compares what is told of each case. A star begins a case.
-pub(crate) fn check_all(rt: &(impl Abort + Threads + Sync), alloc: Global, cases: &str) -> Result<(), Fail> {
+pub(crate) fn check_all(
+    rt: &(impl Abort + Threads + Sync),
+    alloc: Global,
+    cases: &str,
+) -> Result<(), Fail> {
     for case in cases.split('*') {
         let case = squeezed(alloc, case)?;
         if !case.is_empty() {
