@@ -85,7 +85,7 @@ fn link_one<'a, R: Threads + Sync>(
     startup: &[Exports<'a>],
     relax: bool,
 ) -> Result<Linked, LinkFault>
-    requires { length startup.now < 2 ^ 32 - 1 }
+    requires few { length startup.now < 2 ^ 32 - 1 }
     ensures linked { IfOk result (λ linked. linked ≡ linked_of (link_beside startup.now relax image.now)) }
     ensures links { OnOk result (Links (link_beside startup.now relax image.now)) }
     ensures fault { IfErr result (IsLinkFault (link_beside startup.now relax image.now)) }

@@ -7,8 +7,8 @@ use Rattle.job_link.specs.Refusals.{IsImageRefusal}
 use Rattle.job_link.proofs.Exported.{all_link, beside, first_refused, linked_as, links_more, made_more}
 use Rattle.job_link.proofs.linked_images.link_images.Goals as goal
 
-pub link_one-requires : goal.link_one-requires
-link_one-requires g c =
+pub link_one-requires-clause-few : goal.link_one-requires-clause-few
+link_one-requires-clause-few g c κs within =
     omega (
       arith,
       ap length (c.as_slice.ensures.value

@@ -7,7 +7,7 @@ use Rattle.job_link.proofs.Exported.{made_beside, sites_held}
 use Rattle.job_link.proofs.linked_images.link_one.Goals as goal
 
 pub link-requires-clause-sites : goal.link-requires-clause-sites
-link-requires-clause-sites g c =
+link-requires-clause-sites g c κs within =
     sites_held c.objects.result.now c.sites.result.now c.args.image.now c.objects.ensures.objects c.sites.ensures.sites
     c.objects.ensures.given
 
