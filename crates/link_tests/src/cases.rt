@@ -71,8 +71,7 @@ fn linked<'a>(
 ) -> Result<Result<Linked, LinkFault>, Fail> {
     let sites = all_sites(alloc, objects)?;
     let (kind, relax) = kind_of(kind);
-    let sites = sites.as_slice();
-    Ok(link(rt, alloc, objects, sites, kind, startup, relax))
+    Ok(link(rt, alloc, objects, sites.as_slice(), kind, startup, relax))
 }
 
 /// Links the objects of files beside a module of objects.
