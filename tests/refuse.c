@@ -1,16 +1,33 @@
-/* Refuses one request for memory, the one whose number is REFUSE, from 1, and writes to the file COUNT how many requests there were. */
+/* Refuses one request for memory, the one whose number is REFUSE, from 1, and keeps in the file COUNT how many there were. */
 #define _GNU_SOURCE
 #include <dlfcn.h>
 #include <errno.h>
+#include <fcntl.h>
 #include <stdio.h>
 #include <stdlib.h>
+#include <unistd.h>
 
 static long number;
+
+/* Written at each request, since a program may end without its destructors. */
+static void tell(void)
+{
+    static int file = -1;
+    const char *name = getenv("COUNT");
+    char text[16];
+    if (!name)
+        return;
+    if (file < 0)
+        file = open(name, O_WRONLY | O_CREAT | O_CLOEXEC, 0600);
+    if (pwrite(file, text, snprintf(text, sizeof text, "%ld\n", number), 0) < 0)
+        _exit(125);
+}
 
 static int is_refused(void)
 {
     const char *refused = getenv("REFUSE");
     number++;
+    tell();
     if (refused && atol(refused) == number) {
         errno = ENOMEM;
         return 1;
@@ -32,14 +49,4 @@ void *realloc(void *at, size_t size)
     if (!real)
         real = (void *(*)(void *, size_t))dlsym(RTLD_NEXT, "realloc");
     return is_refused() ? NULL : real(at, size);
-}
-
-__attribute__((destructor)) static void tell(void)
-{
-    const char *name = getenv("COUNT");
-    FILE *file = name ? fopen(name, "w") : NULL;
-    if (file) {
-        fprintf(file, "%ld\n", number);
-        fclose(file);
-    }
 }
