@@ -96,6 +96,6 @@ pub fn bind_and_lay<'l, 'a, R: Threads>(
             × (OnOk result (AreResolved sources.entry.objects.now sources.entry.startup.now))
             × (IfErr result (IsFault sources.entry.objects.now sources.entry.startup.now)) }
     { bind(alloc, sources) };
-    let (file, bindings) = join(rt, lay, bind);
+    let (bindings, file) = join(rt, bind, lay);
     (bindings, with_file(placement, file))
 }

@@ -5,16 +5,16 @@ use Rattle.tls_layout.specs.Sections.{Layout, layout_of}
 use Rattle.link_core.proofs.laid.bind_and_lay.Goals as goal
 
 pub returns-clause-objects : goal.returns-clause-objects
-returns-clause-objects g c = c.join-file.ensures.second.0
+returns-clause-objects g c = c.join-bindings.ensures.first.0
 
 pub returns-clause-startup : goal.returns-clause-startup
-returns-clause-startup g c = c.join-file.ensures.second.1
+returns-clause-startup g c = c.join-bindings.ensures.first.1
 
 pub returns-clause-resolved : goal.returns-clause-resolved
-returns-clause-resolved g c = c.join-file.ensures.second.2
+returns-clause-resolved g c = c.join-bindings.ensures.first.2
 
 pub returns-clause-names : goal.returns-clause-names
-returns-clause-names g c = c.join-file.ensures.second.3
+returns-clause-names g c = c.join-bindings.ensures.first.3
 
 pub returns-then-room-base-clause-file : goal.returns-then-room-base-clause-file
 returns-then-room-base-clause-file g c =
@@ -27,5 +27,5 @@ pub returns-clause-file : goal.returns-clause-file
 returns-clause-file g c =
     let objects = c.args.objects.now in
     c.with_file-2.ensures.file (sections_file (layout_of c.args.kind objects) objects)
-    (subst (λ (p : Layout). IfOk c.join-file.result.0 (λ file. file.items ≡ sections_file p objects))
-    c.in-Ok.ensures.places c.join-file.ensures.first)
+    (subst (λ (p : Layout). IfOk c.join-bindings.result.1 (λ file. file.items ≡ sections_file p objects))
+    c.in-Ok.ensures.places c.join-bindings.ensures.second)
