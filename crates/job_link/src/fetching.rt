@@ -26,6 +26,19 @@ fn are_small(bytes: &[u8])
 /// How many bytes of objects are worth a thread of their own.
 const WORTH_A_THREAD: usize = 1 << 18;
 
+/// How many bytes of files there is room for at first: a buffer of this size grows without being copied.
+const ROOM: usize = 4 << 20;
+
+/// An empty buffer, with room for files where there is memory for it.
+fn roomy(alloc: Global) -> Vec<u8>
+    ensures { result.items ≡ [] }
+{
+    match Vec::with_capacity(alloc, ROOM) {
+        Ok(bytes) => bytes,
+        Err(_) => Vec::new(alloc),
+    }
+}
+
 /// The files of a job's objects, in one buffer. Contracts see each name with its bytes.
 #[derive(Drop)]
 pub struct Files<'j> {
@@ -50,7 +63,7 @@ impl<'j> Files<'j> {
         ensures { result ≡ [] }
     {
         Files {
-            bytes: Vec::new(alloc),
+            bytes: roomy(alloc),
             places: IndexMap::new(alloc),
         }
     }
