@@ -19,8 +19,8 @@ use Rattle.job_text.specs.declared.images.Image.{Image}
 use Rattle.job_text.specs.Jobs.{JobParts}
 use Rattle.link_core.specs.Faults.{Links}
 use Rattle.link_needs.specs.Given.{IsGiven}
-use Rattle.link_core.specs.Images.{LinkedImage, choices_from, image_of, linked_of}
-use Rattle.link_needs.specs.Linking.{Linking, choice}
+use Rattle.link_core.specs.Images.{LinkedImage, image_of, linked_of}
+use Rattle.link_needs.specs.Linking.{Linking, choice, choices_from}
 use Rattle.sequence_forms.specs.declared.places.Site.{Site}
 use Rattle.commands.specs.declared.wish.Wish.{Wish}
 use Rattle.commands.specs.declared.wish.Wish.TheVariants.{File, Sites}

@@ -14,8 +14,8 @@ use Rattle.job_text.specs.declared.fault.JobFault.{JobFault}
 use Rattle.job_text.specs.declared.fault.JobFaultKind.TheVariants.{Name}
 use Rattle.job_text.specs.Images.{image_number}
 use Rattle.job_text.specs.Jobs.{JobParts, job_of}
-use Rattle.link_core.specs.Images.{choices_from, image_of}
-use Rattle.link_needs.specs.Linking.{Linking}
+use Rattle.link_core.specs.Images.{image_of}
+use Rattle.link_needs.specs.Linking.{Linking, choices_from}
 use Rattle.link_faults.specs.declared.fault.LinkFaultKind.{LinkFaultKind}
 use Rattle.object_rules.specs.declared.fault.FaultKind.{FaultKind}
 use Rattle.ports.specs.Files.{Files, file_at, with_file}

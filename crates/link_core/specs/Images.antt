@@ -1,5 +1,5 @@
 -- The image of objects.
-use Rattle.std.specs.Prelude.{◌+◌, ◌-◌, ◌==◌, ℕ, List, [], ◌∷◌, ◌++◌, Option, Some, None, length, map, nat_lt}
+use Rattle.std.specs.Prelude.{◌-◌, ◌==◌, ℕ, List, [], ◌∷◌, ◌++◌, Option, Some, None, length, map, nat_lt}
 use Rattle.std.specs.Prelude.{if◌then◌else◌}
 use Rattle.image_file.specs.declared.part.PartClass.{PartClass}
 use Rattle.image_file.specs.declared.part.PartClass.TheVariants.{Executable, ReadOnly, Writable}
@@ -16,8 +16,7 @@ use Rattle.tls_layout.specs.declared.extent.Extent.{Extent}
 use Rattle.tls_layout.specs.Places.{executable, read_only, tls_image, writable, initial_tls, tls_size, tls_alignment}
 use Rattle.tls_layout.specs.Sections.{Layout}
 use Rattle.relax_sites.specs.declared.choices.Choice.{Choice}
-use Rattle.sequence_forms.specs.declared.places.Site.{Site}
-use Rattle.link_needs.specs.Linking.{Linking, choice, layout}
+use Rattle.link_needs.specs.Linking.{Linking, choices_from, layout}
 use Rattle.link_needs.specs.Needs.{got_size, got_start, has_stub, stub_start}
 use Rattle.link_core.specs.Bytes.{file}
 use Rattle.link_core.specs.Dynamic.{image_relocations, is_flagged, names, symbols}
@@ -87,14 +86,6 @@ unfoldable pub image_of : Linking → Spelled
 image_of l = finished (contents l)
 
 -- ** what linking gives
-
--- which sequence stands in the place of each site of object o
-abbrev pub choices_in : Linking → ℕ → List Site → List Choice
-choices_in l o own = map (choice l o) own
-
-abbrev pub choices_from : Linking → ℕ → List (List Site) → List (List Choice)
-choices_from l o [] = []
-choices_from l o (own ∷ more) = choices_in l o own ∷ choices_from l (o + 1) more
 
 -- the image, and the choices of all objects
 pub record LinkedImage : Type 0 where

@@ -10,7 +10,7 @@ ghost use Rattle.link_needs.specs.Linking.{layout, link_of};
 ghost use Rattle.link_core.specs.Bytes.{file as file_of_link};
 ghost use Rattle.link_core.specs.Dynamic.{image_relocations, names, symbols as symbols_of_link};
 ghost use Rattle.link_core.specs.Faults.{IsLinkFault, IsSound, Links};
-ghost use Rattle.link_core.specs.Images.{choices_from, choices_in, contents, file_kind as file_kind_of, got_number};
+ghost use Rattle.link_core.specs.Images.{contents, file_kind as file_kind_of, got_number};
 ghost use Rattle.link_core.specs.Images.{image_of as image_of_link, linked_of, places};
 ghost use Rattle.link_core.specs.Named.{names_in, symbols_in};
 ghost use Rattle.link_core.specs.Overflows.{IsOverflowFault, NoOverflow};
@@ -28,7 +28,6 @@ use image_writer::{Draft, NamedSymbol, PartPlace, image_of};
 use link_faults::{ImageKind, LinkFault};
 use link_needs::{Inputs, Plan, plan_of};
 use link_refusals::ask_kind;
-use relax_sites::Choice;
 use sequence_match::Site;
 use std::alloc::{AllocError, Global};
 use std::thread::Threads;
@@ -108,35 +107,6 @@ fn image<R: Threads + Sync>(
     Ok(finished(alloc, plan, prepared, file)?)
 }
 
-/// Which sequence stands in the place of each of an object's sites.
-fn own_choices(
-    alloc: Global,
-    inputs: &Inputs,
-    object: usize,
-    own: &[Site],
-) -> Result<Vec<Choice>, AllocError>
-    requires object { object < length inputs.now.objects }
-    requires symbols { HaveSymbols (object_at inputs.now.objects object) own.now }
-    ensures { IfOk result (λ choices. choices.items ≡ choices_in inputs.now object own.now) }
-{
-    let mut choices = Vec::with_capacity(alloc, own.len())?;
-    for site in own {
-        choices.push(inputs.choice(object, site))?;
-    }
-    Ok(choices)
-}
-
-/// Which sequence stands in the place of each site.
-fn choices(alloc: Global, inputs: &Inputs) -> Result<Vec<Vec<Choice>>, AllocError>
-    ensures { IfOk result (λ all. map (λ own. own.items) all.items ≡ choices_from inputs.now 0 inputs.now.sites) }
-{
-    let mut all = Vec::with_capacity(alloc, inputs.sites.len())?;
-    for (object, own) in inputs.sites.iter().enumerate() {
-        all.push(own_choices(alloc, inputs, object, own.as_slice())?)?;
-    }
-    Ok(all)
-}
-
 /// What a link that no earlier fault stands in gives, or the first field that does not hold its value.
 #[tactic(auto, unfolding(crate::specs::Images::linked_of))]
 fn linked<R: Threads + Sync>(
@@ -154,8 +124,10 @@ fn linked<R: Threads + Sync>(
     let inputs = &prepared.inputs;
     let plan = plan_of(alloc, inputs)?;
     let image = image(rt, alloc, &plan, prepared, sections)?;
-    let choices = choices(alloc, inputs)?;
-    Ok(Linked { image, choices })
+    Ok(Linked {
+        image,
+        choices: plan.into_choices(),
+    })
 }
 
 /// Links objects into an image of this kind, beside startup images that export these names: of all of them in image

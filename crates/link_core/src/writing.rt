@@ -1,7 +1,7 @@
 //! The fields of relocations, and the sequences in the place of rewritten ones, written in the file.
 
 ghost use Rattle.std.specs.Prelude.{◌≡◌, ◌+◌, ◌-◌, ◌^◌, ◌<◌, ◌≤◌, ◌&&◌, [], ◌∷◌, IfErr, OnErr, OnOk, Some};
-ghost use Rattle.std.specs.Prelude.{fold, length, nat_le, nat_lt, unwrap_or};
+ghost use Rattle.std.specs.Prelude.{fold, length, nat_le, nat_lt, slice_index_or, unwrap_or};
 ghost use Rattle.std.specs.List.{Contains};
 ghost use Rattle.elf_object.specs.Lent.{relocation_target, relocations};
 ghost use Rattle.elf_object.specs.Object.{section_count};
@@ -308,16 +308,18 @@ fn write_new_field(
     }
 }
 
-/// Writes the sequence in a site's place.
-fn write_site(plan: &Plan, object: usize, site: &Site, file: &mut [u8])
+/// Writes the sequence in the place of a site, which has this number.
+fn write_site(plan: &Plan, object: usize, number: usize, site: &Site, file: &mut [u8])
     requires object { object < length plan.now.objects }
     requires own { Contains (sites_at plan.now object) site.now }
+    requires number { number < length (sites_at plan.now object) }
+    requires at { site.now ≡ slice_index_or (sites_at plan.now object) number site.now }
     requires filled { length file.old ≡ length (raw_file plan.now) }
     ensures written { file.new ≡ with_site plan.now object file.old site.now }
     ensures filled { length file.new ≡ length (raw_file plan.now) }
 {
-    let choice = plan.inputs.choice(object, site);
     let address = plan.inputs.section_address(object, site.section);
+    let choice = plan.choice(object, number);
     let mut placed = *site;
     placed.start = place_in_file(plan, address + site.start);
     rewrite(file, &placed, choice);
@@ -334,8 +336,8 @@ fn write_own_sites(plan: &Plan, object: usize, own: &[Site], file: &mut [u8])
     ensures written { file.new ≡ fold (with_site plan.now object) file.old own.now }
     ensures filled { length file.new ≡ length (raw_file plan.now) }
 {
-    for site in own {
-        write_site(plan, object, site, file);
+    for (number, site) in own.iter().enumerate() {
+        write_site(plan, object, number, site, file);
     }
 }
 

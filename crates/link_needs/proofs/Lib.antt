@@ -1,3 +1,4 @@
+pub mod ChoiceLemmas
 pub mod InputsLemmas
 pub mod NeedsLemmas
 pub mod PlanLemmas

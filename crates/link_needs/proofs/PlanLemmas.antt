@@ -45,9 +45,12 @@ module _ (l : Linking) (sites : List (Vec Site)) (are : map (λ own. own.items) 
   pub none_left : (o : ℕ) → length sites ≤ o → length l.sites ≤ o
   none_left o past = omega (arith, same_length)
 
+  pub sites_there : (o : ℕ) → o < length sites → o < length l.sites
+  sites_there o there = omega (arith, same_length, there)
+
   -- those of one object
   module _ (o : ℕ) (own : Vec Site) (is : own ≡ slice_index_or sites o own) (there : o < length sites) where
-    own_are : sites_at l o ≡ own.items
+    pub own_are : sites_at l o ≡ own.items
     own_are = ap (λ xs. slice_index_or xs o []) (sym are) ∙ own_sites sites o own is there
 
     pub own_left : drop o l.sites ≡ own.items ∷ drop (o + 1) l.sites

@@ -1,6 +1,6 @@
 -- All that decides an image: what it is linked as, its objects with their sequences, what the startup images export,
 -- and whether sequences may be rewritten.
-use Rattle.std.specs.Prelude.{◌+◌, ℕ, Bool, List, [], Option, Some, None, map, slice_index_or, unwrap_or}
+use Rattle.std.specs.Prelude.{◌+◌, ℕ, Bool, List, [], ◌∷◌, Option, Some, None, map, slice_index_or, unwrap_or}
 use Rattle.std.specs.Global.{Vec}
 use Rattle.elf_object.specs.declared.relocation.Relocation.{Relocation}
 use Rattle.elf_object.specs.declared.symbol.SymbolPlace.{SymbolPlace}
@@ -92,3 +92,11 @@ chosen l form (Some bound) = choice_of form bound l.kind l.relax
 
 unfoldable pub choice : Linking → ℕ → Site → Choice
 choice l o site = chosen l site.form (binding l o (first_of site))
+
+-- those of the sites of object o, and of all objects, from number o on
+abbrev pub choices_in : Linking → ℕ → List Site → List Choice
+choices_in l o own = map (choice l o) own
+
+abbrev pub choices_from : Linking → ℕ → List (List Site) → List (List Choice)
+choices_from l o [] = []
+choices_from l o (own ∷ more) = choices_in l o own ∷ choices_from l (o + 1) more

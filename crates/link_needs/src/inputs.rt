@@ -2,7 +2,6 @@
 
 ghost use Rattle.std.specs.Prelude.{◌≡◌, ◌<◌, ◌≤◌, ◌^◌, ℕ, IfSome, IsSome, length, unwrap_or};
 ghost use Rattle.elf_object.specs.Parts.{symbol_count};
-ghost use Rattle.relax_sites.specs.Choices.{IsChoiceOf};
 ghost use Rattle.tls_layout.specs.Places.{address_of, tls_offset_of};
 ghost use Rattle.tls_symbols.specs.Bindings.{IsBindingWithin, object_at};
 ghost use Rattle.tls_symbols.specs.Definitions.{IsWithin};
@@ -80,11 +79,10 @@ impl<'l, 's, 'a> Inputs<'l, 's, 'a> {
 
     /// Which sequence stands in a site's place.
     #[tactic(auto, unfolding(crate::specs::Linking::choice))]
-    pub fn choice(&self, object: usize, site: &Site) -> Choice
+    pub(crate) fn choice(&self, object: usize, site: &Site) -> Choice
         requires object { object < length self.now.objects }
         requires symbol { site.now.symbol < symbol_count (object_at self.now.objects object) }
-        ensures choice { result ≡ choice self.now object site.now }
-        ensures own { IsChoiceOf site.now.form result }
+        ensures { result ≡ choice self.now object site.now }
     {
         match self.binding(object, &first_of(site)) {
             Some(bound) => choice(site.form, bound, self.kind, self.relax),

@@ -15,8 +15,9 @@
 //!
 //! [`Inputs`] are what is known before: the objects with their sequences, what their names are bound to, and where their
 //! sections go. [`plan_of`] takes these, lays out the table and answers a [`Plan`], which tells what the field of each
-//! relocation holds, or that it holds no such value, and which relocations have no field, since their sequence is
-//! rewritten. `link_core` asks whether objects link at all, and writes what is decided here.
+//! relocation holds, or that it holds no such value, which relocations have no field, since their sequence is rewritten,
+//! and what stands in the place of each sequence. `link_core` asks whether objects link at all, and writes what is decided
+//! here.
 //!
 //! The rule that the crate keeps: **each answer is a function of the link** (`specs/Linking`): its kind, its objects with
 //! their sequences, what the startup images export, and whether sequences may be rewritten. `specs/Needs` has what code
@@ -28,7 +29,8 @@
 //! sequences are kept it needs the pair of `x`, the words 1 and 8 (module 1, offset 8), and the word of
 //! `__tls_get_addr`, through which the stub jumps.
 //!
-//! What a symbol stands for is found once, and each relocation is looked at by a fixed number of walks.
+//! What a symbol stands for, and what stands in a sequence's place, is found once; each relocation is looked at by a fixed
+//! number of walks.
 //!
 //! The rules are those of "ELF Handling For Thread-Local Storage" (Drepper, sections 3 to 5) and of the psABI
 //! ("Thread-Local Storage", "Relocation Types").

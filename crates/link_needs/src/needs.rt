@@ -1,13 +1,13 @@
 //! What code needs of the global offset table.
 
 ghost use Rattle.std.specs.Prelude.{◌≡◌, ◌+◌, ◌<◌, ◌≤◌, ◌^◌, ◌++◌, ◌&&◌, [], ◌∷◌, IfOk, IfSome, OnOk, filter, length};
-ghost use Rattle.std.specs.Prelude.{option_and_then, if◌then◌else◌};
+ghost use Rattle.std.specs.Prelude.{map, option_and_then, if◌then◌else◌};
 ghost use Rattle.std.specs.List.{All, flat_map};
 ghost use Rattle.elf_object.specs.Lawful.{IsLawful};
 ghost use Rattle.elf_object.specs.Lent.{relocations};
 ghost use Rattle.elf_object.specs.Parts.{symbol_count};
 ghost use Rattle.tls_symbols.specs.Bindings.{IsBindingWithin, object_at};
-ghost use Rattle.link_needs.specs.Linking.{choice};
+ghost use Rattle.link_needs.specs.Linking.{choice, choices_from, choices_in};
 ghost use Rattle.link_needs.specs.Needs.{address_fields, address_need, address_needs, as_list, calls, calls_stub};
 ghost use Rattle.link_needs.specs.Needs.{is_address_kind};
 ghost use Rattle.link_needs.specs.Needs.{is_kept, need_by, needs, new_relocation, object_needs, object_needs_from};
@@ -22,6 +22,14 @@ use link_faults::Binding;
 use relax_sites::{Choice, NewField, new_field};
 use sequence_match::{Form, Site, first_of};
 use std::alloc::{AllocError, Global};
+
+/// What all code needs of the table, and which sequence stands in the place of each site. Each site is bound once for
+/// both.
+#[derive(Drop)]
+pub(crate) struct Wanted<'a> {
+    pub needs: Vec<Need<'a>>,
+    pub choices: Vec<Vec<Choice>>,
+}
 
 /// Whether a sequence of this form calls the run time, directly or through its word.
 fn calls(form: Form) -> bool
@@ -186,50 +194,64 @@ impl<'l, 's, 'a> Inputs<'l, 's, 'a> {
         }
     }
 
-    /// Adds what a site needs.
+    /// Adds what a site needs. Answers which sequence stands in its place.
     #[tactic(auto, unfolding(crate::specs::Needs::site_needs))]
     fn push_site(
         &self,
         object: usize,
         site: &Site,
         needs: &mut Vec<Need<'a>>,
-    ) -> Result<(), AllocError>
+    ) -> Result<Choice, AllocError>
         requires object { object < length self.now.objects }
         requires site { IsUsable (object_at self.now.objects object) site.now }
-        ensures { OnOk result (needs.new.items ≡ needs.old.items ++ site_needs self.now object site.now) }
+        ensures needs { OnOk result (needs.new.items ≡ needs.old.items ++ site_needs self.now object site.now) }
+        ensures choice { IfOk result (λ chosen. chosen ≡ choice self.now object site.now) }
     {
         let choice = self.choice(object, site);
         push_some(self.reached(object, site, choice), needs)?;
-        push_some(word_of_call(site.form, choice), needs)
+        push_some(word_of_call(site.form, choice), needs)?;
+        Ok(choice)
     }
 
-    /// Adds what the sites of an object need.
+    /// Adds what the sites of an object need. Answers which sequences stand in their places.
     fn push_own_sites(
         &self,
+        alloc: Global,
         object: usize,
         own: &[Site],
         needs: &mut Vec<Need<'a>>,
-    ) -> Result<(), AllocError>
+    ) -> Result<Vec<Choice>, AllocError>
         requires object { object < length self.now.objects }
         requires sites { All (IsUsable (object_at self.now.objects object)) own.now }
-        ensures { OnOk result
+        ensures needs { OnOk result
             (needs.new.items ≡ needs.old.items ++ flat_map (site_needs self.now object) own.now) }
+        ensures choices { IfOk result (λ choices. choices.items ≡ choices_in self.now object own.now) }
     {
+        let mut choices = Vec::with_capacity(alloc, own.len())?;
         for site in own {
-            self.push_site(object, site, needs)?;
+            let choice = self.push_site(object, site, needs)?;
+            choices.push(choice)?;
         }
-        Ok(())
+        Ok(choices)
     }
 
-    /// Adds what all sites need.
-    fn push_sites(&self, needs: &mut Vec<Need<'a>>) -> Result<(), AllocError>
-        ensures { OnOk result
+    /// Adds what all sites need. Answers which sequence stands in the place of each.
+    fn push_sites(
+        &self,
+        alloc: Global,
+        needs: &mut Vec<Need<'a>>,
+    ) -> Result<Vec<Vec<Choice>>, AllocError>
+        ensures needs { OnOk result
             (needs.new.items ≡ needs.old.items ++ site_needs_from self.now 0 self.now.sites) }
+        ensures choices { IfOk result (λ all. map (λ own. own.items) all.items
+            ≡ choices_from self.now 0 self.now.sites) }
     {
+        let mut all = Vec::with_capacity(alloc, self.sites.len())?;
         for (object, own) in self.sites.iter().enumerate() {
-            self.push_own_sites(object, own.as_slice(), needs)?;
+            let choices = self.push_own_sites(alloc, object, own.as_slice(), needs)?;
+            all.push(choices)?;
         }
-        Ok(())
+        Ok(all)
     }
 
     /// What an address field needs, whose symbol is bound so.
@@ -309,13 +331,16 @@ impl<'l, 's, 'a> Inputs<'l, 's, 'a> {
     }
 
     /// What all code needs: sequences in the order of their sites, and then address fields in that of their places.
-    pub(crate) fn needs(&self, alloc: Global) -> Result<Vec<Need<'a>>, AllocError>
-        ensures { IfOk result (λ all. all.items ≡ needs self.now) }
+    /// And which sequence stands in the place of each site.
+    pub(crate) fn wanted(&self, alloc: Global) -> Result<Wanted<'a>, AllocError>
+        ensures needs { IfOk result (λ wanted. wanted.needs.items ≡ needs self.now) }
+        ensures choices { IfOk result (λ wanted. map (λ own. own.items) wanted.choices.items
+            ≡ choices_from self.now 0 self.now.sites) }
     {
-        let mut all = Vec::new(alloc);
-        self.push_sites(&mut all)?;
-        self.push_objects(alloc, &mut all)?;
-        Ok(all)
+        let mut needs = Vec::new(alloc);
+        let choices = self.push_sites(alloc, &mut needs)?;
+        self.push_objects(alloc, &mut needs)?;
+        Ok(Wanted { needs, choices })
     }
 }
 

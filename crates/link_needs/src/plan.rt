@@ -1,25 +1,27 @@
 //! Where the global offset table and the stub of an image lie, and what the field of each relocation holds.
 
-ghost use Rattle.std.specs.Prelude.{◌≡◌, ◌<◌, ◌&&◌, ℕ, IfOk, length};
-ghost use Rattle.std.specs.List.{All, list_any};
+ghost use Rattle.std.specs.Prelude.{◌≡◌, ◌<◌, ◌&&◌, ℕ, IfOk, length, map, slice_index_or};
+ghost use Rattle.std.specs.List.{list_any};
 ghost use Rattle.std.specs.Result.{result_ok};
 ghost use Rattle.elf_object.specs.Parts.{symbol_count};
 ghost use Rattle.elf_object.specs.Relocations.{field_width};
+ghost use Rattle.relax_sites.specs.Choices.{IsChoiceOf};
+ghost use Rattle.sequence_forms.specs.declared.places.Site.{Site};
 ghost use Rattle.tls_relocs.specs.Fields.{width_of};
 ghost use Rattle.tls_symbols.specs.Bindings.{object_at};
 ghost use Rattle.link_needs.specs.Given.{FitsTable};
-ghost use Rattle.link_needs.specs.Linking.{place as place_of};
-ghost use Rattle.link_needs.specs.Needs.{has_stub, is_stub_call, need_address, relocation_need};
+ghost use Rattle.link_needs.specs.Linking.{choice, choices_from, choices_in, place as place_of, sites_at};
+ghost use Rattle.link_needs.specs.Needs.{calls_stub, has_stub, is_kept, is_stub_call, need_address, relocation_need};
 ghost use Rattle.link_needs.specs.SymbolNumbers.{goes_by, number_by, reaches_entry, value_of};
-ghost use Rattle.link_needs.specs.Usable.{IsUsable};
 ghost use Rattle.link_needs.specs.Values.{counts_from_thread_pointer, field, is_local, is_rewriting};
 ghost use Rattle.link_needs.specs.Values.{other_number};
 
 use crate::inputs::Inputs;
-use crate::needs::{calls_stub, is_kept};
+use crate::needs::{Wanted, calls_stub, is_kept};
 use crate::symbol_values::SymbolValue;
 use elf_object::{Relocation, RelocationKind};
 use got_pairs::{GotPlan, Need, plan};
+use relax_sites::Choice;
 use sequence_match::{Form, Site};
 use std::alloc::{AllocError, Global};
 use std::marker::Model;
@@ -32,6 +34,8 @@ pub struct Plan<'i, 'l, 's, 'a> {
     pub inputs: &'i Inputs<'l, 's, 'a>,
     /// What each symbol of each object stands for.
     pub values: Vec<Vec<SymbolValue>>,
+    /// Which sequence stands in the place of each site.
+    pub choices: Vec<Vec<Choice>>,
     pub got: GotPlan<'a>,
     /// Where the table begins.
     pub got_start: u64,
@@ -54,8 +58,15 @@ impl<'i, 'l, 's, 'a> Model for Plan<'i, 'l, 's, 'a> {
     ghost view = { λ plan. plan.inputs.now };
 
     ghost invariant = { λ plan. IsPlan
-        plan.inputs.now (map (λ own. own.items) plan.values.items) plan.got plan.got_start plan.stub_start plan.has_stub plan.is_rewriting
-        plan.counts_from_thread_pointer };
+        plan.inputs.now (map (λ own. own.items) plan.values.items) (map (λ own. own.items) plan.choices.items) plan.got
+        plan.got_start plan.stub_start plan.has_stub plan.is_rewriting plan.counts_from_thread_pointer };
+}
+
+/// Whether a site calls the stub, in whose place this sequence stands.
+fn is_stub_call(site: &Site, choice: Choice) -> bool
+    ensures { result ≡ (is_kept choice && calls_stub site.now.form) }
+{
+    is_kept(choice) && calls_stub(site.form)
 }
 
 /// Whether a form is of local dynamic code.
@@ -95,35 +106,27 @@ impl<'l, 's, 'a> Inputs<'l, 's, 'a> {
         self.is_rewriting() && any_local(self.sites)
     }
 
-    /// Whether a site calls the stub.
-    fn is_stub_call(&self, object: usize, site: &Site) -> bool
-        requires object { object < length self.now.objects }
-        requires site { IsUsable (object_at self.now.objects object) site.now }
-        ensures { result ≡ is_stub_call self.now object site.now }
-    {
-        is_kept(self.choice(object, site)) && calls_stub(site.form)
-    }
-
-    /// Whether an object calls the stub.
-    fn calls_stub_in(&self, object: usize, own: &[Site]) -> bool
-        requires object { object < length self.now.objects }
-        requires sites { All (IsUsable (object_at self.now.objects object)) own.now }
+    /// Whether an object calls the stub, in the place of whose sites these sequences stand.
+    fn calls_stub_in(&self, object: usize, own: &[Site], choices: &[Choice]) -> bool
+        requires { choices.now ≡ choices_in self.now object own.now }
         ensures { result ≡ list_any (is_stub_call self.now object) own.now }
     {
-        for site in own {
-            if self.is_stub_call(object, site) {
+        for (number, site) in own.iter().enumerate() {
+            if is_stub_call(site, choices[number]) {
                 return true;
             }
         }
         false
     }
 
-    /// Whether there is a stub.
-    fn has_stub(&self) -> bool
+    /// Whether there is a stub, where these sequences stand in the place of the sites.
+    fn has_stub(&self, choices: &[Vec<Choice>]) -> bool
+        requires { map (λ own. own.items) choices.now ≡ choices_from self.now 0 self.now.sites }
         ensures { result ≡ has_stub self.now }
     {
         for (object, own) in self.sites.iter().enumerate() {
-            if self.calls_stub_in(object, own.as_slice()) {
+            let choices = choices[object].as_slice();
+            if self.calls_stub_in(object, own.as_slice(), choices) {
                 return true;
             }
         }
@@ -139,17 +142,19 @@ pub fn plan_of<'i, 'l, 's, 'a>(
     requires { FitsTable inputs.now }
     ensures { IfOk result (λ plan. plan ≡ inputs.now) }
 {
-    let needs = inputs.needs(alloc)?;
+    let Wanted { needs, choices } = inputs.wanted(alloc)?;
     let got = plan(alloc, needs.as_slice(), inputs.kind, inputs.block_offset)?;
     let got_start = inputs.placement.room();
     let stub_start = page_up(got_start + got.size());
+    let has_stub = inputs.has_stub(choices.as_slice());
     Ok(Plan {
         inputs,
         values: inputs.symbol_values(alloc)?,
+        choices,
         got,
         got_start,
         stub_start,
-        has_stub: inputs.has_stub(),
+        has_stub,
         is_rewriting: inputs.is_rewriting(),
         counts_from_thread_pointer: inputs.counts_from_thread_pointer(),
     })
@@ -211,6 +216,27 @@ impl<'i, 'l, 's, 'a> Plan<'i, 'l, 's, 'a> {
     {
         let own = &self.values[object];
         own[symbol as usize]
+    }
+
+    /// Which sequence stands in the place of an object's site of this number.
+    #[inline(always)]
+    pub fn choice(&self, object: usize, number: usize) -> Choice
+        requires object { object < length self.now.sites }
+        requires number { number < length (sites_at self.now object) }
+        ensures choice { (site : Site) → site ≡ slice_index_or (sites_at self.now object) number site
+            → result ≡ choice self.now object site }
+        ensures own { (site : Site) → site ≡ slice_index_or (sites_at self.now object) number site
+            → IsChoiceOf site.form result }
+    {
+        let own = &self.choices[object];
+        own[number]
+    }
+
+    /// Which sequence stands in the place of each site.
+    pub fn into_choices(self) -> Vec<Vec<Choice>>
+        ensures { map (λ own. own.items) result.items ≡ choices_from self.entry 0 self.entry.sites }
+    {
+        self.choices
     }
 
     /// Whether a relocation has no field, since its sequence is rewritten; its symbol stands for this.

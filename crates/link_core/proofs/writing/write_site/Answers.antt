@@ -4,18 +4,15 @@ use Rattle.std.specs.Prelude.{unwrap_or}
 use Rattle.tls_layout.specs.Places.{address_of}
 use Rattle.link_core.specs.Bytes.{with_new_field}
 use Rattle.link_needs.specs.Given.{FitsTable, IsGiven}
-use Rattle.link_needs.specs.Linking.{choice, layout}
+use Rattle.link_needs.specs.Linking.{layout}
 use Rattle.link_core.proofs.WritingRoom.{site_room}
 use Rattle.link_core.proofs.WritingSites.{site_writes}
 use Rattle.link_core.proofs.writing.write_site.Goals as goal
 
-pub choice-choice-requires-clause-symbol : goal.choice-choice-requires-clause-symbol
-choice-choice-requires-clause-symbol c =
-    let l = c.args.plan.now in
+pub choice-choice-requires-clause-object : goal.choice-choice-requires-clause-object
+choice-choice-requires-clause-object c =
     let given = subst IsGiven c.plan.view_is c.plan.invariant.given in
-    let limits = subst FitsTable c.plan.view_is c.plan.invariant.limits in
-    let room = site_room l c.args.object c.args.site.now given limits c.requires.object c.requires.own in
-    rw c.plan.view_is room.usable.symbol
+    omega (arith, given.each, c.requires.object)
 
 pub overflow_add-address : goal.overflow_add-address
 overflow_add-address c =
@@ -62,7 +59,7 @@ rewrite-requires c =
       inside = omega (arith, room.inside, at, c.requires.filled);
       whole = room.usable.whole;
       register = room.usable.register;
-      own = c.choice-choice.ensures.own;
+      own = c.choice-choice.ensures.own site c.requires.at;
     }
 
 pub returns-in-Some-clause-written : goal.returns-in-Some-clause-written
@@ -73,7 +70,7 @@ returns-in-Some-clause-written c =
     let begins = c.section_address-address.ensures.address
     ∙ ap (λ l. unwrap_or (address_of (layout l) o site.section) 0) c.plan.view_is in
     let at = c.place_in_file.ensures ∙ ap (λ n. offset_of (layout l) (n + site.start)) begins in
-    let chosen = c.choice-choice.ensures.choice ∙ ap (λ l. choice l o site) c.plan.view_is in
+    let chosen = c.choice-choice.ensures.choice site c.requires.at in
     c.write_new_field.ensures.written
     ∙ ap (with_new_field l o site (Some c.in-Some.field)) c.rewrite.ensures
     ∙ site_writes l o site c.args.file.now c.choice-choice.result (Some c.in-Some.field) c.place_in_file.result chosen
@@ -87,7 +84,7 @@ returns-in_default-clause-written c =
     let begins = c.section_address-address.ensures.address
     ∙ ap (λ l. unwrap_or (address_of (layout l) o site.section) 0) c.plan.view_is in
     let at = c.place_in_file.ensures ∙ ap (λ n. offset_of (layout l) (n + site.start)) begins in
-    let chosen = c.choice-choice.ensures.choice ∙ ap (λ l. choice l o site) c.plan.view_is in
+    let chosen = c.choice-choice.ensures.choice site c.requires.at in
     c.rewrite.ensures
     ∙ site_writes l o site c.args.file.now c.choice-choice.result None c.place_in_file.result chosen
     c.in_default.ensures at

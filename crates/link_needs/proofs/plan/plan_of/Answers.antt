@@ -12,7 +12,7 @@ pub page_up-stub_start-requires : goal.page_up-stub_start-requires
 page_up-stub_start-requires c =
     let l = c.args.inputs.now in
     let found = c.as_slice.result.now in
-    let needs_are : found ≡ needs l = c.as_slice.ensures.value ∙ c.in_ok-needs.ensures in
+    let needs_are : found ≡ needs l = c.as_slice.ensures.value ∙ c.in_ok-needs.ensures.needs in
     let got = c.in_ok-got.got in
     let start = c.room-got_start.result in
     let begins : start ≡ got_start l =
@@ -32,7 +32,7 @@ pub invariant_of-result : goal.invariant_of-result
 invariant_of-result c =
     let l = c.args.inputs.now in
     let found = c.as_slice.result.now in
-    let needs_are : found ≡ needs l = c.as_slice.ensures.value ∙ c.in_ok-needs.ensures in
+    let needs_are : found ≡ needs l = c.as_slice.ensures.value ∙ c.in_ok-needs.ensures.needs in
     let got = c.in_ok-got.got in
     let start = c.room-got_start.result in
     let begins : start ≡ got_start l =
@@ -46,11 +46,12 @@ invariant_of-result c =
       given = subst IsGiven c.inputs.view_is c.inputs.invariant.given;
       limits = c.requires;
       values_are = c.in_ok-symbol_values.ensures;
+      choices_are = c.in_ok-needs.ensures.choices;
       got_is = is;
       start_is = begins;
       stub_is = c.page_up-stub_start.ensures.page
           ∙ ap page_up (ends_at l found got start needs_are c.size.result is begins c.size.ensures);
-      stubbed_is = c.has_stub.ensures;
+      stubbed_is = c.has_stub-has_stub.ensures;
       rewriting_is = c.is_rewriting.ensures;
       counting_is = c.counts_from_thread_pointer.ensures;
     }

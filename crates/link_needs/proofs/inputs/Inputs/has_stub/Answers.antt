@@ -1,18 +1,29 @@
-use Rattle.std.proofs.Common.{◌∙◌, sym, ap, subst}
-use Rattle.std.specs.List.{All, list_any}
-use Rattle.tls_symbols.specs.Bindings.{object_at}
-use Rattle.link_needs.specs.Given.{IsGiven}
+use Rattle.std.proofs.Common.{◌∙◌, sym, ap}
+use Rattle.std.specs.List.{list_any}
+use Rattle.link_needs.specs.Linking.{choices_in}
 use Rattle.link_needs.specs.Needs.{has_stub, is_stub_call}
-use Rattle.link_needs.specs.Usable.{IsUsable}
+use Rattle.link_needs.proofs.ChoiceLemmas.{choices_there, own_choices}
 use Rattle.link_needs.proofs.NeedsLemmas.{stub_here, stub_later, stub_none}
-use Rattle.link_needs.proofs.PlanLemmas.{none_left, own_left, own_usable}
+use Rattle.link_needs.proofs.PlanLemmas.{none_left, own_are, own_left, sites_there}
 use Rattle.link_needs.proofs.inputs.Inputs.has_stub.Goals as goal
 
-pub calls_stub_in-requires-clause-sites : goal.calls_stub_in-requires-clause-sites
-calls_stub_in-requires-clause-sites c =
-    subst (All (IsUsable (object_at c.args.self.now.objects c.loop-object.object))) (sym c.as_slice.ensures.value)
-    (own_usable c.args.self.now c.self.inside.sites.now (ap (λ l. l.sites) c.self.view_is) c.loop-object.object
-    c.own-item.result c.own-item.is c.loop-object-test.true (subst IsGiven c.self.view_is c.self.invariant.given))
+pub bounds-choices-object : goal.bounds-choices-object
+bounds-choices-object c =
+    let l = c.args.self.now in
+    let there = sites_there l c.self.inside.sites.now (ap (λ l. l.sites) c.self.view_is) c.loop-object.object
+    c.loop-object-test.true in
+    choices_there l c.args.choices.now c.loop-object.object c.requires there
+
+pub calls_stub_in-requires : goal.calls_stub_in-requires
+calls_stub_in-requires c =
+    let l = c.args.self.now in
+    let i = c.loop-object.object in
+    let same = ap (λ l. l.sites) c.self.view_is in
+    let there = sites_there l c.self.inside.sites.now same i c.loop-object-test.true in
+    let are = own_are l c.self.inside.sites.now same i c.own-item.result c.own-item.is c.loop-object-test.true in
+    c.as_slice-choices.ensures.value
+    ∙ own_choices l c.args.choices.now i c.requires there c.index-choices-object.result c.index-choices-object.is
+    ∙ ap (choices_in l i) (are ∙ sym c.as_slice.ensures.value)
 
 pub returns-then-calls_stub_in : goal.returns-then-calls_stub_in
 unfolding has_stub
