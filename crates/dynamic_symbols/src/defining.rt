@@ -15,7 +15,7 @@ use elf_object::{Object, SymbolBinding, SymbolPlace};
 use indexmap::IndexSet;
 use link_faults::SymbolRef;
 use std::alloc::{AllocError, Global};
-use tls_symbols::Bindings;
+use tls_symbols::{Bindings, symbol_total};
 
 /// What was found so far.
 #[derive(Drop)]
@@ -96,9 +96,10 @@ pub fn defined_symbols(
     ensures symbols { IfOk result (λ symbols. symbols.items ≡ defined_symbols objects.now) }
     ensures within { IfOk result (λ symbols. All (IsWithin objects.now) symbols.items) }
 {
+    let total = symbol_total(objects);
     let mut found = Found {
-        names: IndexSet::new(alloc),
-        symbols: Vec::new(alloc),
+        names: IndexSet::with_capacity(alloc, total)?,
+        symbols: Vec::with_capacity(alloc, total)?,
     };
     for (index, object) in objects.iter().enumerate() {
         add_defined(bindings, index, object, &mut found)?;

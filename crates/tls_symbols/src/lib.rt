@@ -59,4 +59,5 @@ mod uses;
 pub use bindings::{Bindings, resolve};
 pub use export_list::Exports;
 pub use exporting::exports;
+pub use numbers::symbol_total;
 pub use symbols::definition;

@@ -1,6 +1,6 @@
 //! The numbers of names: each name is hashed once, and is a number from then on.
 
-ghost use Rattle.std.specs.Prelude.{◌≡◌, ◌<◌, length, map, slice_index_or, IfOk, OnOk};
+ghost use Rattle.std.specs.Prelude.{◌≡◌, ◌<◌, length, map, min, slice_index_or, sum_by, IfOk, OnOk};
 ghost use Rattle.elf_object.specs.Lent.{symbol_binding};
 ghost use Rattle.elf_object.specs.Parts.{symbol_count};
 ghost use Rattle.tls_symbols.specs.Bindings.{get_address};
@@ -36,11 +36,23 @@ pub struct Numbers<'a> {
     pub exported: Vec<Vec<usize>>,
 }
 
-/// The names of an image before any is added: that of the run time's function.
-fn first_names<'a>(alloc: Global) -> Result<IndexSet<&'a [u8]>, AllocError>
+/// How many symbols objects have together, `usize::MAX` where they have more: a table of their names that has room for
+/// so many need not grow.
+pub fn symbol_total(objects: &[Object]) -> usize
+    ensures { result ≡ min (sum_by symbol_count objects.now) usize.MAX }
+{
+    let mut total: usize = 0;
+    for object in objects {
+        total = total.saturating_add(object.symbol_count() as usize);
+    }
+    total
+}
+
+/// The names of an image before any is added: that of the run time's function. There is room for so many more.
+fn first_names<'a>(alloc: Global, room: usize) -> Result<IndexSet<&'a [u8]>, AllocError>
     ensures { IfOk result (λ names. IsNumberOf names.keys get_address 0) }
 {
-    let mut names = IndexSet::new(alloc);
+    let mut names = IndexSet::with_capacity(alloc, room.saturating_add(1))?;
     names.insert(GET_ADDRESS)?;
     Ok(names)
 }
@@ -177,7 +189,7 @@ pub fn number_names<'a>(
     ensures symbols { IfOk result (λ n. AllNumbered n.names.keys objects.now (map (λ own. own.items) n.symbols.items)) }
     ensures exported { IfOk result (λ n. AllListed n.names.keys startup.now (map (λ own. own.items) n.exported.items)) }
 {
-    let mut names = first_names(alloc)?;
+    let mut names = first_names(alloc, symbol_total(objects))?;
     let exported = number_exports(alloc, startup, &mut names)?;
     let symbols = number_objects(alloc, objects, &mut names)?;
     Ok(Numbers {
