@@ -272,3 +272,11 @@ added old new bytes entries es k start end s t within is insert none = (
         insert ∙ inserted es k (record { start = start; end = end }) none
         ∙ ap (λ (n : ℕ). es ++ (k, record { start = n; end = end }) ∷ []) s
         ∙ ap (λ (n : ℕ). es ++ (k, record { start = length old; end = n }) ∷ []) t
+
+-- the files where one found no place behind the bytes that were added for it
+pub not_added : (old new bytes : List ℕ) (entries es : Places) → AreWithin old es → new ≡ old ++ bytes → entries ≡ es
+    → (files_in new entries ≡ files_in old es) × AreWithin new entries
+not_added old new bytes entries es within is same = (
+  ap (files_in new) same ∙ ap (λ (b : List ℕ). files_in b es) is ∙ files_stay old bytes es within,
+  subst (AreWithin new) (sym same) (subst (λ (b : List ℕ). AreWithin b es) (sym is) (within_stays old bytes es within)),
+)
