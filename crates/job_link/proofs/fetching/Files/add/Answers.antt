@@ -1,5 +1,5 @@
 use Rattle.std.proofs.Common.{◌∙◌, ◌++◌, ◌∷◌, [], true, false, ap, length, sym}
-use Rattle.job_link.proofs.Buffer.{added, among, kept_unseen, new_unseen, not_added}
+use Rattle.job_link.proofs.Buffer.{OnErr-always, added, among, kept_unseen, new_unseen, not_added}
 use Rattle.job_link.proofs.fetching.Files.add.Goals as goal
 
 pub returns-then-contains_key-clause-added : goal.returns-then-contains_key-clause-added
@@ -27,3 +27,10 @@ returns-clause-added c =
     ∙ sym (new_unseen c.args.self.now c.args.name.now c.args.bytes.now
     (among c.self.inside.bytes.items c.args.name.now c.self.inside.places.entries c.args.self.now c.contains_key.result
     false c.self.view_is c.contains_key.ensures c.if-contains_key.false))
+
+pub returns-in_err-insert-clause-kept : goal.returns-in_err-insert-clause-kept
+returns-in_err-insert-clause-kept c =
+    OnErr-always _
+    (not_added c.self.inside.bytes.items c.extend_from_slice.new.self.items c.args.bytes.now c.insert.new.self.entries
+    c.self.inside.places.entries c.self.invariant c.in_ok-extend_from_slice.ensures.items c.in_err-insert.ensures.err
+    ∙ c.self.view_is)
