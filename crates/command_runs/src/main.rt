@@ -1,11 +1,12 @@
 //! Runs commands over files in memory, and compares what each prints and the status that it ends with.
 //!
-//! This is the test of the whole: of the examples, whose output stands beside them for readers, and of cases that were worked
-//! out by hand. It is a program and not a crate of test functions, since what is run is data: so the crate, which stands on all
-//! others, is proved once however many runs there are, and they are made by what each of the two compilers builds.
+//! This is the test of the whole: of the examples, whose output stands beside them for readers, and of cases that were
+//! worked out by hand. It is a program and not a crate of test functions, since what is run is data: so the crate, which
+//! stands on all others, is proved once however many runs there are, and they are made by what each of the two compilers
+//! builds.
 //!
-//! What is run stands in lists among the crate's data. A list is read from top to bottom, a line at a time, of words with single
-//! spaces between:
+//! What is run stands in lists among the crate's data. A list is read from top to bottom, a line at a time, of words with
+//! single spaces between:
 //!
 //! ```text
 //! # a comment; so is an empty line
@@ -20,13 +21,14 @@
 //! run 0 wanted run job             a command: its status, the file with what it prints, and its words
 //! ```
 //!
-//! A command is handed to [`commands::tlsld`] as the program `tlsld` hands it, with a store in memory that has the files of the
-//! folder so far, and a sink in memory. Where the sink fails, as much of the expected text is wanted as it takes. For each run
-//! that differs a line is printed, and at the end of each list one that counts; the status is 1 if any differs, or if a list has
-//! another line or names a file that is not there.
+//! A command is handed to [`commands::tlsld`] as the program `tlsld` hands it, with a store in memory that has the files
+//! of the folder so far, and a sink in memory. Where the sink fails, as much of the expected text is wanted as it takes.
+//! For each run that differs a line is printed, and at the end of each list one that counts; the status is 1 if any
+//! differs, or if a list has another line or names a file that is not there.
 //!
-//! The list of the examples and the files beside it are copies, which tests/example_data.py writes; it knows which file of an
-//! example belongs to which command. The others are written by hand, and `cases/README.md` says what their objects are.
+//! The list of the examples and the files beside it are copies, which tests/example_data.py writes; it knows which file
+//! of an example belongs to which command. The others are written by hand, and `cases/README.md` says what their objects
+//! are.
 #![tactic(auto)]
 
 mod difference;
