@@ -22,7 +22,7 @@ AREAS = [
     ("linking", "#def3e0", "#2e8540", r"(link|tls|relax|sequence|got|section|site)_.*|dynamic_symbols|job_link"),
     ("others", "#f4f4f4", "#777777", r".*"),
 ]
-BESIDE = re.compile(r".*_(tests|benchmark|listing|fuzz|runs)|object_builder|sample_objects")
+BESIDE = re.compile(r".*_(tests|benchmark|listing|fuzz|runs)|object_builder")
 
 WIDTH, ROW, BOX, GAP, MARGIN, LETTER = 1240, 74, 26, 12, 20, 6.7
 
@@ -185,7 +185,7 @@ def picture(uses):
         *key(shown, MARGIN + 10),
         '<g fill="none" stroke-width="1.1" stroke-opacity="0.45">', *[line(*it, at, height) for it in lines], "</g>",
         *[box(name, at[name], height[name], uses) for row in rows for name in row],
-        f'<text x="{MARGIN}" y="{foot}" fill="#555">Beside them: crates of tests, what tests are made of, and programs that list, change, run examples or measure.</text>',
+        f'<text x="{MARGIN}" y="{foot}" fill="#555">Beside them: crates of tests, what tests are made of, and programs that list, change, run commands or measure.</text>',
         '<g font-size="9.5">', *small, "</g>", "</svg>", "",
     ]
     return "\n".join(parts)
