@@ -1,6 +1,6 @@
 -- A command that is given nothing wrong completes.
-use Rattle.std.proofs.Common.{◌≡◌, ◌∙◌, ◌+◌, ◌-◌, ◌<◌, ℕ, suc, Bool, true, false, cond, not, List, All, [], ◌∷◌, length, map, Option, Some, None, IfSome, Result, Ok, Err, ◌⊎◌, inl, inr, refl, sym, ap, subst, arith}
-use Rattle.std.specs.Prelude.{position, unwrap_or}
+use Rattle.std.proofs.Common.{◌≡◌, ◌+◌, ◌-◌, ◌<◌, ℕ, suc, Bool, true, false, cond, not, List, [], ◌∷◌, length, map, Option, Some, None, IfSome, Result, Ok, ◌⊎◌, inl, inr, ⊎_elim, refl, sym, ap, subst, arith}
+use Rattle.std.specs.Prelude.{unwrap_or}
 use Rattle.std.specs.List.{Contains, position_or_len}
 use Rattle.std.specs.Option.{option_map}
 use Rattle.std.specs.Str.{bytes_eq}
@@ -25,13 +25,12 @@ use Rattle.job_text.specs.declared.images.Image.{Image}
 use Rattle.job_text.specs.Images.{image_number, is_named}
 use Rattle.job_text.specs.Jobs.{JobParts, job_of}
 use Rattle.link_needs.specs.Linking.{Linking}
-use Rattle.ports.specs.Counts.{Rose}
 use Rattle.ports.specs.Files.{Files, file_at}
 use Rattle.ports.specs.Sinks.{SinkView}
 use Rattle.whole_meaning.specs.declared.unclean.UncleanStep.{UncleanStep}
 use Rattle.commands.specs.Checks.{SaysOf, verdict}
 use Rattle.commands.specs.Completes.{Completes, DidNotFail, HasGoodImage, IsDone, IsGood, IsGoodJob}
-use Rattle.commands.specs.Links.{BytesSay, ImageSays, ImagesSay, IsUnlinked, IsUnread, LinkOutput, NumberSays, ObjectsSay, Output, SitesOutput}
+use Rattle.commands.specs.Links.{BytesSay, ImageSays, ImagesSay, IsUnlinked, IsUnread, LinkOutput, NumberSays, Output, SitesOutput}
 use Rattle.commands.specs.Listings.{ListingSays}
 use Rattle.commands.specs.Replies.{AnswerSays}
 use Rattle.commands.specs.RunJobs.{BytesRun, ImagesRun, JobSays, ObjectsRun, links_of}

@@ -1,5 +1,5 @@
--- Which commands complete: where nothing is wrong with what a command is given, and no port fails, its status is 0, or 9 of
--- a job that `check` finds unclean; or 1, where memory was wanting. So no good job is refused.
+-- Which commands complete: where nothing is wrong with what a command is given, and no port fails, its status is 0,
+-- or 9 of a job that `check` finds unclean; or 1, where memory was wanting. So no good job is refused.
 use Rattle.std.specs.Prelude.{◌≡◌, ◌⊎◌, ℕ, Bool, true, not, List, Contains, map, Ok}
 use Rattle.std.specs.List.{All}
 use Rattle.command_line.specs.declared.tasks.Task.{Task}
@@ -15,8 +15,8 @@ use Rattle.ports.specs.Files.{Files, file_at}
 
 -- ---- nothing is wrong with what a command is given
 
--- the file of that name has a job; each object that the job names is there, and sound; and its images, with the sequences
--- of their objects, all link. relax: whether sequences may be rewritten
+-- the file of that name has a job; each object that the job names is there, and sound; and its images, with the
+-- sequences of their objects, all link. relax: whether sequences may be rewritten
 pub record IsGoodJob (fs : Files) (relax : Bool) (name : List ℕ) : Type 0 where
   pub job : JobParts
   pub text : HasFile (file_at fs name) (λ bytes. job_of bytes ≡ Ok job)
