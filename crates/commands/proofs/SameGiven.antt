@@ -44,8 +44,8 @@ same_rising (x ∷ xs) [] r q to from = absurd (to x (inl refl))
 same_rising (x ∷ xs) (y ∷ ys) r q to from =
     let heads : x ≡ y = same_head x y xs ys r q (to x (inl refl)) (from y (inl refl)) in
     let tails : xs ≡ ys =
-        same_rising xs ys (later x xs r) (later y ys q) (λ z i. in_rest x y z xs ys heads r i (to z (inr i)))
-        (λ z i. in_rest y x z ys xs (sym heads) q i (from z (inr i)))
+    same_rising xs ys (later x xs r) (later y ys q) (λ z i. in_rest x y z xs ys heads r i (to z (inr i)))
+    (λ z i. in_rest y x z ys xs (sym heads) q i (from z (inr i)))
     in
     cc
 
