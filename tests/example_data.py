@@ -1,10 +1,11 @@
 #!/usr/bin/env python3
-"""example_data.py [--check]: copies examples/ to where the gate can see it, crates/example_runs; or says whether it is in step.
+"""example_data.py [--check]: copies examples/ to where the gate can see it, crates/command_runs; or says whether it is in step.
 
-The gate runs a program over files of its own crate alone. So the data of the crate example_runs are the folders of examples/ whose
-jobs have something to print: these jobs, the objects, what stands beside the jobs, and `runs`, the list of what is to be run. Its
-`stdout` is the line that the program ends with where all is well. tests/examples.sh says which file beside a job means which
-runs, and crates/example_runs/src/main.rt what the lines of `runs` are.
+The gate runs a program over files of its own crate alone. So data/examples of the crate command_runs are the folders of examples/
+whose jobs have something to print: these jobs, the objects, what stands beside the jobs, and `runs`, the list of what is to be run.
+The crate's `stdout` is what the program prints where all is well: a line for this list, and one for each list of data/cases, which
+are written by hand. tests/examples.sh says which file beside a job means which runs, and crates/command_runs/src/main.rt what the
+lines of a list are.
 """
 import os
 import re
@@ -12,7 +13,8 @@ import shutil
 import sys
 
 TOP = os.path.dirname(os.path.dirname(os.path.abspath(__file__)))
-CRATE = f"{TOP}/crates/example_runs"
+CRATE = f"{TOP}/crates/command_runs"
+CASES = ("commands", "turns", "verdicts")
 HEAD = "# Written by tests/example_data.py from examples/.\n"
 SETTINGS = ([], ["--no-relax"])
 
@@ -70,23 +72,29 @@ def plain(name):
     return name
 
 
+def last_line(name, text):
+    """What is printed at the end of a list where all is well."""
+    first = [line.split(b" ")[0] for line in text.splitlines()]
+    return f"{name}: {first.count(b'run')} runs in {first.count(b'folder')} folders end as they must\n"
+
+
 def wanted():
     """The files of the crate that come from examples/, by name."""
-    listed, made, count, ran = [HEAD], {}, 0, 0
+    listed, made = [HEAD], {}
     for folder, files, runs in folders():
         listed.append(f"folder {plain(folder)}\n")
-        listed += [f"file {plain(name)}\n" for name in files]
+        listed += [f"file {plain(name)} {plain(folder)}/{plain(name)}\n" for name in files]
         listed += [f"run {status} {expected} {' '.join(map(plain, words))}\n" for status, expected, words in runs]
-        made |= {f"data/{folder}/{name}": content for name, content in files.items()}
-        count, ran = count + 1, ran + len(runs)
-    made["data/runs"] = "".join(listed).encode()
-    made["stdout"] = f"{ran} runs of {count} folders print what stands beside them\n".encode()
+        made |= {f"data/examples/{folder}/{name}": content for name, content in files.items()}
+    made["data/examples/runs"] = "".join(listed).encode()
+    lists = {"examples/runs": made["data/examples/runs"]} | {f"cases/{it}": read(f"{CRATE}/data/cases/{it}") for it in CASES}
+    made["stdout"] = "".join(last_line(name, text) for name, text in lists.items()).encode()
     return made
 
 
 def found():
     """These files as they stand."""
-    there = [f"{path}/{name}" for path, _, names in os.walk(f"{CRATE}/data") for name in names] + [f"{CRATE}/stdout"]
+    there = [f"{path}/{name}" for path, _, names in os.walk(f"{CRATE}/data/examples") for name in names] + [f"{CRATE}/stdout"]
     return {os.path.relpath(path, CRATE): read(path) for path in there if os.path.exists(path)}
 
 
@@ -95,13 +103,13 @@ def check(made):
     there = found()
     others = sorted(name for name in made.keys() | there.keys() if made.get(name) != there.get(name))
     for name in others:
-        print(f"crates/example_runs/{name} is not what examples/ gives")
-    print("run tests/example_data.py" if others else "crates/example_runs is in step with examples/")
+        print(f"crates/command_runs/{name} is not what examples/ gives")
+    print("run tests/example_data.py" if others else "crates/command_runs is in step with examples/")
     sys.exit(1 if others else 0)
 
 
 def write(made):
-    shutil.rmtree(f"{CRATE}/data", ignore_errors=True)
+    shutil.rmtree(f"{CRATE}/data/examples", ignore_errors=True)
     for name, content in made.items():
         os.makedirs(os.path.dirname(f"{CRATE}/{name}"), exist_ok=True)
         with open(f"{CRATE}/{name}", "wb") as file:

@@ -1,6 +1,6 @@
 #!/bin/sh
 # Runs every example on the program, and compares what it prints with what stands in the example's folder. The gate makes the
-# same runs in memory, over copies of these files (crates/example_runs); at the end this says whether the copies are in step.
+# same runs in memory, over copies of these files (crates/command_runs); at the end this says whether the copies are in step.
 #
 #     sh tests/examples.sh [TLSLD]
 #

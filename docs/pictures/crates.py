@@ -15,14 +15,14 @@ TOP = os.path.dirname(os.path.dirname(HERE))
 AREAS = [
     ("commands, and the outside", "#fff3c4", "#b58900", r"tlsld|commands|command_.*|ports|job_text|generated_job|run_summary"),
     ("the checker: what objects mean", "#e3f4f1", "#20807a", r"class_bytes|meant_.*|job_check"),
-    ("definitions and laws: no code that runs", "#f9e4e4", "#a05050", r"thread_blocks|job_meaning|whole_meaning|job_run|.*_laws|linked_modules"),
+    ("definitions and laws: no code that runs", "#f9e4e4", "#a05050", r"thread_blocks|lawful_points|static_blocks|job_meaning|whole_meaning|job_run|.*_laws|linked_modules"),
     ("the run time: modules, threads, turns", "#ece4f7", "#6c4ab0", r"module_.*|loaded_modules|thread_.*|job_turns|shared_modules|transcript_text|image_names"),
     ("the machine", "#ffe6d2", "#c0651a", r"amd64_.*|guest_.*"),
     ("objects and images: files", "#dceafc", "#2f6db5", r"elf_.*|object_(rules|faults)|image_.*"),
     ("linking", "#def3e0", "#2e8540", r"(link|tls|relax|sequence|got|section|site)_.*|dynamic_symbols|job_link"),
     ("others", "#f4f4f4", "#777777", r".*"),
 ]
-BESIDE = re.compile(r".*_(tests|benchmark|listing|fuzz|runs)|object_builder|sample_objects")
+BESIDE = re.compile(r".*_(tests|benchmark|listing|fuzz|runs)|object_builder")
 
 WIDTH, ROW, BOX, GAP, MARGIN, LETTER = 1240, 74, 26, 12, 20, 6.7
 
@@ -185,7 +185,7 @@ def picture(uses):
         *key(shown, MARGIN + 10),
         '<g fill="none" stroke-width="1.1" stroke-opacity="0.45">', *[line(*it, at, height) for it in lines], "</g>",
         *[box(name, at[name], height[name], uses) for row in rows for name in row],
-        f'<text x="{MARGIN}" y="{foot}" fill="#555">Beside them: crates of tests, what tests are made of, and programs that list, change, run examples or measure.</text>',
+        f'<text x="{MARGIN}" y="{foot}" fill="#555">Beside them: crates of tests, what tests are made of, and programs that list, change, run commands or measure.</text>',
         '<g font-size="9.5">', *small, "</g>", "</svg>", "",
     ]
     return "\n".join(parts)

@@ -1,11 +1,11 @@
 -- What is made of tables is what the meaning loads.
-use Rattle.std.proofs.Common.{◌≡◌, ◌<◌, ◌≤◌, ◌+◌, ◌-◌, ◌∙◌, ℕ, zero, suc, Bool, true, false, List, [], ◌∷◌, ◌++◌, Option, None, Some, IsSome, length, map, replicate, refl, sym, ap, arith, inl, inr}
+use Rattle.std.proofs.Common.{◌≡◌, ◌≤◌, ◌+◌, ◌-◌, ◌∙◌, ℕ, zero, suc, Bool, true, false, List, [], ◌∷◌, ◌++◌, Option, None, Some, IsSome, length, map, replicate, refl, sym, ap, arith, inl, inr}
 use Rattle.std.specs.Prelude.{◌&&◌, nat_le, nat_lt, option_map, slice_get, if◌then◌else◌}
 use Rattle.std.specs.List.{range_with_len}
 use Rattle.std.specs.Option.{option_or}
 use Rattle.std.proofs.lemmas.Bool.{and_parts, cases_lt, le-ltb, lt-ltb, ltb-true}
 use Rattle.std.proofs.lemmas.List.{length-map}
-use Rattle.std.proofs.lemmas.List.FromFn.{length-map-range_with_len, map-range_with_len_more}
+use Rattle.std.proofs.lemmas.List.FromFn.{map-range_with_len_more}
 use Rattle.std.proofs.lemmas.Option.{slice_get-get_or}
 use Rattle.guest_operands.specs.declared.space.Access.{Access}
 use Rattle.guest_operands.specs.declared.space.Access.TheVariants.{Read, Write, Run}
@@ -14,14 +14,12 @@ use Rattle.job_meaning.specs.declared.values.Byte.{Byte}
 use Rattle.job_meaning.specs.declared.values.Byte.TheVariants.{Value}
 use Rattle.link_needs.specs.Linking.{Linking, layout}
 use Rattle.object_faults.specs.declared.class.SectionClass.{SectionClass}
-use Rattle.object_faults.specs.declared.class.SectionClass.TheVariants.{Executable, ReadOnly, Tls, Writable}
-use Rattle.tls_layout.specs.Laws.{extent_for}
+use Rattle.object_faults.specs.declared.class.SectionClass.TheVariants.{Executable, ReadOnly, Tls}
 use Rattle.tls_layout.specs.Places.{tls_size}
 use Rattle.whole_meaning.specs.Bytes.{block_bytes, class_bytes}
-use Rattle.whole_meaning.specs.Loads.{class_range, data_ranges, still_ranges}
+use Rattle.whole_meaning.specs.Loads.{class_range, still_ranges}
 use Rattle.class_bytes.specs.Still.{AreStill, StillTables, still_byte}
 use Rattle.class_bytes.specs.Tables.{ClassTable, IsClass, Keeps, byte_at, byte_of_place, bytes_at}
-use Rattle.class_bytes.proofs.Moving.{bytes_length}
 
 -- ** lists
 
@@ -92,27 +90,6 @@ module _ (l : Linking) (bias : ℕ) (keeps : Keeps l bias) where
       (class_byte ReadOnly s.constants are.constants_are place) (class_byte (Tls true) s.initial are.initial_is place)
       (held (class_range l bias ReadOnly) place)
   still_is s Write place are = refl
-
-  class_length : (class : SectionClass) → length (class_bytes l bias class) ≡ (extent_for class (layout l)).end - (extent_for class (layout l)).start
-  unfolding class_bytes
-  class_length class = length-map-range_with_len _ (extent_for class (layout l)).start ((extent_for class (layout l)).end - (extent_for class (layout l)).start)
-
-  table_length : (class : SectionClass) (c : ClassTable) → IsClass l class c → length c.bytes ≡ (extent_for class (layout l)).end - (extent_for class (layout l)).start
-  table_length class c is = sym (bytes_length c bias) ∙ ap length (is.bytes_are bias keeps) ∙ class_length class
-
-  pub no_data : (c : ClassTable) → IsClass l (Writable true) c → length c.bytes ≡ 0 → None ≡ data_ranges l bias
-  no_data c is none =
-      let len = table_length (Writable true) c is in
-      rw (le-ltb (extent_for (Writable true) (layout l)).start (extent_for (Writable true) (layout l)).end (omega arith)) refl
-
-  pub some_data : (c : ClassTable) (start : ℕ) (bytes : List Byte) → IsClass l (Writable true) c → 0 < length c.bytes → start ≡ c.start + bias
-      → bytes ≡ map Value (bytes_at c bias)
-      → Some (record { start = start; bytes = bytes; readable = true; writable = true; runnable = false }) ≡ data_ranges l bias
-  some_data c start bytes is some at all =
-      let len = table_length (Writable true) c is in
-      let from : start ≡ (extent_for (Writable true) (layout l)).start + bias = at ∙ ap (λ n. n + bias) is.start_is in
-      let own : bytes ≡ map Value (class_bytes l bias (Writable true)) = all ∙ ap (map Value) (is.bytes_are bias keeps) in
-      rw (lt-ltb (extent_for (Writable true) (layout l)).start (extent_for (Writable true) (layout l)).end (omega arith), from, own) refl
 
   pub block_is : (c : ClassTable) (size : ℕ) (values block : List Byte) → IsClass l (Tls true) c → size ≡ tls_size (layout l).sections
       → values ≡ map Value (bytes_at c bias) → block ≡ values ++ replicate (size - length values) (Value 0)

@@ -39,5 +39,5 @@ mod writable_range;
 pub use class_bytes::ClassBytes;
 pub use fields::Table;
 pub use laying::{Cells, lay};
-pub use ranges::{StillBytes, block_of, data_of};
+pub use ranges::{StillBytes, block_of};
 pub use writable_range::WritableRange;

@@ -1,19 +1,18 @@
 //! The ranges of an instance, as a job loads them.
 
-ghost use Rattle.std.specs.Prelude.{◌≡◌, ◌++◌, ◌-◌, ◌<◌, ◌≤◌, ◌^◌, true, IfOk, OnOk, length, map};
+ghost use Rattle.std.specs.Prelude.{◌≡◌, ◌++◌, ◌-◌, ◌<◌, ◌^◌, true, IfOk, OnOk, length, map};
 ghost use Rattle.std.specs.Prelude.{option_map, replicate};
 ghost use Rattle.guest_operands.specs.Ranges.{byte_in};
 ghost use Rattle.link_needs.specs.Linking.{Linking, layout};
-ghost use Rattle.object_faults.specs.declared.class.SectionClass.TheVariants.{Tls, Writable};
+ghost use Rattle.object_faults.specs.declared.class.SectionClass.TheVariants.{Tls};
 ghost use Rattle.tls_layout.specs.Places.{tls_size};
 ghost use Rattle.class_bytes.specs.Still.{AreStill, still_byte};
 ghost use Rattle.class_bytes.specs.Tables.{IsClass, Keeps};
 ghost use Rattle.whole_meaning.specs.Bytes.{block_bytes};
-ghost use Rattle.whole_meaning.specs.Loads.{data_ranges, still_ranges};
+ghost use Rattle.whole_meaning.specs.Loads.{still_ranges};
 
 use crate::class_bytes::ClassBytes;
 use elf_object::SectionClass;
-use guest_memory::{GuestRange, Rights};
 use guest_operands::Access;
 use job_meaning::Byte;
 use link_needs::Inputs;
@@ -108,25 +107,4 @@ pub fn block_of(
     let mut block = initial.values(alloc, bias)?;
     pad_block(&mut block, size as usize)?;
     Ok(block)
-}
-
-/// The data of an instance that is moved by `bias`, if there is any.
-pub fn data_of(
-    alloc: Global,
-    writable: &ClassBytes,
-    bias: u64,
-) -> Result<Option<GuestRange<Byte>>, AllocError>
-    requires { bias < 2 ^ 60 }
-    ensures { IfOk result (λ range. (l : Linking) → IsClass l (Writable true) writable.now → Keeps l bias
-        → range ≡ data_ranges l bias) }
-{
-    if writable.is_empty() {
-        return Ok(None);
-    }
-    let rights = Rights {
-        readable: true,
-        writable: true,
-        runnable: false,
-    };
-    Ok(Some(GuestRange::new(writable.place(bias), writable.values(alloc, bias)?, rights)))
 }

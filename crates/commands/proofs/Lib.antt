@@ -1,6 +1,7 @@
 mod Again
 mod Answered
 mod Asked
+mod Completing
 mod ImagesSound
 mod Kept
 mod MadeFiles
@@ -13,6 +14,7 @@ mod NeverRefused
 mod NoFault
 mod Places
 mod Running
+mod SameGiven
 mod Shown
 mod SiteLines
 mod Stages

@@ -1,6 +1,7 @@
 -- What stands in a list.
-use Rattle.std.proofs.Common.{◌≡◌, ◌∙◌, ℕ, zero, suc, Bool, true, false, cond, List, [], ◌∷◌, ◌++◌, map, Option, Some, None, ◌⊎◌, inl, inr, refl, sym, ap, subst, arith}
+use Rattle.std.proofs.Common.{◌≡◌, ◌∙◌, ℕ, zero, suc, Bool, true, false, cond, List, All, [], ◌∷◌, ◌++◌, map, Option, Some, None, ◌⊎◌, inl, inr, refl, sym, ap, subst, arith}
 use Rattle.std.specs.Prelude.{slice_get}
+use Rattle.std.proofs.lemmas.List.Elements.{All-head, All-tail}
 use Rattle.std.specs.List.{Contains, filter, filter_map, flat_map, cons_option}
 
 abbrev pub In : {X : Type 0} → List X → X → Type 0
@@ -21,6 +22,11 @@ pub in_contains : {X : Type 0} (xs : List X) (x : X) → Contains xs x → In xs
 in_contains [] x (k, h, e) = absurd (omega arith)
 in_contains (y ∷ ys) x (zero, h, e) = inl e
 in_contains (y ∷ ys) x (suc k, h, e) = inr (in_contains ys x (k, omega arith, e))
+
+pub of_all : {X : Type 0} (P : X → Type 0) (xs : List X) (x : X) → All P xs → In xs x → P x
+of_all P [] x all i = absurd i
+of_all P (y ∷ ys) x all (inl e) = subst P e (All-head P y ys all)
+of_all P (y ∷ ys) x all (inr i) = of_all P ys x (All-tail P y ys all) i
 
 in_left : {X : Type 0} (xs ys : List X) (x : X) → In xs x → In (xs ++ ys) x
 in_left [] ys x i = absurd i

@@ -24,7 +24,7 @@ not_same : (x y : Name) → bytes_eq x y ≡ false → x ≡ y → ⊥
 not_same x y e s = let t = (bytes_eq-Decides x y).1 s in cc
 
 -- each name is among those that come once
-in_once : (names : List Name) (x : Name) → In names x → In (once names) x
+pub in_once : (names : List Name) (x : Name) → In names x → In (once names) x
 in_once [] x i = absurd i
 in_once (n ∷ ns) x (inl e) = inl e
 in_once (n ∷ ns) x (inr i) = by_test (bytes_eq n x) refl (in_once ns x i)

@@ -24,7 +24,7 @@ asked_late None task old code late = tt
 asked_late (Some fs) None old code late = refl
 asked_late (Some fs) (Some task) old code late = record { front = (0, none_more old); all = λ own. absurd (answered code (inr late) own) }
 
-not_asked : (words : List (List ℕ)) → takes_words words ≡ false → asked words ≡ None
+pub not_asked : (words : List (List ℕ)) → takes_words words ≡ false → asked words ≡ None
 unfolding asked
 not_asked words other = rw other refl
 

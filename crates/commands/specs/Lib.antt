@@ -1,4 +1,5 @@
 pub mod Checks
+pub mod Completes
 pub mod GeneratedRuns
 pub mod LinkSteps
 pub mod Links

@@ -3,6 +3,7 @@ ghost use Rattle.std.specs.Prelude.{◌≢◌, IfSome, None, false, map, string_
 ghost use Rattle.command_line.specs.Words.{IsInLimits, asked, takes_words};
 ghost use Rattle.command_replies.specs.Statuses.{FilesShown, UsageShown, StoreShown, SinkShown};
 ghost use Rattle.ports.specs.Files.{untold_files};
+ghost use Rattle.commands.specs.Completes.{Completes, DidNotFail};
 ghost use Rattle.commands.specs.Replies.{Asked, AskedWords, Shows, ShowsWords, WordsLeave};
 ghost use Rattle.commands.specs.Tasks.{TaskLeaves};
 
@@ -16,7 +17,7 @@ use std::thread::Threads;
 
 /// Reads the words, which hold no program name, and answers the command that they are: puts its output, or the one line
 /// that says why there is none, and gives the status to end with.
-#[tactic(auto, using(crate::proofs::Words::asked_late, crate::proofs::Words::asked_usage, crate::proofs::Words::shows_task, crate::proofs::Words::asked_task, crate::proofs::Words::leave_task, crate::proofs::Words::leave_usage, crate::proofs::Words::leave_late))]
+#[tactic(auto, using(crate::proofs::Words::asked_late, crate::proofs::Words::asked_usage, crate::proofs::Words::shows_task, crate::proofs::Words::asked_task, crate::proofs::Words::leave_task, crate::proofs::Words::leave_usage, crate::proofs::Words::leave_late, crate::proofs::Completing::words_complete, crate::proofs::Completing::usage_completes, crate::proofs::Completing::late_completes))]
 pub fn tlsld<R: Threads + Wait + Sync, S: Store, K: Sink>(
     rt: &R,
     alloc: Global,
@@ -33,6 +34,9 @@ pub fn tlsld<R: Threads + Wait + Sync, S: Store, K: Sink>(
         (K.view out.old) (K.view out.new) result }
     ensures asked { IfSome (S.files store.old) (λ fs. AskedWords fs (asked (map string_bytes words.now))
         (S.asked store.old) (S.asked store.new) result) }
+    ensures completes { IfSome (S.files store.old) (λ fs. IfSome (asked (map string_bytes words.now)) (λ task.
+        DidNotFail (S.faults store.old) (S.faults store.new)
+        → DidNotFail (K.view out.old).faults (K.view out.new).faults → Completes fs task result)) }
 {
     match read_words(alloc, words) {
         Ok(task) => tlsld_plain(rt, alloc, &task, store, out),
@@ -59,6 +63,8 @@ pub fn tlsld_plain<R: Threads + Sync, S: Store, K: Sink>(
     ensures shows { Shows (S.files store.old) (S.files store.new) task.now (K.view out.old) (K.view out.new) result }
     ensures asked { IfSome (S.files store.old)
         (λ fs. Asked fs task.now (S.asked store.old) (S.asked store.new) result) }
+    ensures completes { IfSome (S.files store.old) (λ fs. DidNotFail (S.faults store.old) (S.faults store.new)
+        → DidNotFail (K.view out.old).faults (K.view out.new).faults → Completes fs task.now result) }
 {
     let answer = answer(rt, alloc, task, store);
     deliver(out, &answer)

@@ -111,12 +111,6 @@ impl<V: Values> Machine<V> {
         self.state.place
     }
 
-    pub fn set_place(&mut self, place: u64)
-        ensures { self.new ≡ record self.old { state = record self.old.state { place = place } } }
-    {
-        self.state.place = place;
-    }
-
     /// Sets what the FS prefix adds to an address.
     pub fn set_thread_pointer(&mut self, thread_pointer: u64)
         ensures { self.new ≡ record self.old { state = record self.old.state { thread_pointer = thread_pointer } } }

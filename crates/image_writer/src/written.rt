@@ -146,7 +146,7 @@ fn put_around(outline: &Outline<'_>, out: &mut [u8])
 }
 
 /// The file of an image, which is given up for it. The bytes of its parts stay where they are, and are not copied.
-/// What it makes is read as that very image.
+/// What it makes is read as that very image. It takes the images that [`write`] takes.
 pub fn into_file(alloc: Global, image: Image) -> Result<Vec<u8>, AllocError>
     requires { HoldsTls (outline_of image) }
     ensures file { IfOk result (λ file. file.items ≡ written image) }
@@ -163,6 +163,10 @@ pub fn into_file(alloc: Global, image: Image) -> Result<Vec<u8>, AllocError>
 
 /// Appends the file of an image: a page of headers, and each part at its address. What is appended is read as that
 /// very image. Where there is no memory for all of it, nothing is.
+///
+/// It takes only images whose TLS segment begins no further than the last part ends (`HoldsTls`). An image that was read
+/// may break that, where its initial image is empty: what is written of it would end before that segment begins, and no
+/// reader would take it.
 pub fn write(alloc: Global, image: &Image, into: &mut Vec<u8>) -> Result<(), AllocError>
     requires { HoldsTls (outline_of image.now) }
     ensures ok { OnOk result (into.new.items ≡ into.old.items ++ written image.now) }

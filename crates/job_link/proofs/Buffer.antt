@@ -1,7 +1,7 @@
 -- Files in one buffer, and one more of them.
 use Rattle.std.proofs.Common.{◌≡◌, ◌∙◌, ◌≤◌, ◌<◌, ◌||◌, ℕ, Bool, true, false, cond, List, [], ◌∷◌, ◌++◌}
 use Rattle.std.proofs.Common.{Option, Some, None, is_some, IsSome, refl, sym, ap, subst, length, take, drop, arith, Bor}
-use Rattle.std.specs.Prelude.{◌-◌, if◌then◌else◌, unwrap_or, slice_range, OnOk, IsErr, MatchOption, IfSome, Result, Ok}
+use Rattle.std.specs.Prelude.{◌-◌, if◌then◌else◌, unwrap_or, slice_range, OnOk, IsErr, MatchOption, IfSome, Result, Ok, OnErr}
 use Rattle.std.specs.Prelude.{Err}
 use Rattle.std.specs.List.{All, find}
 use Rattle.std.specs.Map.{lookup}
@@ -272,3 +272,14 @@ added old new bytes entries es k start end s t within is insert none = (
         insert ∙ inserted es k (record { start = start; end = end }) none
         ∙ ap (λ (n : ℕ). es ++ (k, record { start = n; end = end }) ∷ []) s
         ∙ ap (λ (n : ℕ). es ++ (k, record { start = length old; end = n }) ∷ []) t
+
+-- what holds anyway holds where there is an error
+pub OnErr-always : {T E P : Type 0} (r : Result T E) → P → OnErr r P
+OnErr-always (Ok x) p = tt
+OnErr-always (Err e) p = p
+
+-- files stay where another found no place behind the bytes that were added for it
+pub not_added : (old new bytes : List ℕ) (entries es : Places) → AreWithin old es → new ≡ old ++ bytes → entries ≡ es
+    → files_in new entries ≡ files_in old es
+not_added old new bytes entries es within is same =
+    ap (files_in new) same ∙ ap (λ (b : List ℕ). files_in b es) is ∙ files_stay old bytes es within

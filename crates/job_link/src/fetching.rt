@@ -1,6 +1,6 @@
 //! Files of objects, fetched once each.
 
-ghost use Rattle.std.specs.Prelude.{◌≡◌, ◌<◌, ◌∷◌, [], ℕ, List, All, IfOk, IfSome, OnOk};
+ghost use Rattle.std.specs.Prelude.{◌≡◌, ◌<◌, ◌∷◌, [], ℕ, List, All, IfOk, IfSome, OnErr, OnOk};
 ghost use Rattle.ports.specs.Counts.{FetchCounts};
 ghost use Rattle.job_link.specs.Mentions.{bytes_in, object_names, AreFilesOf, Fetches};
 ghost use Rattle.job_link.specs.Walks.{names_of, unseen, with_unseen, Grows};
@@ -68,9 +68,11 @@ impl<'j> Files<'j> {
         }
     }
 
-    /// Adds a file that no store holds, unless one of its name is there.
+    /// Adds a file that no store holds, unless one of its name is there. Where there is no memory for it, the files are as
+    /// they were.
     pub fn add(&mut self, name: &'j str, bytes: &[u8]) -> Result<(), AllocError>
-        ensures { OnOk result (self.new ≡ with_unseen self.old name.now bytes.now) }
+        ensures added { OnOk result (self.new ≡ with_unseen self.old name.now bytes.now) }
+        ensures kept { OnErr result (self.new ≡ self.old) }
     {
         if self.places.contains_key(name) {
             return Ok(());

@@ -12,6 +12,7 @@ ghost use Rattle.link_core.specs.Dynamic.{image_relocations, names, symbols as s
 ghost use Rattle.link_core.specs.Faults.{IsLinkFault, IsSound, Links};
 ghost use Rattle.link_core.specs.Images.{contents, file_kind as file_kind_of, got_number};
 ghost use Rattle.link_core.specs.Images.{image_of as image_of_link, linked_of, places};
+ghost use Rattle.link_core.specs.Laws.{HasNoStray};
 ghost use Rattle.link_core.specs.Named.{names_in, symbols_in};
 ghost use Rattle.link_core.specs.Overflows.{IsOverflowFault, NoOverflow};
 
@@ -131,7 +132,8 @@ fn linked<R: Threads + Sync>(
 }
 
 /// Links objects into an image of this kind, beside startup images that export these names: of all of them in image
-/// order, the image's own included where it is one. `sites` has the sequences of each object, and `relax` says whether
+/// order, the image's own included where it is one. `sites` has the sequences of each object, which are all that it has
+/// of thread-local storage: no relocation of theirs is loose, and no call of the run time strays. `relax` says whether
 /// they may be rewritten. Answers the first fault: the kinds in their order, `Overflow` last, and within a kind the
 /// first object, section and entry.
 pub fn link<'a, R: Threads + Sync>(
@@ -147,6 +149,7 @@ pub fn link<'a, R: Threads + Sync>(
     requires each { length sites.now ≡ length objects.now }
     requires sites { (o : ℕ) → o < length objects.now
         → AreSites (object_at objects.now o) (slice_index_or (map (λ own. own.items) sites.now) o []) }
+    requires stray { HasNoStray (link_of objects.now sites.now kind startup.now relax) }
     ensures linked { IfOk result (λ linked.
         linked ≡ linked_of (link_of objects.now sites.now kind startup.now relax)) }
     ensures links { OnOk result (Links (link_of objects.now sites.now kind startup.now relax)) }

@@ -23,8 +23,8 @@ use relax_sites::{Choice, NewField, new_field};
 use sequence_match::{Form, Site, first_of};
 use std::alloc::{AllocError, Global};
 
-/// What all code needs of the table, and which sequence stands in the place of each site. Each site is bound once for
-/// both.
+/// What all code needs of the table, and which sequence stands in the place of each site. Each site is chosen for once;
+/// one that reaches an entry is bound a second time, for its entry.
 #[derive(Drop)]
 pub(crate) struct Wanted<'a> {
     pub needs: Vec<Need<'a>>,

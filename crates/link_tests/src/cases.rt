@@ -1,7 +1,8 @@
 //! Links of objects, and what is told of them.
 
-ghost use Rattle.std.specs.Prelude.{◌≡◌, ◌<◌, ℕ, [], IfOk, length, map, slice_index_or};
-ghost use Rattle.sequence_match.specs.Faults.{AreSites};
+ghost use Rattle.std.specs.Prelude.{◌≡◌, ◌<◌, ℕ, [], IfOk, OnOk, length, map, slice_index_or};
+ghost use Rattle.object_rules.specs.declared.fault.FaultKind.TheVariants.{Sequence, StrayCall};
+ghost use Rattle.sequence_match.specs.Faults.{AreSites, Nowhere};
 ghost use Rattle.tls_symbols.specs.Bindings.{object_at};
 
 use crate::objects::object;
@@ -47,11 +48,13 @@ fn read<'a>(alloc: Global, files: &'a [Vec<u8>]) -> Result<Vec<Object<'a>>, Fail
     Ok(objects)
 }
 
-/// The sequences of each object.
+/// The sequences of each object. None has a loose relocation or a stray call.
 fn all_sites(alloc: Global, objects: &[Object]) -> Result<Vec<Vec<Site>>, Fail>
     ensures len { IfOk result (λ all. length all.items ≡ length objects.now) }
     ensures sites { IfOk result (λ all. (o : ℕ) → o < length objects.now
         → AreSites (object_at objects.now o) (slice_index_or (map (λ own. own.items) all.items) o [])) }
+    ensures stray { OnOk result ((o : ℕ) → o < length objects.now
+        → Nowhere Sequence (object_at objects.now o) × Nowhere StrayCall (object_at objects.now o)) }
 {
     let mut all = Vec::new(alloc);
     for object in objects {

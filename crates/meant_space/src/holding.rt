@@ -1,6 +1,6 @@
 //! What a thread holds of the live instances: its blocks, and data.
 
-ghost use Rattle.std.specs.Prelude.{◌≡◌, ◌≤◌, ◌∷◌, ◌++◌, [], IfOk, OnOk, Some, true, option_map, option_to_list};
+ghost use Rattle.std.specs.Prelude.{◌≡◌, ◌≤◌, ◌∷◌, ◌++◌, [], IfOk, OnErr, OnOk, Some, true, option_map, option_to_list};
 ghost use Rattle.std.specs.List.{flat_map};
 ghost use Rattle.guest_operands.specs.Ranges.{Range};
 ghost use Rattle.job_meaning.specs.declared.values.Byte.{Byte};
@@ -191,15 +191,17 @@ impl<'m> MeantSpace<'m> {
         Ok(own)
     }
 
-    /// Holds of the live instances what these ranges are, and what is wanted.
+    /// Holds of the live instances what these ranges are, and what is wanted. Where there is no memory for that, it holds
+    /// what it held.
     pub(crate) fn hold_of(
         &mut self,
         pool: Vec<OwnedRange>,
         wanted: Wanted,
     ) -> Result<(), AllocError>
-        ensures { OnOk result (self.new ≡ record self.old {
+        ensures held { OnOk result (self.new ≡ record self.old {
           own = held_of (loads_of self.old.images) self.old.thread (reaches wanted) (fills wanted) self.old.live pool.items;
         }) }
+        ensures kept { OnErr result (self.new ≡ self.old) }
     {
         let mut pool = pool;
         let own = self.held_of(&mut pool, wanted)?;

@@ -22,7 +22,8 @@
 //! call, and unknown behind a sequence that calls (`stack`). A marked byte takes some forty bytes of memory, so blocks and
 //! data that are checked take that much more than those that run.
 //!
-//! Between its threads a job hands the data on: [`MeantSpace::take_data`], and `hold` again in the next turn.
+//! Between its threads a job hands the data on: [`MeantSpace::take_data`], and `hold` again in the next turn. These calls
+//! move what the memory holds, so one that finds no room has used that up: no block and no data is left.
 #![tactic(auto)]
 
 mod bytes;

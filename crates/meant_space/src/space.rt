@@ -1,6 +1,6 @@
 //! A thread's memory, as the meaning has it.
 
-ghost use Rattle.std.specs.Prelude.{◌≡◌, ◌≤◌, [], None, IfOk, OnOk};
+ghost use Rattle.std.specs.Prelude.{◌≡◌, ◌≤◌, [], None, IfOk, OnErr, OnOk};
 ghost use Rattle.thread_blocks.specs.JobWorlds.{blocks_in, data_in};
 ghost use Rattle.thread_blocks.specs.MachineTurns.{fresh_stack};
 ghost use Rattle.whole_meaning.specs.Threads.{ops};
@@ -122,7 +122,8 @@ impl<'m> MeantSpace<'m> {
     }
 
     /// Holds what it held of these instances, which are live now, what it is handed, and what is wanted. Of other
-    /// instances it holds nothing any more. After want of memory nothing is said of it.
+    /// instances it holds nothing any more. Where there is no memory for that, what it held and what it was handed is used
+    /// up: it holds nothing of any instance.
     pub fn hold(
         &mut self,
         live: Vec<Instance>,
@@ -130,38 +131,44 @@ impl<'m> MeantSpace<'m> {
         wanted: Wanted,
     ) -> Result<(), AllocError>
         requires { HaveOwnNumbers live.items }
-        ensures { OnOk result (self.new ≡ with_held live.items handed.items wanted self.old) }
+        ensures held { OnOk result (self.new ≡ with_held live.items handed.items wanted self.old) }
+        ensures used_up { OnErr result (self.new ≡ record self.old { live = live.items; own = [] }) }
     {
         let mut pool = mem::replace(&mut self.own, Vec::new(self.alloc));
+        self.live = live;
         let mut handed = handed;
         pool.append(&mut handed)?;
-        self.live = live;
         self.hold_of(pool, wanted)?;
         Ok(())
     }
 
-    /// Reaches its block of a live instance: at the first time it is made.
+    /// Reaches its block of a live instance: at the first time it is made. Where there is no memory for it, what it held
+    /// is used up.
     pub fn reach(&mut self, instance: u32) -> Result<(), AllocError>
-        ensures { OnOk result (self.new ≡ with_held self.old.live [] (Wanted.BlockOf instance) self.old) }
+        ensures reached { OnOk result (self.new ≡ with_held self.old.live [] (Wanted.BlockOf instance) self.old) }
+        ensures used_up { OnErr result (self.new ≡ record self.old { own = [] }) }
     {
         let pool = mem::replace(&mut self.own, Vec::new(self.alloc));
         self.hold_of(pool, Wanted::BlockOf(instance))?;
         Ok(())
     }
 
-    /// Loads a live instance: its data become those of its image.
+    /// Loads a live instance: its data become those of its image. Where there is no memory for them, what it held is used
+    /// up.
     pub fn load(&mut self, instance: u32) -> Result<(), AllocError>
-        ensures { OnOk result (self.new ≡ with_held self.old.live [] (Wanted.DataOf instance) self.old) }
+        ensures loaded { OnOk result (self.new ≡ with_held self.old.live [] (Wanted.DataOf instance) self.old) }
+        ensures used_up { OnErr result (self.new ≡ record self.old { own = [] }) }
     {
         let pool = mem::replace(&mut self.own, Vec::new(self.alloc));
         self.hold_of(pool, Wanted::DataOf(instance))?;
         Ok(())
     }
 
-    /// Hands out the data, and keeps the blocks.
+    /// Hands out the data, and keeps the blocks. Where there is no memory for that, what it held is used up.
     pub fn take_data(&mut self) -> Result<Vec<OwnedRange>, AllocError>
         ensures taken { IfOk result (λ handed. handed.items ≡ data_in self.old.own) }
         ensures blocks { OnOk result (self.new ≡ record self.old { own = blocks_in self.old.own }) }
+        ensures used_up { OnErr result (self.new ≡ record self.old { own = [] }) }
     {
         let own = mem::replace(&mut self.own, Vec::new(self.alloc));
         let parted = owned::part(self.alloc, own)?;
@@ -169,9 +176,10 @@ impl<'m> MeantSpace<'m> {
         Ok(parted.shared)
     }
 
-    /// Makes the stack as a call finds it.
+    /// Makes the stack as a call finds it. Where there is no memory for that, nothing has changed.
     pub fn renew_stack(&mut self) -> Result<(), AllocError>
-        ensures { OnOk result (self.new ≡ record self.old { stack = fresh_stack ops }) }
+        ensures renewed { OnOk result (self.new ≡ record self.old { stack = fresh_stack ops }) }
+        ensures kept { OnErr result (self.new ≡ self.old) }
     {
         self.stack.renew(self.alloc)
     }

@@ -129,9 +129,10 @@ impl MarkedStack {
         self.size
     }
 
-    /// Makes it as a call finds it.
+    /// Makes it as a call finds it. Where there is no memory for that, it is as it was.
     pub(crate) fn renew(&mut self, alloc: Global) -> Result<(), AllocError>
-        ensures { OnOk result (self.new ≡ fresh_stack ops) }
+        ensures renewed { OnOk result (self.new ≡ fresh_stack ops) }
+        ensures kept { OnErr result (self.new ≡ self.old) }
     {
         make_room(alloc, &mut self.top)?;
         keep_last(&mut self.top);

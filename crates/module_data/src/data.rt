@@ -106,17 +106,6 @@ impl Data {
         Ok(())
     }
 
-    /// Whether an image has data of this instance.
-    #[tactic(auto, unfolding(crate::specs::Pieces::data_of))]
-    pub fn has(&self, image: u32, instance: u32) -> bool
-        ensures { result ≡ is_some (data_of self.now instance image) }
-    {
-        match self.pieces.as_slice().get(image as usize) {
-            Some(piece) => piece.is_of(instance),
-            None => false,
-        }
-    }
-
     /// The data of an instance. `None` exactly where the image has no data of it.
     #[tactic(auto, unfolding(crate::specs::Pieces::data_of))]
     pub fn bytes(&self, image: u32, instance: u32) -> Option<&[u8]>

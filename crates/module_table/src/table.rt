@@ -1,10 +1,10 @@
 //! The tables that answer every question about a history without a walk along it.
 
-ghost use Rattle.std.specs.Prelude.{◌≡◌, ◌<◌, ◌^◌, true, ◌+◌, ◌≤◌, IfOk, None, length, nat_lt, slice_get};
+ghost use Rattle.std.specs.Prelude.{◌≡◌, ◌<◌, ◌^◌, true, ◌+◌, ◌≤◌, IfOk, None, nat_lt, slice_get};
 ghost use Rattle.module_table.specs.Modules.{AreInfos};
 ghost use Rattle.module_table.specs.Past.{start, live, offset, current, instance_of, image_of, module_of};
 ghost use Rattle.module_table.specs.Past.{open_refusal, close_refusal, accepts, after_one, loaded, retained};
-ghost use Rattle.module_table.specs.Past.{released, next_offset, opened, after, is_legal};
+ghost use Rattle.module_table.specs.Past.{released, next_offset, opened};
 
 use crate::events::{CloseRefusal, Event, OpenRefusal};
 use crate::ids::IdSet;
@@ -367,17 +367,6 @@ impl ModuleTable {
             self.open(event.image)
         } else {
             self.close(event.image)
-        }
-    }
-
-    /// Takes the events that follow those it has seen, each accepted after those before it. It takes no memory.
-    pub fn accept_all(&mut self, events: &[Event])
-        requires legal { is_legal self.old events.now ≡ true }
-        requires room { self.old.seen + length events.now ≤ 2 ^ 63 }
-        ensures { self.new ≡ after self.old events.now }
-    {
-        for event in events {
-            self.accept(*event);
         }
     }
 }

@@ -1,5 +1,8 @@
-//! Tests of `sequence_match`: whether the table says what the standards and a compiler mean. Each line of a table is
-//! one object: what is found in it, and what it is made of.
+//! Tests of `sequence_match` and `relax_sites`: which sequences are found, and what stands in their places.
+//!
+//! What a clause says is proved in the crate that says it. Here stands whether the tables say what the standards and the
+//! tools mean: objects as gcc writes them, with changes of each byte and relocation (`cases`), and for each sequence and
+//! register the bytes that GNU as makes of it, with those that GNU ld leaves in its place (`rewritten`).
 #![tactic(auto)]
 
 #[cfg(test)]
@@ -7,4 +10,6 @@ mod cases;
 #[cfg(test)]
 mod objects;
 #[cfg(test)]
-mod sites_tests;
+mod rewritten;
+#[cfg(test)]
+mod sites;

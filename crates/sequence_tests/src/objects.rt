@@ -16,7 +16,7 @@ use std::process::Abort;
 use std::test::Fail;
 
 /// The symbols of each object.
-pub(crate) fn symbols() -> [Symbol<'static>; 4] {
+fn symbols() -> [Symbol<'static>; 4] {
     [
         Symbol::local(b"__tls_get_addr", STT_FUNC, 1, 0, 0),
         Symbol::global(b"v", STT_TLS, 0, 0, 0),
@@ -82,7 +82,7 @@ fn bytes_of(alloc: Global, text: &str) -> Result<Vec<u8>, Fail> {
 }
 
 /// What is found in an object, as a case writes it.
-pub(crate) fn answer(alloc: Global, bytes: &[u8]) -> Result<String, Fail> {
+fn answer(alloc: Global, bytes: &[u8]) -> Result<String, Fail> {
     let object = Object::read(alloc, bytes)?;
     match sites(alloc, &object) {
         Ok(found) => Ok(listed(alloc, found.as_slice())?),

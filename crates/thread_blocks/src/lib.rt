@@ -1,5 +1,5 @@
 //! What the threads of a job do, turn by turn, and what each has in its memory: definitions, and laws of them. No code
-//! runs here; `thread_space` runs threads as these definitions say.
+//! runs here; `job_turns` runs threads as these definitions say, each in a memory of `thread_space`.
 //!
 //! A thread has a list of lines to do, such as "call `f` of image 1 with 3, 10 and 0" or "open image 2". What a line
 //! comes to may depend on what other threads did before: a module that one thread opens, another may call. All of that

@@ -1,4 +1,5 @@
 pub mod Agreeing
+pub mod Answering
 mod CauseExamples
 mod DataExamples
 mod FormExamples

@@ -1,9 +1,6 @@
--- Distances from the thread pointer, and numbers of symbols.
+-- Numbers of symbols.
 use Rattle.std.proofs.Common.{arith}
-use Rattle.whole_meaning.specs.Laws.{AnswersAgree, NumbersAreOwn}
-
-pub answers : AnswersAgree
-answers s start pointer low = omega (arith, low)
+use Rattle.whole_meaning.specs.Laws.{NumbersAreOwn}
 
 pub own_numbers : NumbersAreOwn
 own_numbers image image' x y a b c d same =

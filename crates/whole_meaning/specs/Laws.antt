@@ -1,18 +1,26 @@
 -- What is so of the meaning, in words that know nothing of how it is defined.
-use Rattle.std.specs.Prelude.{◌≡◌, ◌<◌, ◌^◌, ℕ, Bool}
+use Rattle.std.specs.Prelude.{◌≡◌, ◌<◌, ◌^◌, ℕ, Bool, true, false, Ok}
 use Rattle.guest_operands.specs.declared.state.State.{State}
 use Rattle.guest_operands.specs.Access.{Accesses}
-use Rattle.guest_operands.specs.Use.{plus}
+use Rattle.guest_operands.specs.Use.{After, plus}
 use Rattle.job_meaning.specs.declared.marks.Mark.TheVariants.{Usual as Plain}
 use Rattle.job_meaning.specs.declared.values.Byte.{Byte}
 use Rattle.job_meaning.specs.declared.values.Flag.{Flag}
 use Rattle.job_meaning.specs.declared.values.Word.{Word}
+use Rattle.job_meaning.specs.declared.values.Word.TheVariants.{Number}
 use Rattle.job_meaning.specs.Reading.{meaning_step}
 use Rattle.link_faults.specs.declared.symbol_ref.SymbolRef.{SymbolRef}
+use Rattle.loaded_modules.specs.declared.instance.Instance.{Instance}
+use Rattle.sequence_forms.specs.declared.forms.Form.{Form}
+use Rattle.sequence_forms.specs.declared.forms.Form.TheVariants.{Gd, GdInd, DescCall}
+use Rattle.thread_blocks.specs.declared.asked.Asked.{Asked}
+use Rattle.thread_blocks.specs.Instances.{Loads}
+use Rattle.thread_blocks.specs.MachineTurns.{pointer_of}
+use Rattle.thread_blocks.specs.RunTime.{answer_word}
 use Rattle.whole_meaning.specs.declared.marks.Mark.TheVariants.{Usual}
 use Rattle.whole_meaning.specs.Code.{definition_number}
 use Rattle.whole_meaning.specs.Reading.{marked_step}
-use Rattle.whole_meaning.specs.Sequences.{variable_address, variable_distance}
+use Rattle.whole_meaning.specs.Sequences.{Stack, does}
 use Rattle.whole_meaning.specs.declared.sequences.Sequence.{Sequence}
 use Rattle.whole_meaning.specs.Threads.{Memory, ops}
 
@@ -21,11 +29,29 @@ abbrev pub UsualCodeAgrees : Type 0
 UsualCodeAgrees = (acc : Accesses Memory Byte) (shut : ℕ → Bool) (state : State Word Flag) (memory : Memory)
     → marked_step ops acc (λ place. Usual) shut state memory ≡ meaning_step ops acc (λ place. Plain) shut state memory
 
--- what a general dynamic sequence answers is what the call of a descriptor answers for the same variable, and the thread
--- pointer
+-- the forms of a general dynamic sequence
+abbrev pub IsGeneral : Form → Type 0
+IsGeneral Gd = Unit {0}
+IsGeneral GdInd = Unit {0}
+IsGeneral form = ⊥
+
+-- what a general dynamic sequence leaves in %rax is what the call of a descriptor leaves there for the same offset in the
+-- same block, and the thread pointer, wherever both are done
 abbrev pub AnswersAgree : Type 0
-AnswersAgree = (s : Sequence) (start pointer : ℕ) → pointer < 2 ^ 64
-    → plus (variable_distance s start pointer) pointer ≡ variable_address s start
+AnswersAgree = (stack : Stack Memory) (thread start : ℕ) (form : Form) (general descriptor : Sequence)
+    (state state' : State Word Flag) (memory memory' : Memory) (after after' : After Word Flag Memory)
+    → IsGeneral form → general.offset ≡ descriptor.offset → state'.thread_pointer < 2 ^ 64
+    → does stack general thread start form state memory ≡ Ok after
+    → does stack descriptor thread start DescCall state' memory' ≡ Ok after'
+    → (distance : ℕ) × (after'.state.registers.rax ≡ Number distance)
+    × (after.state.registers.rax ≡ Number (plus distance state'.thread_pointer))
+
+-- and so does the run time: what `__tls_get_addr` answers is what a descriptor's function answers, and the thread pointer
+abbrev pub RunTimeAnswersAgree : Type 0
+RunTimeAnswersAgree = (l : Loads ℕ) (thread : ℕ) (general descriptor : Asked) (x : Instance)
+    → pointer_of thread < 2 ^ 64 → general.offset ≡ descriptor.offset
+    → general.is_descriptor ≡ false → descriptor.is_descriptor ≡ true
+    → plus (answer_word l thread descriptor x) (pointer_of thread) ≡ answer_word l thread general x
 
 -- symbols of images have numbers of their own, where an image has fewer than 2^32 objects and an object fewer than 2^24
 -- symbols

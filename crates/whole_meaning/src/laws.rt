@@ -1,6 +1,6 @@
 //! Laws of the meaning. The functions do nothing: what they ensure is the law.
 
-ghost use Rattle.whole_meaning.specs.Laws.{AnswersAgree, NumbersAreOwn, UsualCodeAgrees};
+ghost use Rattle.whole_meaning.specs.Laws.{AnswersAgree, NumbersAreOwn, RunTimeAnswersAgree, UsualCodeAgrees};
 
 /// The step over code without fields and sequences is that of `job_meaning`, which knows of none.
 #[tactic(auto, using(crate::proofs::Agreeing::usual_code))]
@@ -9,9 +9,15 @@ pub fn usual_code_agrees()
 {}
 
 /// A general dynamic sequence and the call of a descriptor find one variable at one address.
-#[tactic(auto, using(crate::proofs::Numbers::answers))]
+#[tactic(auto, using(crate::proofs::Answering::answers))]
 pub fn answers_agree()
     ensures { AnswersAgree }
+{}
+
+/// So do the two functions of the run time that they call.
+#[tactic(auto, using(crate::proofs::Answering::run_time_answers))]
+pub fn run_time_answers_agree()
+    ensures { RunTimeAnswersAgree }
 {}
 
 /// Symbols have numbers of their own.

@@ -131,8 +131,9 @@
 //! ```
 //!
 //! **Laws** ([`laws`]): over code without fields and sequences a step is that of `job_meaning`; a general dynamic sequence
-//! and the call of a descriptor find a variable at one address; no two symbols of a job have one number. That a clean job
-//! prints what it means is not proved yet, and no command decides cleanness yet.
+//! and the call of a descriptor find a variable at one address, here and where the run time answers; no two symbols of a
+//! job have one number. `job_check` decides whether a job is clean, and `tlsld check` says so. That a clean job prints what
+//! it means is not proved yet.
 //!
 //! The checker computes whole jobs from the files of their objects by these definitions (`proofs/FormExamples.antt` and
 //! its neighbours): each form of sequence, each kind of image that a variable may lie in, and each cause.

@@ -5,7 +5,7 @@ use Rattle.commands.proofs.generated.files_of.Goals as goal
 pub loop-object-preserved : goal.loop-object-preserved
 loop-object-preserved c =
     next_alike c.loop-object.files c.add.new.self c.args.objects.now c.loop-object.object-index c.object-item.result
-    c.name.result.now c.bytes.result.now c.loop-object.invariant c.in_ok-add.ensures c.name.ensures c.bytes.ensures
+    c.name.result.now c.bytes.result.now c.loop-object.invariant c.in_ok-add.ensures.added c.name.ensures c.bytes.ensures
     (omega arith) c.object-item.is
 
 pub returns : goal.returns

@@ -1,4 +1,5 @@
 use Rattle.commands.proofs.Asked.{asked_by}
+use Rattle.commands.proofs.Completing.{answer_completes}
 use Rattle.commands.proofs.Shown.{answer_shows}
 use Rattle.commands.proofs.top.tlsld_plain.Goals as goal
 
@@ -9,4 +10,9 @@ returns-clause-asked g c =
 pub returns-clause-shows : goal.returns-clause-shows
 returns-clause-shows g c =
     answer_shows (g.S.Store.files c.args.store.now) _ c.args.task.now c.answer-answer.result _ _ _ _ c.deliver.result
+    c.answer-answer.ensures.cause c.answer-answer.ensures.says c.deliver.ensures.delivered
+
+pub returns-clause-completes : goal.returns-clause-completes
+returns-clause-completes g c =
+    answer_completes (g.S.Store.files c.args.store.now) _ c.args.task.now c.answer-answer.result _ _ _ _ c.deliver.result
     c.answer-answer.ensures.cause c.answer-answer.ensures.says c.deliver.ensures.delivered

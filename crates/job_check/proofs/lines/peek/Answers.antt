@@ -26,8 +26,8 @@ returns-in_default-variable c =
     let line : Line = record { number = c.args.number; told = c.args.line.now } in
     let is = ap (λ ls. loaded_instance (infos_of ls) image (module_of p image)) (sym c.images.ensures) ∙ sym c.in-Some.ensures in
     let new = c.reach.new.self in
-    let keeps = keeps line c.args.symbol.now c.args.size p k c.requires x is new c.in_ok-reach.ensures in
-    peek_unknown line c.args.symbol.now c.args.size p k c.requires x is new c.in_ok-reach.ensures
+    let keeps = keeps line c.args.symbol.now c.args.size p k c.requires x is new c.in_ok-reach.ensures.reached in
+    peek_unknown line c.args.symbol.now c.args.size p k c.requires x is new c.in_ok-reach.ensures.reached
     (ap (λ ls. (loads_of ls).variable image c.args.symbol.now) (sym (c.images-2.ensures ∙ keeps.images)) ∙ sym c.in_default-variable.ensures)
 
 pub returns : goal.returns
@@ -39,7 +39,7 @@ returns c =
     let line : Line = record { number = c.args.number; told = c.args.line.now } in
     let is = ap (λ ls. loaded_instance (infos_of ls) image (module_of p image)) (sym c.images.ensures) ∙ sym c.in-Some.ensures in
     let new = c.reach.new.self in
-    let keeps = keeps line c.args.symbol.now c.args.size p k c.requires x is new c.in_ok-reach.ensures in
+    let keeps = keeps line c.args.symbol.now c.args.size p k c.requires x is new c.in_ok-reach.ensures.reached in
     let offset = c.in-Some-variable.offset in
     let block = block_bytes x.number new.own in
     let same = c.step_in.ensures
@@ -47,5 +47,5 @@ returns c =
     ∙ ap (λ s. step_in c.thread-thread.result c.args.number s c.args.size offset block) c.block_start-start.ensures.value
     ∙ ap (λ t. step_in t c.args.number (block_start t x) c.args.size offset block) (c.thread-thread.ensures.value ∙ keeps.thread) in
     subst (λ found. BeginsPeek line c.args.symbol.now c.args.size p k (Says found) p new) (sym same)
-    (peek_begins line c.args.symbol.now c.args.size p k c.requires x is new c.in_ok-reach.ensures offset
+    (peek_begins line c.args.symbol.now c.args.size p k c.requires x is new c.in_ok-reach.ensures.reached offset
     (ap (λ ls. (loads_of ls).variable image c.args.symbol.now) (sym (c.images-2.ensures ∙ keeps.images)) ∙ sym c.in-Some-variable.ensures))

@@ -1,8 +1,9 @@
-use Rattle.std.proofs.Common.{◌≡◌, ◌∙◌, ◌+◌, ◌<◌, ℕ, List, [], ◌∷◌, map, sym, ap, subst, arith}
+use Rattle.std.proofs.Common.{◌≡◌, ◌∙◌, ◌+◌, ◌<◌, ℕ, List, [], ◌∷◌, map, sym, ap, subst, arith, below_more}
 use Rattle.std.specs.Prelude.{slice_index_or}
 use Rattle.std.proofs.lemmas.List.{get_or_default, length-map, map-append}
 use Rattle.sequence_forms.specs.declared.places.Site.{Site}
-use Rattle.sequence_match.specs.Faults.{AreSites}
+use Rattle.object_rules.specs.declared.fault.FaultKind.TheVariants.{Sequence, StrayCall}
+use Rattle.sequence_match.specs.Faults.{AreSites, Nowhere}
 use Rattle.tls_symbols.specs.Bindings.{object_at}
 use Rattle.tls_symbols.proofs.Numbered.{each_push}
 use Rattle.link_tests.proofs.cases.all_sites.Goals as goal
@@ -24,4 +25,7 @@ loop-object-preserved c =
           (each_push P (map (λ v. v.items) old) own.items [] n
           (length-map old (λ v. v.items) ∙ so_far.0) so_far.1
           (subst (λ b. AreSites b own.items) (sym here) c.in_ok-own.ensures.sites)),
+      below_more _ _ so_far.2
+          (subst (λ b. Nowhere Sequence b × Nowhere StrayCall b) (sym here)
+          (c.in_ok-own.ensures.no_loose, c.in_ok-own.ensures.no_stray)),
     )

@@ -20,5 +20,5 @@ pub invariant_of-result : goal.invariant_of-result
 invariant_of-result c = record {
   lines = omega arith;
   begun = omega arith;
-  lent = ap (λ (k : Kept). k.lent) c.in_ok-hold.ensures ∙ held_lent _ _ _ _ ∙ ap (λ (k : Kept). k.lent) c.in_ok-space.ensures;
+  lent = ap (λ (k : Kept). k.lent) c.in_ok-hold.ensures.held ∙ held_lent _ _ _ _ ∙ ap (λ (k : Kept). k.lent) c.in_ok-space.ensures;
 }

@@ -22,12 +22,12 @@ hold-requires c =
 
 pub resume_line-requires-clause-lent : goal.resume_line-requires-clause-lent
 resume_line-requires-clause-lent c =
-    ap (λ (y : Kept). y.lent) c.in_ok-hold.ensures
+    ap (λ (y : Kept). y.lent) c.in_ok-hold.ensures.held
     ∙ held_lent c.in_ok-live.live.items c.replace-handed.result.items Fixed c.self.inside.space ∙ c.self.invariant.lent
 
 pub begin_line-requires-clause-lent : goal.begin_line-requires-clause-lent
 begin_line-requires-clause-lent c =
-    ap (λ (y : Kept). y.lent) c.in_ok-hold.ensures
+    ap (λ (y : Kept). y.lent) c.in_ok-hold.ensures.held
     ∙ held_lent c.in_ok-live.live.items c.replace-handed.result.items Fixed c.self.inside.space ∙ c.self.invariant.lent
 
 pub begin_line-requires-clause-live : goal.begin_line-requires-clause-live
@@ -35,9 +35,9 @@ begin_line-requires-clause-live c =
     let k = c.self.inside.space in
     let p = c.args.table.now in
     let items = c.in_ok-live.ensures ∙ ap (λ ls. instances_in (infos_of ls) p) c.images.ensures in
-    let images = ap (λ (y : Kept). y.images) c.in_ok-hold.ensures
+    let images = ap (λ (y : Kept). y.images) c.in_ok-hold.ensures.held
     ∙ held_images c.in_ok-live.live.items c.replace-handed.result.items Fixed k in
-    ap (λ (y : Kept). y.live) c.in_ok-hold.ensures ∙ held_live c.in_ok-live.live.items c.replace-handed.result.items Fixed k ∙ items
+    ap (λ (y : Kept). y.live) c.in_ok-hold.ensures.held ∙ held_live c.in_ok-live.live.items c.replace-handed.result.items Fixed k ∙ items
     ∙ ap (λ ls. instances_in (infos_of ls) p) (sym images)
 
 pub begin_line-requires-clause-past : goal.begin_line-requires-clause-past
@@ -45,7 +45,7 @@ begin_line-requires-clause-past c =
     let k = c.self.inside.space in
     let p = c.args.table.now in
     let left = subst (λ (r : Run). IsLeftBy r.kept.images p) (sym c.self.view_is) c.requires.past in
-    let images = ap (λ (y : Kept). y.images) c.in_ok-hold.ensures
+    let images = ap (λ (y : Kept). y.images) c.in_ok-hold.ensures.held
     ∙ held_images c.in_ok-live.live.items c.replace-handed.result.items Fixed k in
     subst (λ ls. IsLeftBy ls p) (sym images) left
 
@@ -59,7 +59,7 @@ returns-in-Some c =
     let begun = c.self.inside.begun in
     let unclean = c.self.inside.unclean in
     let items = c.in_ok-live.ensures ∙ ap (λ ls. instances_in (infos_of ls) p) c.images.ensures in
-    let held = held_now k p c.in_ok-live.live.items c.replace-handed.result.items d c.hold.new.self c.in_ok-hold.ensures items
+    let held = held_now k p c.in_ok-live.live.items c.replace-handed.result.items d c.hold.new.self c.in_ok-hold.ensures.held items
     (ap (λ v. v.items) c.replace-handed.ensures.value) in
     let run_with : Option Waiting → Run = λ call.
     record { lines = lines; fuel = fuel; begun = begun; kept = k; call = call; unclean = unclean } in
@@ -81,7 +81,7 @@ returns-in-None c =
     let unclean = c.self.inside.unclean in
     let line = c.index-lines-begun.result in
     let items = c.in_ok-live.ensures ∙ ap (λ ls. instances_in (infos_of ls) p) c.images.ensures in
-    let held = held_now k p c.in_ok-live.live.items c.replace-handed.result.items d c.hold.new.self c.in_ok-hold.ensures items
+    let held = held_now k p c.in_ok-live.live.items c.replace-handed.result.items d c.hold.new.self c.in_ok-hold.ensures.held items
     (ap (λ v. v.items) c.replace-handed.ensures.value) in
     let run_with : Option Waiting → Run = λ call.
     record { lines = lines; fuel = fuel; begun = begun; kept = k; call = call; unclean = unclean } in

@@ -5,9 +5,9 @@ use Rattle.meant_space.specs.Spaces.{with_held}
 use Rattle.meant_space.proofs.Takes.{holds_is}
 use Rattle.meant_space.proofs.space.MeantSpace.hold.Goals as goal
 
-pub returns : goal.returns
-returns c =
-    c.in_ok-hold_of.ensures
+pub returns-clause-held : goal.returns-clause-held
+returns-clause-held c =
+    c.in_ok-hold_of.ensures.held
     ∙ holds_is (kept_of c.self.inside) c.args.live.items c.append.new.self.items c.args.handed.items c.args.wanted
     (c.in_ok-append.ensures.items ∙ ap (λ v. v.items ++ c.args.handed.items) c.replace-pool.ensures.value)
     ∙ ap (with_held c.args.live.items c.args.handed.items c.args.wanted) c.self.view_is

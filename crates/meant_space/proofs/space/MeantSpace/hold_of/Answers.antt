@@ -8,8 +8,8 @@ use Rattle.meant_space.specs.Kept.{Kept}
 use Rattle.meant_space.specs.Spaces.{fills, reaches}
 use Rattle.meant_space.proofs.space.MeantSpace.hold_of.Goals as goal
 
-pub returns : goal.returns
-returns c =
+pub returns-clause-held : goal.returns-clause-held
+returns-clause-held c =
     ap (λ (xs : List (Owned Byte)). record (kept_of c.self.inside) { own = xs })
     (c.in_ok-own.ensures ∙ ap (held_of (loads_of c.args.self.now.images) c.args.self.now.thread (reaches c.args.wanted) (fills c.args.wanted) c.args.self.now.live) c.deref_mut.ensures.value)
     ∙ ap (λ (k : Kept). record k {

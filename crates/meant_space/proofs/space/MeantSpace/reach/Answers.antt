@@ -7,9 +7,9 @@ use Rattle.meant_space.specs.Spaces.{with_held}
 use Rattle.meant_space.proofs.Takes.{holds_is}
 use Rattle.meant_space.proofs.space.MeantSpace.reach.Goals as goal
 
-pub returns : goal.returns
-returns c =
-    c.in_ok-hold_of.ensures
+pub returns-clause-reached : goal.returns-clause-reached
+returns-clause-reached c =
+    c.in_ok-hold_of.ensures.held
     ∙ holds_is (kept_of c.self.inside) c.self.inside.live.items c.replace-pool.result.items [] (BlockOf c.args.instance)
     (ap (λ v. v.items) c.replace-pool.ensures.value ∙ sym (append-nil c.self.inside.own.items))
     ∙ ap (λ (k : Kept). with_held k.live [] (BlockOf c.args.instance) k) c.self.view_is

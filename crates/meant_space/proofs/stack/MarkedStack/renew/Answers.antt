@@ -6,5 +6,5 @@ use Rattle.meant_space.specs.Stacks.{stack_of}
 use Rattle.meant_space.proofs.Stacks.{fresh}
 use Rattle.meant_space.proofs.stack.MarkedStack.renew.Goals as goal
 
-pub returns : goal.returns
-returns c = ap (λ (xs : List Byte). stack_of 65536 (Value 0) xs) c.keep_last.ensures.items ∙ fresh
+pub returns-clause-renewed : goal.returns-clause-renewed
+returns-clause-renewed c = ap (λ (xs : List Byte). stack_of 65536 (Value 0) xs) c.keep_last.ensures.items ∙ fresh

@@ -1,0 +1,244 @@
+-- A command that is given nothing wrong completes.
+use Rattle.std.proofs.Common.{◌≡◌, ◌+◌, ◌-◌, ◌<◌, ℕ, suc, Bool, true, false, cond, not, List, [], ◌∷◌, length, map, Option, Some, None, IfSome, Result, Ok, ◌⊎◌, inl, inr, ⊎_elim, refl, sym, ap, subst, arith}
+use Rattle.std.specs.Prelude.{unwrap_or}
+use Rattle.std.specs.List.{Contains, position_or_len}
+use Rattle.std.specs.Option.{option_map}
+use Rattle.std.specs.Str.{bytes_eq}
+use Rattle.std.proofs.lemmas.Bool.{lt-ltb}
+use Rattle.std.proofs.lemmas.Slice.Eq.{bytes_eq-Decides}
+use Rattle.command_line.specs.declared.tasks.Task.{Task}
+use Rattle.command_line.specs.declared.tasks.Task.TheVariants.{Run, Check, Link, Sites, Show, Gen}
+use Rattle.command_line.specs.Words.{asked, takes_words}
+use Rattle.command_replies.specs.declared.replies.Answer.{Answer}
+use Rattle.command_replies.specs.declared.replies.Answer.TheVariants.{Replies, StoreFails, NoMemory}
+use Rattle.command_replies.specs.Delivery.{Delivered, Delivers, Says, memory_line}
+use Rattle.command_replies.specs.Replies.{AnswerCounts, IsAnswer}
+use Rattle.command_replies.specs.Says.{HasFile}
+use Rattle.command_replies.specs.Statuses.{IsLate, SinkShown, code_of}
+use Rattle.generated_laws.specs.Sound.{IsFaultless}
+use Rattle.image_faults.specs.Faults.{IsImage}
+use Rattle.job_link.specs.Given.{Given, AreGiven, IsSound}
+use Rattle.job_link.specs.Linked.{AllLink}
+use Rattle.job_link.specs.Mentions.{bytes_at, mentions_of, object_names, once}
+use Rattle.job_text.specs.declared.fault.JobFault.{JobFault}
+use Rattle.job_text.specs.declared.images.Image.{Image}
+use Rattle.job_text.specs.Images.{image_number, is_named}
+use Rattle.job_text.specs.Jobs.{JobParts, job_of}
+use Rattle.link_needs.specs.Linking.{Linking}
+use Rattle.ports.specs.Files.{Files, file_at}
+use Rattle.ports.specs.Sinks.{SinkView}
+use Rattle.whole_meaning.specs.declared.unclean.UncleanStep.{UncleanStep}
+use Rattle.commands.specs.Checks.{SaysOf, verdict}
+use Rattle.commands.specs.Completes.{Completes, DidNotFail, HasGoodImage, IsDone, IsGood, IsGoodJob}
+use Rattle.commands.specs.Links.{BytesSay, ImageSays, ImagesSay, IsUnlinked, IsUnread, LinkOutput, NumberSays, Output, SitesOutput}
+use Rattle.commands.specs.Listings.{ListingSays}
+use Rattle.commands.specs.Replies.{AnswerSays}
+use Rattle.commands.specs.RunJobs.{BytesRun, ImagesRun, JobSays, ObjectsRun, links_of}
+use Rattle.commands.specs.RunJobs as runs
+use Rattle.commands.specs.Tasks.{TaskSays}
+use Rattle.commands.specs.declared.telling.Telling.TheVariants.{Transcript}
+use Rattle.commands.specs.declared.told.Purpose.{Purpose}
+use Rattle.commands.specs.declared.told.Purpose.TheVariants.{Run as Runs, Check as Checks}
+use Rattle.commands.proofs.Membership.{In, in_at, in_contains, of_all}
+use Rattle.commands.proofs.Mentioned.{in_once}
+use Rattle.commands.proofs.NoFault.{no_file_fault, none_unlinked}
+use Rattle.commands.proofs.SameGiven.{same_images}
+use Rattle.commands.proofs.Words.{not_asked}
+
+-- ** no object is refused
+
+sound_at : (o : Option (List ℕ)) → HasFile o IsSound → IsSound (unwrap_or o [])
+sound_at None h = absurd h
+sound_at (Some b) h = h
+
+faultless : (b : List ℕ) → IsSound b → IsFaultless b
+faultless b sound = record { object = sound.object; no_loose = sound.no_loose; no_stray = sound.no_stray }
+
+module _ (fs : Files) (relax : Bool) (name : List ℕ) (good : IsGoodJob fs relax name) where
+  sound : (object : List ℕ) → In (mentions_of good.job) object → IsSound (bytes_at fs object)
+  unfolding object_names
+  sound object i =
+      sound_at (file_at fs object) (of_all (λ other. HasFile (file_at fs other) IsSound) (once (mentions_of good.job)) object good.objects
+      (in_once (mentions_of good.job) object i))
+
+  never_unread : (status : ℕ) (text : List ℕ) → IsUnread (bytes_at fs) good.job status text → ⊥
+  never_unread status text unread =
+      let there = in_at (mentions_of good.job) unread.first.at unread.name unread.first.there in
+      let fine = faultless (bytes_at fs unread.name) (sound unread.name there) in
+      no_file_fault (bytes_at fs unread.name) unread.section unread.entry unread.kind fine unread.first.here
+
+  -- ** nor an image
+
+  never_unlinked : (images : List Given) → AreGiven (bytes_at fs) good.job images → (status : ℕ) (text : List ℕ) → IsUnlinked relax good.job images status text → ⊥
+  never_unlinked images given status text unlinked =
+      let same = same_images (bytes_at fs) good.job good.images images good.given given in
+      none_unlinked images relax unlinked.number unlinked.kind unlinked.object unlinked.section unlinked.entry
+      (subst (λ (all : List Given). AllLink all relax) same good.links) unlinked.first
+
+-- ** what is told of a job
+
+verdict_done : (found : Option UncleanStep) (status : ℕ) (text : List ℕ) → SaysOf found status text → (status ≡ 0) ⊎ (status ≡ 9)
+verdict_done None status text says = inl says.0
+verdict_done (Some step) status text says = inr says.0
+
+-- the status of what is told
+abbrev Done : Purpose → ℕ → Type 0
+Done (Runs telling) status = status ≡ 0
+Done Checks status = (status ≡ 0) ⊎ (status ≡ 9)
+
+told_done : (purpose : Purpose) (job : JobParts) (ls : List Linking) (status : ℕ) (text : List ℕ) → runs.Says purpose job ls status text → Done purpose status
+told_done (Runs telling) job ls status text says = says.0
+told_done Checks job ls status text says = verdict_done (verdict job ls) status text says
+
+job_says : (purpose : Purpose) (relax : Bool) (fs : Files) (job : JobParts) (status : ℕ) (text : List ℕ) (o : Option (List ℕ)) → HasFile o (λ bytes. job_of bytes ≡ Ok job)
+    → HasFile o (λ bytes. JobSays purpose relax fs (job_of bytes) status text) → ObjectsRun purpose relax fs job status text
+job_says purpose relax fs job status text None is says = absurd is
+job_says purpose relax fs job status text (Some bytes) is says = subst (λ (r : Result JobParts JobFault). JobSays purpose relax fs r status text) is says
+
+module _ (purpose : Purpose) (relax : Bool) (fs : Files) (name : List ℕ) (good : IsGoodJob fs relax name) (status : ℕ) (text : List ℕ) where
+  images_done : (images : List Given) → AreGiven (bytes_at fs) good.job images → ImagesRun purpose relax good.job images status text → Done purpose status
+  images_done images given (inl ran) = told_done purpose good.job (links_of images relax) status text ran.says
+  images_done images given (inr unlinked) = absurd (never_unlinked fs relax name good images given status text unlinked)
+
+  bytes_done : BytesRun purpose relax (bytes_at fs) good.job status text → Done purpose status
+  bytes_done (inl read) = images_done read.images read.given read.says
+  bytes_done (inr unread) = absurd (never_unread fs relax name good status text unread)
+
+  told_completes : runs.FileSays purpose relax fs name status text → Done purpose status
+  told_completes says =
+      let objects = job_says purpose relax fs good.job status text (file_at fs name) good.text says in bytes_done objects.says
+
+-- ** what is made of an image
+
+step_less : (b : Bool) (n m : ℕ) → (b ≡ false → n < m) → cond (not b) (1 + n) 0 < suc m
+step_less true n m less = omega arith
+step_less false n m less = let own = less refl in omega arith
+
+other_than : (name own : List ℕ) → own ≡ name → bytes_eq name own ≡ false → ⊥
+other_than name own e fails = let passes = (bytes_eq-Decides name own).1 (sym e) in cc
+
+left_in : (name : List ℕ) (image : Image) (images : List Image) → In (map (λ (own : Image). own.name) (image ∷ images)) name → bytes_eq name image.name ≡ false
+    → In (map (λ (own : Image). own.name) images) name
+left_in name image images (inl e) fails = absurd (other_than name image.name e fails)
+left_in name image images (inr i) fails = i
+
+found : (name : List ℕ) (images : List Image) → In (map (λ (own : Image). own.name) images) name → position_or_len (is_named name) images < length images
+found name [] i = absurd i
+found name (image ∷ images) i =
+    step_less (bytes_eq name image.name) (position_or_len (is_named name) images) (length images)
+    (λ fails. found name images (left_in name image images i fails))
+
+numbered : (images : List Image) (name : List ℕ) → Contains (map (λ (own : Image). own.name) images) name
+    → (k : ℕ) × (image_number images name ≡ Some k)
+numbered images name declared =
+    let place : ℕ = position_or_len (is_named name) images in
+    let less = found name images (in_contains (map (λ (own : Image). own.name) images) name declared) in
+    (place + 1, ap (λ (b : Bool). option_map (λ (index : ℕ). index + 1) (cond b (Some place) None)) (lt-ltb place (length images) less))
+
+image_says : (relax : Bool) (O : Output) (fs : Files) (image : List ℕ) (job : JobParts) (status : ℕ) (text : List ℕ) (o : Option (List ℕ))
+    → HasFile o (λ bytes. job_of bytes ≡ Ok job) → HasFile o (λ bytes. ImageSays relax O fs image (job_of bytes) status text)
+    → NumberSays relax O fs job (image_number job.images image) status text
+image_says relax O fs image job status text None is says = absurd is
+image_says relax O fs image job status text (Some bytes) is says = subst (λ (r : Result JobParts JobFault). ImageSays relax O fs image r status text) is says
+
+module _ (relax : Bool) (O : Output) (fs : Files) (name image : List ℕ) (has : HasGoodImage fs relax name image) (status : ℕ) (text : List ℕ)
+    (done : (job : JobParts) (number : ℕ) (l : Linking) → O job number l status text → status ≡ 0) where
+  made_done : (number : ℕ) (images : List Given) → AreGiven (bytes_at fs) has.good.job images → ImagesSay relax O has.good.job number images status text → status ≡ 0
+  made_done number images given (inl linked) = done has.good.job number _ linked.says
+  made_done number images given (inr unlinked) = absurd (never_unlinked fs relax name has.good images given status text unlinked)
+
+  object_done : (number : ℕ) → BytesSay relax O (bytes_at fs) has.good.job number status text → status ≡ 0
+  object_done number (inl read) = made_done number read.images read.given read.says
+  object_done number (inr unread) = absurd (never_unread fs relax name has.good status text unread)
+
+  number_done : (o : Option ℕ) (k : ℕ) → o ≡ Some k → NumberSays relax O fs has.good.job o status text → status ≡ 0
+  number_done None k e says = cc
+  number_done (Some number) k e says = object_done (number - 1) says.says
+
+  image_completes : HasFile (file_at fs name) (λ bytes. ImageSays relax O fs image (job_of bytes) status text) → status ≡ 0
+  image_completes says =
+      let (k, e) = numbered has.good.job.images image has.declared in
+      number_done (image_number has.good.job.images image) k e
+      (image_says relax O fs image has.good.job status text (file_at fs name) has.good.text says)
+
+-- ** what an image says
+
+shown_done : (o : Option (List ℕ)) (status : ℕ) (text : List ℕ) → HasFile o IsImage → HasFile o (λ b. ListingSays b status text) → status ≡ 0
+shown_done None status text is says = absurd is
+shown_done (Some b) status text is (inl listed) = listed.status_is
+shown_done (Some b) status text is (inr none) = absurd (is none.first.rule none.first.entry none.first.first.here)
+
+-- ** the law: what a command says of what it is given, where nothing is wrong with it
+
+pub task_done : (fs : Files) (after : Option Files) (task : Task) (status : ℕ) (text : List ℕ) → IsGood fs task → TaskSays fs after task status text → IsDone task status
+task_done fs after (Run job no_relax) status text good says = told_completes (Runs Transcript) (not no_relax) fs job good status text says
+task_done fs after (Check job) status text good says = told_completes Checks true fs job good status text says
+task_done fs after (Link job image out no_relax) status text good says =
+    image_completes (not no_relax) (LinkOutput fs after image out) fs job image good status text (λ own number l put. put.says.0) says
+task_done fs after (Sites job image) status text good says =
+    image_completes true SitesOutput fs job image good status text (λ own number l lines. lines.0) says
+task_done fs after (Show file) status text good says = shown_done (file_at fs file) status text good says
+task_done fs after (Gen count) status text good says = says.ran.says.0
+
+-- ** what is delivered where no port failed
+
+of_sink : (text : List ℕ) (own : ℕ) (old new : SinkView) (code : ℕ) → DidNotFail old.faults new.faults → Says text own old new code → (code ≡ own) ⊎ (code ≡ 1)
+of_sink text own old new code fine (inl (is, taken)) = inl is
+of_sink text own old new code fine (inr (inl (is, refused))) = absurd (fine refused.faults.1)
+of_sink text own old new code fine (inr (inr (is, short))) = inr is
+
+once_more : (own : ℕ) (old between new : SinkView) (code : ℕ) → between.faults ≡ old.faults → DidNotFail old.faults new.faults
+    → Says memory_line 1 between new code → (code ≡ own) ⊎ (code ≡ 1)
+once_more own old between new code same fine said =
+    ⊎_elim (λ is. inr is) (λ is. inr is)
+    (of_sink memory_line 1 between new code (subst (λ (n : ℕ). DidNotFail n new.faults) (sym same) fine) said)
+
+delivered : (text : List ℕ) (own : ℕ) (old new : SinkView) (code : ℕ) → DidNotFail old.faults new.faults → Delivers text own old new code → (code ≡ own) ⊎ (code ≡ 1)
+delivered text own old new code fine (inl (is, taken)) = inl is
+delivered text own old new code fine (inr (inl (is, refused))) = absurd (fine refused.faults.1)
+delivered text own old new code fine (inr (inr (between, (short, said)))) = once_more own old between new code short.faults fine said
+
+own_done : (task : Task) (own code : ℕ) → IsDone task own → (code ≡ own) ⊎ (code ≡ 1) → IsDone task code ⊎ (code ≡ 1)
+own_done task own code done (inl is) = inl (subst (IsDone task) (sym is) done)
+own_done task own code done (inr is) = inr is
+
+answer_done : (fs : Files) (after : Option Files) (task : Task) (answer : Answer) (before now own : ℕ) (text : List ℕ) → IsGood fs task → AnswerCounts before now answer
+    → AnswerSays fs after task answer → DidNotFail before now → IsAnswer answer own text → IsDone task own
+answer_done fs after task (Replies reply) before now own text good counts says fine is =
+    subst (IsDone task) (sym is.0) (task_done fs after task (code_of reply.status) reply.text.items good says)
+answer_done fs after task StoreFails before now own text good counts says fine is = absurd (fine counts.1)
+answer_done fs after task NoMemory before now own text good counts says fine is = absurd is
+
+-- an answer that is delivered
+pub answer_completes : (files after : Option Files) (task : Task) (answer : Answer) (before now : ℕ) (old new : SinkView) (code : ℕ) → AnswerCounts before now answer
+    → IfSome files (λ fs. AnswerSays fs after task answer) → Delivered (IsAnswer answer) old new code
+    → IfSome files (λ fs. DidNotFail before now → DidNotFail old.faults new.faults → Completes fs task code)
+answer_completes None after task answer before now old new code counts says is = tt
+answer_completes (Some fs) after task answer before now old new code counts says (inl line) =
+    λ store sink good. ⊎_elim (λ one. inr one) (λ one. inr one) (of_sink memory_line 1 old new code sink line)
+answer_completes (Some fs) after task answer before now old new code counts says (inr (own, (text, (may, put)))) =
+    λ store sink good. own_done task own code (answer_done fs after task answer before now own text good counts says store may) (delivered text own old new code sink put)
+
+-- ** words
+
+abbrev Words : Option Files → Option Task → ℕ → ℕ → ℕ → ℕ → ℕ → Type 0
+Words files task before now old new code =
+    IfSome files (λ fs. IfSome task (λ own. DidNotFail before now → DidNotFail old new → Completes fs own code))
+
+pub words_complete : (files : Option Files) (words : List (List ℕ)) (task : Task) (before now old new code : ℕ) → asked words ≡ Some task
+    → IfSome files (λ fs. DidNotFail before now → DidNotFail old new → Completes fs task code) → Words files (asked words) before now old new code
+words_complete None words task before now old new code e completes = tt
+words_complete (Some fs) words task before now old new code e completes = rw e completes
+
+pub usage_completes : (files : Option Files) (words : List (List ℕ)) (before now old new code : ℕ) → takes_words words ≡ false → Words files (asked words) before now old new code
+usage_completes None words before now old new code other = tt
+usage_completes (Some fs) words before now old new code other = rw (not_asked words other) tt
+
+late : (fs : Files) (task : Task) (old new code : ℕ) → IsLate code → SinkShown old new code → DidNotFail old new → Completes fs task code
+late fs task old new code (inl one) shown fine good = inr one
+late fs task old new code (inr four) shown fine good = absurd (fine (shown.cause four))
+
+pub late_completes : (files : Option Files) (task : Option Task) (before now old new code : ℕ) → IsLate code → SinkShown old new code → Words files task before now old new code
+late_completes None task before now old new code is shown = tt
+late_completes (Some fs) None before now old new code is shown = tt
+late_completes (Some fs) (Some own) before now old new code is shown = λ store sink. late fs own old new code is shown sink

@@ -1,0 +1,58 @@
+-- Which commands complete: where nothing is wrong with what a command is given, and no port fails, its status is 0,
+-- or 9 of a job that `check` finds unclean; or 1, where memory was wanting. So no good job is refused.
+use Rattle.std.specs.Prelude.{◌≡◌, ◌⊎◌, ℕ, Bool, true, not, List, Contains, map, Ok}
+use Rattle.std.specs.List.{All}
+use Rattle.command_line.specs.declared.tasks.Task.{Task}
+use Rattle.command_line.specs.declared.tasks.Task.TheVariants.{Run, Check, Link, Sites, Show, Gen}
+use Rattle.command_replies.specs.Says.{HasFile}
+use Rattle.image_faults.specs.Faults.{IsImage}
+use Rattle.job_link.specs.Given.{Given, AreGiven, IsSound}
+use Rattle.job_link.specs.Linked.{AllLink}
+use Rattle.job_link.specs.Mentions.{bytes_at, object_names}
+use Rattle.job_text.specs.Jobs.{JobParts, job_of}
+use Rattle.ports.specs.Counts.{Rose}
+use Rattle.ports.specs.Files.{Files, file_at}
+
+-- ---- nothing is wrong with what a command is given
+
+-- the file of that name has a job; each object that the job names is there, and sound; and its images, with the
+-- sequences of their objects, all link. relax: whether sequences may be rewritten
+pub record IsGoodJob (fs : Files) (relax : Bool) (name : List ℕ) : Type 0 where
+  pub job : JobParts
+  pub text : HasFile (file_at fs name) (λ bytes. job_of bytes ≡ Ok job)
+  pub objects : All (λ object. HasFile (file_at fs object) IsSound) (object_names job)
+  pub images : List Given
+  pub given : AreGiven (bytes_at fs) job images
+  pub links : AllLink images relax
+
+-- and the job declares an image of that name
+pub record HasGoodImage (fs : Files) (relax : Bool) (name image : List ℕ) : Type 0 where
+  pub good : IsGoodJob fs relax name
+  pub declared : Contains (map (λ own. own.name) good.job.images) image
+
+-- of `show` the file stands for an image; and nothing is ever wrong with the job that `gen` makes
+abbrev pub IsGood : Files → Task → Type 0
+IsGood fs (Run job no_relax) = IsGoodJob fs (not no_relax) job
+IsGood fs (Check job) = IsGoodJob fs true job
+IsGood fs (Link job image out no_relax) = HasGoodImage fs (not no_relax) job image
+IsGood fs (Sites job image) = HasGoodImage fs true job image
+IsGood fs (Show file) = HasFile (file_at fs file) IsImage
+IsGood fs (Gen count) = Unit {0}
+
+-- ---- and then it completes
+
+-- the status of a command that did all that it is to do
+abbrev pub IsDone : Task → ℕ → Type 0
+IsDone (Run job no_relax) code = code ≡ 0
+IsDone (Check job) code = (code ≡ 0) ⊎ (code ≡ 9)
+IsDone (Link job image out no_relax) code = code ≡ 0
+IsDone (Sites job image) code = code ≡ 0
+IsDone (Show file) code = code ≡ 0
+IsDone (Gen count) code = code ≡ 0
+
+-- a port did not fail: its count of faults did not rise
+abbrev pub DidNotFail : ℕ → ℕ → Type 0
+DidNotFail before now = Rose before now → ⊥
+
+abbrev pub Completes : Files → Task → ℕ → Type 0
+Completes fs task code = IsGood fs task → IsDone task code ⊎ (code ≡ 1)

@@ -1,0 +1,7 @@
+pub mod Histories
+pub mod Telling
+pub mod Orders
+pub mod Jobs
+pub mod Fronts
+pub mod Alone
+pub mod Racing

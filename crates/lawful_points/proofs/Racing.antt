@@ -1,0 +1,154 @@
+-- Where no image has data that threads write, what a job's transcript says is raced.
+use Rattle.std.proofs.Common.{◌≡◌, ◌∙◌, ◌*◌, ℕ, zero, suc, Bool, List, [], ◌∷◌, map, length, Option, Some, None, refl, sym, ap, subst, length-set}
+use Rattle.std.specs.Prelude.{slice_get, option_map}
+use Rattle.std.proofs.lemmas.List.{length-map}
+use Rattle.std.proofs.lemmas.Option.{same_Some, slice_get-map}
+use Rattle.job_text.specs.declared.thread_lines.ThreadLine.{ThreadLine}
+use Rattle.module_table.specs.declared.events.Event.{Event}
+use Rattle.transcript_text.specs.declared.outcomes.Line.{Line as ShownLine}
+use Rattle.transcript_text.specs.Texts.{Shown}
+use Rattle.thread_blocks.specs.Instances.{Loads}
+use Rattle.thread_blocks.specs.JobStatements.{HasNoData}
+use Rattle.thread_blocks.specs.JobWorlds.{Shared, job_start, job_world, numbered_lines, ready_from, shared_order, shared_turn, thread_ready}
+use Rattle.thread_blocks.specs.Lines.{Line, event_by}
+use Rattle.thread_blocks.specs.MachineTurns.{shown}
+use Rattle.thread_blocks.specs.RunTime.{Runs, thread_turns}
+use Rattle.thread_blocks.specs.Turns.{Thread, Turns, IsFinished, at_number, turns, whole_order}
+use Rattle.thread_blocks.specs.TurnsAlike.{AllFronts}
+use Rattle.thread_blocks.proofs.Endings.{threads_ended}
+use Rattle.thread_blocks.proofs.Own.{own_turns}
+use Rattle.lawful_points.specs.Laws.{RunsAreRaced}
+use Rattle.lawful_points.specs.Orders.{job_looks, looks_of}
+use Rattle.lawful_points.specs.Points.{AreLawful, Look, seen_by}
+use Rattle.lawful_points.specs.Raced.{IsRacer, first_of}
+use Rattle.lawful_points.specs.Told.{points_of, told_by}
+use Rattle.lawful_points.proofs.Alone.{acting, acting_fronts, acting_turns, alone_told, seen_alone}
+use Rattle.lawful_points.proofs.Fronts.{same_looks}
+use Rattle.lawful_points.proofs.Jobs.{points_lawful, turns_tell}
+use Rattle.lawful_points.proofs.Telling.{first_told, last_told}
+
+module _ (l : Loads ℕ) (fuel : ℕ) where
+  abbrev World : Type 0
+  World = Shared ℕ Bool ℕ Line
+
+  abbrev Ours : Type 0
+  Ours = Thread Runs Line Event
+
+  abbrev each : ℕ → Turns Runs Line Event
+  each thread = thread_turns l thread fuel
+
+  abbrev event : ℕ → Line → List Event → Option Event
+  event thread = event_by l thread
+
+  -- ** as many threads as there are lists of lines
+
+  turn_count : (w : World) (j : ℕ) (o : Option Ours) → length (shared_turn each event w j o).threads ≡ length w.threads
+  turn_count w j None = refl
+  turn_count w zero (Some t) = refl
+  turn_count w (suc j) (Some t) = length-set w.threads j _
+
+  order_count : (order : List ℕ) (w : World) → length (shared_order each event order w).threads ≡ length w.threads
+  order_count [] w = refl
+  order_count (j ∷ order) w = order_count order (shared_turn each event w j (at_number w.threads j))
+      ∙ turn_count w j (at_number w.threads j)
+
+  ready_count : (first : ℕ) (lines : List (List ThreadLine)) → length (ready_from l first lines) ≡ length lines
+  ready_count first [] = refl
+  ready_count first (own ∷ lines) = ap suc (ready_count (suc first) lines)
+
+  world_count : (lines : List (List ThreadLine)) (order : List ℕ) → length (job_world l fuel lines order).threads ≡ length lines
+  unfolding job_world
+  world_count lines order = order_count (whole_order (4 * fuel) lines order) (job_start l lines) ∙ ready_count 1 lines
+
+  -- ** a thread
+
+  module _ (lines : List (List ThreadLine)) (order : List ℕ) (none : HasNoData l) (i : ℕ) (own : List ThreadLine)
+      (at : at_number lines (suc i) ≡ Some own) where
+    abbrev world : World
+    world = job_world l fuel lines order
+
+    abbrev first : Ours
+    first = first_of l (suc i) own
+
+    -- the turns that it takes alone
+    abbrev points : List (List Event)
+    points = acting (each (suc i)) first (own_turns l fuel lines order (suc i) own none at).0
+
+    abbrev last : Ours
+    last = turns (each (suc i)) first points
+
+    abbrev looks : List Look
+    looks = looks_of (each (suc i)) (event (suc i)) first points
+
+    there : slice_get world.threads i ≡ Some last
+    there =
+        let alone = own_turns l fuel lines order (suc i) own none at in
+        alone.3 ∙ ap (λ (t : Ours). Some t) (sym (acting_turns (each (suc i)) alone.0 first))
+
+    fronts : AllFronts (seen_by looks) world.events
+    fronts =
+        let alone = own_turns l fuel lines order (suc i) own none at in
+        subst (λ (ps : List (List Event)). AllFronts ps world.events) (sym (seen_alone (each (suc i)) (event (suc i)) points first))
+        (acting_fronts (each (suc i)) alone.0 first world.events alone.2)
+
+    over : IsFinished last.todo last.phase
+    over =
+        let ended = threads_ended l fuel lines order (suc i) own at in
+        let same : ended.0 ≡ last = same_Some ended.0 last (sym ended.1.0 ∙ there) in
+        subst (λ (t : Ours). IsFinished t.todo t.phase) same ended.1.1
+
+    told : told_by (suc i) (numbered_lines 1 own) last.said ≡ points_of looks
+    told =
+        let tells = λ (line : Line) (seen : List Event) (h : Runs). turns_tell l fuel (suc i) line seen h in
+        last_told (suc i) (each (suc i)) (event (suc i)) tells (numbered_lines 1 own) last.todo last.phase last.said
+        (points_of looks) over
+        (alone_told (suc i) (each (suc i)) (event (suc i)) tells (numbered_lines 1 own)
+        (own_turns l fuel lines order (suc i) own none at).0 first []
+        (first_told (suc i) (each (suc i)) (event (suc i)) tells (numbered_lines 1 own) (thread_ready l (suc i))))
+
+    lawful : AreLawful (suc i) world.events looks
+    lawful =
+        let among = points_lawful l fuel lines order (suc i) own at in
+        let same : among.1.0 ≡ last = same_Some among.1.0 last (sym among.1.1.0 ∙ there) in
+        let both : points_of looks ≡ points_of (job_looks l fuel lines order (suc i)) =
+        sym told ∙ (ap (λ (t : Ours). told_by (suc i) (numbered_lines 1 own) t.said) (sym same) ∙ among.1.1.1) in
+        subst (AreLawful (suc i) world.events)
+        (sym (same_looks world.events looks (job_looks l fuel lines order (suc i)) fronts among.0.fronts both)) among.0
+
+    shown_is : (transcript : Shown) (said : List ShownLine)
+        → map (map Some) transcript.threads ≡ map (λ t. map shown t.said) world.threads
+        → slice_get transcript.threads i ≡ Some said → map Some said ≡ map shown last.said
+    shown_is transcript said same found =
+        let says : List ShownLine → List (Option ShownLine) = map (λ (line : ShownLine). Some line) in
+        let shows : Ours → List (Option ShownLine) = λ t. map shown t.said in
+        same_Some (map Some said) (map shown last.said)
+        (ap (option_map says) (sym found) ∙ (sym (slice_get-map says transcript.threads i)
+        ∙ (ap (λ (xs : List (List (Option ShownLine))). slice_get xs i) same
+        ∙ (slice_get-map shows world.threads i ∙ ap (option_map shows) there))))
+
+    racer : (history : List Event) (said : List ShownLine) → history ≡ world.events → map Some said ≡ map shown last.said
+        → IsRacer l fuel (suc i) own history said
+    racer history said e lines_are = record {
+      points = points;
+      lawful = subst (λ (h : List Event). AreLawful (suc i) h looks) (sym e) lawful;
+      over = over;
+      lines = lines_are;
+      told = told;
+    }
+
+each_raced : (l : Loads ℕ) (fuel : ℕ) (lines : List (List ThreadLine)) (order : List ℕ) (transcript : Shown) → HasNoData l
+    → transcript.events ≡ (job_world l fuel lines order).events
+    → map (map Some) transcript.threads ≡ map (λ t. map shown t.said) (job_world l fuel lines order).threads
+    → (thread : ℕ) (own : List ThreadLine) (said : List ShownLine) → at_number lines thread ≡ Some own
+    → at_number transcript.threads thread ≡ Some said → IsRacer l fuel thread own transcript.events said
+each_raced l fuel lines order transcript none events same zero own said at found = cc
+each_raced l fuel lines order transcript none events same (suc i) own said at found =
+    racer l fuel lines order none i own at transcript.events said events
+    (shown_is l fuel lines order none i own at transcript said same found)
+
+pub runs_raced : RunsAreRaced
+runs_raced l fuel lines order transcript none events same = record {
+  count = sym (length-map transcript.threads (map Some)) ∙ (ap length same
+      ∙ (length-map (job_world l fuel lines order).threads (λ t. map shown t.said) ∙ world_count l fuel lines order));
+  each = λ thread own said at found. each_raced l fuel lines order transcript none events same thread own said at found;
+}

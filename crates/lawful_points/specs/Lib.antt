@@ -1,0 +1,5 @@
+pub mod Points
+pub mod Told
+pub mod Orders
+pub mod Raced
+pub mod Laws

@@ -1,0 +1,38 @@
+-- A transcript of threads that share no data, each of which took its turns at lawful points, whoever let them take turns.
+use Rattle.std.specs.Prelude.{◌≡◌, ℕ, List, length, map, Some}
+use Rattle.job_text.specs.declared.thread_lines.ThreadLine.{ThreadLine}
+use Rattle.module_table.specs.declared.events.Event.{Event}
+use Rattle.transcript_text.specs.declared.outcomes.Line.{Line as ShownLine}
+use Rattle.transcript_text.specs.Texts.{Shown}
+use Rattle.lawful_points.specs.Orders.{looks_of}
+use Rattle.lawful_points.specs.Points.{AreLawful}
+use Rattle.lawful_points.specs.Told.{points_of, told_by}
+use Rattle.thread_blocks.specs.Instances.{Loads}
+use Rattle.thread_blocks.specs.JobWorlds.{numbered_lines, thread_ready}
+use Rattle.thread_blocks.specs.Lines.{Line, event_by}
+use Rattle.thread_blocks.specs.MachineTurns.{shown}
+use Rattle.thread_blocks.specs.RunTime.{Runs, thread_turns}
+use Rattle.thread_blocks.specs.Turns.{IsFinished, Thread, at_number, ready, turns}
+
+-- a thread of a job before its first turn
+abbrev pub first_of : Loads ℕ → ℕ → List ThreadLine → Thread Runs Line Event
+first_of l thread own = ready (thread_ready l thread) (numbered_lines 1 own)
+
+-- a thread of a history that took its turns alone, at lawful points, and says this of its lines
+pub record IsRacer (l : Loads ℕ) (fuel thread : ℕ) (own : List ThreadLine) (history : List Event) (said : List ShownLine) : Type 0
+  where
+    -- what its turns saw
+    pub points : List (List Event)
+    pub lawful : AreLawful thread history (looks_of (thread_turns l thread fuel) (event_by l thread) (first_of l thread own) points)
+    -- it came to its end
+    pub over : let t = turns (thread_turns l thread fuel) (first_of l thread own) points in IsFinished t.todo t.phase
+    pub lines : map Some said ≡ map shown (turns (thread_turns l thread fuel) (first_of l thread own) points).said
+    -- its lines tell just these looks
+    pub told : told_by thread (numbered_lines 1 own) (turns (thread_turns l thread fuel) (first_of l thread own) points).said
+        ≡ points_of (looks_of (thread_turns l thread fuel) (event_by l thread) (first_of l thread own) points)
+
+-- each thread of a transcript did
+pub record IsRaced (l : Loads ℕ) (fuel : ℕ) (lines : List (List ThreadLine)) (shown : Shown) : Type 0 where
+  pub count : length shown.threads ≡ length lines
+  pub each : (thread : ℕ) (own : List ThreadLine) (said : List ShownLine) → at_number lines thread ≡ Some own
+      → at_number shown.threads thread ≡ Some said → IsRacer l fuel thread own shown.events said

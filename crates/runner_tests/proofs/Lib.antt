@@ -1,2 +1,0 @@
-mod Staged
-mod Together

@@ -1,8 +1,0 @@
-use Rattle.std.proofs.Common.{◌∙◌, Some, sym, ap}
-use Rattle.job_turns.specs.declared.asking.LineAnswer.TheVariants.{Closed}
-use Rattle.job_turns.proofs.CutTurns.{close_same}
-use Rattle.runner_tests.proofs.answers.close.Goals as goal
-
-pub returns-in-Ok-clause-answer : goal.returns-in-Ok-clause-answer
-returns-in-Ok-clause-answer c =
-    ap (λ answer. Some (Closed answer)) (sym (close_same c.args.registry.now c.args.image ∙ c.in-Ok.ensures.closed))

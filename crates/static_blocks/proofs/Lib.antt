@@ -1,0 +1,15 @@
+pub mod Found
+pub mod Stands
+pub mod Known
+pub mod Made
+pub mod Offsets
+pub mod Sizes
+pub mod Placed
+pub mod Live
+pub mod Shapes
+pub mod Looking
+pub mod Places
+pub mod Steps
+pub mod Keeping
+pub mod Filling
+pub mod Own

@@ -1,0 +1,20 @@
+//! The laws. The functions do nothing: what they ensure is the law.
+
+ghost use Rattle.static_blocks.specs.Laws.{FreshBlocksAreFilled, LooksFillBlocks, StaticBlocksAreOwn};
+
+/// A fresh block is the initial image, as the instance has it, and zeros.
+pub fn fresh_blocks_are_filled()
+    ensures { FreshBlocksAreFilled }
+{}
+
+/// A look leaves a thread the block that it had of a live instance at a fixed distance from the thread pointer, and where
+/// it had none a fresh one.
+pub fn looks_fill_blocks()
+    ensures { LooksFillBlocks }
+{}
+
+/// After any turns at points of a legal history a thread has its own block of each live instance at a fixed distance: all
+/// that reaches a place of it reaches this block.
+pub fn static_blocks_are_own()
+    ensures { StaticBlocksAreOwn }
+{}

@@ -1,0 +1,4 @@
+//! Static blocks.
+#![tactic(auto)]
+
+pub mod laws;

@@ -1,0 +1,119 @@
+//! Images of drafted objects, and their dynamic symbols, as text.
+
+ghost use Rattle.std.specs.Prelude.{◌≡◌, ◌<◌, ℕ, [], IfOk, length, map, slice_index_or};
+ghost use Rattle.tls_symbols.specs.Bindings.{object_at};
+ghost use Rattle.sequence_match.specs.Sites.{HaveSymbols};
+
+use crate::images::{exports_of, read};
+use dynamic_symbols::{defined_symbols, imports, name_size};
+use elf_object::{Object, ObjectFault};
+use elf_records::symbol::{STB_WEAK, STT_NOTYPE, STT_TLS};
+use elf_records::{Rela, SymbolEntry};
+use link_faults::LinkFault;
+use object_builder::{Section, Symbol, object_of};
+use sequence_match::{Site, sites};
+use std::alloc::{AllocError, Global};
+use std::test::Fail;
+use tls_symbols::{Bindings, resolve};
+
+/// The section of variables of each object; that of its code is the second.
+const VARIABLES: u16 = 1;
+
+/// A GLOBAL variable.
+pub(crate) fn variable(name: &'static [u8]) -> Symbol<'static> {
+    Symbol::global(name, STT_TLS, VARIABLES, 0, 4)
+}
+
+/// A GLOBAL name that the object does not define.
+pub(crate) fn undefined(name: &'static [u8]) -> Symbol<'static> {
+    Symbol::global(name, STT_NOTYPE, 0, 0, 0)
+}
+
+/// A LOCAL variable.
+pub(crate) fn local(name: &'static [u8]) -> Symbol<'static> {
+    Symbol::local(name, STT_TLS, VARIABLES, 4, 4)
+}
+
+/// The symbol, but WEAK.
+pub(crate) fn weak(symbol: Symbol<'static>) -> Symbol<'static> {
+    let mut symbol = symbol;
+    symbol.entry.info = SymbolEntry::info_of(STB_WEAK, symbol.entry.info % 16);
+    symbol
+}
+
+/// An object of these symbols, this code and its relocations.
+pub(crate) fn object(
+    alloc: Global,
+    symbols: &[Symbol],
+    code: &[u8],
+    relocations: &[Rela],
+) -> Result<Vec<u8>, AllocError> {
+    let code = Section::code(code).with(relocations);
+    let variables = Section::variables(&[1; 8]);
+    object_of(alloc, &[variables, code], symbols)
+}
+
+/// The sites of an object.
+fn own_sites(alloc: Global, object: &Object) -> Result<Vec<Site>, ObjectFault>
+    ensures { IfOk result (λ own. HaveSymbols object.now own.items) }
+{
+    let _count = object.symbol_count();
+    let own = sites(alloc, object)?;
+    Ok(own)
+}
+
+/// The sites of each object.
+fn all_sites(alloc: Global, objects: &[Object]) -> Result<Vec<Vec<Site>>, Fail>
+    ensures len { IfOk result (λ all. length all.items ≡ length objects.now) }
+    ensures symbols { IfOk result (λ all. (o : ℕ) → o < length objects.now
+        → HaveSymbols (object_at objects.now o) (slice_index_or (map (λ own. own.items) all.items) o [])) }
+{
+    let mut all = Vec::new(alloc);
+    for object in objects {
+        let own = own_sites(alloc, object)?;
+        all.push(own)?;
+    }
+    Ok(all)
+}
+
+/// The dynamic symbols of an image: each defined one as OBJECT.SYMBOL, then the names of imports, and the room of all
+/// names; or the fault.
+pub(crate) fn said(
+    alloc: Global,
+    files: &[Vec<u8>],
+    images: &[Vec<Vec<u8>>],
+) -> Result<String, Fail> {
+    let objects = read(alloc, files)?;
+    let startup = exports_of(alloc, images)?;
+    if startup.len() > 100 {
+        return Ok(String::new(alloc));
+    }
+    match resolve(alloc, objects.as_slice(), startup.as_slice()) {
+        Ok(bindings) => all_said(alloc, &bindings, objects.as_slice()),
+        Err(LinkFault::OutOfMemory) => Ok(String::from_str(alloc, "memory")?),
+        Err(fault) => Ok(format!(in alloc; "{fault}")?),
+    }
+}
+
+/// What is said of bindings.
+fn all_said(alloc: Global, bindings: &Bindings, objects: &[Object]) -> Result<String, Fail>
+    requires { objects.now ≡ bindings.now.objects }
+{
+    let sites = all_sites(alloc, objects)?;
+    let symbols = defined_symbols(alloc, objects, bindings)?;
+    let names = imports(alloc, objects, bindings, sites.as_slice())?;
+    let mut text = String::new(alloc);
+    for found in &symbols {
+        text.push_str(format!(in alloc; "{}.{} ", found.object, found.symbol)?.as_str())?;
+    }
+    text.push_str("/ ")?;
+    for name in names.as_slice() {
+        for byte in *name {
+            text.push(char::from(*byte))?;
+        }
+        text.push(' ')?;
+    }
+    let size = name_size(objects, symbols.as_slice(), names.as_slice());
+    text.push_str(format!(in alloc; "{size}")?.as_str())?;
+    Ok(text)
+}

@@ -1,0 +1,19 @@
+//! Tests of the program's outside by public calls alone: the words of `command_line`, and files, output and progress of
+//! `ports`.
+//!
+//! No clause says what a disk, a writer or `clap` holds. So a store is tried over the host's files, and over a disk
+//! that fails or stops where a test says; a sink over a writer of that kind; what is said of progress over a clock and a
+//! standard error of that kind; and the words over those that users write. The store and the sink in memory have clauses
+//! for all that they do.
+#![tactic(auto)]
+
+#[cfg(test)]
+mod disk;
+#[cfg(test)]
+mod files;
+#[cfg(test)]
+mod progress;
+#[cfg(test)]
+mod words;
+#[cfg(test)]
+mod writers;
