@@ -1,24 +1,30 @@
 -- The points of every job's threads are lawful.
-use Rattle.std.proofs.Common.{◌≡◌, ◌*◌, ℕ, zero, suc, true, false, List, [], Option, Some, None, refl, subst, arith}
+use Rattle.std.proofs.Common.{◌≡◌, ◌∙◌, ◌+◌, ◌*◌, ℕ, zero, suc, Bool, true, false, List, [], ◌∷◌, map, Option, Some, None, refl, sym, ap, subst, arith}
+use Rattle.std.specs.Prelude.{option_map, slice_get}
+use Rattle.std.proofs.lemmas.Option.{same_Some, slice_get-map}
 use Rattle.job_text.specs.declared.thread_lines.Action.{Action}
 use Rattle.job_text.specs.declared.thread_lines.Action.TheVariants.{Call, Open, Close, Peek}
 use Rattle.job_text.specs.declared.thread_lines.ThreadLine.{ThreadLine}
 use Rattle.guest_arithmetic.specs.Plain.{plain_operations}
 use Rattle.module_table.specs.declared.events.Event.{Event}
 use Rattle.module_table.specs.Past.{open_refusal, close_refusal}
+use Rattle.transcript_text.specs.declared.outcomes.Line.{Line as ShownLine}
+use Rattle.transcript_text.specs.Texts.{Shown}
+use Rattle.thread_blocks.specs.MachineTurns.{shown}
 use Rattle.thread_blocks.specs.Instances.{Loads, left_by}
-use Rattle.thread_blocks.specs.JobWorlds.{job_start, job_world, numbered_lines, thread_ready}
+use Rattle.thread_blocks.specs.JobWorlds.{Shared, job_start, job_world, numbered_lines, thread_ready}
 use Rattle.thread_blocks.specs.Lines.{Line, event_at, event_by, unless_refused}
 use Rattle.thread_blocks.specs.RunTime.{Runs, shows, thread_turns}
-use Rattle.thread_blocks.specs.Turns.{Thread, at_number, ready, whole_order}
+use Rattle.thread_blocks.specs.Turns.{IsFinished, Thread, at_number, ready, whole_order}
 use Rattle.thread_blocks.proofs.Endings.{thread_at, threads_ended}
-use Rattle.lawful_points.specs.Laws.{PointsAreLawful}
+use Rattle.lawful_points.specs.Laws.{IsTold, LinesTellLooks, LooksAreLawful, PointsAreLawful}
 use Rattle.lawful_points.specs.Orders.{job_looks}
 use Rattle.lawful_points.specs.Points.{AreLawful}
-use Rattle.lawful_points.specs.Told.{points_of}
+use Rattle.lawful_points.specs.Told.{AreLawfulPoints, points_of, told_by}
 use Rattle.lawful_points.proofs.Histories.{order_lawful}
+use Rattle.lawful_points.proofs.Numbers.{numbers_lawful}
 use Rattle.lawful_points.proofs.Orders.{HasAt, order_told}
-use Rattle.lawful_points.proofs.Telling.{HasTold, TellsBegun, begin_tells, first_told, last_told}
+use Rattle.lawful_points.proofs.Telling.{HasTold, TellsBegun, begin_tells, first_told, last_told, said_by, shown_said}
 
 -- ** an event names the thread whose line it is
 
@@ -73,24 +79,51 @@ module _ (l : Loads ℕ) (fuel : ℕ) where
           ),
         )
 
-pub points_lawful : PointsAreLawful
-points_lawful l fuel lines order zero own at = cc
-points_lawful l fuel lines order (suc i) own at =
+-- the laws
+pub looks_lawful : LooksAreLawful
+looks_lawful l fuel lines order thread = lawful l fuel lines order thread
+
+-- what thread i says of its lines
+pub said_lines : (l : Loads ℕ) (fuel : ℕ) (lines : List (List ThreadLine)) (order : List ℕ) (i : ℕ) (own : List ThreadLine)
+    (t : Thread Runs Line Event) → at_number lines (suc i) ≡ Some own
+    → at_number (job_world l fuel lines order).threads (suc i) ≡ Some t
+    → said_by (suc i) (numbered_lines 1 own) t.said ≡ points_of (job_looks l fuel lines order (suc i))
+said_lines l fuel lines order i own t at found =
     let ended = threads_ended l fuel lines order (suc i) own at in
     let told = told_at l fuel lines order i own at in
-    let e = ended.1.0 in
-    let f = told.1.0 in
-    let same : told.0 ≡ ended.0 = cc in
-    let t = ended.0 in (
-      lawful l fuel lines order (suc i),
-      (
-        t,
-        (
-          e,
-          last_told (suc i) (thread_turns l (suc i) fuel) (event_by l (suc i)) (λ line seen h. turns_tell l fuel (suc i) line seen h)
-              (numbered_lines 1 own) t.todo t.phase t.said (points_of (job_looks l fuel lines order (suc i))) ended.1.1
-              (subst (λ (u : Thread Runs Line Event). HasTold (suc i) (numbered_lines 1 own) u.todo u.phase u.said
-              (points_of (job_looks l fuel lines order (suc i)))) same told.1.1),
-        ),
-      ),
-    )
+    let looks = points_of (job_looks l fuel lines order (suc i)) in
+    let over : IsFinished t.todo t.phase =
+    subst (λ (u : Thread Runs Line Event). IsFinished u.todo u.phase) (same_Some ended.0 t (sym ended.1.0 ∙ found)) ended.1.1 in
+    let at_end : HasTold (suc i) (numbered_lines 1 own) t.todo t.phase t.said looks =
+    subst (λ (u : Thread Runs Line Event). HasTold (suc i) (numbered_lines 1 own) u.todo u.phase u.said looks)
+    (same_Some told.0 t (sym told.1.0 ∙ found)) told.1.1 in
+    last_told (suc i) (thread_turns l (suc i) fuel) (event_by l (suc i)) (λ line seen h. turns_tell l fuel (suc i) line seen h)
+    (numbered_lines 1 own) t.todo t.phase t.said looks over at_end
+
+-- what a transcript shows of thread i
+pub shown_at : (transcript : Shown) (w : Shared ℕ Bool ℕ Line) (i : ℕ) (said : List ShownLine) (t : Thread Runs Line Event)
+    → IsTold w transcript → slice_get transcript.threads i ≡ Some said → slice_get w.threads i ≡ Some t
+    → map Some said ≡ map shown t.said
+shown_at transcript w i said t told found there =
+    let says : List ShownLine → List (Option ShownLine) = map (λ (line : ShownLine). Some line) in
+    let shows : Thread Runs Line Event → List (Option ShownLine) = λ t. map shown t.said in
+    same_Some (map Some said) (map shown t.said)
+    (ap (option_map says) (sym found) ∙ (sym (slice_get-map says transcript.threads i)
+    ∙ (ap (λ (xs : List (List (Option ShownLine))). slice_get xs i) told.lines
+    ∙ (slice_get-map shows w.threads i ∙ ap (option_map shows) there))))
+
+pub lines_tell : LinesTellLooks
+lines_tell l fuel lines order transcript told zero own said at found = cc
+lines_tell l fuel lines order transcript told (suc i) own said at found =
+    let ended = threads_ended l fuel lines order (suc i) own at in
+    shown_said (suc i) (numbered_lines 1 own) said ended.0.said
+    (shown_at transcript (job_world l fuel lines order) i said ended.0 told found ended.1.0)
+    ∙ said_lines l fuel lines order i own ended.0 at ended.1.0
+
+pub points_lawful : PointsAreLawful
+points_lawful l fuel lines order transcript told thread own said at found =
+    let looks = job_looks l fuel lines order thread in
+    subst (λ (h : List Event). AreLawfulPoints thread h (told_by thread (numbered_lines 1 own) said)) (sym told.events)
+    (subst (AreLawfulPoints thread (job_world l fuel lines order).events)
+    (sym (lines_tell l fuel lines order transcript told thread own said at found))
+    (numbers_lawful thread (job_world l fuel lines order).events looks (looks_lawful l fuel lines order thread)))

@@ -11,7 +11,8 @@ use Rattle.thread_blocks.specs.Turns.{Said, Phase, Idle, Mid, Thread, Turns, IsF
 use Rattle.thread_blocks.proofs.Orders.{get-set, get-set_same, turned}
 use Rattle.thread_blocks.proofs.Turns.{turn-finished}
 use Rattle.lawful_points.specs.Orders.{is_over, look_at, look_if, look_in, looks_in}
-use Rattle.lawful_points.specs.Told.{Point, point_of, points_of}
+use Rattle.lawful_points.specs.Points.{Look}
+use Rattle.lawful_points.specs.Told.{Point, points_of}
 use Rattle.lawful_points.proofs.Telling.{HasTold, TellsBegun, turn_told}
 
 pub is_finished : {S L : Type 0} (todo : List L) (phase : Phase S) → is_over todo phase ≡ true → IsFinished todo phase
@@ -154,5 +155,5 @@ module _ {W F B : Type 0} (x : ℕ → Turns (Held W F B) Line Event) (event : �
       let rest = looks_in x event (suc i) order next in
       subst (λ (ps : List Point). HasAt i own (shared_order x event order next) ps)
       (append_assoc told (points_of here) (points_of rest)
-      ∙ ap (λ (ps : List Point). told ++ ps) (sym (map-append point_of here rest)))
+      ∙ ap (λ (ps : List Point). told ++ ps) (sym (map-append (λ (look : Look). record { number = length look.seen; added = look.added }) here rest)))
       (order_told i own order next (told ++ points_of here) (step i j own w o told refl h))

@@ -17,15 +17,16 @@ use Rattle.thread_blocks.specs.Turns.{Thread, Turns, IsFinished, at_number, turn
 use Rattle.thread_blocks.specs.TurnsAlike.{AllFronts}
 use Rattle.thread_blocks.proofs.Endings.{threads_ended}
 use Rattle.thread_blocks.proofs.Own.{own_turns}
-use Rattle.lawful_points.specs.Laws.{RunsAreRaced}
+use Rattle.lawful_points.specs.Laws.{IsTold, RacedPointsAreLawful, RunsAreRaced}
 use Rattle.lawful_points.specs.Orders.{job_looks, looks_of}
 use Rattle.lawful_points.specs.Points.{AreLawful, Look, seen_by}
-use Rattle.lawful_points.specs.Raced.{IsRacer, first_of}
-use Rattle.lawful_points.specs.Told.{points_of, told_by}
+use Rattle.lawful_points.specs.Raced.{IsRacer, first_of, raced_looks}
+use Rattle.lawful_points.specs.Told.{AreLawfulPoints, points_of}
 use Rattle.lawful_points.proofs.Alone.{acting, acting_fronts, acting_turns, alone_told, seen_alone}
 use Rattle.lawful_points.proofs.Fronts.{same_looks}
-use Rattle.lawful_points.proofs.Jobs.{points_lawful, turns_tell}
-use Rattle.lawful_points.proofs.Telling.{first_told, last_told}
+use Rattle.lawful_points.proofs.Jobs.{looks_lawful, said_lines, shown_at, turns_tell}
+use Rattle.lawful_points.proofs.Numbers.{numbers_lawful}
+use Rattle.lawful_points.proofs.Telling.{first_told, last_told, said_by, shown_said}
 
 module _ (l : Loads ℕ) (fuel : ℕ) where
   abbrev World : Type 0
@@ -97,7 +98,7 @@ module _ (l : Loads ℕ) (fuel : ℕ) where
         let same : ended.0 ≡ last = same_Some ended.0 last (sym ended.1.0 ∙ there) in
         subst (λ (t : Ours). IsFinished t.todo t.phase) same ended.1.1
 
-    told : told_by (suc i) (numbered_lines 1 own) last.said ≡ points_of looks
+    told : said_by (suc i) (numbered_lines 1 own) last.said ≡ points_of looks
     told =
         let tells = λ (line : Line) (seen : List Event) (h : Runs). turns_tell l fuel (suc i) line seen h in
         last_told (suc i) (each (suc i)) (event (suc i)) tells (numbered_lines 1 own) last.todo last.phase last.said
@@ -108,47 +109,39 @@ module _ (l : Loads ℕ) (fuel : ℕ) where
 
     lawful : AreLawful (suc i) world.events looks
     lawful =
-        let among = points_lawful l fuel lines order (suc i) own at in
-        let same : among.1.0 ≡ last = same_Some among.1.0 last (sym among.1.1.0 ∙ there) in
-        let both : points_of looks ≡ points_of (job_looks l fuel lines order (suc i)) =
-        sym told ∙ (ap (λ (t : Ours). told_by (suc i) (numbered_lines 1 own) t.said) (sym same) ∙ among.1.1.1) in
-        subst (AreLawful (suc i) world.events)
-        (sym (same_looks world.events looks (job_looks l fuel lines order (suc i)) fronts among.0.fronts both)) among.0
+        let among = job_looks l fuel lines order (suc i) in
+        let is = looks_lawful l fuel lines order (suc i) in
+        let both : points_of looks ≡ points_of among = sym told ∙ said_lines l fuel lines order i own last at there in
+        subst (AreLawful (suc i) world.events) (sym (same_looks world.events looks among fronts is.fronts both)) is
 
-    shown_is : (transcript : Shown) (said : List ShownLine)
-        → map (map Some) transcript.threads ≡ map (λ t. map shown t.said) world.threads
-        → slice_get transcript.threads i ≡ Some said → map Some said ≡ map shown last.said
-    shown_is transcript said same found =
-        let says : List ShownLine → List (Option ShownLine) = map (λ (line : ShownLine). Some line) in
-        let shows : Ours → List (Option ShownLine) = λ t. map shown t.said in
-        same_Some (map Some said) (map shown last.said)
-        (ap (option_map says) (sym found) ∙ (sym (slice_get-map says transcript.threads i)
-        ∙ (ap (λ (xs : List (List (Option ShownLine))). slice_get xs i) same
-        ∙ (slice_get-map shows world.threads i ∙ ap (option_map shows) there))))
-
-    racer : (history : List Event) (said : List ShownLine) → history ≡ world.events → map Some said ≡ map shown last.said
-        → IsRacer l fuel (suc i) own history said
-    racer history said e lines_are = record {
-      points = points;
-      lawful = subst (λ (h : List Event). AreLawful (suc i) h looks) (sym e) lawful;
-      over = over;
-      lines = lines_are;
-      told = told;
-    }
+    racer : (transcript : Shown) (said : List ShownLine) → IsTold world transcript → slice_get transcript.threads i ≡ Some said
+        → IsRacer l fuel (suc i) own transcript.events said
+    racer transcript said tells found =
+        let shows = shown_at transcript world i said last tells found there in record {
+          points = points;
+          lawful = subst (λ (h : List Event). AreLawful (suc i) h looks) (sym tells.events) lawful;
+          over = over;
+          lines = shows;
+          told = shown_said (suc i) (numbered_lines 1 own) said last.said shows ∙ told;
+        }
 
 each_raced : (l : Loads ℕ) (fuel : ℕ) (lines : List (List ThreadLine)) (order : List ℕ) (transcript : Shown) → HasNoData l
-    → transcript.events ≡ (job_world l fuel lines order).events
-    → map (map Some) transcript.threads ≡ map (λ t. map shown t.said) (job_world l fuel lines order).threads
+    → IsTold (job_world l fuel lines order) transcript
     → (thread : ℕ) (own : List ThreadLine) (said : List ShownLine) → at_number lines thread ≡ Some own
     → at_number transcript.threads thread ≡ Some said → IsRacer l fuel thread own transcript.events said
-each_raced l fuel lines order transcript none events same zero own said at found = cc
-each_raced l fuel lines order transcript none events same (suc i) own said at found =
-    racer l fuel lines order none i own at transcript.events said events
-    (shown_is l fuel lines order none i own at transcript said same found)
+each_raced l fuel lines order transcript none tells zero own said at found = cc
+each_raced l fuel lines order transcript none tells (suc i) own said at found =
+    racer l fuel lines order none i own at transcript said tells found
 
 pub runs_raced : RunsAreRaced
-runs_raced l fuel lines order transcript none events same = record {
-  count = sym (length-map transcript.threads (map Some)) ∙ (ap length same
+runs_raced l fuel lines order transcript none tells = record {
+  count = sym (length-map transcript.threads (map Some)) ∙ (ap length tells.lines
       ∙ (length-map (job_world l fuel lines order).threads (λ t. map shown t.said) ∙ world_count l fuel lines order));
-  each = λ thread own said at found. each_raced l fuel lines order transcript none events same thread own said at found;
+  each = λ thread own said at found. each_raced l fuel lines order transcript none tells thread own said at found;
 }
+
+pub raced_points : RacedPointsAreLawful
+raced_points l fuel lines transcript raced thread own said at found =
+    let racer = raced.each thread own said at found in
+    subst (AreLawfulPoints thread transcript.events) (sym racer.told)
+    (numbers_lawful thread transcript.events (raced_looks l fuel thread own racer.points) racer.lawful)

@@ -1,5 +1,5 @@
 -- The points of every job's threads are lawful.
-use Rattle.std.specs.Prelude.{◌≡◌, ℕ, List, [], ◌∷◌, map, Option, Some}
+use Rattle.std.specs.Prelude.{◌≡◌, ℕ, Bool, List, [], ◌∷◌, map, Option, Some}
 use Rattle.job_text.specs.declared.thread_lines.ThreadLine.{ThreadLine}
 use Rattle.module_table.specs.declared.events.Event.{Event}
 use Rattle.transcript_text.specs.declared.outcomes.Line.{Line as ShownLine}
@@ -7,34 +7,58 @@ use Rattle.transcript_text.specs.Texts.{Shown}
 use Rattle.lawful_points.specs.Orders.{job_looks}
 use Rattle.lawful_points.specs.Points.{AreLawful}
 use Rattle.lawful_points.specs.Raced.{IsRaced, IsRacer, first_of}
-use Rattle.lawful_points.specs.Told.{points_of, told_by}
+use Rattle.lawful_points.specs.Told.{AreLawfulPoints, points_of, told_by}
 use Rattle.thread_blocks.specs.Instances.{Loads}
 use Rattle.thread_blocks.specs.JobStatements.{HasNoData}
-use Rattle.thread_blocks.specs.JobWorlds.{job_world, numbered_lines}
+use Rattle.thread_blocks.specs.JobWorlds.{Shared, job_world, numbered_lines}
 use Rattle.thread_blocks.specs.Lines.{Line, event_by}
 use Rattle.thread_blocks.specs.MachineTurns.{shown}
-use Rattle.thread_blocks.specs.RunTime.{Runs, thread_turns}
+use Rattle.thread_blocks.specs.RunTime.{thread_turns}
 use Rattle.thread_blocks.specs.Turns.{Thread, Turns, at_number, event_of, turn, with_event}
 use Rattle.thread_blocks.specs.TurnsAlike.{IsFront}
 
--- in any order of turns each thread's looks are lawful, and they are those that its lines tell, whatever is loaded
-abbrev pub PointsAreLawful : Type 0
-PointsAreLawful = (l : Loads ℕ) (fuel : ℕ) (lines : List (List ThreadLine)) (order : List ℕ)
-    → (thread : ℕ) (own : List ThreadLine) → at_number lines thread ≡ Some own
-    → AreLawful thread (job_world l fuel lines order).events (job_looks l fuel lines order thread)
-    × ((t : Thread Runs Line Event) × ((at_number (job_world l fuel lines order).threads thread ≡ Some t)
-    × (told_by thread (numbered_lines 1 own) t.said ≡ points_of (job_looks l fuel lines order thread))))
+-- a transcript of what a job's threads said
+pub record IsTold (w : Shared ℕ Bool ℕ Line) (transcript : Shown) : Type 0 where
+  pub events : transcript.events ≡ w.events
+  pub lines : map (map Some) transcript.threads ≡ map (λ t. map shown t.said) w.threads
 
--- where no image has data that threads write, what a job's transcript says is raced
+-- in any order of turns the looks of each thread are lawful, whatever is loaded
+abbrev pub LooksAreLawful : Type 0
+LooksAreLawful = (l : Loads ℕ) (fuel : ℕ) (lines : List (List ThreadLine)) (order : List ℕ) (thread : ℕ)
+    → AreLawful thread (job_world l fuel lines order).events (job_looks l fuel lines order thread)
+
+-- and they are those that its lines tell
+abbrev pub LinesTellLooks : Type 0
+LinesTellLooks = (l : Loads ℕ) (fuel : ℕ) (lines : List (List ThreadLine)) (order : List ℕ) (transcript : Shown)
+    → IsTold (job_world l fuel lines order) transcript
+    → (thread : ℕ) (own : List ThreadLine) (said : List ShownLine) → at_number lines thread ≡ Some own
+    → at_number transcript.threads thread ≡ Some said
+    → told_by thread (numbered_lines 1 own) said ≡ points_of (job_looks l fuel lines order thread)
+
+-- so the points that are printed are lawful
+abbrev pub PointsAreLawful : Type 0
+PointsAreLawful = (l : Loads ℕ) (fuel : ℕ) (lines : List (List ThreadLine)) (order : List ℕ) (transcript : Shown)
+    → IsTold (job_world l fuel lines order) transcript
+    → (thread : ℕ) (own : List ThreadLine) (said : List ShownLine) → at_number lines thread ≡ Some own
+    → at_number transcript.threads thread ≡ Some said
+    → AreLawfulPoints thread transcript.events (told_by thread (numbered_lines 1 own) said)
+
+-- where no image has data that threads write, the transcript is raced
 abbrev pub RunsAreRaced : Type 0
-RunsAreRaced = (l : Loads ℕ) (fuel : ℕ) (lines : List (List ThreadLine)) (order : List ℕ) (transcript : Shown) → HasNoData l
-    → transcript.events ≡ (job_world l fuel lines order).events
-    → map (map Some) transcript.threads ≡ map (λ t. map shown t.said) (job_world l fuel lines order).threads
+RunsAreRaced = (l : Loads ℕ) (fuel : ℕ) (lines : List (List ThreadLine)) (order : List ℕ) (transcript : Shown)
+    → HasNoData l → IsTold (job_world l fuel lines order) transcript → IsRaced l fuel lines transcript
+
+-- and each raced transcript has lawful points, in any order of turns or in none
+abbrev pub RacedPointsAreLawful : Type 0
+RacedPointsAreLawful = (l : Loads ℕ) (fuel : ℕ) (lines : List (List ThreadLine)) (transcript : Shown)
     → IsRaced l fuel lines transcript
+    → (thread : ℕ) (own : List ThreadLine) (said : List ShownLine) → at_number lines thread ≡ Some own
+    → at_number transcript.threads thread ≡ Some said
+    → AreLawfulPoints thread transcript.events (told_by thread (numbered_lines 1 own) said)
 
 -- what each turn of a thread sees is a front of a history, and so it is with the thread's own event behind it
-abbrev pub AtHistory : {S L : Type 0} → Turns S L Event → (L → List Event → Option Event) → List Event → Thread S L Event
-    → List (List Event) → Type 0
+abbrev pub AtHistory : {S L : Type 0} → Turns S L Event → (L → List Event → Option Event) → List Event
+    → Thread S L Event → List (List Event) → Type 0
 AtHistory x event history t [] = Unit {0}
 AtHistory x event history t (seen ∷ more) =
     (IsFront seen history × IsFront (with_event seen (event_of event t seen)) history)
@@ -42,6 +66,6 @@ AtHistory x event history t (seen ∷ more) =
 
 -- so it is with each that raced
 abbrev pub RacersAreInHistory : Type 0
-RacersAreInHistory = (l : Loads ℕ) (fuel thread : ℕ) (own : List ThreadLine) (history : List Event) (said : List ShownLine)
-    → (racer : IsRacer l fuel thread own history said)
+RacersAreInHistory = (l : Loads ℕ) (fuel thread : ℕ) (own : List ThreadLine) (history : List Event)
+    (said : List ShownLine) → (racer : IsRacer l fuel thread own history said)
     → AtHistory (thread_turns l thread fuel) (event_by l thread) history (first_of l thread own) racer.points

@@ -1,11 +1,11 @@
--- A transcript of threads that share no data, each of which took its turns at lawful points, whoever let them take turns.
+-- A transcript of threads that share no data, each of which took its turns at lawful points, whoever let it.
 use Rattle.std.specs.Prelude.{◌≡◌, ℕ, List, length, map, Some}
 use Rattle.job_text.specs.declared.thread_lines.ThreadLine.{ThreadLine}
 use Rattle.module_table.specs.declared.events.Event.{Event}
 use Rattle.transcript_text.specs.declared.outcomes.Line.{Line as ShownLine}
 use Rattle.transcript_text.specs.Texts.{Shown}
 use Rattle.lawful_points.specs.Orders.{looks_of}
-use Rattle.lawful_points.specs.Points.{AreLawful}
+use Rattle.lawful_points.specs.Points.{AreLawful, Look}
 use Rattle.lawful_points.specs.Told.{points_of, told_by}
 use Rattle.thread_blocks.specs.Instances.{Loads}
 use Rattle.thread_blocks.specs.JobWorlds.{numbered_lines, thread_ready}
@@ -18,18 +18,24 @@ use Rattle.thread_blocks.specs.Turns.{IsFinished, Thread, at_number, ready, turn
 abbrev pub first_of : Loads ℕ → ℕ → List ThreadLine → Thread Runs Line Event
 first_of l thread own = ready (thread_ready l thread) (numbered_lines 1 own)
 
--- a thread of a history that took its turns alone, at lawful points, and says this of its lines
-pub record IsRacer (l : Loads ℕ) (fuel thread : ℕ) (own : List ThreadLine) (history : List Event) (said : List ShownLine) : Type 0
-  where
+module _ (l : Loads ℕ) (fuel thread : ℕ) (own : List ThreadLine) where
+  -- the thread after turns that see these lists of events
+  abbrev pub raced_of : List (List Event) → Thread Runs Line Event
+  raced_of points = turns (thread_turns l thread fuel) (first_of l thread own) points
+
+  abbrev pub raced_looks : List (List Event) → List Look
+  raced_looks points = looks_of (thread_turns l thread fuel) (event_by l thread) (first_of l thread own) points
+
+  -- a thread of a history that took its turns alone, at lawful points, and says this of its lines
+  pub record IsRacer (history : List Event) (said : List ShownLine) : Type 0 where
     -- what its turns saw
     pub points : List (List Event)
-    pub lawful : AreLawful thread history (looks_of (thread_turns l thread fuel) (event_by l thread) (first_of l thread own) points)
+    pub lawful : AreLawful thread history (raced_looks points)
     -- it came to its end
-    pub over : let t = turns (thread_turns l thread fuel) (first_of l thread own) points in IsFinished t.todo t.phase
-    pub lines : map Some said ≡ map shown (turns (thread_turns l thread fuel) (first_of l thread own) points).said
+    pub over : IsFinished (raced_of points).todo (raced_of points).phase
+    pub lines : map Some said ≡ map shown (raced_of points).said
     -- its lines tell just these looks
-    pub told : told_by thread (numbered_lines 1 own) (turns (thread_turns l thread fuel) (first_of l thread own) points).said
-        ≡ points_of (looks_of (thread_turns l thread fuel) (event_by l thread) (first_of l thread own) points)
+    pub told : told_by thread (numbered_lines 1 own) said ≡ points_of (raced_looks points)
 
 -- each thread of a transcript did
 pub record IsRaced (l : Loads ℕ) (fuel : ℕ) (lines : List (List ThreadLine)) (shown : Shown) : Type 0 where

@@ -1,15 +1,31 @@
 //! The laws. The functions do nothing: what they ensure is the law.
 
-ghost use Rattle.lawful_points.specs.Laws.{PointsAreLawful, RacersAreInHistory, RunsAreRaced};
+ghost use Rattle.lawful_points.specs.Laws.{LinesTellLooks, LooksAreLawful, PointsAreLawful};
+ghost use Rattle.lawful_points.specs.Laws.{RacedPointsAreLawful, RacersAreInHistory, RunsAreRaced};
 
-/// In any order of turns each thread's looks are lawful, and they are those that its lines tell, whatever is loaded.
+/// In any order of turns the looks of each thread are lawful, whatever is loaded.
+pub fn looks_are_lawful()
+    ensures { LooksAreLawful }
+{}
+
+/// And they are those that its lines tell.
+pub fn lines_tell_looks()
+    ensures { LinesTellLooks }
+{}
+
+/// So the points that are printed are lawful.
 pub fn points_are_lawful()
     ensures { PointsAreLawful }
 {}
 
-/// Where no image has data that threads write, what a job's transcript says is raced.
+/// Where no image has data that threads write, a job's transcript is raced.
 pub fn runs_are_raced()
     ensures { RunsAreRaced }
+{}
+
+/// The points of a raced transcript are lawful.
+pub fn raced_points_are_lawful()
+    ensures { RacedPointsAreLawful }
 {}
 
 /// What each turn of a raced thread saw is a front of the history, and so it is with the thread's own event behind it.

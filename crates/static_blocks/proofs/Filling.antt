@@ -1,16 +1,14 @@
 -- A fresh block is the initial image and zeros, and a look gives it where there was none.
-use Rattle.std.proofs.Common.{◌≡◌, ◌⊎◌, ◌∙◌, ◌++◌, ◌==◌, ℕ, Bool, true, false, List, [], ◌∷◌, length, Option, Some, None, refl, sym, ap, subst, inl, inr, append_assoc}
-use Rattle.std.specs.Prelude.{if◌then◌else◌, is_some, option_map, unwrap_or}
+use Rattle.std.proofs.Common.{◌≡◌, ◌∙◌, ◌++◌, ◌==◌, ℕ, Bool, true, false, List, [], ◌∷◌, Option, Some, None, refl, ap, inl, inr, append_assoc}
+use Rattle.std.specs.Prelude.{is_some, option_map, unwrap_or}
 use Rattle.std.specs.List.{find, flat_map}
 use Rattle.std.specs.Option.{option_or}
 use Rattle.std.proofs.lemmas.Bool.{cases_Bool, eq-eqb}
 use Rattle.loaded_modules.specs.declared.instance.Instance.{Instance}
-use Rattle.loaded_modules.specs.Loader.{block_of, block_of_image, fresh_block}
-use Rattle.module_table.specs.declared.events.Event.{Event}
-use Rattle.thread_blocks.specs.Held.{Owned, block_bytes, block_with, data_after, fresh_if, is_block_of, looked, looked_at, owned_by}
+use Rattle.loaded_modules.specs.Loader.{fresh_block}
+use Rattle.thread_blocks.specs.Held.{Owned, block_bytes, block_with, data_after, fresh_if, is_block_of, looked_at, owned_by}
 use Rattle.thread_blocks.specs.Instances.{Loads, instances}
 use Rattle.thread_blocks.specs.JobLoads.{job_loads}
-use Rattle.thread_blocks.specs.RunTime.{Runs}
 use Rattle.static_blocks.specs.Blocks.{block_owned}
 use Rattle.static_blocks.specs.Laws.{FreshBlocksAreFilled, LooksFillBlocks}
 use Rattle.static_blocks.proofs.Shapes.{first_of_number, later_of_number, owned_again}

@@ -1,7 +1,6 @@
 -- A thread's turns keep what it holds of the live instances, at points of a history.
-use Rattle.std.proofs.Common.{◌≡◌, ◌∙◌, ◌+◌, ◌-◌, ◌++◌, ◌==◌, ℕ, Bool, true, false, List, [], ◌∷◌, length, Option, Some, None, refl, sym, ap, subst, arith, ◌<◌}
-use Rattle.std.specs.Prelude.{All, if◌then◌else◌, is_none, is_some, nat_le, option_map, slice_range, slice_set}
-use Rattle.std.specs.List.{find}
+use Rattle.std.proofs.Common.{◌≡◌, ◌∙◌, ◌+◌, ◌-◌, ◌==◌, ℕ, Bool, true, false, List, [], ◌∷◌, length, Option, Some, None, refl, sym, ap, arith}
+use Rattle.std.specs.Prelude.{All, if◌then◌else◌, is_none, is_some, nat_le, option_map, slice_range}
 use Rattle.guest_arithmetic.specs.Plain.{plain_operations}
 use Rattle.guest_machine.specs.Ranges.{Range, grants, with_byte}
 use Rattle.guest_machine.specs.Run.{Outcome, Ended, Waits, run}
@@ -20,18 +19,18 @@ use Rattle.transcript_text.specs.declared.outcomes.LineFault.TheVariants.{Unload
 use Rattle.transcript_text.specs.declared.outcomes.LineRefusal.TheVariants.{Length as TooLong}
 use Rattle.transcript_text.specs.declared.outcomes.Outcome.TheVariants.{Fault}
 use Rattle.thread_blocks.specs.declared.asked.Asked.{Asked}
-use Rattle.thread_blocks.specs.Held.{Owned, Owner, block_bytes, is_block_of, loaded, loaded_at, looked, looked_at, owned, owned_by, reached, reached_at}
+use Rattle.thread_blocks.specs.Held.{Owned, Owner, block_bytes, loaded, loaded_at, looked, looked_at, owned_by, reached, reached_at}
 use Rattle.thread_blocks.specs.Instances.{Loads, instance_at, instance_with_id, instances, left_by, numbered_instance}
 use Rattle.thread_blocks.specs.JobWorlds.{held_in, thread_ready}
 use Rattle.thread_blocks.specs.Lines.{Line, begin_line, begun_at, begun_by, begun_close, begun_in, begun_open, begun_peek, event_at, event_by, refused, shown_from, shown_in, unless_refused, with_load}
-use Rattle.thread_blocks.specs.RunTime.{Runs, answered, resume_line, resumed_by, resumed_in, shows, thread_accesses, thread_steps, thread_turns}
+use Rattle.thread_blocks.specs.RunTime.{Runs, resume_line, resumed_by, resumed_in, shows, thread_accesses, thread_steps, thread_turns}
 use Rattle.thread_blocks.specs.Spaces.{Space, space_accesses, stack_range}
 use Rattle.thread_blocks.specs.Turns.{Answered, Said, Begun, Says, Calls, Turns, Phase, Idle, Mid, Thread, after_look, after_run, event_of, turn, turn_at, turns, with_event, with_last}
 use Rattle.thread_blocks.specs.TurnsAlike.{IsFront}
 use Rattle.lawful_points.specs.Laws.{AtHistory}
 use Rattle.static_blocks.proofs.Looking.{held_shape}
-use Rattle.static_blocks.proofs.Shapes.{HasRange, Shape, found_shape, written_shape}
-use Rattle.static_blocks.proofs.Steps.{run_holds, resumed_holds}
+use Rattle.static_blocks.proofs.Shapes.{Shape, found_shape, written_shape}
+use Rattle.static_blocks.proofs.Steps.{OutHolds, run_holds, resumed_holds}
 
 -- what is known of each live instance: it is the one of its number
 module _ (l : Loads ℕ) (thread : ℕ) (history : List Event) (known : ℕ → Option Instance)
@@ -53,7 +52,7 @@ module _ (l : Loads ℕ) (thread : ℕ) (history : List Event) (known : ℕ → 
     pub known_all : All (λ (y : Instance). known y.number ≡ Some y) ys
     pub shape : Shape l thread ys h.owners h.after.memory.own
 
-  had : (h : Runs) → Fits h → HasHeld h
+  abbrev had : (h : Runs) → Fits h → HasHeld h
   had h fits = record {
     ys = instances l h.after.memory.seen;
     known_all = λ k d less. (each h.after.memory.seen fits.0 k d less).0;
@@ -82,10 +81,12 @@ module _ (l : Loads ℕ) (thread : ℕ) (history : List Event) (known : ℕ → 
 
   look_fits : (seen : List Event) (h : Runs) → IsFront seen history → HasHeld h → Fits (looked l thread seen h)
   unfolding looked_at
-  look_fits seen h front held = (front,
-      held_shape l thread (λ x. is_some x.offset) (λ x. false) known (instances l seen) held.ys h.owners h.after.memory.own
-      held.shape held.known_all
-      (λ k d less. ((each seen front k d less).0, λ none wanted. none_of _ wanted)))
+  look_fits seen h front held = (
+    front,
+    held_shape l thread (λ x. is_some x.offset) (λ x. false) known (instances l seen) held.ys h.owners h.after.memory.own
+        held.shape held.known_all
+        (λ k d less. ((each seen front k d less).0, λ none wanted. none_of _ wanted)),
+  )
 
   -- a block that was not there is not at a fixed distance
   no_block : (h : Runs) (y : Instance) → Fits h → numbered_instance l h.after.memory.seen y.number ≡ Some y
@@ -106,17 +107,21 @@ module _ (l : Loads ℕ) (thread : ℕ) (history : List Event) (known : ℕ → 
 
   reach_fits : (x : Instance) (h : Runs) → Fits h → Fits (reached l thread x h)
   unfolding reached_at
-  reach_fits x h fits = (fits.0,
-      held_shape l thread (λ y. y.number == x.number) (λ y. false) known (instances l h.after.memory.seen)
-      (instances l h.after.memory.seen) h.owners h.after.memory.own fits.1 (had h fits).known_all
-      (again_fits (λ y. y.number == x.number) (λ y. false) h fits))
+  reach_fits x h fits = (
+    fits.0,
+    held_shape l thread (λ y. y.number == x.number) (λ y. false) known (instances l h.after.memory.seen)
+        (instances l h.after.memory.seen) h.owners h.after.memory.own fits.1 (had h fits).known_all
+        (again_fits (λ y. y.number == x.number) (λ y. false) h fits),
+  )
 
   load_fits : (x : Instance) (h : Runs) → Fits h → Fits (loaded l thread x h)
   unfolding loaded_at
-  load_fits x h fits = (fits.0,
-      held_shape l thread (λ y. false) (λ y. y.number == x.number) known (instances l h.after.memory.seen)
-      (instances l h.after.memory.seen) h.owners h.after.memory.own fits.1 (had h fits).known_all
-      (again_fits (λ y. false) (λ y. y.number == x.number) h fits))
+  load_fits x h fits = (
+    fits.0,
+    held_shape l thread (λ y. false) (λ y. y.number == x.number) known (instances l h.after.memory.seen)
+        (instances l h.after.memory.seen) h.owners h.after.memory.own fits.1 (had h fits).known_all
+        (again_fits (λ y. false) (λ y. y.number == x.number) h fits),
+  )
 
   -- ** a line's first look
 
@@ -178,13 +183,19 @@ module _ (l : Loads ℕ) (thread : ℕ) (history : List Event) (known : ℕ → 
       shown_fits (reached l thread x h) size x (l.variable line.told.image symbol) (reach_fits x h fits)
 
   by_fits : (number image : ℕ) (action : Action) (seen : List Event) (h : Runs)
-      → let line = record { number = number; told = record { image = image; action = action } } in
+      → let line : Line = record { number = number; told = record { image = image; action = action } } in
       IsFront (with_event seen (event_by l thread line seen)) history → Fits h
       → BegunFits (begun_by plain_operations l (shows l thread) thread line seen h action)
   by_fits number image (Call symbol a b c) seen h front fits = in_fits symbol a b c h (instance_at l seen image) fits
-  by_fits number image Open seen h front fits = open_fits _ seen h (open_refusal (left_by l seen) image) front fits
-  by_fits number image Close seen h front fits = close_fits _ seen h (close_refusal (left_by l seen) image) front fits
-  by_fits number image (Peek symbol size) seen h front fits = peek_fits _ symbol size h (instance_at l seen image) fits
+  by_fits number image Open seen h front fits =
+      open_fits (record { number = number; told = record { image = image; action = Open } }) seen h
+      (open_refusal (left_by l seen) image) front fits
+  by_fits number image Close seen h front fits =
+      close_fits (record { number = number; told = record { image = image; action = Close } }) seen h
+      (close_refusal (left_by l seen) image) front fits
+  by_fits number image (Peek symbol size) seen h front fits =
+      peek_fits (record { number = number; told = record { image = image; action = Peek symbol size } }) symbol size h
+      (instance_at l seen image) fits
 
   begin_fits : (line : Line) (seen : List Event) (h : Runs) → IsFront seen history
       → IsFront (with_event seen (event_by l thread line seen)) history → Fits h
@@ -227,11 +238,7 @@ module _ (l : Loads ℕ) (thread : ℕ) (history : List Event) (known : ℕ → 
     run_fits todo said seen points n h fits =
         after (run (thread_steps l thread) n h) (run_holds l thread Keeps put_keeps n h fits)
       where
-        abbrev OutFits : Outcome Runs → Type 0
-        OutFits (Ended stop n h) = Fits h
-        OutFits (Waits n h) = Fits h
-
-        after : (out : Outcome Runs) → OutFits out → FitsIn (after_run todo said seen points out)
+        after : (out : Outcome Runs) → OutHolds l thread Keeps put_keeps out → FitsIn (after_run todo said seen points out)
         after (Ended stop n h) fits = fits
         after (Waits n h) fits = fits
 

@@ -14,7 +14,6 @@ use Rattle.module_table.proofs.LawsOfNumbers.{own_numbers}
 use Rattle.module_table.proofs.Steps.{numbered_at}
 use Rattle.thread_blocks.specs.Instances.{Loads, loaded_instance, instances_in, numbered_instance, instance_with_id}
 use Rattle.thread_blocks.specs.TurnsAlike.{IsFront}
-use Rattle.static_blocks.specs.Laws.{NumbersAreKnown}
 use Rattle.static_blocks.specs.Known.{known_from, known_in}
 use Rattle.static_blocks.proofs.Found.{loaded_as, loaded_is, found_is}
 use Rattle.static_blocks.proofs.Stands.{legal_before, numbered_is, same_instance}
@@ -138,7 +137,3 @@ module _ (q : Loads ℕ) (history : List Event) (legal : IsLegal q.infos q.last_
   numbered_number seen n x e =
       let f = numbered_is q.infos (past q.infos q.last_offset seen) n x e in
       sym (ap (λ (y : Instance). y.number) f.is) ∙ f.number
-
--- the law
-pub numbers_known : NumbersAreKnown
-numbers_known q history legal seen n x front at = known_is q history legal seen n x front at

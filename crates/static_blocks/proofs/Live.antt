@@ -1,25 +1,24 @@
 -- What holds of each live instance where a front of a legal history was seen.
-use Rattle.std.proofs.Common.{◌≡◌, ◌≢◌, ◌⊎◌, ◌∙◌, ◌+◌, ◌-◌, ◌*◌, ◌<◌, ◌≤◌, ◌^◌, ◌==◌, ℕ, zero, suc, Bool, true, false, List, [], ◌∷◌, ◌++◌, ◌&&◌, length, get_or, Option, Some, None, refl, sym, ap, subst, inl, inr, arith, true≢false}
-use Rattle.std.specs.Prelude.{All, IfSome, option_to_list, nat_le, nat_lt, take, if◌then◌else◌}
+use Rattle.std.proofs.Common.{◌≡◌, ◌∙◌, ◌+◌, ◌-◌, ◌*◌, ◌<◌, ◌≤◌, ◌^◌, ◌==◌, ℕ, suc, true, false, List, [], ◌∷◌, ◌++◌, ◌&&◌, length, get_or, Option, Some, None, refl, sym, ap, subst, inl, inr, arith, true≢false}
+use Rattle.std.specs.Prelude.{All, IfSome, option_to_list, nat_le, nat_lt, take}
 use Rattle.std.proofs.lemmas.Bool.{and_parts, cases_Bool, eq-eqb, false_from_ne_true, leb-false, leb-true, ltb-true}
 use Rattle.std.proofs.lemmas.List.Elements.{All-nil, All-cons}
 use Rattle.loaded_modules.specs.declared.instance.Instance.{Instance}
-use Rattle.loaded_modules.specs.Images.{JobImages, infos, last_offset}
+use Rattle.loaded_modules.specs.Images.{infos}
 use Rattle.module_table.specs.declared.modules.ImageInfo.{ImageInfo}
 use Rattle.module_table.specs.declared.modules.Module.{Module}
 use Rattle.module_table.specs.declared.events.Event.{Event}
 use Rattle.module_table.specs.History.{IsLegal}
-use Rattle.module_table.specs.Laws.{Block, AreApart, startup_end}
-use Rattle.module_table.specs.Modules.{AreInfos, is_loaded, no_module}
-use Rattle.module_table.specs.Past.{is_legal, module_of, past, start}
+use Rattle.module_table.specs.Laws.{Block, startup_end}
+use Rattle.module_table.specs.Modules.{is_loaded, no_module}
+use Rattle.module_table.specs.Past.{module_of, past, start}
 use Rattle.module_table.proofs.LawsOfBlocks.{instances_apart}
 use Rattle.thread_blocks.specs.Instances.{Loads, block_start, instances, instances_from, instances_in, loaded_instance, numbered_instance}
 use Rattle.thread_blocks.specs.MachineTurns.{pointer_of}
 use Rattle.thread_blocks.specs.TurnsAlike.{IsFront}
 use Rattle.static_blocks.specs.Known.{known_in}
-use Rattle.static_blocks.proofs.Found.{IsLoadedAs, instance_for, loaded_as}
+use Rattle.static_blocks.proofs.Found.{instance_for, loaded_as}
 use Rattle.static_blocks.proofs.Known.{known_is, legal_front, number_low, numbered_at_image}
-use Rattle.static_blocks.proofs.Offsets.{end_low}
 use Rattle.static_blocks.proofs.Placed.{IsImage, is_image, placed_in}
 use Rattle.static_blocks.proofs.Sizes.{end_most, end_past, end_rises}
 
@@ -62,19 +61,19 @@ module _ (q : Loads ℕ) (history : List Event) (legal : IsLegal q.infos q.last_
   live_at : (a : ℕ) (x : Instance) → loaded_instance q.infos a (module_at a) ≡ Some x → IsLive x
   live_at a x e =
       let here = legal_front q history legal seen front in
-      let as = loaded_as q.infos a (module_at a) x e in
-      let image = is_image q.infos q.last_offset seen a here as.loaded in
+      let one = loaded_as q.infos a (module_at a) x e in
+      let image = is_image q.infos q.last_offset seen a here one.loaded in
       let numbered = numbered_at_image q history legal seen a x front e in
       let placed = placed_in q history legal seen x.number x front numbered in
       let same : placed.index ≡ image.index =
-      (let i : suc placed.index ≡ suc image.index = sym placed.image ∙ (ap (λ (y : Instance). y.image) (sym as.is) ∙ image.image) in
+      (let i : suc placed.index ≡ suc image.index = sym placed.image ∙ (ap (λ (y : Instance). y.image) (sym one.is) ∙ image.image) in
       omega (arith, i)) in
       let info : (module_at a).info ≡ get_or q.infos placed.index no_module.info =
       image.info ∙ ap (λ (i : ℕ). get_or q.infos i no_module.info) (sym same) in
       record {
         a = a;
-        loaded = as.loaded;
-        is = as.is;
+        loaded = one.loaded;
+        is = one.is;
         image = image;
         numbered = numbered;
         known = known_is q history legal seen x.number x front numbered;
@@ -119,12 +118,11 @@ module _ (q : Loads ℕ) (history : List Event) (legal : IsLegal q.infos q.last_
       omega (arith, past, up, size, rises, ex)
 
   -- no byte is at once so far below the thread pointer in two blocks
-  NoneIn : (a b x y : ℕ) → Type 0
+  abbrev NoneIn : (a b x y : ℕ) → Type 0
   NoneIn a b x y = (d : ℕ) → d ≤ x → x < d + (module_at a).info.size → d ≤ y → y < d + (module_at b).info.size → ⊥
 
   one_late : (a b x y : ℕ) → (module_at a).info.late ≡ true → (module_at b).info.late ≡ false
       → (instance_for q.infos a (module_at a)).offset ≡ Some x → (instance_for q.infos b (module_at b)).offset ≡ Some y → NoneIn a b x y
-  unfolding NoneIn
   one_late a b x y late early ex ey d fx gx fy gy =
       let above = (instances_apart q.infos q.last_offset seen (legal_front q history legal seen front)).above a x (offset_late a x late ex) in
       let low = end_most q.infos b 0 in
@@ -133,7 +131,6 @@ module _ (q : Loads ℕ) (history : List Event) (legal : IsLegal q.infos q.last_
 
   none_in : (a b x y : ℕ) → (a ≡ b → ⊥) → IsImage q.infos a (module_at a) → IsImage q.infos b (module_at b)
       → (instance_for q.infos a (module_at a)).offset ≡ Some x → (instance_for q.infos b (module_at b)).offset ≡ Some y → NoneIn a b x y
-  unfolding NoneIn
   none_in a b x y ne ia ib ex ey d fx gx fy gy = elim (cases_Bool (module_at a).info.late) [
     | inl la ↦ elim (cases_Bool (module_at b).info.late) [
       | inl lb ↦ (instances_apart q.infos q.last_offset seen (legal_front q history legal seen front)).apart a b x y ne
@@ -163,13 +160,13 @@ module _ (q : Loads ℕ) (history : List Event) (legal : IsLegal q.infos q.last_
       let both = and_parts (nat_le start place) (nat_lt (place - start) long) t in
       none (leb-true start place both.0) (ltb-true (place - start) long both.1))
 
-  start_some : (thread : ℕ) (x : Instance) (o : ℕ) → x.offset ≡ Some o → block_start thread x ≡ pointer_of thread - o
+  pub start_some : (thread : ℕ) (x : Instance) (o : ℕ) → x.offset ≡ Some o → block_start thread x ≡ pointer_of thread - o
   start_some thread x o e = rw e refl
 
   start_none : (thread : ℕ) (x : Instance) → x.offset ≡ None → block_start thread x ≡ thread * 2 ^ 40 + x.number * 2 ^ 24
   start_none thread x e = rw e refl
 
-  offset_of : (x : Instance) (live : IsLive x) (o : ℕ) → x.offset ≡ Some o → (o < 2 ^ 28) × ((module_at live.a).info.size ≤ o)
+  pub offset_of : (x : Instance) (live : IsLive x) (o : ℕ) → x.offset ≡ Some o → (o < 2 ^ 28) × ((module_at live.a).info.size ≤ o)
   offset_of x live o e = let off = live.offset in rw e at off
 
   -- a block of another instance does not have a place of one at a fixed distance

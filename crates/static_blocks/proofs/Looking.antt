@@ -1,17 +1,13 @@
 -- After a look, or where a block is reached or data are loaded, a thread holds what it held of the live instances.
-use Rattle.std.proofs.Common.{◌≡◌, ◌⊎◌, ◌∙◌, ◌++◌, ◌==◌, ◌<◌, ℕ, zero, suc, Bool, true, false, List, [], ◌∷◌, length, Option, Some, None, refl, sym, ap, subst, inl, inr, arith, append_assoc}
-use Rattle.std.specs.Prelude.{All, if◌then◌else◌, is_some, option_map, unwrap_or}
-use Rattle.std.specs.List.{find, flat_map}
+use Rattle.std.proofs.Common.{◌≡◌, ◌∙◌, ◌++◌, ℕ, suc, Bool, true, false, List, [], ◌∷◌, length, Option, Some, None, refl, sym, ap, subst, inl, inr, arith, append_assoc}
+use Rattle.std.specs.Prelude.{All}
+use Rattle.std.specs.List.{flat_map}
 use Rattle.std.specs.Option.{option_or}
 use Rattle.guest_machine.specs.Ranges.{Range}
 use Rattle.loaded_modules.specs.declared.instance.Instance.{Instance}
-use Rattle.module_table.specs.declared.events.Event.{Event}
-use Rattle.thread_blocks.specs.Held.{Block, Owned, Owner, block_after, block_bytes, block_with, data_after, data_with, fresh_if, held_of, is_block_of, looked, looked_at, owned, owned_by, owners_of, ranges_in}
-use Rattle.thread_blocks.specs.Instances.{Loads, instances, numbered_instance}
-use Rattle.thread_blocks.specs.RunTime.{Runs}
-use Rattle.static_blocks.specs.Blocks.{block_owned}
-use Rattle.static_blocks.specs.Laws.{LooksFillBlocks}
-use Rattle.static_blocks.proofs.Shapes.{AreData, HasRange, IsBlock, IsOf, Member, Shape, bytes_of_shape, first_of_number, found_shape, later_of_number, of_member, owned_again}
+use Rattle.thread_blocks.specs.Held.{Owned, Owner, block_bytes, block_with, data_after, data_with, fresh_if, held_of, owned, owners_of, ranges_in}
+use Rattle.thread_blocks.specs.Instances.{Loads}
+use Rattle.static_blocks.proofs.Shapes.{AreData, Shape, bytes_of_shape, of_member}
 
 module _ (l : Loads ℕ) (thread : ℕ) where
   AllData : List (Owned ℕ) → Type 0
@@ -91,12 +87,12 @@ module _ (l : Loads ℕ) (thread : ℕ) where
   good_of wanted known ys os rs shape before y now none =
       kept_good y (block_bytes y.number (owned os rs)) (wanted y)
       (λ bytes e.
-          let is = bytes_of_shape l thread y.number bytes ys os rs shape e in
-          let there : known is.y.number ≡ Some is.y =
-          of_member (λ (z : Instance). known z.number ≡ Some z) is.y ys is.member before in
-          let both : Some is.y ≡ Some y = sym there ∙ (ap known is.number ∙ now) in
-          let same : is.y ≡ y = cc in
-          is.size ∙ ap (λ (z : Instance). length (l.block z)) same)
+      let is = bytes_of_shape l thread y.number bytes ys os rs shape e in
+      let there : known is.y.number ≡ Some is.y =
+      of_member (λ (z : Instance). known z.number ≡ Some z) is.y ys is.member before in
+      let both : Some is.y ≡ Some y = sym there ∙ (ap known is.number ∙ now) in
+      let same : is.y ≡ y = cc in
+      is.size ∙ ap (λ (z : Instance). length (l.block z)) same)
       none
 
   -- the instances of which blocks are held, and those that are live now, are the ones of their numbers

@@ -1,29 +1,25 @@
 -- After any turns at points of a legal history a thread has its own block of each live instance at a fixed distance.
-use Rattle.std.proofs.Common.{◌≡◌, ◌∙◌, ◌+◌, ◌-◌, ◌*◌, ◌++◌, ◌==◌, ◌&&◌, ◌<◌, ◌≤◌, ◌^◌, ℕ, suc, Bool, true, false, List, [], ◌∷◌, length, get_or, Option, Some, None, Result, Ok, Err, refl, sym, ap, subst, arith}
-use Rattle.std.specs.Prelude.{All, if◌then◌else◌, nat_le, nat_lt, ok_or, option_map, slice_get, slice_set, unwrap_or}
-use Rattle.std.specs.List.{find, flat_map}
-use Rattle.std.specs.Option.{option_or}
-use Rattle.std.proofs.lemmas.Bool.{and_parts, cases_Bool, false_from_ne_true, le-leb, leb-true, lt-ltb}
+use Rattle.std.proofs.Common.{◌≡◌, ◌∙◌, ◌+◌, ◌-◌, ◌++◌, ◌<◌, ◌≤◌, ◌^◌, ℕ, true, false, List, length, get_or, Option, Some, Ok, refl, sym, ap, subst, arith}
+use Rattle.std.specs.Prelude.{All, nat_le, nat_lt, slice_get, slice_set}
+use Rattle.std.specs.List.{find}
+use Rattle.std.proofs.lemmas.Bool.{and_parts, false_from_ne_true, le-leb, leb-true, lt-ltb}
 use Rattle.std.proofs.lemmas.Option.{slice_get-get_or}
-use Rattle.guest_machine.specs.Access.{Refused, Refusal}
-use Rattle.guest_machine.specs.Ranges.{Range, byte_in, grants, holds, with_byte}
-use Rattle.guest_operands.specs.declared.space.Access.TheVariants.{Read, Write}
-use Rattle.image_file.specs.Spelled.{Spelled}
+use Rattle.guest_machine.specs.Ranges.{Range, byte_in, holds, with_byte}
+use Rattle.guest_operands.specs.declared.space.Access.TheVariants.{Read}
 use Rattle.loaded_modules.specs.declared.instance.Instance.{Instance}
 use Rattle.loaded_modules.specs.Images.{JobImages, infos, last_offset}
-use Rattle.loaded_modules.specs.Loader.{fresh_block}
 use Rattle.module_table.specs.declared.modules.ImageInfo.{ImageInfo}
 use Rattle.module_table.specs.declared.events.Event.{Event}
 use Rattle.module_table.specs.History.{IsLegal}
 use Rattle.module_table.specs.Laws.{startup_end}
 use Rattle.module_table.specs.Modules.{AreInfos, no_module}
 use Rattle.module_table.specs.Past.{is_legal, module_of, past, start}
-use Rattle.thread_blocks.specs.Held.{Owned, Owner, block_bytes, is_block_of, owned, owned_by}
+use Rattle.thread_blocks.specs.Held.{Owned, Owner, is_block_of, owned}
 use Rattle.thread_blocks.specs.Instances.{Loads, block_range, block_start, instances, numbered_instance}
 use Rattle.thread_blocks.specs.JobLoads.{job_loads}
-use Rattle.thread_blocks.specs.MachineTurns.{pointer_of, stack_start}
+use Rattle.thread_blocks.specs.MachineTurns.{stack_start}
 use Rattle.thread_blocks.specs.RunTime.{Runs, thread_accesses}
-use Rattle.thread_blocks.specs.Spaces.{Space, put_byte, space_accesses, stack_range}
+use Rattle.thread_blocks.specs.Spaces.{Space, space_accesses, stack_range}
 use Rattle.thread_blocks.specs.TurnsAlike.{IsFront}
 use Rattle.static_blocks.specs.Blocks.{HasBlock, block_owned}
 use Rattle.static_blocks.specs.Known.{known_in}
@@ -32,7 +28,7 @@ use Rattle.static_blocks.proofs.Keeping.{Fits, ready_fits, turns_fit}
 use Rattle.static_blocks.proofs.Live.{IsLive, all_live, apart_at, offset_of, start_some}
 use Rattle.static_blocks.proofs.Offsets.{end_low}
 use Rattle.static_blocks.proofs.Placed.{all_found}
-use Rattle.static_blocks.proofs.Places.{IsReached, Outside, reached_shape}
+use Rattle.static_blocks.proofs.Places.{IsReached, reached_shape}
 use Rattle.static_blocks.proofs.Shapes.{HasRange, found_shape}
 use Rattle.static_blocks.proofs.Sizes.{end_whole, fresh_long}
 
@@ -45,13 +41,6 @@ module _ (l : Loads ℕ) (thread : ℕ) where
       let both = and_parts (nat_le (stack_start thread) place) (nat_lt (place - stack_start thread) (length stack)) t in
       let le = leb-true (stack_start thread) place both.0 in
       absurd (omega (arith, le, low)))
-
-  byte_past : (stack : Range ℕ) (own : List (Range ℕ)) (place byte : ℕ) (o : Option ℕ) → holds stack place ≡ false
-      → byte_in Read own place ≡ Some byte → byte_in Read (stack ∷ own) place ≡ Some byte
-  byte_past stack own place byte o apart e = elim (cases_Bool stack.readable) [
-    | inl t ↦ rw (t, apart) e
-    | inr f ↦ rw f e
-  ]
 
   read_past : (m : Space Event ℕ) (place byte : ℕ) → place < stack_start thread
       → ((more : List (Range ℕ)) → byte_in Read (m.own ++ more) place ≡ Some byte)

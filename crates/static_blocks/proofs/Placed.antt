@@ -29,13 +29,13 @@ get_first (x ∷ xs) image zero d e l = elim (cases_Bool x.late) [ inl t ↦ rw 
 get_first (x ∷ xs) image (suc k) d e l = get_first xs (image + 1) k d e (omega arith)
 
 -- the image of a loaded module, and what is known of it
-record IsImage (infos : List ImageInfo) (a : ℕ) (m : Module) : Type 0 where
+pub record IsImage (infos : List ImageInfo) (a : ℕ) (m : Module) : Type 0 where
   pub index : ℕ
   pub image : a ≡ suc index
   pub within : index < length infos
   pub info : m.info ≡ get_or infos index no_module.info
 
-is_image : (infos : List ImageInfo) (last : ℕ) (events : List Event) (a : ℕ) → IsLegal infos last events → is_loaded (module_of (past infos last events) a) ≡ true
+pub is_image : (infos : List ImageInfo) (last : ℕ) (events : List Event) (a : ℕ) → IsLegal infos last events → is_loaded (module_of (past infos last events) a) ≡ true
     → IsImage infos a (module_of (past infos last events) a)
 unfolding start
 is_image infos last events zero legal t =
@@ -68,10 +68,10 @@ module _ (q : Loads ℕ) (history : List Event) (legal : IsLegal q.infos q.last_
       (λ (o : ℕ). (o < 2 ^ 28) × ((module_of (past q.infos q.last_offset seen) a).info.size ≤ o))
       (λ late o e. (omega (arith, apart.below a o e, low), omega (arith, apart.above a o e)))
       (λ early.
-          let first : (get_or q.infos is.index no_module.info).late ≡ false = subst (λ (i : ImageInfo). i.late ≡ false) is.info early in
-          let holds = end_holds q.infos is.index 0 no_module.info is.within first in
-          let there : (get_or q.infos is.index no_module.info).size ≤ startup_end (take a q.infos) 0 = subst (λ (i : ℕ). (get_or q.infos is.index no_module.info).size ≤ startup_end (take i q.infos) 0) (sym is.image) (omega (arith, holds)) in
-          (omega (arith, bound, few), subst (λ (i : ImageInfo). i.size ≤ startup_end (take a q.infos) 0) (sym is.info) there))
+      let first : (get_or q.infos is.index no_module.info).late ≡ false = subst (λ (i : ImageInfo). i.late ≡ false) is.info early in
+      let holds = end_holds q.infos is.index 0 no_module.info is.within first in
+      let there : (get_or q.infos is.index no_module.info).size ≤ startup_end (take a q.infos) 0 = subst (λ (i : ℕ). (get_or q.infos is.index no_module.info).size ≤ startup_end (take i q.infos) 0) (sym is.image) (omega (arith, holds)) in
+      (omega (arith, bound, few), subst (λ (i : ImageInfo). i.size ≤ startup_end (take a q.infos) 0) (sym is.info) there))
 
   pub placed_in : (seen : List Event) (n : ℕ) (x : Instance) → IsFront seen history → numbered_instance q seen n ≡ Some x → IsPlacedIn q.infos x
   placed_in seen n x front e =

@@ -1,14 +1,13 @@
 -- What a thread holds of live instances: a block of each, in their order, where it has one, and behind them data.
-use Rattle.std.proofs.Common.{◌≡◌, ◌⊎◌, ◌∙◌, ◌++◌, ◌==◌, ◌<◌, ℕ, zero, suc, Bool, true, false, List, [], ◌∷◌, length, Option, Some, None, refl, sym, ap, subst, inl, inr, arith}
-use Rattle.std.specs.Prelude.{All, if◌then◌else◌, is_some, option_map, slice_set}
-use Rattle.std.specs.List.{find, flat_map}
-use Rattle.std.specs.Option.{option_or}
+use Rattle.std.proofs.Common.{◌≡◌, ◌⊎◌, ◌∙◌, ◌==◌, ℕ, suc, Bool, true, false, List, [], ◌∷◌, length, Option, Some, None, refl, sym, ap, subst, inl, inr, arith}
+use Rattle.std.specs.Prelude.{All, if◌then◌else◌, option_map, slice_set}
+use Rattle.std.specs.List.{find}
 use Rattle.std.proofs.lemmas.Bool.{cases_Bool, eqb-true}
 use Rattle.std.proofs.lemmas.List.{length-set}
 use Rattle.guest_machine.specs.Ranges.{Range, grants, with_byte}
 use Rattle.guest_operands.specs.declared.space.Access.TheVariants.{Write}
 use Rattle.loaded_modules.specs.declared.instance.Instance.{Instance}
-use Rattle.thread_blocks.specs.Held.{Block, Data, Owned, Owner, block_after, block_bytes, block_with, data_after, data_with, fresh_if, held_of, is_block, is_block_of, owned, owners_of, ranges_in}
+use Rattle.thread_blocks.specs.Held.{Block, Owned, Owner, block_bytes, is_block, is_block_of, owned, owners_of, ranges_in}
 use Rattle.thread_blocks.specs.Instances.{Loads, block_range}
 use Rattle.static_blocks.specs.Blocks.{block_owned}
 

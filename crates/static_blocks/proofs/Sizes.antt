@@ -1,6 +1,6 @@
 -- How long blocks are, and how far below the thread pointer those of startup images begin.
-use Rattle.std.proofs.Common.{◌≡◌, ◌∙◌, ◌+◌, ◌-◌, ◌++◌, ◌<◌, ◌≤◌, ℕ, zero, suc, Bool, true, false, List, [], ◌∷◌, length, get_or, replicate, take, drop, Option, Some, None, refl, sym, ap, subst, inl, inr, arith, length-append}
-use Rattle.std.specs.Prelude.{All, IfSome, slice_get, slice_range, if◌then◌else◌}
+use Rattle.std.proofs.Common.{◌≡◌, ◌∙◌, ◌+◌, ◌-◌, ◌<◌, ◌≤◌, ℕ, zero, suc, false, List, [], ◌∷◌, length, get_or, replicate, take, drop, Option, Some, None, refl, ap, inl, inr, arith, length-append}
+use Rattle.std.specs.Prelude.{All, IfSome, slice_get}
 use Rattle.std.specs.Int.{next_multiple_of}
 use Rattle.std.specs.List.{find}
 use Rattle.std.proofs.lemmas.Bool.{cases_Bool}
@@ -34,7 +34,7 @@ initial_low m image x tls (Some part) =
 filled_long : (size : ℕ) (initial : List ℕ) → length initial ≤ size → length (filled size initial) ≡ size
 filled_long size initial low =
     let whole = length-append initial (replicate (size - length initial) 0) in
-    let rest = length-replicate (size - length initial) 0 in
+    let rest = length-replicate {A = ℕ} (size - length initial) 0 in
     omega (arith, whole, rest, low)
 
 block_long : (m : JobImages) (image : Spelled) (x : Instance) (tls : Option TlsPart)

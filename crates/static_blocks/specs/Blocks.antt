@@ -2,11 +2,9 @@
 use Rattle.std.specs.Prelude.{◌≡◌, ◌+◌, ◌<◌, ℕ, List, length, get_or, slice_set, Some, Ok}
 use Rattle.std.specs.List.{find}
 use Rattle.loaded_modules.specs.declared.instance.Instance.{Instance}
-use Rattle.module_table.specs.declared.events.Event.{Event}
 use Rattle.thread_blocks.specs.Held.{Block, Owned, is_block_of, owned, owned_by}
 use Rattle.thread_blocks.specs.Instances.{Loads, block_range, block_start}
 use Rattle.thread_blocks.specs.RunTime.{Runs, thread_accesses}
-use Rattle.thread_blocks.specs.Spaces.{Space}
 
 -- the range that a thread's memory has for its block of an instance, with these bytes
 abbrev pub block_owned : ℕ → Instance → List ℕ → Owned ℕ

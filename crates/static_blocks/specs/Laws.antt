@@ -1,5 +1,5 @@
 -- Static accesses reach the thread's own block.
-use Rattle.std.specs.Prelude.{◌≡◌, ◌≤◌, ◌-◌, ◌++◌, ℕ, true, List, length, replicate, Option, Some, None, All, IfSome, unwrap_or}
+use Rattle.std.specs.Prelude.{◌≡◌, ◌≤◌, ◌-◌, ◌++◌, ℕ, true, List, length, replicate, Some, All, IfSome, unwrap_or}
 use Rattle.std.specs.List.{find}
 use Rattle.image_file.specs.declared.part.TlsPart.{TlsPart}
 use Rattle.image_file.specs.Spelled.{Spelled}
@@ -8,7 +8,7 @@ use Rattle.lawful_points.specs.Laws.{AtHistory}
 use Rattle.lawful_points.specs.Raced.{first_of}
 use Rattle.loaded_modules.specs.declared.instance.Instance.{Instance}
 use Rattle.loaded_modules.specs.Images.{JobImages, image_at, infos}
-use Rattle.loaded_modules.specs.Loader.{fresh_block, holds, initial_bytes}
+use Rattle.loaded_modules.specs.Loader.{holds, initial_bytes}
 use Rattle.module_table.specs.declared.events.Event.{Event}
 use Rattle.module_table.specs.Modules.{AreInfos}
 use Rattle.module_table.specs.Past.{is_legal, start}
