@@ -1,0 +1,4 @@
+pub mod Alike
+pub mod Worlds
+pub mod Points
+pub mod Laws
