@@ -1,4 +1,5 @@
 pub mod Celled
+pub mod DataRanges
 pub mod Grown
 pub mod Marking
 pub mod Numbered

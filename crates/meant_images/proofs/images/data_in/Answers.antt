@@ -1,6 +1,6 @@
 use Rattle.std.proofs.Common.{◌∙◌, length, sym, arith}
 use Rattle.std.proofs.lemmas.Bool.{eqb-false, eqb-true}
-use Rattle.class_bytes.proofs.Ranging.{no_data, some_data}
+use Rattle.meant_images.proofs.DataRanges.{no_data, some_data}
 use Rattle.meant_images.proofs.images.data_in.Goals as goal
 
 pub returns-then-is_empty : goal.returns-then-is_empty
