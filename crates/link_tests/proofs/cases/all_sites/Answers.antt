@@ -29,3 +29,6 @@ loop-object-preserved c =
           (subst (λ b. Nowhere Sequence b × Nowhere StrayCall b) (sym here)
           (c.in_ok-own.ensures.no_loose, c.in_ok-own.ensures.no_stray)),
     )
+
+pub returns-clause-stray : goal.returns-clause-stray
+returns-clause-stray c = λ o below. c.loop-object.invariant.2 o (omega (arith, below, c.loop-object-test.false))
