@@ -21,10 +21,11 @@ with_long seen (Some e) = length-append seen (e ∷ [])
 
 rise_of : (looks : List Look) (old : List Event) → Follows old looks → Rise (length old) (points_of looks)
 rise_of [] old follows = tt
-rise_of (look ∷ more) old follows =
-    (front_long old look.seen follows.0,
-    subst (λ (least : ℕ). Rise least (points_of more)) (with_long look.seen look.added)
-    (rise_of more (with_event look.seen look.added) follows.1))
+rise_of (look ∷ more) old follows = (
+  front_long old look.seen follows.0,
+  subst (λ (least : ℕ). Rise least (points_of more)) (with_long look.seen look.added)
+      (rise_of more (with_event look.seen look.added) follows.1),
+)
 
 within_of : (looks : List Look) (history : List Event) → AllFronts (seen_by looks) history
     → AreWithin (length history) (points_of looks)
