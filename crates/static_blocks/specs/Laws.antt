@@ -33,8 +33,8 @@ FreshBlocksAreFilled = (m : JobImages) (x : Instance) (image : Spelled) (tls : T
     → let initial = initial_bytes m image x tls (find (holds tls) image.parts) in
     (job_loads m).block x ≡ initial ++ replicate (tls.size - length initial) 0
 
--- a look leaves a thread the block that it had of a live instance at a fixed distance from the thread pointer, and where
--- it had none a fresh one
+-- a look leaves a thread the block that it had of a live instance at a fixed distance from the thread pointer, and
+-- where it had none a fresh one
 abbrev pub LooksFillBlocks : Type 0
 LooksFillBlocks = (l : Loads ℕ) (thread : ℕ) (seen : List Event) (h : Runs) (x : Instance) (offset : ℕ)
     → numbered_instance l seen x.number ≡ Some x → x.offset ≡ Some offset
