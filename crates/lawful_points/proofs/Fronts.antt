@@ -63,11 +63,13 @@ own_there i before (e ∷ es) =
     let shift : (before ++ e ∷ []) ++ es ≡ before ++ e ∷ es = append_assoc before (e ∷ []) es in
     let rest : AreThere (before ++ e ∷ es) (own_from i (length before + 1) es) =
     subst (λ (n : ℕ). AreThere (before ++ e ∷ es) (own_from i n es)) (length-append before (e ∷ []))
-    (subst (λ (h : List Event). AreThere h (own_from i (length (before ++ e ∷ [])) es)) shift (own_there i (before ++ e ∷ []) es)) in
+    (subst (λ (h : List Event). AreThere h (own_from i (length (before ++ e ∷ [])) es)) shift (own_there i
+    (before ++ e ∷ []) es)) in
     there_if (e.thread == i) (before ++ e ∷ es) (record { at = length before; event = e }) (own_from i (length before + 1) es)
     (before, (refl, (es, sym shift))) rest
 
-there_first : (history : List Event) (xs ys : List Placed) → AreThere history (xs ++ ys) → AreThere history xs × AreThere history ys
+there_first : (history : List Event) (xs ys : List Placed) → AreThere history (xs ++ ys)
+    → AreThere history xs × AreThere history ys
 there_first history [] ys are = (tt, are)
 there_first history (x ∷ xs) ys are = let more = there_first history xs ys are.1 in ((are.0, more.0), more.1)
 

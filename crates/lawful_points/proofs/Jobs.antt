@@ -1,5 +1,5 @@
 -- The points of every job's threads are lawful.
-use Rattle.std.proofs.Common.{◌≡◌, ◌∙◌, ◌+◌, ◌*◌, ℕ, zero, suc, Bool, true, false, List, [], ◌∷◌, map, Option, Some, None, refl, sym, ap, subst, arith}
+use Rattle.std.proofs.Common.{◌≡◌, ◌∙◌, ◌*◌, ℕ, zero, suc, Bool, true, false, List, [], map, Option, Some, None, refl, sym, ap, subst, arith}
 use Rattle.std.specs.Prelude.{option_map, slice_get}
 use Rattle.std.proofs.lemmas.Option.{same_Some, slice_get-map}
 use Rattle.job_text.specs.declared.thread_lines.Action.{Action}
@@ -74,7 +74,8 @@ module _ (l : Loads ℕ) (fuel : ℕ) where
           ready (thread_ready l (suc i)) (numbered_lines 1 own),
           (
             thread_at l 1 lines i (suc i) own (omega arith) at,
-            first_told (suc i) (thread_turns l (suc i) fuel) (event_by l (suc i)) (λ line seen h. turns_tell (suc i) line seen h)
+            first_told (suc i) (thread_turns l (suc i) fuel) (event_by l (suc i)) (λ line seen h. turns_tell
+                (suc i) line seen h)
                 (numbered_lines 1 own) (thread_ready l (suc i)),
           ),
         )

@@ -61,7 +61,8 @@ module _ {W F B : Type 0} (x : ℕ → Turns (Held W F B) Line Event) (event : �
       → TellsOf i own (turned x event w i t) (told ++ points_of (look_if (not over) (look_at (event i) t w.events)))
   turned_told i own w t told true at over =
       let f = λ (h : Held W F B). with_owned h (owned_by h ++ w.shared) in
-      let done : IsFinished t.todo (lent w t).phase = is_finished t.todo (lent w t).phase (over_changed f t.todo t.phase ∙ over) in
+      let done : IsFinished t.todo (lent w t).phase = is_finished t.todo (lent w t).phase (over_changed f t.todo t.phase
+      ∙ over) in
       let same : turn (x i) (lent w t) w.events ≡ lent w t = turn-finished (x i) (lent w t) w.events done in
       let before = changed_told f i own t.todo t.phase t.said told at in
       let now : TellsOf i own (turn (x i) (lent w t) w.events) told =
@@ -100,7 +101,8 @@ module _ {W F B : Type 0} (x : ℕ → Turns (Held W F B) Line Event) (event : �
         (
           get-set_same w.threads i u new at,
           subst (λ (b : Bool). TellsOf (suc i) own new
-              (told ++ points_of (look_if (b && not (is_over u.todo u.phase)) (look_at (event (suc i)) u w.events)))) (sym is) tells,
+              (told ++ points_of (look_if (b && not (is_over u.todo u.phase)) (look_at (event (suc i)) u w.events))))
+              (sym is) tells,
         ),
       )
 
@@ -155,5 +157,9 @@ module _ {W F B : Type 0} (x : ℕ → Turns (Held W F B) Line Event) (event : �
       let rest = looks_in x event (suc i) order next in
       subst (λ (ps : List Point). HasAt i own (shared_order x event order next) ps)
       (append_assoc told (points_of here) (points_of rest)
-      ∙ ap (λ (ps : List Point). told ++ ps) (sym (map-append (λ (look : Look). record { number = length look.seen; added = look.added }) here rest)))
+      ∙ ap (λ (ps : List Point). told ++ ps) (sym (map-append (λ (look : Look). record {
+        number = length look.seen;
+        added =
+            look.added;
+      }) here rest)))
       (order_told i own order next (told ++ points_of here) (step i j own w o told refl h))

@@ -1,8 +1,8 @@
 -- Where no image has data that threads write, what a job's transcript says is raced.
 use Rattle.std.proofs.Common.{◌≡◌, ◌∙◌, ◌*◌, ℕ, zero, suc, Bool, List, [], ◌∷◌, map, length, Option, Some, None, refl, sym, ap, subst, length-set}
-use Rattle.std.specs.Prelude.{slice_get, option_map}
+use Rattle.std.specs.Prelude.{slice_get}
 use Rattle.std.proofs.lemmas.List.{length-map}
-use Rattle.std.proofs.lemmas.Option.{same_Some, slice_get-map}
+use Rattle.std.proofs.lemmas.Option.{same_Some}
 use Rattle.job_text.specs.declared.thread_lines.ThreadLine.{ThreadLine}
 use Rattle.module_table.specs.declared.events.Event.{Event}
 use Rattle.transcript_text.specs.declared.outcomes.Line.{Line as ShownLine}
@@ -89,7 +89,8 @@ module _ (l : Loads ℕ) (fuel : ℕ) where
     fronts : AllFronts (seen_by looks) world.events
     fronts =
         let alone = own_turns l fuel lines order (suc i) own none at in
-        subst (λ (ps : List (List Event)). AllFronts ps world.events) (sym (seen_alone (each (suc i)) (event (suc i)) points first))
+        subst (λ (ps : List (List Event)). AllFronts ps world.events) (sym (seen_alone (each (suc i))
+        (event (suc i)) points first))
         (acting_fronts (each (suc i)) alone.0 first world.events alone.2)
 
     over : IsFinished last.todo last.phase

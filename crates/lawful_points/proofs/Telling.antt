@@ -134,7 +134,8 @@ module _ {S : Type 0} (thread : ℕ) (x : Turns S Line Event) (event : Line → 
   run_told own todo said seen points told at (Waits left s) = at
 
   -- a line's first look
-  begin_told : (own todo : List Line) (said : List Said) (seen : List Event) (line : Line) (told : List Point) (e : Option Event)
+  begin_told : (own todo : List Line) (said : List Said) (seen : List Event) (line : Line) (told : List Point)
+      (e : Option Event)
       → IsBetween thread own (line ∷ todo) said told → (b : Begun S) → TellsBegun thread line e b
       → Tells own (after_look x x.fuel todo said seen (length seen ∷ []) b) (told ++ one_point (length seen) e)
   begin_told own todo said seen line told e at (Says ending s) tells =

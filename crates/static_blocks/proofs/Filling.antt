@@ -38,7 +38,8 @@ module _ (l : Loads ℕ) (thread : ℕ) where
         | inl here ↦
             let same : z ≡ y = first_of_number l thread n z y ys here e in
             let own : made z ≡ Some bytes = ap made same ∙ is in
-            (ap (λ (o : Option (List ℕ)). find (λ (x : Owned ℕ). is_block_of n x.owner) (block_with thread z o ++ (more ++ rest))) own
+            (ap (λ (o : Option (List ℕ)). find (λ (x : Owned ℕ). is_block_of n x.owner) (block_with thread z o ++
+            (more ++ rest))) own
             ∙ first_of n z bytes (more ++ rest) here)
             ∙ ap (λ (w : Instance). Some (block_owned thread w bytes)) same
         | inr f ↦ first_block n z (made z) (more ++ rest) f
@@ -46,7 +47,8 @@ module _ (l : Loads ℕ) (thread : ℕ) where
       ]
     where
       first_of : (n : ℕ) (z : Instance) (bytes : List ℕ) (more : List (Owned ℕ)) → (z.number == n) ≡ true
-          → find (λ (x : Owned ℕ). is_block_of n x.owner) (block_owned thread z bytes ∷ more) ≡ Some (block_owned thread z bytes)
+          → find (λ (x : Owned ℕ). is_block_of n x.owner) (block_owned thread z bytes ∷ more) ≡ Some
+          (block_owned thread z bytes)
       first_of n z bytes more t = rw t refl
 
 kept_or_fresh : (o : Option (List ℕ)) (b : Bool) (fresh : List ℕ) → b ≡ true
@@ -68,4 +70,5 @@ looks_fill l thread seen h x offset numbered at =
     let bytes = unwrap_or (block_bytes x.number xs) (l.block x) in
     let found = made_found l thread x.number x made bytes (flat_map (data_after l (λ y. false) xs) live) live numbered
     (eq-eqb x.number x.number refl) (kept_or_fresh (block_bytes x.number xs) (is_some x.offset) (l.block x) fixed) in
-    ap (block_bytes x.number) (owned_again all) ∙ ap (λ (o : Option (Owned ℕ)). option_map (λ (w : Owned ℕ). w.range.bytes) o) found
+    ap (block_bytes x.number) (owned_again all) ∙ ap (λ (o : Option (Owned ℕ)). option_map
+    (λ (w : Owned ℕ). w.range.bytes) o) found

@@ -93,7 +93,8 @@ module _ (l : Loads ℕ) (thread : ℕ) (history : List Event) (known : ℕ → 
       → block_bytes y.number (owned_by h) ≡ None → (o : Option ℕ) → y.offset ≡ o → o ≡ None
   no_block h y fits numbered none None e = refl
   no_block h y fits numbered none (Some offset) e =
-      let there = found_shape l thread y.number y offset (instances l h.after.memory.seen) h.owners h.after.memory.own fits.1 numbered e in
+      let there = found_shape l thread y.number y offset
+      (instances l h.after.memory.seen) h.owners h.after.memory.own fits.1 numbered e in
       let some : block_bytes y.number (owned_by h) ≡ Some there.bytes =
       ap (λ (o : Option (Owned ℕ)). option_map (λ (x : Owned ℕ). x.range.bytes) o) there.found in
       absurd (let both : None ≡ Some there.bytes = sym none ∙ some in cc)
@@ -202,7 +203,8 @@ module _ (l : Loads ℕ) (thread : ℕ) (history : List Event) (known : ℕ → 
       → BegunFits (begin_line plain_operations l (shows l thread) thread line seen h)
   unfolding begin_line
   begin_fits line seen h front own fits =
-      by_fits line.number line.told.image line.told.action seen (looked l thread seen h) own (look_fits seen h front (had h fits))
+      by_fits line.number line.told.image line.told.action seen (looked l thread seen h) own (look_fits seen h front
+      (had h fits))
 
   -- ** a look in the middle of a line
 
@@ -211,7 +213,8 @@ module _ (l : Loads ℕ) (thread : ℕ) (history : List Event) (known : ℕ → 
   resumed_in_fits asked h (Some x) fits =
       resumed_holds l thread Keeps put_keeps asked x (reached l thread x h) (reach_fits x h fits)
 
-  resumed_by_fits : (seen : List Event) (h : Runs) (asked : Option Asked) → Fits h → BegunFits (resumed_by l thread seen h asked)
+  resumed_by_fits : (seen : List Event) (h : Runs) (asked : Option Asked) → Fits h → BegunFits
+      (resumed_by l thread seen h asked)
   resumed_by_fits seen h None fits = fits
   resumed_by_fits seen h (Some asked) fits =
       either_says (is_none (numbered_instance l seen asked.asking)) (Says (Answered (Fault Unloaded)) h)
@@ -249,7 +252,13 @@ module _ (l : Loads ℕ) (thread : ℕ) (history : List Event) (known : ℕ → 
     look_turn steps todo said seen points (Calls h) fits = run_fits todo said seen points steps h fits
 
     turn_at_fits : (todo : List Line) (phase : Phase Runs) (said : List Said) (old seen : List Event) → IsFront seen history
-        → IsFront (with_event seen (event_of (event_by l thread) (record { todo = todo; phase = phase; said = said; seen = old }) seen)) history
+        → IsFront (with_event seen (event_of (event_by l thread) (record {
+          todo = todo;
+          phase = phase;
+          said = said;
+          seen =
+              old;
+        }) seen)) history
         → Fits (held_in phase) → FitsIn (turn_at x todo phase said old seen)
     unfolding thread_turns
     turn_at_fits [] (Idle h) said old seen front own fits = fits
@@ -258,7 +267,8 @@ module _ (l : Loads ℕ) (thread : ℕ) (history : List Event) (known : ℕ → 
     turn_at_fits [] (Mid steps points h) said old seen front own fits =
         look_turn (steps - 1) [] said seen (with_last points (length seen)) (x.resume seen h) (resume_fits seen h front fits)
     turn_at_fits (line ∷ todo) (Mid steps points h) said old seen front own fits =
-        look_turn (steps - 1) (line ∷ todo) said seen (with_last points (length seen)) (x.resume seen h) (resume_fits seen h front fits)
+        look_turn (steps - 1) (line ∷ todo) said seen (with_last points (length seen)) (x.resume seen h)
+        (resume_fits seen h front fits)
 
     -- the law of turns
     pub turns_fit : (points : List (List Event)) (t : Thread Runs Line Event) → AtHistory x (event_by l thread) history t points

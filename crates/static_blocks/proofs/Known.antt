@@ -34,17 +34,21 @@ module _ (q : Loads ℕ) (history : List Event) (legal : IsLegal q.infos q.last_
   legal_take : (k : ℕ) → IsLegal q.infos q.last_offset (take k history)
   legal_take k = legal_front (take k history) (drop k history, sym (take-append-drop k history))
 
-  same_fronts : (j k n : ℕ) (x y : Instance) → j ≤ k → numbered_instance q (take j history) n ≡ Some x → numbered_instance q (take k history) n ≡ Some y → x ≡ y
+  same_fronts : (j k n : ℕ) (x y : Instance) → j ≤ k → numbered_instance q (take j history) n ≡ Some x → numbered_instance q
+      (take k history) n ≡ Some y → x ≡ y
   same_fronts j k n x y le at_j at_k =
       let more = take_more history j k le in
-      same_instance q.infos q.last_offset (take j history) more.0 n x y (subst (IsLegal q.infos q.last_offset) more.1 (legal_take k)) at_j
+      same_instance q.infos q.last_offset (take j history) more.0 n x y (subst (IsLegal q.infos q.last_offset) more.1
+      (legal_take k)) at_j
       (subst (λ (events : List Event). numbered_instance q events n ≡ Some y) more.1 at_k)
 
   known_step : (j k more n : ℕ) (x : Instance) → numbered_instance q (take j history) n ≡ Some x → k ≤ j
       → (k + 1 ≤ j → known_from q history n (k + 1) more ≡ Some x)
-      → (o : Option Instance) → numbered_instance q (take k history) n ≡ o → option_or o (known_from q history n (k + 1) more) ≡ Some x
+      → (o : Option Instance) → numbered_instance q (take k history) n ≡ o → option_or o (known_from q history n
+      (k + 1) more) ≡ Some x
   known_step j k more n x at low rest None e = elim (cases_eq k j) [
-    | inl same ↦ let none : numbered_instance q (take j history) n ≡ None = subst (λ (i : ℕ). numbered_instance q (take i history) n ≡ None) same e in cc
+    | inl same ↦ let none : numbered_instance q (take j history) n ≡ None = subst (λ (i : ℕ). numbered_instance q
+        (take i history) n ≡ None) same e in cc
     | inr ne ↦ rest (omega arith)
   ]
   known_step j k more n x at low rest (Some y) e = ap (λ (z : Instance). Some z) (same_fronts k j n y x low e at)
@@ -55,14 +59,18 @@ module _ (q : Loads ℕ) (history : List Event) (legal : IsLegal q.infos q.last_
       let same : j ≡ k = omega arith in
       subst (λ (i : ℕ). numbered_instance q (take i history) n ≡ Some x) same at
   known_after j n x at k (suc more) low high =
-      known_step j k more n x at low (λ l. known_after j n x at (k + 1) more l (omega arith)) (numbered_instance q (take k history) n) refl
+      known_step j k more n x at low (λ l. known_after j n x at (k + 1) more l (omega arith)) (numbered_instance q
+      (take k history) n) refl
 
-  pub known_is : (seen : List Event) (n : ℕ) (x : Instance) → IsFront seen history → numbered_instance q seen n ≡ Some x → known_in q history n ≡ Some x
+  pub known_is : (seen : List Event) (n : ℕ) (x : Instance) → IsFront seen history → numbered_instance q seen n ≡ Some x
+      → known_in q history n ≡ Some x
   unfolding known_in
   known_is seen n x front at =
       let is : take (length seen) history ≡ seen = ap (take (length seen)) front.1 ∙ take-append_seam seen front.0 in
-      let long : length history ≡ length seen + length front.0 = ap (λ (events : List Event). length events) front.1 ∙ length-append seen front.0 in
-      known_after (length seen) n x (subst (λ (events : List Event). numbered_instance q events n ≡ Some x) (sym is) at) 0 (length history) (omega arith) (omega arith)
+      let long : length history ≡ length seen + length front.0 = ap (λ (events : List Event). length events) front.1
+      ∙ length-append seen front.0 in
+      known_after (length seen) n x (subst (λ (events : List Event). numbered_instance q events n ≡ Some x) (sym is) at) 0
+      (length history) (omega arith) (omega arith)
 
   -- ** and what is known is live somewhere
 
@@ -75,13 +83,15 @@ module _ (q : Loads ℕ) (history : List Event) (legal : IsLegal q.infos q.last_
   live_take k n x e = record { seen = take k history; front = (drop k history, sym (take-append-drop k history)); live = e }
 
   live_step : (k more n : ℕ) (x : Instance) → (known_from q history n (k + 1) more ≡ Some x → IsLiveAt n x)
-      → (o : Option Instance) → numbered_instance q (take k history) n ≡ o → option_or o (known_from q history n (k + 1) more) ≡ Some x → IsLiveAt n x
+      → (o : Option Instance) → numbered_instance q (take k history) n ≡ o → option_or o (known_from q history n
+      (k + 1) more) ≡ Some x → IsLiveAt n x
   live_step k more n x rest None e f = rest f
   live_step k more n x rest (Some y) e f = live_take k n x (e ∙ f)
 
   live_from : (n : ℕ) (x : Instance) (k more : ℕ) → known_from q history n k more ≡ Some x → IsLiveAt n x
   live_from n x k zero e = live_take k n x e
-  live_from n x k (suc more) e = live_step k more n x (live_from n x (k + 1) more) (numbered_instance q (take k history) n) refl e
+  live_from n x k (suc more) e = live_step k more n x (live_from n x (k + 1) more) (numbered_instance q
+      (take k history) n) refl e
 
   pub known_live : (n : ℕ) (x : Instance) → known_in q history n ≡ Some x → IsLiveAt n x
   unfolding known_in
@@ -90,22 +100,26 @@ module _ (q : Loads ℕ) (history : List Event) (legal : IsLegal q.infos q.last_
   -- ** each live instance
 
   pub numbered_at_image : (seen : List Event) (a : ℕ) (x : Instance) → IsFront seen history
-      → loaded_instance q.infos a (module_of (past q.infos q.last_offset seen) a) ≡ Some x → numbered_instance q seen x.number ≡ Some x
+      → loaded_instance q.infos a (module_of (past q.infos q.last_offset seen) a) ≡ Some x
+      → numbered_instance q seen x.number ≡ Some x
   unfolding instances_in
   numbered_at_image seen a x front e =
       let own = own_numbers q.infos q.last_offset seen (legal_front seen front) in
       let here = loaded_as q.infos a (module_of (past q.infos q.last_offset seen) a) x e in
-      found_is q.infos (past q.infos q.last_offset seen).modules (λ (y : Instance). y.number == x.number) a x e (eq-eqb x.number x.number refl)
+      found_is q.infos (past q.infos q.last_offset seen).modules (λ (y : Instance). y.number == x.number) a x e
+      (eq-eqb x.number x.number refl)
       (λ b y f t. elim (cases_eq b a) [
         | inl same ↦ same
         | inr ne ↦
             let there = loaded_as q.infos b (module_of (past q.infos q.last_offset seen) b) y f in
             absurd ((own b a ne there.loaded here.loaded).0
-            (ap (λ (z : Instance). z.number) there.is ∙ (eqb-true y.number x.number t ∙ sym (ap (λ (z : Instance). z.number) here.is))))
+            (ap (λ (z : Instance). z.number) there.is ∙ (eqb-true y.number x.number t ∙ sym
+            (ap (λ (z : Instance). z.number) here.is))))
       ])
 
   id_at_image : (seen : List Event) (a : ℕ) (x : Instance) → IsFront seen history
-      → loaded_instance q.infos a (module_of (past q.infos q.last_offset seen) a) ≡ Some x → instance_with_id q seen x.id ≡ Some x
+      → loaded_instance q.infos a (module_of (past q.infos q.last_offset seen) a) ≡ Some x
+      → instance_with_id q seen x.id ≡ Some x
   unfolding instances_in
   id_at_image seen a x front e =
       let own = own_numbers q.infos q.last_offset seen (legal_front seen front) in
@@ -120,17 +134,21 @@ module _ (q : Loads ℕ) (history : List Event) (legal : IsLegal q.infos q.last_
       ])
 
   -- `AreTied.ids`
-  pub ids : (seen : List Event) (x : Instance) → IsFront seen history → numbered_instance q seen x.number ≡ Some x → instance_with_id q seen x.id ≡ Some x
+  pub ids : (seen : List Event) (x : Instance) → IsFront seen history → numbered_instance q seen x.number ≡ Some x
+      → instance_with_id q seen x.id ≡ Some x
   ids seen x front e =
       let f = numbered_is q.infos (past q.infos q.last_offset seen) x.number x e in
-      id_at_image seen f.image x front (loaded_is q.infos f.image (module_of (past q.infos q.last_offset seen) f.image) f.loaded ∙ ap (λ (y : Instance). Some y) f.is)
+      id_at_image seen f.image x front (loaded_is q.infos f.image
+      (module_of (past q.infos q.last_offset seen) f.image) f.loaded ∙ ap (λ (y : Instance). Some y) f.is)
 
   -- the number of a live instance
-  pub number_low : (seen : List Event) (n : ℕ) (x : Instance) → IsFront seen history → numbered_instance q seen n ≡ Some x → n < 2 ^ 12
+  pub number_low : (seen : List Event) (n : ℕ) (x : Instance) → IsFront seen history → numbered_instance q seen n ≡ Some x
+      → n < 2 ^ 12
   number_low seen n x front e =
       let f = numbered_is q.infos (past q.infos q.last_offset seen) n x e in
       let is = past_legal q.infos q.last_offset seen (legal_front seen front) in
-      let low : (module_of (past q.infos q.last_offset seen) f.image).instance ≤ (past q.infos q.last_offset seen).made = (numbered_at (past q.infos q.last_offset seen) f.image is).instance f.loaded in
+      let low : (module_of (past q.infos q.last_offset seen) f.image).instance ≤ (past q.infos q.last_offset seen).made =
+      (numbered_at (past q.infos q.last_offset seen) f.image is).instance f.loaded in
       omega (arith, low, is.made, f.number)
 
   pub numbered_number : (seen : List Event) (n : ℕ) (x : Instance) → numbered_instance q seen n ≡ Some x → x.number ≡ n

@@ -66,7 +66,8 @@ module _ (q : Loads ℕ) (history : List Event) (legal : IsLegal q.infos q.last_
       let numbered = numbered_at_image q history legal seen a x front e in
       let placed = placed_in q history legal seen x.number x front numbered in
       let same : placed.index ≡ image.index =
-      (let i : suc placed.index ≡ suc image.index = sym placed.image ∙ (ap (λ (y : Instance). y.image) (sym one.is) ∙ image.image) in
+      (let i : suc placed.index ≡ suc image.index = sym placed.image ∙ (ap (λ (y : Instance). y.image) (sym one.is)
+      ∙ image.image) in
       omega (arith, i)) in
       let info : (module_at a).info ≡ get_or q.infos placed.index no_module.info =
       image.info ∙ ap (λ (i : ℕ). get_or q.infos i no_module.info) (sym same) in
@@ -112,7 +113,8 @@ module _ (q : Loads ℕ) (history : List Event) (legal : IsLegal q.infos q.last_
       let past = end_past q.infos ib.index 0 no_module.info ib.within first in
       let up : startup_end (take (suc ib.index) q.infos) 0 ≡ y =
       subst (λ (i : ℕ). startup_end (take i q.infos) 0 ≡ y) ib.image ey in
-      let size : (module_at b).info.size ≡ (get_or q.infos ib.index no_module.info).size = ap (λ (i : ImageInfo). i.size) ib.info in
+      let size : (module_at b).info.size ≡ (get_or q.infos ib.index no_module.info).size = ap
+      (λ (i : ImageInfo). i.size) ib.info in
       let image = ib.image in
       let rises = end_rises q.infos a ib.index 0 (omega (arith, less, image)) in
       omega (arith, past, up, size, rises, ex)
@@ -122,15 +124,18 @@ module _ (q : Loads ℕ) (history : List Event) (legal : IsLegal q.infos q.last_
   NoneIn a b x y = (d : ℕ) → d ≤ x → x < d + (module_at a).info.size → d ≤ y → y < d + (module_at b).info.size → ⊥
 
   one_late : (a b x y : ℕ) → (module_at a).info.late ≡ true → (module_at b).info.late ≡ false
-      → (instance_for q.infos a (module_at a)).offset ≡ Some x → (instance_for q.infos b (module_at b)).offset ≡ Some y → NoneIn a b x y
+      → (instance_for q.infos a (module_at a)).offset ≡ Some x → (instance_for q.infos b (module_at b)).offset ≡ Some y
+      → NoneIn a b x y
   one_late a b x y late early ex ey d fx gx fy gy =
-      let above = (instances_apart q.infos q.last_offset seen (legal_front q history legal seen front)).above a x (offset_late a x late ex) in
+      let above = (instances_apart q.infos q.last_offset seen (legal_front q history legal seen front)).above a x
+      (offset_late a x late ex) in
       let low = end_most q.infos b 0 in
       let at = offset_early b y early ey in
       omega (arith, above, low, at, last, fx, gx, fy)
 
   none_in : (a b x y : ℕ) → (a ≡ b → ⊥) → IsImage q.infos a (module_at a) → IsImage q.infos b (module_at b)
-      → (instance_for q.infos a (module_at a)).offset ≡ Some x → (instance_for q.infos b (module_at b)).offset ≡ Some y → NoneIn a b x y
+      → (instance_for q.infos a (module_at a)).offset ≡ Some x → (instance_for q.infos b (module_at b)).offset ≡ Some y
+      → NoneIn a b x y
   none_in a b x y ne ia ib ex ey d fx gx fy gy = elim (cases_Bool (module_at a).info.late) [
     | inl la ↦ elim (cases_Bool (module_at b).info.late) [
       | inl lb ↦ (instances_apart q.infos q.last_offset seen (legal_front q history legal seen front)).apart a b x y ne
@@ -166,7 +171,8 @@ module _ (q : Loads ℕ) (history : List Event) (legal : IsLegal q.infos q.last_
   start_none : (thread : ℕ) (x : Instance) → x.offset ≡ None → block_start thread x ≡ thread * 2 ^ 40 + x.number * 2 ^ 24
   start_none thread x e = rw e refl
 
-  pub offset_of : (x : Instance) (live : IsLive x) (o : ℕ) → x.offset ≡ Some o → (o < 2 ^ 28) × ((module_at live.a).info.size ≤ o)
+  pub offset_of : (x : Instance) (live : IsLive x) (o : ℕ) → x.offset ≡ Some o → (o < 2 ^ 28) ×
+      ((module_at live.a).info.size ≤ o)
   offset_of x live o e = let off = live.offset in rw e at off
 
   -- a block of another instance does not have a place of one at a fixed distance
@@ -198,4 +204,5 @@ module _ (q : Loads ℕ) (history : List Event) (legal : IsLegal q.infos q.last_
           none_in live.a other.a o p apart live.image other.image (ap (λ (y : Instance). y.offset) live.is ∙ at)
           (ap (λ (y : Instance). y.offset) other.is ∙ e) (o - k)
           (omega (arith, far.1, within)) (omega (arith, far.1, within))
-          (omega (arith, here, there, far.0, far.1, near.0, le, within)) (omega (arith, here, there, far.0, far.1, near.0, near.1, le, less, long, within))
+          (omega (arith, here, there, far.0, far.1, near.0, le, within))
+          (omega (arith, here, there, far.0, far.1, near.0, near.1, le, less, long, within))

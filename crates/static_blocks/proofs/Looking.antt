@@ -81,9 +81,11 @@ module _ (l : Loads ℕ) (thread : ℕ) where
   kept_good y None b size none = fresh_good y b (none refl)
   kept_good y (Some bytes) b size none = record { size = λ now e. size now e; none = λ e. absurd cc }
 
-  good_of : (wanted : Instance → Bool) (known : ℕ → Option Instance) (ys : List Instance) (os : List Owner) (rs : List (Range ℕ))
+  good_of : (wanted : Instance → Bool) (known : ℕ → Option Instance) (ys : List Instance) (os : List Owner)
+      (rs : List (Range ℕ))
       → Shape l thread ys os rs → All (λ (y : Instance). known y.number ≡ Some y) ys → (y : Instance) → known y.number ≡ Some y
-      → (block_bytes y.number (owned os rs) ≡ None → wanted y ≡ false → y.offset ≡ None) → IsGood y (kept wanted (owned os rs) y)
+      → (block_bytes y.number (owned os rs) ≡ None → wanted y ≡ false → y.offset ≡ None) → IsGood y (kept wanted
+      (owned os rs) y)
   good_of wanted known ys os rs shape before y now none =
       kept_good y (block_bytes y.number (owned os rs)) (wanted y)
       (λ bytes e.

@@ -20,7 +20,8 @@ pub record IsMade (first : List Module) (p : Past) : Type 0 where
   pub info : (a : ℕ) → (module_of p a).info ≡ (get_or first a no_module).info
   pub some : (a : ℕ) → is_loaded (module_of p a) ≡ true → 0 < (module_of p a).instance
 
-made_with_uses : (first : List Module) (p : Past) (image uses : ℕ) → IsPast (with_uses p image uses) → IsMade first p → is_loaded (module_of p image) ≡ true → IsMade first (with_uses p image uses)
+made_with_uses : (first : List Module) (p : Past) (image uses : ℕ) → IsPast (with_uses p image uses) → IsMade first p
+    → is_loaded (module_of p image) ≡ true → IsMade first (with_uses p image uses)
 made_with_uses first p image uses is m loaded =
     let l = (loaded_within p image m.is loaded).0 in
     record {
@@ -41,13 +42,15 @@ made_loaded first p image m can =
       info = λ a. elim (cases_eq a image) [
         | inl same ↦ rw (same, get_or-set_same p.modules image (new_instance p (module_of p image)) no_module l) (m.info image)
         | inr ne ↦
-            let here : module_of (loaded p image) a ≡ module_of p a = get_or-set_other p.modules image a (new_instance p (module_of p image)) no_module ne in
+            let here : module_of (loaded p image) a ≡ module_of p a = get_or-set_other p.modules image a (new_instance p
+            (module_of p image)) no_module ne in
             ap (λ (x : Module). x.info) here ∙ m.info a
       ];
       some = λ a t. elim (cases_eq a image) [
         | inl same ↦ rw (same, get_or-set_same p.modules image (new_instance p (module_of p image)) no_module l) (omega arith)
         | inr ne ↦
-            let here : module_of (loaded p image) a ≡ module_of p a = get_or-set_other p.modules image a (new_instance p (module_of p image)) no_module ne in
+            let here : module_of (loaded p image) a ≡ module_of p a = get_or-set_other p.modules image a (new_instance p
+            (module_of p image)) no_module ne in
             subst (λ (x : Module). 0 < x.instance) (sym here) (m.some a (subst (λ (x : Module). is_loaded x ≡ true) here t))
       ];
     }
@@ -57,10 +60,12 @@ unfolding retained released
 made_kept first = record {
   retained = λ p image m l. made_with_uses first p image ((module_of p image).uses + 1) (past_retained p image m.is l) m l;
   loaded = λ p image m can. made_loaded first p image m can;
-  released = λ p image m h. made_with_uses first p image ((module_of p image).uses - 1) (past_released p image m.is h) m (lt-ltb 0 (module_of p image).uses h);
+  released = λ p image m h. made_with_uses first p image ((module_of p image).uses - 1) (past_released p image m.is h) m
+      (lt-ltb 0 (module_of p image).uses h);
 }
 
-made_start : (infos : List ImageInfo) (last : ℕ) → AreInfos infos → last < 2 ^ 27 → IsMade (start infos last).modules (start infos last)
+made_start : (infos : List ImageInfo) (last : ℕ) → AreInfos infos → last < 2 ^ 27 → IsMade (start infos last).modules
+    (start infos last)
 unfolding start
 made_start infos last are low = record {
   is = past_start infos last are low;
@@ -69,7 +74,8 @@ made_start infos last are low = record {
   some = λ a t. let own = own_number infos a are t in omega (arith, own.0, own.2);
 }
 
-pub is_made : (infos : List ImageInfo) (last : ℕ) (events : List Event) → IsLegal infos last events → IsMade (start infos last).modules (past infos last events)
+pub is_made : (infos : List ImageInfo) (last : ℕ) (events : List Event) → IsLegal infos last events → IsMade
+    (start infos last).modules (past infos last events)
 unfolding past
 is_made infos last events legal =
     kept_along (IsMade (start infos last).modules) (made_kept (start infos last).modules) (start infos last) events

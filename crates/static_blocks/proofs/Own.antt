@@ -72,7 +72,8 @@ module _ (l : Loads ℕ) (thread : ℕ) where
 
   has_block : (h : Runs) (x : Instance) (there : HasRange l thread x.number x h.owners h.after.memory.own)
       → (block_start thread x + length (l.block x) ≤ stack_start thread)
-      → ((k : ℕ) → k < length (l.block x) → IsReached l thread x.number x h.owners h.after.memory.own (block_start thread x + k))
+      → ((k : ℕ) → k < length (l.block x) → IsReached l thread x.number x h.owners h.after.memory.own
+      (block_start thread x + k))
       → HasBlock l thread h x
   has_block h x there below reached = record {
     bytes = there.bytes;
@@ -131,7 +132,8 @@ module _ (m : JobImages) (thread : ℕ) (history : List Event) (are : AreInfos (
       let live = all_live l history legal last seen front k d less in (live.known, live.numbered)
 
   -- how long a live instance's blocks are
-  block_long : (seen : List Event) (front : IsFront seen history) (x : Instance) (live : IsLive l history legal last seen front x)
+  block_long : (seen : List Event) (front : IsFront seen history) (x : Instance)
+      (live : IsLive l history legal last seen front x)
       → length (l.block x) ≡ (module_of (past l.infos l.last_offset seen) live.a).info.size
   unfolding job_loads
   block_long seen front x live =
@@ -151,7 +153,8 @@ module _ (m : JobImages) (thread : ℕ) (history : List Event) (are : AreInfos (
       has_block l thread h x
       (found_shape l thread x.number x offset (instances l seen) h.owners h.after.memory.own keeps.1 numbered at)
       (omega (arith, size, far.0, far.1, from))
-      (λ k less. reached_shape l thread x.number x offset (block_start thread x + k) (instances l seen) h.owners h.after.memory.own
+      (λ k less. reached_shape l thread x.number x offset (block_start thread x + k)
+      (instances l seen) h.owners h.after.memory.own
       keeps.1 numbered at
       (λ j d inside. let other = all j d inside in λ ne bytes long.
       apart_at l history legal last seen keeps.0 thread x _ offset k live other at ne (omega (arith, size, less)) bytes
@@ -161,6 +164,8 @@ module _ (m : JobImages) (thread : ℕ) (history : List Event) (are : AreInfos (
 pub static_own : StaticBlocksAreOwn
 static_own m fuel thread own history points are fits accepted at x offset numbered e =
     block_of_live m thread history are fits accepted _
-    (turns_fit (job_loads m) thread history (known m thread history are fits accepted) (each m thread history are fits accepted) fuel points _ at
-    (ready_fits (job_loads m) thread history (known m thread history are fits accepted) (each m thread history are fits accepted)))
+    (turns_fit (job_loads m) thread history (known m thread history are fits accepted)
+    (each m thread history are fits accepted) fuel points _ at
+    (ready_fits (job_loads m) thread history (known m thread history are fits accepted)
+    (each m thread history are fits accepted)))
     x offset numbered e

@@ -23,7 +23,8 @@ use Rattle.static_blocks.proofs.Made.{is_made}
 use Rattle.static_blocks.proofs.Offsets.{end_low, end_holds, offset_if}
 use Rattle.static_blocks.proofs.Stands.{numbered_is}
 
-get_first : (infos : List ImageInfo) (image k : ℕ) (d : ImageInfo) (e : Module) → k < length infos → (get_or (first_modules infos image) k e).info ≡ get_or infos k d
+get_first : (infos : List ImageInfo) (image k : ℕ) (d : ImageInfo) (e : Module) → k < length infos →
+    (get_or (first_modules infos image) k e).info ≡ get_or infos k d
 get_first [] image k d e l = absurd (omega arith)
 get_first (x ∷ xs) image zero d e l = elim (cases_Bool x.late) [ inl t ↦ rw t refl | inr f ↦ rw f refl ]
 get_first (x ∷ xs) image (suc k) d e l = get_first xs (image + 1) k d e (omega arith)
@@ -35,7 +36,8 @@ pub record IsImage (infos : List ImageInfo) (a : ℕ) (m : Module) : Type 0 wher
   pub within : index < length infos
   pub info : m.info ≡ get_or infos index no_module.info
 
-pub is_image : (infos : List ImageInfo) (last : ℕ) (events : List Event) (a : ℕ) → IsLegal infos last events → is_loaded (module_of (past infos last events) a) ≡ true
+pub is_image : (infos : List ImageInfo) (last : ℕ) (events : List Event) (a : ℕ) → IsLegal infos last events → is_loaded
+    (module_of (past infos last events) a) ≡ true
     → IsImage infos a (module_of (past infos last events) a)
 unfolding start
 is_image infos last events zero legal t =
@@ -45,7 +47,13 @@ is_image infos last events (suc k) legal t =
     let made = is_made infos last events legal in
     let l = loaded_within (past infos last events) (suc k) made.is t in
     let within : k < length infos = omega (arith, l.0, made.long, length-first_modules infos 1) in
-    record { index = k; image = refl; within = within; info = made.info (suc k) ∙ get_first infos 1 k no_module.info no_module within }
+    record {
+      index = k;
+      image = refl;
+      within = within;
+      info = made.info (suc k)
+          ∙ get_first infos 1 k no_module.info no_module within;
+    }
 
 -- what holds of a live instance's place
 pub record IsPlacedIn (infos : List ImageInfo) (x : Instance) : Type 0 where
@@ -56,41 +64,52 @@ pub record IsPlacedIn (infos : List ImageInfo) (x : Instance) : Type 0 where
   pub offset : IfSome x.offset (λ (o : ℕ). (o < 2 ^ 28) × ((get_or infos index no_module.info).size ≤ o))
 
 module _ (q : Loads ℕ) (history : List Event) (legal : IsLegal q.infos q.last_offset history) where
-  image_offset : (seen : List Event) (a : ℕ) → IsLegal q.infos q.last_offset seen → is_loaded (module_of (past q.infos q.last_offset seen) a) ≡ true
+  image_offset : (seen : List Event) (a : ℕ) → IsLegal q.infos q.last_offset seen → is_loaded
+      (module_of (past q.infos q.last_offset seen) a) ≡ true
       → IsImage q.infos a (module_of (past q.infos q.last_offset seen) a)
-      → IfSome (instance_for q.infos a (module_of (past q.infos q.last_offset seen) a)).offset (λ (o : ℕ). (o < 2 ^ 28) × ((module_of (past q.infos q.last_offset seen) a).info.size ≤ o))
+      → IfSome (instance_for q.infos a (module_of (past q.infos q.last_offset seen) a)).offset (λ (o : ℕ). (o < 2 ^ 28) ×
+      ((module_of (past q.infos q.last_offset seen) a).info.size ≤ o))
   image_offset seen a here t is =
       let apart = instances_apart q.infos q.last_offset seen here in
       let low : q.last_offset < 2 ^ 27 = here.low in
       let bound = end_low q.infos a 0 here.images.each in
       let few : length q.infos ≤ 64 = here.images.few in
-      offset_if (module_of (past q.infos q.last_offset seen) a).info.late (module_of (past q.infos q.last_offset seen) a).offset (startup_end (take a q.infos) 0)
+      offset_if (module_of (past q.infos q.last_offset seen) a).info.late
+      (module_of (past q.infos q.last_offset seen) a).offset (startup_end (take a q.infos) 0)
       (λ (o : ℕ). (o < 2 ^ 28) × ((module_of (past q.infos q.last_offset seen) a).info.size ≤ o))
       (λ late o e. (omega (arith, apart.below a o e, low), omega (arith, apart.above a o e)))
       (λ early.
-      let first : (get_or q.infos is.index no_module.info).late ≡ false = subst (λ (i : ImageInfo). i.late ≡ false) is.info early in
+      let first : (get_or q.infos is.index no_module.info).late ≡ false = subst
+      (λ (i : ImageInfo). i.late ≡ false) is.info early in
       let holds = end_holds q.infos is.index 0 no_module.info is.within first in
-      let there : (get_or q.infos is.index no_module.info).size ≤ startup_end (take a q.infos) 0 = subst (λ (i : ℕ). (get_or q.infos is.index no_module.info).size ≤ startup_end (take i q.infos) 0) (sym is.image) (omega (arith, holds)) in
+      let there : (get_or q.infos is.index no_module.info).size ≤ startup_end (take a q.infos) 0 = subst
+      (λ (i : ℕ). (get_or q.infos is.index no_module.info).size ≤ startup_end (take i q.infos) 0) (sym is.image)
+      (omega (arith, holds)) in
       (omega (arith, bound, few), subst (λ (i : ImageInfo). i.size ≤ startup_end (take a q.infos) 0) (sym is.info) there))
 
-  pub placed_in : (seen : List Event) (n : ℕ) (x : Instance) → IsFront seen history → numbered_instance q seen n ≡ Some x → IsPlacedIn q.infos x
+  pub placed_in : (seen : List Event) (n : ℕ) (x : Instance) → IsFront seen history → numbered_instance q seen n ≡ Some x
+      → IsPlacedIn q.infos x
   placed_in seen n x front e =
       let here = legal_front q history legal seen front in
       let f = numbered_is q.infos (past q.infos q.last_offset seen) n x e in
       let is = is_image q.infos q.last_offset seen f.image here f.loaded in
-      let number : 0 < (module_of (past q.infos q.last_offset seen) f.image).instance = (is_made q.infos q.last_offset seen here).some f.image f.loaded in
+      let number : 0 < (module_of (past q.infos q.last_offset seen) f.image).instance =
+      (is_made q.infos q.last_offset seen here).some f.image f.loaded in
       let offset = image_offset seen f.image here f.loaded is in
       subst (IsPlacedIn q.infos) f.is (record {
         index = is.index;
         image = is.image;
         within = is.within;
         some = number;
-        offset = subst (λ (i : ImageInfo). IfSome (instance_for q.infos f.image (module_of (past q.infos q.last_offset seen) f.image)).offset (λ (o : ℕ). (o < 2 ^ 28) × (i.size ≤ o))) is.info offset;
+        offset = subst (λ (i : ImageInfo). IfSome (instance_for q.infos f.image
+            (module_of (past q.infos q.last_offset seen) f.image)).offset (λ (o : ℕ). (o < 2 ^ 28) ×
+            (i.size ≤ o))) is.info offset;
       })
 
 -- ** what was found is one of them
 
-pub all_found : (P : Instance → Type 0) (test : Instance → Bool) (xs : List Instance) (x : Instance) → All P xs → find test xs ≡ Some x → P x
+pub all_found : (P : Instance → Type 0) (test : Instance → Bool) (xs : List Instance) (x : Instance) → All P xs
+    → find test xs ≡ Some x → P x
 all_found P test [] x all e = cc
 all_found P test (y ∷ ys) x all e = elim (cases_Bool (test y)) [
   | inl t ↦
@@ -105,5 +124,8 @@ module _ (q : Loads ℕ) (history : List Event) (legal : IsLegal q.infos q.last_
   pub known_each : (P : Instance → Type 0) → ((seen : List Event) → IsFront seen history → All P (instances q seen))
       → (number : ℕ) (x : Instance) → known_in q history number ≡ Some x → P x × (x.number ≡ number)
   known_each P each number x e =
-      let live = known_live q history legal number x e in
-      (all_found P _ (instances q live.seen) x (each live.seen live.front) live.live, numbered_number q history legal live.seen number x live.live)
+      let live = known_live q history legal number x e in (
+        all_found P _ (instances q live.seen) x
+            (each live.seen live.front) live.live,
+        numbered_number q history legal live.seen number x live.live,
+      )

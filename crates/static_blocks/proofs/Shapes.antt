@@ -204,5 +204,6 @@ module _ (l : Loads ℕ) (thread : ℕ) where
   written_shape (y ∷ ys) [] rs place byte shape = (shape.0, written_shape ys [] rs place byte shape.1)
   written_shape (y ∷ ys) (o ∷ os) [] place byte shape = absurd shape
   written_shape (y ∷ ys) (o ∷ os) (r ∷ rs) place byte shape =
-      either_shape (grants Write r place) y ys o os r (record r { bytes = slice_set r.bytes _ byte }) rs (with_byte rs place byte)
+      either_shape (grants Write r place) y ys o os r (record r { bytes = slice_set r.bytes _ byte }) rs
+      (with_byte rs place byte)
       (block_put y o r _ byte) (written_shape ys os rs place byte) (written_shape ys (o ∷ os) (r ∷ rs) place byte) shape

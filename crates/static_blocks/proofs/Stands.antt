@@ -29,17 +29,25 @@ pub record IsUsed (new old : Module) : Type 0 where
   pub same : AreSame new old
   pub held : is_loaded new ≡ true → is_loaded old ≡ true
 
-pub used : (p : Past) (image uses a : ℕ) → image < length p.modules → is_loaded (module_of p image) ≡ true → IsUsed (module_of (with_uses p image uses) a) (module_of p a)
+pub used : (p : Past) (image uses a : ℕ) → image < length p.modules → is_loaded (module_of p image) ≡ true → IsUsed
+    (module_of (with_uses p image uses) a) (module_of p a)
 used p image uses a l loaded = elim (cases_eq a image) [
   | inl e ↦ let here : module_of (with_uses p image uses) a ≡ record (module_of p image) { uses = uses } =
       rw e (get_or-set_same p.modules image (record (module_of p image) { uses = uses }) no_module l) in
       rw (here, e) (record { same = record { info = refl; instance = refl; id = refl; offset = refl }; held = λ _. loaded })
-  | inr ne ↦ let here : module_of (with_uses p image uses) a ≡ module_of p a = get_or-set_other p.modules image a (record (module_of p image) { uses = uses }) no_module ne in
+  | inr ne ↦ let here : module_of (with_uses p image uses) a ≡ module_of p a = get_or-set_other p.modules image a
+      (record (module_of p image) { uses = uses }) no_module ne in
       rw here (record { same = record { info = refl; instance = refl; id = refl; offset = refl }; held = λ t. t })
 ]
 
 same-trans : (x y z : Module) → AreSame x y → AreSame y z → AreSame x z
-same-trans x y z a b = record { info = a.info ∙ b.info; instance = a.instance ∙ b.instance; id = a.id ∙ b.id; offset = a.offset ∙ b.offset }
+same-trans x y z a b = record {
+  info = a.info ∙ b.info;
+  instance = a.instance ∙ b.instance;
+  id = a.id ∙ b.id;
+  offset =
+      a.offset ∙ b.offset;
+}
 
 -- whoever is loaded with the number is the image a, as it was
 pub record Stands (n a : ℕ) (m : Module) (p : Past) : Type 0 where
@@ -47,7 +55,8 @@ pub record Stands (n a : ℕ) (m : Module) (p : Past) : Type 0 where
   pub made : n ≤ p.made
   pub one : (b : ℕ) → is_loaded (module_of p b) ≡ true → (module_of p b).instance ≡ n → (b ≡ a) × AreSame (module_of p b) m
 
-stands_with_uses : (n a : ℕ) (m : Module) (p : Past) (image uses : ℕ) → IsPast (with_uses p image uses) → Stands n a m p → is_loaded (module_of p image) ≡ true → Stands n a m (with_uses p image uses)
+stands_with_uses : (n a : ℕ) (m : Module) (p : Past) (image uses : ℕ) → IsPast (with_uses p image uses) → Stands n a m p
+    → is_loaded (module_of p image) ≡ true → Stands n a m (with_uses p image uses)
 stands_with_uses n a m p image uses is s loaded = record {
   is = is;
   made = s.made;
@@ -67,11 +76,17 @@ stands_loaded n a m p image s can =
       made = omega arith;
       one = λ b t e. elim (cases_eq b image) [
         | inl same ↦
-            let new : (module_of (loaded p image) b).instance ≡ p.made + 1 = rw (same, get_or-set_same p.modules image (new_instance p (module_of p image)) no_module l) refl in
+            let new : (module_of (loaded p image) b).instance ≡ p.made + 1 = rw (
+              same,
+              get_or-set_same p.modules image
+                  (new_instance p (module_of p image)) no_module l,
+            ) refl in
             absurd (omega (arith, new, e))
         | inr ne ↦
-            let here : module_of (loaded p image) b ≡ module_of p b = get_or-set_other p.modules image b (new_instance p (module_of p image)) no_module ne in
-            let old = s.one b (subst (λ (x : Module). is_loaded x ≡ true) here t) (subst (λ (x : Module). x.instance ≡ n) here e) in
+            let here : module_of (loaded p image) b ≡ module_of p b = get_or-set_other p.modules image b (new_instance p
+            (module_of p image)) no_module ne in
+            let old = s.one b (subst (λ (x : Module). is_loaded x ≡ true) here t)
+            (subst (λ (x : Module). x.instance ≡ n) here e) in
             (old.0, subst (λ (x : Module). AreSame x m) (sym here) old.1)
       ];
     }
@@ -81,18 +96,21 @@ unfolding retained released
 stands_kept n a m = record {
   retained = λ p image s l. stands_with_uses n a m p image ((module_of p image).uses + 1) (past_retained p image s.is l) s l;
   loaded = λ p image s can. stands_loaded n a m p image s can;
-  released = λ p image s h. stands_with_uses n a m p image ((module_of p image).uses - 1) (past_released p image s.is h) s (lt-ltb 0 (module_of p image).uses h);
+  released = λ p image s h. stands_with_uses n a m p image ((module_of p image).uses - 1) (past_released p image s.is h) s
+      (lt-ltb 0 (module_of p image).uses h);
 }
 
 -- ** of a history
 
-pub legal_before : (infos : List ImageInfo) (last : ℕ) (front rest : List Event) → IsLegal infos last (front ++ rest) → IsLegal infos last front
+pub legal_before : (infos : List ImageInfo) (last : ℕ) (front rest : List Event) → IsLegal infos last (front ++ rest)
+    → IsLegal infos last front
 legal_before infos last front rest legal =
     let parts = and_parts (is_legal (start infos last) front) (is_legal (after (start infos last) front) rest)
     (sym (is_legal-append (start infos last) front rest) ∙ legal.each) in
     record { images = legal.images; low = legal.low; each = parts.0 }
 
-legal_after : (infos : List ImageInfo) (last : ℕ) (front rest : List Event) → IsLegal infos last (front ++ rest) → is_legal (past infos last front) rest ≡ true
+legal_after : (infos : List ImageInfo) (last : ℕ) (front rest : List Event) → IsLegal infos last (front ++ rest) → is_legal
+    (past infos last front) rest ≡ true
 unfolding past
 legal_after infos last front rest legal =
     (and_parts (is_legal (start infos last) front) (is_legal (after (start infos last) front) rest)
@@ -100,12 +118,14 @@ legal_after infos last front rest legal =
 
 pub stands_after : (infos : List ImageInfo) (last : ℕ) (front rest : List Event) (a : ℕ) → IsLegal infos last (front ++ rest)
     → is_loaded (module_of (past infos last front) a) ≡ true
-    → Stands (module_of (past infos last front) a).instance a (module_of (past infos last front) a) (past infos last (front ++ rest))
+    → Stands (module_of (past infos last front) a).instance a (module_of (past infos last front) a) (past infos last
+    (front ++ rest))
 stands_after infos last front rest a legal t =
     let before = legal_before infos last front rest legal in
     let is = past_legal infos last front before in
     let own = own_numbers infos last front before in
-    let here : Stands (module_of (past infos last front) a).instance a (module_of (past infos last front) a) (past infos last front) = record {
+    let here : Stands (module_of (past infos last front) a).instance a (module_of (past infos last front) a)
+    (past infos last front) = record {
       is = is;
       made = (numbered_at (past infos last front) a is).instance t;
       one = λ b u e. elim (cases_eq b a) [
@@ -113,9 +133,11 @@ stands_after infos last front rest a legal t =
         | inr ne ↦ absurd ((own b a ne u t).0 e)
       ];
     } in
-    subst (Stands (module_of (past infos last front) a).instance a (module_of (past infos last front) a)) (sym (past-append infos last front rest))
+    subst (Stands (module_of (past infos last front) a).instance a (module_of (past infos last front) a))
+    (sym (past-append infos last front rest))
     (kept_along (Stands (module_of (past infos last front) a).instance a (module_of (past infos last front) a))
-    (stands_kept (module_of (past infos last front) a).instance a (module_of (past infos last front) a)) (past infos last front) rest here (legal_after infos last front rest legal))
+    (stands_kept (module_of (past infos last front) a).instance a (module_of (past infos last front) a))
+    (past infos last front) rest here (legal_after infos last front rest legal))
 
 -- ** the instance of a number
 
@@ -126,19 +148,29 @@ pub record IsNumbered (infos : List ImageInfo) (p : Past) (n : ℕ) (x : Instanc
   pub is : instance_for infos image (module_of p image) ≡ x
   pub number : (module_of p image).instance ≡ n
 
-pub numbered_is : (infos : List ImageInfo) (p : Past) (n : ℕ) (x : Instance) → find (λ (y : Instance). y.number == n) (instances_in infos p) ≡ Some x → IsNumbered infos p n x
+pub numbered_is : (infos : List ImageInfo) (p : Past) (n : ℕ) (x : Instance) → find (λ (y : Instance). y.number == n)
+    (instances_in infos p) ≡ Some x → IsNumbered infos p n x
 unfolding instances_in
 numbered_is infos p n x e =
     let f = found_at infos 0 p.modules (λ (y : Instance). y.number == n) x e in
     let zero-plus : 0 + f.at ≡ f.at = omega arith in
-    let l = loaded_as infos f.at (module_of p f.at) x (ap (λ (i : ℕ). loaded_instance infos i (module_of p f.at)) (sym zero-plus) ∙ f.is) in
-    record { image = f.at; loaded = l.loaded; is = l.is; number = ap (λ (y : Instance). y.number) l.is ∙ eqb-true x.number n f.passes }
+    let l = loaded_as infos f.at (module_of p f.at) x (ap (λ (i : ℕ). loaded_instance infos i (module_of p f.at))
+    (sym zero-plus) ∙ f.is) in
+    record {
+      image = f.at;
+      loaded = l.loaded;
+      is = l.is;
+      number = ap (λ (y : Instance). y.number) l.is
+          ∙ eqb-true x.number n f.passes;
+    }
 
-for_same : (infos : List ImageInfo) (a : ℕ) (new old : Module) → AreSame new old → instance_for infos a new ≡ instance_for infos a old
+for_same : (infos : List ImageInfo) (a : ℕ) (new old : Module) → AreSame new old
+    → instance_for infos a new ≡ instance_for infos a old
 for_same infos a new old s = rw (s.info, s.instance, s.id, s.offset) refl
 
 -- one number, one instance
-pub same_instance : (infos : List ImageInfo) (last : ℕ) (front rest : List Event) (n : ℕ) (x y : Instance) → IsLegal infos last (front ++ rest)
+pub same_instance : (infos : List ImageInfo) (last : ℕ) (front rest : List Event) (n : ℕ) (x y : Instance)
+    → IsLegal infos last (front ++ rest)
     → find (λ (z : Instance). z.number == n) (instances_in infos (past infos last front)) ≡ Some x
     → find (λ (z : Instance). z.number == n) (instances_in infos (past infos last (front ++ rest))) ≡ Some y
     → x ≡ y
@@ -146,4 +178,5 @@ same_instance infos last front rest n x y legal at_front at_whole =
     let f = numbered_is infos (past infos last front) n x at_front in
     let w = numbered_is infos (past infos last (front ++ rest)) n y at_whole in
     let s = (stands_after infos last front rest f.image legal f.loaded).one w.image w.loaded (w.number ∙ sym f.number) in
-    sym f.is ∙ (sym (for_same infos f.image _ _ s.1) ∙ (ap (λ (i : ℕ). instance_for infos i (module_of (past infos last (front ++ rest)) w.image)) (sym s.0) ∙ w.is))
+    sym f.is ∙ (sym (for_same infos f.image _ _ s.1) ∙ (ap (λ (i : ℕ). instance_for infos i (module_of (past infos last
+    (front ++ rest)) w.image)) (sym s.0) ∙ w.is))

@@ -67,7 +67,8 @@ module _ (l : Loads ℕ) (thread : ℕ) (Keeps : List Owner → Space Event ℕ 
         → NextFine ((machine plain_operations (thread_accesses l thread) no_field).step at)
     machine_fine at are =
         let fine : After ℕ Bool Fine = left at.state (at.memory, are) in
-        let image = machine_image plain_operations fine_accesses (thread_accesses l thread) plain fine_image no_field no_field (λ m. refl) in
+        let image = machine_image plain_operations fine_accesses (thread_accesses l thread) plain fine_image no_field no_field
+        (λ m. refl) in
         subst NextFine (sym (image.step fine)) (next_fine ((machine plain_operations fine_accesses no_field).step fine))
 
     abbrev ResultFine : Result (After ℕ Bool (Space Event ℕ)) Stop → Type 0
@@ -83,8 +84,10 @@ module _ (l : Loads ℕ) (thread : ℕ) (Keeps : List Owner → Space Event ℕ 
   answer_holds asked x h holds =
       let fine : Fine h.owners = (h.after.memory, holds) in
       let state = with_answer h.after.state (answer_word l thread asked x) in
-      let image = return_of-image plain_operations (fine_accesses h.owners) (thread_accesses l thread) (plain h.owners) (fine_image h.owners) state fine in
-      subst (ResultFine h.owners) (sym image) (result_fine h.owners (return_of plain_operations (fine_accesses h.owners) state fine))
+      let image = return_of-image plain_operations (fine_accesses h.owners) (thread_accesses l thread) (plain h.owners)
+      (fine_image h.owners) state fine in
+      subst (ResultFine h.owners) (sym image) (result_fine h.owners (return_of plain_operations
+      (fine_accesses h.owners) state fine))
 
   -- ** steps
 
@@ -110,7 +113,8 @@ module _ (l : Loads ℕ) (thread : ℕ) (Keeps : List Owner → Space Event ℕ 
   asked_holds h None holds = tt
   asked_holds h (Some asked) holds =
       either_next (is_startup_id l asked.id)
-      (found_at_once l thread asked h (instance_with_id l h.after.memory.seen asked.id)) (Looks (record h { asked = Some asked }))
+      (found_at_once l thread asked h (instance_with_id l h.after.memory.seen asked.id))
+      (Looks (record h { asked = Some asked }))
       (found_holds asked h (instance_with_id l h.after.memory.seen asked.id) holds) holds
 
   next_holds : (h : Runs) (next : Next (After ℕ Bool (Space Event ℕ))) → Holds h → NextFine h.owners next

@@ -27,13 +27,14 @@ InitialsFit m = All (λ (image : Spelled). IfSome image.tls (λ (tls : TlsPart).
 
 -- a fresh block is the initial image, as the instance has it, and zeros
 abbrev pub FreshBlocksAreFilled : Type 0
-FreshBlocksAreFilled = (m : JobImages) (x : Instance) (image : Spelled) (tls : TlsPart) → image_at m x.image ≡ Some image
+FreshBlocksAreFilled = (m : JobImages) (x : Instance) (image : Spelled) (tls : TlsPart)
+    → image_at m x.image ≡ Some image
     → image.tls ≡ Some tls
     → let initial = initial_bytes m image x tls (find (holds tls) image.parts) in
     (job_loads m).block x ≡ initial ++ replicate (tls.size - length initial) 0
 
--- a look leaves a thread the block that it had of a live instance at a fixed distance from the thread pointer, and where
--- it had none a fresh one
+-- a look leaves a thread the block that it had of a live instance at a fixed distance from the thread pointer, and
+-- where it had none a fresh one
 abbrev pub LooksFillBlocks : Type 0
 LooksFillBlocks = (l : Loads ℕ) (thread : ℕ) (seen : List Event) (h : Runs) (x : Instance) (offset : ℕ)
     → numbered_instance l seen x.number ≡ Some x → x.offset ≡ Some offset
@@ -47,6 +48,7 @@ StaticBlocksAreOwn = (m : JobImages) (fuel thread : ℕ) (own : List ThreadLine)
     → is_legal (start (job_loads m).infos (job_loads m).last_offset) history ≡ true
     → AtHistory (thread_turns (job_loads m) thread fuel) (event_by (job_loads m) thread) history
     (first_of (job_loads m) thread own) points
-    → let h = held_in (turns (thread_turns (job_loads m) thread fuel) (first_of (job_loads m) thread own) points).phase in
+    → let h = held_in (turns (thread_turns (job_loads m) thread fuel)
+    (first_of (job_loads m) thread own) points).phase in
     (x : Instance) (offset : ℕ) → numbered_instance (job_loads m) h.after.memory.seen x.number ≡ Some x
     → x.offset ≡ Some offset → HasBlock (job_loads m) thread h x
