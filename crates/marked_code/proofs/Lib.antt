@@ -1,0 +1,11 @@
+pub mod AddressFields
+pub mod Fields
+pub mod Lent
+pub mod LikeFields
+pub mod NextIndex
+pub mod Nothing
+pub mod Numbers
+pub mod Reading
+pub mod Related
+pub mod Rows
+pub mod Step
