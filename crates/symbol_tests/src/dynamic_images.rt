@@ -1,7 +1,8 @@
 //! Images of drafted objects, and their dynamic symbols, as text.
 
-ghost use Rattle.std.specs.Prelude.{◌≡◌, ◌<◌, ℕ, [], IfOk, length, map, slice_index_or};
+ghost use Rattle.std.specs.Prelude.{◌≡◌, ◌<◌, ℕ, [], All, IfOk, length, map, slice_index_or};
 ghost use Rattle.tls_symbols.specs.Bindings.{object_at};
+ghost use Rattle.tls_symbols.specs.Definitions.{IsWithin};
 ghost use Rattle.sequence_match.specs.Sites.{HaveSymbols};
 
 use crate::images::{exports_of, read};
@@ -9,7 +10,7 @@ use dynamic_symbols::{defined_symbols, imports, name_size};
 use elf_object::{Object, ObjectFault};
 use elf_records::symbol::{STB_WEAK, STT_NOTYPE, STT_TLS};
 use elf_records::{Rela, SymbolEntry};
-use link_faults::LinkFault;
+use link_faults::{LinkFault, SymbolRef};
 use object_builder::{Section, Symbol, object_of};
 use sequence_match::{Site, sites};
 use std::alloc::{AllocError, Global};
@@ -95,6 +96,43 @@ pub(crate) fn said(
     }
 }
 
+/// Adds each symbol as OBJECT.SYMBOL.
+fn push_symbols(alloc: Global, text: &mut String, symbols: &[SymbolRef]) -> Result<(), AllocError> {
+    for found in symbols {
+        text.push_str(format!(in alloc; "{}.{} ", found.object, found.symbol)?.as_str())?;
+    }
+    Ok(())
+}
+
+/// Adds names, with a space behind each.
+fn push_names(text: &mut String, names: &[&[u8]]) -> Result<(), AllocError> {
+    for name in names {
+        for byte in *name {
+            text.push(char::from(*byte))?;
+        }
+        text.push(' ')?;
+    }
+    Ok(())
+}
+
+/// The symbols and the names of imports as text, and the room of all names.
+fn told(
+    alloc: Global,
+    objects: &[Object],
+    symbols: &[SymbolRef],
+    names: &[&[u8]],
+) -> Result<String, Fail>
+    requires { All (IsWithin objects.now) symbols.now }
+{
+    let mut text = String::new(alloc);
+    push_symbols(alloc, &mut text, symbols)?;
+    text.push_str("/ ")?;
+    push_names(&mut text, names)?;
+    let size = name_size(objects, symbols, names);
+    text.push_str(format!(in alloc; "{size}")?.as_str())?;
+    Ok(text)
+}
+
 /// What is said of bindings.
 fn all_said(alloc: Global, bindings: &Bindings, objects: &[Object]) -> Result<String, Fail>
     requires { objects.now ≡ bindings.now.objects }
@@ -102,18 +140,5 @@ fn all_said(alloc: Global, bindings: &Bindings, objects: &[Object]) -> Result<St
     let sites = all_sites(alloc, objects)?;
     let symbols = defined_symbols(alloc, objects, bindings)?;
     let names = imports(alloc, objects, bindings, sites.as_slice())?;
-    let mut text = String::new(alloc);
-    for found in &symbols {
-        text.push_str(format!(in alloc; "{}.{} ", found.object, found.symbol)?.as_str())?;
-    }
-    text.push_str("/ ")?;
-    for name in names.as_slice() {
-        for byte in *name {
-            text.push(char::from(*byte))?;
-        }
-        text.push(' ')?;
-    }
-    let size = name_size(objects, symbols.as_slice(), names.as_slice());
-    text.push_str(format!(in alloc; "{size}")?.as_str())?;
-    Ok(text)
+    told(alloc, objects, symbols.as_slice(), names.as_slice())
 }

@@ -9,7 +9,7 @@ use link_faults::{ImageKind, LinkFault};
 use link_refusals::{ask_kind, ask_tls, has_few_relocations, relocation_count};
 use std::alloc::Global;
 use std::test::Fail;
-use tls_symbols::{Bindings, resolve};
+use tls_symbols::{Bindings, Exports, resolve};
 
 /// Each line: the kind of the image, the size of its storage, what is said, and the object, whose symbols are a
 /// variable, a function and a variable of the program. Its relocations are in section 3: 0 is NONE, 10 is 32, 11 is
@@ -49,20 +49,44 @@ fn asked(
     ask_tls(objects, bindings, kind, size)
 }
 
+/// What is said of an image of these objects and bindings, of this kind and with so much storage.
+fn told(
+    alloc: Global,
+    objects: &[Object],
+    bindings: &Bindings,
+    kind: ImageKind,
+    size: u64,
+) -> Result<String, Fail>
+    requires { bindings.now.objects ≡ objects.now }
+{
+    match asked(objects, bindings, kind, size) {
+        Ok(()) => Ok(format!(in alloc; "{} fit", relocation_count(objects))?),
+        Err(fault) => Ok(format!(in alloc; "{fault}")?),
+    }
+}
+
+/// What is said of an image of these objects beside what is loaded with them.
+fn said_beside(
+    alloc: Global,
+    objects: &[Object],
+    startup: &[Exports],
+    kind: ImageKind,
+    size: u64,
+) -> Result<String, Fail> {
+    if startup.len() > 100 {
+        return Ok(String::new(alloc));
+    }
+    let bindings = resolve(alloc, objects, startup)?;
+    told(alloc, objects, &bindings, kind, size)
+}
+
 /// What is said of an image of this object, of this kind and with so much storage.
 fn said(alloc: Global, words: &str, kind: ImageKind, size: u64) -> Result<String, Fail> {
     let files = files_of(alloc, words)?;
     let program = images_of(alloc, "|v:y")?;
     let objects = read(alloc, files.as_slice())?;
     let startup = exports_of(alloc, program.as_slice())?;
-    if startup.len() > 100 {
-        return Ok(String::new(alloc));
-    }
-    let bindings = resolve(alloc, objects.as_slice(), startup.as_slice())?;
-    match asked(objects.as_slice(), &bindings, kind, size) {
-        Ok(()) => Ok(format!(in alloc; "{} fit", relocation_count(objects.as_slice()))?),
-        Err(fault) => Ok(format!(in alloc; "{fault}")?),
-    }
+    said_beside(alloc, objects.as_slice(), startup.as_slice(), kind, size)
 }
 
 /// Whether what is said of a case is what its line wants.
