@@ -31,14 +31,14 @@ get_first (x ∷ xs) image zero d e l = elim (cases_Bool x.late) [ inl t ↦ rw 
 get_first (x ∷ xs) image (suc k) d e l = get_first xs (image + 1) k d e (omega arith)
 
 -- the image of a loaded module, and what is known of it
-record IsImage (infos : List ImageInfo) (a : ℕ) (m : Module) : Type 0 where
+pub record IsImage (infos : List ImageInfo) (a : ℕ) (m : Module) : Type 0 where
   pub index : ℕ
   pub image : a ≡ suc index
   pub within : index < length infos
   pub info : m.info ≡ get_or infos index no_module.info
 
 -- who is loaded is an image of the list
-is_image : (infos : List ImageInfo) (last : ℕ) (events : List Event) (a : ℕ) → IsLegal infos last events
+pub is_image : (infos : List ImageInfo) (last : ℕ) (events : List Event) (a : ℕ) → IsLegal infos last events
     → is_loaded (module_of (past infos last events) a) ≡ true
     → IsImage infos a (module_of (past infos last events) a)
 unfolding start
@@ -111,7 +111,7 @@ module _ (q : Loads ℕ) (history : List Event) (legal : IsLegal q.infos q.last_
 
 -- ** what was found is one of them
 
-all_found : (P : Instance → Type 0) (test : Instance → Bool) (xs : List Instance) (x : Instance) → All P xs
+pub all_found : (P : Instance → Type 0) (test : Instance → Bool) (xs : List Instance) (x : Instance) → All P xs
     → find test xs ≡ Some x → P x
 all_found P test [] x all e = cc
 all_found P test (y ∷ ys) x all e = elim (cases_Bool (test y)) [

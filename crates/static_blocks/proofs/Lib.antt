@@ -1,10 +1,4 @@
-pub mod Found
-pub mod Stands
-pub mod Known
-pub mod Made
-pub mod Offsets
 pub mod Sizes
-pub mod Placed
 pub mod Live
 pub mod Shapes
 pub mod Looking

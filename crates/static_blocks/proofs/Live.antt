@@ -16,10 +16,10 @@ use Rattle.module_table.proofs.LawsOfBlocks.{instances_apart}
 use Rattle.thread_blocks.specs.Instances.{Loads, block_start, instances, instances_from, instances_in, loaded_instance, numbered_instance}
 use Rattle.thread_blocks.specs.MachineTurns.{pointer_of}
 use Rattle.thread_blocks.specs.TurnsAlike.{IsFront}
-use Rattle.static_blocks.specs.Known.{known_in}
-use Rattle.static_blocks.proofs.Found.{instance_for, loaded_as}
-use Rattle.static_blocks.proofs.Known.{known_is, legal_front, number_low, numbered_at_image}
-use Rattle.static_blocks.proofs.Placed.{IsImage, is_image, placed_in}
+use Rattle.known_instances.specs.Known.{known_in}
+use Rattle.known_instances.proofs.Found.{instance_for, loaded_as}
+use Rattle.known_instances.proofs.Known.{known_is, legal_front, number_low, numbered_at_image}
+use Rattle.known_instances.proofs.Placed.{IsImage, is_image, placed_in}
 use Rattle.static_blocks.proofs.Sizes.{end_most, end_past, end_rises}
 
 -- ** what holds of each loaded image holds of each live instance

@@ -1,5 +1,5 @@
 -- After any turns at points of a legal history a thread has its own block of each live instance at a fixed distance.
-use Rattle.std.proofs.Common.{◌≡◌, ◌∙◌, ◌+◌, ◌-◌, ◌++◌, ◌<◌, ◌≤◌, ◌^◌, ℕ, true, false, List, length, get_or, Option, Some, Ok, refl, sym, ap, subst, arith}
+use Rattle.std.proofs.Common.{◌≡◌, ◌∙◌, ◌+◌, ◌-◌, ◌++◌, ◌<◌, ◌≤◌, ℕ, true, false, List, length, get_or, Option, Some, Ok, refl, sym, ap, subst, arith}
 use Rattle.std.specs.Prelude.{All, nat_le, nat_lt, slice_get, slice_set}
 use Rattle.std.specs.List.{find}
 use Rattle.std.proofs.lemmas.Bool.{and_parts, false_from_ne_true, le-leb, leb-true, lt-ltb}
@@ -22,15 +22,15 @@ use Rattle.thread_blocks.specs.RunTime.{Runs, thread_accesses}
 use Rattle.thread_blocks.specs.Spaces.{Space, space_accesses, stack_range}
 use Rattle.thread_blocks.specs.TurnsAlike.{IsFront}
 use Rattle.static_blocks.specs.Blocks.{HasBlock, block_owned}
-use Rattle.static_blocks.specs.Known.{known_in}
+use Rattle.known_instances.specs.Known.{known_in}
 use Rattle.static_blocks.specs.Laws.{InitialsFit, StaticBlocksAreOwn}
 use Rattle.static_blocks.proofs.Keeping.{Fits, ready_fits, turns_fit}
 use Rattle.static_blocks.proofs.Live.{IsLive, all_live, apart_at, offset_of, start_some}
-use Rattle.static_blocks.proofs.Offsets.{end_low}
-use Rattle.static_blocks.proofs.Placed.{all_found}
+use Rattle.known_instances.proofs.Legal.{job_legal}
+use Rattle.known_instances.proofs.Placed.{all_found}
 use Rattle.static_blocks.proofs.Places.{IsReached, reached_shape}
 use Rattle.static_blocks.proofs.Shapes.{HasRange, found_shape}
-use Rattle.static_blocks.proofs.Sizes.{end_whole, fresh_long}
+use Rattle.static_blocks.proofs.Sizes.{fresh_long}
 
 -- ** a memory whose stack does not have the place
 
@@ -103,21 +103,13 @@ module _ (l : Loads ℕ) (thread : ℕ) where
 
 -- ** a job
 
-last_low : (infos : List ImageInfo) → AreInfos infos → startup_end infos 0 < 2 ^ 27
-last_low infos are =
-    let low = end_low infos (length infos) 0 are.each in
-    let whole = end_whole infos 0 in
-    let few = are.few in
-    omega (arith, whole, low, few)
-
 module _ (m : JobImages) (thread : ℕ) (history : List Event) (are : AreInfos (infos m)) (fits : InitialsFit m)
     (accepted : is_legal (start (job_loads m).infos (job_loads m).last_offset) history ≡ true) where
   abbrev l : Loads ℕ
   l = job_loads m
 
   legal : IsLegal l.infos l.last_offset history
-  unfolding job_loads last_offset
-  legal = record { images = are; low = last_low (infos m) are; each = accepted }
+  legal = job_legal m history are accepted
 
   last : l.last_offset ≡ startup_end l.infos 0
   unfolding job_loads last_offset

@@ -4,7 +4,6 @@ use Rattle.std.specs.Prelude.{All, IfSome, slice_get}
 use Rattle.std.specs.Int.{next_multiple_of}
 use Rattle.std.specs.List.{find}
 use Rattle.std.proofs.lemmas.Bool.{cases_Bool}
-use Rattle.std.proofs.Math.Seq.{take-length}
 use Rattle.std.proofs.lemmas.List.{length-replicate}
 use Rattle.image_file.specs.declared.part.TlsPart.{TlsPart}
 use Rattle.image_file.specs.Spelled.{Part, Spelled}
@@ -111,6 +110,3 @@ end_most (x ∷ xs) (suc k) taken = elim (cases_Bool x.late) [
   | inl late ↦ rw late (end_most xs k taken)
   | inr early ↦ rw early (end_most xs k (next_multiple_of (taken + x.size) x.align))
 ]
-
-pub end_whole : (infos : List ImageInfo) (taken : ℕ) → startup_end (take (length infos) infos) taken ≡ startup_end infos taken
-end_whole infos taken = ap (λ (xs : List ImageInfo). startup_end xs taken) (take-length infos)
