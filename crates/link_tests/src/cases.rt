@@ -120,6 +120,15 @@ fn push_bytes(alloc: Global, text: &mut String, linked: &Linked) -> Result<(), A
     Ok(())
 }
 
+/// An image as text, with its bytes as digits.
+fn text_of(alloc: Global, linked: &Linked) -> Result<String, AllocError> {
+    let mut text = String::new(alloc);
+    push_image(alloc, &mut text, linked)?;
+    let mut text = text.replace(alloc, "0000000000", "")?;
+    push_bytes(alloc, &mut text, linked)?;
+    squeezed(alloc, text.as_str())
+}
+
 /// What is told of a link.
 fn told(
     rt: &(impl Threads + Sync),
@@ -129,16 +138,10 @@ fn told(
 ) -> Result<String, Fail> {
     let files = files_of(alloc, objects)?;
     let module = files_of(alloc, STARTUP)?;
-    let mut text = String::new(alloc);
     match answer(rt, alloc, kind, files.as_slice(), module.as_slice())? {
-        Ok(linked) => {
-            push_image(alloc, &mut text, &linked)?;
-            text = text.replace(alloc, "0000000000", "")?;
-            push_bytes(alloc, &mut text, &linked)?;
-        }
-        Err(fault) => write!(text, "{fault}")?,
+        Ok(linked) => Ok(text_of(alloc, &linked)?),
+        Err(fault) => Ok(format!(in alloc; "{fault}")?),
     }
-    Ok(squeezed(alloc, text.as_str())?)
 }
 
 /// The words of a text with single spaces between them, without lines of comments.
@@ -156,6 +159,13 @@ fn squeezed(alloc: Global, text: &str) -> Result<String, AllocError> {
     Ok(squeezed)
 }
 
+/// Whether what is told of a link is a text and, where there are any, these digits.
+fn holds(told: &str, text: &str, digits: &str) -> bool {
+    let (shown, held) = told.split_once(" # ").unwrap_or((told, ""));
+    let links = text == "links" && shown.starts_with("kind");
+    (digits.is_empty() || held == digits) && (links || shown == text)
+}
+
 /// Compares what is told in each kind of image. Among bytes a dash stands for eight zeros.
 fn check(rt: &(impl Abort + Threads + Sync), alloc: Global, case: &str) -> Result<(), Fail> {
     let (given, want) = case.split_once(" -> ").ok_or("an answer")?;
@@ -165,10 +175,8 @@ fn check(rt: &(impl Abort + Threads + Sync), alloc: Global, case: &str) -> Resul
     let digits = digits.replace(alloc, "-", "0000000000000000")?;
     for kind in kinds.split('/') {
         let told = told(rt, alloc, kind, objects)?;
-        let (shown, held) = told.split_once(" # ").unwrap_or((told.as_str(), ""));
-        let links = text == "links" && shown.starts_with("kind");
-        let holds = digits.is_empty() || held == digits.as_str();
-        assert!(rt; holds && (links || shown == text), "{told}: {case}");
+        let holds = holds(told.as_str(), text, digits.as_str());
+        assert!(rt; holds, "{told}: {case}");
     }
     Ok(())
 }
