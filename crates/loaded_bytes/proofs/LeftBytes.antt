@@ -1,0 +1,377 @@
+-- What a loader leaves of a class, address by address.
+use Rattle.std.proofs.Common.{◌≡◌, ◌≢◌, ◌+◌, ◌-◌, ◌<◌, ◌≤◌, ◌⊎◌, ◌==◌, ◌&&◌, ◌∙◌, ℕ, Bool, true, false, not, List, ◌++◌}
+use Rattle.std.proofs.Common.{Option, Some, None, length, inl, inr, refl, sym, ap, subst, arith, if◌then◌else◌}
+use Rattle.std.specs.Prelude.{◌^◌, ◌+ℤ◌, ℤ, pos, nat_le, nat_lt, slice_get, slice_index_or, unwrap_or}
+use Rattle.std.specs.Int.{w64, cast_unsigned}
+use Rattle.std.specs.List.{All, Contains, find}
+use Rattle.std.specs.Option.{option_or}
+use Rattle.std.proofs.lemmas.Bool.{cases_lt, le-leb, lt-ltb}
+use Rattle.std.proofs.lemmas.Bool.Decides.{nat_tests}
+use Rattle.std.proofs.lemmas.List.Elements.{All-contains}
+use Rattle.std.proofs.lemmas.List.Folds.{find-append}
+use Rattle.std.proofs.lemmas.Option.{same_Some, slice_get-get_or}
+use Rattle.class_bytes.proofs.Placing.{section_stands}
+use Rattle.class_bytes.specs.Laying.{HasRange}
+use Rattle.elf_object.specs.declared.relocation.Relocation.{Relocation}
+use Rattle.elf_object.specs.Lent.{relocations, section_bytes, section_class, section_size}
+use Rattle.elf_object.specs.Object.{section_count}
+use Rattle.elf_object.specs.Relocations.{field_width}
+use Rattle.elf_records.specs.declared.relocation.RelocationKind.{RelocationKind}
+use Rattle.elf_records.specs.declared.relocation.RelocationKind.TheVariants.{Absolute64}
+use Rattle.image_file.specs.declared.relocation.ImageRelocation.{ImageRelocation}
+use Rattle.guest_arithmetic.specs.Values.{digit}
+use Rattle.image_writer.specs.Linkable.{width}
+use Rattle.image_writer.specs.Tables.{finished}
+use Rattle.link_core.proofs.Few.{table_fits}
+use Rattle.link_core.proofs.GotRelocations.{got_above}
+use Rattle.link_core.proofs.LengthsInside.{is_object}
+use Rattle.link_core.proofs.StandingPlaces.{Lies, field_in}
+use Rattle.link_core.proofs.Together.{together}
+use Rattle.link_core.specs.Dynamic.{got_relocations, image_relocations, is_absolute, relative, relatives, sum_of}
+use Rattle.link_core.specs.Faults.{Links}
+use Rattle.link_core.specs.Images.{contents, file_kind, image_of}
+use Rattle.link_core.specs.Laws.{HasNoStray, IsCovered, IsInSite}
+use Rattle.link_core.specs.Meant.{is_in_field, is_in_rewritten, meant_byte, site_byte}
+use Rattle.link_core.specs.Meant as filed
+use Rattle.link_faults.specs.ImageKinds.{is_moved}
+use Rattle.link_needs.specs.Given.{FitsTable, IsGiven}
+use Rattle.link_needs.specs.Linking.{Linking, binding, choice, layout, object, place, sites_at}
+use Rattle.link_needs.specs.Needs.{got_start, is_kept}
+use Rattle.link_needs.specs.Values.{field, goes, is_replaced, is_rewriting, other_number, own_number}
+use Rattle.loaded_modules.specs.declared.instance.Instance.{Instance}
+use Rattle.loaded_modules.specs.Images.{JobImages}
+use Rattle.object_faults.specs.declared.class.SectionClass.{SectionClass}
+use Rattle.object_faults.specs.declared.class.SectionClass.TheVariants.{Writable}
+use Rattle.relocated_parts.specs.Left.{byte_by, is_written_at, left_byte, written_byte}
+use Rattle.section_file.proofs.Rising.{class_is}
+use Rattle.section_file.proofs.Standing.{HasPlace, has_place}
+use Rattle.sequence_forms.specs.declared.places.Site.{Site}
+use Rattle.sequence_match.proofs.Sections.{fields_apart}
+use Rattle.sequence_match.specs.Code.{AreApart}
+use Rattle.sequence_match.specs.Sites.{Covers}
+use Rattle.tls_layout.proofs.LawsOfPlaces.{lie_in_classes}
+use Rattle.tls_layout.proofs.LawsOfSections.{finds_sections}
+use Rattle.tls_layout.specs.Laws.{extent_for}
+use Rattle.tls_layout.specs.Places.{address_of}
+use Rattle.tls_relocs.specs.declared.fields.Field.TheVariants.{Empty, Word64}
+use Rattle.tls_relocs.specs.Fields.{field_bytes}
+use Rattle.tls_relocs.specs.Values.{modulo, stored_field}
+use Rattle.whole_meaning.specs.Spots.{Spot, begin_of, bias_of, spot_at, spot_in}
+use Rattle.loaded_bytes.specs.Bytes.{byte_at, byte_of_spot, field_byte, loaded_byte, loaded_field}
+use Rattle.loaded_bytes.proofs.Biases.{moved_digit, same_bias}
+use Rattle.loaded_bytes.proofs.Classes.{class_before, class_below, rank, same_rank}
+use Rattle.loaded_bytes.proofs.ClassFile.{filed_byte}
+use Rattle.loaded_bytes.proofs.Finds.{found_is, none_found, none_passes}
+use Rattle.loaded_bytes.proofs.Origins.{Origin, all_origins, has_relative}
+use Rattle.loaded_bytes.proofs.Spots.{standing}
+use Rattle.loaded_bytes.proofs.Zeros.{no_relocations}
+
+-- ** tests
+
+written_from : (address : ℕ) (r : ImageRelocation) → is_written_at address r ≡ true
+    → (r.place ≤ address) × (address < r.place + width r.kind)
+written_from address r e = grind (arith, nat_tests)
+
+written_so : (address : ℕ) (r : ImageRelocation) → r.place ≤ address → address < r.place + width r.kind
+    → is_written_at address r ≡ true
+written_so address r low high =
+    rw (le-leb r.place address low, lt-ltb address (r.place + width r.kind) high) refl
+
+absolute_is : (kind : RelocationKind) → is_absolute kind ≡ true → kind ≡ Absolute64
+absolute_is Absolute64 e = refl
+absolute_is kind e = cc
+
+-- two fields that share a byte are one
+shared : (xs : List Relocation) (x y : Relocation) (k : ℕ) → AreApart xs → Contains xs x → Contains xs y
+    → Covers x k → Covers y k → y ≡ x
+shared xs x y k apart first next covers again = elim (cases_lt first.0 next.0) [
+  | inl less ↦ absurd (apart first.0 next.0 k x y (entry x first) (entry y next) less covers again)
+  | inr most ↦ elim (cases_lt next.0 first.0) [
+    | inl less ↦ absurd (apart next.0 first.0 k y x (entry y next) (entry x first) less again covers)
+    | inr least ↦
+        let here : next.0 ≡ first.0 = omega arith in
+        let there : Some y ≡ Some x = sym (entry y next) ∙ ap (slice_get xs) here ∙ entry x first in
+        same_Some y x there
+  ]
+]
+  where
+    entry : (z : Relocation) (has : Contains xs z) → slice_get xs has.0 ≡ Some z
+    entry z has = slice_get-get_or xs has.0 z has.1 ∙ ap Some has.2
+
+-- an address of 8 bytes in an image that is not moved
+absolute_field : (kind : RelocationKind) (s : ℕ) (a : ℤ) (p g b : ℕ) → is_absolute kind ≡ true → b ≡ 0
+    → Some (Word64 (modulo (2 ^ 64) (pos (s + b) +ℤ a))) ≡ stored_field kind s a p g
+absolute_field Absolute64 s a p g b e zero =
+    let same : s + b ≡ s = omega (arith, zero) in ap (λ n. Some (Word64 (modulo (2 ^ 64) (pos n +ℤ a)))) same
+absolute_field kind s a p g b e zero = cc
+
+or_none : {X : Type 0} (found : Option X) → option_or found None ≡ found
+or_none None = refl
+or_none (Some x) = refl
+
+module _ (l : Linking) (given : IsGiven l) (links : Links l) (stray : HasNoStray l) where
+  fits : FitsTable l
+  fits = table_fits l given links.sound.limits
+
+  -- an address of 8 bytes has its field
+  not_replaced : (o : ℕ) (r : Relocation) → is_absolute r.kind ≡ true → is_replaced l o r ≡ false
+  unfolding is_replaced
+  not_replaced o r e = ap (λ kind. is_rewriting l && goes (binding l o r) kind) (absolute_is r.kind e) ∙ of_test (is_rewriting l)
+    where
+      of_test : (t : Bool) → (t && false) ≡ false
+      of_test true = refl
+      of_test false = refl
+
+  -- ** the field of an address at a byte of a section
+
+  module _ (o t k : ℕ) (there : o < length l.objects) (r : Relocation) (has : Contains (relocations (object l o) t) r)
+      (absolute : is_absolute r.kind ≡ true) (low : r.offset ≤ k) (high : k < r.offset + 8) where
+    wide : field_width r.kind ≡ 8
+    wide = ap field_width (absolute_is r.kind absolute)
+
+    in_field : (k' : ℕ) (y : Relocation) → is_in_field l o k' y ≡ true → Covers y k'
+    in_field k' y e = test y.offset k' (y.offset + field_width y.kind) (is_replaced l o y) e
+      where
+        test : (a b c : ℕ) (replaced : Bool) → ((nat_le a b && nat_lt b c) && not replaced) ≡ true → (a ≤ b) × (b < c)
+        test a b c replaced e = grind (arith, nat_tests)
+
+    field_found : find (is_in_field l o k) (relocations (object l o) t) ≡ Some r
+    field_found = of_found (find (is_in_field l o k) (relocations (object l o) t)) refl
+      where
+        hits : is_in_field l o k r ≡ true
+        hits =
+            rw (le-leb r.offset k low, lt-ltb k (r.offset + field_width r.kind) (omega (arith, wide, high)), not_replaced o r absolute) refl
+
+        of_found : (found : Option Relocation) → find (is_in_field l o k) (relocations (object l o) t) ≡ found
+            → find (is_in_field l o k) (relocations (object l o) t) ≡ Some r
+        of_found None e = absurd (none_passes (is_in_field l o k) (relocations (object l o) t) r e has hits)
+        of_found (Some y) e =
+            let f = found_is (is_in_field l o k) (relocations (object l o) t) y e in
+            e ∙ ap Some (shared (relocations (object l o) t) r y k (fields_apart (object l o) (is_object l o given there) t)
+            has f.among (low, omega (arith, wide, high)) (in_field k y f.passes))
+
+    -- no sequence stands there
+    no_sequence : find (is_in_rewritten l o t k) (sites_at l o) ≡ None
+    no_sequence =
+        none_found (is_in_rewritten l o t k) (sites_at l o) (λ site own passes.
+        let x = tests site.section t site.start k (site.start + site.len) (is_kept (choice l o site)) passes in
+        let kept = (together l o t r given links stray there has).outside (not_replaced o r absolute) k site
+        (low, omega (arith, wide, high)) (record { own = own; section = x.0; from = x.1; to = x.2 }) in
+        let other = x.3 in
+        cc)
+      where
+        tests : (a b c d e : ℕ) (kept : Bool) → ((a == b) && (nat_le c d && nat_lt d e) && not kept) ≡ true
+            → (a ≡ b) × (c ≤ d) × (d < e) × (kept ≡ false)
+        tests a b c d e kept h = grind (arith, nat_tests)
+
+    loaded_is : (bias : ℕ) → loaded_byte l bias o t k
+        ≡ slice_index_or (field_bytes (unwrap_or (loaded_field l bias o t r) Empty)) (k - r.offset) 0
+    unfolding loaded_byte
+    loaded_is bias =
+        let own = slice_index_or (section_bytes (object l o) t) k 0 in
+        ap
+        (λ site. site_byte l o k site
+        (field_byte l bias o t k (find (is_in_field l o k) (relocations (object l o) t)) own))
+        no_sequence
+        ∙ ap (λ found. field_byte l bias o t k found own) field_found
+
+  -- ** a byte that no relocation of the image writes
+
+  module _ (o t k : ℕ) (number : ℕ) where
+    -- the field is that of the file, unless it is an address of an image that is moved
+    still_field : (r : Relocation) → is_moved l.kind ≡ false
+        → loaded_field l (bias_of l.kind number) o t r ≡ field l o t r
+    unfolding field
+    still_field r still = of_test (is_absolute r.kind) refl
+      where
+        zero_bias : bias_of l.kind number ≡ 0
+        zero_bias = rw still refl
+
+        of_test : (x : Bool) → is_absolute r.kind ≡ x
+            → (if x
+            then Some (Word64 (modulo (2 ^ 64) (pos (own_number l r.kind (binding l o r) + bias_of l.kind number) +ℤ r.addend)))
+            else field l o t r)
+            ≡ field l o t r
+        of_test true e =
+            absolute_field r.kind (own_number l r.kind (binding l o r)) r.addend (place l o t r.offset)
+            (other_number l o r r.kind) (bias_of l.kind number) e zero_bias
+        of_test false e = refl
+
+    other_field : (r : Relocation) → is_absolute r.kind ≡ false
+        → loaded_field l (bias_of l.kind number) o t r ≡ field l o t r
+    other_field r e = rw e refl
+
+    -- so is the byte
+    same_byte : ((r : Relocation) → find (is_in_field l o k) (relocations (object l o) t) ≡ Some r
+        → is_absolute r.kind ≡ true → is_moved l.kind ≡ true → ⊥)
+        → meant_byte l o t k ≡ loaded_byte l (bias_of l.kind number) o t k
+    unfolding meant_byte loaded_byte
+    same_byte clean =
+        ap (site_byte l o k (find (is_in_rewritten l o t k) (sites_at l o)))
+        (of_found (find (is_in_field l o k) (relocations (object l o) t)) refl)
+      where
+        own : ℕ
+        own = slice_index_or (section_bytes (object l o) t) k 0
+
+        of_found : (found : Option Relocation) → find (is_in_field l o k) (relocations (object l o) t) ≡ found
+            → filed.field_byte l o t k found own ≡ field_byte l (bias_of l.kind number) o t k found own
+        of_found None e = refl
+        of_found (Some r) e =
+            ap (λ value. slice_index_or (field_bytes (unwrap_or value Empty)) (k - r.offset) 0)
+            (sym (same (is_absolute r.kind) refl (is_moved l.kind) refl))
+          where
+            same : (a : Bool) → is_absolute r.kind ≡ a → (b : Bool) → is_moved l.kind ≡ b
+                → loaded_field l (bias_of l.kind number) o t r ≡ field l o t r
+            same a absolute false still = still_field r still
+            same false other true moved = other_field r other
+            same true absolute true moved = absurd (clean r e absolute moved)
+
+  -- ** all of them
+
+  module _ (class : SectionClass) (range : HasRange class) (address : ℕ)
+      (from : (extent_for class (layout l)).start ≤ address) (to : address < (extent_for class (layout l)).end)
+      (m : JobImages) (x : Instance) where
+    abbrev bias : ℕ
+    bias = bias_of l.kind x.number
+
+    none_of_table : find (is_written_at address) (got_relocations l) ≡ None
+    none_of_table =
+        none_found (is_written_at address) (got_relocations l) (λ r has passes.
+        let low = All-contains (λ (y : ImageRelocation). got_start l ≤ y.place) (got_relocations l) r (got_above l) has in
+        let below = class_below (layout l) class in
+        omega (arith, (written_from address r passes).0, low, below, to))
+
+    found_is_relative : find (is_written_at address) (image_of l).relocations ≡ find (is_written_at address) (relatives l)
+    unfolding image_of finished contents image_relocations
+    found_is_relative =
+        find-append (is_written_at address) (relatives l) (got_relocations l)
+        ∙ ap (option_or (find (is_written_at address) (relatives l))) none_of_table
+        ∙ or_none (find (is_written_at address) (relatives l))
+
+    -- nothing is written there
+    unwritten : find (is_written_at address) (relatives l) ≡ None
+        → filed_byte l (spot_in l class address) ≡ byte_of_spot l (bias_of l.kind x.number) (spot_in l class address)
+    unwritten none = of_spot (spot_in l class address) refl
+      where
+        of_spot : (found : Option Spot) → spot_in l class address ≡ found
+            → filed_byte l found ≡ byte_of_spot l (bias_of l.kind x.number) found
+        of_spot None e = refl
+        of_spot (Some spot) e =
+            let y = standing l class address spot e in
+            same_byte spot.object spot.section spot.within x.number (λ r found absolute moved.
+            let f = found_is (is_in_field l spot.object spot.within) (relocations (object l spot.object) spot.section) r found in
+            let covers = covered spot.object spot.within r f.passes in
+            let wide = ap field_width (absolute_is r.kind absolute) in
+            let lies = field_in l given fits spot.object spot.section r y.there f.among in
+            let below = (has_place l.kind l.objects spot.object spot.section lies.address (y.there, lies.lies.address_is)).below in
+            let P = place l spot.object spot.section r.offset in
+            none_passes (is_written_at address) (relatives l)
+            (relative (place l spot.object spot.section r.offset) (sum_of l spot.object r)) none
+            (has_relative l spot.object spot.section r below f.among absolute moved y.there)
+            (written_so address (relative (place l spot.object spot.section r.offset) (sum_of l spot.object r))
+            (omega (arith, y.from, y.within_is, covers.0)) (omega (arith, y.from, y.within_is, covers.1, wide))))
+
+        covered : (o k : ℕ) (y : Relocation) → is_in_field l o k y ≡ true → Covers y k
+        covered o k y e = test y.offset k (y.offset + field_width y.kind) (is_replaced l o y) e
+          where
+            test : (a b c : ℕ) (replaced : Bool) → ((nat_le a b && nat_lt b c) && not replaced) ≡ true → (a ≤ b) × (b < c)
+            test a b c replaced e = grind (arith, nat_tests)
+
+    -- a relocation writes it
+    module _ (y : ImageRelocation) (o t : ℕ) (r : Relocation) (there : o < length l.objects)
+        (has : Contains (relocations (object l o) t) r) (absolute : is_absolute r.kind ≡ true)
+        (is : y ≡ relative (place l o t r.offset) (sum_of l o r)) (passes : is_written_at address y ≡ true) where
+      place_is : y.place ≡ place l o t r.offset
+      place_is = ap (λ (z : ImageRelocation). z.place) is
+
+      eight : width y.kind ≡ 8
+      eight = ap (λ (z : ImageRelocation). width z.kind) is
+
+      low : place l o t r.offset ≤ address
+      low = omega (arith, (written_from address y passes).0, place_is)
+
+      high : address < place l o t r.offset + 8
+      high = omega (arith, (written_from address y passes).1, place_is, eight)
+
+      -- it is one of the section that stands there
+      spot_is_own : spot_in l class address ≡ Some (spot_at (layout l) o address t)
+      unfolding spot_in
+      spot_is_own =
+          let lies = field_in l given fits o t r there has in
+          let begin = lies.address in
+          let at = lies.lies.address_is in
+          let begins : begin_of (layout l) o t ≡ begin = ap (λ a. unwrap_or a 0) at in
+          let place : HasPlace (object l o) t = has_place l.kind l.objects o t begin (there, at) in
+          let own : section_class (object l o) t ≡ Some place.class =
+          class_is place.class (section_class (object l o) t) place.is in
+          let found = finds_sections l.kind l.objects o t there in
+          let inside = lie_in_classes (layout l) fits.lawful o t begin place.class (found.class_is ∙ own) at in
+          let size = found.size_is (rw own refl) in
+          let wide = ap field_width (absolute_is r.kind absolute) in
+          let starts : begin_of (layout l) o t ≤ address = omega (arith, low) in
+          let ends : address < begin_of (layout l) o t + section_size (object l o) t =
+          omega (arith, high, lies.fits, wide) in
+          elim (cases_lt (rank class) (rank place.class)) [
+            | inl lower ↦
+                let before = class_before (layout l) class place.class lower in
+                absurd (omega (arith, before, to, inside.begins, starts, begins))
+            | inr more ↦ elim (cases_lt (rank place.class) (rank class)) [
+              | inl higher ↦
+                  let before = class_before (layout l) place.class class higher in
+                  absurd (omega (arith, before, from, inside.ends, size, ends, begins))
+              | inr less ↦
+                  let e : rank class ≡ rank place.class = omega (arith, more, less) in
+                  elim (same_rank class place.class range place.has e) [
+                    | inl one ↦
+                        section_stands l.kind l.objects class range o t address there place.below (own ∙ ap Some one) starts ends
+                    | inr two ↦
+                        let none = no_relocations (object l o) (is_object l o given there) t (own ∙ ap Some two.1) in
+                        absurd (let few : length (relocations (object l o) t) ≡ 0 = ap length none in omega (arith, few, has.1))
+                  ]
+            ]
+          ]
+
+      word_at : written_byte m (image_of l) x y (address - y.place)
+          ≡ slice_index_or (field_bytes (unwrap_or (loaded_field l (bias_of l.kind x.number) o t r) Empty))
+          (address - place l o t r.offset) 0
+      unfolding image_of finished contents
+      word_at =
+          let j = address - place l o t r.offset in
+          let below : j < 8 = omega (arith, low, high) in
+          let n = own_number l r.kind (binding l o r) in
+          ap (λ (z : ImageRelocation). written_byte m (image_of l) x z (address - z.place)) is
+          ∙ rw (lt-ltb (address - place l o t r.offset) 8 below)
+          (ap (λ b. digit (b + cast_unsigned w64 (sum_of l o r)) j) (same_bias l.kind x.number)
+          ∙ moved_digit n (bias_of l.kind x.number) j r.addend below)
+          ∙ sym (rw absolute refl)
+
+      written : written_byte m (image_of l) x y (address - y.place)
+          ≡ byte_of_spot l (bias_of l.kind x.number) (spot_in l class address)
+      written =
+          let k = address - begin_of (layout l) o t in
+          let same : address - place l o t r.offset ≡ k - r.offset = omega (arith, low) in
+          word_at
+          ∙ ap
+          (λ j. slice_index_or (field_bytes (unwrap_or (loaded_field l (bias_of l.kind x.number) o t r) Empty)) j 0) same
+          ∙ sym (loaded_is o t k there r has absolute (omega (arith, low)) (omega (arith, low, high))
+          (bias_of l.kind x.number))
+          ∙ sym (ap (byte_of_spot l (bias_of l.kind x.number)) spot_is_own)
+
+    pub left_is : left_byte m (image_of l) x address (filed_byte l (spot_in l class address))
+        ≡ byte_at l (bias_of l.kind x.number) class address
+    unfolding left_byte byte_at
+    left_is = of_found (find (is_written_at address) (relatives l)) refl
+      where
+        of_found : (found : Option ImageRelocation) → find (is_written_at address) (relatives l) ≡ found
+            → byte_by m (image_of l) x address (filed_byte l (spot_in l class address))
+            (find (is_written_at address) (image_of l).relocations)
+            ≡ byte_of_spot l (bias_of l.kind x.number) (spot_in l class address)
+        of_found None e =
+            ap (byte_by m (image_of l) x address (filed_byte l (spot_in l class address))) (found_is_relative ∙ e)
+            ∙ unwritten e
+        of_found (Some y) e =
+            let f = found_is (is_written_at address) (relatives l) y e in
+            let from_field = All-contains (Origin l) (relatives l) y (all_origins l) f.among in
+            ap (byte_by m (image_of l) x address (filed_byte l (spot_in l class address))) (found_is_relative ∙ e)
+            ∙ written y from_field.of_object from_field.of_section from_field.field from_field.there from_field.among
+            from_field.absolute from_field.is f.passes

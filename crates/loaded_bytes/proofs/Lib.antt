@@ -1,0 +1,11 @@
+mod Biases
+mod ClassFile
+mod ClassParts
+mod Classes
+mod Finds
+mod LeftBytes
+mod Origins
+mod Ranges
+mod Spots
+mod Still
+mod Zeros

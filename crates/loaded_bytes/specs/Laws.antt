@@ -1,0 +1,64 @@
+-- What is loaded of an instance of a linked image, byte by byte.
+use Rattle.std.specs.Prelude.{◌≡◌, ◌+◌, ◌<◌, ◌≤◌, ℕ, List, Option, Some, None, length, map, slice_get}
+use Rattle.guest_operands.specs.declared.space.Access.TheVariants.{Read, Run}
+use Rattle.guest_operands.specs.Ranges.{Range, byte_in}
+use Rattle.link_core.specs.Faults.{Links}
+use Rattle.link_core.specs.Images.{image_of}
+use Rattle.link_core.specs.Laws.{HasNoStray}
+use Rattle.link_needs.specs.Given.{IsGiven}
+use Rattle.link_needs.specs.Linking.{Linking, layout}
+use Rattle.loaded_modules.specs.declared.instance.Instance.{Instance}
+use Rattle.loaded_modules.specs.Images.{JobImages}
+use Rattle.object_faults.specs.declared.class.SectionClass.{SectionClass}
+use Rattle.object_faults.specs.declared.class.SectionClass.TheVariants.{Executable, ReadOnly, Tls, Writable}
+use Rattle.thread_blocks.specs.JobLoads.{job_loads}
+use Rattle.thread_blocks.specs.Turns.{at_number}
+use Rattle.tls_layout.specs.Laws.{extent_for}
+use Rattle.whole_meaning.specs.Loads.{has_data}
+use Rattle.whole_meaning.specs.Spots.{bias_of}
+use Rattle.loaded_bytes.specs.Bytes.{byte_at}
+
+-- the images of links, as they are loaded
+abbrev pub images_of : List Linking → JobImages
+images_of ls = record { kinds = map (λ l. l.kind) ls; images = map image_of ls }
+
+-- x is an instance of link l of a job's links
+pub record IsInstanceOf (ls : List Linking) (l : Linking) (x : Instance) : Type 0 where
+  pub image : at_number ls x.image ≡ Some l
+  pub given : IsGiven l
+  pub links : Links l
+  pub stray : HasNoStray l
+
+-- an address of the class's sections, before the image is moved
+abbrev pub IsIn : Linking → SectionClass → ℕ → Type 0
+IsIn l class address =
+    ((extent_for class (layout l)).start ≤ address) × (address < (extent_for class (layout l)).end)
+
+-- ** code
+
+abbrev pub CodeIsLoaded : Type 0
+CodeIsLoaded = (ls : List Linking) (l : Linking) (x : Instance) (address : ℕ) → IsInstanceOf ls l x
+    → IsIn l Executable address
+    → let bias = bias_of l.kind x.number in
+    byte_in Run ((job_loads (images_of ls)).fixed x) (address + bias) ≡ Some (byte_at l bias Executable address)
+
+-- ** constants, and the initial image of thread-local storage
+
+abbrev pub ReadsAre : List Linking → Linking → Instance → SectionClass → Type 0
+ReadsAre ls l x class = (address : ℕ) → IsIn l class address
+    → let bias = bias_of l.kind x.number in
+    byte_in Read ((job_loads (images_of ls)).fixed x) (address + bias) ≡ Some (byte_at l bias class address)
+
+abbrev pub ConstantsAreLoaded : Type 0
+ConstantsAreLoaded = (ls : List Linking) (l : Linking) (x : Instance) → IsInstanceOf ls l x
+    → ReadsAre ls l x ReadOnly × ReadsAre ls l x (Tls true)
+
+-- ** data
+
+-- the range that threads write, as a load makes it
+pub record IsDataOf (l : Linking) (bias : ℕ) (range : Range ℕ) : Type 0 where
+  pub start_is : range.start ≡ (extent_for (Writable true) (layout l)).start + bias
+  pub long : range.start + length range.bytes ≡ (extent_for (Writable true) (layout l)).end + bias
+  pub each : (k : ℕ) → k < length range.bytes
+      → slice_get range.bytes k
+      ≡ Some (byte_at l bias (Writable true) ((extent_for (Writable true) (layout l)).start + k))

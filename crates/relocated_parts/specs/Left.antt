@@ -1,0 +1,57 @@
+-- What a loader leaves at each address of a part, told by the digits of words: where a relocation writes, of its words,
+-- and elsewhere the part's own byte (psABI, "Relocation Types"; Drepper, "ELF Handling For Thread-Local Storage",
+-- section 4.4). No list is written over another here.
+use Rattle.std.specs.Prelude.{◌+◌, ◌-◌, ◌*◌, ◌^◌, ◌&&◌, ℕ, ℤ, Bool, Option, Some, None, nat_le, nat_lt, if◌then◌else◌}
+use Rattle.std.specs.Int.{w64, cast_unsigned}
+use Rattle.std.specs.List.{find}
+use Rattle.guest_arithmetic.specs.Values.{digit}
+use Rattle.image_faults.specs.declared.loader_kind.LoaderKind.{LoaderKind}
+use Rattle.image_faults.specs.declared.loader_kind.LoaderKind.TheVariants.{JumpSlot, Relative, Module, ModuleOffset}
+use Rattle.image_faults.specs.declared.loader_kind.LoaderKind.TheVariants.{ThreadOffset, Descriptor}
+use Rattle.image_file.specs.declared.relocation.ImageRelocation.{ImageRelocation}
+use Rattle.image_file.specs.Spelled.{Spelled}
+use Rattle.image_rules.specs.declared.places.FileKind.{FileKind}
+use Rattle.image_writer.specs.Linkable.{width}
+use Rattle.loaded_modules.specs.declared.instance.Instance.{Instance}
+use Rattle.loaded_modules.specs.declared.relocating.Target.{Target}
+use Rattle.loaded_modules.specs.Images.{JobImages}
+use Rattle.loaded_modules.specs.Loader.{bias, target_of}
+
+-- ** words
+
+-- the first word at a relocation's place; eight digits of it count, so it is one modulo 2^64
+abbrev pub first_word : FileKind → Instance → Target → LoaderKind → ℤ → ℕ
+first_word kind x t JumpSlot addend = 0x1000
+first_word kind x t Relative addend = bias kind x.number + cast_unsigned w64 addend
+first_word kind x t Module addend = t.id
+first_word kind x t ModuleOffset addend = t.offset
+first_word kind x t ThreadOffset addend = t.offset + (2 ^ 64 - t.distance)
+first_word kind x t Descriptor addend = 0x1800
+
+-- the second, which only a descriptor has
+abbrev pub second_word : Target → ℕ
+second_word t = t.id * 2 ^ 32 + t.offset
+
+-- byte k of two words
+abbrev pub digit_of_two : ℕ → ℕ → ℕ → ℕ
+digit_of_two first second k = if nat_lt k 8 then digit first k else digit second (k - 8)
+
+-- ** bytes
+
+-- the address is that of a byte that the relocation writes
+abbrev pub is_written_at : ℕ → ImageRelocation → Bool
+is_written_at address r = nat_le r.place address && nat_lt address (r.place + width r.kind)
+
+module _ (m : JobImages) (image : Spelled) (x : Instance) where
+  -- byte k of what a relocation writes
+  abbrev pub written_byte : ImageRelocation → ℕ → ℕ
+  written_byte r k =
+      let t = target_of m image x r in digit_of_two (first_word image.kind x t r.kind r.addend) (second_word t) k
+
+  abbrev pub byte_by : ℕ → ℕ → Option ImageRelocation → ℕ
+  byte_by address own None = own
+  byte_by address own (Some r) = written_byte r (address - r.place)
+
+  -- the byte at an address where the part has one of its own
+  unfoldable pub left_byte : ℕ → ℕ → ℕ
+  left_byte address own = byte_by address own (find (is_written_at address) image.relocations)
