@@ -157,7 +157,7 @@ module _ (l : Linking) (given : IsGiven l) (links : Links l) (c : SectionClass) 
       part_length (x.end - x.start) at (file l)
       (omega (arith, same_base l.kind, some, end, last, class_above (layout l) c, file_keeps l given fits, raw_longer l))
 
-  part_byte : HasRange c → (k : ℕ) → k < (extent_for c (layout l)).end - (extent_for c (layout l)).start
+  pub part_byte : HasRange c → (k : ℕ) → k < (extent_for c (layout l)).end - (extent_for c (layout l)).start
       → slice_get (class_part l c).bytes k
       ≡ Some (filed_byte l (spot_in l c ((extent_for c (layout l)).start + k)))
   unfolding part_at

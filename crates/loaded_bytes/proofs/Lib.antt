@@ -1,7 +1,9 @@
 mod Biases
+mod Blocks
 mod ClassFile
 mod ClassParts
 mod Classes
+mod Data
 mod Finds
 mod LeftBytes
 mod Origins

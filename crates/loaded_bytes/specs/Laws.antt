@@ -1,5 +1,5 @@
 -- What is loaded of an instance of a linked image, byte by byte.
-use Rattle.std.specs.Prelude.{◌≡◌, ◌+◌, ◌<◌, ◌≤◌, ℕ, List, Option, Some, None, length, map, slice_get}
+use Rattle.std.specs.Prelude.{◌≡◌, ◌+◌, ◌<◌, ◌≤◌, ℕ, Bool, true, false, List, Option, Some, None, length, map, slice_get}
 use Rattle.guest_operands.specs.declared.space.Access.TheVariants.{Read, Run}
 use Rattle.guest_operands.specs.Ranges.{Range, byte_in}
 use Rattle.link_core.specs.Faults.{Links}
@@ -14,6 +14,7 @@ use Rattle.object_faults.specs.declared.class.SectionClass.TheVariants.{Executab
 use Rattle.thread_blocks.specs.JobLoads.{job_loads}
 use Rattle.thread_blocks.specs.Turns.{at_number}
 use Rattle.tls_layout.specs.Laws.{extent_for}
+use Rattle.tls_layout.specs.Places.{initial_tls, tls_size}
 use Rattle.whole_meaning.specs.Loads.{has_data}
 use Rattle.whole_meaning.specs.Spots.{bias_of}
 use Rattle.loaded_bytes.specs.Bytes.{byte_at}
@@ -62,3 +63,32 @@ pub record IsDataOf (l : Linking) (bias : ℕ) (range : Range ℕ) : Type 0 wher
   pub each : (k : ℕ) → k < length range.bytes
       → slice_get range.bytes k
       ≡ Some (byte_at l bias (Writable true) ((extent_for (Writable true) (layout l)).start + k))
+  pub readable : range.readable ≡ true
+  pub writable : range.writable ≡ true
+  pub runnable : range.runnable ≡ false
+
+-- there is one where the image has data
+abbrev pub IsData : Linking → ℕ → Bool → Option (Range ℕ) → Type 0
+IsData l bias true None = ⊥
+IsData l bias true (Some range) = IsDataOf l bias range
+IsData l bias false None = Unit {0}
+IsData l bias false (Some range) = ⊥
+
+abbrev pub DataIsLoaded : Type 0
+DataIsLoaded = (ls : List Linking) (l : Linking) (x : Instance) → IsInstanceOf ls l x
+    → IsData l (bias_of l.kind x.number) (has_data l) ((job_loads (images_of ls)).shared x)
+
+-- ** blocks
+
+-- a thread's block before any write: the initial image as the instance has it, and zeros (gABI, "Program Loading":
+-- p_filesz and p_memsz)
+pub record IsBlockOf (l : Linking) (bias : ℕ) (bytes : List ℕ) : Type 0 where
+  pub long : length bytes ≡ tls_size (layout l).sections
+  pub initial : (k : ℕ) → k < (initial_tls (layout l).sections).end
+      → slice_get bytes k ≡ Some (byte_at l bias (Tls true) ((extent_for (Tls true) (layout l)).start + k))
+  pub rest : (k : ℕ) → (initial_tls (layout l).sections).end ≤ k → k < tls_size (layout l).sections
+      → slice_get bytes k ≡ Some 0
+
+abbrev pub BlocksAreLoaded : Type 0
+BlocksAreLoaded = (ls : List Linking) (l : Linking) (x : Instance) → IsInstanceOf ls l x
+    → IsBlockOf l (bias_of l.kind x.number) ((job_loads (images_of ls)).block x)

@@ -1,4 +1,4 @@
-mod Blocks
+pub mod Blocks
 pub mod Found
 pub mod Fold
 pub mod Loaded
