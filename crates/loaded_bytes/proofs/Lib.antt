@@ -10,4 +10,5 @@ mod Origins
 mod Ranges
 mod Spots
 mod Still
+mod Values
 mod Zeros

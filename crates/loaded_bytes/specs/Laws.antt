@@ -1,5 +1,5 @@
 -- What is loaded of an instance of a linked image, byte by byte.
-use Rattle.std.specs.Prelude.{◌≡◌, ◌+◌, ◌<◌, ◌≤◌, ℕ, Bool, true, false, List, Option, Some, None, length, map, slice_get}
+use Rattle.std.specs.Prelude.{◌≡◌, ◌≢◌, ◌+◌, ◌<◌, ◌≤◌, ℕ, Bool, true, false, List, Option, Some, None, length, map, slice_get}
 use Rattle.guest_operands.specs.declared.space.Access.TheVariants.{Read, Run}
 use Rattle.guest_operands.specs.Ranges.{Range, byte_in}
 use Rattle.link_core.specs.Faults.{Links}
@@ -16,7 +16,8 @@ use Rattle.thread_blocks.specs.Turns.{at_number}
 use Rattle.tls_layout.specs.Laws.{extent_for}
 use Rattle.tls_layout.specs.Places.{initial_tls, tls_size}
 use Rattle.whole_meaning.specs.Loads.{has_data}
-use Rattle.whole_meaning.specs.Spots.{bias_of}
+use Rattle.whole_meaning.specs.Bytes.{byte_of}
+use Rattle.whole_meaning.specs.Spots.{bias_of, spot_in}
 use Rattle.loaded_bytes.specs.Bytes.{byte_at}
 
 -- the images of links, as they are loaded
@@ -92,3 +93,13 @@ pub record IsBlockOf (l : Linking) (bias : ℕ) (bytes : List ℕ) : Type 0 wher
 abbrev pub BlocksAreLoaded : Type 0
 BlocksAreLoaded = (ls : List Linking) (l : Linking) (x : Instance) → IsInstanceOf ls l x
     → IsBlockOf l (bias_of l.kind x.number) ((job_loads (images_of ls)).block x)
+
+-- ** what the meaning of a job says
+
+-- at the addresses of a class that is not code the loaded byte is that of the meaning, in which a field holds what its
+-- relocation's type says at the instance's place
+abbrev pub BytesAreMeant : Type 0
+BytesAreMeant = (l : Linking) (number address : ℕ) (class : SectionClass) → IsGiven l → Links l → HasNoStray l
+    → class ≢ Executable
+    → byte_at l (bias_of l.kind number) class address
+    ≡ byte_of l (bias_of l.kind number) (spot_in l class address)

@@ -1,6 +1,6 @@
 //! The laws. The functions do nothing: what they ensure is the law.
 
-ghost use Rattle.loaded_bytes.specs.Laws.{BlocksAreLoaded, CodeIsLoaded, ConstantsAreLoaded, DataIsLoaded};
+ghost use Rattle.loaded_bytes.specs.Laws.{BlocksAreLoaded, BytesAreMeant, CodeIsLoaded, ConstantsAreLoaded, DataIsLoaded};
 
 /// What can be run at an address of an instance's code is the byte that its objects mean there.
 #[tactic(auto, using(crate::proofs::Still::code_loaded))]
@@ -24,4 +24,10 @@ pub fn data_is_loaded()
 #[tactic(auto, using(crate::proofs::Blocks::blocks_loaded))]
 pub fn blocks_are_loaded()
     ensures { BlocksAreLoaded }
+{}
+
+/// Outside code such a byte is that of the meaning of a job.
+#[tactic(auto, using(crate::proofs::Values::bytes_meant))]
+pub fn bytes_are_meant()
+    ensures { BytesAreMeant }
 {}
