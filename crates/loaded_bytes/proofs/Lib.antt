@@ -4,9 +4,11 @@ mod ClassFile
 mod ClassParts
 mod Classes
 mod Data
+mod FieldBytes
 mod Finds
 mod LeftBytes
 mod Origins
+mod Places
 mod Ranges
 mod Spots
 mod Still

@@ -42,7 +42,7 @@ cut_at xs a n k below = slice_get-take (a + n - a) k (drop a xs) (omega (arith, 
 filled_long : (size : ℕ) (initial : List ℕ) → length initial ≤ size → length (filled size initial) ≡ size
 filled_long size initial within =
     length-append initial (replicate (size - length initial) 0)
-    ∙ (let zeros : length (replicate (size - length initial) 0) ≡ size - length initial = length-replicate (size - length initial) 0 in
+    ∙ (let zeros : length {A = ℕ} (replicate (size - length initial) 0) ≡ size - length initial = length-replicate (size - length initial) 0 in
     omega (arith, zeros, within))
 
 filled_front : (size k : ℕ) (initial : List ℕ) → k < length initial → slice_get (filled size initial) k ≡ slice_get initial k
@@ -91,8 +91,10 @@ module _ (m : JobImages) (c : Contents) (x : Instance) (t : TlsPart) (made : IsM
     found_is : find (holds t) (finished c).parts ≡ Some p
     found_is =
         find_only (holds t) (finished c).parts i p is.at
-        (rw (le-leb p.address t.address (omega (arith, is.address)),
-        le-leb (t.address + t.initial) (p.address + length p.bytes) (omega (arith, is.address, is.long))) refl)
+        (rw (
+          le-leb p.address t.address (omega (arith, is.address)),
+          le-leb (t.address + t.initial) (p.address + length p.bytes) (omega (arith, is.address, is.long)),
+        ) refl)
         (λ j q at here.
         let within = holds_within t q here in
         one_part c made.linkable j i t.address q p at is.at within.0 (omega (arith, within.1, some))

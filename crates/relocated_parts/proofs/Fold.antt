@@ -1,5 +1,5 @@
 -- A part with the words of its relocations in it, one behind another.
-use Rattle.std.proofs.Common.{◌≡◌, ◌∙◌, ◌+◌, ◌-◌, ◌<◌, ◌≤◌, ◌⊎◌, ℕ, Bool, true, false, List, [], ◌∷◌, Some, None}
+use Rattle.std.proofs.Common.{◌≡◌, ◌∙◌, ◌+◌, ◌-◌, ◌<◌, ◌≤◌, ◌⊎◌, ◌&&◌, ℕ, Bool, true, false, List, [], ◌∷◌, Some, None}
 use Rattle.std.proofs.Common.{fold, length, inl, inr, refl, ap, arith, if◌then◌else◌}
 use Rattle.std.specs.Prelude.{nat_le, nat_lt, slice_get}
 use Rattle.std.specs.List.{All, find}
@@ -98,12 +98,12 @@ module _ (m : JobImages) (image : Spelled) (x : Instance) (part : Part) (r : Ima
 
   word_long : length (relocation_bytes m image x r) ≡ width r.kind
   unfolding relocation_bytes
-  word_long = written_long image.kind x (target_of m image x r) r.kind r.addend
+  word_long = written_long m image x r r.kind r.addend
 
   word_digit : (i : ℕ) → i < width r.kind
       → slice_get (relocation_bytes m image x r) i ≡ Some (written_byte m image x r i)
   unfolding relocation_bytes
-  word_digit i below = written_digits image.kind x (target_of m image x r) r.kind r.addend i below
+  word_digit i below = written_digits m image x r r.kind r.addend i below
 
   module _ (k own : ℕ) (is : slice_get bytes k ≡ Some own) where
     inside_part : k < length part.bytes
@@ -149,18 +149,18 @@ module _ (m : JobImages) (image : Spelled) (x : Instance) (part : Part) (r : Ima
 -- ** all of them
 
 -- nothing grows
-written_long : (t : Bool) (part : Part) (bytes : List ℕ) (place : ℕ) (w : List ℕ) → lies_in part place (length w) ≡ t
+spliced_long : (t : Bool) (part : Part) (bytes : List ℕ) (place : ℕ) (w : List ℕ) → lies_in part place (length w) ≡ t
     → length bytes ≡ length part.bytes → length (with_written part bytes place w) ≡ length part.bytes
-written_long true part bytes place w is long =
+spliced_long true part bytes place w is long =
     let at = lies_so part place (length w) is in
     rw is (length-splice (place - part.address) w bytes (omega (arith, at.0, at.1, long)) ∙ long)
-written_long false part bytes place w is long = rw is long
+spliced_long false part bytes place w is long = rw is long
 
 module _ (m : JobImages) (image : Spelled) (x : Instance) (part : Part) where
   stepped_long : (r : ImageRelocation) (bytes : List ℕ) → length bytes ≡ length part.bytes
       → length (with_relocation m image x part bytes r) ≡ length part.bytes
   stepped_long r bytes long =
-      written_long (lies_in part r.place (length (relocation_bytes m image x r))) part bytes r.place
+      spliced_long (lies_in part r.place (length (relocation_bytes m image x r))) part bytes r.place
       (relocation_bytes m image x r) refl long
 
   fold_long : (rs : List ImageRelocation) (bytes : List ℕ) → length bytes ≡ length part.bytes

@@ -10,12 +10,13 @@ use Rattle.guest_arithmetic.specs.Values.{digit}
 use Rattle.image_faults.specs.declared.loader_kind.LoaderKind.{LoaderKind}
 use Rattle.image_faults.specs.declared.loader_kind.LoaderKind.TheVariants.{JumpSlot, Relative, Module, ModuleOffset}
 use Rattle.image_faults.specs.declared.loader_kind.LoaderKind.TheVariants.{ThreadOffset, Descriptor}
-use Rattle.image_rules.specs.declared.places.FileKind.{FileKind}
+use Rattle.image_file.specs.declared.relocation.ImageRelocation.{ImageRelocation}
+use Rattle.image_file.specs.Spelled.{Spelled}
 use Rattle.image_writer.specs.Linkable.{width}
 use Rattle.loaded_modules.specs.declared.instance.Instance.{Instance}
-use Rattle.loaded_modules.specs.declared.relocating.Target.{Target}
 use Rattle.loaded_modules.specs.declared.TheConstants.{TLS_GET_ADDR, TLS_DESCRIPTOR}
-use Rattle.loaded_modules.specs.Loader.{bias, written_bytes}
+use Rattle.loaded_modules.specs.Images.{JobImages}
+use Rattle.loaded_modules.specs.Loader.{bias, target_of, written_bytes}
 use Rattle.relocated_parts.specs.Left.{digit_of_two, first_word, second_word}
 use Rattle.tls_relocs.specs.Elements.{slice_get-append, slice_get-append_behind}
 
@@ -71,25 +72,32 @@ two n second k below = elim (cases_lt k 8) [
 
 -- ** all kinds
 
-module _ (kind : FileKind) (x : Instance) (t : Target) where
-  pub written_long : (k : LoaderKind) (addend : ℤ) → length (written_bytes kind x t k addend) ≡ width k
+module _ (m : JobImages) (image : Spelled) (x : Instance) (r : ImageRelocation) where
+  pub written_long : (k : LoaderKind) (addend : ℤ)
+      → length (written_bytes image.kind x (target_of m image x r) k addend) ≡ width k
   written_long JumpSlot addend = length-bytes_of 8 TLS_GET_ADDR
-  written_long Relative addend = length-bytes_of 8 ((bias kind x.number + cast_unsigned w64 addend) % 2 ^ 64)
-  written_long Module addend = length-bytes_of 8 t.id
-  written_long ModuleOffset addend = length-bytes_of 8 t.offset
-  written_long ThreadOffset addend = length-bytes_of 8 ((t.offset + (2 ^ 64 - t.distance)) % 2 ^ 64)
+  written_long Relative addend = length-bytes_of 8 _
+  written_long Module addend = length-bytes_of 8 _
+  written_long ModuleOffset addend = length-bytes_of 8 _
+  written_long ThreadOffset addend = length-bytes_of 8 _
   written_long Descriptor addend =
+      let t = target_of m image x r in
       let both = length-append (bytes_of 8 TLS_DESCRIPTOR) (bytes_of 8 ((t.id * 2 ^ 32 + t.offset) % 2 ^ 64)) in
       let first = length-bytes_of 8 TLS_DESCRIPTOR in
       let second = length-bytes_of 8 ((t.id * 2 ^ 32 + t.offset) % 2 ^ 64) in
       omega (arith, both, first, second)
 
   pub written_digits : (k : LoaderKind) (addend : ℤ) (i : ℕ) → i < width k
-      → slice_get (written_bytes kind x t k addend) i
-      ≡ Some (digit_of_two (first_word kind x t k addend) (second_word t) i)
-  written_digits JumpSlot addend i below = one 0x1000 (second_word t) i below
-  written_digits Relative addend i below = wrapped (bias kind x.number + cast_unsigned w64 addend) (second_word t) i below
-  written_digits Module addend i below = one t.id (second_word t) i below
-  written_digits ModuleOffset addend i below = one t.offset (second_word t) i below
-  written_digits ThreadOffset addend i below = wrapped (t.offset + (2 ^ 64 - t.distance)) (second_word t) i below
-  written_digits Descriptor addend i below = two 0x1800 (t.id * 2 ^ 32 + t.offset) i below
+      → slice_get (written_bytes image.kind x (target_of m image x r) k addend) i
+      ≡ Some (digit_of_two
+      (first_word image.kind x (target_of m image x r).id (target_of m image x r).offset (target_of m image x r).distance k
+      addend)
+      (second_word (target_of m image x r).id (target_of m image x r).offset) i)
+  written_digits JumpSlot addend i below = one 0x1000 _ i below
+  written_digits Relative addend i below = wrapped (bias image.kind x.number + cast_unsigned w64 addend) _ i below
+  written_digits Module addend i below = one (target_of m image x r).id _ i below
+  written_digits ModuleOffset addend i below = one (target_of m image x r).offset _ i below
+  written_digits ThreadOffset addend i below =
+      wrapped ((target_of m image x r).offset + (2 ^ 64 - (target_of m image x r).distance)) _ i below
+  written_digits Descriptor addend i below =
+      two 0x1800 (second_word (target_of m image x r).id (target_of m image x r).offset) i below

@@ -13,24 +13,26 @@ use Rattle.image_file.specs.Spelled.{Spelled}
 use Rattle.image_rules.specs.declared.places.FileKind.{FileKind}
 use Rattle.image_writer.specs.Linkable.{width}
 use Rattle.loaded_modules.specs.declared.instance.Instance.{Instance}
-use Rattle.loaded_modules.specs.declared.relocating.Target.{Target}
 use Rattle.loaded_modules.specs.Images.{JobImages}
 use Rattle.loaded_modules.specs.Loader.{bias, target_of}
 
 -- ** words
 
--- the first word at a relocation's place; eight digits of it count, so it is one modulo 2^64
-abbrev pub first_word : FileKind → Instance → Target → LoaderKind → ℤ → ℕ
-first_word kind x t JumpSlot addend = 0x1000
-first_word kind x t Relative addend = bias kind x.number + cast_unsigned w64 addend
-first_word kind x t Module addend = t.id
-first_word kind x t ModuleOffset addend = t.offset
-first_word kind x t ThreadOffset addend = t.offset + (2 ^ 64 - t.distance)
-first_word kind x t Descriptor addend = 0x1800
+-- id, offset, distance: the module id that a relocation asks for, how far into that module's blocks, and how far below
+-- the thread pointer these begin
+module _ (kind : FileKind) (x : Instance) (id offset distance : ℕ) where
+  -- the first word at its place; eight digits of it count, so it is one modulo 2^64
+  abbrev pub first_word : LoaderKind → ℤ → ℕ
+  first_word JumpSlot addend = 0x1000
+  first_word Relative addend = bias kind x.number + cast_unsigned w64 addend
+  first_word Module addend = id
+  first_word ModuleOffset addend = offset
+  first_word ThreadOffset addend = offset + (2 ^ 64 - distance)
+  first_word Descriptor addend = 0x1800
 
 -- the second, which only a descriptor has
-abbrev pub second_word : Target → ℕ
-second_word t = t.id * 2 ^ 32 + t.offset
+abbrev pub second_word : ℕ → ℕ → ℕ
+second_word id offset = id * 2 ^ 32 + offset
 
 -- byte k of two words
 abbrev pub digit_of_two : ℕ → ℕ → ℕ → ℕ
@@ -46,7 +48,8 @@ module _ (m : JobImages) (image : Spelled) (x : Instance) where
   -- byte k of what a relocation writes
   abbrev pub written_byte : ImageRelocation → ℕ → ℕ
   written_byte r k =
-      let t = target_of m image x r in digit_of_two (first_word image.kind x t r.kind r.addend) (second_word t) k
+      let t = target_of m image x r in
+      digit_of_two (first_word image.kind x t.id t.offset t.distance r.kind r.addend) (second_word t.id t.offset) k
 
   abbrev pub byte_by : ℕ → ℕ → Option ImageRelocation → ℕ
   byte_by address own None = own

@@ -3,19 +3,16 @@
 ghost use Rattle.relocated_parts.specs.Laws.{BlocksAreLeft, LoadedPartsAreLeft, PartsAreLeft};
 
 /// What is left of a part where its relocations share no byte.
-#[tactic(auto, using(crate::proofs::Fold::parts_left))]
 pub fn parts_are_left()
     ensures { PartsAreLeft }
 {}
 
 /// So it is with each part of an image that a linker makes, at each of its instances.
-#[tactic(auto, using(crate::proofs::Loaded::loaded_left))]
 pub fn loaded_parts_are_left()
     ensures { LoadedPartsAreLeft }
 {}
 
 /// And with the block that each thread begins with.
-#[tactic(auto, using(crate::proofs::Blocks::blocks_left))]
 pub fn blocks_are_left()
     ensures { BlocksAreLeft }
 {}
