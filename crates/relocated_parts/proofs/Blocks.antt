@@ -1,5 +1,5 @@
 -- A thread's block of an instance: the initial image as the instance has it, and zeros.
-use Rattle.std.proofs.Common.{◌≡◌, ◌∙◌, ◌+◌, ◌-◌, ◌<◌, ◌≤◌, ℕ, true, List, ◌++◌, Option, Some, None, drop, get_or, length}
+use Rattle.std.proofs.Common.{◌≡◌, ◌∙◌, ◌+◌, ◌-◌, ◌<◌, ◌≤◌, ℕ, true, List, Option, Some, None, drop, get_or, length}
 use Rattle.std.proofs.Common.{take, inl, inr, refl, sym, ap, subst, arith, length-append, length-drop}
 use Rattle.std.specs.Prelude.{IfSome, replicate, slice_get, slice_range}
 use Rattle.std.specs.List.{find}
@@ -17,7 +17,7 @@ use Rattle.image_writer.specs.Tables.{finished, tables_part}
 use Rattle.loaded_modules.specs.declared.instance.Instance.{Instance}
 use Rattle.loaded_modules.specs.Images.{JobImages}
 use Rattle.loaded_modules.specs.Loader.{block_of, block_of_image, filled, fresh_block, holds, initial_bytes, part_bytes}
-use Rattle.relocated_parts.specs.Laws.{BlocksAreLeft, IsBlock, IsMade, end_of}
+use Rattle.relocated_parts.specs.Laws.{BlocksAreLeft, IsBlock, IsMade}
 use Rattle.relocated_parts.specs.Left.{left_byte}
 use Rattle.relocated_parts.proofs.Found.{find_only}
 use Rattle.relocated_parts.proofs.Loaded.{part_left}

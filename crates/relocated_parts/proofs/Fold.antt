@@ -3,7 +3,7 @@ use Rattle.std.proofs.Common.{◌≡◌, ◌∙◌, ◌+◌, ◌-◌, ◌<◌, �
 use Rattle.std.proofs.Common.{fold, length, inl, inr, refl, ap, arith, if◌then◌else◌}
 use Rattle.std.specs.Prelude.{nat_le, nat_lt, slice_get}
 use Rattle.std.specs.List.{All, find}
-use Rattle.std.proofs.lemmas.Bool.{cases_lt, lt-ltb, le-ltb, le-leb, lt-leb}
+use Rattle.std.proofs.lemmas.Bool.{cases_lt, lt-ltb, le-leb, lt-leb}
 use Rattle.std.proofs.lemmas.Bool.Decides.{nat_tests}
 use Rattle.std.proofs.lemmas.List.Elements.{All-head, All-tail}
 use Rattle.std.proofs.lemmas.Option.{slice_get_within}
@@ -16,8 +16,8 @@ use Rattle.image_file.specs.Spelled.{Part, Spelled}
 use Rattle.image_writer.specs.Linkable.{AreRising, width}
 use Rattle.loaded_modules.specs.declared.instance.Instance.{Instance}
 use Rattle.loaded_modules.specs.Images.{JobImages}
-use Rattle.loaded_modules.specs.Loader.{lies_in, part_bytes, relocation_bytes, target_of, with_relocation, with_written}
-use Rattle.relocated_parts.specs.Laws.{IsLeft, LiesWhole, PartsAreLeft, end_of}
+use Rattle.loaded_modules.specs.Loader.{lies_in, part_bytes, relocation_bytes, with_relocation, with_written}
+use Rattle.relocated_parts.specs.Laws.{LiesWhole, PartsAreLeft}
 use Rattle.relocated_parts.specs.Left.{byte_by, is_written_at, left_byte, written_byte}
 use Rattle.relocated_parts.proofs.Words.{written_digits, written_long}
 use Rattle.tls_relocs.specs.Elements.{slice_get-splice_after, slice_get-splice_before, slice_get-splice_within}

@@ -1,6 +1,6 @@
 -- The parts of an image lie behind each other, so that each relocation lies whole in one of them.
-use Rattle.std.proofs.Common.{◌≡◌, ◌∙◌, ◌+◌, ◌-◌, ◌<◌, ◌≤◌, ◌⊎◌, ℕ, zero, suc, List, [], ◌∷◌, ◌++◌, Some, length, map}
-use Rattle.std.proofs.Common.{inl, inr, refl, sym, ap, subst, arith, length-append}
+use Rattle.std.proofs.Common.{◌≡◌, ◌∙◌, ◌+◌, ◌-◌, ◌<◌, ◌≤◌, ℕ, zero, suc, [], ◌∷◌, ◌++◌, Some, length, map}
+use Rattle.std.proofs.Common.{inl, inr, refl, ap, subst, arith, length-append}
 use Rattle.std.specs.Prelude.{slice_get}
 use Rattle.std.specs.List.{All}
 use Rattle.std.proofs.lemmas.Bool.{cases_lt}
@@ -8,10 +8,10 @@ use Rattle.std.proofs.lemmas.List.{length-map}
 use Rattle.std.proofs.lemmas.List.Elements.{All-weaker}
 use Rattle.std.proofs.lemmas.Option.{get_or_from_slice_get, slice_get-map, slice_get_within}
 use Rattle.image_file.specs.declared.relocation.ImageRelocation.{ImageRelocation}
-use Rattle.image_file.specs.Spelled.{Part, Spelled}
+use Rattle.image_file.specs.Spelled.{Part}
 use Rattle.image_writer.specs.declared.outline.PartPlace.{PartPlace}
 use Rattle.image_writer.specs.Contents.{Contents}
-use Rattle.image_writer.specs.Linkable.{IsLinkable, IsRightRelocation, width}
+use Rattle.image_writer.specs.Linkable.{IsLinkable, IsRightRelocation}
 use Rattle.image_writer.specs.Outlined.{Outlined, no_part, outline_of, part, place_of}
 use Rattle.image_writer.specs.Outlined as outlined
 use Rattle.image_writer.specs.Tables.{finished, tables_part}

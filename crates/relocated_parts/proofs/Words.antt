@@ -1,5 +1,5 @@
 -- The bytes that a loader writes are the digits of words.
-use Rattle.std.proofs.Common.{◌≡◌, ◌∙◌, ◌+◌, ◌-◌, ◌*◌, ◌%◌, ◌^◌, ◌<◌, ◌≤◌, ℕ, ℤ, zero, suc, List, ◌++◌, Some, length}
+use Rattle.std.proofs.Common.{◌≡◌, ◌∙◌, ◌+◌, ◌-◌, ◌*◌, ◌%◌, ◌^◌, ◌<◌, ℕ, ℤ, zero, suc, ◌++◌, Some, length}
 use Rattle.std.proofs.Common.{inl, inr, refl, ap, arith, length-append}
 use Rattle.std.specs.Prelude.{slice_get}
 use Rattle.std.specs.Int.{w64, cast_unsigned}
