@@ -42,7 +42,7 @@ module _ (ls : List Linking) (l : Linking) (x : Instance) where
   abbrev Found : ℕ → List Part → Option (Range ℕ)
   Found n parts = find (λ (range : Range ℕ). range.writable) (parts_from (images_of ls) (image_of l) x n parts)
 
-  from-append : (n : ℕ) (ps qs : List Part)
+  pub from-append : (n : ℕ) (ps qs : List Part)
       → parts_from (images_of ls) (image_of l) x n (ps ++ qs)
       ≡ parts_from (images_of ls) (image_of l) x n ps ++ parts_from (images_of ls) (image_of l) x (n + length ps) qs
   from-append n [] qs =
@@ -127,29 +127,29 @@ module _ (ls : List Linking) (l : Linking) (x : Instance) where
 
   -- ** all parts
 
-  abbrev f : PartPlace → Part
+  abbrev pub f : PartPlace → Part
   f = part_in (file_kind l.kind) (file l)
 
-  abbrev code : List PartPlace
+  abbrev pub code : List PartPlace
   code = filled Executable (executable (layout l).kind (layout l).sections)
 
-  abbrev constants : List PartPlace
+  abbrev pub constants : List PartPlace
   constants = filled ReadOnly (read_only (layout l).kind (layout l).sections)
 
-  abbrev initial : List PartPlace
+  abbrev pub initial : List PartPlace
   initial = filled ReadOnly (tls_image (layout l).kind (layout l).sections)
 
-  abbrev written : List PartPlace
+  abbrev pub written : List PartPlace
   written = filled Writable (writable (layout l).kind (layout l).sections)
 
-  abbrev rest : List Part
+  abbrev pub rest : List Part
   rest = map (part_in (file_kind l.kind) (file l)) (got_places l ++ stub_places l) ++ (tables_part (contents l) ∷ [])
 
   -- how many parts lie before the data
-  abbrev front_parts : ℕ
+  abbrev pub front_parts : ℕ
   front_parts = length code + (length constants + length initial)
 
-  parts_are : (image_of l).parts
+  pub parts_are : (image_of l).parts
       ≡ map f code ++ (map f constants ++ (map f initial ++ (map f written ++ rest)))
   unfolding image_of finished contents places section_places
   parts_are =
@@ -166,7 +166,7 @@ module _ (ls : List Linking) (l : Linking) (x : Instance) where
       joined : (a b c d e g : List Part) → ((a ++ (b ++ (c ++ d))) ++ e) ++ g ≡ a ++ (b ++ (c ++ (d ++ (e ++ g))))
       joined a b c d e g = simp append_assoc
 
-  places_long : length (section_places (layout l)) ≡ front_parts + length written
+  pub places_long : length (section_places (layout l)) ≡ front_parts + length written
   unfolding section_places
   places_long =
       let one = length-append code (constants ++ (initial ++ written)) in

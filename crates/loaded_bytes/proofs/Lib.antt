@@ -4,12 +4,14 @@ mod ClassFile
 mod ClassParts
 mod Classes
 mod Data
+mod Elsewhere
 mod FieldBytes
 mod Finds
 mod LeftBytes
 mod Origins
 mod Places
 mod Ranges
+mod RoomParts
 mod Spots
 mod Still
 mod Values

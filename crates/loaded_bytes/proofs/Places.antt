@@ -34,7 +34,7 @@ use Rattle.loaded_bytes.proofs.Biases.{same_bias}
 use Rattle.loaded_bytes.proofs.Ranges.{still}
 use Rattle.loaded_bytes.proofs.Still.{fixed_is, image_is}
 
-holds_so : (start place n : ℕ) → (nat_le start place && nat_lt (place - start) n) ≡ true → (start ≤ place) × (place - start < n)
+pub holds_so : (start place n : ℕ) → (nat_le start place && nat_lt (place - start) n) ≡ true → (start ≤ place) × (place - start < n)
 holds_so start place n e = grind (arith, nat_tests)
 
 second_of : (a b : Bool) → (a && b) ≡ true → b ≡ true
@@ -48,24 +48,24 @@ no_code ReadOnly t e = refl
 no_code Writable t e = refl
 
 module _ (ls : List Linking) (l : Linking) (x : Instance) (is : IsInstanceOf ls l x) where
-  abbrev part_range : ℕ → Part → Range ℕ
+  abbrev pub part_range : ℕ → Part → Range ℕ
   part_range n p = instance_part (images_of ls) (image_of l) x n p
 
-  abbrev Ranges : ℕ → List Part → List (Range ℕ)
+  abbrev pub Ranges : ℕ → List Part → List (Range ℕ)
   Ranges n ps = parts_from (images_of ls) (image_of l) x n ps
 
-  kind_bias : bias (image_of l).kind x.number ≡ bias_of l.kind x.number
+  pub kind_bias : bias (image_of l).kind x.number ≡ bias_of l.kind x.number
   unfolding image_of finished contents
   kind_bias = same_bias l.kind x.number
 
   -- ** parts
 
   -- a part lies among the addresses of an image
-  record IsInside (p : Part) : Type 0 where
+  pub record IsInside (p : Part) : Type 0 where
     pub above : base_of l.kind ≤ p.address
     pub below : end_of p ≤ base_of l.kind + 2 ^ 26
 
-  inside : (i : ℕ) (p : Part) → slice_get (image_of l).parts i ≡ Some p → IsInside p
+  pub inside : (i : ℕ) (p : Part) → slice_get (image_of l).parts i ≡ Some p → IsInside p
   unfolding image_of
   inside i p at =
       let link = linkable l is.given is.links.sound in
@@ -91,13 +91,13 @@ module _ (ls : List Linking) (l : Linking) (x : Instance) (is : IsInstanceOf ls 
 
   -- ** what is found
 
-  abbrev AllInside : List Part → Type 0
+  abbrev pub AllInside : List Part → Type 0
   AllInside ps = (i : ℕ) (p : Part) → slice_get ps i ≡ Some p → IsInside p
 
   rest : (p : Part) (ps : List Part) → AllInside (p ∷ ps) → AllInside ps
   rest p ps all i q at = all (suc i) q at
 
-  found_own : (n : ℕ) (ps : List Part) → AllInside ps → (access : Access) (place byte : ℕ)
+  pub found_own : (n : ℕ) (ps : List Part) → AllInside ps → (access : Access) (place byte : ℕ)
       → byte_in access (still (Ranges n ps)) place ≡ Some byte → IsOwn l (bias_of l.kind x.number) place
   found_own n [] all access place byte e = cc
   found_own n (p ∷ ps) all access place byte e =

@@ -1,7 +1,7 @@
 //! The laws. The functions do nothing: what they ensure is the law.
 
 ghost use Rattle.loaded_bytes.specs.Laws.{BlocksAreLoaded, BytesAreMeant, CodeIsLoaded, ConstantsAreLoaded, DataIsLoaded};
-ghost use Rattle.loaded_bytes.specs.Places.{PlacesAreOwn};
+ghost use Rattle.loaded_bytes.specs.Places.{AllElseIsInTheRoom, PlacesAreOwn};
 
 /// What can be run at an address of an instance's code is the byte that its objects mean there.
 pub fn code_is_loaded()
@@ -31,4 +31,9 @@ pub fn bytes_are_meant()
 /// All that is loaded of an instance lies among its own places, and the data that threads write apart from all else.
 pub fn places_are_own()
     ensures { PlacesAreOwn }
+{}
+
+/// Nothing else can be read or run of an instance, but in the room, where all lies that a linker adds to the sections.
+pub fn all_else_is_in_the_room()
+    ensures { AllElseIsInTheRoom }
 {}
