@@ -8,6 +8,7 @@ mod Elsewhere
 mod FieldBytes
 mod Finds
 mod LeftBytes
+mod Meant
 mod Origins
 mod Places
 mod Ranges

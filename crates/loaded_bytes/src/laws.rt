@@ -1,6 +1,7 @@
 //! The laws. The functions do nothing: what they ensure is the law.
 
 ghost use Rattle.loaded_bytes.specs.Laws.{BlocksAreLoaded, BytesAreMeant, CodeIsLoaded, ConstantsAreLoaded, DataIsLoaded};
+ghost use Rattle.loaded_bytes.specs.Meant.{BlocksAreMeant, DataIsMeant, ReadsAreMeant};
 ghost use Rattle.loaded_bytes.specs.Places.{AllElseIsInTheRoom, PlacesAreOwn};
 
 /// What can be run at an address of an instance's code is the byte that its objects mean there.
@@ -36,4 +37,19 @@ pub fn places_are_own()
 /// Nothing else can be read or run of an instance, but in the room, where all lies that a linker adds to the sections.
 pub fn all_else_is_in_the_room()
     ensures { AllElseIsInTheRoom }
+{}
+
+/// So what can be read of an instance outside the room is what the meaning of the job has there,
+pub fn reads_are_meant()
+    ensures { ReadsAreMeant }
+{}
+
+/// and so are its data, as a load makes it,
+pub fn data_is_meant()
+    ensures { DataIsMeant }
+{}
+
+/// and the block that each thread begins with.
+pub fn blocks_are_meant()
+    ensures { BlocksAreMeant }
 {}
