@@ -20,8 +20,7 @@ use Rattle.link_faults.specs.ImageKinds.{base_of}
 use Rattle.link_needs.specs.Given.{IsGiven}
 use Rattle.link_needs.specs.Linking.{Linking, layout}
 use Rattle.link_needs.specs.Needs.{got_size, got_start, has_stub, stub_start}
-use Rattle.tls_layout.proofs.Rounds.{page_up-above}
-use Rattle.tls_layout.proofs.Together.{rise}
+use Rattle.tls_layout.proofs.Together.{page_up-above, rise}
 use Rattle.tls_layout.specs.Places.{executable, initial_data, read_only, room, tls_image, writable, zero_data}
 use Rattle.tls_layout.specs.Rounding.{page_up}
 
