@@ -77,13 +77,13 @@ module _ (ls : List Linking) (l : Linking) (x : Instance) (is : IsInstanceOf ls 
       }
 
   block_is : IsBlockOf l (bias_of l.kind x.number) (fresh_block (images_of ls) x)
+  unfolding contents tls_part
   block_is = of_test (tls_size (layout l).sections == 0) refl
     where
       zero : (n : ℕ) → (n == 0) ≡ true → n ≡ 0
       zero n e = grind (arith, nat_tests)
 
       tls_is : (t : Bool) → (tls_size (layout l).sections == 0) ≡ t → (contents l).tls ≡ (if t then None else Some segment)
-      unfolding contents tls_part
       tls_is t e = ap (λ (b : Bool). if b then None else Some segment) e
 
       of_test : (t : Bool) → (tls_size (layout l).sections == 0) ≡ t

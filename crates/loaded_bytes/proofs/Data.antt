@@ -32,7 +32,7 @@ use Rattle.tls_layout.specs.Places.{executable, read_only, tls_image, writable}
 use Rattle.whole_meaning.specs.Loads.{has_data}
 use Rattle.whole_meaning.specs.Spots.{bias_of}
 use Rattle.loaded_bytes.specs.Laws.{DataIsLoaded, IsData, IsDataOf, IsInstanceOf, images_of}
-use Rattle.loaded_bytes.proofs.Biases.{same_bias}
+use Rattle.loaded_bytes.proofs.Biases.{image_bias}
 use Rattle.loaded_bytes.proofs.ClassParts.{class_part, part_loaded, part_long}
 use Rattle.loaded_bytes.proofs.Still.{image_is, not_table}
 
@@ -213,7 +213,7 @@ module _ (ls : List Linking) (l : Linking) (x : Instance) where
         let part = class_part l (class.Writable true) in
         let left = left_long (images_of ls) (image_of l) x part in
         let long = part_long l is.given is.links (class.Writable true) some in
-        let moved = kind_bias in
+        let moved = image_bias l x.number in
         record {
           start_is = ap (λ b. (extent_for (class.Writable true) (layout l)).start + b) moved;
           long = omega (arith, left, long, moved, some);
@@ -224,10 +224,6 @@ module _ (ls : List Linking) (l : Linking) (x : Instance) where
           writable = rw other refl;
           runnable = refl;
         }
-      where
-        kind_bias : bias (image_of l).kind x.number ≡ bias_of l.kind x.number
-        unfolding image_of finished contents
-        kind_bias = same_bias l.kind x.number
 
     data_is : IsData l (bias_of l.kind x.number) (has_data l) (Found 0 (image_of l).parts)
     data_is =
@@ -241,7 +237,7 @@ module _ (ls : List Linking) (l : Linking) (x : Instance) where
         of_test : (t : Bool)
             → nat_lt (extent_for (class.Writable true) (layout l)).start (extent_for (class.Writable true) (layout l)).end ≡ t
             → length (section_places (layout l))
-            ≡ front_parts + length (if t
+            ≡ front_parts + length {A = PartPlace} (if t
             then record {
               class = Writable;
               address = (writable (layout l).kind (layout l).sections).start;

@@ -52,7 +52,7 @@ found_either access (x ∷ xs) ys place byte e =
         → (byte_in access xs place ≡ Some byte) ⊎ (byte_in access ys place ≡ Some byte))
         → ((if t then slice_get x.bytes (place - x.start) else byte_in access xs place) ≡ Some byte)
         ⊎ (byte_in access ys place ≡ Some byte)
-    of_test true e rest = inl e
+    of_test true e later = inl e
     of_test false e rest = rest e
 
 -- what no thread writes is not written

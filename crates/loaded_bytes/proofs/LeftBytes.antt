@@ -16,6 +16,7 @@ use Rattle.elf_object.specs.declared.relocation.Relocation.{Relocation}
 use Rattle.elf_object.specs.Lent.{relocations, section_bytes, section_class, section_size}
 use Rattle.elf_object.specs.Object.{section_count}
 use Rattle.elf_object.specs.Relocations.{field_width}
+use Rattle.elf_records.specs.Fields.{bytes_of}
 use Rattle.elf_records.specs.declared.relocation.RelocationKind.{RelocationKind}
 use Rattle.elf_records.specs.declared.relocation.RelocationKind.TheVariants.{Absolute64}
 use Rattle.image_file.specs.declared.relocation.ImageRelocation.{ImageRelocation}
@@ -102,6 +103,12 @@ module _ (l : Linking) (given : IsGiven l) (links : Links l) (stray : HasNoStray
         → filed_byte l (spot_in l class address) ≡ byte_of_spot l (bias_of l.kind x.number) (spot_in l class address)
     unwritten none = of_spot (spot_in l class address) refl
       where
+        covered : (o k : ℕ) (y : Relocation) → is_in_field l o k y ≡ true → Covers y k
+        covered o k y e = test y.offset k (y.offset + field_width y.kind) (is_replaced l o y) e
+          where
+            test : (a b c : ℕ) (replaced : Bool) → ((nat_le a b && nat_lt b c) && not replaced) ≡ true → (a ≤ b) × (b < c)
+            test a b c replaced e = grind (arith, nat_tests)
+
         of_spot : (found : Option Spot) → spot_in l class address ≡ found
             → filed_byte l found ≡ byte_of_spot l (bias_of l.kind x.number) found
         of_spot None e = refl
@@ -119,12 +126,6 @@ module _ (l : Linking) (given : IsGiven l) (links : Links l) (stray : HasNoStray
             (has_relative l spot.object spot.section r below f.among absolute moved y.there)
             (written_so address (relative (place l spot.object spot.section r.offset) (sum_of l spot.object r))
             (omega (arith, y.from, y.within_is, covers.0)) (omega (arith, y.from, y.within_is, covers.1, wide))))
-
-        covered : (o k : ℕ) (y : Relocation) → is_in_field l o k y ≡ true → Covers y k
-        covered o k y e = test y.offset k (y.offset + field_width y.kind) (is_replaced l o y) e
-          where
-            test : (a b c : ℕ) (replaced : Bool) → ((nat_le a b && nat_lt b c) && not replaced) ≡ true → (a ≤ b) × (b < c)
-            test a b c replaced e = grind (arith, nat_tests)
 
     -- a relocation writes it
     module _ (y : ImageRelocation) (o t : ℕ) (r : Relocation) (there : o < length l.objects)
@@ -185,14 +186,21 @@ module _ (l : Linking) (given : IsGiven l) (links : Links l) (stray : HasNoStray
           (address - place l o t r.offset) 0
       unfolding image_of finished contents
       word_at =
-          let j = address - place l o t r.offset in
+          let j : ℕ = address - place l o t r.offset in
           let below : j < 8 = omega (arith, low, high) in
-          let n = own_number l r.kind (binding l o r) in
-          ap (λ (z : ImageRelocation). written_byte m (image_of l) x z (address - z.place)) is
-          ∙ rw (lt-ltb (address - place l o t r.offset) 8 below)
-          (ap (λ b. digit (b + cast_unsigned w64 (sum_of l o r)) j) (same_bias l.kind x.number)
-          ∙ moved_digit n (bias_of l.kind x.number) j r.addend below)
-          ∙ sym (rw absolute refl)
+          let n : ℕ = own_number l r.kind (binding l o r) in
+          let first : written_byte m (image_of l) x y (address - y.place)
+              ≡ written_byte m (image_of l) x (relative (place l o t r.offset) (sum_of l o r)) (address - place l o t r.offset) =
+          ap (λ (z : ImageRelocation). written_byte m (image_of l) x z (address - z.place)) is in
+          let second : written_byte m (image_of l) x (relative (place l o t r.offset) (sum_of l o r)) (address - place l o t r.offset)
+              ≡ digit (bias_of l.kind x.number + cast_unsigned w64 (sum_of l o r)) (address - place l o t r.offset) =
+          rw (lt-ltb (address - place l o t r.offset) 8 below)
+          (ap (λ b. digit (b + cast_unsigned w64 (sum_of l o r)) (address - place l o t r.offset)) (same_bias l.kind x.number)) in
+          let third : slice_index_or (bytes_of 8 (modulo (2 ^ 64) (pos (n + bias_of l.kind x.number) +ℤ r.addend)))
+              (address - place l o t r.offset) 0
+              ≡ slice_index_or (field_bytes (unwrap_or (loaded_field l (bias_of l.kind x.number) o t r) Empty))
+              (address - place l o t r.offset) 0 = rw absolute refl in
+          first ∙ second ∙ moved_digit n (bias_of l.kind x.number) j r.addend below ∙ third
 
       written : written_byte m (image_of l) x y (address - y.place)
           ≡ byte_of_spot l (bias_of l.kind x.number) (spot_in l class address)

@@ -14,9 +14,7 @@ use Rattle.image_file.specs.Spelled.{Part}
 use Rattle.image_writer.specs.declared.outline.PartPlace.{PartPlace}
 use Rattle.image_writer.specs.Outlined as outlined
 use Rattle.link_core.proofs.Linkable.{linkable}
-use Rattle.link_core.proofs.LoadsTls.{same_base}
 use Rattle.link_core.specs.Images.{contents, image_of}
-use Rattle.image_writer.specs.Page.{base_of as page_base}
 use Rattle.image_writer.specs.Tables.{finished}
 use Rattle.link_faults.specs.ImageKinds.{base_of}
 use Rattle.link_needs.specs.Linking.{Linking}
@@ -30,7 +28,7 @@ use Rattle.thread_blocks.specs.Loading.{is_code, is_written}
 use Rattle.whole_meaning.specs.Spots.{bias_of}
 use Rattle.loaded_bytes.specs.Laws.{IsInstanceOf, images_of}
 use Rattle.loaded_bytes.specs.Places.{IsApart, IsOwn, LiesAtItsPlaces, PlacesAreOwn}
-use Rattle.loaded_bytes.proofs.Biases.{same_bias}
+use Rattle.loaded_bytes.proofs.Biases.{image_base, image_bias}
 use Rattle.loaded_bytes.proofs.Ranges.{still}
 use Rattle.loaded_bytes.proofs.Still.{fixed_is, image_is}
 
@@ -55,8 +53,7 @@ module _ (ls : List Linking) (l : Linking) (x : Instance) (is : IsInstanceOf ls 
   Ranges n ps = parts_from (images_of ls) (image_of l) x n ps
 
   pub kind_bias : bias (image_of l).kind x.number ≡ bias_of l.kind x.number
-  unfolding image_of finished contents
-  kind_bias = same_bias l.kind x.number
+  kind_bias = image_bias l x.number
 
   -- ** parts
 
@@ -73,12 +70,8 @@ module _ (ls : List Linking) (l : Linking) (x : Instance) (is : IsInstanceOf ls 
       let right = link.loadable.parts i (part_within (contents l) link i p at) in
       let address = ap (λ (place : PartPlace). place.address) here in
       let end = ap outlined.end_of here in
-      let base = kind_base in
+      let base = image_base l in
       record { above = omega (arith, right.above, address, base); below = omega (arith, right.below, end, base) }
-    where
-      kind_base : page_base (finished (contents l)).kind ≡ base_of l.kind
-      unfolding finished contents
-      kind_base = same_base l.kind
 
   -- a place of its range is the instance's
   own_place : (n : ℕ) (p : Part) → IsInside p → (place : ℕ) → holds (part_range n p) place ≡ true
@@ -278,7 +271,6 @@ places_own ls l x is =
     shared_of : (job_loads (images_of ls)).shared x ≡ find (λ (r : Range ℕ). r.writable) (parts_from (images_of ls) (image_of l) x 0 (image_of l).parts)
         → (job_loads (images_of ls)).fixed x ≡ still (parts_from (images_of ls) (image_of l) x 0 (image_of l).parts)
         → IfSome ((job_loads (images_of ls)).shared x) (IsApart l (bias_of l.kind x.number) ((job_loads (images_of ls)).fixed x))
-    unfolding job_loads
     shared_of shared fixed =
         subst (λ (ranges : List (Range ℕ)). IfSome ((job_loads (images_of ls)).shared x) (IsApart l (bias_of l.kind x.number) ranges)) (sym fixed)
         (subst (λ (o : Option (Range ℕ)). IfSome o (IsApart l (bias_of l.kind x.number) (still (parts_from (images_of ls) (image_of l) x 0 (image_of l).parts)))) (sym shared)

@@ -1,5 +1,5 @@
 -- What a linker adds to the sections, the table, the stub and the dynamic tables, lies in the room behind them.
-use Rattle.std.proofs.Common.{◌≡◌, ◌+◌, ◌-◌, ◌<◌, ◌≤◌, ◌==◌, ◌∙◌, ℕ, Bool, true, false, List, [], ◌∷◌, ◌++◌, append-nil, length, map}
+use Rattle.std.proofs.Common.{◌≡◌, ◌+◌, ◌-◌, ◌<◌, ◌≤◌, ◌==◌, ◌∙◌, ℕ, suc, Bool, true, false, List, [], ◌∷◌, ◌++◌, append-nil, length, map}
 use Rattle.std.proofs.Common.{inl, inr, refl, sym, ap, arith, if◌then◌else◌}
 use Rattle.std.specs.Prelude.{nat_lt}
 use Rattle.std.specs.List.{All}
@@ -122,10 +122,10 @@ module _ (l : Linking) (given : IsGiven l) (links : Links l) where
       ]
     where
       sections_are : last_end (base_of l.kind) (section_places (layout l)) ≡ last_end (base_of l.kind) (code ++ (constants ++ (image ++ written)))
-      unfolding section_places
       sections_are = refl
 
   pub tables_added : room (layout l).kind (layout l).sections ≤ (tables_part (contents l)).address
+  unfolding places
   tables_added =
       let t = tabled l given links.sound.limits in
       let end = ends_added (room (layout l).kind (layout l).sections) (last_end (base_of l.kind) (section_places (layout l)))
@@ -135,6 +135,5 @@ module _ (l : Linking) (given : IsGiven l) (links : Links l) where
     where
       places_end : page_up (last_end (base_of l.kind) (places l))
           ≡ page_up (last_end (last_end (base_of l.kind) (section_places (layout l))) (got_places l ++ stub_places l))
-      unfolding places
       places_end =
           ap page_up (last_end-append (base_of l.kind) (section_places (layout l)) (got_places l ++ stub_places l))

@@ -1,6 +1,6 @@
 -- Code, constants and the initial image are found as they are loaded.
 use Rattle.std.proofs.Common.{◌≡◌, ◌+◌, ◌-◌, ◌<◌, ◌≤◌, ◌&&◌, ◌==◌, ◌∙◌, ℕ, zero, suc, Bool, true, false, not, List, map, Option, Some, None}
-use Rattle.std.proofs.Common.{length, refl, sym, ap, subst, arith}
+use Rattle.std.proofs.Common.{length, refl, sym, ap, subst, arith, if◌then◌else◌}
 use Rattle.std.specs.Prelude.{option_map, slice_get}
 use Rattle.std.proofs.lemmas.Bool.{ne_eqb}
 use Rattle.std.proofs.lemmas.Option.{slice_get-map}
@@ -28,7 +28,7 @@ use Rattle.tls_layout.specs.Laws.{extent_for}
 use Rattle.whole_meaning.specs.Spots.{bias_of}
 use Rattle.loaded_bytes.specs.Bytes.{byte_at}
 use Rattle.loaded_bytes.specs.Laws.{CodeIsLoaded, ConstantsAreLoaded, IsInstanceOf, ReadsAre, images_of}
-use Rattle.loaded_bytes.proofs.Biases.{same_bias}
+use Rattle.loaded_bytes.proofs.Biases.{image_bias}
 use Rattle.loaded_bytes.proofs.ClassParts.{IsPart, class_part, part_loaded, part_long, part_of}
 use Rattle.loaded_bytes.proofs.Ranges.{found_in_part, still}
 
@@ -39,7 +39,6 @@ unfolding image_at
 image_is ls l x e = of_number x.image e
   where
     of_number : (n : ℕ) → at_number ls n ≡ Some l → image_at (images_of ls) n ≡ Some (image_of l)
-    unfolding image_at
     of_number zero e = cc
     of_number (suc i) e = slice_get-map image_of ls i ∙ ap (option_map image_of) e
 
@@ -75,7 +74,7 @@ module _ (ls : List Linking) (l : Linking) (x : Instance) (is : IsInstanceOf ls 
       ap (λ (ranges : List (Range ℕ)). byte_in access ranges (address + bias_of l.kind x.number)) (fixed_is ls l x is.image)
       ∙ ap
       (λ b. byte_in access (still (parts_from (images_of ls) (image_of l) x 0 (image_of l).parts)) (address + b))
-      (sym (kind_bias))
+      (sym (image_bias l x.number))
       ∙ found_in_part (images_of ls) (image_of l) x access address (class_part l class) from
       (omega (arith, long, from, to)) 0 part.index part.index (image_of l).parts (omega arith) part.at
       (λ j q less there.
@@ -85,10 +84,6 @@ module _ (ls : List Linking) (l : Linking) (x : Instance) (is : IsInstanceOf ls 
       ∙ part_loaded l is.given is.links class range is.stray (images_of ls) x (image_is ls l x is.image) (address - start)
       (omega (arith, from, to))
       ∙ ap (λ a. Some (byte_at l (bias_of l.kind x.number) class a)) again
-    where
-      kind_bias : bias (image_of l).kind x.number ≡ bias_of l.kind x.number
-      unfolding image_of finished contents
-      kind_bias = same_bias l.kind x.number
 
 -- the laws
 pub code_loaded : CodeIsLoaded

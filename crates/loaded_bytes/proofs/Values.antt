@@ -164,7 +164,7 @@ module _ (l : Linking) (bias : ℕ) (still : is_moved l.kind ≡ false → bias 
       of_test false e = still e
 
   unmoved : (n : ℕ) → bias ≡ 0 → n ≡ n + bias
-  unmoved n zero = omega (arith, zero)
+  unmoved n still_there = omega (arith, still_there)
 
   same : (kind : RelocationKind) (bound : Option Binding) → has_value kind ≡ true → (IsOfCode kind → ⊥)
       → IsBound l kind bound → left kind bound ≡ meant kind bound
@@ -232,7 +232,7 @@ empty_field kind a k replaced e = cc
 
 full_field : (c value replaced : Bool) → value ≡ true → replaced ≡ false → (c && not replaced) ≡ (value && c)
 full_field true value replaced e f = rw (e, f) refl
-full_field false value replaced e f = rw (e, f) refl
+full_field false value replaced e f = rw e refl
 
 module _ (l : Linking) (given : IsGiven l) (links : Links l) (stray : HasNoStray l) (number o s : ℕ)
     (there : o < length l.objects) (data_here : section_class (object l o) s ≢ Some Executable) where
@@ -259,7 +259,6 @@ module _ (l : Linking) (given : IsGiven l) (links : Links l) (stray : HasNoStray
   test_is k r has = of_test (names_symbol r.kind) refl
     where
       of_test : (t : Bool) → names_symbol r.kind ≡ t → is_in_field l o k r ≡ (has_value r.kind && covers k r)
-      unfolding is_replaced
       of_test true e =
           let some = names_some r.kind e in
           let bound = bound_is l given links stray o s r there has data_here some in

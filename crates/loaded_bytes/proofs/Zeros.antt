@@ -1,7 +1,7 @@
 -- Data without bytes in its object's file is zero: it has no field and no sequence.
 use Rattle.std.proofs.Common.{◌≡◌, ◌≢◌, ◌+◌, ◌<◌, ◌∙◌, ℕ, Bool, true, false, List, [], ◌∷◌, Option, Some, None, length, refl}
 use Rattle.std.proofs.Common.{sym, ap, subst, arith, inl, inr, if◌then◌else◌}
-use Rattle.std.specs.Prelude.{nat_lt, slice_index_or, ◌==◌, ◌&&◌}
+use Rattle.std.specs.Prelude.{nat_le, nat_lt, not, slice_index_or, ◌==◌, ◌&&◌}
 use Rattle.std.specs.List.{Contains, find}
 use Rattle.std.proofs.lemmas.Bool.Decides.{nat_tests}
 use Rattle.std.proofs.lemmas.List.Elements.{All-contains}
@@ -17,7 +17,8 @@ use Rattle.elf_object.specs.Parts.{IsRela, entry_count, section}
 use Rattle.link_core.proofs.LengthsInside.{form_some, is_code, is_object}
 use Rattle.link_core.specs.Meant.{is_in_rewritten}
 use Rattle.link_needs.specs.Given.{IsGiven}
-use Rattle.link_needs.specs.Linking.{Linking, object, sites_at}
+use Rattle.link_needs.specs.Linking.{Linking, choice, object, sites_at}
+use Rattle.link_needs.specs.Needs.{is_kept}
 use Rattle.object_faults.specs.declared.class.SectionClass.{SectionClass}
 use Rattle.object_faults.specs.declared.class.SectionClass.TheVariants.{Executable, Writable}
 use Rattle.object_rules.specs.declared.fault.FaultKind.TheVariants.{RelocTarget}
@@ -104,7 +105,7 @@ no_site l given o t k there other =
     other (ap (section_class (object l o)) (sym (section_is site passes)) ∙ site_class l given o site there has))
   where
     section_is : (site : Site) → is_in_rewritten l o t k site ≡ true → site.section ≡ t
-    section_is site e = same site.section t _ e
+    section_is site e = same site.section t site.start k (site.start + site.len) (is_kept (choice l o site)) e
       where
-        same : (a b : ℕ) (rest : Bool) → ((a == b) && rest) ≡ true → a ≡ b
-        same a b rest e = grind (arith, nat_tests)
+        same : (a b c d e : ℕ) (kept : Bool) → ((a == b) && (nat_le c d && nat_lt d e) && not kept) ≡ true → a ≡ b
+        same a b c d e kept h = grind (arith, nat_tests)
