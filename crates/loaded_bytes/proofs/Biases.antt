@@ -1,6 +1,6 @@
 -- How far a loader moves an instance is how far its objects' meaning does; and a word that moves.
-use Rattle.std.proofs.Common.{◌≡◌, ◌+◌, ◌-◌, ◌<◌, ◌%◌, ◌^◌, ◌∙◌, ℕ, ℤ, Some, pos, refl, sym, ap, arith}
-use Rattle.std.specs.Prelude.{◌+ℤ◌, slice_get, slice_index_or}
+use Rattle.std.proofs.Common.{◌≡◌, ◌+◌, ◌<◌, ◌^◌, ◌∙◌, ℕ, ℤ, pos, refl, sym, ap, arith}
+use Rattle.std.specs.Prelude.{◌+ℤ◌, slice_index_or}
 use Rattle.std.specs.Int.{w64, cast_signed, cast_unsigned}
 use Rattle.std.proofs.lemmas.Int.{of_z-to_z}
 use Rattle.std.proofs.lemmas.Option.{get_or_from_slice_get}

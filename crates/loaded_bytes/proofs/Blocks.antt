@@ -1,6 +1,6 @@
 -- The block that a thread begins with is the initial image as it is loaded, and zeros.
-use Rattle.std.proofs.Common.{◌≡◌, ◌+◌, ◌-◌, ◌<◌, ◌≤◌, ◌==◌, ◌∙◌, ℕ, Bool, true, false, List, [], Option, Some, None, length}
-use Rattle.std.proofs.Common.{inl, inr, refl, sym, ap, subst, arith, if◌then◌else◌}
+use Rattle.std.proofs.Common.{◌≡◌, ◌+◌, ◌-◌, ◌<◌, ◌==◌, ◌∙◌, ℕ, Bool, true, false, List, [], Option, Some, None, length}
+use Rattle.std.proofs.Common.{refl, sym, ap, arith, if◌then◌else◌}
 use Rattle.std.specs.Prelude.{slice_get}
 use Rattle.std.proofs.lemmas.Bool.Decides.{nat_tests}
 use Rattle.image_file.specs.declared.part.TlsPart.{TlsPart}
@@ -19,7 +19,6 @@ use Rattle.tls_layout.proofs.LawsOfTls.{front_of_segment}
 use Rattle.tls_layout.specs.Laws.{extent_for}
 use Rattle.tls_layout.specs.Places.{initial_tls, tls_alignment, tls_image, tls_size}
 use Rattle.whole_meaning.specs.Spots.{bias_of, spot_in}
-use Rattle.loaded_bytes.specs.Bytes.{byte_at}
 use Rattle.loaded_bytes.specs.Laws.{BlocksAreLoaded, IsBlockOf, IsInstanceOf, images_of}
 use Rattle.loaded_bytes.proofs.ClassFile.{filed_byte}
 use Rattle.loaded_bytes.proofs.ClassParts.{IsPart, class_part, part_byte, part_of}

@@ -1,5 +1,5 @@
 -- The file holds at each address of a class what the objects mean there, and zeros between sections.
-use Rattle.std.proofs.Common.{◌≡◌, ◌≢◌, ◌+◌, ◌-◌, ◌<◌, ◌≤◌, ◌⊎◌, ◌==◌, ◌∙◌, ℕ, Bool, true, false, List, Option, Some, None}
+use Rattle.std.proofs.Common.{◌≡◌, ◌≢◌, ◌+◌, ◌<◌, ◌≤◌, ◌⊎◌, ◌==◌, ◌∙◌, ℕ, Bool, true, false, List, Option, Some, None}
 use Rattle.std.proofs.Common.{length, inl, inr, refl, sym, ap, arith, if◌then◌else◌}
 use Rattle.std.specs.Prelude.{slice_get, slice_index_or, unwrap_or}
 use Rattle.std.specs.List.{find}
@@ -14,10 +14,10 @@ use Rattle.link_core.proofs.StandingAway.{file_away}
 use Rattle.link_core.proofs.StandingPlaces.{Lies, lies_at, lies_of}
 use Rattle.link_core.specs.Bytes.{file, got_bytes, raw_file, stub_bytes, with_got, with_part, with_stub}
 use Rattle.link_core.specs.Faults.{Links}
-use Rattle.link_core.specs.Meant.{field_byte, is_in_field, is_in_rewritten, meant_byte, site_byte}
+use Rattle.link_core.specs.Meant.{field_byte, is_in_field, meant_byte, site_byte}
 use Rattle.link_faults.specs.ImageKinds.{base_of}
 use Rattle.link_needs.specs.Given.{FitsTable, IsGiven}
-use Rattle.link_needs.specs.Linking.{Linking, layout, object, sites_at}
+use Rattle.link_needs.specs.Linking.{Linking, layout, object}
 use Rattle.link_needs.specs.Needs.{got_size, got_start, has_stub, stub_start}
 use Rattle.object_faults.specs.declared.class.SectionClass.{SectionClass}
 use Rattle.object_faults.specs.declared.class.SectionClass.TheVariants.{Executable, ReadOnly, Tls, Writable}

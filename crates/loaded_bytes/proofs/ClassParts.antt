@@ -1,6 +1,6 @@
 -- Each class that has bytes is one part of the image, and an instance has in it what its objects mean.
-use Rattle.std.proofs.Common.{◌≡◌, ◌+◌, ◌-◌, ◌<◌, ◌≤◌, ◌∙◌, ℕ, suc, List, [], ◌∷◌, ◌++◌, Some, length, map, get_or, refl, sym, ap}
-use Rattle.std.proofs.Common.{subst, arith}
+use Rattle.std.proofs.Common.{◌≡◌, ◌+◌, ◌-◌, ◌<◌, ◌∙◌, ℕ, List, [], ◌∷◌, ◌++◌, Some, length, map, refl, ap}
+use Rattle.std.proofs.Common.{arith}
 use Rattle.std.specs.Prelude.{option_map, slice_get}
 use Rattle.std.specs.List.{Contains}
 use Rattle.std.proofs.lemmas.Bool.{lt-ltb}
@@ -25,7 +25,6 @@ use Rattle.link_core.specs.Bytes.{file}
 use Rattle.link_core.specs.Faults.{Links}
 use Rattle.link_core.specs.Images.{contents, file_kind, filled, got_places, image_of, places, section_places, stub_places}
 use Rattle.link_core.specs.Laws.{HasNoStray}
-use Rattle.link_faults.specs.ImageKinds.{base_of}
 use Rattle.link_needs.specs.Given.{FitsTable, IsGiven}
 use Rattle.link_needs.specs.Linking.{Linking, layout}
 use Rattle.loaded_modules.specs.declared.instance.Instance.{Instance}
@@ -35,9 +34,8 @@ use Rattle.object_faults.specs.declared.class.SectionClass.{SectionClass}
 use Rattle.object_faults.specs.declared.class.SectionClass.TheVariants.{Executable, ReadOnly, Tls, Writable}
 use Rattle.relocated_parts.proofs.Loaded.{part_left}
 use Rattle.relocated_parts.specs.Laws.{IsMade}
-use Rattle.relocated_parts.specs.Left.{left_byte}
 use Rattle.section_file.proofs.Told.{files_end}
-use Rattle.section_file.specs.Files.{offset_of, sections_file}
+use Rattle.section_file.specs.Files.{offset_of}
 use Rattle.tls_layout.specs.declared.extent.Extent.{Extent}
 use Rattle.tls_layout.specs.Laws.{extent_for}
 use Rattle.tls_layout.specs.Places.{executable, read_only, tls_image, writable}

@@ -1,5 +1,5 @@
 -- The classes of an image lie behind each other, from the base to where its sections end.
-use Rattle.std.proofs.Common.{◌≡◌, ◌<◌, ◌≤◌, ◌⊎◌, ℕ, Bool, true, false, inl, inr, refl, arith}
+use Rattle.std.proofs.Common.{◌≡◌, ◌<◌, ◌≤◌, ◌⊎◌, ℕ, true, false, inl, inr, refl, arith}
 use Rattle.std.proofs.lemmas.Bool.{cases_lt, lt-ltb, le-ltb}
 use Rattle.class_bytes.specs.Laying.{HasRange}
 use Rattle.link_faults.specs.ImageKinds.{base_of}

@@ -1,8 +1,8 @@
 -- The data that threads write is found as it is loaded: of an image's parts it is the one that is written, but for the
 -- table, which the loader alone writes.
-use Rattle.std.proofs.Common.{◌≡◌, ◌+◌, ◌-◌, ◌<◌, ◌≤◌, ◌&&◌, ◌==◌, ◌∙◌, ℕ, suc, Bool, true, false, not, List, [], ◌∷◌, ◌++◌}
+use Rattle.std.proofs.Common.{◌≡◌, ◌+◌, ◌-◌, ◌<◌, ◌==◌, ◌∙◌, ℕ, suc, Bool, true, false, List, [], ◌∷◌, ◌++◌}
 use Rattle.std.proofs.Common.{Option, Some, None, length, map, refl, sym, ap, subst, arith, if◌then◌else◌, length-append, append_assoc}
-use Rattle.std.specs.Prelude.{nat_lt, slice_get}
+use Rattle.std.specs.Prelude.{nat_lt}
 use Rattle.std.specs.List.{find}
 use Rattle.std.specs.Option.{option_or}
 use Rattle.std.proofs.lemmas.Bool.Decides.{nat_tests}
@@ -20,8 +20,6 @@ use Rattle.link_core.specs.Images.{contents, file_kind, filled, got_number, got_
 use Rattle.link_needs.specs.Linking.{Linking, layout}
 use Rattle.link_needs.specs.Needs.{got_size, got_start, has_stub, stub_start}
 use Rattle.loaded_modules.specs.declared.instance.Instance.{Instance}
-use Rattle.loaded_modules.specs.Images.{image_at}
-use Rattle.loaded_modules.specs.Loader.{bias}
 use Rattle.object_faults.specs.declared.class.SectionClass.TheVariants as class
 use Rattle.relocated_parts.proofs.Fold.{left_long}
 use Rattle.thread_blocks.specs.JobLoads.{instance_part, job_loads, parts_from, parts_of}

@@ -1,12 +1,12 @@
 -- Nothing is found of an instance but in the classes of its sections and in the room.
 use Rattle.std.proofs.Common.{◌≡◌, ◌+◌, ◌-◌, ◌<◌, ◌≤◌, ◌⊎◌, ◌^◌, ◌&&◌, ◌∙◌, ℕ, suc, Bool, true, false, not, List, [], ◌∷◌, ◌++◌}
-use Rattle.std.proofs.Common.{Option, Some, None, length, map, inl, inr, refl, sym, ap, subst, arith, if◌then◌else◌}
-use Rattle.std.specs.Prelude.{nat_le, nat_lt, slice_get}
-use Rattle.std.specs.List.{All, filter}
+use Rattle.std.proofs.Common.{Some, None, length, map, inl, inr, refl, sym, ap, subst, arith, if◌then◌else◌}
+use Rattle.std.specs.Prelude.{nat_lt, slice_get}
+use Rattle.std.specs.List.{All}
 use Rattle.std.proofs.lemmas.Bool.{le-leb, lt-ltb}
 use Rattle.std.proofs.lemmas.Bool.Decides.{nat_tests}
 use Rattle.std.proofs.lemmas.List.{length-map}
-use Rattle.std.proofs.lemmas.List.Elements.{All-append, All-cons, All-head, All-nil, All-tail, filter-append}
+use Rattle.std.proofs.lemmas.List.Elements.{All-append, All-cons, All-nil, filter-append}
 use Rattle.guest_operands.specs.declared.space.Access.{Access}
 use Rattle.guest_operands.specs.declared.space.Access.TheVariants.{Read, Write, Run}
 use Rattle.guest_operands.specs.Ranges.{Range, allows, byte_in, grants, holds}
@@ -26,13 +26,13 @@ use Rattle.object_faults.specs.declared.class.SectionClass.{SectionClass}
 use Rattle.object_faults.specs.declared.class.SectionClass.TheVariants.{Executable, ReadOnly, Tls, Writable}
 use Rattle.relocated_parts.proofs.Fold.{left_long}
 use Rattle.thread_blocks.specs.JobLoads.{instance_part, job_loads, parts_from}
-use Rattle.thread_blocks.specs.Loading.{is_code, is_loaders, is_written}
+use Rattle.thread_blocks.specs.Loading.{is_loaders}
 use Rattle.tls_layout.specs.declared.extent.Extent.{Extent}
 use Rattle.tls_layout.specs.Laws.{extent_for}
-use Rattle.tls_layout.specs.Places.{executable, read_only, room, tls_image, writable}
+use Rattle.tls_layout.specs.Places.{room, writable}
 use Rattle.whole_meaning.specs.Spots.{bias_of, in_room}
-use Rattle.loaded_bytes.specs.Laws.{IsIn, IsInstanceOf, images_of}
-use Rattle.loaded_bytes.specs.Places.{AllElseIsInTheRoom, IsFoundInItsClass, IsInMoved}
+use Rattle.loaded_bytes.specs.Laws.{IsInstanceOf, images_of}
+use Rattle.loaded_bytes.specs.Places.{AllElseIsInTheRoom, IsInMoved}
 use Rattle.loaded_bytes.proofs.ClassParts.{class_of_part, class_part, part_long}
 use Rattle.loaded_bytes.proofs.Data.{code, constants, from-append, front_parts, initial, parts_are, places_long, rest, written}
 use Rattle.loaded_bytes.proofs.Places.{found_own, holds_so, inside, kind_bias}
@@ -177,8 +177,10 @@ module _ (ls : List Linking) (l : Linking) (x : Instance) (is : IsInstanceOf ls 
       (tables_added l is.given is.links) (All-nil (λ (p : Part). room (layout l).kind (layout l).sections ≤ p.address))) in
       let low = above n (added ++ (tables_part (contents l) ∷ [])) all e in
       let own = found_own ls l x is 0 (image_of l).parts (inside ls l x is) access place byte whole in
-      rw (le-leb (room (layout l).kind (layout l).sections + bias_of l.kind x.number) place low,
-      lt-ltb place (base_of l.kind + 2 ^ 26 + bias_of l.kind x.number) own.1) refl
+      rw (
+        le-leb (room (layout l).kind (layout l).sections + bias_of l.kind x.number) place low,
+        lt-ltb place (base_of l.kind + 2 ^ 26 + bias_of l.kind x.number) own.1,
+      ) refl
 
   -- ** all
 
@@ -218,9 +220,12 @@ module _ (ls : List Linking) (l : Linking) (x : Instance) (is : IsInstanceOf ls 
       let m : ℕ = n + length b in
       let k : ℕ = m + length c in
       let same : k ≡ front_parts ls l x =
-      omega (arith, length-map (code ls l x) (part_in (file_kind l.kind) (file l)),
-      length-map (constants ls l x) (part_in (file_kind l.kind) (file l)),
-      length-map (initial ls l x) (part_in (file_kind l.kind) (file l))) in
+      omega (
+        arith,
+        length-map (code ls l x) (part_in (file_kind l.kind) (file l)),
+        length-map (constants ls l x) (part_in (file_kind l.kind) (file l)),
+        length-map (initial ls l x) (part_in (file_kind l.kind) (file l)),
+      ) in
       let whole : Found 0 (a ++ (b ++ (c ++ (d ++ r)))) =
       subst (λ (ps : List Part). Found 0 ps) (parts_are ls l x) e in
       elim (split 0 a (b ++ (c ++ (d ++ r))) whole) [

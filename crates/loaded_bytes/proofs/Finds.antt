@@ -1,5 +1,5 @@
 -- What a search finds passes its test and is among the elements; where it finds nothing none passes.
-use Rattle.std.proofs.Common.{◌≡◌, ◌<◌, ℕ, zero, suc, Bool, true, false, List, [], ◌∷◌, Option, Some, None, length, refl}
+use Rattle.std.proofs.Common.{◌≡◌, ◌<◌, ℕ, zero, suc, Bool, true, false, List, [], ◌∷◌, Some, None, length, refl}
 use Rattle.std.proofs.Common.{ap, subst, arith, if◌then◌else◌, ◌∙◌}
 use Rattle.std.specs.Prelude.{slice_index_or}
 use Rattle.std.specs.List.{Contains, find}

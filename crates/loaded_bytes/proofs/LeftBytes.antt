@@ -1,24 +1,20 @@
 -- What a loader leaves of a class, address by address.
-use Rattle.std.proofs.Common.{◌≡◌, ◌≢◌, ◌+◌, ◌-◌, ◌<◌, ◌≤◌, ◌⊎◌, ◌==◌, ◌&&◌, ◌∙◌, ℕ, Bool, true, false, not, List, ◌++◌}
-use Rattle.std.proofs.Common.{Option, Some, None, length, inl, inr, refl, sym, ap, subst, arith, if◌then◌else◌}
-use Rattle.std.specs.Prelude.{◌^◌, ◌+ℤ◌, ℤ, pos, nat_le, nat_lt, slice_get, slice_index_or, unwrap_or}
+use Rattle.std.proofs.Common.{◌≡◌, ◌+◌, ◌-◌, ◌<◌, ◌≤◌, ◌&&◌, ◌∙◌, ℕ, Bool, true, not}
+use Rattle.std.proofs.Common.{Option, Some, None, length, inl, inr, refl, sym, ap, arith}
+use Rattle.std.specs.Prelude.{◌^◌, ◌+ℤ◌, pos, nat_le, nat_lt, slice_index_or, unwrap_or}
 use Rattle.std.specs.Int.{w64, cast_unsigned}
-use Rattle.std.specs.List.{All, Contains, find}
+use Rattle.std.specs.List.{Contains, find}
 use Rattle.std.specs.Option.{option_or}
-use Rattle.std.proofs.lemmas.Bool.{cases_lt, le-leb, lt-ltb}
+use Rattle.std.proofs.lemmas.Bool.{cases_lt, lt-ltb}
 use Rattle.std.proofs.lemmas.Bool.Decides.{nat_tests}
 use Rattle.std.proofs.lemmas.List.Elements.{All-contains}
 use Rattle.std.proofs.lemmas.List.Folds.{find-append}
-use Rattle.std.proofs.lemmas.Option.{same_Some, slice_get-get_or}
 use Rattle.class_bytes.proofs.Placing.{section_stands}
 use Rattle.class_bytes.specs.Laying.{HasRange}
 use Rattle.elf_object.specs.declared.relocation.Relocation.{Relocation}
-use Rattle.elf_object.specs.Lent.{relocations, section_bytes, section_class, section_size}
-use Rattle.elf_object.specs.Object.{section_count}
+use Rattle.elf_object.specs.Lent.{relocations, section_class, section_size}
 use Rattle.elf_object.specs.Relocations.{field_width}
 use Rattle.elf_records.specs.Fields.{bytes_of}
-use Rattle.elf_records.specs.declared.relocation.RelocationKind.{RelocationKind}
-use Rattle.elf_records.specs.declared.relocation.RelocationKind.TheVariants.{Absolute64}
 use Rattle.image_file.specs.declared.relocation.ImageRelocation.{ImageRelocation}
 use Rattle.guest_arithmetic.specs.Values.{digit}
 use Rattle.image_writer.specs.Linkable.{width}
@@ -26,39 +22,31 @@ use Rattle.image_writer.specs.Tables.{finished}
 use Rattle.link_core.proofs.Few.{table_fits}
 use Rattle.link_core.proofs.GotRelocations.{got_above}
 use Rattle.link_core.proofs.LengthsInside.{is_object}
-use Rattle.link_core.proofs.StandingPlaces.{Lies, field_in}
-use Rattle.link_core.proofs.Together.{together}
+use Rattle.link_core.proofs.StandingPlaces.{field_in}
 use Rattle.link_core.specs.Dynamic.{got_relocations, image_relocations, is_absolute, relative, relatives, sum_of}
 use Rattle.link_core.specs.Faults.{Links}
-use Rattle.link_core.specs.Images.{contents, file_kind, image_of}
-use Rattle.link_core.specs.Laws.{HasNoStray, IsCovered, IsInSite}
-use Rattle.link_core.specs.Meant.{is_in_field, is_in_rewritten, meant_byte, site_byte}
-use Rattle.link_core.specs.Meant as filed
-use Rattle.link_faults.specs.ImageKinds.{is_moved}
+use Rattle.link_core.specs.Images.{contents, image_of}
+use Rattle.link_core.specs.Laws.{HasNoStray}
+use Rattle.link_core.specs.Meant.{is_in_field}
 use Rattle.link_needs.specs.Given.{FitsTable, IsGiven}
-use Rattle.link_needs.specs.Linking.{Linking, binding, choice, layout, object, place, sites_at}
-use Rattle.link_needs.specs.Needs.{got_start, is_kept}
-use Rattle.link_needs.specs.Values.{field, goes, is_replaced, is_rewriting, other_number, own_number}
+use Rattle.link_needs.specs.Linking.{Linking, binding, layout, object, place}
+use Rattle.link_needs.specs.Needs.{got_start}
+use Rattle.link_needs.specs.Values.{is_replaced, own_number}
 use Rattle.loaded_modules.specs.declared.instance.Instance.{Instance}
 use Rattle.loaded_modules.specs.Images.{JobImages}
 use Rattle.object_faults.specs.declared.class.SectionClass.{SectionClass}
-use Rattle.object_faults.specs.declared.class.SectionClass.TheVariants.{Writable}
 use Rattle.relocated_parts.specs.Left.{byte_by, is_written_at, left_byte, written_byte}
 use Rattle.section_file.proofs.Rising.{class_is}
 use Rattle.section_file.proofs.Standing.{HasPlace, has_place}
-use Rattle.sequence_forms.specs.declared.places.Site.{Site}
-use Rattle.sequence_match.proofs.Sections.{fields_apart}
-use Rattle.sequence_match.specs.Code.{AreApart}
 use Rattle.sequence_match.specs.Sites.{Covers}
 use Rattle.tls_layout.proofs.LawsOfPlaces.{lie_in_classes}
 use Rattle.tls_layout.proofs.LawsOfSections.{finds_sections}
 use Rattle.tls_layout.specs.Laws.{extent_for}
-use Rattle.tls_layout.specs.Places.{address_of}
-use Rattle.tls_relocs.specs.declared.fields.Field.TheVariants.{Empty, Word64}
+use Rattle.tls_relocs.specs.declared.fields.Field.TheVariants.{Empty}
 use Rattle.tls_relocs.specs.Fields.{field_bytes}
-use Rattle.tls_relocs.specs.Values.{modulo, stored_field}
+use Rattle.tls_relocs.specs.Values.{modulo}
 use Rattle.whole_meaning.specs.Spots.{Spot, begin_of, bias_of, spot_at, spot_in}
-use Rattle.loaded_bytes.specs.Bytes.{byte_at, byte_of_spot, field_byte, loaded_byte, loaded_field}
+use Rattle.loaded_bytes.specs.Bytes.{byte_at, byte_of_spot, loaded_field}
 use Rattle.loaded_bytes.proofs.Biases.{moved_digit, same_bias}
 use Rattle.loaded_bytes.proofs.Classes.{class_before, class_below, rank, same_rank}
 use Rattle.loaded_bytes.proofs.ClassFile.{filed_byte}
@@ -190,16 +178,16 @@ module _ (l : Linking) (given : IsGiven l) (links : Links l) (stray : HasNoStray
           let below : j < 8 = omega (arith, low, high) in
           let n : ℕ = own_number l r.kind (binding l o r) in
           let first : written_byte m (image_of l) x y (address - y.place)
-              ≡ written_byte m (image_of l) x (relative (place l o t r.offset) (sum_of l o r)) (address - place l o t r.offset) =
+          ≡ written_byte m (image_of l) x (relative (place l o t r.offset) (sum_of l o r)) (address - place l o t r.offset) =
           ap (λ (z : ImageRelocation). written_byte m (image_of l) x z (address - z.place)) is in
           let second : written_byte m (image_of l) x (relative (place l o t r.offset) (sum_of l o r)) (address - place l o t r.offset)
-              ≡ digit (bias_of l.kind x.number + cast_unsigned w64 (sum_of l o r)) (address - place l o t r.offset) =
+          ≡ digit (bias_of l.kind x.number + cast_unsigned w64 (sum_of l o r)) (address - place l o t r.offset) =
           rw (lt-ltb (address - place l o t r.offset) 8 below)
           (ap (λ b. digit (b + cast_unsigned w64 (sum_of l o r)) (address - place l o t r.offset)) (same_bias l.kind x.number)) in
           let third : slice_index_or (bytes_of 8 (modulo (2 ^ 64) (pos (n + bias_of l.kind x.number) +ℤ r.addend)))
-              (address - place l o t r.offset) 0
-              ≡ slice_index_or (field_bytes (unwrap_or (loaded_field l (bias_of l.kind x.number) o t r) Empty))
-              (address - place l o t r.offset) 0 = rw absolute refl in
+          (address - place l o t r.offset) 0
+          ≡ slice_index_or (field_bytes (unwrap_or (loaded_field l (bias_of l.kind x.number) o t r) Empty))
+          (address - place l o t r.offset) 0 = rw absolute refl in
           first ∙ second ∙ moved_digit n (bias_of l.kind x.number) j r.addend below ∙ third
 
       written : written_byte m (image_of l) x y (address - y.place)

@@ -1,9 +1,9 @@
 -- Constants, the initial image, data and blocks are loaded as the meaning of the job loads them.
-use Rattle.std.proofs.Common.{◌≡◌, ◌+◌, ◌-◌, ◌<◌, ◌≤◌, ◌⊎◌, ◌&&◌, ◌∙◌, ℕ, suc, Bool, true, false, List, [], ◌∷◌, ◌++◌, Option, Some}
-use Rattle.std.proofs.Common.{None, length, map, inl, inr, refl, sym, ap, subst, arith, if◌then◌else◌, length-append}
+use Rattle.std.proofs.Common.{◌≡◌, ◌+◌, ◌-◌, ◌<◌, ◌≤◌, ◌&&◌, ◌∙◌, ℕ, suc, Bool, true, false, List, [], ◌∷◌, Option, Some}
+use Rattle.std.proofs.Common.{None, length, map, inl, inr, refl, sym, ap, arith, if◌then◌else◌, length-append}
 use Rattle.std.specs.Prelude.{nat_le, nat_lt, option_map, replicate, slice_get}
 use Rattle.std.specs.List.{range_with_len}
-use Rattle.std.proofs.lemmas.Bool.{cases_lt, le-leb, le-ltb, lt-leb, lt-ltb}
+use Rattle.std.proofs.lemmas.Bool.{cases_lt, le-leb, lt-ltb}
 use Rattle.std.proofs.lemmas.Bool.Decides.{nat_tests}
 use Rattle.std.proofs.lemmas.List.{length-map, length-replicate}
 use Rattle.std.proofs.lemmas.List.FromFn.{get_or-map-range_with_len, length-map-range_with_len}
@@ -23,14 +23,13 @@ use Rattle.tls_layout.specs.Laws.{extent_for}
 use Rattle.tls_layout.specs.Places.{initial_tls, tls_size}
 use Rattle.tls_relocs.specs.Elements.{slice_get-append, slice_get-append_behind, slice_get-replicate}
 use Rattle.whole_meaning.specs.Bytes.{block_bytes, byte_of, class_bytes}
-use Rattle.whole_meaning.specs.Loads.{constant_range, data_range, data_ranges, has_data, still_ranges}
+use Rattle.whole_meaning.specs.Loads.{constant_range, data_range, has_data, still_ranges}
 use Rattle.whole_meaning.specs.Spots.{bias_of, in_room, spot_in}
 use Rattle.loaded_bytes.specs.Bytes.{byte_at}
 use Rattle.loaded_bytes.specs.Laws.{IsBlockOf, IsData, IsDataOf, IsIn, IsInstanceOf, images_of}
 use Rattle.loaded_bytes.specs.Meant.{BlocksAreMeant, DataIsMeant, ReadsAreMeant, valued}
 use Rattle.loaded_bytes.specs.Places.{IsInMoved}
 use Rattle.loaded_bytes.proofs.Blocks.{blocks_loaded}
-use Rattle.loaded_bytes.proofs.Classes.{class_before}
 use Rattle.loaded_bytes.proofs.Data.{data_loaded}
 use Rattle.loaded_bytes.proofs.Elsewhere.{elsewhere}
 use Rattle.loaded_bytes.proofs.Still.{constants_loaded}
@@ -94,7 +93,7 @@ module _ (ls : List Linking) (l : Linking) (x : Instance) (is : IsInstanceOf ls 
       long : length block ≡ length (block_bytes l (bias_of l.kind x.number))
       long =
           let rest : length {A = ℕ} (replicate (tls_size (layout l).sections - length (class_bytes l (bias_of l.kind x.number) (Tls true))) 0)
-              ≡ tls_size (layout l).sections - length (class_bytes l (bias_of l.kind x.number) (Tls true)) =
+          ≡ tls_size (layout l).sections - length (class_bytes l (bias_of l.kind x.number) (Tls true)) =
           length-replicate (tls_size (layout l).sections - length (class_bytes l (bias_of l.kind x.number) (Tls true))) 0 in
           let both = length-append (class_bytes l (bias_of l.kind x.number) (Tls true))
           (replicate (tls_size (layout l).sections - length (class_bytes l (bias_of l.kind x.number) (Tls true))) 0) in
@@ -168,9 +167,11 @@ module _ (ls : List Linking) (l : Linking) (x : Instance) (is : IsInstanceOf ls 
   held class address within =
       let mapped = length-map (class_bytes l (bias_of l.kind x.number) class) Value in
       let long = class_long l (bias_of l.kind x.number) class in
-      rw (le-leb ((extent_for class (layout l)).start + bias_of l.kind x.number) (address + bias_of l.kind x.number) (omega (arith, within.0)),
-      lt-ltb (address + bias_of l.kind x.number - ((extent_for class (layout l)).start + bias_of l.kind x.number))
-      (length (map Value (class_bytes l (bias_of l.kind x.number) class))) (omega (arith, mapped, long, within.0, within.1))) refl
+      rw (
+        le-leb ((extent_for class (layout l)).start + bias_of l.kind x.number) (address + bias_of l.kind x.number) (omega (arith, within.0)),
+        lt-ltb (address + bias_of l.kind x.number - ((extent_for class (layout l)).start + bias_of l.kind x.number))
+            (length (map Value (class_bytes l (bias_of l.kind x.number) class))) (omega (arith, mapped, long, within.0, within.1)),
+      ) refl
 
   byte_there : (class : SectionClass) (address : ℕ) → IsIn l class address
       → slice_get (constant_range l (bias_of l.kind x.number) class).bytes

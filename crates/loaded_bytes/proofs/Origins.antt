@@ -1,10 +1,10 @@
 -- Each RELATIVE of an image is that of an address of 8 bytes in one of its sections, and each such address has one.
-use Rattle.std.proofs.Common.{◌≡◌, ◌+◌, ◌-◌, ◌<◌, ◌≤◌, ◌∙◌, ℕ, zero, suc, Bool, true, false, List, [], ◌∷◌, ◌++◌, length, get_or}
+use Rattle.std.proofs.Common.{◌≡◌, ◌+◌, ◌-◌, ◌<◌, ◌≤◌, ◌∙◌, ℕ, zero, suc, Bool, true, false, List, [], ◌∷◌, ◌++◌, length}
 use Rattle.std.proofs.Common.{refl, sym, ap, subst, arith, if◌then◌else◌}
 use Rattle.std.specs.Prelude.{nat_le, slice_index_or}
 use Rattle.std.specs.List.{All, Contains, flat_map, range_with_len}
-use Rattle.std.proofs.lemmas.List.Elements.{All-append, All-cons, All-head, All-nil, All-tail}
-use Rattle.std.proofs.lemmas.List.Elements.{Contains-append_left, Contains-append_right, Contains-get_or}
+use Rattle.std.proofs.lemmas.List.Elements.{All-append, All-cons, All-nil}
+use Rattle.std.proofs.lemmas.List.Elements.{Contains-append_left, Contains-append_right}
 use Rattle.std.proofs.lemmas.List.FromFn.{get_or-range_with_len, length-range_with_len}
 use Rattle.dynamic_symbols.proofs.Lists.{all_flat_range}
 use Rattle.elf_object.specs.declared.relocation.Relocation.{Relocation}
@@ -47,7 +47,13 @@ module _ (l : Linking) where
       of_test true e =
           All-cons (Origin l) (relative (place l o t r.offset) (sum_of l o r)) []
           (record {
-            of_object = o; of_section = t; field = r; there = there; among = has; absolute = e; is = refl;
+            of_object = o;
+            of_section = t;
+            field = r;
+            there = there;
+            among = has;
+            absolute = e;
+            is = refl;
           })
           (All-nil (Origin l))
       of_test false e = All-nil (Origin l)
@@ -142,9 +148,11 @@ module _ (l : Linking) (o t : ℕ) (r : Relocation) (within : t < section_count 
   unfolding object_relocations
   in_object =
       let b = object l o in
-      let numbered : Contains (range_with_len 0 (section_count b)) t =
-      (t, (let n = length-range_with_len 0 (section_count b) in omega (arith, n, within)),
-      get_or-range_with_len 0 (section_count b) t t within ∙ omega arith) in
+      let numbered : Contains (range_with_len 0 (section_count b)) t = (
+        t,
+        (let n = length-range_with_len 0 (section_count b) in omega (arith, n, within)),
+        get_or-range_with_len 0 (section_count b) t t within ∙ omega arith,
+      ) in
       contains_flat (section_relocations l o b) (range_with_len 0 (section_count b)) t
       (relative (place l o t r.offset) (sum_of l o r)) numbered
       (contains_flat (field_relocations l o t) (relocations b t) r (relative (place l o t r.offset) (sum_of l o r)) has

@@ -1,9 +1,8 @@
 -- All that is loaded of an instance lies among its own places, and its data apart from the rest.
-use Rattle.std.proofs.Common.{◌≡◌, ◌+◌, ◌-◌, ◌<◌, ◌≤◌, ◌⊎◌, ◌^◌, ◌&&◌, ◌∙◌, ℕ, zero, suc, Bool, true, false, not, List, [], ◌∷◌}
-use Rattle.std.proofs.Common.{Option, Some, None, length, map, get_or, inl, inr, refl, sym, ap, subst, arith, if◌then◌else◌}
+use Rattle.std.proofs.Common.{◌≡◌, ◌+◌, ◌-◌, ◌<◌, ◌≤◌, ◌⊎◌, ◌^◌, ◌&&◌, ◌∙◌, ℕ, suc, Bool, true, false, not, List, [], ◌∷◌}
+use Rattle.std.proofs.Common.{Option, Some, None, length, inl, inr, refl, sym, ap, subst, arith, if◌then◌else◌}
 use Rattle.std.specs.Prelude.{IfSome, nat_le, nat_lt, slice_get}
 use Rattle.std.specs.List.{All, find}
-use Rattle.std.proofs.lemmas.Bool.{cases_lt}
 use Rattle.std.proofs.lemmas.Bool.Decides.{nat_tests}
 use Rattle.std.proofs.lemmas.List.Elements.{All-cons, All-nil}
 use Rattle.guest_operands.specs.declared.space.Access.{Access}
@@ -15,7 +14,6 @@ use Rattle.image_writer.specs.declared.outline.PartPlace.{PartPlace}
 use Rattle.image_writer.specs.Outlined as outlined
 use Rattle.link_core.proofs.Linkable.{linkable}
 use Rattle.link_core.specs.Images.{contents, image_of}
-use Rattle.image_writer.specs.Tables.{finished}
 use Rattle.link_faults.specs.ImageKinds.{base_of}
 use Rattle.link_needs.specs.Linking.{Linking}
 use Rattle.loaded_modules.specs.declared.instance.Instance.{Instance}
@@ -27,7 +25,7 @@ use Rattle.thread_blocks.specs.JobLoads.{instance_part, job_loads, parts_from, p
 use Rattle.thread_blocks.specs.Loading.{is_code, is_written}
 use Rattle.whole_meaning.specs.Spots.{bias_of}
 use Rattle.loaded_bytes.specs.Laws.{IsInstanceOf, images_of}
-use Rattle.loaded_bytes.specs.Places.{IsApart, IsOwn, LiesAtItsPlaces, PlacesAreOwn}
+use Rattle.loaded_bytes.specs.Places.{IsApart, IsOwn, PlacesAreOwn}
 use Rattle.loaded_bytes.proofs.Biases.{image_base, image_bias}
 use Rattle.loaded_bytes.proofs.Ranges.{still}
 use Rattle.loaded_bytes.proofs.Still.{fixed_is, image_is}

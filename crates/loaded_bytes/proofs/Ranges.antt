@@ -1,8 +1,8 @@
 -- What is found at an address of a part of an instance: no part before it reaches the address, and what is there is the
 -- part's.
-use Rattle.std.proofs.Common.{◌≡◌, ◌+◌, ◌-◌, ◌<◌, ◌≤◌, ◌&&◌, ◌∙◌, ℕ, zero, suc, Bool, true, false, not, List, [], ◌∷◌, Option}
-use Rattle.std.proofs.Common.{Some, None, length, refl, sym, ap, subst, arith, if◌then◌else◌}
-use Rattle.std.specs.Prelude.{nat_le, nat_lt, slice_get}
+use Rattle.std.proofs.Common.{◌≡◌, ◌+◌, ◌-◌, ◌<◌, ◌≤◌, ◌&&◌, ◌∙◌, ℕ, zero, suc, Bool, true, false, not, List, [], ◌∷◌}
+use Rattle.std.proofs.Common.{Some, length, refl, sym, ap, subst, arith, if◌then◌else◌}
+use Rattle.std.specs.Prelude.{nat_le, slice_get}
 use Rattle.std.specs.List.{filter}
 use Rattle.std.proofs.lemmas.Bool.{le-leb, le-ltb, lt-ltb}
 use Rattle.std.proofs.lemmas.Option.{same_Some}
@@ -62,10 +62,12 @@ module _ (m : JobImages) (image : Spelled) (x : Instance) (access : Access) (add
         ap
         (λ (ranges : List (Range ℕ)). byte_in access ranges (address + bias image.kind x.number))
         (of_test (instance_part m image x n part).writable not_written)
-        ∙ rw (may,
-        le-leb (part.address + bias image.kind x.number) (address + bias image.kind x.number) (omega (arith, low)),
-        lt-ltb (address + bias image.kind x.number - (part.address + bias image.kind x.number)) (length (part_bytes m image x part))
-        (omega (arith, index, long, low, high)))
+        ∙ rw (
+          may,
+          le-leb (part.address + bias image.kind x.number) (address + bias image.kind x.number) (omega (arith, low)),
+          lt-ltb (address + bias image.kind x.number - (part.address + bias image.kind x.number)) (length (part_bytes m image x part))
+              (omega (arith, index, long, low, high)),
+        )
         (ap (slice_get (part_bytes m image x part)) index)
       where
         of_test : (t : Bool) → t ≡ false

@@ -1,21 +1,17 @@
 -- What a linker adds to the sections, the table, the stub and the dynamic tables, lies in the room behind them.
-use Rattle.std.proofs.Common.{◌≡◌, ◌+◌, ◌-◌, ◌<◌, ◌≤◌, ◌==◌, ◌∙◌, ℕ, suc, Bool, true, false, List, [], ◌∷◌, ◌++◌, append-nil, length, map}
-use Rattle.std.proofs.Common.{inl, inr, refl, sym, ap, arith, if◌then◌else◌}
-use Rattle.std.specs.Prelude.{nat_lt}
+use Rattle.std.proofs.Common.{◌≡◌, ◌+◌, ◌≤◌, ◌==◌, ◌∙◌, ℕ, suc, Bool, true, false, List, [], ◌∷◌, ◌++◌}
+use Rattle.std.proofs.Common.{inl, inr, refl, ap, arith, if◌then◌else◌}
 use Rattle.std.specs.List.{All}
 use Rattle.std.proofs.lemmas.Bool.{cases_lt}
 use Rattle.std.proofs.lemmas.List.Elements.{All-append, All-cons, All-nil}
 use Rattle.image_file.specs.declared.part.PartClass.TheVariants.{Executable, ReadOnly, Writable}
-use Rattle.image_file.specs.Spelled.{Part}
 use Rattle.image_writer.specs.declared.outline.PartPlace.{PartPlace}
-use Rattle.image_writer.specs.Contents.{part_in}
 use Rattle.image_writer.specs.Tables.{tables_part}
 use Rattle.link_core.proofs.Loads.{tabled}
 use Rattle.link_core.proofs.LoadsChains.{last_end, last_end-append}
 use Rattle.link_core.proofs.LoadsParts.{filled_end, filled_none, image_early, page_again, page_rises}
-use Rattle.link_core.specs.Bytes.{file}
 use Rattle.link_core.specs.Faults.{Links}
-use Rattle.link_core.specs.Images.{contents, file_kind, filled, got_places, places, section_places, stub_places}
+use Rattle.link_core.specs.Images.{contents, filled, got_places, places, section_places, stub_places}
 use Rattle.link_faults.specs.ImageKinds.{base_of}
 use Rattle.link_needs.specs.Given.{IsGiven}
 use Rattle.link_needs.specs.Linking.{Linking, layout}

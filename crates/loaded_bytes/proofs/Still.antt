@@ -1,33 +1,30 @@
 -- Code, constants and the initial image are found as they are loaded.
-use Rattle.std.proofs.Common.{◌≡◌, ◌+◌, ◌-◌, ◌<◌, ◌≤◌, ◌&&◌, ◌==◌, ◌∙◌, ℕ, zero, suc, Bool, true, false, not, List, map, Option, Some, None}
-use Rattle.std.proofs.Common.{length, refl, sym, ap, subst, arith, if◌then◌else◌}
-use Rattle.std.specs.Prelude.{option_map, slice_get}
+use Rattle.std.proofs.Common.{◌≡◌, ◌+◌, ◌-◌, ◌<◌, ◌≤◌, ◌==◌, ◌∙◌, ℕ, zero, suc, Bool, true, false, List, Some, None}
+use Rattle.std.proofs.Common.{length, refl, sym, ap, arith, if◌then◌else◌}
+use Rattle.std.specs.Prelude.{option_map}
 use Rattle.std.proofs.lemmas.Bool.{ne_eqb}
 use Rattle.std.proofs.lemmas.Option.{slice_get-map}
 use Rattle.class_bytes.specs.Laying.{HasRange}
 use Rattle.guest_operands.specs.declared.space.Access.{Access}
 use Rattle.guest_operands.specs.declared.space.Access.TheVariants.{Read, Run}
 use Rattle.guest_operands.specs.Ranges.{Range, allows, byte_in}
-use Rattle.image_file.specs.Spelled.{Part, Spelled}
 use Rattle.link_core.proofs.Linkable.{linkable}
-use Rattle.link_core.specs.Images.{contents, file_kind, got_number, image_of, section_places}
+use Rattle.link_core.specs.Images.{contents, got_number, image_of, section_places}
 use Rattle.link_needs.specs.Linking.{Linking, layout}
 use Rattle.link_needs.specs.Needs.{got_size}
 use Rattle.image_writer.specs.Tables.{finished}
 use Rattle.loaded_modules.specs.declared.instance.Instance.{Instance}
-use Rattle.loaded_modules.specs.Images.{JobImages, image_at}
-use Rattle.loaded_modules.specs.Loader.{bias, part_bytes}
+use Rattle.loaded_modules.specs.Images.{image_at}
 use Rattle.object_faults.specs.declared.class.SectionClass.{SectionClass}
-use Rattle.object_faults.specs.declared.class.SectionClass.TheVariants.{Executable, ReadOnly, Tls, Writable}
+use Rattle.object_faults.specs.declared.class.SectionClass.TheVariants.{Executable, ReadOnly, Tls}
 use Rattle.relocated_parts.proofs.Parts.{parts_follow}
-use Rattle.relocated_parts.specs.Laws.{end_of}
 use Rattle.thread_blocks.specs.JobLoads.{instance_part, job_loads, parts_from, parts_of}
 use Rattle.thread_blocks.specs.Loading.{is_loaders}
 use Rattle.thread_blocks.specs.Turns.{at_number}
 use Rattle.tls_layout.specs.Laws.{extent_for}
 use Rattle.whole_meaning.specs.Spots.{bias_of}
 use Rattle.loaded_bytes.specs.Bytes.{byte_at}
-use Rattle.loaded_bytes.specs.Laws.{CodeIsLoaded, ConstantsAreLoaded, IsInstanceOf, ReadsAre, images_of}
+use Rattle.loaded_bytes.specs.Laws.{CodeIsLoaded, ConstantsAreLoaded, IsInstanceOf, images_of}
 use Rattle.loaded_bytes.proofs.Biases.{image_bias}
 use Rattle.loaded_bytes.proofs.ClassParts.{IsPart, class_part, part_loaded, part_long, part_of}
 use Rattle.loaded_bytes.proofs.Ranges.{found_in_part, still}

@@ -1,7 +1,7 @@
 -- Outside code a loaded byte is what the meaning of a job has there: each field that has one holds its value at the
 -- instance's place.
-use Rattle.std.proofs.Common.{◌≡◌, ◌≢◌, ◌+◌, ◌-◌, ◌<◌, ◌≤◌, ◌^◌, ◌&&◌, ◌∙◌, ℕ, ℤ, pos, zero, suc, Bool, true, false, not, List, []}
-use Rattle.std.proofs.Common.{◌∷◌, Option, Some, None, length, refl, sym, ap, subst, arith, if◌then◌else◌}
+use Rattle.std.proofs.Common.{◌≡◌, ◌≢◌, ◌+◌, ◌-◌, ◌<◌, ◌^◌, ◌&&◌, ◌∙◌, ℕ, ℤ, pos, zero, suc, Bool, true, false, not, List, []}
+use Rattle.std.proofs.Common.{◌∷◌, Option, Some, None, length, refl, sym, ap, arith, if◌then◌else◌}
 use Rattle.std.specs.Prelude.{◌+ℤ◌, ◌-ℤ◌, is_none, nat_le, nat_lt, slice_get, slice_index_or, unwrap_or}
 use Rattle.std.specs.List.{Contains, find}
 use Rattle.std.proofs.lemmas.Bool.Decides.{nat_tests}
@@ -22,17 +22,16 @@ use Rattle.link_core.proofs.TogetherNames.{runtime_getter}
 use Rattle.link_core.specs.Dynamic.{is_absolute}
 use Rattle.link_core.specs.Faults.{Links}
 use Rattle.link_core.specs.Laws.{HasNoStray}
-use Rattle.link_core.specs.Meant.{is_in_field, is_in_rewritten, site_byte}
+use Rattle.link_core.specs.Meant.{is_in_field, site_byte}
 use Rattle.link_faults.specs.declared.binding.Binding.{Binding}
 use Rattle.link_faults.specs.declared.binding.Binding.TheVariants.{Here, Startup, Runtime}
 use Rattle.link_faults.specs.declared.fault.LinkFaultKind.TheVariants.{NarrowInModule, NotTls, Undefined}
 use Rattle.link_faults.specs.ImageKinds.{is_moved}
 use Rattle.link_needs.specs.Given.{IsGiven}
-use Rattle.link_needs.specs.Linking.{Linking, address, binding, block_offset, object, offset, place, sites_at}
+use Rattle.link_needs.specs.Linking.{Linking, address, binding, block_offset, object, offset, place}
 use Rattle.link_needs.specs.Values.{field, goes, is_replaced, is_rewriting, other_number, own_number}
 use Rattle.link_refusals.specs.Faults.{by_type}
 use Rattle.link_refusals.specs.Refused.{is_refused}
-use Rattle.object_faults.specs.declared.class.SectionClass.{SectionClass}
 use Rattle.object_faults.specs.declared.class.SectionClass.TheVariants.{Executable}
 use Rattle.sequence_match.specs.Faults.{IsGetter}
 use Rattle.sequence_match.specs.Sites.{IsEntry}
@@ -120,10 +119,20 @@ module _ (l : Linking) (given : IsGiven l) (links : Links l) (stray : HasNoStray
       runtime_getter l.objects l.startup o links.sound.resolved there r named.0 named.1 bound in
       (stray o there).1 (kept_relocation_table (object l o) s) has.0 (
         has_table (object l o) (kept_relocation_table (object l o) s) has.0 r entry,
-        (s, refl, (r, entry, some, getter, λ e site is second.
-        let spelled = is.spelled.inside in
-        let few = form_some site.form in
-        data_here (is_code (object l o) (is_object l o given there) s (omega arith)).class_is)),
+        (
+          s,
+          refl,
+          (
+            r,
+            entry,
+            some,
+            getter,
+            λ e site is second.
+                let spelled = is.spelled.inside in
+                let few = form_some site.form in
+                data_here (is_code (object l o) (is_object l o given there) s (omega arith)).class_is,
+          ),
+        ),
       )
 
   pub bound_is : IsBound l r.kind (binding l o r)

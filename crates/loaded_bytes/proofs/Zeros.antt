@@ -1,5 +1,5 @@
 -- Data without bytes in its object's file is zero: it has no field and no sequence.
-use Rattle.std.proofs.Common.{◌≡◌, ◌≢◌, ◌+◌, ◌<◌, ◌∙◌, ℕ, Bool, true, false, List, [], ◌∷◌, Option, Some, None, length, refl}
+use Rattle.std.proofs.Common.{◌≡◌, ◌≢◌, ◌+◌, ◌<◌, ◌∙◌, ℕ, Bool, true, false, List, [], ◌∷◌, Some, None, length, refl}
 use Rattle.std.proofs.Common.{sym, ap, subst, arith, inl, inr, if◌then◌else◌}
 use Rattle.std.specs.Prelude.{nat_le, nat_lt, not, slice_index_or, ◌==◌, ◌&&◌}
 use Rattle.std.specs.List.{Contains, find}
@@ -19,7 +19,6 @@ use Rattle.link_core.specs.Meant.{is_in_rewritten}
 use Rattle.link_needs.specs.Given.{IsGiven}
 use Rattle.link_needs.specs.Linking.{Linking, choice, object, sites_at}
 use Rattle.link_needs.specs.Needs.{is_kept}
-use Rattle.object_faults.specs.declared.class.SectionClass.{SectionClass}
 use Rattle.object_faults.specs.declared.class.SectionClass.TheVariants.{Executable, Writable}
 use Rattle.object_rules.specs.declared.fault.FaultKind.TheVariants.{RelocTarget}
 use Rattle.sequence_forms.specs.declared.places.Site.{Site}

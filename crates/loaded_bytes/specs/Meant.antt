@@ -1,5 +1,5 @@
 -- Of all that is loaded but code, that it is what the meaning of the job loads.
-use Rattle.std.specs.Prelude.{◌≡◌, ℕ, false, List, Option, map, option_map}
+use Rattle.std.specs.Prelude.{◌≡◌, ℕ, false, List, map, option_map}
 use Rattle.guest_operands.specs.declared.space.Access.TheVariants.{Read}
 use Rattle.guest_operands.specs.Ranges.{Range, byte_in}
 use Rattle.job_meaning.specs.declared.values.Byte.{Byte}
