@@ -1,8 +1,7 @@
 -- The example of the crate's essay: a program with 8 bytes of thread-local storage, x at offset 4 in them, and the field
 -- of x@dtpoff, as it is kept and as it is rewritten.
-use Rattle.std.proofs.Common.{◌≡◌, ◌+◌, ◌-◌, ◌%◌, ◌^◌, ◌==◌, ℕ, Bool, true, false, Option, Some, None, refl, ap, ◌∙◌, arith}
+use Rattle.std.proofs.Common.{◌≡◌, ◌+◌, ◌-◌, ◌%◌, ◌^◌, ◌==◌, ℕ, Bool, true, false, Some, None, refl, ap, ◌∙◌, arith}
 use Rattle.std.specs.Prelude.{if◌then◌else◌}
-use Rattle.std.proofs.lemmas.Bool.{eqb-true}
 use Rattle.job_meaning.specs.declared.values.Block.{Block}
 use Rattle.job_meaning.specs.declared.values.Token.TheVariants.{Base}
 use Rattle.job_meaning.specs.Owner.{owner_at}

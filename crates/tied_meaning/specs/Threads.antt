@@ -1,6 +1,6 @@
 -- A thread of the meaning and the same thread of the machine: what they have in common between two lines, in a call,
 -- and where they wait for a look in the middle of one.
-use Rattle.std.specs.Prelude.{◌≡◌, ◌≤◌, ◌<◌, ◌+◌, ◌-◌, ◌%◌, ◌^◌, ◌&&◌, ◌⊎◌, ℕ, suc, Bool, true, false, List, [], ◌∷◌, All, Option, Some, None, Result, Ok, length, slice_get}
+use Rattle.std.specs.Prelude.{◌≡◌, ◌-◌, ◌%◌, ◌^◌, ◌&&◌, ℕ, Bool, true, false, List, All, Some, None, Ok, length}
 use Rattle.guest_arithmetic.specs.Plain.{plain_operations}
 use Rattle.guest_operands.specs.declared.state.State.{State}
 use Rattle.guest_machine.specs.Access.{load_of}

@@ -1,5 +1,5 @@
 -- What is loaded of an instance, on the two sides: by what its objects mean, and of its linked image.
-use Rattle.std.specs.Prelude.{◌≡◌, ◌≤◌, ◌<◌, ◌+◌, ◌-◌, ◌%◌, ◌^◌, ℕ, ℤ, Bool, true, false, List, All, IfSome, Option, Some, None, length, slice_get, option_and_then}
+use Rattle.std.specs.Prelude.{◌≡◌, ◌≤◌, ◌<◌, ◌+◌, ◌-◌, ◌%◌, ◌^◌, ℕ, ℤ, true, false, List, All, IfSome, Option, Some, None, length, slice_get, option_and_then}
 use Rattle.amd64_subset.specs.Spelling.{field_of}
 use Rattle.guest_operands.specs.declared.space.Access.{Access}
 use Rattle.guest_operands.specs.declared.space.Access.TheVariants.{Read, Run}
@@ -17,7 +17,6 @@ use Rattle.module_table.specs.Past.{startup_count}
 use Rattle.thread_blocks.specs.Instances.{Loads, instances, instance_with_id, is_startup_id, numbered_instance}
 use Rattle.thread_blocks.specs.Spaces.{FoundAlike, NoneWritable, SameRange}
 use Rattle.thread_blocks.specs.TurnsAlike.{IsFront}
-use Rattle.whole_meaning.specs.declared.marks.Mark.{Mark}
 use Rattle.whole_meaning.specs.declared.marks.Mark.TheVariants.{Usual, Offset, Address}
 use Rattle.whole_meaning.specs.declared.sequences.Sequence.{Sequence}
 use Rattle.whole_meaning.specs.Fields.{is_minus}
