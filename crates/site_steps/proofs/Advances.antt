@@ -1,13 +1,15 @@
 -- The law of this crate: each step of a sequence is one to four steps of the machine.
-use Rattle.std.proofs.Common.{◌≡◌, ◌∙◌, ◌⊎◌, ◌+◌, ◌^◌, ◌<◌, ◌≤◌, ◌&&◌, ◌==◌, ℕ, Bool, true, false, List, Option, Some, Result, refl, sym, ap, subst, arith, inl, inr}
+use Rattle.std.proofs.Common.{◌≡◌, ◌∙◌, ◌⊎◌, ◌+◌, ◌^◌, ◌<◌, ◌≤◌, ◌&&◌, ℕ, Bool, true, false, List, Option, Some, Result, refl, sym, ap, subst, arith, inl, inr}
 use Rattle.std.proofs.lemmas.Bool.{le-ltb}
 use Rattle.guest_operands.specs.declared.stop.Stop.{Stop}
 use Rattle.amd64_subset.specs.declared.instr.Decoded.{Decoded}
-use Rattle.site_steps.proofs.Calls.{Goal, IsLocal}
-use Rattle.site_steps.proofs.Found.{stands_at}
+use Rattle.site_steps.proofs.Answers.{AsksFromStart, kept_from_start}
+use Rattle.site_steps.proofs.Called.{AdvancesTo}
+use Rattle.site_steps.proofs.Looks.{AnswersTo}
+use Rattle.tied_memory.proofs.Standing.{stands_at}
 use Rattle.tied_meaning.specs.Sites.{HasCode, HasInstruction, HasPair, AsksForOwnBlock, KeptAs, IsWritten, WrittenAs, first_length}
 use Rattle.guest_machine.specs.Run.{Next, next_of}
-use Rattle.guest_machine.specs.Simulate.{Advances}
+use Rattle.guest_machine.specs.Simulate.{Moves}
 use Rattle.guest_machine.specs.Use.{After, plus}
 use Rattle.job_meaning.specs.declared.values.Flag.{Flag}
 use Rattle.job_meaning.specs.declared.values.Word.{Word}
@@ -21,12 +23,11 @@ use Rattle.thread_blocks.specs.RunTime.{Runs, thread_steps}
 use Rattle.whole_meaning.specs.declared.sequences.Sequence.{Sequence}
 use Rattle.whole_meaning.specs.Meanings.{Meaning}
 use Rattle.whole_meaning.specs.Sequences.{asks, does, looks_first}
-use Rattle.whole_meaning.specs.Threads.{Meant, Memory, came_late, held_next, meant_stack, sequence_at}
+use Rattle.whole_meaning.specs.Threads.{Meant, Memory, came_late, meant_stack, sequence_at}
 use Rattle.tied_meaning.specs.Numbers.{Setting}
 use Rattle.tied_meaning.specs.Ties.{AreTied}
-use Rattle.tied_meaning.specs.Threads.{AtRest, InCall, Waiting}
-use Rattle.site_steps.proofs.Begins.{Begins}
-use Rattle.site_steps.proofs.Steps.{in_call_sound}
+use Rattle.tied_meaning.specs.Threads.{InCall}
+use Rattle.site_steps.proofs.Owners.{Begins}
 use Rattle.amd64_subset.specs.Register.{register_of as register_named}
 use Rattle.relax_sites.specs.declared.choices.Choice.{Choice}
 use Rattle.relax_sites.specs.declared.choices.Choice.TheVariants.{Keep, GdLe, GdIe, LdLe, IeLe, DescLe, DescIe}
@@ -34,12 +35,13 @@ use Rattle.relax_sites.specs.Rows.{form_length}
 use Rattle.sequence_forms.specs.Forms.{row}
 use Rattle.site_laws.specs.Instructions.{kept_instructions, new_instructions}
 use Rattle.whole_meaning.specs.Sequences.{sequence_result}
-use Rattle.whole_meaning.specs.Running.{meaning}
-use Rattle.whole_meaning.specs.Threads.{meant_steps, sequence_next, start_in}
-use Rattle.site_steps.proofs.Begins.{begins as begins_at}
+use Rattle.whole_meaning.specs.Threads.{sequence_next, start_in}
+use Rattle.site_steps.proofs.Owners.{begins as begins_at}
 use Rattle.site_steps.proofs.Callers.{by_stub, by_word}
 use Rattle.site_steps.proofs.Descriptors.{descriptor_goes}
+use Rattle.site_steps.proofs.Calls.{HasUse, run_at}
 use Rattle.site_steps.proofs.Pairs.{IsPair, pair_goes}
+use Rattle.site_steps.specs.Laws.{SequencesAdvance}
 use Rattle.site_steps.proofs.Single.{desc_ie, desc_le, desc_lea, desc_nop, ie_add, ie_add_le, ie_mov, ie_mov_le}
 use Rattle.site_steps.proofs.Written.{gd_ie, gd_le, ld_written}
 
@@ -62,15 +64,15 @@ lengths IeAdd = refl
 lengths DescLea = refl
 lengths DescCall = refl
 
-module _ (g : Setting) (m : Meaning) (q : Loads ℕ) (history : List Event) (thread : ℕ) (tied : AreTied g m q history)
+module _ {g : Setting} {m : Meaning} {q : Loads ℕ} {history : List Event} {thread : ℕ} (tied : AreTied g m q history)
     (low : 1 ≤ thread) (high : thread ≤ 64) where
-  module _ (h : Meant) (h' : Runs) (call : InCall g m q history thread h h') (s : Sequence) (b : Begins g m q h h' s)
+  module _ {h : Meant} {h' : Runs} (call : InCall g m q history thread h h') {s : Sequence} (b : Begins g m q h h' s)
       (begins : sequence_at m thread h.after.memory.seen h.after.state.place ≡ Some s) where
     abbrev here : ℕ
     here = h'.after.state.place
 
     abbrev goal : Next (After Word Flag Memory) → Type 0
-    goal next = Goal g m q history thread tied low high h h' call s b next
+    goal = AdvancesTo g m q history thread h h'
 
     abbrev begin_at : ℕ
     begin_at = block_start thread b.y
@@ -104,16 +106,10 @@ module _ (g : Setting) (m : Meaning) (q : Loads ℕ) (history : List Event) (thr
     new_code_of choice reg number form f code = subst (λ (form : Form). HasCode q b.x here (new_instructions form choice reg number)) f code
 
     small_here : (d : Decoded) → HasInstruction q b.x here d → here < 2 ^ 39
-    small_here d has = (stands_at g m q history thread tied low high h'.owners h'.after.memory
-        (in_call_sound g m q history thread tied low high h h' call) b.x b.it b.live here d has).1.1
+    small_here d has = (stands_at b.it has).1.1
 
     pair_at : (len n : ℕ) → len ≤ 15 → here < 2 ^ 39 → HasPair q b.x s (plus (here + len) n) → HasPair q b.x s (plus (plus here len) n)
     pair_at len n few small pair = subst (λ (p : ℕ). HasPair q b.x s (plus p n)) (omega (arith, few, small)) pair
-
-    local_of : (form : Form) → (s.target ≡ b.x.number) × (s.offset ≡ 0) → (g.counts_from_pointer && (b.x.number == 1)) ≡ false
-        → (g.known s.instance ≡ Some b.y) × ((s.offset ≡ 0) × ((g.counts_from_pointer && (s.instance == 1)) ≡ false))
-    local_of form base counts =
-        (ap g.known (b.stands.own ∙ sym base.0) ∙ b.known_target, (base.1, ap (λ (n : ℕ). g.counts_from_pointer && (n == 1)) b.stands.own ∙ counts))
 
     base_of : (form : Form) → s.form ≡ form → AsksForOwnBlock g q b.x here s form
     base_of form f = subst (AsksForOwnBlock g q b.x here s) f b.stands.base
@@ -124,59 +120,67 @@ module _ (g : Setting) (m : Meaning) (q : Loads ℕ) (history : List Event) (thr
 
     -- ** kept
 
-    of_kept : (form : Form) → s.form ≡ form → KeptAs g q b.x here s form → answer_goal form
-    of_kept Gd f (first, (second, k)) =
-        let code = (code_of 0 first second Gd f k.code) in
+    pair_answers : (form : Form) → s.form ≡ form → IsPair form → (len n : ℕ) → len ≤ 15 → here < 2 ^ 39
+        → len ≡ first_length form → HasPair q b.x s (plus (here + first_length s.form) n) → s.next < 2 ^ 64
+        → AsksFromStart g s b.y s.form → (k : ℕ) → k ≤ 3
+        → (HasUse m thread h h' → Moves (thread_steps q thread) k h'
+        (run_at thread h' s (plus (plus here len) n) 0x1000 h'.asked))
+        → answer_goal form
+    pair_answers form f is len n few small e pair ends from k steps moves =
+        let found : HasPair q b.x s (plus (plus here len) n) =
+        pair_at len n few small (subst (λ (l : ℕ). HasPair q b.x s (plus (here + l) n)) (sym e) (pair_of form f n pair)) in
+        subst answer_goal f
+        (pair_goes tied low high call b begins ends (subst IsPair (sym f) is) from (plus (plus here len) n) k steps moves
+        found)
+
+    of_kept : (form : Form) → s.form ≡ form → AsksFromStart g s b.y s.form → KeptAs g q b.x here s form
+        → answer_goal form
+    of_kept Gd f from (first, (second, k)) =
+        let code = code_of 0 first second Gd f k.code in
         let ends = ends_at Gd f in
         let small = small_here _ code.0 in
-        subst answer_goal f (pair_goes g m q history thread tied low high h h' call s b begins (omega (arith, ends, small)) (subst (IsPair g m q history thread tied low high h h' call s b) (sym f) tt)
-        (subst (IsLocal g m q history thread tied low high h h' call s b) (sym f) tt) (plus (plus here 8) first) 3 (omega arith)
-        (by_stub g m q history thread tied low high h h' call s b 8 4 first (omega arith) code.0 8 second k.stub k.far (omega arith) code.1.0 ends k.goes k.jumps k.word)
-        (pair_at 8 first (omega arith) small (pair_of Gd f first k.pair)))
-    of_kept Ld f k =
-        let code = (code_of 0 k.1.0 k.1.1.0 Ld f k.1.1.1.code) in
+        pair_answers Gd f tt 8 first (omega arith) small refl k.pair (omega (arith, ends, small)) from 3 (omega arith)
+        (by_stub tied low high call b 8 4 first (omega arith) code.0 8 second k.stub k.far (omega arith) code.1.0 ends
+        k.goes k.jumps k.word)
+    of_kept Ld f from (own, (first, (second, k))) =
+        let code = code_of 0 first second Ld f k.code in
         let ends = ends_at Ld f in
         let small = small_here _ code.0 in
-        subst answer_goal f (pair_goes g m q history thread tied low high h h' call s b begins (omega (arith, ends, small)) (subst (IsPair g m q history thread tied low high h h' call s b) (sym f) tt)
-        (subst (IsLocal g m q history thread tied low high h h' call s b) (sym f) (local_of Ld (base_of Ld f) k.0)) (plus (plus here 7) k.1.0) 3 (omega arith)
-        (by_stub g m q history thread tied low high h h' call s b 7 3 k.1.0 (omega arith) code.0 5 k.1.1.0 k.1.1.1.stub k.1.1.1.far (omega arith) code.1.0 ends k.1.1.1.goes k.1.1.1.jumps k.1.1.1.word)
-        (pair_at 7 k.1.0 (omega arith) small (pair_of Ld f k.1.0 k.1.1.1.pair)))
-    of_kept GdInd f (first, (second, k)) =
-        let code = (code_of 0 first second GdInd f k.code) in
+        pair_answers Ld f tt 7 first (omega arith) small refl k.pair (omega (arith, ends, small)) from 3 (omega arith)
+        (by_stub tied low high call b 7 3 first (omega arith) code.0 5 second k.stub k.far (omega arith) code.1.0 ends
+        k.goes k.jumps k.word)
+    of_kept GdInd f from (first, (second, k)) =
+        let code = code_of 0 first second GdInd f k.code in
         let ends = ends_at GdInd f in
         let small = small_here _ code.0 in
-        subst answer_goal f (pair_goes g m q history thread tied low high h h' call s b begins (omega (arith, ends, small)) (subst (IsPair g m q history thread tied low high h h' call s b) (sym f) tt)
-        (subst (IsLocal g m q history thread tied low high h h' call s b) (sym f) tt) (plus (plus here 8) first) 2 (omega arith)
-        (by_word g m q history thread tied low high h h' call s b 8 4 first (omega arith) code.0 8 4 second (omega arith) code.1.0 ends k.word)
-        (pair_at 8 first (omega arith) small (pair_of GdInd f first k.pair)))
-    of_kept LdInd f k =
-        let code = (code_of 0 k.1.0 k.1.1.0 LdInd f k.1.1.1.code) in
+        pair_answers GdInd f tt 8 first (omega arith) small refl k.pair (omega (arith, ends, small)) from 2 (omega arith)
+        (by_word tied low high call b 8 4 first (omega arith) code.0 8 4 second (omega arith) code.1.0 ends k.word)
+    of_kept LdInd f from (own, (first, (second, k))) =
+        let code = code_of 0 first second LdInd f k.code in
         let ends = ends_at LdInd f in
         let small = small_here _ code.0 in
-        subst answer_goal f (pair_goes g m q history thread tied low high h h' call s b begins (omega (arith, ends, small)) (subst (IsPair g m q history thread tied low high h h' call s b) (sym f) tt)
-        (subst (IsLocal g m q history thread tied low high h h' call s b) (sym f) (local_of LdInd (base_of LdInd f) k.0)) (plus (plus here 7) k.1.0) 2 (omega arith)
-        (by_word g m q history thread tied low high h h' call s b 7 3 k.1.0 (omega arith) code.0 6 2 k.1.1.0 (omega arith) code.1.0 ends k.1.1.1.word)
-        (pair_at 7 k.1.0 (omega arith) small (pair_of LdInd f k.1.0 k.1.1.1.pair)))
-    of_kept IeMov f (reg, (first, (word, k))) =
-        ie_mov g m q history thread tied low high h h' call s b (register_named reg) first word (code_of reg first 0 IeMov f k.code).0
+        pair_answers LdInd f tt 7 first (omega arith) small refl k.pair (omega (arith, ends, small)) from 2 (omega arith)
+        (by_word tied low high call b 7 3 first (omega arith) code.0 6 2 second (omega arith) code.1.0 ends k.word)
+    of_kept IeMov f from (reg, (first, (word, k))) =
+        ie_mov tied low high call b (register_named reg) first word (code_of reg first 0 IeMov f k.code).0
         (ends_at IeMov f) k.register k.there k.distance
-    of_kept IeAdd f (reg, (first, (word, k))) =
-        ie_add g m q history thread tied low high h h' call s b (register_named reg) first word (code_of reg first 0 IeAdd f k.code).0
+    of_kept IeAdd f from (reg, (first, (word, k))) =
+        ie_add tied low high call b (register_named reg) first word (code_of reg first 0 IeAdd f k.code).0
         (ends_at IeAdd f) k.register k.there k.distance
-    of_kept DescLea f (first, k) =
-        desc_lea g m q history thread tied low high h h' call s b first k.code.0 (ends_at DescLea f) b.stands.own k.made k.number
-    of_kept DescCall f k =
+    of_kept DescLea f from (first, k) =
+        desc_lea tied low high call b first k.code.0 (ends_at DescLea f) b.stands.own k.made k.number
+    of_kept DescCall f from k =
         let ends = ends_at DescCall f in
         let small = small_here _ k.code.0 in
-        descriptor_goes g m q history thread tied low high h h' call s b f begins (omega (arith, ends, small)) k.code.0 ends b.stands.own k.low k.descriptor
+        descriptor_goes tied low high call b f begins (omega (arith, ends, small)) k.code.0 ends b.stands.own k.low k.descriptor
 
     -- ** rewritten
 
     of_written : (form : Form) (choice : Choice) → s.form ≡ form → (reg number : ℕ) → IsWritten g q b.x here s choice reg number
         → WrittenAs g q b.x here s form choice reg number → answer_goal form
     of_written Gd Keep f reg number is written = absurd written
-    of_written Gd GdLe f reg number is written = early_goes Gd is.early (gd_le g m q history thread tied low high h h' call s b number (new_code_of GdLe reg number Gd f is.code).0 (new_code_of GdLe reg number Gd f is.code).1.0 (ends_at Gd f) written)
-    of_written Gd GdIe f reg number is written = early_goes Gd is.early (gd_ie g m q history thread tied low high h h' call s b number written.0 (new_code_of GdIe reg number Gd f is.code).0 (new_code_of GdIe reg number Gd f is.code).1.0 (ends_at Gd f) written.1.0 written.1.1)
+    of_written Gd GdLe f reg number is written = early_goes Gd is.early (gd_le tied low high call b number (new_code_of GdLe reg number Gd f is.code).0 (new_code_of GdLe reg number Gd f is.code).1.0 (ends_at Gd f) written)
+    of_written Gd GdIe f reg number is written = early_goes Gd is.early (gd_ie tied low high call b number written.0 (new_code_of GdIe reg number Gd f is.code).0 (new_code_of GdIe reg number Gd f is.code).1.0 (ends_at Gd f) written.1.0 written.1.1)
     of_written Gd LdLe f reg number is written = absurd written
     of_written Gd IeLe f reg number is written = absurd written
     of_written Gd DescLe f reg number is written = absurd written
@@ -184,7 +188,7 @@ module _ (g : Setting) (m : Meaning) (q : Loads ℕ) (history : List Event) (thr
     of_written Ld Keep f reg number is written = absurd written
     of_written Ld GdLe f reg number is written = absurd written
     of_written Ld GdIe f reg number is written = absurd written
-    of_written Ld LdLe f reg number is written = early_goes Ld is.early (ld_written g m q history thread tied low high h h' call s b 12 8 (new_code_of LdLe reg number Ld f is.code).0 (ends_at Ld f) (omega arith) written is.program (base_of Ld f).0 b.stands.own)
+    of_written Ld LdLe f reg number is written = early_goes Ld is.early (ld_written tied low high call b 12 8 (new_code_of LdLe reg number Ld f is.code).0 (ends_at Ld f) (omega arith) written is.program (base_of Ld f).0 b.stands.own)
     of_written Ld IeLe f reg number is written = absurd written
     of_written Ld DescLe f reg number is written = absurd written
     of_written Ld DescIe f reg number is written = absurd written
@@ -192,19 +196,19 @@ module _ (g : Setting) (m : Meaning) (q : Loads ℕ) (history : List Event) (thr
     of_written IeMov GdLe f reg number is written = absurd written
     of_written IeMov GdIe f reg number is written = absurd written
     of_written IeMov LdLe f reg number is written = absurd written
-    of_written IeMov IeLe f reg number is written = early_goes IeMov is.early (ie_mov_le g m q history thread tied low high h h' call s b (register_named reg) number (new_code_of IeLe reg number IeMov f is.code).0 (ends_at IeMov f) written.0 written.1)
+    of_written IeMov IeLe f reg number is written = early_goes IeMov is.early (ie_mov_le tied low high call b (register_named reg) number (new_code_of IeLe reg number IeMov f is.code).0 (ends_at IeMov f) written.0 written.1)
     of_written IeMov DescLe f reg number is written = absurd written
     of_written IeMov DescIe f reg number is written = absurd written
     of_written IeAdd Keep f reg number is written = absurd written
     of_written IeAdd GdLe f reg number is written = absurd written
     of_written IeAdd GdIe f reg number is written = absurd written
     of_written IeAdd LdLe f reg number is written = absurd written
-    of_written IeAdd IeLe f reg number is written = early_goes IeAdd is.early (ie_add_le g m q history thread tied low high h h' call s b reg number (new_code_of IeLe reg number IeAdd f is.code).0 (ends_at IeAdd f) written.0 written.1)
+    of_written IeAdd IeLe f reg number is written = early_goes IeAdd is.early (ie_add_le tied low high call b reg number (new_code_of IeLe reg number IeAdd f is.code).0 (ends_at IeAdd f) written.0 written.1)
     of_written IeAdd DescLe f reg number is written = absurd written
     of_written IeAdd DescIe f reg number is written = absurd written
     of_written GdInd Keep f reg number is written = absurd written
-    of_written GdInd GdLe f reg number is written = early_goes GdInd is.early (gd_le g m q history thread tied low high h h' call s b number (new_code_of GdLe reg number GdInd f is.code).0 (new_code_of GdLe reg number GdInd f is.code).1.0 (ends_at GdInd f) written)
-    of_written GdInd GdIe f reg number is written = early_goes GdInd is.early (gd_ie g m q history thread tied low high h h' call s b number written.0 (new_code_of GdIe reg number GdInd f is.code).0 (new_code_of GdIe reg number GdInd f is.code).1.0 (ends_at GdInd f) written.1.0 written.1.1)
+    of_written GdInd GdLe f reg number is written = early_goes GdInd is.early (gd_le tied low high call b number (new_code_of GdLe reg number GdInd f is.code).0 (new_code_of GdLe reg number GdInd f is.code).1.0 (ends_at GdInd f) written)
+    of_written GdInd GdIe f reg number is written = early_goes GdInd is.early (gd_ie tied low high call b number written.0 (new_code_of GdIe reg number GdInd f is.code).0 (new_code_of GdIe reg number GdInd f is.code).1.0 (ends_at GdInd f) written.1.0 written.1.1)
     of_written GdInd LdLe f reg number is written = absurd written
     of_written GdInd IeLe f reg number is written = absurd written
     of_written GdInd DescLe f reg number is written = absurd written
@@ -212,7 +216,7 @@ module _ (g : Setting) (m : Meaning) (q : Loads ℕ) (history : List Event) (thr
     of_written LdInd Keep f reg number is written = absurd written
     of_written LdInd GdLe f reg number is written = absurd written
     of_written LdInd GdIe f reg number is written = absurd written
-    of_written LdInd LdLe f reg number is written = early_goes LdInd is.early (ld_written g m q history thread tied low high h h' call s b 13 9 (new_code_of LdLe reg number LdInd f is.code).0 (ends_at LdInd f) (omega arith) written is.program (base_of LdInd f).0 b.stands.own)
+    of_written LdInd LdLe f reg number is written = early_goes LdInd is.early (ld_written tied low high call b 13 9 (new_code_of LdLe reg number LdInd f is.code).0 (ends_at LdInd f) (omega arith) written is.program (base_of LdInd f).0 b.stands.own)
     of_written LdInd IeLe f reg number is written = absurd written
     of_written LdInd DescLe f reg number is written = absurd written
     of_written LdInd DescIe f reg number is written = absurd written
@@ -221,39 +225,40 @@ module _ (g : Setting) (m : Meaning) (q : Loads ℕ) (history : List Event) (thr
     of_written DescLea GdIe f reg number is written = absurd written
     of_written DescLea LdLe f reg number is written = absurd written
     of_written DescLea IeLe f reg number is written = absurd written
-    of_written DescLea DescLe f reg number is written = early_goes DescLea is.early (desc_le g m q history thread tied low high h h' call s b number (new_code_of DescLe reg number DescLea f is.code).0 (ends_at DescLea f) b.stands.own written.0 written.1)
-    of_written DescLea DescIe f reg number is written = early_goes DescLea is.early (desc_ie g m q history thread tied low high h h' call s b number (new_code_of DescIe reg number DescLea f is.code).0 (ends_at DescLea f) b.stands.own written.0 written.1)
+    of_written DescLea DescLe f reg number is written = early_goes DescLea is.early (desc_le tied low high call b number (new_code_of DescLe reg number DescLea f is.code).0 (ends_at DescLea f) b.stands.own written.0 written.1)
+    of_written DescLea DescIe f reg number is written = early_goes DescLea is.early (desc_ie tied low high call b number (new_code_of DescIe reg number DescLea f is.code).0 (ends_at DescLea f) b.stands.own written.0 written.1)
     of_written DescCall Keep f reg number is written = absurd written
     of_written DescCall GdLe f reg number is written = absurd written
     of_written DescCall GdIe f reg number is written = absurd written
     of_written DescCall LdLe f reg number is written = absurd written
     of_written DescCall IeLe f reg number is written = absurd written
-    of_written DescCall DescLe f reg number is written = early_goes DescCall is.early (desc_nop g m q history thread tied low high h h' call s b (new_code_of DescLe reg number DescCall f is.code).0 (ends_at DescCall f) b.stands.own written)
-    of_written DescCall DescIe f reg number is written = early_goes DescCall is.early (desc_nop g m q history thread tied low high h h' call s b (new_code_of DescIe reg number DescCall f is.code).0 (ends_at DescCall f) b.stands.own written)
+    of_written DescCall DescLe f reg number is written = early_goes DescCall is.early (desc_nop tied low high call b (new_code_of DescLe reg number DescCall f is.code).0 (ends_at DescCall f) b.stands.own written)
+    of_written DescCall DescIe f reg number is written = early_goes DescCall is.early (desc_nop tied low high call b (new_code_of DescIe reg number DescCall f is.code).0 (ends_at DescCall f) b.stands.own written)
 
-  -- C11: what a sequence does, the machine does
+  -- ** the law
+
   pub sequence_advances : (h : Meant) (h' : Runs) → InCall g m q history thread h h' → (s : Sequence)
       → sequence_at m thread h.after.memory.seen h.after.state.place ≡ Some s
-      → Advances (thread_steps q thread) (InCall g m q history thread) (Waiting g m q history thread) (AtRest g m q history thread) h
-      (held_next m thread h (sequence_next m thread h.after s)) h'
+      → AdvancesTo g m q history thread h h' (sequence_next m thread h.after s)
   unfolding sequence_result
   sequence_advances h h' call s e =
-      let b = begins_at g m q history thread tied h h' s call e in
-      subst (λ (o : Option Instance). Goal g m q history thread tied low high h h' call s b
-      (looks_first (asks s.form && came_late m thread s.target) h.after
-      (sequence_result (meant_stack m thread) s thread (start_in m thread o) h.after.state h.after.memory))) (sym b.meant_target)
-      (of_so b b.stands.stands)
+      subst (λ (o : Option Instance). AnswersTo g m q history thread h h' s
+      (sequence_result (meant_stack m thread) s thread (start_in m thread o) h.after.state h.after.memory))
+      (sym b.meant_target) (of_either b.stands.stands)
     where
-      of_so : (b : Begins g m q h h' s) → KeptAs g q b.x h'.after.state.place s s.form
-          ⊎ ((choice : Choice) × ((reg : ℕ) × ((number : ℕ) × (IsWritten g q b.x h'.after.state.place s choice reg number
-          × WrittenAs g q b.x h'.after.state.place s s.form choice reg number)))) → answer_goal h h' call s b e s.form
-      of_so b (inl kept) = of_kept h h' call s b e s.form refl kept
-      of_so b (inr written) = of_written h h' call s b e s.form written.0 refl written.1.0 written.1.1.0 written.1.1.1.0 written.1.1.1.1
+      b : Begins g m q h h' s
+      b = begins_at tied call e
 
-  -- the same of the step of a thread that stands before a sequence
-  pub sequence_step : (h : Meant) (h' : Runs) → InCall g m q history thread h h' → (s : Sequence)
-      → sequence_at m thread h.after.memory.seen h.after.state.place ≡ Some s
-      → Advances (thread_steps q thread) (InCall g m q history thread) (Waiting g m q history thread) (AtRest g m q history thread) h
-      ((meant_steps m thread).step h) h'
-  unfolding meant_steps meaning
-  sequence_step h h' call s e = rw e (sequence_advances h h' call s e)
+      of_either : KeptAs g q b.x h'.after.state.place s s.form
+          ⊎ ((choice : Choice) × ((reg : ℕ) × ((number : ℕ) × (IsWritten g q b.x h'.after.state.place s choice reg number
+          × WrittenAs g q b.x h'.after.state.place s s.form choice reg number)))) → answer_goal call b e s.form
+      of_either (inl kept) =
+          of_kept call b e s.form refl
+          (kept_from_start g q b.x b.y h'.after.state.place s b.stands.own
+          (λ own. ap g.known (b.stands.own ∙ sym own) ∙ b.known_target) s.form b.stands.base kept)
+          kept
+      of_either (inr written) =
+          of_written call b e s.form written.0 refl written.1.0 written.1.1.0 written.1.1.1.0 written.1.1.1.1
+
+pub advance : SequencesAdvance
+advance g m q history thread tied low high h h' call s e = sequence_advances tied low high h h' call s e

@@ -38,20 +38,36 @@ use Rattle.tied_meaning.specs.Sites.{HasInstruction, HasWord, IsDistance}
 use Rattle.tied_meaning.specs.Ties.{AreTied}
 use Rattle.tied_meaning.specs.Threads.{InCall}
 use Rattle.site_steps.proofs.Acts.{adds_next, adds_number, does_here, leas_next, leas_register, loads_next, passes, sets}
-use Rattle.site_steps.proofs.Written.{AdvancesTo, next_place_is}
-use Rattle.site_steps.proofs.Begins.{Begins}
-use Rattle.site_steps.proofs.Called.{described_same, goes_to, hidden_call, stack_room}
-use Rattle.site_steps.proofs.Found.{word_read}
-use Rattle.site_steps.proofs.Steps.{in_call_sound, one_move, stepped, still_in_call}
+use Rattle.site_steps.proofs.Owners.{Begins}
+use Rattle.site_steps.proofs.Called.{AdvancesTo, described_same, goes_to, hidden_call, stack_room}
+use Rattle.site_steps.proofs.Steps.{in_place, one_move, stepped, still_in_call}
+use Rattle.tied_memory.proofs.Standing.{stands_at, word_read}
 
-module _ (g : Setting) (m : Meaning) (q : Loads ℕ) (history : List Event) (thread : ℕ) (tied : AreTied g m q history)
-    (low : 1 ≤ thread) (high : thread ≤ 64) (h : Meant) (h' : Runs) (call : InCall g m q history thread h h') (s : Sequence)
-    (b : Begins g m q h h' s) where
+-- a descriptor that %rax holds
+pub descriptor_is : (g : Setting) (s : Sequence) (w : Word) (n : ℕ) → descriptor_use s w ≡ Ok tt → SameWord g w n
+    → (n ≡ g.descriptor s.instance s.symbol % 2 ^ 64) × (g.makes_descriptor s.instance s.symbol ≡ true)
+descriptor_is g s (Number number) n e same = absurd cc
+descriptor_is g s Undefined n e same = absurd cc
+descriptor_is g s (Marked (Base block)) n e same = absurd cc
+descriptor_is g s (Marked (Descriptor instance symbol)) n e same = of_test ((instance == s.instance) && (symbol == s.symbol)) refl e
+  where
+    of_test : (t : Bool) → ((instance == s.instance) && (symbol == s.symbol)) ≡ t → (if t then Ok (tt {0}) else Err cause.Descriptor) ≡ Ok (tt {0})
+        → (n ≡ g.descriptor s.instance s.symbol % 2 ^ 64) × (g.makes_descriptor s.instance s.symbol ≡ true)
+    of_test false f e = absurd cc
+    of_test true f e =
+        let parts = and_parts (instance == s.instance) (symbol == s.symbol) f in
+        let i = eqb-true instance s.instance parts.0 in
+        let j = eqb-true symbol s.symbol parts.1 in
+        rw (sym i, sym j) same
+
+module _ {g : Setting} {m : Meaning} {q : Loads ℕ} {history : List Event} {thread : ℕ} (tied : AreTied g m q history)
+    (low : 1 ≤ thread) (high : thread ≤ 64) {h : Meant} {h' : Runs} (call : InCall g m q history thread h h')
+    {s : Sequence} (b : Begins g m q h h' s) where
   abbrev here : ℕ
   here = h'.after.state.place
 
   abbrev Goal : Next (After Word Flag Memory) → Type 0
-  Goal next = AdvancesTo g m q history thread tied low high h h' call s b next
+  Goal = AdvancesTo g m q history thread h h'
 
   abbrev begin : ℕ
   begin = block_start thread b.y
@@ -62,24 +78,27 @@ module _ (g : Setting) (m : Meaning) (q : Loads ℕ) (history : List Event) (thr
       → SameState (alike g) a st → a.thread_pointer ≡ pointer_of thread
       → Goal (next_of (Ok (left a h.after.memory)))
   one_goes d a st has does same pointer =
-      goes_to g m q history thread tied low high h h' _ _ 0 (omega arith)
-      (one_move q thread h' _ (stepped g m q history thread tied low high h' (in_call_sound g m q history thread tied low high h h' call) b.x b.it b.live d has _ does))
-      (still_in_call g m q history thread tied low high h h' call a st h.after.memory.stack h'.after.memory.stack same pointer call.memory.space.stack call.memory.deep)
+      goes_to call _ _ 0 (omega arith)
+      (one_move (stepped tied low h' (in_place call) b.it b.live has does))
+      (still_in_call call a st h.after.memory.stack h'.after.memory.stack same pointer call.memory.space.stack
+      call.memory.deep)
 
   -- the word that the code loads
   read_at : (len n word : ℕ) → s.next ≡ plus here len → HasWord q b.x (plus s.next n) word → word < 2 ^ 64
       → load_of plain_operations (thread_accesses q thread) h'.after.memory (plus (plus here len) n) 8 ≡ Ok word
   read_at len n word next there small =
       ap (λ (p : ℕ). load_of plain_operations (thread_accesses q thread) h'.after.memory (plus p n) 8) (sym next)
-      ∙ word_read g m q history thread tied low high h'.owners h'.after.memory (in_call_sound g m q history thread tied low high h h' call)
-      b.x b.it b.live (plus s.next n) word there small
+      ∙ word_read tied low (in_place call) b.it b.live (plus s.next n) word there small
 
   -- the distance is the number in a word or in a field
   distance_is : (n : ℕ) → IsDistance g s n → n ≡ variable_distance s begin h.after.state.thread_pointer
   distance_is n distance = distance thread b.y high b.known_target ∙ ap (variable_distance s (block_start thread b.y)) (sym call.pointer)
 
   next_is : (d : Decoded) → HasInstruction q b.x here d → (len : ℕ) → len ≤ 15 → s.next ≡ here + len → s.next ≡ plus here len
-  next_is d has len short ends = ends ∙ next_place_is g m q history thread tied low high h h' call s b d has len short
+  next_is d has len short ends = ends ∙ sum_small len short here (stands_at b.it has).1.1
+    where
+      sum_small : (len : ℕ) → len ≤ 15 → (here : ℕ) → here < 2 ^ 39 → here + len ≡ plus here len
+      sum_small len short here low = omega (arith, short, low)
 
   -- ** initial exec
 
@@ -219,23 +238,6 @@ module _ (g : Setting) (m : Meaning) (q : Loads ℕ) (history : List Event) (thr
       (loads_next (thread_accesses q thread) h'.after.memory h'.after.state 7 3 n Rax _
       (read_at 7 n (g.descriptor b.x.number s.symbol % 2 ^ 64) next there (omega arith)))
 
-  -- a descriptor that %rax holds
-  pub descriptor_is : (w : Word) (n : ℕ) → descriptor_use s w ≡ Ok tt → SameWord g w n
-      → (n ≡ g.descriptor s.instance s.symbol % 2 ^ 64) × (g.makes_descriptor s.instance s.symbol ≡ true)
-  descriptor_is (Number number) n e same = absurd cc
-  descriptor_is Undefined n e same = absurd cc
-  descriptor_is (Marked (Base block)) n e same = absurd cc
-  descriptor_is (Marked (Descriptor instance symbol)) n e same = of_test ((instance == s.instance) && (symbol == s.symbol)) refl e
-    where
-      of_test : (t : Bool) → ((instance == s.instance) && (symbol == s.symbol)) ≡ t → (if t then Ok (tt {0}) else Err cause.Descriptor) ≡ Ok (tt {0})
-          → (n ≡ g.descriptor s.instance s.symbol % 2 ^ 64) × (g.makes_descriptor s.instance s.symbol ≡ true)
-      of_test false f e = absurd cc
-      of_test true f e =
-          let parts = and_parts (instance == s.instance) (symbol == s.symbol) f in
-          let i = eqb-true instance s.instance parts.0 in
-          let j = eqb-true symbol s.symbol parts.1 in
-          rw (sym i, sym j) same
-
   -- the call of a descriptor that holds the distance itself
   pub desc_nop : HasInstruction q b.x here (plain 2 (Nop None)) → s.next ≡ here + 2 → s.instance ≡ b.x.number
       → (g.makes_descriptor b.x.number s.symbol ≡ true → IsDistance g s (g.descriptor b.x.number s.symbol % 2 ^ 64))
@@ -252,15 +254,15 @@ module _ (g : Setting) (m : Meaning) (q : Loads ℕ) (history : List Event) (thr
       of_uses (Err why) (Err other) e f = inl tt
       of_uses (Ok done) (Err why) e f = inl tt
       of_uses (Ok done) (Ok stack) e f =
-          let there = descriptor_is h.after.state.registers.rax h'.after.state.registers.rax e call.state.registers.rax in
+          let there = descriptor_is g s h.after.state.registers.rax h'.after.state.registers.rax e call.state.registers.rax in
           let number = distance_is (g.descriptor b.x.number s.symbol % 2 ^ 64)
           (distance (ap (λ (n : ℕ). g.makes_descriptor n s.symbol) (sym own) ∙ there.1)) in
           let rax = there.0 ∙ ap (λ (n : ℕ). g.descriptor n s.symbol % 2 ^ 64) own ∙ number in
-          let room = stack_room g m q history thread tied low high h h' call stack f in
-          goes_to g m q history thread tied low high h h' _ _ 0 (omega arith)
-          (one_move q thread h' _ (stepped g m q history thread tied low high h' (in_call_sound g m q history thread tied low high h h' call) b.x b.it b.live _ has _
+          let room = stack_room call low high f in
+          goes_to call _ _ 0 (omega arith)
+          (one_move (stepped tied low h' (in_place call) b.it b.live has
           (passes (thread_accesses q thread) h'.after.memory h'.after.state 2)))
-          (hidden_call g m q history thread tied low high h h' call stack room _ _
+          (hidden_call call room _ _
           (described_same g h.after.state h'.after.state call.state (Number (variable_distance s begin h.after.state.thread_pointer)) h'.after.state.registers.rax
           h'.after.state.flags (rax, omega arith) s.next (plus here 2) (next_is _ has 2 (omega arith) ends))
           call.pointer)
