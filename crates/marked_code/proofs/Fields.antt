@@ -1,5 +1,5 @@
 -- Fields in code: where one begins, in an instruction or at a place, and which bytes of an instruction it has.
-use Rattle.std.proofs.Common.{◌≡◌, ℕ, zero, suc, ◌+◌, ◌-◌, ◌<◌, ◌≤◌, ◌⊎◌, Bool, true, false, ◌==◌, Option, Some, None, refl, sym, subst, arith}
+use Rattle.std.proofs.Common.{◌≡◌, ℕ, zero, suc, ◌-◌, ◌<◌, ◌≤◌, ◌⊎◌, Bool, true, false, ◌==◌, Option, Some, None, refl, sym, subst, arith}
 use Rattle.std.specs.Prelude.{if◌then◌else◌, ℤ, IfSome}
 use Rattle.std.proofs.lemmas.Bool.{eqb-true}
 use Rattle.amd64_subset.specs.declared.instr.Decoded.{Decoded}

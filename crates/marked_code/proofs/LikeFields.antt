@@ -1,5 +1,5 @@
 -- Code with fields and sequences, as job_meaning's lemmas of lists of code have it, where fields are all of one kind.
-use Rattle.std.proofs.Common.{◌≡◌, ℕ, suc, List, [], Option, Some, None, ap}
+use Rattle.std.proofs.Common.{◌≡◌, ℕ, suc, [], Option, Some, None, ap}
 use Rattle.guest_operands.specs.Access.{Accesses, code_at, code_then, next_place}
 use Rattle.job_meaning.specs.declared.marks.Mark.{Mark as JobMark}
 use Rattle.job_meaning.specs.declared.marks.Mark.TheVariants.{Usual as Plain, Field}

@@ -1,5 +1,5 @@
 -- Numbers in instructions: what the meaning takes for one, and what the machine reads.
-use Rattle.std.proofs.Common.{◌≡◌, ℕ, Bool, true, false, List, take, drop, Option, Some, None, refl, ap}
+use Rattle.std.proofs.Common.{◌≡◌, ℕ, Bool, true, false, List, take, drop, Some, None, refl, ap}
 use Rattle.std.specs.Prelude.{if◌then◌else◌, ◌==◌, ℤ}
 use Rattle.std.proofs.lemmas.Bool.{eqb-true}
 use Rattle.amd64_subset.specs.Spelling.{field_of}

@@ -1,10 +1,10 @@
 -- What the machine reads where the meaning reads an instruction with fields in it: the same, with its own numbers in
 -- them.
-use Rattle.std.proofs.Common.{◌≡◌, ℕ, zero, suc, ◌+◌, ◌-◌, ◌<◌, ◌≤◌, ◌⊎◌, inl, inr, Bool, true, false, ◌&&◌, ◌==◌, List, ◌++◌, length, take, drop, Option, Some, None, refl, sym, ap, subst, ◌∙◌, append_assoc, arith}
+use Rattle.std.proofs.Common.{◌≡◌, ℕ, zero, suc, ◌+◌, ◌-◌, ◌<◌, ◌≤◌, ◌⊎◌, inl, inr, Bool, true, false, ◌&&◌, List, ◌++◌, length, take, drop, Option, Some, None, refl, sym, ap, subst, ◌∙◌, append_assoc, arith}
 use Rattle.std.specs.Prelude.{if◌then◌else◌, nat_le, replicate, ℤ, IfSome}
 use Rattle.std.specs.List.{slice_get}
 use Rattle.std.specs.Option.{option_or}
-use Rattle.std.proofs.lemmas.Bool.{eqb-true, and_parts, or_cases, leb-true, cases_lt}
+use Rattle.std.proofs.lemmas.Bool.{and_parts, or_cases, leb-true, cases_lt}
 use Rattle.std.proofs.lemmas.List.{length-append, take-append-drop}
 use Rattle.std.proofs.Math.Seq.{take-length}
 use Rattle.amd64_subset.specs.declared.instr.Decoded.{Decoded}
@@ -19,7 +19,7 @@ use Rattle.guest_operands.specs.declared.state.State.{State}
 use Rattle.guest_machine.specs.Use.{plus}
 use Rattle.job_meaning.specs.Reading.{completed, is_at, place_at}
 use Rattle.job_meaning.proofs.Lists.{same-take, get-tails, get-front, first_false}
-use Rattle.job_meaning.proofs.Reading.{placed_of, length_of, field_place, front-begins, spelled-more, spelled-less, picked, with_numbers, IsIn, InField, Agrees, exchanged}
+use Rattle.job_meaning.proofs.Reading.{placed_of, length_of, field_place, front-begins, spelled-more, spelled-less, picked, with_numbers, Agrees, exchanged}
 use Rattle.whole_meaning.specs.declared.marks.Mark.{Mark}
 use Rattle.whole_meaning.specs.declared.marks.Mark.TheVariants.{Usual, Offset, Address, Inside}
 use Rattle.whole_meaning.specs.Fields.{adds_to_base, has_address, is_minus, memory_in, read_in, reads_next, starts_offset, takes_address, takes_offset}

@@ -1,21 +1,19 @@
 -- The machine's step follows the meaning's, whatever numbers a linker writes into fields, and wherever it puts the words
 -- that address fields stand for.
-use Rattle.std.proofs.Common.{◌≡◌, ℕ, suc, ◌+◌, ◌-◌, ◌<◌, ◌≤◌, ◌⊎◌, inl, inr, Bool, true, false, List, [], length, take, drop, Option, Some, None, Result, Ok, Err, refl, sym, ap, subst, ◌∙◌, arith}
-use Rattle.std.specs.Prelude.{if◌then◌else◌, not, ◌&&◌, ◌==◌, ℤ}
+use Rattle.std.proofs.Common.{◌≡◌, ℕ, ◌+◌, ◌-◌, ◌<◌, ◌≤◌, ◌⊎◌, inl, inr, Bool, true, false, List, length, take, drop, Option, Some, None, Result, Ok, Err, refl, sym, ap, subst, ◌∙◌, arith}
+use Rattle.std.specs.Prelude.{if◌then◌else◌, not, ◌&&◌}
 use Rattle.std.specs.List.{list_any, slice_get}
-use Rattle.std.proofs.lemmas.Bool.{and_parts, eqb-true}
+use Rattle.std.proofs.lemmas.Bool.{and_parts}
 use Rattle.amd64_subset.specs.declared.instr.Decoded.{Decoded}
 use Rattle.amd64_subset.specs.declared.operand.Memory.{Memory}
-use Rattle.amd64_subset.specs.Beginning.{begins_of}
 use Rattle.amd64_subset.specs.Decoding.{decoded}
 use Rattle.amd64_subset.specs.Spelling.{field_of}
-use Rattle.guest_arithmetic.specs.declared.cause.Cause.{Cause}
 use Rattle.guest_arithmetic.specs.Values.{Operations}
 use Rattle.guest_operands.specs.declared.frame.Frame.{Frame}
 use Rattle.guest_operands.specs.declared.state.State.{State}
 use Rattle.guest_operands.specs.declared.stop.Stop.{Stop}
 use Rattle.guest_operands.specs.declared.stop.Stop.TheVariants.{Code}
-use Rattle.guest_operands.specs.Access.{Accesses, closed, code_at, code_then, next_place, fetch_of, bytes_from, load_of}
+use Rattle.guest_operands.specs.Access.{Accesses, closed, code_at, fetch_of, bytes_from, load_of}
 use Rattle.guest_operands.specs.Frame.{field_at, frame_of}
 use Rattle.guest_operands.specs.Operand.{address_of}
 use Rattle.guest_operands.specs.Use.{plus, After}
@@ -25,17 +23,15 @@ use Rattle.guest_machine.specs.Touch.{touched, touches_of}
 use Rattle.guest_machine.proofs.FollowMemory.{store-reach}
 use Rattle.guest_machine.proofs.FollowRows.{act_follows}
 use Rattle.guest_machine.proofs.Touching.{Free, act-open}
-use Rattle.job_meaning.specs.declared.marks.Mark.{Mark as JobMark}
-use Rattle.job_meaning.specs.declared.marks.Mark.TheVariants.{Usual as Plain, Field}
-use Rattle.job_meaning.specs.Code.{SameCodeByte as SameJobByte, SameCodeAt}
-use Rattle.job_meaning.specs.Reading.{beside_linker, completed, place_at}
-use Rattle.job_meaning.proofs.Fetch.{NotOdd, code-length, code-part, code-as_long, code-usual}
+use Rattle.job_meaning.specs.Code.{SameCodeAt}
+use Rattle.job_meaning.specs.Reading.{beside_linker, place_at}
+use Rattle.job_meaning.proofs.Fetch.{code-length, code-part, code-as_long, code-usual}
 use Rattle.job_meaning.proofs.Reading.{placed_of, length_of, length-four, field_place, picked, with_numbers}
-use Rattle.tied_meaning.specs.Codes.{SameCode, SameCodeByte}
+use Rattle.tied_meaning.specs.Codes.{SameCode}
 use Rattle.whole_meaning.specs.declared.marks.Mark.{Mark}
-use Rattle.whole_meaning.specs.declared.marks.Mark.TheVariants.{Usual, Offset, Address, Inside}
-use Rattle.whole_meaning.specs.Fields.{address_at, field_address, field_number, is_from_next, lent, lent_at, lent_frame, marked_frame, number_in, read_in, reads_next, starts_offset, without_operand}
-use Rattle.whole_meaning.specs.Reading.{acted, done, hindered, hindrance, hindrance_of, marked_step, own_touches, plain_step, reaches_linker}
+use Rattle.whole_meaning.specs.declared.marks.Mark.TheVariants.{Usual, Offset}
+use Rattle.whole_meaning.specs.Fields.{is_from_next, lent, lent_at, lent_frame, marked_frame, number_in, read_in, starts_offset, without_operand}
+use Rattle.whole_meaning.specs.Reading.{acted, done, hindered, hindrance, marked_step, own_touches, plain_step, reaches_linker}
 use Rattle.marked_code.proofs.AddressFields.{AddressIn, NoAddressIn, address_in, next-operand, no-offset, picked-at, sums}
 use Rattle.marked_code.proofs.Fields.{AreFields, field_in, place-behind, starts_field}
 use Rattle.marked_code.proofs.Lent.{lent-load, lent-store, lent-address, lent_open, next-address}

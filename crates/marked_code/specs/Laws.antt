@@ -1,6 +1,6 @@
 -- The laws of code with fields in it. The first two hold over any memories and any relation of them; a clause says them
 -- of threads' memories, and of the relations that a test decides.
-use Rattle.std.specs.Prelude.{◌≡◌, ◌<◌, ℕ, Bool, true, false, List, Option, Some, None, Ok}
+use Rattle.std.specs.Prelude.{◌≡◌, ◌<◌, ℕ, Bool, true, false, List, Some, None, Ok}
 use Rattle.amd64_subset.specs.declared.instr.Decoded.{Decoded}
 use Rattle.amd64_subset.specs.declared.instr.Operation.{Operation}
 use Rattle.amd64_subset.specs.declared.operand.Memory.{Memory as Operand}

@@ -88,7 +88,7 @@ module _ (g : Setting) where
   part-same (Marked token) w' h k = (ap (λ m. digit m k) h.0, h.1)
 
   -- bytes that are all values are these numbers
-  values-same : (bs : List Byte) (bs' ns : List ℕ) → Bytes bs bs' → values_of bs ≡ Some ns → bs' ≡ ns
+  pub values-same : (bs : List Byte) (bs' ns : List ℕ) → Bytes bs bs' → values_of bs ≡ Some ns → bs' ≡ ns
   values-same [] [] ns h e = cc
   values-same [] (b' ∷ bs') ns h e = absurd h
   values-same (b ∷ bs) [] ns h e = absurd h

@@ -1,0 +1,10 @@
+pub mod Begins
+pub mod Calls
+pub mod Firsts
+pub mod Lists
+pub mod Live
+pub mod Opens
+pub mod Printed
+pub mod Rests
+pub mod Shown
+pub mod Worlds
