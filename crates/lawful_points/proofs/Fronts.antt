@@ -25,10 +25,10 @@ same_front a b whole front other e =
     sym (taken_is a whole front) ∙ (ap (λ (n : ℕ). take n whole) e ∙ taken_is b whole other)
 
 -- a point at a history
-abbrev look_by : List Event → Point → Look
+abbrev pub look_by : List Event → Point → Look
 look_by history point = record { seen = take point.number history; added = point.added }
 
-found_by : (history : List Event) (looks : List Look) → AllFronts (seen_by looks) history
+pub found_by : (history : List Event) (looks : List Look) → AllFronts (seen_by looks) history
     → map (look_by history) (points_of looks) ≡ looks
 found_by history [] fronts = refl
 found_by history (look ∷ looks) fronts =

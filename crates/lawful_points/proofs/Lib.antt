@@ -6,3 +6,4 @@ pub mod Jobs
 pub mod Fronts
 pub mod Alone
 pub mod Racing
+pub mod Printed

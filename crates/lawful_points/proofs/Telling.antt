@@ -212,6 +212,14 @@ module _ {S : Type 0} (thread : ℕ) (x : Turns S Line Event) (event : Line → 
   last_told own [] (Mid left points s) said told over at = absurd over
   last_told own (line ∷ todo) (Mid left points s) said told over at = absurd over
 
+  -- and has said something of each of its lines
+  pub last_count : (own todo : List Line) (phase : Phase S) (said : List Said) (told : List Point) → IsFinished todo phase
+      → HasTold thread own todo phase said told → length said ≡ length own
+  last_count own [] (Idle s) said told over at = at.each ∙ ap length (sym (at.lines ∙ append-nil at.done))
+  last_count own (line ∷ todo) (Idle s) said told over at = absurd over
+  last_count own [] (Mid left points s) said told over at = absurd over
+  last_count own (line ∷ todo) (Mid left points s) said told over at = absurd over
+
 -- ** lines of a job
 
 module _ {W F B : Type 0} (ops : Operations W F B) (l : Loads B) (show : List B → Ending) (thread : ℕ) where

@@ -1,5 +1,5 @@
 -- The points of every job's threads are lawful.
-use Rattle.std.specs.Prelude.{◌≡◌, ℕ, Bool, List, [], ◌∷◌, map, Option, Some}
+use Rattle.std.specs.Prelude.{◌≡◌, ℕ, Bool, List, map, Option, Some, take}
 use Rattle.job_text.specs.declared.thread_lines.ThreadLine.{ThreadLine}
 use Rattle.module_table.specs.declared.events.Event.{Event}
 use Rattle.transcript_text.specs.declared.outcomes.Line.{Line as ShownLine}
@@ -7,14 +7,15 @@ use Rattle.transcript_text.specs.Texts.{Shown}
 use Rattle.lawful_points.specs.Orders.{job_looks}
 use Rattle.lawful_points.specs.Points.{AreLawful}
 use Rattle.lawful_points.specs.Raced.{IsRaced, IsRacer, first_of}
-use Rattle.lawful_points.specs.Told.{AreLawfulPoints, points_of, told_by}
+use Rattle.lawful_points.specs.Told.{AreLawfulPoints, points_of, printed_points, told_by}
+use Rattle.order_laws.specs.Alike.{AtHistory as IsEachFine}
 use Rattle.thread_blocks.specs.Instances.{Loads}
 use Rattle.thread_blocks.specs.JobStatements.{HasNoData}
 use Rattle.thread_blocks.specs.JobWorlds.{Shared, job_world, numbered_lines}
 use Rattle.thread_blocks.specs.Lines.{Line, event_by}
 use Rattle.thread_blocks.specs.MachineTurns.{shown}
 use Rattle.thread_blocks.specs.RunTime.{thread_turns}
-use Rattle.thread_blocks.specs.Turns.{Thread, Turns, at_number, event_of, turn, with_event}
+use Rattle.thread_blocks.specs.Turns.{Thread, Turns, at_number}
 use Rattle.thread_blocks.specs.TurnsAlike.{IsFront}
 
 -- a transcript of what a job's threads said
@@ -59,13 +60,16 @@ RacedPointsAreLawful = (l : Loads ℕ) (fuel : ℕ) (lines : List (List ThreadLi
 -- what each turn of a thread sees is a front of a history, and so it is with the thread's own event behind it
 abbrev pub AtHistory : {S L : Type 0} → Turns S L Event → (L → List Event → Option Event) → List Event
     → Thread S L Event → List (List Event) → Type 0
-AtHistory x event history t [] = Unit {0}
-AtHistory x event history t (seen ∷ more) =
-    (IsFront seen history × IsFront (with_event seen (event_of event t seen)) history)
-    × AtHistory x event history (turn x t seen) more
+AtHistory x event history = IsEachFine x event (λ (seen : List Event). IsFront seen history)
 
 -- so it is with each that raced
 abbrev pub RacersAreInHistory : Type 0
 RacersAreInHistory = (l : Loads ℕ) (fuel thread : ℕ) (own : List ThreadLine) (history : List Event)
     (said : List ShownLine) → (racer : IsRacer l fuel thread own history said)
     → AtHistory (thread_turns l thread fuel) (event_by l thread) history (first_of l thread own) racer.points
+
+-- and what its turns saw can be said again from the history and the numbers that its lines print
+abbrev pub RacersPrintTheirPoints : Type 0
+RacersPrintTheirPoints = (l : Loads ℕ) (fuel thread : ℕ) (own : List ThreadLine) (history : List Event)
+    (said : List ShownLine) → (racer : IsRacer l fuel thread own history said)
+    → map (λ (number : ℕ). take number history) (printed_points said) ≡ racer.points

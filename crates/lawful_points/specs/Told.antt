@@ -1,5 +1,6 @@
 -- What the printed lines of a thread tell of its looks: at which points they were, and which events they added.
 use Rattle.std.specs.Prelude.{◌≡◌, ◌+◌, ◌≤◌, ℕ, true, false, List, [], ◌∷◌, ◌++◌, length, map, Option, Some, None, is_some, if◌then◌else◌}
+use Rattle.std.specs.List.{flat_map}
 use Rattle.job_text.specs.declared.thread_lines.Action.{Action}
 use Rattle.job_text.specs.declared.thread_lines.Action.TheVariants.{Call, Open, Close, Peek}
 use Rattle.module_table.specs.declared.events.Event.{Event}
@@ -50,6 +51,10 @@ abbrev pub told_by : ℕ → List Line → List ShownLine → List Point
 told_by thread [] said = []
 told_by thread (line ∷ lines) [] = []
 told_by thread (line ∷ lines) (said ∷ more) = told_line thread line said ++ told_by thread lines more
+
+-- the numbers of events that the looks of lines saw, whatever they added
+abbrev pub printed_points : List ShownLine → List ℕ
+printed_points said = flat_map (λ (line : ShownLine). line.points) said
 
 -- ** lawful in a history
 

@@ -1,7 +1,7 @@
 //! The laws. The functions do nothing: what they ensure is the law.
 
 ghost use Rattle.lawful_points.specs.Laws.{LinesTellLooks, LooksAreLawful, PointsAreLawful};
-ghost use Rattle.lawful_points.specs.Laws.{RacedPointsAreLawful, RacersAreInHistory, RunsAreRaced};
+ghost use Rattle.lawful_points.specs.Laws.{RacedPointsAreLawful, RacersAreInHistory, RacersPrintTheirPoints, RunsAreRaced};
 
 /// In any order of turns the looks of each thread are lawful, whatever is loaded.
 pub fn looks_are_lawful()
@@ -31,4 +31,9 @@ pub fn raced_points_are_lawful()
 /// What each turn of a raced thread saw is a front of the history, and so it is with the thread's own event behind it.
 pub fn racers_are_in_history()
     ensures { RacersAreInHistory }
+{}
+
+/// And what they saw can be said again from the history and the points that its lines print.
+pub fn racers_print_their_points()
+    ensures { RacersPrintTheirPoints }
 {}

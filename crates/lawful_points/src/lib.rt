@@ -38,7 +38,9 @@
 //! stands in that definition, so it can be said of threads that run at once. Each job's transcript is raced
 //! ([`laws::runs_are_raced`]), and the points of a raced one are lawful ([`laws::raced_points_are_lawful`]). What a raced
 //! thread saw, with its own event behind it, is always a front of the history ([`laws::racers_are_in_history`]), so
-//! whoever follows such a thread turn by turn stays within one history.
+//! whoever follows such a thread turn by turn (`order_laws`) stays within one history. And what it saw can be said again
+//! from the history and the points that its lines print ([`laws::racers_print_their_points`]): a transcript tells all
+//! turns of its threads.
 //!
 //! A thread's events with their places are `own_events` of `shared_modules`, where they stand beside the laws of such
 //! events while other threads go on.
