@@ -1,4 +1,4 @@
--- The law of this crate: each step of a sequence is one to four steps of the machine.
+-- All forms together: a sequence of the meaning is one to four steps of the machine.
 use Rattle.std.proofs.Common.{◌≡◌, ◌∙◌, ◌⊎◌, ◌+◌, ◌^◌, ◌<◌, ◌≤◌, ◌&&◌, ℕ, Bool, true, false, List, Option, Some, Result, refl, sym, ap, subst, arith, inl, inr}
 use Rattle.std.proofs.lemmas.Bool.{le-ltb}
 use Rattle.guest_operands.specs.declared.stop.Stop.{Stop}
@@ -83,7 +83,8 @@ module _ {g : Setting} {m : Meaning} {q : Loads ℕ} {history : List Event} {thr
     abbrev answer_goal : Form → Type 0
     answer_goal form = goal (looks_first (asks form && came_late m thread s.target) h.after (meant_by form))
 
-    never_first : (a l : Bool) (r : Result (After Word Flag Memory) Stop) → l ≡ false → goal (next_of r) → goal (looks_first (a && l) h.after r)
+    never_first : (a l : Bool) (r : Result (After Word Flag Memory) Stop) → l ≡ false → goal (next_of r)
+        → goal (looks_first (a && l) h.after r)
     never_first true l r e k = rw e k
     never_first false l r e k = k
 
@@ -97,18 +98,23 @@ module _ {g : Setting} {m : Meaning} {q : Loads ℕ} {history : List Event} {thr
     ends_at form f = b.stands.ends ∙ (ap (λ (form : Form). here + form_length form) f ∙ ap (λ (n : ℕ). here + n) (lengths form))
 
     -- what stands there, by the form
-    code_of : (reg first second : ℕ) (form : Form) → s.form ≡ form → HasCode q b.x here (kept_instructions s.form reg first second)
+    code_of : (reg first second : ℕ) (form : Form) → s.form ≡ form
+        → HasCode q b.x here (kept_instructions s.form reg first second)
         → HasCode q b.x here (kept_instructions form reg first second)
-    code_of reg first second form f code = subst (λ (form : Form). HasCode q b.x here (kept_instructions form reg first second)) f code
+    code_of reg first second form f code =
+        subst (λ (form : Form). HasCode q b.x here (kept_instructions form reg first second)) f code
 
-    new_code_of : (choice : Choice) (reg number : ℕ) (form : Form) → s.form ≡ form → HasCode q b.x here (new_instructions s.form choice reg number)
+    new_code_of : (choice : Choice) (reg number : ℕ) (form : Form) → s.form ≡ form
+        → HasCode q b.x here (new_instructions s.form choice reg number)
         → HasCode q b.x here (new_instructions form choice reg number)
-    new_code_of choice reg number form f code = subst (λ (form : Form). HasCode q b.x here (new_instructions form choice reg number)) f code
+    new_code_of choice reg number form f code =
+        subst (λ (form : Form). HasCode q b.x here (new_instructions form choice reg number)) f code
 
     small_here : (d : Decoded) → HasInstruction q b.x here d → here < 2 ^ 39
     small_here d has = (stands_at b.it has).1.1
 
-    pair_at : (len n : ℕ) → len ≤ 15 → here < 2 ^ 39 → HasPair q b.x s (plus (here + len) n) → HasPair q b.x s (plus (plus here len) n)
+    pair_at : (len n : ℕ) → len ≤ 15 → here < 2 ^ 39 → HasPair q b.x s (plus (here + len) n)
+        → HasPair q b.x s (plus (plus here len) n)
     pair_at len n few small pair = subst (λ (p : ℕ). HasPair q b.x s (plus p n)) (omega (arith, few, small)) pair
 
     base_of : (form : Form) → s.form ≡ form → AsksForOwnBlock g q b.x here s form
@@ -179,8 +185,14 @@ module _ {g : Setting} {m : Meaning} {q : Loads ℕ} {history : List Event} {thr
     of_written : (form : Form) (choice : Choice) → s.form ≡ form → (reg number : ℕ) → IsWritten g q b.x here s choice reg number
         → WrittenAs g q b.x here s form choice reg number → answer_goal form
     of_written Gd Keep f reg number is written = absurd written
-    of_written Gd GdLe f reg number is written = early_goes Gd is.early (gd_le tied low high call b number (new_code_of GdLe reg number Gd f is.code).0 (new_code_of GdLe reg number Gd f is.code).1.0 (ends_at Gd f) written)
-    of_written Gd GdIe f reg number is written = early_goes Gd is.early (gd_ie tied low high call b number written.0 (new_code_of GdIe reg number Gd f is.code).0 (new_code_of GdIe reg number Gd f is.code).1.0 (ends_at Gd f) written.1.0 written.1.1)
+    of_written Gd GdLe f reg number is written =
+        early_goes Gd is.early
+        (gd_le tied low high call b number (new_code_of GdLe reg number Gd f is.code).0
+        (new_code_of GdLe reg number Gd f is.code).1.0 (ends_at Gd f) written)
+    of_written Gd GdIe f reg number is written =
+        early_goes Gd is.early
+        (gd_ie tied low high call b number written.0 (new_code_of GdIe reg number Gd f is.code).0
+        (new_code_of GdIe reg number Gd f is.code).1.0 (ends_at Gd f) written.1.0 written.1.1)
     of_written Gd LdLe f reg number is written = absurd written
     of_written Gd IeLe f reg number is written = absurd written
     of_written Gd DescLe f reg number is written = absurd written
@@ -188,7 +200,10 @@ module _ {g : Setting} {m : Meaning} {q : Loads ℕ} {history : List Event} {thr
     of_written Ld Keep f reg number is written = absurd written
     of_written Ld GdLe f reg number is written = absurd written
     of_written Ld GdIe f reg number is written = absurd written
-    of_written Ld LdLe f reg number is written = early_goes Ld is.early (ld_written tied low high call b 12 8 (new_code_of LdLe reg number Ld f is.code).0 (ends_at Ld f) (omega arith) written is.program (base_of Ld f).0 b.stands.own)
+    of_written Ld LdLe f reg number is written =
+        early_goes Ld is.early
+        (ld_written tied low high call b 12 8 (new_code_of LdLe reg number Ld f is.code).0 (ends_at Ld f)
+        (omega arith) written is.program (base_of Ld f).0 b.stands.own)
     of_written Ld IeLe f reg number is written = absurd written
     of_written Ld DescLe f reg number is written = absurd written
     of_written Ld DescIe f reg number is written = absurd written
@@ -196,19 +211,31 @@ module _ {g : Setting} {m : Meaning} {q : Loads ℕ} {history : List Event} {thr
     of_written IeMov GdLe f reg number is written = absurd written
     of_written IeMov GdIe f reg number is written = absurd written
     of_written IeMov LdLe f reg number is written = absurd written
-    of_written IeMov IeLe f reg number is written = early_goes IeMov is.early (ie_mov_le tied low high call b (register_named reg) number (new_code_of IeLe reg number IeMov f is.code).0 (ends_at IeMov f) written.0 written.1)
+    of_written IeMov IeLe f reg number is written =
+        early_goes IeMov is.early
+        (ie_mov_le tied low high call b (register_named reg) number (new_code_of IeLe reg number IeMov f is.code).0
+        (ends_at IeMov f) written.0 written.1)
     of_written IeMov DescLe f reg number is written = absurd written
     of_written IeMov DescIe f reg number is written = absurd written
     of_written IeAdd Keep f reg number is written = absurd written
     of_written IeAdd GdLe f reg number is written = absurd written
     of_written IeAdd GdIe f reg number is written = absurd written
     of_written IeAdd LdLe f reg number is written = absurd written
-    of_written IeAdd IeLe f reg number is written = early_goes IeAdd is.early (ie_add_le tied low high call b reg number (new_code_of IeLe reg number IeAdd f is.code).0 (ends_at IeAdd f) written.0 written.1)
+    of_written IeAdd IeLe f reg number is written =
+        early_goes IeAdd is.early
+        (ie_add_le tied low high call b reg number (new_code_of IeLe reg number IeAdd f is.code).0 (ends_at IeAdd f)
+        written.0 written.1)
     of_written IeAdd DescLe f reg number is written = absurd written
     of_written IeAdd DescIe f reg number is written = absurd written
     of_written GdInd Keep f reg number is written = absurd written
-    of_written GdInd GdLe f reg number is written = early_goes GdInd is.early (gd_le tied low high call b number (new_code_of GdLe reg number GdInd f is.code).0 (new_code_of GdLe reg number GdInd f is.code).1.0 (ends_at GdInd f) written)
-    of_written GdInd GdIe f reg number is written = early_goes GdInd is.early (gd_ie tied low high call b number written.0 (new_code_of GdIe reg number GdInd f is.code).0 (new_code_of GdIe reg number GdInd f is.code).1.0 (ends_at GdInd f) written.1.0 written.1.1)
+    of_written GdInd GdLe f reg number is written =
+        early_goes GdInd is.early
+        (gd_le tied low high call b number (new_code_of GdLe reg number GdInd f is.code).0
+        (new_code_of GdLe reg number GdInd f is.code).1.0 (ends_at GdInd f) written)
+    of_written GdInd GdIe f reg number is written =
+        early_goes GdInd is.early
+        (gd_ie tied low high call b number written.0 (new_code_of GdIe reg number GdInd f is.code).0
+        (new_code_of GdIe reg number GdInd f is.code).1.0 (ends_at GdInd f) written.1.0 written.1.1)
     of_written GdInd LdLe f reg number is written = absurd written
     of_written GdInd IeLe f reg number is written = absurd written
     of_written GdInd DescLe f reg number is written = absurd written
@@ -216,7 +243,10 @@ module _ {g : Setting} {m : Meaning} {q : Loads ℕ} {history : List Event} {thr
     of_written LdInd Keep f reg number is written = absurd written
     of_written LdInd GdLe f reg number is written = absurd written
     of_written LdInd GdIe f reg number is written = absurd written
-    of_written LdInd LdLe f reg number is written = early_goes LdInd is.early (ld_written tied low high call b 13 9 (new_code_of LdLe reg number LdInd f is.code).0 (ends_at LdInd f) (omega arith) written is.program (base_of LdInd f).0 b.stands.own)
+    of_written LdInd LdLe f reg number is written =
+        early_goes LdInd is.early
+        (ld_written tied low high call b 13 9 (new_code_of LdLe reg number LdInd f is.code).0 (ends_at LdInd f)
+        (omega arith) written is.program (base_of LdInd f).0 b.stands.own)
     of_written LdInd IeLe f reg number is written = absurd written
     of_written LdInd DescLe f reg number is written = absurd written
     of_written LdInd DescIe f reg number is written = absurd written
@@ -225,15 +255,27 @@ module _ {g : Setting} {m : Meaning} {q : Loads ℕ} {history : List Event} {thr
     of_written DescLea GdIe f reg number is written = absurd written
     of_written DescLea LdLe f reg number is written = absurd written
     of_written DescLea IeLe f reg number is written = absurd written
-    of_written DescLea DescLe f reg number is written = early_goes DescLea is.early (desc_le tied low high call b number (new_code_of DescLe reg number DescLea f is.code).0 (ends_at DescLea f) b.stands.own written.0 written.1)
-    of_written DescLea DescIe f reg number is written = early_goes DescLea is.early (desc_ie tied low high call b number (new_code_of DescIe reg number DescLea f is.code).0 (ends_at DescLea f) b.stands.own written.0 written.1)
+    of_written DescLea DescLe f reg number is written =
+        early_goes DescLea is.early
+        (desc_le tied low high call b number (new_code_of DescLe reg number DescLea f is.code).0 (ends_at DescLea f)
+        b.stands.own written.0 written.1)
+    of_written DescLea DescIe f reg number is written =
+        early_goes DescLea is.early
+        (desc_ie tied low high call b number (new_code_of DescIe reg number DescLea f is.code).0 (ends_at DescLea f)
+        b.stands.own written.0 written.1)
     of_written DescCall Keep f reg number is written = absurd written
     of_written DescCall GdLe f reg number is written = absurd written
     of_written DescCall GdIe f reg number is written = absurd written
     of_written DescCall LdLe f reg number is written = absurd written
     of_written DescCall IeLe f reg number is written = absurd written
-    of_written DescCall DescLe f reg number is written = early_goes DescCall is.early (desc_nop tied low high call b (new_code_of DescLe reg number DescCall f is.code).0 (ends_at DescCall f) b.stands.own written)
-    of_written DescCall DescIe f reg number is written = early_goes DescCall is.early (desc_nop tied low high call b (new_code_of DescIe reg number DescCall f is.code).0 (ends_at DescCall f) b.stands.own written)
+    of_written DescCall DescLe f reg number is written =
+        early_goes DescCall is.early
+        (desc_nop tied low high call b (new_code_of DescLe reg number DescCall f is.code).0 (ends_at DescCall f)
+        b.stands.own written)
+    of_written DescCall DescIe f reg number is written =
+        early_goes DescCall is.early
+        (desc_nop tied low high call b (new_code_of DescIe reg number DescCall f is.code).0 (ends_at DescCall f)
+        b.stands.own written)
 
   -- ** the law
 

@@ -53,27 +53,33 @@ module _ {g : Setting} {m : Meaning} {q : Loads ℕ} {history : List Event} {thr
       ≡ Err (Unclean h.after.state.place why)
   desc_err d r e f why none = rw (e, f, none) refl
 
-  pub descriptor_goes : s.form ≡ DescCall → sequence_at m thread h.after.memory.seen h.after.state.place ≡ Some s → s.next < 2 ^ 64
+  pub descriptor_goes : s.form ≡ DescCall → sequence_at m thread h.after.memory.seen h.after.state.place ≡ Some s
+      → s.next < 2 ^ 64
       → HasInstruction q b.x here (plain 2 (call_through (of_register Rax))) → s.next ≡ here + 2 → s.instance ≡ b.x.number
       → g.descriptor b.x.number s.symbol < 2 ^ 64
       → (g.makes_descriptor b.x.number s.symbol ≡ true → HasDescriptor q b.x s (g.descriptor b.x.number s.symbol))
       → answer_goal DescCall
   unfolding alike
   descriptor_goes f begins small has ends own few there =
-      of_uses (descriptor_use s h.after.state.registers.rax) (stack_use (meant_stack m thread) h.after.state h.after.memory) refl refl
+      of_uses (descriptor_use s h.after.state.registers.rax)
+      (stack_use (meant_stack m thread) h.after.state h.after.memory) refl refl
     where
       of_uses : (d : Result (Unit {0}) Cause) (r : Result ℕ Cause) → descriptor_use s h.after.state.registers.rax ≡ d
           → stack_use (meant_stack m thread) h.after.state h.after.memory ≡ r → answer_goal DescCall
-      of_uses (Err why) (Ok stack) d r = unclean_answers call (asks DescCall && came_late m thread s.target) _ _ (desc_err _ _ d r why refl) tt
-      of_uses (Err why) (Err other) d r = unclean_answers call (asks DescCall && came_late m thread s.target) _ _ (desc_err _ _ d r _ refl) tt
-      of_uses (Ok done) (Err why) d r = unclean_answers call (asks DescCall && came_late m thread s.target) _ _ (desc_err _ _ d r why refl) tt
+      of_uses (Err why) (Ok stack) d r =
+          unclean_answers call (asks DescCall && came_late m thread s.target) _ _ (desc_err _ _ d r why refl) tt
+      of_uses (Err why) (Err other) d r =
+          unclean_answers call (asks DescCall && came_late m thread s.target) _ _ (desc_err _ _ d r _ refl) tt
+      of_uses (Ok done) (Err why) d r =
+          unclean_answers call (asks DescCall && came_late m thread s.target) _ _ (desc_err _ _ d r why refl) tt
       of_uses (Ok done) (Ok stack) d r =
           let used : use_is = r ∙ ap (λ (n : ℕ). Ok n) (stack_room call low high r).same in
           let is = descriptor_is g s h.after.state.registers.rax h'.after.state.registers.rax d call.state.registers.rax in
           let made = there (ap (λ (n : ℕ). g.makes_descriptor n s.symbol) (sym own) ∙ is.1) in
           let rax : h'.after.state.registers.rax ≡ g.descriptor b.x.number s.symbol =
           is.0 ∙ (ap (λ (n : ℕ). g.descriptor n s.symbol % 2 ^ 64) own ∙ small_again (g.descriptor b.x.number s.symbol) few) in
-          let found : HasDescriptor q b.x s h'.after.state.registers.rax = subst (λ (n : ℕ). HasDescriptor q b.x s n) (sym rax) made in
+          let found : HasDescriptor q b.x s h'.after.state.registers.rax =
+          subst (λ (n : ℕ). HasDescriptor q b.x s n) (sym rax) made in
           subst answer_goal f
           (asks_goes tied low high call b begins h'.after.state.registers.rdi 0x1800 (inr refl) 1 (omega arith)
           (by_descriptor tied low high call b has ends (omega (arith, rax, few)) found.first used) used

@@ -40,7 +40,8 @@ AnswersTo g m q history thread h h' s r =
 
 -- a stop that is unclean says nothing of the machine
 pub unclean_answers : {g : Setting} {m : Meaning} {q : Loads ℕ} {history : List Event} {thread : ℕ} {h : Meant}
-    {h' : Runs} → InCall g m q history thread h h' → (late : Bool) (stop : Stop) (r : Result (After Word Flag Memory) Stop) → r ≡ Err stop → IsUnclean stop
+    {h' : Runs} → InCall g m q history thread h h'
+    → (late : Bool) (stop : Stop) (r : Result (After Word Flag Memory) Stop) → r ≡ Err stop → IsUnclean stop
     → AdvancesTo g m q history thread h h' (looks_first late h.after r)
 unclean_answers call true stop r e unclean = rw e (inl unclean)
 unclean_answers call false stop r e unclean = rw e (inl unclean)

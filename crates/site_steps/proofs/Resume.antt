@@ -52,7 +52,9 @@ module _ {g : Setting} {m : Meaning} {q : Loads ℕ} {history : List Event} {thr
       record {
         owners = owners_alike g (looked_at m.loads thread seen (owned_by h)) (looked_at q thread seen (owned_by h')) now.0;
         own = ranges_alike g (looked_at m.loads thread seen (owned_by h)) (looked_at q thread seen (owned_by h')) now.0;
-        placed = subst (λ (zs : List (Owned ℕ)). All (IsPlaced g q thread) zs) (sym (both_again g (looked_at q thread seen (owned_by h')))) now.1;
+        placed =
+            subst (λ (zs : List (Owned ℕ)). All (IsPlaced g q thread) zs)
+            (sym (both_again g (looked_at q thread seen (owned_by h')))) now.1;
         paired = as_many g (looked_at q thread seen (owned_by h'));
         seen = refl;
         front = front;
@@ -68,7 +70,9 @@ module _ {g : Setting} {m : Meaning} {q : Loads ℕ} {history : List Event} {thr
 
     abbrev meant_after : Word → Meant
     meant_after a = record meant_there {
-      after = left (with_rax (called_state s.form h.after.state s.next) a) ((meant_stack m thread).forget meant_there.after.memory wait.stack);
+      after =
+          left (with_rax (called_state s.form h.after.state s.next) a)
+          ((meant_stack m thread).forget meant_there.after.memory wait.stack);
     }
 
     abbrev runs_after : ℕ → Runs
@@ -105,7 +109,8 @@ module _ {g : Setting} {m : Meaning} {q : Loads ℕ} {history : List Event} {thr
         }
 
     meant_result : numbered_instance m.loads seen s.target ≡ Some x → asks s.form ≡ true
-        → sequence_does m thread s meant_there.after ≡ Ok (meant_after (answer_for m thread s (block_start thread x) s.form)).after
+        → sequence_does m thread s meant_there.after
+        ≡ Ok (meant_after (answer_for m thread s (block_start thread x) s.form)).after
     unfolding sequence_result
     meant_result e a =
         rw e (does_answer m thread s (block_start thread x) wait.stack h.after.state meant_there.after.memory

@@ -1,4 +1,5 @@
--- Sequences of one instruction that makes no call, kept and rewritten.
+-- Sequences of one instruction that calls nothing, kept and rewritten: initial exec, descriptors, and what stands for
+-- a descriptor's call.
 use Rattle.std.proofs.Common.{if◌then◌else◌, ◌≡◌, ◌∙◌, ◌+◌, ◌%◌, ◌^◌, ◌<◌, ◌≤◌, ◌&&◌, ◌==◌, ℕ, Bool, true, false, List, None, Result, Ok, Err, refl, sym, ap, subst, arith, inl}
 use Rattle.std.proofs.lemmas.Bool.{and_parts, eqb-true}
 use Rattle.amd64_words.specs.declared.register.Register.{Register}
@@ -49,9 +50,11 @@ pub descriptor_is : (g : Setting) (s : Sequence) (w : Word) (n : ℕ) → descri
 descriptor_is g s (Number number) n e same = absurd cc
 descriptor_is g s Undefined n e same = absurd cc
 descriptor_is g s (Marked (Base block)) n e same = absurd cc
-descriptor_is g s (Marked (Descriptor instance symbol)) n e same = of_test ((instance == s.instance) && (symbol == s.symbol)) refl e
+descriptor_is g s (Marked (Descriptor instance symbol)) n e same =
+    of_test ((instance == s.instance) && (symbol == s.symbol)) refl e
   where
-    of_test : (t : Bool) → ((instance == s.instance) && (symbol == s.symbol)) ≡ t → (if t then Ok (tt {0}) else Err cause.Descriptor) ≡ Ok (tt {0})
+    of_test : (t : Bool) → ((instance == s.instance) && (symbol == s.symbol)) ≡ t
+        → (if t then Ok (tt {0}) else Err cause.Descriptor) ≡ Ok (tt {0})
         → (n ≡ g.descriptor s.instance s.symbol % 2 ^ 64) × (g.makes_descriptor s.instance s.symbol ≡ true)
     of_test false f e = absurd cc
     of_test true f e =
@@ -92,7 +95,8 @@ module _ {g : Setting} {m : Meaning} {q : Loads ℕ} {history : List Event} {thr
 
   -- the distance is the number in a word or in a field
   distance_is : (n : ℕ) → IsDistance g s n → n ≡ variable_distance s begin h.after.state.thread_pointer
-  distance_is n distance = distance thread b.y high b.known_target ∙ ap (variable_distance s (block_start thread b.y)) (sym call.pointer)
+  distance_is n distance =
+      distance thread b.y high b.known_target ∙ ap (variable_distance s (block_start thread b.y)) (sym call.pointer)
 
   next_is : (d : Decoded) → HasInstruction q b.x here d → (len : ℕ) → len ≤ 15 → s.next ≡ here + len → s.next ≡ plus here len
   next_is d has len short ends = ends ∙ sum_small len short here (stands_at b.it has).1.1
@@ -106,7 +110,8 @@ module _ {g : Setting} {m : Meaning} {q : Loads ℕ} {history : List Event} {thr
   distance_word n distance = (distance_is n distance, omega arith)
 
   -- a register holds the distance
-  mov_goes : (d : Decoded) (r : Register) (n : ℕ) (len : ℕ) → HasInstruction q b.x here d → r ≡ s.register → IsDistance g s n → s.next ≡ plus here len
+  mov_goes : (d : Decoded) (r : Register) (n : ℕ) (len : ℕ) → HasInstruction q b.x here d → r ≡ s.register
+      → IsDistance g s n → s.next ≡ plus here len
       → does_here (thread_accesses q thread) h'.after.memory h'.after.state d
       ≡ Ok (left (at_place (with_word h'.after.state r n) (plus here len)) h'.after.memory)
       → Goal
@@ -117,10 +122,12 @@ module _ {g : Setting} {m : Meaning} {q : Loads ℕ} {history : List Event} {thr
       (same_place (alike g) _ _ (subst (λ (r' : Register). SameState (alike g)
       (with_word h.after.state s.register (Number (variable_distance s begin h.after.state.thread_pointer)))
       (with_word h'.after.state r' n)) (sym register)
-      (same_word (alike g) h.after.state h'.after.state call.state s.register _ n (distance_word n distance))) s.next (plus here len) next)
+      (same_word (alike g) h.after.state h'.after.state call.state s.register _ n (distance_word n distance))) s.next
+      (plus here len) next)
       call.pointer
 
-  pub ie_mov : (r : Register) (first word : ℕ) → HasInstruction q b.x here (displaced 7 3 (load r of_next) first) → s.next ≡ here + 7 → r ≡ s.register
+  pub ie_mov : (r : Register) (first word : ℕ) → HasInstruction q b.x here (displaced 7 3 (load r of_next) first)
+      → s.next ≡ here + 7 → r ≡ s.register
       → HasWord q b.x (plus s.next first) word → IsDistance g s word
       → Goal
       (next_of (loaded (meant_stack m thread) s thread begin h.after.state h.after.memory))
@@ -130,25 +137,30 @@ module _ {g : Setting} {m : Meaning} {q : Loads ℕ} {history : List Event} {thr
       (loads_next (thread_accesses q thread) h'.after.memory h'.after.state 7 3 first r word
       (read_at 7 first word next there (omega (arith, distance_is word distance))))
 
-  pub ie_mov_le : (r : Register) (n : ℕ) → HasInstruction q b.x here (immediate 7 3 (set r) n) → s.next ≡ here + 7 → r ≡ s.register → IsDistance g s n
+  pub ie_mov_le : (r : Register) (n : ℕ) → HasInstruction q b.x here (immediate 7 3 (set r) n) → s.next ≡ here + 7
+      → r ≡ s.register → IsDistance g s n
       → Goal
       (next_of (loaded (meant_stack m thread) s thread begin h.after.state h.after.memory))
   ie_mov_le r n has ends register distance =
       let next = next_is _ has 7 (omega arith) ends in
       mov_goes _ r n 7 has register distance next
       (sets (thread_accesses q thread) h'.after.memory h'.after.state 7 3 n r
-      ∙ ap (λ (w : ℕ). Ok (left (at_place (with_word h'.after.state r w) (plus here 7)) h'.after.memory)) (omega (arith, distance_is n distance)))
+      ∙ ap (λ (w : ℕ). Ok (left (at_place (with_word h'.after.state r w) (plus here 7)) h'.after.memory))
+      (omega (arith, distance_is n distance)))
 
   -- the distance is added to a register
-  pub add_goes : (d : Decoded) (r : Register) (n : ℕ) (flags : Flags Bool) → HasInstruction q b.x here d → r ≡ s.register → IsDistance g s n → s.next ≡ plus here 7
+  pub add_goes : (d : Decoded) (r : Register) (n : ℕ) (flags : Flags Bool) → HasInstruction q b.x here d
+      → r ≡ s.register → IsDistance g s n → s.next ≡ plus here 7
       → does_here (thread_accesses q thread) h'.after.memory h'.after.state d
-      ≡ Ok (left (record (with_word h'.after.state r (plus (register_of h'.after.state.registers r) n)) { flags = flags; place = plus here 7 }) h'.after.memory)
+      ≡ Ok (left (record (with_word h'.after.state r (plus (register_of h'.after.state.registers r) n))
+      { flags = flags; place = plus here 7 }) h'.after.memory)
       → Goal
       (next_of (added (meant_stack m thread) s thread begin h.after.state h.after.memory))
   unfolding alike
   add_goes d r n flags has register distance next does =
       of_use (register_of h.after.state.registers s.register)
-      (subst (λ (r' : Register). SameWord g (register_of h.after.state.registers s.register) (register_of h'.after.state.registers r')) (sym register)
+      (subst (λ (r' : Register). SameWord g (register_of h.after.state.registers s.register)
+      (register_of h'.after.state.registers r')) (sym register)
       (same_register (alike g) h.after.state.registers h'.after.state.registers call.state.registers s.register))
     where
       sum_word : (number reg : ℕ) → reg ≡ number
@@ -157,11 +169,13 @@ module _ {g : Setting} {m : Meaning} {q : Loads ℕ} {history : List Event} {thr
 
       of_use : (w : Word) → SameWord g w (register_of h'.after.state.registers r)
           → Goal (next_of ((clean h.after.state.place (used_number w)) >>= (λ (number : ℕ).
-          Ok (left (at_place (with_sum (meant_stack m thread) s thread begin (plus number (variable_distance s begin h.after.state.thread_pointer)) h.after.state) s.next)
+          Ok (left (at_place (with_sum (meant_stack m thread) s thread begin
+          (plus number (variable_distance s begin h.after.state.thread_pointer)) h.after.state) s.next)
           h.after.memory))))
       of_use (Number number) same =
           let sum = same_word (alike g) h.after.state h'.after.state call.state s.register
-          (Number (plus number (variable_distance s begin h.after.state.thread_pointer))) (plus (register_of h'.after.state.registers r) n)
+          (Number (plus number (variable_distance s begin h.after.state.thread_pointer)))
+          (plus (register_of h'.after.state.registers r) n)
           (sum_word number (register_of h'.after.state.registers r) same.0) in
           let sum_at = subst (λ (r' : Register). SameState (alike g)
           (with_word h.after.state s.register (Number (plus number (variable_distance s begin h.after.state.thread_pointer))))
@@ -175,7 +189,8 @@ module _ {g : Setting} {m : Meaning} {q : Loads ℕ} {history : List Event} {thr
       of_use Undefined same = inl tt
       of_use (Marked token) same = inl tt
 
-  pub ie_add : (r : Register) (first word : ℕ) → HasInstruction q b.x here (displaced 7 3 (add r of_next) first) → s.next ≡ here + 7 → r ≡ s.register
+  pub ie_add : (r : Register) (first word : ℕ) → HasInstruction q b.x here (displaced 7 3 (add r of_next) first)
+      → s.next ≡ here + 7 → r ≡ s.register
       → HasWord q b.x (plus s.next first) word → IsDistance g s word
       → Goal (next_of (added (meant_stack m thread) s thread begin h.after.state h.after.memory))
   ie_add r first word has ends register there distance =
@@ -185,7 +200,8 @@ module _ {g : Setting} {m : Meaning} {q : Loads ℕ} {history : List Event} {thr
       add_goes _ r word adds.0 has register distance next adds.1
 
   -- in the place of an add: lea, or of %rsp and %r12 add
-  pub ie_add_le : (reg n : ℕ) → HasInstruction q b.x here (added_code reg n) → s.next ≡ here + 7 → register_named reg ≡ s.register → IsDistance g s n
+  pub ie_add_le : (reg n : ℕ) → HasInstruction q b.x here (added_code reg n) → s.next ≡ here + 7
+      → register_named reg ≡ s.register → IsDistance g s n
       → Goal (next_of (added (meant_stack m thread) s thread begin h.after.state h.after.memory))
   ie_add_le reg n has ends register distance = of_test (reg % 8 == 4) has
     where
@@ -202,7 +218,8 @@ module _ {g : Setting} {m : Meaning} {q : Loads ℕ} {history : List Event} {thr
   -- ** descriptors
 
   -- %rax holds the descriptor's number
-  lea_goes : (d : Decoded) (w : ℕ) → HasInstruction q b.x here d → s.instance ≡ b.x.number → g.makes_descriptor b.x.number s.symbol ≡ true
+  lea_goes : (d : Decoded) (w : ℕ) → HasInstruction q b.x here d → s.instance ≡ b.x.number
+      → g.makes_descriptor b.x.number s.symbol ≡ true
       → w ≡ g.descriptor b.x.number s.symbol % 2 ^ 64 → s.next ≡ plus here 7
       → does_here (thread_accesses q thread) h'.after.memory h'.after.state d
       ≡ Ok (left (at_place (with_word h'.after.state Rax w) (plus here 7)) h'.after.memory)
@@ -210,12 +227,15 @@ module _ {g : Setting} {m : Meaning} {q : Loads ℕ} {history : List Event} {thr
   unfolding with_register alike
   lea_goes d w has own made number next does =
       one_goes d _ _ has does
-      (same_place (alike g) _ _ (same_word (alike g) h.after.state h'.after.state call.state Rax (Marked (Descriptor s.instance s.symbol)) w
+      (same_place (alike g) _ _
+      (same_word (alike g) h.after.state h'.after.state call.state Rax (Marked (Descriptor s.instance s.symbol)) w
       (rw own (number, made))) s.next (plus here 7) next)
       call.pointer
 
-  pub desc_lea : (first : ℕ) → HasInstruction q b.x here (displaced 7 3 (LoadAddress Quad Rax of_next) first) → s.next ≡ here + 7
-      → s.instance ≡ b.x.number → g.makes_descriptor b.x.number s.symbol ≡ true → plus s.next first ≡ g.descriptor b.x.number s.symbol % 2 ^ 64
+  pub desc_lea : (first : ℕ) → HasInstruction q b.x here (displaced 7 3 (LoadAddress Quad Rax of_next) first)
+      → s.next ≡ here + 7
+      → s.instance ≡ b.x.number → g.makes_descriptor b.x.number s.symbol ≡ true → plus s.next first
+      ≡ g.descriptor b.x.number s.symbol % 2 ^ 64
       → Goal (next_of (described (meant_stack m thread) s thread begin h.after.state h.after.memory))
   desc_lea first has ends own made number =
       let next = next_is _ has 7 (omega arith) ends in
@@ -230,7 +250,8 @@ module _ {g : Setting} {m : Meaning} {q : Loads ℕ} {history : List Event} {thr
       (sets (thread_accesses q thread) h'.after.memory h'.after.state 7 3 n Rax)
 
   pub desc_ie : (n : ℕ) → HasInstruction q b.x here (displaced 7 3 (load Rax of_next) n) → s.next ≡ here + 7
-      → s.instance ≡ b.x.number → g.makes_descriptor b.x.number s.symbol ≡ true → HasWord q b.x (plus s.next n) (g.descriptor b.x.number s.symbol % 2 ^ 64)
+      → s.instance ≡ b.x.number → g.makes_descriptor b.x.number s.symbol ≡ true
+      → HasWord q b.x (plus s.next n) (g.descriptor b.x.number s.symbol % 2 ^ 64)
       → Goal (next_of (described (meant_stack m thread) s thread begin h.after.state h.after.memory))
   desc_ie n has ends own made there =
       let next = next_is _ has 7 (omega arith) ends in
@@ -243,12 +264,15 @@ module _ {g : Setting} {m : Meaning} {q : Loads ℕ} {history : List Event} {thr
       → (g.makes_descriptor b.x.number s.symbol ≡ true → IsDistance g s (g.descriptor b.x.number s.symbol % 2 ^ 64))
       → Goal (next_of (descriptor_called (meant_stack m thread) s thread begin h.after.state h.after.memory))
   unfolding alike
-  desc_nop has ends own distance = of_uses (descriptor_use s h.after.state.registers.rax) (stack_use (meant_stack m thread) h.after.state h.after.memory) refl refl
+  desc_nop has ends own distance =
+      of_uses (descriptor_use s h.after.state.registers.rax)
+      (stack_use (meant_stack m thread) h.after.state h.after.memory) refl refl
     where
       of_uses : (d : Result (Unit {0}) Cause) (r : Result ℕ Cause) → descriptor_use s h.after.state.registers.rax ≡ d
           → stack_use (meant_stack m thread) h.after.state h.after.memory ≡ r
           → Goal (next_of ((clean h.after.state.place (both d r)) >>= (λ (uses : Unit {0} × ℕ).
-          Ok (left (at_place (without_flags (with_answer (Number (variable_distance s begin h.after.state.thread_pointer)) h.after.state)) s.next)
+          Ok (left (at_place (without_flags
+          (with_answer (Number (variable_distance s begin h.after.state.thread_pointer)) h.after.state)) s.next)
           ((meant_stack m thread).forget h.after.memory uses.1)))))
       of_uses (Err why) (Ok stack) e f = inl tt
       of_uses (Err why) (Err other) e f = inl tt
@@ -263,6 +287,7 @@ module _ {g : Setting} {m : Meaning} {q : Loads ℕ} {history : List Event} {thr
           (one_move (stepped tied low h' (in_place call) b.it b.live has
           (passes (thread_accesses q thread) h'.after.memory h'.after.state 2)))
           (hidden_call call room _ _
-          (described_same g h.after.state h'.after.state call.state (Number (variable_distance s begin h.after.state.thread_pointer)) h'.after.state.registers.rax
+          (described_same g h.after.state h'.after.state call.state
+          (Number (variable_distance s begin h.after.state.thread_pointer)) h'.after.state.registers.rax
           h'.after.state.flags (rax, omega arith) s.next (plus here 2) (next_is _ has 2 (omega arith) ends))
           call.pointer)

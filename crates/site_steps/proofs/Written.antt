@@ -1,4 +1,4 @@
--- Rewritten sequences: what they mean is what the machine does in one or two steps.
+-- General and local dynamic sequences that were rewritten: the machine does in one or two steps what they mean.
 use Rattle.std.proofs.Common.{◌≡◌, ◌∙◌, ◌+◌, ◌-◌, ◌^◌, ◌<◌, ◌≤◌, ℕ, suc, Bool, true, List, Some, Result, Ok, Err, refl, sym, ap, subst, arith, inl}
 use Rattle.std.proofs.lemmas.Bool.{eq-eqb}
 use Rattle.amd64_words.specs.declared.register.Register.TheVariants.{Rax}
@@ -83,7 +83,8 @@ module _ {g : Setting} {m : Meaning} {q : Loads ℕ} {history : List Event} {thr
   -- ** local dynamic
 
   -- the base of the program's own block is the thread pointer
-  base_is : (instance start : ℕ) → g.counts_from_pointer ≡ true → instance ≡ 1 → g.known instance ≡ Some b.y → start ≡ block_start thread b.y
+  base_is : (instance start : ℕ) → g.counts_from_pointer ≡ true → instance ≡ 1 → g.known instance ≡ Some b.y
+      → start ≡ block_start thread b.y
       → SameWord g (Marked (Base (record { thread = thread; instance = instance; start = start }))) (pointer_of thread)
   base_is instance start counts program known e =
       rw (counts, eq-eqb instance 1 program) (omega (arith, high), (b.y, (known, e)))
@@ -103,7 +104,8 @@ module _ {g : Setting} {m : Meaning} {q : Loads ℕ} {history : List Event} {thr
     where
       of_use : (r : Result ℕ Cause) → stack_use (meant_stack m thread) h.after.state h.after.memory ≡ r
           → Goal (next_of ((clean h.after.state.place r) >>= (λ (below : ℕ).
-          Ok (left (at_place (with_answer word (after_call h.after.state)) s.next) ((meant_stack m thread).forget h.after.memory below)))))
+          Ok (left (at_place (with_answer word (after_call h.after.state)) s.next)
+          ((meant_stack m thread).forget h.after.memory below)))))
       of_use (Err why) e = inl tt
       of_use (Ok stack) e =
           let room = stack_room call low high e in
@@ -112,12 +114,15 @@ module _ {g : Setting} {m : Meaning} {q : Loads ℕ} {history : List Event} {thr
           (called_same g h.after.state h'.after.state call.state word w h'.after.state.registers.rdi flags same s.next p ends)
           call.pointer)
 
-  pub ld_written : (len at : ℕ) → HasInstruction q b.x here (displaced len at (load Rax of_thread) 0) → s.next ≡ here + len → len ≤ 15
+  pub ld_written : (len at : ℕ) → HasInstruction q b.x here (displaced len at (load Rax of_thread) 0)
+      → s.next ≡ here + len → len ≤ 15
       → g.counts_from_pointer ≡ true → b.x.number ≡ 1 → s.target ≡ b.x.number → s.instance ≡ b.x.number
-      → Goal (next_of (called_with (meant_stack m thread) s thread start (own_base (meant_stack m thread) s thread start) h.after.state h.after.memory))
+      → Goal (next_of (called_with (meant_stack m thread) s thread start
+      (own_base (meant_stack m thread) s thread start) h.after.state h.after.memory))
   unfolding with_register
   ld_written len at has ends short counts program base own =
-      call_goes (own_base (meant_stack m thread) s thread start) (pointer_of thread) h'.after.state.flags (plus here len) 0 (omega arith)
+      call_goes (own_base (meant_stack m thread) s thread start) (pointer_of thread) h'.after.state.flags
+      (plus here len) 0 (omega arith)
       (pointer_step len at has)
       (base_is s.instance start counts (own ∙ program) (ap g.known (own ∙ sym base) ∙ b.known_target) refl)
       (ends ∙ next_place_is _ has len short)
@@ -126,37 +131,51 @@ module _ {g : Setting} {m : Meaning} {q : Loads ℕ} {history : List Event} {thr
 
   -- behind mov %fs:0, %rax
   abbrev pub pointed : ℕ → Runs
-  pointed len = record h' { after = left (at_place (with_word h'.after.state Rax (pointer_of thread)) (plus here len)) h'.after.memory }
+  pointed len =
+      record h' {
+        after = left (at_place (with_word h'.after.state Rax (pointer_of thread)) (plus here len))
+            h'.after.memory;
+      }
 
   pub address_word : (n : ℕ) → IsDistance g s n → SameWord g (Number (variable_address s start)) (plus (pointer_of thread) n)
-  address_word n distance = (sums (pointer_of thread) start s.offset n (omega (arith, high)) (distance thread b.y high b.known_target), omega arith)
+  address_word n distance = (
+    sums (pointer_of thread) start s.offset n (omega (arith, high)) (distance thread b.y high b.known_target),
+    omega arith,
+  )
     where
-      sums : (pointer start offset n : ℕ) → pointer < 2 ^ 64 → n ≡ plus (plus start offset) (2 ^ 64 - pointer) → plus pointer n ≡ plus start offset
+      sums : (pointer start offset n : ℕ) → pointer < 2 ^ 64 → n ≡ plus (plus start offset) (2 ^ 64 - pointer)
+          → plus pointer n ≡ plus start offset
       sums pointer start offset n small e = rw e (omega (arith, small))
 
   second_place : (here : ℕ) → here < 2 ^ 39 → plus (plus here 9) 7 ≡ here + 16
   second_place here low = omega (arith, low)
 
-  behind : (d : Decoded) → HasInstruction q b.x (here + 9) d → here < 2 ^ 39 → HasInstruction q b.x (pointed 9).after.state.place d
+  behind : (d : Decoded) → HasInstruction q b.x (here + 9) d → here < 2 ^ 39
+      → HasInstruction q b.x (pointed 9).after.state.place d
   behind d has small = subst (λ (place : ℕ). HasInstruction q b.x place d) (sum_small 9 (omega arith) here small) has
 
   pub gd_le : (n : ℕ) → HasInstruction q b.x here (displaced 9 5 (load Rax of_thread) 0)
-      → HasInstruction q b.x (here + 9) (displaced 7 3 (LoadAddress Quad Rax (of_register Rax)) n) → s.next ≡ here + 16 → IsDistance g s n
-      → Goal (next_of (called_with (meant_stack m thread) s thread start (Number (variable_address s start)) h.after.state h.after.memory))
+      → HasInstruction q b.x (here + 9) (displaced 7 3 (LoadAddress Quad Rax (of_register Rax)) n) → s.next
+      ≡ here + 16 → IsDistance g s n
+      → Goal (next_of (called_with (meant_stack m thread) s thread start (Number (variable_address s start))
+      h.after.state h.after.memory))
   unfolding with_register register_of
   gd_le n first second ends distance =
       let small = (placed _ first).1.1 in
       let sound = in_place call in
-      call_goes (Number (variable_address s start)) (plus (pointer_of thread) n) h'.after.state.flags (plus (plus here 9) 7) 1 (omega arith)
+      call_goes (Number (variable_address s start)) (plus (pointer_of thread) n) h'.after.state.flags
+      (plus (plus here 9) 7) 1 (omega arith)
       (then_moves 1 _ (pointer_steps 9 5 first)
       (one_move (stepped tied low (pointed 9) sound b.it b.live (behind _ second small)
       (leas_register (thread_accesses q thread) h'.after.memory (pointed 9).after.state 7 3 n Rax))))
       (address_word n distance) (ends ∙ sym (second_place here small))
 
   pub gd_ie : (n word : ℕ) → HasInstruction q b.x here (displaced 9 5 (load Rax of_thread) 0)
-      → HasInstruction q b.x (here + 9) (displaced 7 3 (add Rax of_next) n) → s.next ≡ here + 16 → HasWord q b.x (plus s.next n) word
+      → HasInstruction q b.x (here + 9) (displaced 7 3 (add Rax of_next) n) → s.next ≡ here + 16
+      → HasWord q b.x (plus s.next n) word
       → IsDistance g s word
-      → Goal (next_of (called_with (meant_stack m thread) s thread start (Number (variable_address s start)) h.after.state h.after.memory))
+      → Goal (next_of (called_with (meant_stack m thread) s thread start (Number (variable_address s start))
+      h.after.state h.after.memory))
   unfolding with_register register_of
   gd_ie n word first second ends there distance =
       let small = (placed _ first).1.1 in
@@ -166,7 +185,8 @@ module _ {g : Setting} {m : Meaning} {q : Loads ℕ} {history : List Event} {thr
       let adds = adds_next (thread_accesses q thread) h'.after.memory (pointed 9).after.state 7 3 n Rax word
       (ap (λ (p : ℕ). load_of plain_operations (thread_accesses q thread) h'.after.memory (plus p n) 8) (sym next)
       ∙ word_read tied low sound b.it b.live (plus s.next n) word there (omega (arith, same))) in
-      call_goes (Number (variable_address s start)) (plus (pointer_of thread) word) adds.0 (plus (plus here 9) 7) 1 (omega arith)
+      call_goes (Number (variable_address s start)) (plus (pointer_of thread) word) adds.0 (plus (plus here 9) 7) 1
+      (omega arith)
       (then_moves 1 _ (pointer_steps 9 5 first)
       (one_move (stepped tied low (pointed 9) sound b.it b.live (behind _ second small) adds.1)))
       (address_word word distance) next
