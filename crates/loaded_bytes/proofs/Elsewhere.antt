@@ -67,13 +67,13 @@ never_written (x ∷ xs) place = of_test x.writable refl (never_written xs place
 
 module _ (ls : List Linking) (l : Linking) (x : Instance) (is : IsInstanceOf ls l x) (access : Access) (place byte : ℕ) where
   -- it is found in some parts, of which the first has number n
-  abbrev Found : ℕ → List Part → Type 0
+  abbrev pub Found : ℕ → List Part → Type 0
   Found n ps = byte_in access (still (parts_from (images_of ls) (image_of l) x n ps)) place ≡ Some byte
 
-  abbrev lies : ℕ → Part → Range ℕ
+  abbrev pub lies : ℕ → Part → Range ℕ
   lies n p = instance_part (images_of ls) (image_of l) x n p
 
-  split : (n : ℕ) (ps qs : List Part) → Found n (ps ++ qs) → Found n ps ⊎ Found (n + length ps) qs
+  pub split : (n : ℕ) (ps qs : List Part) → Found n (ps ++ qs) → Found n ps ⊎ Found (n + length ps) qs
   split n ps qs e =
       let one = parts_from (images_of ls) (image_of l) x n ps in
       let two = parts_from (images_of ls) (image_of l) x (n + length ps) qs in
@@ -84,7 +84,7 @@ module _ (ls : List Linking) (l : Linking) (x : Instance) (is : IsInstanceOf ls 
 
   -- ** one part
 
-  record IsHere (n : ℕ) (p : Part) : Type 0 where
+  pub record IsHere (n : ℕ) (p : Part) : Type 0 where
     pub allowed : allows access (lies n p) ≡ true
     pub still_there : (lies n p).writable ≡ false
     pub held : holds (lies n p) place ≡ true
@@ -93,7 +93,7 @@ module _ (ls : List Linking) (l : Linking) (x : Instance) (is : IsInstanceOf ls 
   both true b e = (refl, e)
   both false b e = absurd (cc)
 
-  one : (n : ℕ) (p : Part) → Found n (p ∷ []) → IsHere n p
+  pub one : (n : ℕ) (p : Part) → Found n (p ∷ []) → IsHere n p
   one n p e = of_written (lies n p).writable refl e
     where
       of_grant : (t : Bool) → grants access (lies n p) place ≡ t
@@ -108,7 +108,7 @@ module _ (ls : List Linking) (l : Linking) (x : Instance) (is : IsInstanceOf ls 
           let g = both (allows access (lies n p)) (holds (lies n p) place) (of_grant (grants access (lies n p) place) refl e) in
           record { allowed = g.0; still_there = w; held = g.1 }
 
-  bounds : (n : ℕ) (p : Part) → IsHere n p
+  pub bounds : (n : ℕ) (p : Part) → IsHere n p
       → (p.address + bias_of l.kind x.number ≤ place) × (place < p.address + length p.bytes + bias_of l.kind x.number)
   bounds n p here =
       let at = holds_so (p.address + bias (image_of l).kind x.number) place (length (part_bytes (images_of ls) (image_of l) x p)) here.held in
@@ -167,7 +167,7 @@ module _ (ls : List Linking) (l : Linking) (x : Instance) (is : IsInstanceOf ls 
       All-cons (λ (q : Part). room (layout l).kind (layout l).sections ≤ q.address) (part_in (file_kind l.kind) (file l) p)
       (map (part_in (file_kind l.kind) (file l)) ps) first (all_map ps (λ k d below. all (suc k) d (omega (arith, below))))
 
-  in_rest : (n : ℕ) → Found n (rest ls l x) → Found 0 (image_of l).parts → in_room l (bias_of l.kind x.number) place ≡ true
+  pub in_rest : (n : ℕ) → Found n (rest ls l x) → Found 0 (image_of l).parts → in_room l (bias_of l.kind x.number) place ≡ true
   unfolding in_room
   in_rest n e whole =
       let added = map (part_in (file_kind l.kind) (file l)) (got_places l ++ stub_places l) in
@@ -185,7 +185,7 @@ module _ (ls : List Linking) (l : Linking) (x : Instance) (is : IsInstanceOf ls 
   -- ** all
 
   -- it is found in the part of a class
-  abbrev In : SectionClass → Type 0
+  abbrev pub In : SectionClass → Type 0
   In c = (n : ℕ) × IsHere n (class_part l c) × IsInMoved l (bias_of l.kind x.number) c place
 
   filled_one : (kind : PartClass) (extent : Extent) → extent.start < extent.end → length (filled kind extent) ≡ 1
@@ -208,8 +208,8 @@ module _ (ls : List Linking) (l : Linking) (x : Instance) (is : IsInstanceOf ls 
       clash true e f = cc
       clash false e f = cc
 
-  where_found : Found 0 (image_of l).parts
-      → In Executable ⊎ (In ReadOnly ⊎ (In (Tls true) ⊎ (in_room l (bias_of l.kind x.number) place ≡ true)))
+  pub where_found : Found 0 (image_of l).parts
+      → In Executable ⊎ (In ReadOnly ⊎ (In (Tls true) ⊎ ((n : ℕ) × Found n (rest ls l x))))
   where_found e =
       let a = map (part_in (file_kind l.kind) (file l)) (code ls l x) in
       let b = map (part_in (file_kind l.kind) (file l)) (constants ls l x) in
@@ -236,7 +236,7 @@ module _ (ls : List Linking) (l : Linking) (x : Instance) (is : IsInstanceOf ls 
             | inl here ↦ inr (inr (inl (let c = of_class m (Tls true) here in (m, c.0, c.1))))
             | inr past ↦ elim (split k d r past) [
               | inl here ↦ absurd (not_data k same here)
-              | inr past ↦ inr (inr (inr (in_rest (k + length d) past e)))
+              | inr past ↦ inr (inr (inr (k + length d, past)))
             ]
           ]
         ]
@@ -266,7 +266,7 @@ elsewhere ls l x is = record {
         | inl here ↦ inr (inl here.2)
         | inr rest ↦ elim rest [
           | inl here ↦ inr (inr here.2)
-          | inr room ↦ inl room
+          | inr room ↦ inl (in_rest ls l x is Read place byte room.0 room.1 e)
         ]
       ]
     ]
@@ -279,7 +279,7 @@ elsewhere ls l x is = record {
         | inl here ↦ let no = here.1.allowed in absurd (cc)
         | inr rest ↦ elim rest [
           | inl here ↦ let no = here.1.allowed in absurd (cc)
-          | inr room ↦ inl room
+          | inr room ↦ inl (in_rest ls l x is Run place byte room.0 room.1 e)
         ]
       ]
     ]

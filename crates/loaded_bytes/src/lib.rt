@@ -29,7 +29,4 @@
 
 mod laws;
 
-pub use laws::{
-    all_else_is_in_the_room, blocks_are_loaded, blocks_are_meant, bytes_are_meant, code_is_loaded,
-    constants_are_loaded, data_is_loaded, data_is_meant, places_are_own, reads_are_meant,
-};
+pub use laws::{all_else_is_in_the_room, blocks_are_loaded, blocks_are_meant, bytes_are_meant, bytes_are_small, code_is_loaded, constants_are_loaded, data_is_loaded, data_is_meant, instances_lie_apart, none_runs_on, places_are_own, reads_are_meant};
