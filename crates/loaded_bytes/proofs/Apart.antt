@@ -19,7 +19,8 @@ own_of : (ls : List Linking) (l : Linking) (x : Instance) (place : ℕ) → IsIn
 own_of ls l x place is (inl found) = (places_own ls l x is).fixed found.0 place found.1 found.2
 own_of ls l x place is (inr held) =
     let apart : IsApart l (bias_of l.kind x.number) ((job_loads (images_of ls)).fixed x) held.0 =
-    subst (λ (o : Option (Range ℕ)). IfSome o (IsApart l (bias_of l.kind x.number) ((job_loads (images_of ls)).fixed x))) held.1
+    subst (λ (o : Option (Range ℕ)). IfSome o
+    (IsApart l (bias_of l.kind x.number) ((job_loads (images_of ls)).fixed x))) held.1
     (places_own ls l x is).shared in
     apart.own place held.2
 

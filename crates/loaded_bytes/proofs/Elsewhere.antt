@@ -1,5 +1,6 @@
 -- Nothing is found of an instance but in the classes of its sections and in the room.
-use Rattle.std.proofs.Common.{◌≡◌, ◌+◌, ◌-◌, ◌<◌, ◌≤◌, ◌⊎◌, ◌^◌, ◌&&◌, ◌∙◌, ℕ, suc, Bool, true, false, not, List, [], ◌∷◌, ◌++◌}
+use Rattle.std.proofs.Common.{◌≡◌, ◌+◌, ◌-◌, ◌<◌, ◌≤◌, ◌⊎◌, ◌^◌, ◌&&◌, ◌∙◌, ℕ}
+use Rattle.std.proofs.Common.{suc, Bool, true, false, not, List, [], ◌∷◌, ◌++◌}
 use Rattle.std.proofs.Common.{Some, None, length, map, inl, inr, refl, sym, ap, subst, arith, if◌then◌else◌}
 use Rattle.std.specs.Prelude.{nat_lt, slice_get}
 use Rattle.std.specs.List.{All}
@@ -34,7 +35,8 @@ use Rattle.whole_meaning.specs.Spots.{bias_of, in_room}
 use Rattle.loaded_bytes.specs.Laws.{IsInstanceOf, images_of}
 use Rattle.loaded_bytes.specs.Places.{AllElseIsInTheRoom, IsInMoved}
 use Rattle.loaded_bytes.proofs.ClassParts.{class_of_part, class_part, part_long}
-use Rattle.loaded_bytes.proofs.Data.{code, constants, from-append, front_parts, initial, parts_are, places_long, rest, written}
+use Rattle.loaded_bytes.proofs.Data.{code, constants, from-append, front_parts, initial}
+use Rattle.loaded_bytes.proofs.Data.{parts_are, places_long, rest, written}
 use Rattle.loaded_bytes.proofs.Places.{found_own, holds_so, inside, kind_bias}
 use Rattle.loaded_bytes.proofs.Ranges.{still}
 use Rattle.loaded_bytes.proofs.RoomParts.{places_added, tables_added}
@@ -97,7 +99,8 @@ module _ (ls : List Linking) (l : Linking) (x : Instance) (is : IsInstanceOf ls 
   one n p e = of_written (lies n p).writable refl e
     where
       of_grant : (t : Bool) → grants access (lies n p) place ≡ t
-          → (if t then slice_get (lies n p).bytes (place - (lies n p).start) else None) ≡ Some byte → grants access (lies n p) place ≡ true
+          → (if t then slice_get (lies n p).bytes (place - (lies n p).start) else None) ≡ Some byte
+          → grants access (lies n p) place ≡ true
       of_grant true g e = g
       of_grant false g e = absurd (cc)
 
@@ -105,13 +108,15 @@ module _ (ls : List Linking) (l : Linking) (x : Instance) (is : IsInstanceOf ls 
           → byte_in access (if not t then lies n p ∷ [] else []) place ≡ Some byte → IsHere n p
       of_written true w e = absurd (cc)
       of_written false w e =
-          let g = both (allows access (lies n p)) (holds (lies n p) place) (of_grant (grants access (lies n p) place) refl e) in
+          let g = both (allows access (lies n p)) (holds (lies n p) place)
+          (of_grant (grants access (lies n p) place) refl e) in
           record { allowed = g.0; still_there = w; held = g.1 }
 
   pub bounds : (n : ℕ) (p : Part) → IsHere n p
       → (p.address + bias_of l.kind x.number ≤ place) × (place < p.address + length p.bytes + bias_of l.kind x.number)
   bounds n p here =
-      let at = holds_so (p.address + bias (image_of l).kind x.number) place (length (part_bytes (images_of ls) (image_of l) x p)) here.held in
+      let at = holds_so (p.address + bias (image_of l).kind x.number) place
+      (length (part_bytes (images_of ls) (image_of l) x p)) here.held in
       let long = left_long (images_of ls) (image_of l) x p in
       let moved = kind_bias ls l x is in
       (omega (arith, at.0, moved), omega (arith, at.0, at.1, long, moved))
@@ -141,8 +146,14 @@ module _ (ls : List Linking) (l : Linking) (x : Instance) (is : IsInstanceOf ls 
           let some = less (extent_for c (layout l)).start (extent_for c (layout l)).end t in
           let here = one n (class_part l c) e in
           let at = bounds n (class_part l c) here in
-          let long = part_long l is.given is.links c some in
-          (here, (place - bias_of l.kind x.number, omega (arith, at.0), (omega (arith, at.0), omega (arith, at.0, at.1, long, some))))
+          let long = part_long l is.given is.links c some in (
+            here,
+            (
+              place - bias_of l.kind x.number,
+              omega (arith, at.0),
+              (omega (arith, at.0), omega (arith, at.0, at.1, long, some)),
+            ),
+          )
       of_test false t e = absurd (cc)
 
   -- ** what is added
@@ -160,18 +171,21 @@ module _ (ls : List Linking) (l : Linking) (x : Instance) (is : IsInstanceOf ls 
   ]
 
   all_map : (ps : List PartPlace) → All (λ (p : PartPlace). room (layout l).kind (layout l).sections ≤ p.address) ps
-      → All (λ (p : Part). room (layout l).kind (layout l).sections ≤ p.address) (map (part_in (file_kind l.kind) (file l)) ps)
+      → All (λ (p : Part). room (layout l).kind (layout l).sections ≤ p.address)
+      (map (part_in (file_kind l.kind) (file l)) ps)
   all_map [] all = All-nil (λ (p : Part). room (layout l).kind (layout l).sections ≤ p.address)
   all_map (p ∷ ps) all =
       let first : room (layout l).kind (layout l).sections ≤ p.address = all 0 p (omega arith) in
       All-cons (λ (q : Part). room (layout l).kind (layout l).sections ≤ q.address) (part_in (file_kind l.kind) (file l) p)
       (map (part_in (file_kind l.kind) (file l)) ps) first (all_map ps (λ k d below. all (suc k) d (omega (arith, below))))
 
-  pub in_rest : (n : ℕ) → Found n (rest ls l x) → Found 0 (image_of l).parts → in_room l (bias_of l.kind x.number) place ≡ true
+  pub in_rest : (n : ℕ) → Found n (rest ls l x) → Found 0 (image_of l).parts
+      → in_room l (bias_of l.kind x.number) place ≡ true
   unfolding in_room
   in_rest n e whole =
       let added = map (part_in (file_kind l.kind) (file l)) (got_places l ++ stub_places l) in
-      let all = All-append (λ (p : Part). room (layout l).kind (layout l).sections ≤ p.address) added (tables_part (contents l) ∷ [])
+      let all = All-append (λ (p : Part). room (layout l).kind (layout l).sections ≤ p.address) added
+      (tables_part (contents l) ∷ [])
       (all_map (got_places l ++ stub_places l) (places_added l))
       (All-cons (λ (p : Part). room (layout l).kind (layout l).sections ≤ p.address) (tables_part (contents l)) []
       (tables_added l is.given is.links) (All-nil (λ (p : Part). room (layout l).kind (layout l).sections ≤ p.address))) in
@@ -257,7 +271,8 @@ elsewhere ls l x is = record {
     found access place byte e =
         sym (ap (λ (ranges : List (Range ℕ)). byte_in access ranges place) (fixed_is ls l x is.image)) ∙ e
 
-    reads : (place byte : ℕ) → byte_in Read (still (parts_from (images_of ls) (image_of l) x 0 (image_of l).parts)) place ≡ Some byte
+    reads : (place byte : ℕ) → byte_in Read (still (parts_from (images_of ls) (image_of l) x 0 (image_of l).parts)) place
+        ≡ Some byte
         → (in_room l (bias_of l.kind x.number) place ≡ true)
         ⊎ (IsInMoved l (bias_of l.kind x.number) ReadOnly place ⊎ IsInMoved l (bias_of l.kind x.number) (Tls true) place)
     reads place byte e = elim (where_found ls l x is Read place byte e) [
@@ -271,7 +286,8 @@ elsewhere ls l x is = record {
       ]
     ]
 
-    runs : (place byte : ℕ) → byte_in Run (still (parts_from (images_of ls) (image_of l) x 0 (image_of l).parts)) place ≡ Some byte
+    runs : (place byte : ℕ) → byte_in Run (still (parts_from (images_of ls) (image_of l) x 0 (image_of l).parts)) place
+        ≡ Some byte
         → (in_room l (bias_of l.kind x.number) place ≡ true) ⊎ IsInMoved l (bias_of l.kind x.number) Executable place
     runs place byte e = elim (where_found ls l x is Run place byte e) [
       | inl here ↦ inr here.2

@@ -1,6 +1,7 @@
 -- No instruction that begins outside the room has a byte of it: what is run there, the stub, begins behind the table.
 use Rattle.std.proofs.Common.{◌≡◌, ◌+◌, ◌-◌, ◌*◌, ◌<◌, ◌≤◌, ◌⊎◌, ◌==◌, ◌&&◌, ◌^◌, ◌∙◌, ℕ, suc, Bool, true, false, List, []}
-use Rattle.std.proofs.Common.{◌∷◌, ◌++◌, Option, Some, None, length, map, inl, inr, refl, sym, ap, subst, arith, if◌then◌else◌}
+use Rattle.std.proofs.Common.{◌∷◌, ◌++◌, Option, Some, None, length, map, inl}
+use Rattle.std.proofs.Common.{inr, refl, sym, ap, subst, arith, if◌then◌else◌}
 use Rattle.std.specs.Prelude.{IsSome, nat_le, nat_lt}
 use Rattle.std.specs.List.{All, Contains, flat_map, list_any}
 use Rattle.std.proofs.lemmas.Bool.Decides.{nat_tests}
@@ -99,7 +100,8 @@ module _ (l : Linking) where
           → (any_stub_call l (o + 1) more ≡ true → Contains (site_needs_from l (o + 1) more) RuntimeWord)
           → Contains (flat_map (site_needs l o) own ++ site_needs_from l (o + 1) more) RuntimeWord
       of_test true here e later =
-          Contains-append_left (flat_map (site_needs l o) own) (site_needs_from l (o + 1) more) RuntimeWord (in_sites o own here)
+          Contains-append_left (flat_map (site_needs l o) own) (site_needs_from l (o + 1) more) RuntimeWord
+          (in_sites o own here)
       of_test false here e later =
           Contains-append_right (flat_map (site_needs l o) own) (site_needs_from l (o + 1) more) RuntimeWord (later e)
 
@@ -139,10 +141,12 @@ module _ (l : Linking) where
   got_behind = of_test (got_size l == 0)
     where
       of_test : (t : Bool)
-          → All IsBehind (if t then [] else record { class = part_class.Writable; address = got_start l; size = got_size l } ∷ [])
+          → All IsBehind (if t then []
+          else record { class = part_class.Writable; address = got_start l; size = got_size l } ∷ [])
       of_test true = All-nil IsBehind
       of_test false =
-          All-cons IsBehind (record { class = part_class.Writable; address = got_start l; size = got_size l }) [] (λ e. absurd (cc))
+          All-cons IsBehind (record { class = part_class.Writable; address = got_start l; size = got_size l }) []
+          (λ e. absurd (cc))
           (All-nil IsBehind)
 
   stub_places_behind : All IsBehind (stub_places l)
@@ -171,7 +175,8 @@ module _ (l : Linking) where
   rest_behind =
       All-append IsPartBehind (map (part_in (file_kind l.kind) (file l)) (got_places l ++ stub_places l))
       (tables_part (contents l) ∷ [])
-      (mapped (got_places l ++ stub_places l) (All-append IsBehind (got_places l) (stub_places l) got_behind stub_places_behind))
+      (mapped (got_places l ++ stub_places l)
+      (All-append IsBehind (got_places l) (stub_places l) got_behind stub_places_behind))
       (All-cons IsPartBehind (tables_part (contents l)) [] tables_behind (All-nil IsPartBehind))
 
 -- ** what is run
@@ -215,7 +220,8 @@ out_of_bounds low high place k e below = grind (arith, nat_tests)
 -- the law
 pub none_runs_on : NoneRunsOn
 unfolding in_room
-none_runs_on ls l x place k is few outside inside = of_found (byte_in Run ((job_loads (images_of ls)).fixed x) (place + k)) refl
+none_runs_on ls l x place k is few outside inside = of_found
+    (byte_in Run ((job_loads (images_of ls)).fixed x) (place + k)) refl
   where
     of_found : (found : Option ℕ) → byte_in Run ((job_loads (images_of ls)).fixed x) (place + k) ≡ found → found ≡ None
     of_found None e = refl
@@ -224,7 +230,8 @@ none_runs_on ls l x place k is few outside inside = of_found (byte_in Run ((job_
         let high : ℕ = base_of l.kind + 2 ^ 26 + bias_of l.kind x.number in
         let there = in_bounds low high (place + k) inside in
         let before = out_of_bounds low high place k outside there.1 in
-        let found : byte_in Run (still (parts_from (images_of ls) (image_of l) x 0 (image_of l).parts)) (place + k) ≡ Some byte =
+        let found : byte_in Run (still (parts_from (images_of ls) (image_of l) x 0 (image_of l).parts)) (place + k)
+        ≡ Some byte =
         sym (ap (λ (ranges : List (Range ℕ)). byte_in Run ranges (place + k)) (fixed_is ls l x is.image)) ∙ e in
         elim (run_where ls l x is (place + k) byte found) [
           | inl code ↦ absurd (omega (arith, code, there.0))

@@ -171,7 +171,8 @@ module _ (l : Linking) where
   loaded_small : (bias : ℕ) → All AreBytes l.objects → (o t k : ℕ) → loaded_byte l bias o t k < 256
   unfolding loaded_byte
   loaded_small bias small o t k =
-      of_site (find (is_in_rewritten l o t k) (sites_at l o)) (of_field (find (is_in_field l o k) (relocations (object l o) t)))
+      of_site (find (is_in_rewritten l o t k) (sites_at l o))
+      (of_field (find (is_in_field l o k) (relocations (object l o) t)))
     where
       own : ℕ
       own = slice_index_or (section_bytes (object l o) t) k 0
