@@ -65,7 +65,8 @@ module _ (ls : List Linking) (l : Linking) (x : Instance) (is : IsInstanceOf ls 
             let some : start < (extent_for (Tls true) (layout l)).end = omega (arith, long, below) in
             let part : IsPart l (Tls true) = part_of l (Tls true) some in
             let index : start + k - start ≡ k = omega arith in
-            block.initial part.index k (filed_byte l (spot_in l (Tls true) (start + k))) (class_part l (Tls true)) part.at below
+            block.initial part.index k (filed_byte l (spot_in l (Tls true) (start + k)))
+            (class_part l (Tls true)) part.at below
             (omega arith)
             (ap (slice_get (class_part l (Tls true)).bytes) index
             ∙ part_byte l is.given is.links (Tls true) tt k (omega (arith, long, below)))

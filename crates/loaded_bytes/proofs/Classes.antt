@@ -160,8 +160,10 @@ class_below p c = of_class c
     rise = (classes_follow p).rise (Writable true)
 
     of_class : (c : SectionClass) → (extent_for c p).end ≤ room p.kind p.sections
-    of_class Executable = let before = class_before p Executable (Writable true) (omega arith) in omega (arith, before, rise, last)
-    of_class ReadOnly = let before = class_before p ReadOnly (Writable true) (omega arith) in omega (arith, before, rise, last)
+    of_class Executable = let before = class_before p Executable (Writable true) (omega arith) in omega
+        (arith, before, rise, last)
+    of_class ReadOnly = let before = class_before p ReadOnly (Writable true) (omega arith) in omega
+        (arith, before, rise, last)
     of_class (Tls initial) =
         let before = class_before p (Tls initial) (Writable true) (omega arith) in omega (arith, before, rise, last)
     of_class (Writable initial) = last

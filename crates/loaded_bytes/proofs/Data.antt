@@ -1,7 +1,8 @@
 -- The data that threads write is found as it is loaded: of an image's parts it is the one that is written, but for the
 -- table, which the loader alone writes.
 use Rattle.std.proofs.Common.{◌≡◌, ◌+◌, ◌-◌, ◌<◌, ◌==◌, ◌∙◌, ℕ, suc, Bool, true, false, List, [], ◌∷◌, ◌++◌}
-use Rattle.std.proofs.Common.{Option, Some, None, length, map, refl, sym, ap, subst, arith, if◌then◌else◌, length-append, append_assoc}
+use Rattle.std.proofs.Common.{Option, Some, None, length, map, refl, sym}
+use Rattle.std.proofs.Common.{ap, subst, arith, if◌then◌else◌, length-append, append_assoc}
 use Rattle.std.specs.Prelude.{nat_lt}
 use Rattle.std.specs.List.{find}
 use Rattle.std.specs.Option.{option_or}
@@ -16,7 +17,8 @@ use Rattle.image_writer.specs.declared.outline.PartPlace.{PartPlace}
 use Rattle.image_writer.specs.Contents.{part_in}
 use Rattle.image_writer.specs.Tables.{finished, tables_part}
 use Rattle.link_core.specs.Bytes.{file}
-use Rattle.link_core.specs.Images.{contents, file_kind, filled, got_number, got_places, image_of, places, section_places, stub_places}
+use Rattle.link_core.specs.Images.{contents, file_kind, filled, got_number, got_places}
+use Rattle.link_core.specs.Images.{image_of, places, section_places, stub_places}
 use Rattle.link_needs.specs.Linking.{Linking, layout}
 use Rattle.link_needs.specs.Needs.{got_size, got_start, has_stub, stub_start}
 use Rattle.loaded_modules.specs.declared.instance.Instance.{Instance}
@@ -87,7 +89,8 @@ module _ (ls : List Linking) (l : Linking) (x : Instance) where
           else []))
           ≡ None
       of_test true =
-          none_one n (part_in (file_kind l.kind) (file l) (record { class = kind; address = extent.start; size = extent.end - extent.start })) (rw still refl)
+          none_one n (part_in (file_kind l.kind) (file l)
+          (record { class = kind; address = extent.start; size = extent.end - extent.start })) (rw still refl)
       of_test false = refl
 
   -- nor are the table, which is the loader's, the stub and the dynamic tables
@@ -226,7 +229,8 @@ module _ (ls : List Linking) (l : Linking) (x : Instance) where
     data_is : IsData l (bias_of l.kind x.number) (has_data l) (Found 0 (image_of l).parts)
     data_is =
         subst (IsData l (bias_of l.kind x.number) (has_data l)) (sym behind)
-        (of_test (nat_lt (extent_for (class.Writable true) (layout l)).start (extent_for (class.Writable true) (layout l)).end) refl
+        (of_test (nat_lt (extent_for (class.Writable true) (layout l)).start
+        (extent_for (class.Writable true) (layout l)).end) refl
         places_long)
       where
         less : (a b : ℕ) → nat_lt a b ≡ true → a < b
@@ -253,7 +257,8 @@ module _ (ls : List Linking) (l : Linking) (x : Instance) where
             else [])
             ++ rest))
         of_test true e long =
-            let some = less (extent_for (class.Writable true) (layout l)).start (extent_for (class.Writable true) (layout l)).end e in
+            let some = less (extent_for (class.Writable true) (layout l)).start
+            (extent_for (class.Writable true) (layout l)).end e in
             let other = not_table l front_parts (omega (arith, long)) in
             subst (IsData l (bias_of l.kind x.number) true)
             (sym (front front_parts (class_part l (class.Writable true)) rest (rw other refl)))
@@ -267,5 +272,6 @@ pub data_loaded : DataIsLoaded
 unfolding job_loads
 data_loaded ls l x is =
     subst (IsData l (bias_of l.kind x.number) (has_data l))
-    (sym (ap (λ image. find (λ (range : Range ℕ). range.writable) (parts_of (images_of ls) x image)) (image_is ls l x is.image)))
+    (sym (ap (λ image. find (λ (range : Range ℕ). range.writable) (parts_of (images_of ls) x image))
+    (image_is ls l x is.image)))
     (data_is ls l x is)

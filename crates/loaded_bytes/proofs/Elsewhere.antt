@@ -1,5 +1,6 @@
 -- Nothing is found of an instance but in the classes of its sections and in the room.
-use Rattle.std.proofs.Common.{◌≡◌, ◌+◌, ◌-◌, ◌<◌, ◌≤◌, ◌⊎◌, ◌^◌, ◌&&◌, ◌∙◌, ℕ, suc, Bool, true, false, not, List, [], ◌∷◌, ◌++◌}
+use Rattle.std.proofs.Common.{◌≡◌, ◌+◌, ◌-◌, ◌<◌, ◌≤◌, ◌⊎◌, ◌^◌, ◌&&◌, ◌∙◌, ℕ}
+use Rattle.std.proofs.Common.{suc, Bool, true, false, not, List, [], ◌∷◌, ◌++◌}
 use Rattle.std.proofs.Common.{Some, None, length, map, inl, inr, refl, sym, ap, subst, arith, if◌then◌else◌}
 use Rattle.std.specs.Prelude.{nat_lt, slice_get}
 use Rattle.std.specs.List.{All}
@@ -34,7 +35,8 @@ use Rattle.whole_meaning.specs.Spots.{bias_of, in_room}
 use Rattle.loaded_bytes.specs.Laws.{IsInstanceOf, images_of}
 use Rattle.loaded_bytes.specs.Places.{AllElseIsInTheRoom, IsInMoved}
 use Rattle.loaded_bytes.proofs.ClassParts.{class_of_part, class_part, part_long}
-use Rattle.loaded_bytes.proofs.Data.{code, constants, from-append, front_parts, initial, parts_are, places_long, rest, written}
+use Rattle.loaded_bytes.proofs.Data.{code, constants, from-append, front_parts, initial}
+use Rattle.loaded_bytes.proofs.Data.{parts_are, places_long, rest, written}
 use Rattle.loaded_bytes.proofs.Places.{found_own, holds_so, inside, kind_bias}
 use Rattle.loaded_bytes.proofs.Ranges.{still}
 use Rattle.loaded_bytes.proofs.RoomParts.{places_added, tables_added}
@@ -67,13 +69,13 @@ never_written (x ∷ xs) place = of_test x.writable refl (never_written xs place
 
 module _ (ls : List Linking) (l : Linking) (x : Instance) (is : IsInstanceOf ls l x) (access : Access) (place byte : ℕ) where
   -- it is found in some parts, of which the first has number n
-  abbrev Found : ℕ → List Part → Type 0
+  abbrev pub Found : ℕ → List Part → Type 0
   Found n ps = byte_in access (still (parts_from (images_of ls) (image_of l) x n ps)) place ≡ Some byte
 
-  abbrev lies : ℕ → Part → Range ℕ
+  abbrev pub lies : ℕ → Part → Range ℕ
   lies n p = instance_part (images_of ls) (image_of l) x n p
 
-  split : (n : ℕ) (ps qs : List Part) → Found n (ps ++ qs) → Found n ps ⊎ Found (n + length ps) qs
+  pub split : (n : ℕ) (ps qs : List Part) → Found n (ps ++ qs) → Found n ps ⊎ Found (n + length ps) qs
   split n ps qs e =
       let one = parts_from (images_of ls) (image_of l) x n ps in
       let two = parts_from (images_of ls) (image_of l) x (n + length ps) qs in
@@ -84,7 +86,7 @@ module _ (ls : List Linking) (l : Linking) (x : Instance) (is : IsInstanceOf ls 
 
   -- ** one part
 
-  record IsHere (n : ℕ) (p : Part) : Type 0 where
+  pub record IsHere (n : ℕ) (p : Part) : Type 0 where
     pub allowed : allows access (lies n p) ≡ true
     pub still_there : (lies n p).writable ≡ false
     pub held : holds (lies n p) place ≡ true
@@ -93,11 +95,12 @@ module _ (ls : List Linking) (l : Linking) (x : Instance) (is : IsInstanceOf ls 
   both true b e = (refl, e)
   both false b e = absurd (cc)
 
-  one : (n : ℕ) (p : Part) → Found n (p ∷ []) → IsHere n p
+  pub one : (n : ℕ) (p : Part) → Found n (p ∷ []) → IsHere n p
   one n p e = of_written (lies n p).writable refl e
     where
       of_grant : (t : Bool) → grants access (lies n p) place ≡ t
-          → (if t then slice_get (lies n p).bytes (place - (lies n p).start) else None) ≡ Some byte → grants access (lies n p) place ≡ true
+          → (if t then slice_get (lies n p).bytes (place - (lies n p).start) else None) ≡ Some byte
+          → grants access (lies n p) place ≡ true
       of_grant true g e = g
       of_grant false g e = absurd (cc)
 
@@ -105,13 +108,15 @@ module _ (ls : List Linking) (l : Linking) (x : Instance) (is : IsInstanceOf ls 
           → byte_in access (if not t then lies n p ∷ [] else []) place ≡ Some byte → IsHere n p
       of_written true w e = absurd (cc)
       of_written false w e =
-          let g = both (allows access (lies n p)) (holds (lies n p) place) (of_grant (grants access (lies n p) place) refl e) in
+          let g = both (allows access (lies n p)) (holds (lies n p) place)
+          (of_grant (grants access (lies n p) place) refl e) in
           record { allowed = g.0; still_there = w; held = g.1 }
 
-  bounds : (n : ℕ) (p : Part) → IsHere n p
+  pub bounds : (n : ℕ) (p : Part) → IsHere n p
       → (p.address + bias_of l.kind x.number ≤ place) × (place < p.address + length p.bytes + bias_of l.kind x.number)
   bounds n p here =
-      let at = holds_so (p.address + bias (image_of l).kind x.number) place (length (part_bytes (images_of ls) (image_of l) x p)) here.held in
+      let at = holds_so (p.address + bias (image_of l).kind x.number) place
+      (length (part_bytes (images_of ls) (image_of l) x p)) here.held in
       let long = left_long (images_of ls) (image_of l) x p in
       let moved = kind_bias ls l x is in
       (omega (arith, at.0, moved), omega (arith, at.0, at.1, long, moved))
@@ -141,8 +146,14 @@ module _ (ls : List Linking) (l : Linking) (x : Instance) (is : IsInstanceOf ls 
           let some = less (extent_for c (layout l)).start (extent_for c (layout l)).end t in
           let here = one n (class_part l c) e in
           let at = bounds n (class_part l c) here in
-          let long = part_long l is.given is.links c some in
-          (here, (place - bias_of l.kind x.number, omega (arith, at.0), (omega (arith, at.0), omega (arith, at.0, at.1, long, some))))
+          let long = part_long l is.given is.links c some in (
+            here,
+            (
+              place - bias_of l.kind x.number,
+              omega (arith, at.0),
+              (omega (arith, at.0), omega (arith, at.0, at.1, long, some)),
+            ),
+          )
       of_test false t e = absurd (cc)
 
   -- ** what is added
@@ -160,18 +171,21 @@ module _ (ls : List Linking) (l : Linking) (x : Instance) (is : IsInstanceOf ls 
   ]
 
   all_map : (ps : List PartPlace) → All (λ (p : PartPlace). room (layout l).kind (layout l).sections ≤ p.address) ps
-      → All (λ (p : Part). room (layout l).kind (layout l).sections ≤ p.address) (map (part_in (file_kind l.kind) (file l)) ps)
+      → All (λ (p : Part). room (layout l).kind (layout l).sections ≤ p.address)
+      (map (part_in (file_kind l.kind) (file l)) ps)
   all_map [] all = All-nil (λ (p : Part). room (layout l).kind (layout l).sections ≤ p.address)
   all_map (p ∷ ps) all =
       let first : room (layout l).kind (layout l).sections ≤ p.address = all 0 p (omega arith) in
       All-cons (λ (q : Part). room (layout l).kind (layout l).sections ≤ q.address) (part_in (file_kind l.kind) (file l) p)
       (map (part_in (file_kind l.kind) (file l)) ps) first (all_map ps (λ k d below. all (suc k) d (omega (arith, below))))
 
-  in_rest : (n : ℕ) → Found n (rest ls l x) → Found 0 (image_of l).parts → in_room l (bias_of l.kind x.number) place ≡ true
+  pub in_rest : (n : ℕ) → Found n (rest ls l x) → Found 0 (image_of l).parts
+      → in_room l (bias_of l.kind x.number) place ≡ true
   unfolding in_room
   in_rest n e whole =
       let added = map (part_in (file_kind l.kind) (file l)) (got_places l ++ stub_places l) in
-      let all = All-append (λ (p : Part). room (layout l).kind (layout l).sections ≤ p.address) added (tables_part (contents l) ∷ [])
+      let all = All-append (λ (p : Part). room (layout l).kind (layout l).sections ≤ p.address) added
+      (tables_part (contents l) ∷ [])
       (all_map (got_places l ++ stub_places l) (places_added l))
       (All-cons (λ (p : Part). room (layout l).kind (layout l).sections ≤ p.address) (tables_part (contents l)) []
       (tables_added l is.given is.links) (All-nil (λ (p : Part). room (layout l).kind (layout l).sections ≤ p.address))) in
@@ -185,7 +199,7 @@ module _ (ls : List Linking) (l : Linking) (x : Instance) (is : IsInstanceOf ls 
   -- ** all
 
   -- it is found in the part of a class
-  abbrev In : SectionClass → Type 0
+  abbrev pub In : SectionClass → Type 0
   In c = (n : ℕ) × IsHere n (class_part l c) × IsInMoved l (bias_of l.kind x.number) c place
 
   filled_one : (kind : PartClass) (extent : Extent) → extent.start < extent.end → length (filled kind extent) ≡ 1
@@ -208,8 +222,8 @@ module _ (ls : List Linking) (l : Linking) (x : Instance) (is : IsInstanceOf ls 
       clash true e f = cc
       clash false e f = cc
 
-  where_found : Found 0 (image_of l).parts
-      → In Executable ⊎ (In ReadOnly ⊎ (In (Tls true) ⊎ (in_room l (bias_of l.kind x.number) place ≡ true)))
+  pub where_found : Found 0 (image_of l).parts
+      → In Executable ⊎ (In ReadOnly ⊎ (In (Tls true) ⊎ ((n : ℕ) × Found n (rest ls l x))))
   where_found e =
       let a = map (part_in (file_kind l.kind) (file l)) (code ls l x) in
       let b = map (part_in (file_kind l.kind) (file l)) (constants ls l x) in
@@ -236,7 +250,7 @@ module _ (ls : List Linking) (l : Linking) (x : Instance) (is : IsInstanceOf ls 
             | inl here ↦ inr (inr (inl (let c = of_class m (Tls true) here in (m, c.0, c.1))))
             | inr past ↦ elim (split k d r past) [
               | inl here ↦ absurd (not_data k same here)
-              | inr past ↦ inr (inr (inr (in_rest (k + length d) past e)))
+              | inr past ↦ inr (inr (inr (k + length d, past)))
             ]
           ]
         ]
@@ -257,7 +271,8 @@ elsewhere ls l x is = record {
     found access place byte e =
         sym (ap (λ (ranges : List (Range ℕ)). byte_in access ranges place) (fixed_is ls l x is.image)) ∙ e
 
-    reads : (place byte : ℕ) → byte_in Read (still (parts_from (images_of ls) (image_of l) x 0 (image_of l).parts)) place ≡ Some byte
+    reads : (place byte : ℕ) → byte_in Read (still (parts_from (images_of ls) (image_of l) x 0 (image_of l).parts)) place
+        ≡ Some byte
         → (in_room l (bias_of l.kind x.number) place ≡ true)
         ⊎ (IsInMoved l (bias_of l.kind x.number) ReadOnly place ⊎ IsInMoved l (bias_of l.kind x.number) (Tls true) place)
     reads place byte e = elim (where_found ls l x is Read place byte e) [
@@ -266,12 +281,13 @@ elsewhere ls l x is = record {
         | inl here ↦ inr (inl here.2)
         | inr rest ↦ elim rest [
           | inl here ↦ inr (inr here.2)
-          | inr room ↦ inl room
+          | inr room ↦ inl (in_rest ls l x is Read place byte room.0 room.1 e)
         ]
       ]
     ]
 
-    runs : (place byte : ℕ) → byte_in Run (still (parts_from (images_of ls) (image_of l) x 0 (image_of l).parts)) place ≡ Some byte
+    runs : (place byte : ℕ) → byte_in Run (still (parts_from (images_of ls) (image_of l) x 0 (image_of l).parts)) place
+        ≡ Some byte
         → (in_room l (bias_of l.kind x.number) place ≡ true) ⊎ IsInMoved l (bias_of l.kind x.number) Executable place
     runs place byte e = elim (where_found ls l x is Run place byte e) [
       | inl here ↦ inr here.2
@@ -279,7 +295,7 @@ elsewhere ls l x is = record {
         | inl here ↦ let no = here.1.allowed in absurd (cc)
         | inr rest ↦ elim rest [
           | inl here ↦ let no = here.1.allowed in absurd (cc)
-          | inr room ↦ inl room
+          | inr room ↦ inl (in_rest ls l x is Run place byte room.0 room.1 e)
         ]
       ]
     ]

@@ -83,7 +83,8 @@ module _ (l : Linking) (given : IsGiven l) (links : Links l) (stray : HasNoStray
   -- an address of 8 bytes has its field
   not_replaced : (o : ℕ) (r : Relocation) → is_absolute r.kind ≡ true → is_replaced l o r ≡ false
   unfolding is_replaced
-  not_replaced o r e = ap (λ kind. is_rewriting l && goes (binding l o r) kind) (absolute_is r.kind e) ∙ of_test (is_rewriting l)
+  not_replaced o r e = ap (λ kind. is_rewriting l && goes (binding l o r) kind) (absolute_is r.kind e)
+      ∙ of_test (is_rewriting l)
     where
       of_test : (t : Bool) → (t && false) ≡ false
       of_test true = refl
@@ -107,7 +108,12 @@ module _ (l : Linking) (given : IsGiven l) (links : Links l) (stray : HasNoStray
       where
         hits : is_in_field l o k r ≡ true
         hits =
-            rw (le-leb r.offset k low, lt-ltb k (r.offset + field_width r.kind) (omega (arith, wide, high)), not_replaced o r absolute) refl
+            rw (
+              le-leb r.offset k low,
+              lt-ltb k (r.offset + field_width r.kind)
+                  (omega (arith, wide, high)),
+              not_replaced o r absolute,
+            ) refl
 
         of_found : (found : Option Relocation) → find (is_in_field l o k) (relocations (object l o) t) ≡ found
             → find (is_in_field l o k) (relocations (object l o) t) ≡ Some r
@@ -156,7 +162,8 @@ module _ (l : Linking) (given : IsGiven l) (links : Links l) (stray : HasNoStray
 
         of_test : (x : Bool) → is_absolute r.kind ≡ x
             → (if x
-            then Some (Word64 (modulo (2 ^ 64) (pos (own_number l r.kind (binding l o r) + bias_of l.kind number) +ℤ r.addend)))
+            then Some (Word64 (modulo (2 ^ 64)
+            (pos (own_number l r.kind (binding l o r) + bias_of l.kind number) +ℤ r.addend)))
             else field l o t r)
             ≡ field l o t r
         of_test true e =

@@ -103,11 +103,13 @@ module _ (l : Linking) (given : IsGiven l) (links : Links l) (stray : HasNoStray
         of_spot (Some spot) e =
             let y = standing l class address spot e in
             same_byte l given links stray spot.object spot.section spot.within x.number (λ r found absolute moved.
-            let f = found_is (is_in_field l spot.object spot.within) (relocations (object l spot.object) spot.section) r found in
+            let f = found_is (is_in_field l spot.object spot.within)
+            (relocations (object l spot.object) spot.section) r found in
             let covers = covered spot.object spot.within r f.passes in
             let wide = ap field_width (absolute_is r.kind absolute) in
             let lies = field_in l given fits spot.object spot.section r y.there f.among in
-            let below = (has_place l.kind l.objects spot.object spot.section lies.address (y.there, lies.lies.address_is)).below in
+            let below = (has_place l.kind l.objects spot.object spot.section lies.address
+            (y.there, lies.lies.address_is)).below in
             let P = place l spot.object spot.section r.offset in
             none_passes (is_written_at address) (relatives l)
             (relative (place l spot.object spot.section r.offset) (sum_of l spot.object r)) none
@@ -161,10 +163,12 @@ module _ (l : Linking) (given : IsGiven l) (links : Links l) (stray : HasNoStray
                   let e : rank class ≡ rank place.class = omega (arith, more, less) in
                   elim (same_rank class place.class range place.has e) [
                     | inl one ↦
-                        section_stands l.kind l.objects class range o t address there place.below (own ∙ ap Some one) starts ends
+                        section_stands l.kind l.objects class range o t address there place.below
+                        (own ∙ ap Some one) starts ends
                     | inr two ↦
                         let none = no_relocations (object l o) (is_object l o given there) t (own ∙ ap Some two.1) in
-                        absurd (let few : length (relocations (object l o) t) ≡ 0 = ap length none in omega (arith, few, has.1))
+                        absurd (let few : length (relocations (object l o) t)
+                        ≡ 0 = ap length none in omega (arith, few, has.1))
                   ]
             ]
           ]
@@ -180,10 +184,12 @@ module _ (l : Linking) (given : IsGiven l) (links : Links l) (stray : HasNoStray
           let first : written_byte m (image_of l) x y (address - y.place)
           ≡ written_byte m (image_of l) x (relative (place l o t r.offset) (sum_of l o r)) (address - place l o t r.offset) =
           ap (λ (z : ImageRelocation). written_byte m (image_of l) x z (address - z.place)) is in
-          let second : written_byte m (image_of l) x (relative (place l o t r.offset) (sum_of l o r)) (address - place l o t r.offset)
+          let second : written_byte m (image_of l) x (relative (place l o t r.offset) (sum_of l o r))
+          (address - place l o t r.offset)
           ≡ digit (bias_of l.kind x.number + cast_unsigned w64 (sum_of l o r)) (address - place l o t r.offset) =
           rw (lt-ltb (address - place l o t r.offset) 8 below)
-          (ap (λ b. digit (b + cast_unsigned w64 (sum_of l o r)) (address - place l o t r.offset)) (same_bias l.kind x.number)) in
+          (ap (λ b. digit (b + cast_unsigned w64 (sum_of l o r)) (address - place l o t r.offset))
+          (same_bias l.kind x.number)) in
           let third : slice_index_or (bytes_of 8 (modulo (2 ^ 64) (pos (n + bias_of l.kind x.number) +ℤ r.addend)))
           (address - place l o t r.offset) 0
           ≡ slice_index_or (field_bytes (unwrap_or (loaded_field l (bias_of l.kind x.number) o t r) Empty))

@@ -1,3 +1,4 @@
+mod Apart
 mod Biases
 mod Blocks
 mod ClassFile
@@ -13,6 +14,8 @@ mod Origins
 mod Places
 mod Ranges
 mod RoomParts
+mod RunsOn
+mod Small
 mod Spots
 mod Still
 mod Values

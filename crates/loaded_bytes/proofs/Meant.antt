@@ -56,7 +56,8 @@ module _ (l : Linking) (bias : ℕ) (class : SectionClass) where
       ((extent_for class (layout l)).end - (extent_for class (layout l)).start)
 
   class_at : (k : ℕ) → k < (extent_for class (layout l)).end - (extent_for class (layout l)).start
-      → slice_get (class_bytes l bias class) k ≡ Some (byte_of l bias (spot_in l class ((extent_for class (layout l)).start + k)))
+      → slice_get (class_bytes l bias class) k
+      ≡ Some (byte_of l bias (spot_in l class ((extent_for class (layout l)).start + k)))
   unfolding class_bytes
   class_at k below =
       let f : ℕ → ℕ = λ address. byte_of l bias (spot_in l class address) in
@@ -92,39 +93,45 @@ module _ (ls : List Linking) (l : Linking) (x : Instance) (is : IsInstanceOf ls 
 
       long : length block ≡ length (block_bytes l (bias_of l.kind x.number))
       long =
-          let rest : length {A = ℕ} (replicate (tls_size (layout l).sections - length (class_bytes l (bias_of l.kind x.number) (Tls true))) 0)
+          let rest : length {A = ℕ} (replicate
+          (tls_size (layout l).sections - length (class_bytes l (bias_of l.kind x.number) (Tls true))) 0)
           ≡ tls_size (layout l).sections - length (class_bytes l (bias_of l.kind x.number) (Tls true)) =
           length-replicate (tls_size (layout l).sections - length (class_bytes l (bias_of l.kind x.number) (Tls true))) 0 in
           let both = length-append (class_bytes l (bias_of l.kind x.number) (Tls true))
           (replicate (tls_size (layout l).sections - length (class_bytes l (bias_of l.kind x.number) (Tls true))) 0) in
           omega (arith, b.long, both, rest, front, inside)
 
-      at : (k : ℕ) → k < tls_size (layout l).sections → slice_get block k ≡ slice_get (block_bytes l (bias_of l.kind x.number)) k
+      at : (k : ℕ) → k < tls_size (layout l).sections
+          → slice_get block k ≡ slice_get (block_bytes l (bias_of l.kind x.number)) k
       at k below = elim (cases_lt k (initial_tls (layout l).sections).end) [
         | inl low ↦
             let len = (front_of_segment (layout l) is.links.sound.limits.lawful).len in
             b.initial k low
             ∙ ap Some (same_byte (Tls true) ((extent_for (Tls true) (layout l)).start + k) (λ e. cc))
             ∙ sym (slice_get-append (class_bytes l (bias_of l.kind x.number) (Tls true))
-            (replicate (tls_size (layout l).sections - length (class_bytes l (bias_of l.kind x.number) (Tls true))) 0) k (omega (arith, front, low))
+            (replicate (tls_size (layout l).sections - length (class_bytes l (bias_of l.kind x.number) (Tls true))) 0) k
+            (omega (arith, front, low))
             ∙ class_at l (bias_of l.kind x.number) (Tls true) k (omega (arith, len, low)))
         | inr high ↦
             b.rest k high below
             ∙ sym (slice_get-append_behind (class_bytes l (bias_of l.kind x.number) (Tls true))
-            (replicate (tls_size (layout l).sections - length (class_bytes l (bias_of l.kind x.number) (Tls true))) 0) k (omega (arith, front, high))
+            (replicate (tls_size (layout l).sections - length (class_bytes l (bias_of l.kind x.number) (Tls true))) 0) k
+            (omega (arith, front, high))
             ∙ slice_get-replicate (tls_size (layout l).sections - length (class_bytes l (bias_of l.kind x.number) (Tls true)))
             (k - length (class_bytes l (bias_of l.kind x.number) (Tls true))) 0 (omega (arith, front, high, below)))
       ]
 
   -- ** data
 
-  data_same : (range : Range ℕ) → IsDataOf l (bias_of l.kind x.number) range → valued range ≡ data_range l (bias_of l.kind x.number)
+  data_same : (range : Range ℕ) → IsDataOf l (bias_of l.kind x.number) range
+      → valued range ≡ data_range l (bias_of l.kind x.number)
   data_same range d =
       let class = Writable true in
       let long = class_long l (bias_of l.kind x.number) (Writable true) in
       let rise = (classes_follow (layout l)).rise (Writable true) in
       let bytes : range.bytes ≡ class_bytes l (bias_of l.kind x.number) (Writable true) =
-      same_lists range.bytes (class_bytes l (bias_of l.kind x.number) (Writable true)) (omega (arith, d.long, d.start_is, long, rise))
+      same_lists range.bytes (class_bytes l (bias_of l.kind x.number) (Writable true))
+      (omega (arith, d.long, d.start_is, long, rise))
       (λ k below.
       d.each k below
       ∙ ap Some (same_byte (Writable true) ((extent_for (Writable true) (layout l)).start + k) (λ e. cc))
@@ -154,12 +161,14 @@ module _ (ls : List Linking) (l : Linking) (x : Instance) (is : IsInstanceOf ls 
       → IsInMoved l (bias_of l.kind x.number) class place
   in_range class place h =
       let start = (extent_for class (layout l)).start in
-      let at = so (start + bias_of l.kind x.number) place (length (map Value (class_bytes l (bias_of l.kind x.number) class))) h in
+      let at = so (start + bias_of l.kind x.number) place
+      (length (map Value (class_bytes l (bias_of l.kind x.number) class))) h in
       let mapped = length-map (class_bytes l (bias_of l.kind x.number) class) Value in
       let long = class_long l (bias_of l.kind x.number) class in
       (place - bias_of l.kind x.number, omega (arith, at.0), (omega (arith, at.0), omega (arith, at.0, at.1, mapped, long)))
     where
-      so : (start place n : ℕ) → (nat_le start place && nat_lt (place - start) n) ≡ true → (start ≤ place) × (place - start < n)
+      so : (start place n : ℕ) → (nat_le start place && nat_lt (place - start) n) ≡ true
+          → (start ≤ place) × (place - start < n)
       so start place n e = grind (arith, nat_tests)
 
   held : (class : SectionClass) (address : ℕ) → IsIn l class address
@@ -168,9 +177,11 @@ module _ (ls : List Linking) (l : Linking) (x : Instance) (is : IsInstanceOf ls 
       let mapped = length-map (class_bytes l (bias_of l.kind x.number) class) Value in
       let long = class_long l (bias_of l.kind x.number) class in
       rw (
-        le-leb ((extent_for class (layout l)).start + bias_of l.kind x.number) (address + bias_of l.kind x.number) (omega (arith, within.0)),
+        le-leb ((extent_for class (layout l)).start + bias_of l.kind x.number) (address + bias_of l.kind x.number)
+            (omega (arith, within.0)),
         lt-ltb (address + bias_of l.kind x.number - ((extent_for class (layout l)).start + bias_of l.kind x.number))
-            (length (map Value (class_bytes l (bias_of l.kind x.number) class))) (omega (arith, mapped, long, within.0, within.1)),
+            (length (map Value (class_bytes l (bias_of l.kind x.number) class)))
+            (omega (arith, mapped, long, within.0, within.1)),
       ) refl
 
   byte_there : (class : SectionClass) (address : ℕ) → IsIn l class address
@@ -230,10 +241,12 @@ module _ (ls : List Linking) (l : Linking) (x : Instance) (is : IsInstanceOf ls 
         | inl room ↦ absurd (cc)
         | inr here ↦ elim here [
           | inl constant ↦
-              let yes_here = ap (λ p. holds (constant_range l (bias_of l.kind x.number) ReadOnly) p) constant.1 ∙ held ReadOnly constant.0 constant.2 in
+              let yes_here = ap (λ p. holds (constant_range l (bias_of l.kind x.number) ReadOnly) p) constant.1
+              ∙ held ReadOnly constant.0 constant.2 in
               absurd (cc)
           | inr initial ↦
-              let yes_here = ap (λ p. holds (constant_range l (bias_of l.kind x.number) (Tls true)) p) initial.1 ∙ held (Tls true) initial.0 initial.2 in
+              let yes_here = ap (λ p. holds (constant_range l (bias_of l.kind x.number) (Tls true)) p) initial.1
+              ∙ held (Tls true) initial.0 initial.2 in
               absurd (cc)
         ]
       ]

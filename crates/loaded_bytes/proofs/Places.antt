@@ -30,7 +30,8 @@ use Rattle.loaded_bytes.proofs.Biases.{image_base, image_bias}
 use Rattle.loaded_bytes.proofs.Ranges.{still}
 use Rattle.loaded_bytes.proofs.Still.{fixed_is, image_is}
 
-pub holds_so : (start place n : ℕ) → (nat_le start place && nat_lt (place - start) n) ≡ true → (start ≤ place) × (place - start < n)
+pub holds_so : (start place n : ℕ) → (nat_le start place && nat_lt (place - start) n) ≡ true
+    → (start ≤ place) × (place - start < n)
 holds_so start place n e = grind (arith, nat_tests)
 
 second_of : (a b : Bool) → (a && b) ≡ true → b ≡ true
@@ -75,7 +76,8 @@ module _ (ls : List Linking) (l : Linking) (x : Instance) (is : IsInstanceOf ls 
   own_place : (n : ℕ) (p : Part) → IsInside p → (place : ℕ) → holds (part_range n p) place ≡ true
       → IsOwn l (bias_of l.kind x.number) place
   own_place n p lies place h =
-      let at = holds_so (p.address + bias (image_of l).kind x.number) place (length (part_bytes (images_of ls) (image_of l) x p)) h in
+      let at = holds_so (p.address + bias (image_of l).kind x.number) place
+      (length (part_bytes (images_of ls) (image_of l) x p)) h in
       let long = left_long (images_of ls) (image_of l) x p in
       let moved = kind_bias in
       (omega (arith, at.0, moved, lies.above), omega (arith, at.0, at.1, moved, long, lies.below))
@@ -96,7 +98,8 @@ module _ (ls : List Linking) (l : Linking) (x : Instance) (is : IsInstanceOf ls 
       (found_own (suc n) ps (rest p ps all) access place byte)
     where
       of_grant : (t : Bool) → grants access (part_range n p) place ≡ t
-          → (if t then slice_get (part_range n p).bytes (place - (part_range n p).start) else byte_in access (still (Ranges (suc n) ps)) place) ≡ Some byte
+          → (if t then slice_get (part_range n p).bytes (place - (part_range n p).start)
+          else byte_in access (still (Ranges (suc n) ps)) place) ≡ Some byte
           → (byte_in access (still (Ranges (suc n) ps)) place ≡ Some byte → IsOwn l (bias_of l.kind x.number) place)
           → IsOwn l (bias_of l.kind x.number) place
       of_grant true g e later =
@@ -104,7 +107,8 @@ module _ (ls : List Linking) (l : Linking) (x : Instance) (is : IsInstanceOf ls 
       of_grant false g e later = later e
 
       of_written : (t : Bool)
-          → byte_in access (if t then part_range n p ∷ still (Ranges (suc n) ps) else still (Ranges (suc n) ps)) place ≡ Some byte
+          → byte_in access (if t then part_range n p ∷ still (Ranges (suc n) ps) else still (Ranges (suc n) ps)) place
+          ≡ Some byte
           → (byte_in access (still (Ranges (suc n) ps)) place ≡ Some byte → IsOwn l (bias_of l.kind x.number) place)
           → IsOwn l (bias_of l.kind x.number) place
       of_written true e later = of_grant (grants access (part_range n p) place) refl e later
@@ -121,7 +125,8 @@ module _ (ls : List Linking) (l : Linking) (x : Instance) (is : IsInstanceOf ls 
       of_test (is_written p.class) (tables_own (suc n) ps (rest p ps all))
     where
       of_test : (t : Bool) → All OwnRange (written_from ps (Ranges (suc n) ps))
-          → All OwnRange (if t then part_range n p ∷ written_from ps (Ranges (suc n) ps) else written_from ps (Ranges (suc n) ps))
+          → All OwnRange (if t then part_range n p ∷ written_from ps (Ranges (suc n) ps)
+          else written_from ps (Ranges (suc n) ps))
       of_test true later =
           All-cons OwnRange (part_range n p) (written_from ps (Ranges (suc n) ps)) (own_place n p (all 0 p refl)) later
       of_test false later = later
@@ -171,7 +176,8 @@ module _ (ls : List Linking) (l : Linking) (x : Instance) (is : IsInstanceOf ls 
 
   -- a place that no other part holds, of a part that is written, is found in nothing else
   none_still : (n : ℕ) (ps : List Part) (access : Access) (place : ℕ)
-      → ((i : ℕ) (q : Part) → slice_get ps i ≡ Some q → ((part_range (n + i) q).writable ≡ true) ⊎ (holds (part_range (n + i) q) place ≡ false))
+      → ((i : ℕ) (q : Part) → slice_get ps i ≡ Some q
+      → ((part_range (n + i) q).writable ≡ true) ⊎ (holds (part_range (n + i) q) place ≡ false))
       → byte_in access (still (Ranges n ps)) place ≡ None
   none_still n [] access place none = refl
   none_still n (p ∷ ps) access place none =
@@ -190,7 +196,8 @@ module _ (ls : List Linking) (l : Linking) (x : Instance) (is : IsInstanceOf ls 
       of_written true out later =
           let away : grants access (part_range n p) place ≡ false =
           ap (λ b. allows access (part_range n p) && b) out ∙ no_other (allows access (part_range n p)) in
-          ap (λ b. if b then slice_get (part_range n p).bytes (place - (part_range n p).start) else byte_in access (still (Ranges (suc n) ps)) place) away
+          ap (λ b. if b then slice_get (part_range n p).bytes (place - (part_range n p).start)
+          else byte_in access (still (Ranges (suc n) ps)) place) away
           ∙ later
       of_written false out later = later
 
@@ -199,7 +206,8 @@ module _ (ls : List Linking) (l : Linking) (x : Instance) (is : IsInstanceOf ls 
           → byte_in access (still (Ranges n (p ∷ ps))) place ≡ None
       of_first (inl writable) later =
           ap
-          (λ b. byte_in access (if not b then part_range n p ∷ still (Ranges (suc n) ps) else still (Ranges (suc n) ps)) place)
+          (λ b. byte_in access (if not b then part_range n p ∷ still (Ranges (suc n) ps)
+          else still (Ranges (suc n) ps)) place)
           writable
           ∙ later
       of_first (inr out) later = of_written (not (part_range n p).writable) out later
@@ -213,13 +221,15 @@ module _ (ls : List Linking) (l : Linking) (x : Instance) (is : IsInstanceOf ls 
       (record {
         runnable = no_code w.part.class _ w.writable;
         own = λ place h. own_place (0 + w.index) w.part (inside w.index w.part w.at) place h;
-        apart = λ place h access. none_still 0 (image_of l).parts access place (λ i q at. other w.index w.part w.at w.writable place h i q at);
+        apart = λ place h access. none_still 0 (image_of l).parts access place
+            (λ i q at. other w.index w.part w.at w.writable place h i q at);
       })
     where
       held : (n : ℕ) (p : Part) (place : ℕ) → holds (part_range n p) place ≡ true
           → (p.address + bias (image_of l).kind x.number ≤ place) × (place < end_of p + bias (image_of l).kind x.number)
       held n p place h =
-          let at = holds_so (p.address + bias (image_of l).kind x.number) place (length (part_bytes (images_of ls) (image_of l) x p)) h in
+          let at = holds_so (p.address + bias (image_of l).kind x.number) place
+          (length (part_bytes (images_of ls) (image_of l) x p)) h in
           let long = left_long (images_of ls) (image_of l) x p in
           (at.0, omega (arith, at.0, at.1, long))
 
@@ -238,7 +248,8 @@ module _ (ls : List Linking) (l : Linking) (x : Instance) (is : IsInstanceOf ls 
               let second = held (0 + i) q place e in
               let same : j ≡ i =
               one_part (contents l) (linkable l is.given is.links.sound) j i (place - b) p q at_j at_i
-              (omega (arith, first.0)) (omega (arith, first.0, first.1)) (omega (arith, second.0)) (omega (arith, second.0, second.1)) in
+              (omega (arith, first.0)) (omega (arith, first.0, first.1)) (omega (arith, second.0))
+              (omega (arith, second.0, second.1)) in
               let part_same : Some p ≡ Some q = sym at_j ∙ ap (slice_get (image_of l).parts) same ∙ at_i in
               inl (ap (λ (o : Option Part). writable_in o) (sym part_same) ∙ writable_at same)
             where
@@ -266,15 +277,22 @@ places_own ls l x is =
       shared = shared_of (ap (λ i. find (λ (r : Range ℕ). r.writable) (parts_of (images_of ls) x i)) image) fixed;
     }
   where
-    shared_of : (job_loads (images_of ls)).shared x ≡ find (λ (r : Range ℕ). r.writable) (parts_from (images_of ls) (image_of l) x 0 (image_of l).parts)
+    shared_of : (job_loads (images_of ls)).shared x
+        ≡ find (λ (r : Range ℕ). r.writable) (parts_from (images_of ls) (image_of l) x 0 (image_of l).parts)
         → (job_loads (images_of ls)).fixed x ≡ still (parts_from (images_of ls) (image_of l) x 0 (image_of l).parts)
-        → IfSome ((job_loads (images_of ls)).shared x) (IsApart l (bias_of l.kind x.number) ((job_loads (images_of ls)).fixed x))
+        → IfSome ((job_loads (images_of ls)).shared x)
+        (IsApart l (bias_of l.kind x.number) ((job_loads (images_of ls)).fixed x))
     shared_of shared fixed =
-        subst (λ (ranges : List (Range ℕ)). IfSome ((job_loads (images_of ls)).shared x) (IsApart l (bias_of l.kind x.number) ranges)) (sym fixed)
-        (subst (λ (o : Option (Range ℕ)). IfSome o (IsApart l (bias_of l.kind x.number) (still (parts_from (images_of ls) (image_of l) x 0 (image_of l).parts)))) (sym shared)
+        subst (λ (ranges : List (Range ℕ)). IfSome ((job_loads (images_of ls)).shared x)
+        (IsApart l (bias_of l.kind x.number) ranges)) (sym fixed)
+        (subst (λ (o : Option (Range ℕ)). IfSome o
+        (IsApart l (bias_of l.kind x.number) (still (parts_from (images_of ls) (image_of l) x 0 (image_of l).parts))))
+        (sym shared)
         (of_found (find (λ (r : Range ℕ). r.writable) (parts_from (images_of ls) (image_of l) x 0 (image_of l).parts)) refl))
       where
-        of_found : (o : Option (Range ℕ)) → find (λ (r : Range ℕ). r.writable) (parts_from (images_of ls) (image_of l) x 0 (image_of l).parts) ≡ o
-            → IfSome o (IsApart l (bias_of l.kind x.number) (still (parts_from (images_of ls) (image_of l) x 0 (image_of l).parts)))
+        of_found : (o : Option (Range ℕ)) → find (λ (r : Range ℕ). r.writable) (parts_from (images_of ls) (image_of l) x 0
+            (image_of l).parts) ≡ o
+            → IfSome o (IsApart l (bias_of l.kind x.number)
+            (still (parts_from (images_of ls) (image_of l) x 0 (image_of l).parts)))
         of_found None e = tt
         of_found (Some range) e = data_apart ls l x is range e

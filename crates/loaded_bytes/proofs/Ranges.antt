@@ -33,7 +33,8 @@ module _ (m : JobImages) (image : Spelled) (x : Instance) (access : Access) (add
     where
       away : grants access (instance_part m image x n q) (address + bias image.kind x.number) ≡ false
       away =
-          rw (le-ltb (address + bias image.kind x.number - (q.address + bias image.kind x.number)) (length (part_bytes m image x q))
+          rw (le-ltb (address + bias image.kind x.number - (q.address + bias image.kind x.number))
+          (length (part_bytes m image x q))
           (let long = left_long m image x q in omega (arith, long, before)))
           (no_other (allows access (instance_part m image x n q))
           (nat_le (q.address + bias image.kind x.number) (address + bias image.kind x.number)))
@@ -65,7 +66,8 @@ module _ (m : JobImages) (image : Spelled) (x : Instance) (access : Access) (add
         ∙ rw (
           may,
           le-leb (part.address + bias image.kind x.number) (address + bias image.kind x.number) (omega (arith, low)),
-          lt-ltb (address + bias image.kind x.number - (part.address + bias image.kind x.number)) (length (part_bytes m image x part))
+          lt-ltb (address + bias image.kind x.number - (part.address + bias image.kind x.number))
+              (length (part_bytes m image x part))
               (omega (arith, index, long, low, high)),
         )
         (ap (slice_get (part_bytes m image x part)) index)

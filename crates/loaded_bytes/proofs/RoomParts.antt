@@ -87,7 +87,8 @@ module _ (l : Linking) (given : IsGiven l) (links : Links l) where
       last_end-append base code (constants ++ (image ++ written))
       ∙ last_end-append (last_end base code) constants (image ++ written)
       ∙ last_end-append (last_end (last_end base code) constants) image written in
-      elim (cases_lt (initial_data (layout l).kind (layout l).sections).start (zero_data (layout l).kind (layout l).sections).end) [
+      elim (cases_lt (initial_data (layout l).kind (layout l).sections).start
+      (zero_data (layout l).kind (layout l).sections).end) [
         | inl some ↦
             let end = filled_end Writable before (writable (layout l).kind (layout l).sections) some in
             let same = ap page_up (split ∙ end) in
@@ -98,26 +99,30 @@ module _ (l : Linking) (given : IsGiven l) (links : Links l) where
             let early = image_early (layout l) links.sound.limits.lawful in
             let r = rise (layout l).kind (layout l).sections in
             let image_end = (tls_image (layout l).kind (layout l).sections).end in
-            let up = page_rises (zero_data (layout l).kind (layout l).sections).end (page_up image_end) (omega (arith, none, r.written)) in
+            let up = page_rises (zero_data (layout l).kind (layout l).sections).end (page_up image_end)
+            (omega (arith, none, r.written)) in
             let again = page_again image_end in
             let whole : last_end base (code ++ (constants ++ (image ++ written))) ≡ before =
             split ∙ filled_none Writable before (writable (layout l).kind (layout l).sections) none in
             elim (cases_lt (tls_image (layout l).kind (layout l).sections).start image_end) [
               | inl held ↦
                   let last : before ≡ image_end =
-                  filled_end ReadOnly (last_end (last_end base code) constants) (tls_image (layout l).kind (layout l).sections) held in
+                  filled_end ReadOnly (last_end (last_end base code) constants)
+                  (tls_image (layout l).kind (layout l).sections) held in
                   let paged = ap page_up (whole ∙ last) in
                   omega (arith, up, again, paged)
               | inr empty ↦
                   let reached = ap page_up (same) in
-                  let over = page_rises image_end (page_up (last_end base (section_places (layout l)))) (omega (arith, early, empty)) in
+                  let over = page_rises image_end (page_up (last_end base (section_places (layout l))))
+                  (omega (arith, early, empty)) in
                   let twice = page_again (last_end base (section_places (layout l))) in
                   let end = ap page_up sections_are in
                   omega (arith, up, again, over, twice, end)
             ]
       ]
     where
-      sections_are : last_end (base_of l.kind) (section_places (layout l)) ≡ last_end (base_of l.kind) (code ++ (constants ++ (image ++ written)))
+      sections_are : last_end (base_of l.kind) (section_places (layout l))
+          ≡ last_end (base_of l.kind) (code ++ (constants ++ (image ++ written)))
       sections_are = refl
 
   pub tables_added : room (layout l).kind (layout l).sections ≤ (tables_part (contents l)).address

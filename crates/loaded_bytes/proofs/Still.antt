@@ -75,7 +75,8 @@ module _ (ls : List Linking) (l : Linking) (x : Instance) (is : IsInstanceOf ls 
       ∙ found_in_part (images_of ls) (image_of l) x access address (class_part l class) from
       (omega (arith, long, from, to)) 0 part.index part.index (image_of l).parts (omega arith) part.at
       (λ j q less there.
-      let before = parts_follow (contents l) (linkable l is.given is.links.sound) j part.index q (class_part l class) there part.at less in
+      let before = parts_follow (contents l) (linkable l is.given is.links.sound) j part.index q
+      (class_part l class) there part.at less in
       omega (arith, before, from))
       (may part.index) (not_written part.index)
       ∙ part_loaded l is.given is.links class range is.stray (images_of ls) x (image_is ls l x is.image) (address - start)

@@ -58,7 +58,8 @@ has_table b zero e x is = absurd (cc)
 has_table b (suc r) e x is = omega arith
 
 -- the types that may stand outside code
-data_kind : (kind : RelocationKind) → (IsOfCode kind → ⊥) → kind ≢ Nothing → (names_symbol kind ≡ true) × (has_value kind ≡ true)
+data_kind : (kind : RelocationKind) → (IsOfCode kind → ⊥) → kind ≢ Nothing
+    → (names_symbol kind ≡ true) × (has_value kind ≡ true)
 data_kind Nothing other some = absurd (some refl)
 data_kind Absolute64 other some = (refl, refl)
 data_kind Pc32 other some = (refl, refl)

@@ -82,7 +82,8 @@ pub no_byte : (b : List ℕ) → IsObject b → (t k : ℕ) → section_class b 
     → slice_index_or (section_bytes b t) k 0 ≡ 0
 no_byte b object t k e =
     ap (λ (xs : List ℕ). slice_index_or xs k 0)
-    (empty_list (section_bytes b t) (λ some. let none = (kept_as b object t (Writable false) e).filled in omega (arith, none, some)))
+    (empty_list (section_bytes b t) (λ some. let none = (kept_as b object t (Writable false) e).filled in omega
+    (arith, none, some)))
 
 -- ** no sequence: they stand in code
 

@@ -1,4 +1,6 @@
+pub mod Apart
 pub mod Bytes
 pub mod Laws
 pub mod Meant
 pub mod Places
+pub mod Small

@@ -27,7 +27,8 @@ pub record IsApart (l : Linking) (bias : ℕ) (fixed : List (Range ℕ)) (range 
 pub record LiesAtItsPlaces (ls : List Linking) (l : Linking) (x : Instance) : Type 0 where
   pub fixed : (access : Access) (place byte : ℕ)
       → byte_in access ((job_loads (images_of ls)).fixed x) place ≡ Some byte → IsOwn l (bias_of l.kind x.number) place
-  pub tables : All (λ (range : Range ℕ). (place : ℕ) → holds range place ≡ true → IsOwn l (bias_of l.kind x.number) place)
+  pub tables : All
+      (λ (range : Range ℕ). (place : ℕ) → holds range place ≡ true → IsOwn l (bias_of l.kind x.number) place)
       ((job_loads (images_of ls)).tables x)
   pub shared : IfSome ((job_loads (images_of ls)).shared x)
       (IsApart l (bias_of l.kind x.number) ((job_loads (images_of ls)).fixed x))

@@ -1,8 +1,10 @@
 //! The laws. The functions do nothing: what they ensure is the law.
 
+ghost use Rattle.loaded_bytes.specs.Apart.{InstancesLieApart, NoneRunsOn};
 ghost use Rattle.loaded_bytes.specs.Laws.{BlocksAreLoaded, BytesAreMeant, CodeIsLoaded, ConstantsAreLoaded, DataIsLoaded};
 ghost use Rattle.loaded_bytes.specs.Meant.{BlocksAreMeant, DataIsMeant, ReadsAreMeant};
 ghost use Rattle.loaded_bytes.specs.Places.{AllElseIsInTheRoom, PlacesAreOwn};
+ghost use Rattle.loaded_bytes.specs.Small.{BytesAreSmall};
 
 /// What can be run at an address of an instance's code is the byte that its objects mean there.
 pub fn code_is_loaded()
@@ -52,4 +54,19 @@ pub fn data_is_meant()
 /// and the block that each thread begins with.
 pub fn blocks_are_meant()
     ensures { BlocksAreMeant }
+{}
+
+/// Of objects that are lists of bytes, each byte at an address of a class is one.
+pub fn bytes_are_small()
+    ensures { BytesAreSmall }
+{}
+
+/// What is loaded of two instances lies apart.
+pub fn instances_lie_apart()
+    ensures { InstancesLieApart }
+{}
+
+/// No instruction that begins outside the room has a byte that stands in it.
+pub fn none_runs_on()
+    ensures { NoneRunsOn }
 {}

@@ -18,6 +18,15 @@
 //! ([`constants_are_loaded`]), in data that threads write ([`data_is_loaded`]), and in the block that each thread begins
 //! with, which is the initial image as the instance has it ([`blocks_are_loaded`]).
 //!
+//! Between sections stand zeros. All that a linker adds to the sections, its table, the stub and the dynamic tables, lies
+//! in the room behind them ([`all_else_is_in_the_room`]); what may be run there begins a page later, so that no
+//! instruction of the objects runs on into it ([`none_runs_on`]). Each instance has 2^26 addresses of its own, and so two
+//! of them lie apart ([`places_are_own`], [`instances_lie_apart`]).
+//!
+//! Outside code such a byte is the one that the meaning of the job has there ([`bytes_are_meant`]), so that what is read
+//! of constants, the data and the blocks as they begin are those of the meaning ([`reads_are_meant`], [`data_is_meant`],
+//! [`blocks_are_meant`]); of objects that are lists of bytes each is below 256 ([`bytes_are_small`]).
+//!
 //! For example, an object of a module has the constant `.quad after+8`, and `after` lies at 0x2040. In the file the
 //! field holds 0x2048, and RELATIVE names its place; in instance 5, which is moved by 0x1_1400_0000, it is read as
 //! 0x1_1400_2048.
@@ -30,6 +39,7 @@
 mod laws;
 
 pub use laws::{
-    all_else_is_in_the_room, blocks_are_loaded, blocks_are_meant, bytes_are_meant, code_is_loaded,
-    constants_are_loaded, data_is_loaded, data_is_meant, places_are_own, reads_are_meant,
+    all_else_is_in_the_room, blocks_are_loaded, blocks_are_meant, bytes_are_meant, bytes_are_small,
+    code_is_loaded, constants_are_loaded, data_is_loaded, data_is_meant, instances_lie_apart,
+    none_runs_on, places_are_own, reads_are_meant,
 };
