@@ -1,6 +1,6 @@
 -- The example of the crate's essay: a program with 8 bytes of thread-local storage, x at offset 4 in them, and a general
 -- dynamic sequence for x, as it is kept and as it is rewritten. What each law asks of a sequence's place holds of both.
-use Rattle.std.proofs.Common.{if◌then◌else◌, ◌≡◌, ◌+◌, ◌-◌, ◌^◌, ◌<◌, ◌≤◌, ◌==◌, ℕ, zero, suc, Bool, true, false, List, [], ◌∷◌, Option, Some, None, refl, subst, inl, inr, arith}
+use Rattle.std.proofs.Common.{if◌then◌else◌, ◌≡◌, ◌+◌, ◌-◌, ◌^◌, ◌<◌, ◌≤◌, ◌==◌, ℕ, zero, suc, true, false, List, [], ◌∷◌, Option, Some, None, refl, subst, inl, inr, arith}
 use Rattle.std.specs.Prelude.{slice_get}
 use Rattle.amd64_subset.specs.declared.instr.Decoded.{Decoded}
 use Rattle.amd64_subset.specs.Beginning.{begins_of}
@@ -110,34 +110,46 @@ instruction q place d bytes read all = record {
 }
 
 kept_stands : Stands setting kept program 0x400000 of_x
-unfolding begins_of end_branch_at escaped_at row_at operated_at body_at instruction_at decoded numbered_body operation_of operand_body signed_of rex_at prefixes_at numbers_at register_of number_of condition_of fixed_row_of row_of escaped_row_of arithmetic_of shift_of group_action takes allowed displacement_size memory_in sib_at selectors_at row
+unfolding begins_of end_branch_at escaped_at row_at operated_at body_at instruction_at decoded numbered_body
+    operation_of operand_body signed_of rex_at prefixes_at numbers_at register_of number_of condition_of fixed_row_of
+    row_of escaped_row_of arithmetic_of shift_of group_action takes allowed displacement_size memory_in sib_at
+    selectors_at row
 kept_stands = record {
   base = tt;
   own = refl;
   ends = refl;
   asked = inl refl;
-  stands = inl (0xff8, (0, record {
-    code = (
-      instruction kept 0x400000 _ (0x66 ∷ 0x48 ∷ 0x8d ∷ 0x3d ∷ 0xf8 ∷ 0x0f ∷ 0 ∷ 0 ∷ []) refl
-          (refl, (refl, (refl, (refl, (refl, (refl, (refl, (refl, tt)))))))),
-      (instruction kept 0x400008 _ (0x66 ∷ 0x66 ∷ 0x48 ∷ 0xe8 ∷ 0 ∷ 0 ∷ 0 ∷ 0 ∷ []) refl
-          (refl, (refl, (refl, (refl, (refl, (refl, (refl, (refl, tt)))))))), tt),
-    );
-    pair = record {
-      table = refl;
-      id = 1;
-      names = inl (omega arith, (omega arith, refl));
-      low = omega arith;
-      first = word kept 0x401000 1 (refl, (refl, (refl, (refl, (refl, (refl, (refl, (refl, tt))))))));
-      second = word kept 0x401008 4 (refl, (refl, (refl, (refl, (refl, (refl, (refl, (refl, tt))))))));
-    };
-    stub = 0x400010;
-    far = 0xffa;
-    goes = refl;
-    jumps = instruction kept 0x400010 _ (0xff ∷ 0x25 ∷ 0xfa ∷ 0x0f ∷ 0 ∷ 0 ∷ []) refl
-        (refl, (refl, (refl, (refl, (refl, (refl, tt))))));
-    word = word kept 0x401010 0x1000 (refl, (refl, (refl, (refl, (refl, (refl, (refl, (refl, tt))))))));
-  }));
+  stands = inl (
+    0xff8,
+    (
+      0,
+      record {
+        code = (
+          instruction kept 0x400000 _ (0x66 ∷ 0x48 ∷ 0x8d ∷ 0x3d ∷ 0xf8 ∷ 0x0f ∷ 0 ∷ 0 ∷ []) refl
+              (refl, (refl, (refl, (refl, (refl, (refl, (refl, (refl, tt)))))))),
+          (
+            instruction kept 0x400008 _ (0x66 ∷ 0x66 ∷ 0x48 ∷ 0xe8 ∷ 0 ∷ 0 ∷ 0 ∷ 0 ∷ []) refl
+                (refl, (refl, (refl, (refl, (refl, (refl, (refl, (refl, tt)))))))),
+            tt,
+          ),
+        );
+        pair = record {
+          table = refl;
+          id = 1;
+          names = inl (omega arith, (omega arith, refl));
+          low = omega arith;
+          first = word kept 0x401000 1 (refl, (refl, (refl, (refl, (refl, (refl, (refl, (refl, tt))))))));
+          second = word kept 0x401008 4 (refl, (refl, (refl, (refl, (refl, (refl, (refl, (refl, tt))))))));
+        };
+        stub = 0x400010;
+        far = 0xffa;
+        goes = refl;
+        jumps = instruction kept 0x400010 _ (0xff ∷ 0x25 ∷ 0xfa ∷ 0x0f ∷ 0 ∷ 0 ∷ []) refl
+            (refl, (refl, (refl, (refl, (refl, (refl, tt))))));
+        word = word kept 0x401010 0x1000 (refl, (refl, (refl, (refl, (refl, (refl, (refl, (refl, tt))))))));
+      },
+    ),
+  );
 }
 
 -- x is 4 bytes below the thread pointer, in each thread
@@ -149,23 +161,38 @@ distance thread y high known =
     (omega (arith, high))
 
 rewritten_stands : Stands setting rewritten program 0x400000 of_x
-unfolding begins_of end_branch_at escaped_at row_at operated_at body_at instruction_at decoded numbered_body operation_of operand_body signed_of rex_at prefixes_at numbers_at register_of number_of condition_of fixed_row_of row_of escaped_row_of arithmetic_of shift_of group_action takes allowed displacement_size memory_in sib_at selectors_at row
+unfolding begins_of end_branch_at escaped_at row_at operated_at body_at instruction_at decoded numbered_body
+    operation_of operand_body signed_of rex_at prefixes_at numbers_at register_of number_of condition_of fixed_row_of
+    row_of escaped_row_of arithmetic_of shift_of group_action takes allowed displacement_size memory_in sib_at
+    selectors_at row
 rewritten_stands = record {
   base = tt;
   own = refl;
   ends = refl;
   asked = inl refl;
-  stands = inr (GdLe, (0, (2 ^ 64 - 4, (
-    record {
-      code = (
-        instruction rewritten 0x400000 _ (0x64 ∷ 0x48 ∷ 0x8b ∷ 0x04 ∷ 0x25 ∷ 0 ∷ 0 ∷ 0 ∷ 0 ∷ []) refl
-            (refl, (refl, (refl, (refl, (refl, (refl, (refl, (refl, (refl, tt))))))))),
-        (instruction rewritten 0x400009 _ (0x48 ∷ 0x8d ∷ 0x80 ∷ 0xfc ∷ 0xff ∷ 0xff ∷ 0xff ∷ []) refl
-            (refl, (refl, (refl, (refl, (refl, (refl, (refl, tt))))))), tt),
-      );
-      program = refl;
-      early = omega arith;
-    },
-    λ thread y high known. distance thread y high known,
-  ))));
+  stands = inr (
+    GdLe,
+    (
+      0,
+      (
+        2 ^ 64 - 4,
+        (
+          record {
+            code = (
+              instruction rewritten 0x400000 _ (0x64 ∷ 0x48 ∷ 0x8b ∷ 0x04 ∷ 0x25 ∷ 0 ∷ 0 ∷ 0 ∷ 0 ∷ []) refl
+                  (refl, (refl, (refl, (refl, (refl, (refl, (refl, (refl, (refl, tt))))))))),
+              (
+                instruction rewritten 0x400009 _ (0x48 ∷ 0x8d ∷ 0x80 ∷ 0xfc ∷ 0xff ∷ 0xff ∷ 0xff ∷ []) refl
+                    (refl, (refl, (refl, (refl, (refl, (refl, (refl, tt))))))),
+                tt,
+              ),
+            );
+            program = refl;
+            early = omega arith;
+          },
+          λ thread y high known. distance thread y high known,
+        ),
+      ),
+    ),
+  );
 }
