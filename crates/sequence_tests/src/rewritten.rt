@@ -9,7 +9,7 @@ use crate::sites::{Case, HERE, STARTUP, bytes, relink};
 use link_faults::Binding;
 use relax_sites::Choice;
 use sequence_match::Form;
-use std::alloc::Global;
+use std::alloc::{AllocError, Global};
 use std::process::Abort;
 use std::test::Fail;
 
@@ -24,34 +24,67 @@ fn number(digits: Option<&str>) -> Result<u64, Fail> {
 /// A form, what its symbol is bound to, what is chosen, and lines of bytes.
 type Row = (Form, Binding, Choice, &'static str);
 
+/// What a line has: the register, where the sequence and the entry of its variable lie, and its bytes before and after.
+#[derive(Drop)]
+struct Linked {
+    reg: u64,
+    address: u64,
+    got: u64,
+    before: Vec<u8>,
+    after: Vec<u8>,
+}
+
+/// What a line has.
+fn linked_of(alloc: Global, line: &str) -> Result<Linked, Fail> {
+    let mut columns = line.split_whitespace();
+    let reg = number(columns.next())?;
+    let address = number(columns.next())?;
+    let got = number(columns.next())?;
+    let before = bytes(alloc, columns.next().ok_or("the bytes of as")?)?;
+    let after = bytes(alloc, columns.next().ok_or("the bytes of ld")?)?;
+    Ok(Linked {
+        reg,
+        address,
+        got,
+        before,
+        after,
+    })
+}
+
+/// The bytes with others around them.
+fn framed(alloc: Global, bytes: &[u8]) -> Result<Vec<u8>, AllocError> {
+    let mut framed = AROUND.to_vec(alloc)?;
+    framed.extend_from_slice(bytes)?;
+    framed.extend_from_slice(AROUND)?;
+    Ok(framed)
+}
+
+/// Compares what becomes of the sequence of a line.
+fn line_becomes(rt: &impl Abort, alloc: Global, row: &Row, line: &str) -> Result<(), Fail> {
+    let (form, binding, chosen, _) = *row;
+    let linked = linked_of(alloc, line)?;
+    let reg = linked.reg;
+    assert!(rt; reg < 16, "{line}");
+    let mut code = framed(alloc, linked.before.as_slice())?;
+    let wanted = framed(alloc, linked.after.as_slice())?;
+    let start = AROUND.len() as u64;
+    let case = Case {
+        form,
+        binding,
+        reg: reg as u8,
+        start,
+        address: linked.address.wrapping_sub(start),
+        got: linked.got,
+    };
+    assert_eq!(rt; relink(rt, &mut code, case), chosen, "{line}");
+    assert_eq!(rt; code.as_slice(), wanted.as_slice(), "{line}");
+    Ok(())
+}
+
 /// Each line's bytes become what the line says, by the row's choice, and the bytes around them stay.
 fn becomes(rt: &impl Abort, alloc: Global, row: &Row) -> Result<(), Fail> {
-    let (form, binding, chosen, lines) = *row;
-    for line in lines.trim().lines() {
-        let mut columns = line.split_whitespace();
-        let reg = number(columns.next())?;
-        assert!(rt; reg < 16, "{line}");
-        let address = number(columns.next())?;
-        let got = number(columns.next())?;
-        let before = bytes(alloc, columns.next().ok_or("the bytes of as")?)?;
-        let after = bytes(alloc, columns.next().ok_or("the bytes of ld")?)?;
-        let mut code = AROUND.to_vec(alloc)?;
-        code.extend_from_slice(&before)?;
-        code.extend_from_slice(AROUND)?;
-        let mut wanted = AROUND.to_vec(alloc)?;
-        wanted.extend_from_slice(&after)?;
-        wanted.extend_from_slice(AROUND)?;
-        let start = AROUND.len() as u64;
-        let case = Case {
-            form,
-            binding,
-            reg: reg as u8,
-            start,
-            address: address.wrapping_sub(start),
-            got,
-        };
-        assert_eq!(rt; relink(rt, &mut code, case), chosen, "{line}");
-        assert_eq!(rt; code.as_slice(), wanted.as_slice(), "{line}");
+    for line in row.3.trim().lines() {
+        line_becomes(rt, alloc, row, line)?;
     }
     Ok(())
 }
