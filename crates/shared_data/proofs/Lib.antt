@@ -1,0 +1,5 @@
+pub mod Last
+pub mod Left
+pub mod Held
+pub mod Numbers
+pub mod Begins

@@ -1,0 +1,1 @@
+//! The laws. The functions do nothing: what they ensure is the law.

@@ -1,0 +1,4 @@
+//! Shared data.
+#![tactic(auto)]
+
+pub mod laws;
