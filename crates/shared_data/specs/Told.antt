@@ -44,40 +44,36 @@ module _ {B : Type 0} (l : Loads B) where
 
 -- ** runs
 
--- changes: what a step changes
-module _ {S C : Type 0} (x : Stepping S) (changes : S → List C) where
-  abbrev pub unless_over : Option Stop → List C → List C
-  unless_over None told = told
-  unless_over (Some stop) told = []
+abbrev pub unless_over : {C : Type 0} → Option Stop → List C → List C
+unless_over None told = told
+unless_over (Some stop) told = []
 
-  -- what a step and those behind it change; a step that is refused changes nothing
-  abbrev pub step_told : List C → (S → List C) → Next S → List C
-  step_told now more (Goes s) = now ++ more s
-  step_told now more (Ends stop) = []
-  step_told now more (Looks s) = now
+-- what a step and those behind it change; a step that is refused changes nothing
+abbrev pub step_told : {S C : Type 0} → List C → (S → List C) → Next S → List C
+step_told now more (Goes s) = now ++ more s
+step_told now more (Ends stop) = []
+step_told now more (Looks s) = now
 
-  -- what a run of at most so many steps changes
-  abbrev pub run_told : ℕ → S → List C
-  run_told zero s = []
-  run_told (suc n) s = unless_over (x.over s) (step_told (changes s) (run_told n) (x.step s))
+-- what a run of at most so many steps changes; changes: what a step does
+abbrev pub run_told : {S C : Type 0} → Stepping S → (S → List C) → ℕ → S → List C
+run_told x changes zero s = []
+run_told x changes (suc n) s = unless_over (x.over s) (step_told (changes s) (run_told x changes n) (x.step s))
 
 -- ** turns
 
-module _ {S L E : Type 0} (x : Turns S L E) where
-  abbrev pub called : ℕ → Begun S → Option (ℕ × S)
-  called steps (Says ending s) = None
-  called steps (Calls s) = Some (steps, s)
+abbrev pub called : {S : Type 0} → ℕ → Begun S → Option (ℕ × S)
+called steps (Says ending s) = None
+called steps (Calls s) = Some (steps, s)
 
-  -- the most steps of a thread's next turn and where they begin, if it makes any
-  abbrev pub steps_of : List L → Phase S → List E → Option (ℕ × S)
-  steps_of [] (Idle s) seen = None
-  steps_of (line ∷ todo) (Idle s) seen = called x.fuel (x.begin line seen s)
-  steps_of todo (Mid left points s) seen = called (left - 1) (x.resume seen s)
+-- the most steps of a thread's next turn and where they begin, if it makes any
+abbrev pub steps_of : {S L E : Type 0} → Turns S L E → List L → Phase S → List E → Option (ℕ × S)
+steps_of x [] (Idle s) seen = None
+steps_of x (line ∷ todo) (Idle s) seen = called x.fuel (x.begin line seen s)
+steps_of x todo (Mid left points s) seen = called (left - 1) (x.resume seen s)
 
-  module _ {C : Type 0} (changes : S → List C) where
-    abbrev pub steps_told : Option (ℕ × S) → List C
-    steps_told None = []
-    steps_told (Some from) = run_told x.steps changes from.0 from.1
+abbrev pub steps_told : {S C : Type 0} → Stepping S → (S → List C) → Option (ℕ × S) → List C
+steps_told x changes None = []
+steps_told x changes (Some from) = run_told x changes from.0 from.1
 
 -- ** jobs
 
@@ -93,7 +89,7 @@ module _ {W F B L : Type 0} (l : Loads B) (x : ℕ → Turns (Held W F B) L Even
   -- what a turn of thread i changes: its load, if it makes one, and what its steps write
   abbrev pub turn_told : Shared W F B L → ℕ → Option (Thread (Held W F B) L Event) → List (Change B)
   turn_told w i None = []
-  turn_told w i (Some t) = turn_filled w i t ++ steps_told (x i) (changes i) (begins w i t)
+  turn_told w i (Some t) = turn_filled w i t ++ steps_told (x i).steps (changes i) (begins w i t)
 
   -- what all turns change, in their order
   abbrev pub order_told : List ℕ → Shared W F B L → List (Change B)
