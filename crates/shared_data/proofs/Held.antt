@@ -152,7 +152,7 @@ module _ {B : Type 0} (l : Loads B) (thread : ℕ) where
   one_block x None = tt
   one_block x (Some bytes) = (refl, tt)
 
-  all_blocks : (reaches : Instance → Bool) (xs : List (Owned B)) (ys : List Instance)
+  pub all_blocks : (reaches : Instance → Bool) (xs : List (Owned B)) (ys : List Instance)
       → Each IsBlock (flat_map (block_after l thread reaches xs) ys)
   all_blocks reaches xs [] = tt
   all_blocks reaches xs (y ∷ ys) = each_append IsBlock (block_after l thread reaches xs y) _ (one_block y _) (all_blocks reaches xs ys)

@@ -5,3 +5,9 @@ pub mod Numbers
 pub mod Begins
 pub mod Legal
 pub mod Turns
+pub mod ReadsData
+pub mod Orders
+pub mod First
+pub mod Machine
+pub mod Meaning
+pub mod Jobs

@@ -42,17 +42,17 @@ data_place Block instance offset = None
 data_place Data instance offset = Some (instance, offset)
 
 -- and a load reads the first that may be read there
-abbrev pub data_in : {B : Type 0} → List (Owned B) → ℕ → Option (ℕ × ℕ)
-data_in [] place = None
-data_in (x ∷ xs) place = if grants Read x.range place
+abbrev pub data_found : {B : Type 0} → List (Owned B) → ℕ → Option (ℕ × ℕ)
+data_found [] place = None
+data_found (x ∷ xs) place = if grants Read x.range place
     then data_place x.owner.kind x.owner.instance (place - x.range.start)
-    else data_in xs place
+    else data_found xs place
 
 -- the instance and the offset of data that a thread reads at a place; stack: where its stack begins
 abbrev pub data_at : {W F B : Type 0} → ℕ → Held W F B → ℕ → Option (ℕ × ℕ)
 data_at stack h place = if grants Read (stack_range stack h.after.memory.stack) place
     then None
-    else data_in (owned_by h) place
+    else data_found (owned_by h) place
 
 -- ** what stores change
 
