@@ -8,6 +8,8 @@ use Rattle.guest_machine.specs.Ranges.{grants}
 use Rattle.guest_machine.specs.Run.{run, state_after}
 use Rattle.guest_machine.specs.State.{start_of}
 use Rattle.guest_machine.specs.Use.{left as left_of}
+use Rattle.job_meaning.specs.declared.values.Byte.{Byte}
+use Rattle.job_meaning.specs.declared.values.Word.TheVariants.{Number}
 use Rattle.job_text.specs.declared.thread_lines.ThreadLine.{ThreadLine}
 use Rattle.module_table.specs.declared.events.Event.{Event}
 use Rattle.module_table.specs.History.{IsLegal}
@@ -19,13 +21,17 @@ use Rattle.thread_blocks.specs.MachineTurns.{pointer_word, stack_start}
 use Rattle.thread_blocks.specs.RunTime.{Runs, thread_accesses, thread_turns}
 use Rattle.thread_blocks.specs.Spaces.{Space, stack_range}
 use Rattle.thread_blocks.specs.Turns.{Thread, Turns}
+use Rattle.whole_meaning.specs.Jobs.{job_start as meant_start, ready_from as ready_meant}
+use Rattle.whole_meaning.specs.Meanings.{Meaning}
+use Rattle.whole_meaning.specs.Threads.{meant_accesses, meant_turns, ops}
 use Rattle.shared_data.specs.Changes.{Change, data_found, last_left}
-use Rattle.shared_data.specs.Laws.{DataLast, MachineDataLast, MachineReadsLast, ReadsLast, at_order, event, told_at}
-use Rattle.shared_data.specs.Steps.{machine_changes}
+use Rattle.shared_data.specs.Laws.{DataLast, MachineDataLast, MachineReadsLast, MeantDataLast, MeantReadsLast, NotesFollowMeaning, ReadsLast, at_order, event, told_at}
+use Rattle.shared_data.specs.Steps.{machine_changes, meant_changes}
 use Rattle.shared_data.specs.Told.{first_filled, run_told, turn_filled}
 use Rattle.shared_data.proofs.First.{data_first, look_blocks}
 use Rattle.shared_data.proofs.Left.{AreLeft, Each, found_left}
 use Rattle.shared_data.proofs.Machine.{machine_tells}
+use Rattle.shared_data.proofs.Meaning.{meant_tells, plain_space}
 use Rattle.shared_data.proofs.Numbers.{numbers_own}
 use Rattle.shared_data.proofs.Orders.{HoldsBlocks, WorldHolds, world_order, world_within}
 use Rattle.shared_data.proofs.ReadsData.{beside_stack}
@@ -101,3 +107,47 @@ machine_reads_last l fuel lines legal =
     reads_last l (λ thread. thread_turns l thread fuel) (λ thread. machine_changes l thread)
     (λ thread. thread_accesses l thread) (job_start l lines) (λ i. machine_tells l i fuel) (first_holds l legal lines)
     (machine_reads l)
+
+-- ** the meaning
+
+module _ (m : Meaning) (legal : IsLegal m.loads.infos m.loads.last_offset []) where
+  meant_ready_blocks : (thread : ℕ) (lines : List (List ThreadLine)) → Each HoldsBlocks (ready_meant m thread lines)
+  meant_ready_blocks thread [] = tt
+  meant_ready_blocks thread (own ∷ more) = (
+    look_blocks m.loads thread [] (record {
+      after = left_of (start_of ops 0 0 (Number 0) (Number 0) (Number 0)) (record { seen = []; stack = []; own = [] });
+      owners = [];
+      asked = None;
+    }) refl,
+    meant_ready_blocks (suc thread) more,
+  )
+
+  meant_first : (lines : List (List ThreadLine)) → WorldHolds m.loads (first_filled m.loads) (meant_start m lines)
+  meant_first lines = record {
+    legal = legal;
+    left = data_first m.loads (instances m.loads []) (numbers_own m.loads [] legal);
+    blocks = meant_ready_blocks 1 lines;
+  }
+
+meant_reads : (m : Meaning) (i : ℕ) (log : List (Change Byte)) (space : Space Event Byte) (os : List Owner) (place : ℕ)
+    (at : ℕ × ℕ) → AreLeft log (owned os space.own)
+    → (if grants Read (stack_range (stack_start i) space.stack) place then None else data_found (owned os space.own) place)
+    ≡ Some at
+    → (meant_accesses m i).byte space place ≡ ok_or (last_left at.0 at.1 log) Refused
+unfolding meant_accesses
+meant_reads m i log space os place at left e =
+    beside_stack ops (stack_start i) (λ seen. pointer_word ops i ∷ fixed_at m.loads seen) log space os place at left e
+
+pub meant_data_last : MeantDataLast
+meant_data_last m fuel lines legal =
+    data_last m.loads (λ thread. meant_turns m thread fuel) (λ thread. meant_changes m thread)
+    (λ thread. meant_accesses m thread) (meant_start m lines) (λ i. meant_tells m i fuel) (meant_first m legal lines)
+
+pub meant_reads_last : MeantReadsLast
+meant_reads_last m fuel lines legal =
+    reads_last m.loads (λ thread. meant_turns m thread fuel) (λ thread. meant_changes m thread)
+    (λ thread. meant_accesses m thread) (meant_start m lines) (λ i. meant_tells m i fuel) (meant_first m legal lines)
+    (meant_reads m)
+
+pub notes_follow_meaning : NotesFollowMeaning
+notes_follow_meaning m thread owners mark state noted = plain_space m thread owners mark state noted

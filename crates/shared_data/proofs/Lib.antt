@@ -8,6 +8,7 @@ pub mod Turns
 pub mod ReadsData
 pub mod Orders
 pub mod First
+pub mod Noting
 pub mod Machine
 pub mod Meaning
 pub mod Jobs

@@ -42,7 +42,7 @@ use Rattle.shared_data.proofs.Begins.{AreOwn, BegunHolds, begin_holds}
 use Rattle.shared_data.proofs.Held.{Holds, look_holds, reach_holds}
 use Rattle.shared_data.proofs.Last.{append_none}
 use Rattle.shared_data.proofs.Left.{AreLeft}
-use Rattle.shared_data.proofs.Machine.{Keeps, NotedHolds, Proved, noted_holds, noting_image, plain, proved_accesses, proved_image}
+use Rattle.shared_data.proofs.Noting.{Keeps, Proved, plain, proved_accesses, proved_image}
 use Rattle.shared_data.proofs.Turns.{NextHolds, TellAll}
 
 abbrev pub At : Type 0
@@ -241,7 +241,7 @@ module _ (m : Meaning) (thread : ℕ) where
       → NextKeeps (log ++ changes_at m thread s h) h.owners (sequence_or (option_map (sequence_next m thread h.after) s)
       (next_of (marked_step ops acc (meant_mark m thread h.after.memory) (meant_shut m thread h.after.memory) h.after.state h.after.memory)))
   either_keeps log h None holds =
-      next_keeps _ h.owners _
+      next_keeps (log ++ changes_at m thread None h) h.owners _
       (marked_keeps log h.owners (meant_mark m thread h.after.memory) (meant_shut m thread h.after.memory) h.after holds)
   either_keeps log h (Some s) holds =
       subst (λ (cs : List (Change Byte)). NextKeeps cs h.owners (sequence_next m thread h.after s)) (sym (append_none log))

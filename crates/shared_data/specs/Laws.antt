@@ -2,6 +2,7 @@
 -- the loader put there: of the machine's threads, and of what they mean.
 use Rattle.std.specs.Prelude.{◌≡◌, ℕ, ◌++◌, Bool, List, [], slice_get, ok_or, Option, Some}
 use Rattle.guest_arithmetic.specs.Plain.{plain_operations}
+use Rattle.guest_operands.specs.declared.state.State.{State}
 use Rattle.guest_machine.specs.Access.{Accesses, Refused}
 use Rattle.guest_machine.specs.Run.{machine, run, state_after}
 use Rattle.guest_machine.specs.Use.{After}
@@ -17,12 +18,14 @@ use Rattle.thread_blocks.specs.JobWorlds.{Shared, job_start, shared_order}
 use Rattle.thread_blocks.specs.Lines.{Line, event_by}
 use Rattle.thread_blocks.specs.MachineTurns.{stack_start}
 use Rattle.thread_blocks.specs.RunTime.{thread_accesses, thread_turns}
-use Rattle.thread_blocks.specs.Spaces.{Space, after_of, next_image, no_field}
+use Rattle.thread_blocks.specs.Spaces.{Space, after_of, mapped, next_image, no_field}
 use Rattle.thread_blocks.specs.Turns.{Thread, Turns, at_number}
+use Rattle.whole_meaning.specs.declared.marks.Mark.{Mark}
 use Rattle.whole_meaning.specs.Jobs.{job_start as meant_start}
 use Rattle.whole_meaning.specs.Meanings.{Meaning}
-use Rattle.whole_meaning.specs.Threads.{meant_accesses, meant_turns}
-use Rattle.shared_data.specs.Changes.{Change, Noted, data_at, last_left, noting, unchanged}
+use Rattle.whole_meaning.specs.Reading.{plain_step}
+use Rattle.whole_meaning.specs.Threads.{meant_accesses, meant_turns, ops}
+use Rattle.shared_data.specs.Changes.{Change, Noted, data_at, last_left, noting}
 use Rattle.shared_data.specs.Steps.{machine_changes, meant_changes}
 use Rattle.shared_data.specs.Told.{begins, first_filled, order_told, run_told, turn_filled}
 
@@ -83,3 +86,23 @@ NotesFollow = (l : Loads ℕ) (thread : ℕ) (owners : List Owner) (at : After �
     → (machine plain_operations (thread_accesses l thread) no_field).step (after_of (λ noted. noted.space) at)
     ≡ next_image (after_of (λ noted. noted.space))
     ((machine plain_operations (noting (stack_start thread) owners (thread_accesses l thread)) no_field).step at)
+
+-- ** the meaning
+
+abbrev pub MeantDataLast : Type 0
+MeantDataLast = (m : Meaning) (fuel : ℕ) (lines : List (List ThreadLine)) → IsLegal m.loads.infos m.loads.last_offset []
+    → DataLast m.loads (λ thread. meant_turns m thread fuel) (λ thread. meant_changes m thread)
+    (λ thread. meant_accesses m thread) (meant_start m lines)
+
+abbrev pub MeantReadsLast : Type 0
+MeantReadsLast = (m : Meaning) (fuel : ℕ) (lines : List (List ThreadLine)) → IsLegal m.loads.infos m.loads.last_offset []
+    → ReadsLast m.loads (λ thread. meant_turns m thread fuel) (λ thread. meant_changes m thread)
+    (λ thread. meant_accesses m thread) (meant_start m lines)
+
+-- and so it is with the meaning's instructions
+abbrev pub NotesFollowMeaning : Type 0
+NotesFollowMeaning = (m : Meaning) (thread : ℕ) (owners : List Owner) (mark : ℕ → Mark) (state : State Word Flag)
+    (noted : Noted Event Byte)
+    → plain_step ops (meant_accesses m thread) mark state noted.space
+    ≡ mapped (λ noted. noted.space)
+    (plain_step ops (noting (stack_start thread) owners (meant_accesses m thread)) mark state noted)
