@@ -15,17 +15,17 @@ use Rattle.module_table.specs.declared.events.Event.{Event}
 use Rattle.module_table.specs.History.{IsLegal}
 use Rattle.thread_blocks.specs.Held.{Held, Owner, data_bytes, owned}
 use Rattle.thread_blocks.specs.Instances.{Loads, fixed_at, instances}
-use Rattle.thread_blocks.specs.JobWorlds.{Shared, job_start, ready_from}
+use Rattle.thread_blocks.specs.JobWorlds.{Shared, job_start, job_world, ready_from}
 use Rattle.thread_blocks.specs.Lines.{Line}
 use Rattle.thread_blocks.specs.MachineTurns.{pointer_word, stack_start}
 use Rattle.thread_blocks.specs.RunTime.{Runs, thread_accesses, thread_turns}
 use Rattle.thread_blocks.specs.Spaces.{Space, stack_range}
 use Rattle.thread_blocks.specs.Turns.{Thread, Turns}
-use Rattle.whole_meaning.specs.Jobs.{job_start as meant_start, ready_from as ready_meant}
+use Rattle.whole_meaning.specs.Jobs.{job_start as meant_start, meant_world, ready_from as ready_meant}
 use Rattle.whole_meaning.specs.Meanings.{Meaning}
 use Rattle.whole_meaning.specs.Threads.{meant_accesses, meant_turns, ops}
 use Rattle.shared_data.specs.Changes.{Change, data_found, last_left}
-use Rattle.shared_data.specs.Laws.{DataLast, MachineDataLast, MachineReadsLast, MeantDataLast, MeantReadsLast, NotesFollowMeaning, ReadsLast, at_order, event, told_at}
+use Rattle.shared_data.specs.Laws.{DataLast, JobsAreOrders, MachineDataLast, MachineReadsLast, MeaningsAreOrders, MeantDataLast, MeantReadsLast, NotesFollowMeaning, ReadsLast, at_order, event, told_at}
 use Rattle.shared_data.specs.Steps.{machine_changes, meant_changes}
 use Rattle.shared_data.specs.Told.{first_filled, run_told, turn_filled}
 use Rattle.shared_data.proofs.First.{data_first, look_blocks}
@@ -108,6 +108,10 @@ machine_reads_last l fuel lines legal =
     (λ thread. thread_accesses l thread) (job_start l lines) (λ i. machine_tells l i fuel) (first_holds l legal lines)
     (machine_reads l)
 
+pub jobs_are_orders : JobsAreOrders
+unfolding job_world
+jobs_are_orders l fuel lines order = refl
+
 -- ** the meaning
 
 module _ (m : Meaning) (legal : IsLegal m.loads.infos m.loads.last_offset []) where
@@ -151,3 +155,7 @@ meant_reads_last m fuel lines legal =
 
 pub notes_follow_meaning : NotesFollowMeaning
 notes_follow_meaning m thread owners mark state noted = plain_space m thread owners mark state noted
+
+pub meanings_are_orders : MeaningsAreOrders
+unfolding meant_world
+meanings_are_orders m fuel lines order = refl

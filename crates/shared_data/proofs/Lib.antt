@@ -12,3 +12,4 @@ pub mod Noting
 pub mod Machine
 pub mod Meaning
 pub mod Jobs
+mod Examples

@@ -1,6 +1,6 @@
 -- Each byte of shared data is the one that the last write before it, in the order of turns, left there, or the first that
 -- the loader put there: of the machine's threads, and of what they mean.
-use Rattle.std.specs.Prelude.{◌≡◌, ℕ, ◌++◌, Bool, List, [], slice_get, ok_or, Option, Some}
+use Rattle.std.specs.Prelude.{◌≡◌, ℕ, ◌*◌, ◌++◌, Bool, List, [], slice_get, ok_or, Option, Some}
 use Rattle.guest_arithmetic.specs.Plain.{plain_operations}
 use Rattle.guest_operands.specs.declared.state.State.{State}
 use Rattle.guest_machine.specs.Access.{Accesses, Refused}
@@ -14,14 +14,14 @@ use Rattle.module_table.specs.declared.events.Event.{Event}
 use Rattle.module_table.specs.History.{IsLegal}
 use Rattle.thread_blocks.specs.Held.{Held, Owned, Owner, data_bytes}
 use Rattle.thread_blocks.specs.Instances.{Loads}
-use Rattle.thread_blocks.specs.JobWorlds.{Shared, job_start, shared_order}
+use Rattle.thread_blocks.specs.JobWorlds.{Shared, job_start, job_world, shared_order}
 use Rattle.thread_blocks.specs.Lines.{Line, event_by}
 use Rattle.thread_blocks.specs.MachineTurns.{stack_start}
 use Rattle.thread_blocks.specs.RunTime.{thread_accesses, thread_turns}
 use Rattle.thread_blocks.specs.Spaces.{Space, after_of, mapped, next_image, no_field}
-use Rattle.thread_blocks.specs.Turns.{Thread, Turns, at_number}
+use Rattle.thread_blocks.specs.Turns.{Thread, Turns, at_number, whole_order}
 use Rattle.whole_meaning.specs.declared.marks.Mark.{Mark}
-use Rattle.whole_meaning.specs.Jobs.{job_start as meant_start}
+use Rattle.whole_meaning.specs.Jobs.{job_start as meant_start, meant_world}
 use Rattle.whole_meaning.specs.Meanings.{Meaning}
 use Rattle.whole_meaning.specs.Reading.{plain_step}
 use Rattle.whole_meaning.specs.Threads.{meant_accesses, meant_turns, ops}
@@ -80,6 +80,13 @@ MachineReadsLast = (l : Loads ℕ) (fuel : ℕ) (lines : List (List ThreadLine))
     → ReadsLast l (λ thread. thread_turns l thread fuel) (λ thread. machine_changes l thread)
     (λ thread. thread_accesses l thread) (job_start l lines)
 
+-- all turns of a job are such turns
+abbrev pub JobsAreOrders : Type 0
+JobsAreOrders = (l : Loads ℕ) (fuel : ℕ) (lines : List (List ThreadLine)) (order : List ℕ)
+    → job_world l fuel lines order
+    ≡ at_order l (λ thread. thread_turns l thread fuel) (λ thread. machine_changes l thread)
+    (λ thread. thread_accesses l thread) (job_start l lines) (whole_order (4 * fuel) lines order)
+
 -- a step over a memory that notes its stores is the machine's step
 abbrev pub NotesFollow : Type 0
 NotesFollow = (l : Loads ℕ) (thread : ℕ) (owners : List Owner) (at : After ℕ Bool (Noted Event ℕ))
@@ -99,7 +106,13 @@ MeantReadsLast = (m : Meaning) (fuel : ℕ) (lines : List (List ThreadLine)) →
     → ReadsLast m.loads (λ thread. meant_turns m thread fuel) (λ thread. meant_changes m thread)
     (λ thread. meant_accesses m thread) (meant_start m lines)
 
--- and so it is with the meaning's instructions
+abbrev pub MeaningsAreOrders : Type 0
+MeaningsAreOrders = (m : Meaning) (fuel : ℕ) (lines : List (List ThreadLine)) (order : List ℕ)
+    → meant_world m fuel lines order
+    ≡ at_order m.loads (λ thread. meant_turns m thread fuel) (λ thread. meant_changes m thread)
+    (λ thread. meant_accesses m thread) (meant_start m lines) (whole_order (4 * fuel) lines order)
+
+-- an instruction of the meaning over a memory that notes its stores is that instruction
 abbrev pub NotesFollowMeaning : Type 0
 NotesFollowMeaning = (m : Meaning) (thread : ℕ) (owners : List Owner) (mark : ℕ → Mark) (state : State Word Flag)
     (noted : Noted Event Byte)

@@ -1,12 +1,18 @@
 //! The laws. The functions do nothing: what they ensure is the law.
 
-ghost use Rattle.shared_data.specs.Laws.{MachineDataLast, MachineReadsLast, NotesFollow};
-ghost use Rattle.shared_data.specs.Laws.{MeantDataLast, MeantReadsLast, NotesFollowMeaning};
+ghost use Rattle.shared_data.specs.Laws.{JobsAreOrders, MachineDataLast, MachineReadsLast, NotesFollow};
+ghost use Rattle.shared_data.specs.Laws.{MeaningsAreOrders, MeantDataLast, MeantReadsLast, NotesFollowMeaning};
 
 /// A step over a memory that notes its stores is the machine's step: to note them changes nothing.
 #[tactic(auto, using(crate::proofs::Machine::notes_follow))]
 pub fn notes_follow_the_machine()
     ensures { NotesFollow }
+{}
+
+/// All turns of a job are turns in an order, as the laws have them.
+#[tactic(auto, using(crate::proofs::Jobs::jobs_are_orders))]
+pub fn jobs_are_orders()
+    ensures { JobsAreOrders }
 {}
 
 /// After any turns the shared data are what was left there last.
@@ -23,6 +29,12 @@ pub fn reads_are_last_left()
 #[tactic(auto, using(crate::proofs::Jobs::notes_follow_meaning))]
 pub fn notes_follow_the_meaning()
     ensures { NotesFollowMeaning }
+{}
+
+/// All turns of a job's meaning are turns in an order.
+#[tactic(auto, using(crate::proofs::Jobs::meanings_are_orders))]
+pub fn meanings_are_orders()
+    ensures { MeaningsAreOrders }
 {}
 
 /// After any turns of the meaning the shared data are what was left there last.
