@@ -1,5 +1,5 @@
 -- A line's first look leaves data as they were, and an open fills those of what it loads.
-use Rattle.std.proofs.Common.{◌≡◌, ◌+◌, ◌++◌, ℕ, Bool, true, false, List, [], Option, Some, None, refl, sym, ap, subst}
+use Rattle.std.proofs.Common.{◌≡◌, ◌+◌, ◌++◌, ℕ, Bool, true, false, List, [], Option, Some, None, refl, sym, subst}
 use Rattle.std.specs.Prelude.{if◌then◌else◌, nat_le, length, slice_range}
 use Rattle.guest_arithmetic.specs.Values.{Operations}
 use Rattle.job_text.specs.declared.thread_lines.Action.{Action}
@@ -16,7 +16,7 @@ use Rattle.thread_blocks.specs.Instances.{Loads, instance_at, instances, left_by
 use Rattle.thread_blocks.specs.Lines.{Line, begin_line, begun_at, begun_by, begun_close, begun_in, begun_open, begun_peek, event_at, event_by, refused, shown_from, shown_in, unless_refused, with_load}
 use Rattle.thread_blocks.specs.Turns.{Begun, Says, Calls, Ending, with_event, with_last}
 use Rattle.shared_data.specs.Changes.{Change}
-use Rattle.shared_data.specs.Told.{filled, filled_by, filled_unless}
+use Rattle.shared_data.specs.Told.{filled_by, filled_unless}
 use Rattle.shared_data.proofs.Held.{AreOne, Holds, Numbered, load_holds, look_holds, reach_holds}
 use Rattle.shared_data.proofs.Last.{append_none}
 use Rattle.shared_data.proofs.Left.{AreLeft}

@@ -1,5 +1,5 @@
 -- What is told of a job whose threads count in one place.
-use Rattle.std.proofs.Common.{◌≡◌, ◌++◌, ℕ, List, [], ◌∷◌, Some, None, true, false, refl}
+use Rattle.std.proofs.Common.{◌≡◌, ℕ, List, [], ◌∷◌, Some, None, true, false, refl}
 use Rattle.image_file.specs.Spelled.{Spelled}
 use Rattle.image_file.specs.declared.part.PartClass.TheVariants.{Executable, ReadOnly, Writable}
 use Rattle.image_file.specs.declared.symbol.SymbolBinding.TheVariants.{Local, Global}

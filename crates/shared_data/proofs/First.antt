@@ -1,6 +1,6 @@
 -- What a job begins with: blocks in its threads' hands, and data as the loader fills them.
-use Rattle.std.proofs.Common.{◌≡◌, ◌∙◌, ◌++◌, ℕ, Bool, true, false, List, [], ◌∷◌, Option, Some, None, refl, sym, ap, subst}
-use Rattle.std.specs.Prelude.{is_some, slice_get}
+use Rattle.std.proofs.Common.{◌≡◌, ◌∙◌, ◌++◌, ℕ, true, false, List, [], ◌∷◌, Option, Some, None, refl, sym, subst}
+use Rattle.std.specs.Prelude.{is_some}
 use Rattle.std.specs.List.{flat_map}
 use Rattle.std.specs.Option.{option_or}
 use Rattle.guest_machine.specs.Ranges.{Range}
@@ -9,7 +9,7 @@ use Rattle.module_table.specs.declared.events.Event.{Event}
 use Rattle.thread_blocks.specs.Held.{Held, Owned, block_after, data_after, data_with, fresh_data, looked, looked_at, owned_by}
 use Rattle.thread_blocks.specs.Instances.{Loads, instances}
 use Rattle.shared_data.specs.Changes.{Change, Filled, last_left}
-use Rattle.shared_data.specs.Told.{filled, filled_with, first_filled}
+use Rattle.shared_data.specs.Told.{filled, filled_with}
 use Rattle.shared_data.proofs.Held.{HaveOwnNumbers, IsBlock, all_blocks, with_owned_by}
 use Rattle.shared_data.proofs.Last.{filled_other, filled_there, last_reached, last_spared}
 use Rattle.shared_data.proofs.Left.{AreLeft, Each, IsLeft, each_append}

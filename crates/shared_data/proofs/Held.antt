@@ -7,8 +7,8 @@ use Rattle.std.proofs.lemmas.Bool.{cases_eq, eq-eqb, ne_eqb}
 use Rattle.guest_machine.specs.Ranges.{Range}
 use Rattle.loaded_modules.specs.declared.instance.Instance.{Instance}
 use Rattle.module_table.specs.declared.events.Event.{Event}
-use Rattle.thread_blocks.specs.Held.{Block, Data, Held, Owned, Owner, block_after, block_with, data_after, data_bytes, data_with, fresh_data, fresh_if, held_of, is_block, loaded, loaded_at, looked, looked_at, owned, owned_by, owners_of, ranges_in, reached, reached_at, with_owned}
-use Rattle.thread_blocks.specs.Instances.{Loads, block_range, instances}
+use Rattle.thread_blocks.specs.Held.{Data, Held, Owned, block_after, block_with, data_after, data_bytes, data_with, fresh_data, held_of, is_block, loaded, loaded_at, looked, looked_at, owned, owned_by, owners_of, ranges_in, reached, reached_at, with_owned}
+use Rattle.thread_blocks.specs.Instances.{Loads, instances}
 use Rattle.shared_data.specs.Changes.{Change, Filled, last_left}
 use Rattle.shared_data.specs.Told.{filled, filled_with}
 use Rattle.shared_data.proofs.Last.{append_none, filled_other, filled_there, last_reached, last_spared}
@@ -79,11 +79,11 @@ module _ {B : Type 0} (l : Loads B) (loads : Instance → Bool) (xs : List (Owne
   -- ** bytes
 
   data_left : (log : List (Change B)) (y : Instance) (range : Option (Range B)) (bytes : Option (List B))
-      → ((bs : List B) → range ≡ range → bytes ≡ Some bs → (k : ℕ) (b : B) → slice_get bs k ≡ Some b
+      → ((bs : List B) → bytes ≡ Some bs → (k : ℕ) (b : B) → slice_get bs k ≡ Some b
       → last_left y.number k log ≡ Some b) → AreLeft log (data_with y range bytes)
   data_left log y None bytes each = tt
   data_left log y (Some range) None each = tt
-  data_left log y (Some range) (Some bytes) each = ((λ d k b e. each bytes refl refl k b e), tt)
+  data_left log y (Some range) (Some bytes) each = ((λ d k b e. each bytes refl k b e), tt)
 
   data_all : (log : List (Change B)) (ys : List Instance)
       → Each (λ (y : Instance). AreLeft log (data_after l loads xs y)) ys
@@ -101,7 +101,7 @@ module _ {B : Type 0} (l : Loads B) (xs : List (Owned B)) (log : List (Change B)
   kept_left : (loads : Instance → Bool) (more : List (Change B)) (y : Instance) → loads y ≡ false
       → ((k : ℕ) → last_left y.number k more ≡ None) → AreLeft (log ++ more) (data_after l loads xs y)
   kept_left loads more y unwanted none =
-      data_left l loads xs (log ++ more) y (l.shared y) _ (λ bs same e k b at.
+      data_left l loads xs (log ++ more) y (l.shared y) _ (λ bs e k b at.
       last_spared y.number k log more (none k)
       ∙ found_left log xs y.number bs
       (ap (λ (o : Option (List B)). option_or o (data_bytes y.number xs)) (sym (fresh_none (l.shared y) (loads y) unwanted)) ∙ e)
@@ -113,8 +113,11 @@ module _ {B : Type 0} (l : Loads B) (xs : List (Owned B)) (log : List (Change B)
       (data_with y range (option_or (fresh_data range (loads y)) (data_bytes y.number xs)))
   fresh_left loads y None wanted = tt
   fresh_left loads y (Some range) wanted =
-      rw wanted ((λ d k b e. last_reached y.number k log (Filled y.number range.bytes ∷ []) b
-      (filled_there y.number k range.bytes ∙ e)), tt)
+      rw wanted (
+        (λ d k b e. last_reached y.number k log (Filled y.number range.bytes ∷ []) b
+            (filled_there y.number k range.bytes ∙ e)),
+        tt,
+      )
 
   filled_spares : (x : Instance) (n k : ℕ) (range : Option (Range B)) → (x.number ≡ n → ⊥)
       → last_left n k (filled_with x.number range) ≡ None
@@ -147,6 +150,11 @@ module _ {B : Type 0} (l : Loads B) (xs : List (Owned B)) (log : List (Change B)
 abbrev pub IsBlock : {B : Type 0} → Owned B → Type 0
 IsBlock x = is_block x.owner.kind ≡ true
 
+pub blocks_left : {B : Type 0} (log : List (Change B)) (xs : List (Owned B)) → Each IsBlock xs → AreLeft log xs
+blocks_left log [] blocks = tt
+blocks_left log (x ∷ xs) blocks =
+    ((λ d. absurd (let e : true ≡ false = sym blocks.0 ∙ d in cc)), blocks_left log xs blocks.1)
+
 module _ {B : Type 0} (l : Loads B) (thread : ℕ) where
   one_block : (x : Instance) (bytes : Option (List B)) → Each IsBlock (block_with thread x bytes)
   one_block x None = tt
@@ -156,11 +164,6 @@ module _ {B : Type 0} (l : Loads B) (thread : ℕ) where
       → Each IsBlock (flat_map (block_after l thread reaches xs) ys)
   all_blocks reaches xs [] = tt
   all_blocks reaches xs (y ∷ ys) = each_append IsBlock (block_after l thread reaches xs y) _ (one_block y _) (all_blocks reaches xs ys)
-
-  blocks_left : (log : List (Change B)) (xs : List (Owned B)) → Each IsBlock xs → AreLeft log xs
-  blocks_left log [] blocks = tt
-  blocks_left log (x ∷ xs) blocks =
-      ((λ d. absurd (let e : true ≡ false = sym blocks.0 ∙ d in cc)), blocks_left log xs blocks.1)
 
 abbrev pub Numbered : {B : Type 0} → Loads B → List Event → Type 0
 Numbered l seen = HaveOwnNumbers (instances l seen)
@@ -174,7 +177,7 @@ module _ {W F B : Type 0} (l : Loads B) (thread : ℕ) where
       let blocks = all_blocks l thread reaches xs live in
       with_holds log h (held_of l thread reaches loads live xs)
       (blocks_apart (flat_map (block_after l thread reaches xs) live) _ blocks (all_apart l loads xs live own))
-      (each_append (IsLeft log) (flat_map (block_after l thread reaches xs) live) _ (blocks_left l thread log _ blocks)
+      (each_append (IsLeft log) (flat_map (block_after l thread reaches xs) live) _ (blocks_left log _ blocks)
       (data_all l loads xs log live each))
 
   -- ** looks

@@ -1,6 +1,6 @@
 -- The laws, of any threads, and of the machine's.
-use Rattle.std.proofs.Common.{◌≡◌, ◌++◌, ℕ, zero, suc, Bool, List, [], ◌∷◌, Option, Some, None, if◌then◌else◌, refl, sym, subst}
-use Rattle.std.specs.Prelude.{ok_or, slice_get}
+use Rattle.std.proofs.Common.{◌≡◌, ◌++◌, ℕ, suc, List, [], ◌∷◌, Some, None, if◌then◌else◌, refl}
+use Rattle.std.specs.Prelude.{ok_or}
 use Rattle.guest_arithmetic.specs.Plain.{plain_operations}
 use Rattle.guest_operands.specs.declared.space.Access.TheVariants.{Read}
 use Rattle.guest_machine.specs.Access.{Accesses, Refused}
@@ -13,14 +13,14 @@ use Rattle.job_meaning.specs.declared.values.Word.TheVariants.{Number}
 use Rattle.job_text.specs.declared.thread_lines.ThreadLine.{ThreadLine}
 use Rattle.module_table.specs.declared.events.Event.{Event}
 use Rattle.module_table.specs.History.{IsLegal}
-use Rattle.thread_blocks.specs.Held.{Held, Owner, data_bytes, owned}
+use Rattle.thread_blocks.specs.Held.{Held, Owner, owned}
 use Rattle.thread_blocks.specs.Instances.{Loads, fixed_at, instances}
 use Rattle.thread_blocks.specs.JobWorlds.{Shared, job_start, job_world, ready_from}
 use Rattle.thread_blocks.specs.Lines.{Line}
 use Rattle.thread_blocks.specs.MachineTurns.{pointer_word, stack_start}
-use Rattle.thread_blocks.specs.RunTime.{Runs, thread_accesses, thread_turns}
+use Rattle.thread_blocks.specs.RunTime.{thread_accesses, thread_turns}
 use Rattle.thread_blocks.specs.Spaces.{Space, stack_range}
-use Rattle.thread_blocks.specs.Turns.{Thread, Turns}
+use Rattle.thread_blocks.specs.Turns.{Turns}
 use Rattle.whole_meaning.specs.Jobs.{job_start as meant_start, meant_world, ready_from as ready_meant}
 use Rattle.whole_meaning.specs.Meanings.{Meaning}
 use Rattle.whole_meaning.specs.Threads.{meant_accesses, meant_turns, ops}

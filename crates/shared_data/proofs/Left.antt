@@ -1,7 +1,6 @@
 -- Data that hold what was left there last, and what a store makes of them.
-use Rattle.std.proofs.Common.{◌≡◌, ◌∙◌, ◌-◌, ◌==◌, ◌&&◌, ℕ, zero, suc, Bool, true, false, not, List, [], ◌∷◌, ◌++◌, Option, Some, None, if◌then◌else◌, refl, sym, ap, subst, inl, inr, arith}
-use Rattle.std.specs.Prelude.{slice_get, slice_set, option_map}
-use Rattle.std.specs.List.{find}
+use Rattle.std.proofs.Common.{◌≡◌, ◌∙◌, ◌-◌, ◌==◌, ℕ, Bool, true, false, not, List, [], ◌∷◌, ◌++◌, Some, None, if◌then◌else◌, refl, sym, ap, subst, inl, inr}
+use Rattle.std.specs.Prelude.{slice_get, slice_set}
 use Rattle.std.proofs.lemmas.Bool.{cases_eq, cases_Bool, and_parts, eqb-true}
 use Rattle.guest_operands.specs.declared.space.Access.TheVariants.{Write}
 use Rattle.guest_machine.specs.Ranges.{Range, grants, with_byte}
@@ -55,6 +54,7 @@ module _ {B : Type 0} where
           → last_left o.instance k (written_to kind n j b) ≡ None
       of_kind Block n j ne = refl
       of_kind Data n j ne = written_other n o.instance j k b (λ e. ne refl (sym e))
+
       by_grant : (g : Bool) → last_left o.instance k (written_in (owned os rs) place b) ≡ None
           → last_left o.instance k (if g then written_to p.kind p.instance (place - r.start) b else written_in (owned os rs) place b) ≡ None
       by_grant true rest = of_kind p.kind p.instance (place - r.start) (other.0 d)

@@ -1,5 +1,5 @@
 -- The events of a job are legal, whatever its threads hold.
-use Rattle.std.proofs.Common.{◌≡◌, ℕ, Bool, true, false, List, [], Option, Some, None, refl, subst}
+use Rattle.std.proofs.Common.{◌≡◌, ℕ, true, false, List, Option, Some, None, refl, subst}
 use Rattle.std.specs.Prelude.{is_none, option_and_then}
 use Rattle.job_text.specs.declared.thread_lines.Action.{Action}
 use Rattle.job_text.specs.declared.thread_lines.Action.TheVariants.{Call, Open, Close, Peek}

@@ -1,15 +1,11 @@
 -- A thread of the machine: its steps and its looks do with data what is told of them.
-use Rattle.std.proofs.Common.{◌≡◌, ◌∙◌, ◌++◌, ℕ, Bool, true, false, List, [], Option, Some, None, Result, Ok, Err, if◌then◌else◌, refl, sym, ap, subst}
-use Rattle.std.specs.Prelude.{is_none, slice_set}
-use Rattle.guest_arithmetic.specs.Cause.{used}
+use Rattle.std.proofs.Common.{◌≡◌, ◌++◌, ℕ, Bool, true, false, List, [], Option, Some, None, Result, Ok, Err, if◌then◌else◌, refl, sym, ap, subst}
+use Rattle.std.specs.Prelude.{is_none}
 use Rattle.guest_arithmetic.specs.Plain.{plain_operations}
-use Rattle.guest_arithmetic.specs.Values.{Operations}
-use Rattle.guest_operands.specs.declared.space.Access.TheVariants.{Write}
 use Rattle.guest_operands.specs.declared.state.State.{State}
 use Rattle.guest_operands.specs.declared.stop.Stop.{Stop}
 use Rattle.guest_machine.specs.Access.{Accesses, load_of}
 use Rattle.guest_machine.specs.Machine.{with_answer}
-use Rattle.guest_machine.specs.Ranges.{Range, grants, with_byte}
 use Rattle.guest_machine.specs.Run.{Next, Goes, Ends, Looks, is_look, machine, next_of}
 use Rattle.guest_machine.specs.Step.{return_of}
 use Rattle.guest_machine.specs.State.{at_place, with_stack}
@@ -19,20 +15,20 @@ use Rattle.module_table.specs.declared.events.Event.{Event}
 use Rattle.transcript_text.specs.declared.outcomes.LineFault.TheVariants.{Unloaded}
 use Rattle.transcript_text.specs.declared.outcomes.Outcome.TheVariants.{Fault}
 use Rattle.thread_blocks.specs.declared.asked.Asked.{Asked}
-use Rattle.thread_blocks.specs.Held.{Held, Owned, Owner, looked, owned, owned_by, reached}
+use Rattle.thread_blocks.specs.Held.{Owner, looked, owned_by, reached}
 use Rattle.thread_blocks.specs.Instances.{Loads, instance_with_id, is_startup_id, numbered_instance}
 use Rattle.thread_blocks.specs.MachineTurns.{stack_start}
 use Rattle.thread_blocks.specs.RunTime.{Runs, answer_word, answered, asked_at, asked_next, found_at_once, goes_answered, resume_line, resumed, resumed_by, resumed_in, shows, thread_accesses, thread_next, thread_steps, thread_turns}
-use Rattle.thread_blocks.specs.Spaces.{IsImage, Space, after_of, mapped, next_image, no_field, put_byte, space_accesses, stack_range}
-use Rattle.thread_blocks.specs.Turns.{Answered, Begun, Says, Calls}
+use Rattle.thread_blocks.specs.Spaces.{Space, after_of, next_image, no_field, put_byte, space_accesses}
+use Rattle.thread_blocks.specs.Turns.{Answered, Begun, Says}
 use Rattle.thread_blocks.proofs.Image.{machine_image}
-use Rattle.shared_data.specs.Changes.{Change, Noted, changed_by, noted_by, noting, unchanged, written_in}
+use Rattle.shared_data.specs.Changes.{Change, Noted, noted_by, noting, unchanged}
 use Rattle.shared_data.specs.Laws.{NotesFollow}
 use Rattle.shared_data.specs.Steps.{machine_changes}
 use Rattle.shared_data.proofs.Begins.{AreOwn, BegunHolds, begin_holds}
 use Rattle.shared_data.proofs.Held.{Holds, look_holds, reach_holds}
-use Rattle.shared_data.proofs.Last.{append_append, append_none}
-use Rattle.shared_data.proofs.Left.{Apart, AreLeft, written_left}
+use Rattle.shared_data.proofs.Last.{append_none}
+use Rattle.shared_data.proofs.Left.{AreLeft}
 use Rattle.shared_data.proofs.Noting.{Keeps, NotedHolds, Proved, noted_holds, noting_image, plain, proved_accesses, proved_image}
 use Rattle.shared_data.proofs.Turns.{NextHolds, TellAll}
 

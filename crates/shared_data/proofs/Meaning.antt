@@ -1,13 +1,12 @@
 -- A thread of the meaning: its steps and its looks do with data what is told of them.
-use Rattle.std.proofs.Common.{◌≡◌, ◌∙◌, ◌++◌, ℕ, zero, suc, Bool, true, false, List, [], ◌∷◌, Option, Some, None, Result, Ok, Err, if◌then◌else◌, refl, sym, ap, subst}
+use Rattle.std.proofs.Common.{◌≡◌, ◌++◌, ℕ, zero, suc, Bool, true, false, List, Option, Some, None, Result, Ok, Err, refl, sym, ap, subst}
 use Rattle.std.specs.Prelude.{option_map}
 use Rattle.amd64_subset.specs.declared.instr.Decoded.{Decoded}
 use Rattle.guest_arithmetic.specs.declared.cause.Cause.{Cause}
-use Rattle.guest_operands.specs.declared.frame.Frame.{Frame}
 use Rattle.guest_operands.specs.declared.state.State.{State}
 use Rattle.guest_operands.specs.declared.stop.Stop.{Stop}
 use Rattle.guest_machine.specs.Access.{Accesses, code_at, code_then, fetch_of, next_place}
-use Rattle.guest_machine.specs.Run.{Next, Goes, Ends, Looks, Stepping, next_of}
+use Rattle.guest_machine.specs.Run.{Next, Goes, Ends, Looks, next_of}
 use Rattle.guest_machine.specs.Step.{act}
 use Rattle.guest_machine.specs.State.{at_place, register_of}
 use Rattle.guest_machine.specs.Use.{◌>>=◌, After, clean, left, plus}
@@ -21,28 +20,26 @@ use Rattle.loaded_modules.specs.declared.instance.Instance.{Instance}
 use Rattle.module_table.specs.declared.events.Event.{Event}
 use Rattle.sequence_forms.specs.declared.forms.Form.{Form}
 use Rattle.sequence_forms.specs.declared.forms.Form.TheVariants.{Gd, Ld, IeMov, IeAdd, GdInd, LdInd, DescLea, DescCall}
-use Rattle.thread_blocks.specs.Held.{Held, Owner, looked, owned, owned_by, reached}
+use Rattle.thread_blocks.specs.Held.{Owner, looked, owned_by, reached}
 use Rattle.thread_blocks.specs.Instances.{numbered_instance}
-use Rattle.thread_blocks.specs.Lines.{Line}
 use Rattle.thread_blocks.specs.MachineTurns.{stack_start}
-use Rattle.thread_blocks.specs.Spaces.{IsImage, Space, after_of, mapped, next_image, put_byte, space_accesses}
-use Rattle.thread_blocks.specs.Turns.{Begun, Says, Calls}
+use Rattle.thread_blocks.specs.Spaces.{IsImage, mapped, put_byte, space_accesses}
 use Rattle.thread_blocks.proofs.Image.{act_image}
 use Rattle.whole_meaning.specs.declared.marks.Mark.{Mark}
 use Rattle.whole_meaning.specs.declared.sequences.Sequence.{Sequence}
 use Rattle.whole_meaning.specs.Fields.{address_at, lent, lent_frame, marked_frame}
 use Rattle.whole_meaning.specs.Meanings.{Meaning}
-use Rattle.whole_meaning.specs.Reading.{acted, done, marked_step, plain_step}
+use Rattle.whole_meaning.specs.Reading.{done, marked_step, plain_step}
 use Rattle.whole_meaning.specs.Running.{meaning, sequence_or}
 use Rattle.whole_meaning.specs.Sequences.{Stack, added, after_call, called_with, descriptor_called, descriptor_calls, does, looks_first, own_base, sequence_result, stack_use, variable_address, variable_distance, with_answer, with_sum, without_flags}
-use Rattle.whole_meaning.specs.Threads.{Meant, Memory, begin_meant, held_next, meant_accesses, meant_mark, meant_sequence, meant_shut, meant_show, meant_stack, meant_steps, meant_turns, ops, resume_meant, resumed, resumed_at, resumed_by, resumed_for, sequence_at, sequence_does, sequence_next}
-use Rattle.shared_data.specs.Changes.{Change, Noted, changed_by, noted_by, noting, unchanged}
+use Rattle.whole_meaning.specs.Threads.{Meant, Memory, begin_meant, held_next, meant_accesses, meant_mark, meant_shut, meant_show, meant_stack, meant_steps, meant_turns, ops, resume_meant, resumed, resumed_at, resumed_by, resumed_for, sequence_at, sequence_does, sequence_next}
+use Rattle.shared_data.specs.Changes.{Change, Noted, noted_by, noting, unchanged}
 use Rattle.shared_data.specs.Steps.{changes_at, meant_changes}
 use Rattle.shared_data.proofs.Begins.{AreOwn, BegunHolds, begin_holds}
 use Rattle.shared_data.proofs.Held.{Holds, look_holds, reach_holds}
 use Rattle.shared_data.proofs.Last.{append_none}
 use Rattle.shared_data.proofs.Left.{AreLeft}
-use Rattle.shared_data.proofs.Noting.{Keeps, Proved, plain, proved_accesses, proved_image}
+use Rattle.shared_data.proofs.Noting.{Keeps, Proved, plain, proved_accesses}
 use Rattle.shared_data.proofs.Turns.{NextHolds, TellAll}
 
 abbrev pub At : Type 0

@@ -1,5 +1,5 @@
 -- A memory that notes its stores keeps data as they were left.
-use Rattle.std.proofs.Common.{◌≡◌, ◌∙◌, ◌++◌, ℕ, Bool, true, false, List, [], if◌then◌else◌, refl, sym, subst}
+use Rattle.std.proofs.Common.{◌≡◌, ◌++◌, ℕ, Bool, true, false, List, [], if◌then◌else◌, refl, sym, subst}
 use Rattle.guest_operands.specs.declared.space.Access.TheVariants.{Write}
 use Rattle.guest_machine.specs.Access.{Accesses}
 use Rattle.guest_machine.specs.Ranges.{Range, grants, with_byte}
@@ -30,10 +30,12 @@ module _ {E B : Type 0} (stack : ℕ) (os : List Owner) (log : List (Change B)) 
   put_keeps noted place byte keeps =
       let space = noted.space in
       either_put (grants Write (stack_range stack space.stack) place) space _ noted.changes
-      (written_in (owned os space.own) place byte) (with_byte space.own place byte) keeps
-      (keeps.0, subst (λ (cs : List (Change B)). AreLeft cs (owned os (with_byte space.own place byte)))
-      (append_append log noted.changes (written_in (owned os space.own) place byte))
-      (written_left (log ++ noted.changes) os space.own place byte keeps.0 keeps.1))
+      (written_in (owned os space.own) place byte) (with_byte space.own place byte) keeps (
+        keeps.0,
+        subst (λ (cs : List (Change B)). AreLeft cs (owned os (with_byte space.own place byte)))
+            (append_append log noted.changes (written_in (owned os space.own) place byte))
+            (written_left (log ++ noted.changes) os space.own place byte keeps.0 keeps.1),
+      )
 
 module _ {E B : Type 0} (stack : ℕ) (os : List Owner) (acc : Accesses (Space E B) B) where
   pub noting_image : IsImage (noting stack os acc) acc (λ noted. noted.space)
@@ -62,10 +64,13 @@ module _ {E B : Type 0} (stack : ℕ) (os : List Owner) (acc : Accesses (Space E
     proved_accesses = record {
       byte = λ p place. acc.byte p.0.space place;
       writes = λ p place. acc.writes p.0.space place;
-      put = λ p place byte. (record {
-        space = acc.put p.0.space place byte;
-        changes = p.0.changes ++ changed_by stack os p.0.space place byte;
-      }, put_proved p place byte);
+      put = λ p place byte. (
+        record {
+          space = acc.put p.0.space place byte;
+          changes = p.0.changes ++ changed_by stack os p.0.space place byte;
+        },
+        put_proved p place byte,
+      );
       code = λ p place. acc.code p.0.space place;
     }
 

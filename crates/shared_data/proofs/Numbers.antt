@@ -1,5 +1,5 @@
 -- No two live instances of a legal history have one number.
-use Rattle.std.proofs.Common.{◌≡◌, ◌∙◌, ◌+◌, ◌<◌, ◌≤◌, ℕ, zero, suc, Bool, true, false, List, [], ◌∷◌, ◌++◌, get_or, Option, Some, None, refl, sym, ap, subst, inl, inr, arith}
+use Rattle.std.proofs.Common.{◌≡◌, ◌∙◌, ◌+◌, ℕ, suc, true, List, [], ◌∷◌, ◌++◌, get_or, Option, Some, None, refl, sym, ap, inl, inr, arith}
 use Rattle.std.specs.Prelude.{option_to_list}
 use Rattle.std.proofs.lemmas.Bool.{cases_eq}
 use Rattle.loaded_modules.specs.declared.instance.Instance.{Instance}
@@ -8,10 +8,10 @@ use Rattle.module_table.specs.declared.modules.Module.{Module}
 use Rattle.module_table.specs.declared.events.Event.{Event}
 use Rattle.module_table.specs.History.{IsLegal}
 use Rattle.module_table.specs.Modules.{is_loaded, no_module}
-use Rattle.module_table.specs.Past.{module_of, past}
+use Rattle.module_table.specs.Past.{past}
 use Rattle.module_table.proofs.LawsOfNumbers.{own_numbers}
 use Rattle.thread_blocks.specs.Instances.{Loads, instance_at, instances, instances_from, instances_in, loaded_instance}
-use Rattle.known_instances.proofs.Found.{instance_for, loaded_as}
+use Rattle.known_instances.proofs.Found.{loaded_as}
 use Rattle.shared_data.proofs.Held.{AreOne, HaveOwnNumbers}
 use Rattle.shared_data.proofs.Left.{Each}
 
@@ -78,6 +78,7 @@ module _ (infos : List ImageInfo) where
             omega (arith, none)),
         apart x e ys each.1,
       )
+
       first : (o : Option Instance) → loaded_instance infos image m ≡ o → HaveOwnNumbers (instances_from infos (suc image) ms)
           → HaveOwnNumbers (option_to_list o ++ instances_from infos (suc image) ms)
       first None e rest = rest

@@ -1,24 +1,20 @@
 -- All turns of a job leave the shared data as their changes say.
 use Rattle.std.proofs.Common.{◌≡◌, ◌∙◌, ◌++◌, ℕ, zero, suc, Bool, true, false, not, List, [], ◌∷◌, Option, Some, None, if◌then◌else◌, refl, sym, ap, subst}
-use Rattle.std.specs.Prelude.{is_some, slice_get, slice_set}
-use Rattle.std.specs.List.{filter, flat_map}
-use Rattle.std.specs.Option.{option_or}
-use Rattle.guest_machine.specs.Ranges.{Range}
+use Rattle.std.specs.List.{filter}
 use Rattle.guest_machine.specs.Run.{run, state_after}
-use Rattle.loaded_modules.specs.declared.instance.Instance.{Instance}
 use Rattle.module_table.specs.declared.events.Event.{Event}
 use Rattle.module_table.specs.History.{IsLegal}
-use Rattle.thread_blocks.specs.Held.{Held, Owned, block_after, data_after, data_with, fresh_data, is_block, looked, looked_at, owned_by, with_owned}
-use Rattle.thread_blocks.specs.Instances.{Loads, instances}
-use Rattle.thread_blocks.specs.JobWorlds.{Shared, blocks_in, changed, data_in, held_in, shared_order, shared_turn, with_data, without_data}
+use Rattle.thread_blocks.specs.Held.{Held, Owned, is_block, owned_by}
+use Rattle.thread_blocks.specs.Instances.{Loads}
+use Rattle.thread_blocks.specs.JobWorlds.{Shared, blocks_in, changed, held_in, shared_order, shared_turn, with_data, without_data}
 use Rattle.thread_blocks.specs.Lines.{Line, event_by}
 use Rattle.thread_blocks.specs.Turns.{Phase, Idle, Mid, Said, Thread, Turns, at_number, event_of, turn, with_number}
-use Rattle.shared_data.specs.Changes.{Change, Filled, last_left}
-use Rattle.shared_data.specs.Told.{begins, filled, filled_by, filled_with, first_filled, order_told, run_told, steps_of, steps_told, turn_filled, turn_told}
-use Rattle.shared_data.proofs.Held.{Holds, IsBlock, with_owned_by}
-use Rattle.shared_data.proofs.Last.{append_append, append_none, filled_there, last_reached, last_spared}
+use Rattle.shared_data.specs.Changes.{Change}
+use Rattle.shared_data.specs.Told.{begins, filled_by, order_told, run_told, steps_of, steps_told, turn_filled, turn_told}
+use Rattle.shared_data.proofs.Held.{Holds, IsBlock, blocks_left, with_owned_by}
+use Rattle.shared_data.proofs.Last.{append_append, append_none}
 use Rattle.shared_data.proofs.Left.{AreLeft, Each, IsLeft, each_append}
-use Rattle.shared_data.proofs.Legal.{are_own, legal_turn}
+use Rattle.shared_data.proofs.Legal.{legal_turn}
 use Rattle.shared_data.proofs.Turns.{TellAll, begins_hold, run_holds, turn_holds}
 
 -- ** lists
@@ -54,11 +50,6 @@ filter_each p (x ∷ xs) = either (p x) refl (filter_each p xs)
     either true e rest = (e, rest)
     either false e rest = rest
 
-blocks_are_left : {B : Type 0} (log : List (Change B)) (xs : List (Owned B)) → Each IsBlock xs → AreLeft log xs
-blocks_are_left log [] blocks = tt
-blocks_are_left log (x ∷ xs) blocks =
-    ((λ d. absurd (let e : true ≡ false = sym blocks.0 ∙ d in cc)), blocks_are_left log xs blocks.1)
-
 module _ {W F B : Type 0} where
   held_changed : (f : Held W F B → Held W F B) (phase : Phase (Held W F B)) → held_in (changed f phase) ≡ f (held_in phase)
   held_changed f (Idle h) = refl
@@ -73,7 +64,7 @@ module _ {W F B : Type 0} where
   taken_left log xs t blocks left =
       let held = owned_by (held_in t.phase) in
       subst (AreLeft log) (sym (ap (λ (h : Held W F B). owned_by h) (held_changed _ t.phase) ∙ with_owned_by (held_in t.phase) (held ++ xs)))
-      (each_append (IsLeft log) held xs (blocks_are_left log held blocks) left)
+      (each_append (IsLeft log) held xs (blocks_left log held blocks) left)
 
   put_blocks : (t : Thread (Held W F B) Line Event) → HoldsBlocks (without_data t)
   put_blocks t =

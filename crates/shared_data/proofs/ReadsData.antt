@@ -1,15 +1,14 @@
 -- What is read at a place of data is what was left there last.
-use Rattle.std.proofs.Common.{◌≡◌, ◌∙◌, ◌-◌, ◌<◌, ◌++◌, ◌&&◌, ℕ, zero, suc, Bool, true, false, List, [], ◌∷◌, length, Option, Some, None, Result, Ok, if◌then◌else◌, refl, sym, ap, subst, inl, inr, arith}
+use Rattle.std.proofs.Common.{◌≡◌, ◌∙◌, ◌-◌, ◌<◌, ◌++◌, ℕ, zero, suc, true, List, [], ◌∷◌, length, Option, Some, None, if◌then◌else◌, refl, sym, ap, subst, inl, inr, arith}
 use Rattle.std.specs.Prelude.{nat_le, nat_lt, ok_or, slice_get}
 use Rattle.std.proofs.lemmas.Bool.{and_parts, cases_Bool, ltb-true}
 use Rattle.guest_arithmetic.specs.Values.{Operations}
 use Rattle.guest_operands.specs.declared.space.Access.TheVariants.{Read}
-use Rattle.guest_machine.specs.Access.{Refusal, Refused}
+use Rattle.guest_machine.specs.Access.{Refused}
 use Rattle.guest_machine.specs.Ranges.{Range, allows, byte_in, grants, holds}
-use Rattle.thread_blocks.specs.Held.{Block, Data, Held, Kind, Owned, Owner, owned, owned_by}
+use Rattle.thread_blocks.specs.Held.{Block, Data, Kind, Owner, owned}
 use Rattle.thread_blocks.specs.Spaces.{Space, open_everywhere, space_accesses, stack_range}
-use Rattle.shared_data.specs.Changes.{Change, data_at, data_found, data_place, last_left}
-use Rattle.shared_data.proofs.Held.{Holds}
+use Rattle.shared_data.specs.Changes.{Change, data_found, data_place, last_left}
 use Rattle.shared_data.proofs.Left.{AreLeft, IsLeft}
 
 some_at : {B : Type 0} (xs : List B) (k : ℕ) → k < length xs → (b : B) × (slice_get xs k ≡ Some b)

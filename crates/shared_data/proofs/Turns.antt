@@ -1,7 +1,7 @@
 -- Turns leave data as their changes say.
-use Rattle.std.proofs.Common.{◌≡◌, ◌++◌, ◌-◌, ℕ, zero, suc, Bool, true, false, not, List, [], ◌∷◌, length, Option, Some, None, refl, sym, ap, subst}
+use Rattle.std.proofs.Common.{◌≡◌, ◌++◌, ◌-◌, ℕ, zero, suc, List, [], ◌∷◌, length, Option, Some, None, sym, subst}
 use Rattle.guest_operands.specs.declared.stop.Stop.{Stop}
-use Rattle.guest_machine.specs.Run.{Next, Goes, Ends, Looks, Outcome, Ended, Waits, Stepping, go_on, over_or, run, state_after}
+use Rattle.guest_machine.specs.Run.{Next, Goes, Ends, Looks, Outcome, Ended, Waits, go_on, over_or, run, state_after}
 use Rattle.module_table.specs.declared.events.Event.{Event}
 use Rattle.module_table.specs.History.{IsLegal}
 use Rattle.thread_blocks.specs.Held.{Held, owned_by}

@@ -69,14 +69,17 @@ module _ {W F B : Type 0} (l : Loads B) (x : ℕ → Turns (Held W F B) Line Eve
 
 -- ** the machine
 
--- of a job whose images' records are in order, with the events that its threads add
+-- what is known of the images is in order (`AreInfos`), before any event
+abbrev pub IsInOrder : {B : Type 0} → Loads B → Type 0
+IsInOrder l = IsLegal l.infos l.last_offset []
+
 abbrev pub MachineDataLast : Type 0
-MachineDataLast = (l : Loads ℕ) (fuel : ℕ) (lines : List (List ThreadLine)) → IsLegal l.infos l.last_offset []
+MachineDataLast = (l : Loads ℕ) (fuel : ℕ) (lines : List (List ThreadLine)) → IsInOrder l
     → DataLast l (λ thread. thread_turns l thread fuel) (λ thread. machine_changes l thread)
     (λ thread. thread_accesses l thread) (job_start l lines)
 
 abbrev pub MachineReadsLast : Type 0
-MachineReadsLast = (l : Loads ℕ) (fuel : ℕ) (lines : List (List ThreadLine)) → IsLegal l.infos l.last_offset []
+MachineReadsLast = (l : Loads ℕ) (fuel : ℕ) (lines : List (List ThreadLine)) → IsInOrder l
     → ReadsLast l (λ thread. thread_turns l thread fuel) (λ thread. machine_changes l thread)
     (λ thread. thread_accesses l thread) (job_start l lines)
 
@@ -97,12 +100,12 @@ NotesFollow = (l : Loads ℕ) (thread : ℕ) (owners : List Owner) (at : After �
 -- ** the meaning
 
 abbrev pub MeantDataLast : Type 0
-MeantDataLast = (m : Meaning) (fuel : ℕ) (lines : List (List ThreadLine)) → IsLegal m.loads.infos m.loads.last_offset []
+MeantDataLast = (m : Meaning) (fuel : ℕ) (lines : List (List ThreadLine)) → IsInOrder m.loads
     → DataLast m.loads (λ thread. meant_turns m thread fuel) (λ thread. meant_changes m thread)
     (λ thread. meant_accesses m thread) (meant_start m lines)
 
 abbrev pub MeantReadsLast : Type 0
-MeantReadsLast = (m : Meaning) (fuel : ℕ) (lines : List (List ThreadLine)) → IsLegal m.loads.infos m.loads.last_offset []
+MeantReadsLast = (m : Meaning) (fuel : ℕ) (lines : List (List ThreadLine)) → IsInOrder m.loads
     → ReadsLast m.loads (λ thread. meant_turns m thread fuel) (λ thread. meant_changes m thread)
     (λ thread. meant_accesses m thread) (meant_start m lines)
 
