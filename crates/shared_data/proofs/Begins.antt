@@ -56,7 +56,8 @@ module _ {W F B : Type 0} (ops : Operations W F B) (l : Loads B) (show : List B 
       → AreOwn l (with_event seen (unless_refused refusal (event_at thread line.number true line.told.image))) → Holds log h
       → BegunHolds (log ++ filled_by l seen (unless_refused refusal (event_at thread line.number true line.told.image)))
       (begun_open ops l show thread line seen h refusal)
-  open_holds log line seen h (Some refusal) own holds = subst (λ (cs : List (Change B)). Holds cs h) (sym (append_none log)) holds
+  open_holds log line seen h (Some refusal) own holds =
+      subst (λ (cs : List (Change B)). Holds cs h) (sym (append_none log)) holds
   open_holds log line seen h None own holds =
       let all = with_last seen (event_at thread line.number true line.told.image) in
       with_load_holds log (is_loaded (module_of (left_by l seen) line.told.image)) (instance_at l all line.told.image)
@@ -67,7 +68,8 @@ module _ {W F B : Type 0} (ops : Operations W F B) (l : Loads B) (show : List B 
       → AreOwn l (with_event seen (unless_refused refusal (event_at thread line.number false line.told.image))) → Holds log h
       → BegunHolds (log ++ filled_by l seen (unless_refused refusal (event_at thread line.number false line.told.image)))
       (begun_close ops l show thread line seen h refusal)
-  close_holds log line seen h (Some refusal) own holds = subst (λ (cs : List (Change B)). Holds cs h) (sym (append_none log)) holds
+  close_holds log line seen h (Some refusal) own holds =
+      subst (λ (cs : List (Change B)). Holds cs h) (sym (append_none log)) holds
   close_holds log line seen h None own holds =
       let all = with_last seen (event_at thread line.number false line.told.image) in
       subst (λ (cs : List (Change B)). Holds cs (looked l thread all h)) (sym (append_none log))
@@ -95,7 +97,8 @@ module _ {W F B : Type 0} (ops : Operations W F B) (l : Loads B) (show : List B 
       → BegunHolds log (begun_peek ops l show thread line symbol size h x)
   peek_holds log line symbol size h None own holds = holds
   peek_holds log line symbol size h (Some x) own holds =
-      shown_holds log (reached l thread x h) size x (l.variable line.told.image symbol) (reach_holds l thread log x h own holds.1)
+      shown_holds log (reached l thread x h) size x (l.variable line.told.image symbol)
+      (reach_holds l thread log x h own holds.1)
 
   by_holds : (log : List (Change B)) (number image : ℕ) (action : Action) (seen : List Event) (h : Held W F B)
       → let line : Line = record { number = number; told = record { image = image; action = action } } in
@@ -110,7 +113,8 @@ module _ {W F B : Type 0} (ops : Operations W F B) (l : Loads B) (show : List B 
       close_holds log (record { number = number; told = record { image = image; action = Close } }) seen h
       (close_refusal (left_by l seen) image) next holds
   by_holds log number image (Peek symbol size) seen h own next holds =
-      none_filled log _ (peek_holds log (record { number = number; told = record { image = image; action = Peek symbol size } })
+      none_filled log _ (peek_holds log
+      (record { number = number; told = record { image = image; action = Peek symbol size } })
       symbol size h (instance_at l seen image) own holds)
 
   -- the law: a line's first look, at these events and its own

@@ -39,7 +39,8 @@ module _ {B : Type 0} (l : Loads B) where
       → AreLeft (filled_with x.number range ++ more) (data_with x range (option_or (fresh_data range true) None))
   first_left x None more none = tt
   first_left x (Some range) more none = (
-    (λ d k b e. last_spared x.number k (Filled x.number range.bytes ∷ []) more (none k) ∙ (filled_there x.number k range.bytes ∙ e)),
+    (λ d k b e. last_spared x.number k (Filled x.number range.bytes ∷ []) more (none k) ∙
+        (filled_there x.number k range.bytes ∙ e)),
     tt,
   )
 
@@ -54,7 +55,8 @@ module _ {B : Type 0} (l : Loads B) where
 
   -- ** blocks
 
-  no_data : (x : Instance) (range : Option (Range B)) → Each IsBlock (data_with x range (option_or (fresh_data range false) None))
+  no_data : (x : Instance) (range : Option (Range B))
+      → Each IsBlock (data_with x range (option_or (fresh_data range false) None))
   no_data x None = tt
   no_data x (Some range) = tt
 

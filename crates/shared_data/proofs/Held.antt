@@ -104,7 +104,8 @@ module _ {B : Type 0} (l : Loads B) (xs : List (Owned B)) (log : List (Change B)
       data_left l loads xs (log ++ more) y (l.shared y) _ (λ bs e k b at.
       last_spared y.number k log more (none k)
       ∙ found_left log xs y.number bs
-      (ap (λ (o : Option (List B)). option_or o (data_bytes y.number xs)) (sym (fresh_none (l.shared y) (loads y) unwanted)) ∙ e)
+      (ap (λ (o : Option (List B)). option_or o (data_bytes y.number xs)) (sym (fresh_none (l.shared y)
+      (loads y) unwanted)) ∙ e)
       left k b at)
 
   -- data that the loader fills
@@ -163,7 +164,8 @@ module _ {B : Type 0} (l : Loads B) (thread : ℕ) where
   pub all_blocks : (reaches : Instance → Bool) (xs : List (Owned B)) (ys : List Instance)
       → Each IsBlock (flat_map (block_after l thread reaches xs) ys)
   all_blocks reaches xs [] = tt
-  all_blocks reaches xs (y ∷ ys) = each_append IsBlock (block_after l thread reaches xs y) _ (one_block y _) (all_blocks reaches xs ys)
+  all_blocks reaches xs (y ∷ ys) =
+      each_append IsBlock (block_after l thread reaches xs y) _ (one_block y _) (all_blocks reaches xs ys)
 
 abbrev pub Numbered : {B : Type 0} → Loads B → List Event → Type 0
 Numbered l seen = HaveOwnNumbers (instances l seen)
@@ -201,5 +203,6 @@ module _ {W F B : Type 0} (l : Loads B) (thread : ℕ) where
       → Holds (log ++ filled l x) (loaded l thread x h)
   unfolding loaded_at
   load_holds log x h own one left =
-      held_holds (log ++ filled l x) h (λ y. false) (λ y. y.number == x.number) (instances l h.after.memory.seen) (owned_by h) own
+      held_holds (log ++ filled l x) h (λ y. false) (λ y. y.number == x.number) (instances l h.after.memory.seen)
+      (owned_by h) own
       (load_each l (owned_by h) log left x (instances l h.after.memory.seen) one)

@@ -15,17 +15,20 @@ or_or (Some a) y z = refl
 
 module _ {B : Type 0} where
   -- of changes behind others, the later count first
-  pub last_append : (n k : ℕ) (xs ys : List (Change B)) → last_left n k (xs ++ ys) ≡ option_or (last_left n k ys) (last_left n k xs)
+  pub last_append : (n k : ℕ) (xs ys : List (Change B))
+      → last_left n k (xs ++ ys) ≡ option_or (last_left n k ys) (last_left n k xs)
   last_append n k [] ys = sym (or_none (last_left n k ys))
   last_append n k (x ∷ xs) ys =
       ap (λ (o : Option B). option_or o (left_by n k x)) (last_append n k xs ys)
       ∙ or_or (last_left n k ys) (last_left n k xs) (left_by n k x)
 
   -- changes that do not reach it
-  pub last_spared : (n k : ℕ) (xs ys : List (Change B)) → last_left n k ys ≡ None → last_left n k (xs ++ ys) ≡ last_left n k xs
+  pub last_spared : (n k : ℕ) (xs ys : List (Change B)) → last_left n k ys ≡ None
+      → last_left n k (xs ++ ys) ≡ last_left n k xs
   last_spared n k xs ys e = last_append n k xs ys ∙ ap (λ (o : Option B). option_or o (last_left n k xs)) e
 
-  pub last_reached : (n k : ℕ) (xs ys : List (Change B)) (b : B) → last_left n k ys ≡ Some b → last_left n k (xs ++ ys) ≡ Some b
+  pub last_reached : (n k : ℕ) (xs ys : List (Change B)) (b : B) → last_left n k ys ≡ Some b
+      → last_left n k (xs ++ ys) ≡ Some b
   last_reached n k xs ys b e = last_append n k xs ys ∙ ap (λ (o : Option B). option_or o (last_left n k xs)) e
 
   pub append_none : (xs : List (Change B)) → xs ++ [] ≡ xs

@@ -56,7 +56,8 @@ module _ {B : Type 0} where
       of_kind Data n j ne = written_other n o.instance j k b (λ e. ne refl (sym e))
 
       by_grant : (g : Bool) → last_left o.instance k (written_in (owned os rs) place b) ≡ None
-          → last_left o.instance k (if g then written_to p.kind p.instance (place - r.start) b else written_in (owned os rs) place b) ≡ None
+          → last_left o.instance k
+          (if g then written_to p.kind p.instance (place - r.start) b else written_in (owned os rs) place b) ≡ None
       by_grant true rest = of_kind p.kind p.instance (place - r.start) (other.0 d)
       by_grant false rest = rest
 
@@ -82,8 +83,11 @@ module _ {B : Type 0} where
       → AreLeft log (owned (record { kind = kind; instance = n } ∷ os) (r ∷ rs))
       → AreLeft (log ++ written_to kind n j b)
       (owned (record { kind = kind; instance = n } ∷ os) (record r { bytes = slice_set r.bytes j b } ∷ rs))
-  hit log Block n j b r os rs other left =
-      (λ d. absurd (let e : true ≡ false = d in cc), subst (λ (cs : List (Change B)). AreLeft cs (owned os rs)) (sym (append_none log)) left.1)
+  hit log Block n j b r os rs other left = (
+    λ d. absurd (let e : true ≡ false = d in cc),
+    subst (λ (cs : List (Change B)). AreLeft cs (owned os rs)) (sym
+        (append_none log)) left.1,
+  )
   hit log Data n j b r os rs other left = (now, rest_spared log n j b os rs other left.1)
     where
       now : IsLeft (log ++ Written n j b ∷ []) (record { owner = record { kind = Data; instance = n }; range = record r { bytes = slice_set r.bytes j b } })
@@ -110,11 +114,14 @@ module _ {B : Type 0} where
       (λ k d. spared o os rs place k b d apart.0)) (written_left log os rs place b apart.1 left.1)
     where
       by_grant : (g : Bool)
-          → AreLeft (log ++ written_to o.kind o.instance (place - r.start) b) (owned (o ∷ os) (record r { bytes = slice_set r.bytes (place - r.start) b } ∷ rs))
+          → AreLeft (log ++ written_to o.kind o.instance (place - r.start) b) (owned (o ∷ os)
+          (record r { bytes = slice_set r.bytes (place - r.start) b } ∷ rs))
           → IsLeft (log ++ written_in (owned os rs) place b) (record { owner = o; range = r })
           → AreLeft (log ++ written_in (owned os rs) place b) (owned os (with_byte rs place b))
-          → AreLeft (log ++ (if g then written_to o.kind o.instance (place - r.start) b else written_in (owned os rs) place b))
-          (owned (o ∷ os) (if g then record r { bytes = slice_set r.bytes (place - r.start) b } ∷ rs else r ∷ with_byte rs place b))
+          → AreLeft
+          (log ++ (if g then written_to o.kind o.instance (place - r.start) b else written_in (owned os rs) place b))
+          (owned (o ∷ os)
+          (if g then record r { bytes = slice_set r.bytes (place - r.start) b } ∷ rs else r ∷ with_byte rs place b))
       by_grant true h one rest = h
       by_grant false h one rest = (one, rest)
 

@@ -72,17 +72,20 @@ module _ (l : Loads ℕ) (thread : ℕ) where
   ResultKeeps log os (Ok at) = Keeps log os at.memory
   ResultKeeps log os (Err stop) = Unit {0}
 
-  then_keeps : {A : Type 0} (log : List (Change ℕ)) (os : List Owner) (r : Result A Stop) (f : A → Result (After ℕ Bool (Space Event ℕ)) Stop)
+  then_keeps : {A : Type 0} (log : List (Change ℕ)) (os : List Owner) (r : Result A Stop)
+      (f : A → Result (After ℕ Bool (Space Event ℕ)) Stop)
       → ((a : A) → ResultKeeps log os (f a)) → ResultKeeps log os (r >>= f)
   then_keeps log os (Ok a) f h = h a
   then_keeps log os (Err stop) f h = tt
 
   -- a return changes no memory
-  return_keeps : (log : List (Change ℕ)) (os : List Owner) (state : State ℕ Bool) (memory : Space Event ℕ) → Keeps log os memory
+  return_keeps : (log : List (Change ℕ)) (os : List Owner) (state : State ℕ Bool) (memory : Space Event ℕ)
+      → Keeps log os memory
       → ResultKeeps log os (return_of plain_operations acc state memory)
   unfolding return_of
   return_keeps log os state memory keeps =
-      let to : ℕ → ℕ → State ℕ Bool = λ stack place. at_place (with_stack state (plain_operations.word (plus stack 8))) place in
+      let to : ℕ → ℕ → State ℕ Bool = λ stack place.
+      at_place (with_stack state (plain_operations.word (plus stack 8))) place in
       let jumps : ℕ → ℕ → Result (After ℕ Bool (Space Event ℕ)) Stop = λ stack word.
       clean state.place (plain_operations.number_of word) >>= λ place. Ok (left (to stack place) memory) in
       then_keeps log os (clean state.place (plain_operations.number_of state.registers.rsp))
@@ -178,7 +181,8 @@ module _ (l : Loads ℕ) (thread : ℕ) where
   either_begun log true x y f g = f
   either_begun log false x y f g = g
 
-  resumed_by_holds : (log : List (Change ℕ)) (seen : List Event) (h : Runs) (asked : Option Asked) → AreOwn l h.after.memory.seen
+  resumed_by_holds : (log : List (Change ℕ)) (seen : List Event) (h : Runs) (asked : Option Asked)
+      → AreOwn l h.after.memory.seen
       → Holds log h → BegunHolds log (resumed_by l thread seen h asked)
   resumed_by_holds log seen h None own holds = holds
   resumed_by_holds log seen h (Some asked) own holds =
@@ -198,7 +202,8 @@ module _ (l : Loads ℕ) (thread : ℕ) where
   unfolding thread_turns
   machine_tells fuel = record {
     step = λ log h holds. step_holds log h holds;
-    begin = λ log line seen h own next kept. begin_holds plain_operations l (shows l thread) thread log line seen h own next kept;
+    begin = λ log line seen h own next kept.
+        begin_holds plain_operations l (shows l thread) thread log line seen h own next kept;
     resume = λ log seen h own kept. resume_holds log seen h own kept;
   }
 

@@ -52,7 +52,8 @@ module _ (m : Meaning) (thread : ℕ) where
   abbrev acc : Accesses Memory Byte
   acc = meant_accesses m thread
 
-  puts : (space : Memory) (place : ℕ) (byte : Byte) → acc.put space place byte ≡ put_byte (stack_start thread) space place byte
+  puts : (space : Memory) (place : ℕ) (byte : Byte)
+      → acc.put space place byte ≡ put_byte (stack_start thread) space place byte
   unfolding meant_accesses space_accesses
   puts space place byte = refl
 
@@ -65,13 +66,16 @@ module _ (m : Meaning) (thread : ℕ) where
   code_noted os (suc size) noted place =
       ap (code_then (acc.code noted.space place)) (code_noted os size noted (next_place place))
 
-  fetch_noted : (os : List Owner) (noted : Noted Event Byte) (place : ℕ) → fetch_of (noter os) noted place ≡ fetch_of acc noted.space place
+  fetch_noted : (os : List Owner) (noted : Noted Event Byte) (place : ℕ)
+      → fetch_of (noter os) noted place ≡ fetch_of acc noted.space place
   unfolding fetch_of
   fetch_noted os noted place = code_noted os 15 noted place
 
   -- also with a word lent
-  lent_space : (os : List Owner) (number : Option ℕ) → IsImage (lent ops (noter os) number) (lent ops acc number) (λ noted. noted.space)
-  lent_space os None = record { byte = λ p place. refl; writes = λ p place. refl; put = λ p place byte. refl; code = λ p place. refl }
+  lent_space : (os : List Owner) (number : Option ℕ)
+      → IsImage (lent ops (noter os) number) (lent ops acc number) (λ noted. noted.space)
+  lent_space os None =
+      record { byte = λ p place. refl; writes = λ p place. refl; put = λ p place byte. refl; code = λ p place. refl }
   lent_space os (Some number) =
       record { byte = λ p place. refl; writes = λ p place. refl; put = λ p place byte. refl; code = λ p place. refl }
 
@@ -109,7 +113,8 @@ module _ (m : Meaning) (thread : ℕ) where
     lender = proved_accesses (stack_start thread) os acc log puts
 
     lent_proved : (number : Option ℕ) → IsImage (lent ops lender number) (lent ops (noter os) number) bare
-    lent_proved None = record { byte = λ p place. refl; writes = λ p place. refl; put = λ p place byte. refl; code = λ p place. refl }
+    lent_proved None =
+        record { byte = λ p place. refl; writes = λ p place. refl; put = λ p place byte. refl; code = λ p place. refl }
     lent_proved (Some number) =
         record { byte = λ p place. refl; writes = λ p place. refl; put = λ p place byte. refl; code = λ p place. refl }
 
@@ -175,7 +180,11 @@ module _ (m : Meaning) (thread : ℕ) where
       (marked_step ops acc mark shut at.state at.memory)
   unfolding marked_step
   marked_keeps log os mark shut at keeps =
-      let fine : Fine log os = (unchanged at.memory, subst (λ (cs : List (Change Byte)). Keeps cs os at.memory) (sym (append_none log)) keeps) in
+      let fine : Fine log os = (
+        unchanged at.memory,
+        subst (λ (cs : List (Change Byte)). Keeps cs os at.memory) (sym
+            (append_none log)) keeps,
+      ) in
       let noted = plain_step ops (noter os) mark at.state (unchanged at.memory) in
       beside_keeps (log ++ noted_by (next_of noted)) os _ at.state.place (plain_step ops acc mark at.state at.memory)
       (subst (ResultKeeps (log ++ noted_by (next_of noted)) os) (sym (plain_space os mark at.state (unchanged at.memory)))
@@ -236,7 +245,8 @@ module _ (m : Meaning) (thread : ℕ) where
 
   either_keeps : (log : List (Change Byte)) (h : Meant) (s : Option Sequence) → Holds log h
       → NextKeeps (log ++ changes_at m thread s h) h.owners (sequence_or (option_map (sequence_next m thread h.after) s)
-      (next_of (marked_step ops acc (meant_mark m thread h.after.memory) (meant_shut m thread h.after.memory) h.after.state h.after.memory)))
+      (next_of (marked_step ops acc (meant_mark m thread h.after.memory)
+      (meant_shut m thread h.after.memory) h.after.state h.after.memory)))
   either_keeps log h None holds =
       next_keeps (log ++ changes_at m thread None h) h.owners _
       (marked_keeps log h.owners (meant_mark m thread h.after.memory) (meant_shut m thread h.after.memory) h.after holds)
@@ -294,6 +304,7 @@ module _ (m : Meaning) (thread : ℕ) where
   unfolding meant_turns begin_meant
   meant_tells fuel = record {
     step = λ log h holds. step_holds log h holds;
-    begin = λ log line seen h own next kept. begin_holds ops m.loads (meant_show m thread line seen) thread log line seen h own next kept;
+    begin = λ log line seen h own next kept.
+        begin_holds ops m.loads (meant_show m thread line seen) thread log line seen h own next kept;
     resume = λ log seen h own kept. resume_holds log seen h own kept;
   }

@@ -26,7 +26,8 @@ module _ {E B : Type 0} (stack : ℕ) (os : List Owner) (log : List (Change B)) 
 
   -- a store keeps what is noted
   pub put_keeps : (noted : Noted E B) (place : ℕ) (byte : B) → Keeps (log ++ noted.changes) os noted.space
-      → Keeps (log ++ (noted.changes ++ changed_by stack os noted.space place byte)) os (put_byte stack noted.space place byte)
+      → Keeps (log ++ (noted.changes ++ changed_by stack os noted.space place byte)) os
+      (put_byte stack noted.space place byte)
   put_keeps noted place byte keeps =
       let space = noted.space in
       either_put (grants Write (stack_range stack space.stack) place) space _ noted.changes
@@ -46,7 +47,8 @@ module _ {E B : Type 0} (stack : ℕ) (os : List Owner) (acc : Accesses (Space E
     code = λ noted place. refl;
   }
 
-  module _ (log : List (Change B)) (puts : (space : Space E B) (place : ℕ) (byte : B) → acc.put space place byte ≡ put_byte stack space place byte) where
+  module _ (log : List (Change B))
+      (puts : (space : Space E B) (place : ℕ) (byte : B) → acc.put space place byte ≡ put_byte stack space place byte) where
     -- a noting memory with a proof that it keeps what it notes
     abbrev pub Proved : Type 0
     Proved = (noted : Noted E B) × Keeps (log ++ noted.changes) os noted.space

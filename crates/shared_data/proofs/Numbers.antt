@@ -20,7 +20,8 @@ module _ (infos : List ImageInfo) where
   abbrev StandsAt : ℕ → List Module → Instance → Type 0
   StandsAt image ms x = (a : ℕ) × (loaded_instance infos (image + a) (get_or ms a no_module) ≡ Some x)
 
-  at_later : (image : ℕ) (m : Module) (ms : List Module) (x : Instance) → StandsAt (suc image) ms x → StandsAt image (m ∷ ms) x
+  at_later : (image : ℕ) (m : Module) (ms : List Module) (x : Instance) → StandsAt (suc image) ms x
+      → StandsAt image (m ∷ ms) x
   at_later image m ms x at =
       (suc at.0, ap (λ (i : ℕ). loaded_instance infos i (get_or ms at.0 no_module)) (omega arith) ∙ at.1)
 
@@ -42,7 +43,8 @@ module _ (infos : List ImageInfo) where
 
   -- images with the same number are one image
   abbrev OwnNumbers : List Module → Type 0
-  OwnNumbers ms = (a b : ℕ) → (a ≡ b → ⊥) → is_loaded (get_or ms a no_module) ≡ true → is_loaded (get_or ms b no_module) ≡ true
+  OwnNumbers ms =
+      (a b : ℕ) → (a ≡ b → ⊥) → is_loaded (get_or ms a no_module) ≡ true → is_loaded (get_or ms b no_module) ≡ true
       → (get_or ms a no_module).instance ≡ (get_or ms b no_module).instance → ⊥
 
   -- two modules whose instances have one number
@@ -67,7 +69,8 @@ module _ (infos : List ImageInfo) where
   own_from image (m ∷ ms) own =
       first (loaded_instance infos image m) refl (own_from (suc image) ms (rest_own m ms own))
     where
-      apart : (x : Instance) → loaded_instance infos image m ≡ Some x → (xs : List Instance) → Each (StandsAt (suc image) ms) xs
+      apart : (x : Instance) → loaded_instance infos image m ≡ Some x → (xs : List Instance)
+          → Each (StandsAt (suc image) ms) xs
           → Each (λ (y : Instance). x.number ≡ y.number → ⊥) xs
       apart x e [] each = tt
       apart x e (y ∷ ys) each = (
@@ -109,5 +112,6 @@ module _ {B : Type 0} (l : Loads B) (seen : List Event) (legal : IsLegal l.infos
   image_one image x e =
       one_from l.infos (past l.infos l.last_offset seen).modules
       (λ a b ne ta tb s. (own_numbers l.infos l.last_offset seen legal a b ne ta tb).0 s) image x
-      (ap (λ (i : ℕ). loaded_instance l.infos i (get_or (past l.infos l.last_offset seen).modules image no_module)) (omega arith) ∙ e)
+      (ap (λ (i : ℕ). loaded_instance l.infos i (get_or (past l.infos l.last_offset seen).modules image no_module))
+      (omega arith) ∙ e)
       (instances l seen) (all_stand l.infos 0 (past l.infos l.last_offset seen).modules)

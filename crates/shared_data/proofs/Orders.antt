@@ -59,17 +59,20 @@ module _ {W F B : Type 0} where
   abbrev pub HoldsBlocks : Thread (Held W F B) Line Event → Type 0
   HoldsBlocks t = Each IsBlock (owned_by (held_in t.phase))
 
-  taken_left : (log : List (Change B)) (xs : List (Owned B)) (t : Thread (Held W F B) Line Event) → HoldsBlocks t → AreLeft log xs
+  taken_left : (log : List (Change B)) (xs : List (Owned B)) (t : Thread (Held W F B) Line Event) → HoldsBlocks t
+      → AreLeft log xs
       → AreLeft log (owned_by (held_in (with_data xs t).phase))
   taken_left log xs t blocks left =
       let held = owned_by (held_in t.phase) in
-      subst (AreLeft log) (sym (ap (λ (h : Held W F B). owned_by h) (held_changed _ t.phase) ∙ with_owned_by (held_in t.phase) (held ++ xs)))
+      subst (AreLeft log) (sym (ap (λ (h : Held W F B). owned_by h) (held_changed _ t.phase)
+      ∙ with_owned_by (held_in t.phase) (held ++ xs)))
       (each_append (IsLeft log) held xs (blocks_left log held blocks) left)
 
   put_blocks : (t : Thread (Held W F B) Line Event) → HoldsBlocks (without_data t)
   put_blocks t =
       let held = owned_by (held_in t.phase) in
-      subst (Each IsBlock) (sym (ap (λ (h : Held W F B). owned_by h) (held_changed _ t.phase) ∙ with_owned_by (held_in t.phase) (blocks_in held)))
+      subst (Each IsBlock) (sym (ap (λ (h : Held W F B). owned_by h) (held_changed _ t.phase)
+      ∙ with_owned_by (held_in t.phase) (blocks_in held)))
       (filter_each (λ (o : Owned B). is_block o.owner.kind) held)
 
   -- a job whose data are as they were left

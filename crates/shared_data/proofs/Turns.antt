@@ -105,7 +105,8 @@ module _ {W F B : Type 0} (l : Loads B) (thread : ℕ) (x : Turns (Held W F B) L
   turn_in log [] (Idle h) said old seen legal left =
       subst (λ (cs : List (Change B)). AreLeft cs (owned_by h)) (sym (append_none log)) left
   turn_in log (line ∷ todo) (Idle h) said old seen legal left =
-      look_in log (filled_by l seen (event_by l thread line seen)) x.fuel todo said seen (length seen ∷ []) (x.begin line seen h)
+      look_in log (filled_by l seen (event_by l thread line seen)) x.fuel todo said seen (length seen ∷ [])
+      (x.begin line seen h)
       (tell.begin log line seen h (are_own l seen legal) (are_own l _ (legal_turn l thread
       (record { todo = line ∷ todo; phase = Idle h; said = said; seen = old }) seen legal)) left)
   turn_in log [] (Mid steps points h) said old seen legal left =

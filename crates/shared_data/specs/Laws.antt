@@ -1,5 +1,5 @@
--- Each byte of shared data is the one that the last write before it, in the order of turns, left there, or the first that
--- the loader put there: of the machine's threads, and of what they mean.
+-- Each byte of shared data is the one that the last write before it, in the order of turns, left there, or the first
+-- that the loader put there: of the machine's threads, and of what they mean.
 use Rattle.std.specs.Prelude.{◌≡◌, ℕ, ◌*◌, ◌++◌, Bool, List, [], slice_get, ok_or, Option, Some}
 use Rattle.guest_arithmetic.specs.Plain.{plain_operations}
 use Rattle.guest_operands.specs.declared.state.State.{State}
@@ -55,8 +55,8 @@ module _ {W F B : Type 0} (l : Loads B) (x : ℕ → Turns (Held W F B) Line Eve
   abbrev pub DataLast : Type 0
   DataLast = (order : List ℕ) → AreLastLeft (told_at order) (at_order order).shared
 
-  -- and after any turns, and any steps of another: what a thread reads at a place of an instance's data is what was left
-  -- there last
+  -- and after any turns, and any steps of another: what a thread reads at a place of an instance's data is what was
+  -- left there last
   abbrev pub ReadsLast : Type 0
   ReadsLast = (order : List ℕ) (thread : ℕ) (t : Thread (Held W F B) Line Event) (from : ℕ × Held W F B) (steps : ℕ)
       → at_number (at_order order).threads thread ≡ Some t

@@ -1,4 +1,5 @@
--- What a step of a thread changes, of the machine and of the meaning: the same step over a memory that notes its stores.
+-- What a step of a thread changes, of the machine and of the meaning: the same step over a memory that notes what is
+-- stored.
 use Rattle.std.specs.Prelude.{ℕ, List, [], Option, Some, None}
 use Rattle.guest_arithmetic.specs.Plain.{plain_operations}
 use Rattle.guest_machine.specs.Run.{next_of, machine}
@@ -29,7 +30,8 @@ module _ (m : Meaning) (thread : ℕ) where
   abbrev pub changes_at : Option Sequence → Meant → List (Change Byte)
   changes_at (Some s) h = []
   changes_at None h = noted_by (next_of (plain_step ops
-      (noting (stack_start thread) h.owners (meant_accesses m thread)) (meant_mark m thread h.after.memory) h.after.state
+      (noting (stack_start thread) h.owners (meant_accesses m thread))
+      (meant_mark m thread h.after.memory) h.after.state
       (unchanged h.after.memory)))
 
   abbrev pub meant_changes : Meant → List (Change Byte)
