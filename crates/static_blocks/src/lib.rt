@@ -25,7 +25,8 @@
 //!
 //! The proof follows the list of what a thread holds: a block of each live instance, in their order, and data behind
 //! (`proofs/Shapes`). Looks and writes keep that shape (`proofs/Keeping`). No two of these blocks share an address
-//! (`proofs/Live`): static ones by the laws of `module_table`, and any other lies far below them.
+//! (`proofs/Live`): static ones by the laws of `module_table`, and any other lies far below them. Which instance a number
+//! stands for, in all of a history, and that its block ends below the thread pointer, `known_instances` says.
 #![tactic(auto)]
 
 pub mod laws;

@@ -1,0 +1,161 @@
+-- The laws, of any threads, and of the machine's.
+use Rattle.std.proofs.Common.{◌≡◌, ◌++◌, ℕ, suc, List, [], ◌∷◌, Some, None, if◌then◌else◌, refl}
+use Rattle.std.specs.Prelude.{ok_or}
+use Rattle.guest_arithmetic.specs.Plain.{plain_operations}
+use Rattle.guest_operands.specs.declared.space.Access.TheVariants.{Read}
+use Rattle.guest_machine.specs.Access.{Accesses, Refused}
+use Rattle.guest_machine.specs.Ranges.{grants}
+use Rattle.guest_machine.specs.Run.{run, state_after}
+use Rattle.guest_machine.specs.State.{start_of}
+use Rattle.guest_machine.specs.Use.{left as left_of}
+use Rattle.job_meaning.specs.declared.values.Byte.{Byte}
+use Rattle.job_meaning.specs.declared.values.Word.TheVariants.{Number}
+use Rattle.job_text.specs.declared.thread_lines.ThreadLine.{ThreadLine}
+use Rattle.module_table.specs.declared.events.Event.{Event}
+use Rattle.module_table.specs.History.{IsLegal}
+use Rattle.thread_blocks.specs.Held.{Held, Owner, owned}
+use Rattle.thread_blocks.specs.Instances.{Loads, fixed_at, instances}
+use Rattle.thread_blocks.specs.JobWorlds.{Shared, job_start, job_world, ready_from}
+use Rattle.thread_blocks.specs.Lines.{Line}
+use Rattle.thread_blocks.specs.MachineTurns.{pointer_word, stack_start}
+use Rattle.thread_blocks.specs.RunTime.{thread_accesses, thread_turns}
+use Rattle.thread_blocks.specs.Spaces.{Space, stack_range}
+use Rattle.thread_blocks.specs.Turns.{Turns}
+use Rattle.whole_meaning.specs.Jobs.{job_start as meant_start, meant_world, ready_from as ready_meant}
+use Rattle.whole_meaning.specs.Meanings.{Meaning}
+use Rattle.whole_meaning.specs.Threads.{meant_accesses, meant_turns, ops}
+use Rattle.shared_data.specs.Changes.{Change, data_found, last_left}
+use Rattle.shared_data.specs.Laws.{DataLast, JobsAreOrders, MachineDataLast, MachineReadsLast, MeaningsAreOrders, MeantDataLast, MeantReadsLast, NotesFollowMeaning, ReadsLast, at_order, event, told_at}
+use Rattle.shared_data.specs.Steps.{machine_changes, meant_changes}
+use Rattle.shared_data.specs.Told.{first_filled, run_told, turn_filled}
+use Rattle.shared_data.proofs.First.{data_first, look_blocks}
+use Rattle.shared_data.proofs.Left.{AreLeft, Each, found_left}
+use Rattle.shared_data.proofs.Machine.{machine_tells}
+use Rattle.shared_data.proofs.Meaning.{meant_tells, plain_space}
+use Rattle.shared_data.proofs.Numbers.{numbers_own}
+use Rattle.shared_data.proofs.Orders.{HoldsBlocks, WorldHolds, world_order, world_within}
+use Rattle.shared_data.proofs.ReadsData.{beside_stack}
+use Rattle.shared_data.proofs.Turns.{TellAll}
+
+-- ** any threads
+
+module _ {W F B : Type 0} (l : Loads B) (x : ℕ → Turns (Held W F B) Line Event)
+    (changes : ℕ → Held W F B → List (Change B)) (acc : ℕ → Accesses (Space Event B) B)
+    (start : Shared W F B Line) (tell : (i : ℕ) → TellAll l i (x i) (changes i))
+    (first : WorldHolds l (first_filled l) start) where
+  pub data_last : DataLast l x changes acc start
+  data_last order instance offset bytes byte found e =
+      found_left (told_at l x changes acc start order) (at_order l x changes acc start order).shared instance bytes found
+      (world_order l x changes tell order (first_filled l) start first).left offset byte e
+
+  -- what a thread's memory gives at a place of data
+  abbrev pub ReadsIt : Type 0
+  ReadsIt = (i : ℕ) (log : List (Change B)) (space : Space Event B) (os : List Owner) (place : ℕ) (at : ℕ × ℕ)
+      → AreLeft log (owned os space.own)
+      → (if grants Read (stack_range (stack_start i) space.stack) place then None else data_found (owned os space.own) place)
+      ≡ Some at
+      → (acc i).byte space place ≡ ok_or (last_left at.0 at.1 log) Refused
+
+  pub reads_last : ReadsIt → ReadsLast l x changes acc start
+  reads_last reads order i t from steps mine begun place at there =
+      let w = at_order l x changes acc start order in
+      let h = state_after (run (x i).steps steps from.1) in
+      let log = told_at l x changes acc start order
+      ++ (turn_filled l x (event l x changes acc start) changes w i t ++ run_told (x i).steps (changes i) steps from.1) in
+      let holds = world_within l x changes tell (told_at l x changes acc start order) w i t from steps
+      (world_order l x changes tell order (first_filled l) start first) mine begun in
+      reads i log h.after.memory h.owners place at holds.1 there
+
+-- ** the machine
+
+module _ (l : Loads ℕ) (legal : IsLegal l.infos l.last_offset []) where
+  ready_blocks : (thread : ℕ) (lines : List (List ThreadLine)) → Each HoldsBlocks (ready_from l thread lines)
+  ready_blocks thread [] = tt
+  ready_blocks thread (own ∷ more) = (
+    look_blocks l thread [] (record {
+      after = left_of (start_of plain_operations 0 0 0 0 0) (record { seen = []; stack = []; own = [] });
+      owners = [];
+      asked = None;
+    }) refl,
+    ready_blocks (suc thread) more,
+  )
+
+  first_holds : (lines : List (List ThreadLine)) → WorldHolds l (first_filled l) (job_start l lines)
+  first_holds lines = record {
+    legal = legal;
+    left = data_first l (instances l []) (numbers_own l [] legal);
+    blocks = ready_blocks 1 lines;
+  }
+
+machine_reads : (l : Loads ℕ) (i : ℕ) (log : List (Change ℕ)) (space : Space Event ℕ) (os : List Owner) (place : ℕ)
+    (at : ℕ × ℕ) → AreLeft log (owned os space.own)
+    → (if grants Read (stack_range (stack_start i) space.stack) place then None else data_found (owned os space.own) place)
+    ≡ Some at
+    → (thread_accesses l i).byte space place ≡ ok_or (last_left at.0 at.1 log) Refused
+unfolding thread_accesses
+machine_reads l i log space os place at left e =
+    beside_stack plain_operations (stack_start i) (λ seen. pointer_word plain_operations i ∷ fixed_at l seen)
+    log space os place at left e
+
+pub machine_data_last : MachineDataLast
+machine_data_last l fuel lines legal =
+    data_last l (λ thread. thread_turns l thread fuel) (λ thread. machine_changes l thread)
+    (λ thread. thread_accesses l thread) (job_start l lines) (λ i. machine_tells l i fuel) (first_holds l legal lines)
+
+pub machine_reads_last : MachineReadsLast
+machine_reads_last l fuel lines legal =
+    reads_last l (λ thread. thread_turns l thread fuel) (λ thread. machine_changes l thread)
+    (λ thread. thread_accesses l thread) (job_start l lines) (λ i. machine_tells l i fuel) (first_holds l legal lines)
+    (machine_reads l)
+
+pub jobs_are_orders : JobsAreOrders
+unfolding job_world
+jobs_are_orders l fuel lines order = refl
+
+-- ** the meaning
+
+module _ (m : Meaning) (legal : IsLegal m.loads.infos m.loads.last_offset []) where
+  meant_ready_blocks : (thread : ℕ) (lines : List (List ThreadLine)) → Each HoldsBlocks (ready_meant m thread lines)
+  meant_ready_blocks thread [] = tt
+  meant_ready_blocks thread (own ∷ more) = (
+    look_blocks m.loads thread [] (record {
+      after = left_of (start_of ops 0 0 (Number 0) (Number 0) (Number 0)) (record { seen = []; stack = []; own = [] });
+      owners = [];
+      asked = None;
+    }) refl,
+    meant_ready_blocks (suc thread) more,
+  )
+
+  meant_first : (lines : List (List ThreadLine)) → WorldHolds m.loads (first_filled m.loads) (meant_start m lines)
+  meant_first lines = record {
+    legal = legal;
+    left = data_first m.loads (instances m.loads []) (numbers_own m.loads [] legal);
+    blocks = meant_ready_blocks 1 lines;
+  }
+
+meant_reads : (m : Meaning) (i : ℕ) (log : List (Change Byte)) (space : Space Event Byte) (os : List Owner) (place : ℕ)
+    (at : ℕ × ℕ) → AreLeft log (owned os space.own)
+    → (if grants Read (stack_range (stack_start i) space.stack) place then None else data_found (owned os space.own) place)
+    ≡ Some at
+    → (meant_accesses m i).byte space place ≡ ok_or (last_left at.0 at.1 log) Refused
+unfolding meant_accesses
+meant_reads m i log space os place at left e =
+    beside_stack ops (stack_start i) (λ seen. pointer_word ops i ∷ fixed_at m.loads seen) log space os place at left e
+
+pub meant_data_last : MeantDataLast
+meant_data_last m fuel lines legal =
+    data_last m.loads (λ thread. meant_turns m thread fuel) (λ thread. meant_changes m thread)
+    (λ thread. meant_accesses m thread) (meant_start m lines) (λ i. meant_tells m i fuel) (meant_first m legal lines)
+
+pub meant_reads_last : MeantReadsLast
+meant_reads_last m fuel lines legal =
+    reads_last m.loads (λ thread. meant_turns m thread fuel) (λ thread. meant_changes m thread)
+    (λ thread. meant_accesses m thread) (meant_start m lines) (λ i. meant_tells m i fuel) (meant_first m legal lines)
+    (meant_reads m)
+
+pub notes_follow_meaning : NotesFollowMeaning
+notes_follow_meaning m thread owners mark state noted = plain_space m thread owners mark state noted
+
+pub meanings_are_orders : MeaningsAreOrders
+unfolding meant_world
+meanings_are_orders m fuel lines order = refl

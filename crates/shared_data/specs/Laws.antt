@@ -1,0 +1,124 @@
+-- Each byte of shared data is the one that the last write before it, in the order of turns, left there, or the first
+-- that the loader put there: of the machine's threads, and of what they mean.
+use Rattle.std.specs.Prelude.{◌≡◌, ℕ, ◌*◌, ◌++◌, Bool, List, [], slice_get, ok_or, Option, Some}
+use Rattle.guest_arithmetic.specs.Plain.{plain_operations}
+use Rattle.guest_operands.specs.declared.state.State.{State}
+use Rattle.guest_machine.specs.Access.{Accesses, Refused}
+use Rattle.guest_machine.specs.Run.{machine, run, state_after}
+use Rattle.guest_machine.specs.Use.{After}
+use Rattle.job_meaning.specs.declared.values.Byte.{Byte}
+use Rattle.job_meaning.specs.declared.values.Flag.{Flag}
+use Rattle.job_meaning.specs.declared.values.Word.{Word}
+use Rattle.job_text.specs.declared.thread_lines.ThreadLine.{ThreadLine}
+use Rattle.module_table.specs.declared.events.Event.{Event}
+use Rattle.module_table.specs.History.{IsLegal}
+use Rattle.thread_blocks.specs.Held.{Held, Owned, Owner, data_bytes}
+use Rattle.thread_blocks.specs.Instances.{Loads}
+use Rattle.thread_blocks.specs.JobWorlds.{Shared, job_start, job_world, shared_order}
+use Rattle.thread_blocks.specs.Lines.{Line, event_by}
+use Rattle.thread_blocks.specs.MachineTurns.{stack_start}
+use Rattle.thread_blocks.specs.RunTime.{thread_accesses, thread_turns}
+use Rattle.thread_blocks.specs.Spaces.{Space, after_of, mapped, next_image, no_field}
+use Rattle.thread_blocks.specs.Turns.{Thread, Turns, at_number, whole_order}
+use Rattle.whole_meaning.specs.declared.marks.Mark.{Mark}
+use Rattle.whole_meaning.specs.Jobs.{job_start as meant_start, meant_world}
+use Rattle.whole_meaning.specs.Meanings.{Meaning}
+use Rattle.whole_meaning.specs.Reading.{plain_step}
+use Rattle.whole_meaning.specs.Threads.{meant_accesses, meant_turns, ops}
+use Rattle.shared_data.specs.Changes.{Change, Noted, data_at, last_left, noting}
+use Rattle.shared_data.specs.Steps.{machine_changes, meant_changes}
+use Rattle.shared_data.specs.Told.{begins, first_filled, order_told, run_told, turn_filled}
+
+-- the data of each instance are what was left there last
+abbrev pub AreLastLeft : {B : Type 0} → List (Change B) → List (Owned B) → Type 0
+AreLastLeft {B} told shared = (instance offset : ℕ) (bytes : List B) (byte : B)
+    → data_bytes instance shared ≡ Some bytes → slice_get bytes offset ≡ Some byte
+    → last_left instance offset told ≡ Some byte
+
+-- threads that share data: l: what is loaded, x: the turns of each, changes: what a step changes, acc: what a thread's
+-- memory lets it do; and what they begin with
+module _ {W F B : Type 0} (l : Loads B) (x : ℕ → Turns (Held W F B) Line Event)
+    (changes : ℕ → Held W F B → List (Change B)) (acc : ℕ → Accesses (Space Event B) B)
+    (start : Shared W F B Line) where
+  abbrev pub event : ℕ → Line → List Event → Option Event
+  event thread = event_by l thread
+
+  -- after these turns
+  abbrev pub at_order : List ℕ → Shared W F B Line
+  at_order order = shared_order x event order start
+
+  -- what was changed up to there
+  abbrev pub told_at : List ℕ → List (Change B)
+  told_at order = first_filled l ++ order_told l x event changes order start
+
+  -- after any turns the data are what was left there last
+  abbrev pub DataLast : Type 0
+  DataLast = (order : List ℕ) → AreLastLeft (told_at order) (at_order order).shared
+
+  -- and after any turns, and any steps of another: what a thread reads at a place of an instance's data is what was
+  -- left there last
+  abbrev pub ReadsLast : Type 0
+  ReadsLast = (order : List ℕ) (thread : ℕ) (t : Thread (Held W F B) Line Event) (from : ℕ × Held W F B) (steps : ℕ)
+      → at_number (at_order order).threads thread ≡ Some t
+      → begins l x event changes (at_order order) thread t ≡ Some from
+      → let h = state_after (run (x thread).steps steps from.1) in
+      let told = told_at order ++ (turn_filled l x event changes (at_order order) thread t
+      ++ run_told (x thread).steps (changes thread) steps from.1) in
+      (place : ℕ) (at : ℕ × ℕ) → data_at (stack_start thread) h place ≡ Some at
+      → (acc thread).byte h.after.memory place ≡ ok_or (last_left at.0 at.1 told) Refused
+
+-- ** the machine
+
+-- what is known of the images is in order (`AreInfos`), before any event
+abbrev pub IsInOrder : {B : Type 0} → Loads B → Type 0
+IsInOrder l = IsLegal l.infos l.last_offset []
+
+abbrev pub MachineDataLast : Type 0
+MachineDataLast = (l : Loads ℕ) (fuel : ℕ) (lines : List (List ThreadLine)) → IsInOrder l
+    → DataLast l (λ thread. thread_turns l thread fuel) (λ thread. machine_changes l thread)
+    (λ thread. thread_accesses l thread) (job_start l lines)
+
+abbrev pub MachineReadsLast : Type 0
+MachineReadsLast = (l : Loads ℕ) (fuel : ℕ) (lines : List (List ThreadLine)) → IsInOrder l
+    → ReadsLast l (λ thread. thread_turns l thread fuel) (λ thread. machine_changes l thread)
+    (λ thread. thread_accesses l thread) (job_start l lines)
+
+-- all turns of a job are such turns
+abbrev pub JobsAreOrders : Type 0
+JobsAreOrders = (l : Loads ℕ) (fuel : ℕ) (lines : List (List ThreadLine)) (order : List ℕ)
+    → job_world l fuel lines order
+    ≡ at_order l (λ thread. thread_turns l thread fuel) (λ thread. machine_changes l thread)
+    (λ thread. thread_accesses l thread) (job_start l lines) (whole_order (4 * fuel) lines order)
+
+-- a step over a memory that notes its stores is the machine's step
+abbrev pub NotesFollow : Type 0
+NotesFollow = (l : Loads ℕ) (thread : ℕ) (owners : List Owner) (at : After ℕ Bool (Noted Event ℕ))
+    → (machine plain_operations (thread_accesses l thread) no_field).step (after_of (λ noted. noted.space) at)
+    ≡ next_image (after_of (λ noted. noted.space))
+    ((machine plain_operations (noting (stack_start thread) owners (thread_accesses l thread)) no_field).step at)
+
+-- ** the meaning
+
+abbrev pub MeantDataLast : Type 0
+MeantDataLast = (m : Meaning) (fuel : ℕ) (lines : List (List ThreadLine)) → IsInOrder m.loads
+    → DataLast m.loads (λ thread. meant_turns m thread fuel) (λ thread. meant_changes m thread)
+    (λ thread. meant_accesses m thread) (meant_start m lines)
+
+abbrev pub MeantReadsLast : Type 0
+MeantReadsLast = (m : Meaning) (fuel : ℕ) (lines : List (List ThreadLine)) → IsInOrder m.loads
+    → ReadsLast m.loads (λ thread. meant_turns m thread fuel) (λ thread. meant_changes m thread)
+    (λ thread. meant_accesses m thread) (meant_start m lines)
+
+abbrev pub MeaningsAreOrders : Type 0
+MeaningsAreOrders = (m : Meaning) (fuel : ℕ) (lines : List (List ThreadLine)) (order : List ℕ)
+    → meant_world m fuel lines order
+    ≡ at_order m.loads (λ thread. meant_turns m thread fuel) (λ thread. meant_changes m thread)
+    (λ thread. meant_accesses m thread) (meant_start m lines) (whole_order (4 * fuel) lines order)
+
+-- an instruction of the meaning over a memory that notes its stores is that instruction
+abbrev pub NotesFollowMeaning : Type 0
+NotesFollowMeaning = (m : Meaning) (thread : ℕ) (owners : List Owner) (mark : ℕ → Mark) (state : State Word Flag)
+    (noted : Noted Event Byte)
+    → plain_step ops (meant_accesses m thread) mark state noted.space
+    ≡ mapped (λ noted. noted.space)
+    (plain_step ops (noting (stack_start thread) owners (meant_accesses m thread)) mark state noted)

@@ -1,0 +1,48 @@
+//! The laws. The functions do nothing: what they ensure is the law.
+
+ghost use Rattle.shared_data.specs.Laws.{JobsAreOrders, MachineDataLast, MachineReadsLast, NotesFollow};
+ghost use Rattle.shared_data.specs.Laws.{MeaningsAreOrders, MeantDataLast, MeantReadsLast, NotesFollowMeaning};
+
+/// A step over a memory that notes its stores is the machine's step: to note them changes nothing.
+#[tactic(auto, using(crate::proofs::Machine::notes_follow))]
+pub fn notes_follow_the_machine()
+    ensures { NotesFollow }
+{}
+
+/// All turns of a job are turns in an order, as the laws have them.
+#[tactic(auto, using(crate::proofs::Jobs::jobs_are_orders))]
+pub fn jobs_are_orders()
+    ensures { JobsAreOrders }
+{}
+
+/// After any turns the shared data are what was left there last.
+pub fn data_are_last_left()
+    ensures { MachineDataLast }
+{}
+
+/// A thread of the machine reads at each place of data what was left there last, in the order of all turns.
+pub fn reads_are_last_left()
+    ensures { MachineReadsLast }
+{}
+
+/// To note the stores of the meaning's instructions changes nothing.
+#[tactic(auto, using(crate::proofs::Jobs::notes_follow_meaning))]
+pub fn notes_follow_the_meaning()
+    ensures { NotesFollowMeaning }
+{}
+
+/// All turns of a job's meaning are turns in an order.
+#[tactic(auto, using(crate::proofs::Jobs::meanings_are_orders))]
+pub fn meanings_are_orders()
+    ensures { MeaningsAreOrders }
+{}
+
+/// After any turns of the meaning the shared data are what was left there last.
+pub fn meant_data_are_last_left()
+    ensures { MeantDataLast }
+{}
+
+/// A thread of the meaning reads at each place of data what was left there last, in the order of all turns.
+pub fn meant_reads_are_last_left()
+    ensures { MeantReadsLast }
+{}
