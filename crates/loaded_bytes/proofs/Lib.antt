@@ -15,6 +15,7 @@ mod Places
 mod Ranges
 mod RoomParts
 mod RunsOn
+mod Sections
 mod Small
 mod Spots
 mod Still

@@ -1,5 +1,5 @@
 -- Of objects that are bytes all that stands in a section is a byte.
-use Rattle.std.proofs.Common.{◌≡◌, ◌+◌, ◌-◌, ◌*◌, ◌<◌, ◌≤◌, ◌%◌, ◌&&◌, ◌==◌, ℕ, zero, suc, Bool, true, false, not, List, []}
+use Rattle.std.proofs.Common.{◌≡◌, ◌+◌, ◌-◌, ◌*◌, ◌<◌, ◌%◌, ◌&&◌, ◌==◌, ℕ, zero, suc, Bool, true, false, not, List, []}
 use Rattle.std.proofs.Common.{◌∷◌, ◌++◌, Option, Some, None, drop, length, take, arith, refl, if◌then◌else◌}
 use Rattle.std.specs.Prelude.{nat_lt, slice_index_or, slice_range, unwrap_or}
 use Rattle.std.specs.Int.{byte_at, bytes_low_first}
@@ -15,7 +15,6 @@ use Rattle.link_core.specs.Meant.{is_in_field, is_in_rewritten, rewritten_bytes,
 use Rattle.link_needs.specs.Linking.{Linking, choice, object, sites_at}
 use Rattle.link_needs.specs.Needs.{new_relocation}
 use Rattle.link_needs.specs.Values.{field}
-use Rattle.object_faults.specs.declared.class.SectionClass.{SectionClass}
 use Rattle.relax_sites.specs.declared.choices.Choice.{Choice}
 use Rattle.relax_sites.specs.declared.choices.Choice.TheVariants.{GdLe, GdIe, LdLe, IeLe, DescLe, DescIe}
 use Rattle.relax_sites.specs.declared.rows.NewField.{NewField}

@@ -4,6 +4,7 @@ ghost use Rattle.loaded_bytes.specs.Apart.{InstancesLieApart, NoneRunsOn};
 ghost use Rattle.loaded_bytes.specs.Laws.{BlocksAreLoaded, BytesAreMeant, CodeIsLoaded, ConstantsAreLoaded, DataIsLoaded};
 ghost use Rattle.loaded_bytes.specs.Meant.{BlocksAreMeant, DataIsMeant, ReadsAreMeant};
 ghost use Rattle.loaded_bytes.specs.Places.{AllElseIsInTheRoom, PlacesAreOwn};
+ghost use Rattle.loaded_bytes.specs.Sections.{SectionsStandAsLoaded};
 ghost use Rattle.loaded_bytes.specs.Small.{BytesAreSmall};
 
 /// What can be run at an address of an instance's code is the byte that its objects mean there.
@@ -24,6 +25,11 @@ pub fn data_is_loaded()
 /// A thread's block begins as the initial image, as the instance has it, and zeros.
 pub fn blocks_are_loaded()
     ensures { BlocksAreLoaded }
+{}
+
+/// Of a section these are its bytes, one behind the other.
+pub fn sections_stand()
+    ensures { SectionsStandAsLoaded }
 {}
 
 /// Outside code such a byte is that of the meaning of a job.

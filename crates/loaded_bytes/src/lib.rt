@@ -16,7 +16,8 @@
 //!
 //! It is so in code ([`code_is_loaded`]), in constants and in the initial image of thread-local storage
 //! ([`constants_are_loaded`]), in data that threads write ([`data_is_loaded`]), and in the block that each thread begins
-//! with, which is the initial image as the instance has it ([`blocks_are_loaded`]).
+//! with, which is the initial image as the instance has it ([`blocks_are_loaded`]). These speak of addresses; at those of
+//! one section its bytes stand one behind the other ([`sections_stand`]).
 //!
 //! Between sections stand zeros. All that a linker adds to the sections, its table, the stub and the dynamic tables, lies
 //! in the room behind them ([`all_else_is_in_the_room`]); what may be run there begins a page later, so that no
@@ -41,5 +42,5 @@ mod laws;
 pub use laws::{
     all_else_is_in_the_room, blocks_are_loaded, blocks_are_meant, bytes_are_meant, bytes_are_small,
     code_is_loaded, constants_are_loaded, data_is_loaded, data_is_meant, instances_lie_apart,
-    none_runs_on, places_are_own, reads_are_meant,
+    none_runs_on, places_are_own, reads_are_meant, sections_stand,
 };
