@@ -1,0 +1,7 @@
+mod Linked
+mod Ran
+mod Opened
+mod Joined
+mod LocalCode
+mod Closed
+mod LocalKept

@@ -1,0 +1,4 @@
+//! Closed jobs: small jobs computed in both worlds. (essay to come)
+#![tactic(auto)]
+
+pub mod laws;
