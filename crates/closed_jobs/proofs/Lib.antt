@@ -5,3 +5,5 @@ mod Joined
 mod LocalCode
 mod Closed
 mod LocalKept
+mod LocalRewritten
+mod LocalSites
