@@ -91,11 +91,15 @@ rewritten_moves four is block made own =
 
 -- ** all of them
 
+impossible : false ≡ true → ⊥
+impossible e = cc
+
 kept_ties : AreTiedSites (setting false) (opened_meaning (links false)) kept.q
 kept_ties = record {
   base = record { meant = base_meant false; stands = kept.base_stands };
   field = record { meant = field_meant false; moves = kept_moves };
   lea = record { meant = lea_meant false; stands = kept.lea_stands };
+  other = impossible;
   call = record { meant = call_meant false; stands = kept.call_stands };
 }
 
@@ -104,6 +108,7 @@ rewritten_ties = record {
   base = record { meant = base_meant true; stands = rewritten.base_stands };
   field = record { meant = field_meant true; moves = rewritten_moves };
   lea = record { meant = lea_meant true; stands = rewritten.lea_stands };
+  other = impossible;
   call = record { meant = call_meant true; stands = rewritten.call_stands };
 }
 

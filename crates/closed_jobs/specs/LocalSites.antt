@@ -4,7 +4,7 @@ use Rattle.std.specs.Prelude.{◌≡◌, ℕ, ◌+◌, ◌-◌, ◌%◌, ◌^◌
 use Rattle.amd64_subset.specs.Spelling.{field_of}
 use Rattle.amd64_words.specs.declared.register.Register.TheVariants.{Rax}
 use Rattle.job_meaning.specs.declared.values.Block.{Block}
-use Rattle.job_meaning.specs.declared.values.Token.TheVariants.{Base}
+use Rattle.job_meaning.specs.declared.values.Token.TheVariants.{Base, Descriptor}
 use Rattle.loaded_modules.specs.declared.instance.Instance.{Instance}
 use Rattle.sequence_forms.specs.declared.forms.Form.TheVariants.{Ld, DescLea, DescCall}
 use Rattle.thread_blocks.specs.Instances.{Loads}
@@ -13,10 +13,7 @@ use Rattle.tied_meaning.specs.Sites.{Stands}
 use Rattle.tied_meaning.specs.Ties.{HasFourBytes}
 use Rattle.whole_meaning.specs.declared.marks.Mark.TheVariants.{Offset}
 use Rattle.whole_meaning.specs.declared.sequences.Sequence.{Sequence}
-use Rattle.whole_meaning.specs.Loads.{meaning_of}
 use Rattle.whole_meaning.specs.Meanings.{Meaning}
-use Rattle.closed_jobs.specs.LocalCode.{links}
-use Rattle.closed_jobs.specs.Worlds.{loads_of_links}
 
 -- ** the setting
 
@@ -68,3 +65,5 @@ pub record AreTiedSites (g : Setting) (m : Meaning) (q : Loads ℕ) : Type 0 whe
   pub field : IsTiedField g m q 0x40000e 4
   pub lea : IsTiedSite g m q 0x400013 lea
   pub call : IsTiedSite g m q 0x40001a call
+  -- no step makes the descriptor of another symbol
+  pub other : IsMade g (Descriptor 1 0) → ⊥
