@@ -1,0 +1,9 @@
+mod Linked
+mod Ran
+mod Opened
+mod Joined
+mod LocalCode
+mod Closed
+mod LocalKept
+mod LocalRewritten
+mod LocalSites

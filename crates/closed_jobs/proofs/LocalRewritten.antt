@@ -1,0 +1,76 @@
+-- The rewritten program with local dynamic code and a descriptor: what stands at its sites does what is meant there.
+use Rattle.std.proofs.Common.{◌≡◌, ◌∙◌, ◌<◌, ◌+◌, ◌-◌, ◌*◌, ◌%◌, ◌^◌, ◌&&◌, ◌==◌, ℕ, true, false, List, [], ◌∷◌, Some, None, refl, sym, subst, inl, inr, arith}
+use Rattle.std.specs.Prelude.{codes, if◌then◌else◌}
+use Rattle.amd64_subset.specs.declared.instr.Operation.TheVariants.{Nop}
+use Rattle.amd64_words.specs.declared.register.Register.TheVariants.{Rax}
+use Rattle.link_faults.specs.declared.image_kind.ImageKind.TheVariants.{Exe}
+use Rattle.loaded_modules.specs.declared.instance.Instance.{Instance}
+use Rattle.relax_sites.specs.declared.choices.Choice.TheVariants.{DescLe, LdLe}
+use Rattle.sequence_forms.specs.Forms.{row}
+use Rattle.site_laws.specs.Instructions.{displaced, immediate, load, of_thread, plain, set}
+use Rattle.thread_blocks.specs.Instances.{Loads, block_start}
+use Rattle.thread_blocks.specs.MachineTurns.{pointer_of}
+use Rattle.tied_meaning.specs.Sites.{IsDistance, Stands}
+use Rattle.guest_machine.specs.Use.{plus}
+use Rattle.whole_meaning.specs.Sequences.{variable_distance}
+use Rattle.closed_jobs.specs.LocalCode.{object, program}
+use Rattle.closed_jobs.specs.LocalSites.{app, setting, base, lea, call}
+use Rattle.closed_jobs.specs.Worlds.{bytes_of_digits, file}
+use Rattle.closed_jobs.proofs.Closed.{instruction, loads}
+use Rattle.closed_jobs.proofs.Linked.{linked}
+
+unfoldable pub q : Loads ℕ
+unfolding loads linked program object file
+q = loads (Exe ∷ []) (linked (program true) ∷ [])
+
+pub base_stands : Stands (setting true) q app 0x400000 base
+unfolding q row
+base_stands = record {
+  base = (refl, refl);
+  own = refl;
+  ends = refl;
+  asked = inl refl;
+  stands = inr (LdLe, (0, (0, (record {
+    code = (instruction q app 0x400000 (bytes_of_digits (codes "66666664488b042500000000")) (displaced 12 8 (load Rax of_thread) 0) refl refl, tt);
+    program = refl;
+    early = omega arith;
+  }, refl))));
+}
+
+pub lea_stands : Stands (setting true) q app 0x400013 lea
+unfolding q row
+lea_stands = record {
+  base = tt;
+  own = refl;
+  ends = refl;
+  asked = inl refl;
+  stands = inr (DescLe, (0, (2 ^ 64 - 4, (record {
+    code = (instruction q app 0x400013 (bytes_of_digits (codes "48c7c0fcffffff")) (immediate 7 3 (set Rax) (2 ^ 64 - 4)) refl refl, tt);
+    program = refl;
+    early = omega arith;
+  }, (refl, refl)))));
+}
+
+-- only the program has number 1
+only : (y : Instance) → Some app ≡ Some y → y ≡ app
+only y e = cc
+
+-- x is 4 bytes below each thread pointer
+distance : IsDistance (setting true) call ((2 ^ 64 - 4) % 2 ^ 64)
+distance thread y few known =
+    let d : (2 ^ 64 - 4) % 2 ^ 64 ≡ plus (plus (pointer_of thread - 8) 4) (2 ^ 64 - pointer_of thread) = omega arith in
+    subst (λ z. (2 ^ 64 - 4) % 2 ^ 64 ≡ variable_distance call (block_start thread z) (pointer_of thread)) (sym (only y known)) d
+
+pub call_stands : Stands (setting true) q app 0x40001a call
+unfolding q row
+call_stands = record {
+  base = tt;
+  own = refl;
+  ends = refl;
+  asked = inl refl;
+  stands = inr (DescLe, (0, (0, (record {
+    code = (instruction q app 0x40001a (bytes_of_digits (codes "6690")) (plain 2 (Nop None)) refl refl, tt);
+    program = refl;
+    early = omega arith;
+  }, λ made. distance))));
+}

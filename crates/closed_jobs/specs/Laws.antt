@@ -1,0 +1,13 @@
+-- The laws of single jobs.
+use Rattle.std.specs.Prelude.{Bool, []}
+use Rattle.closed_jobs.specs.Worlds.{BothSay, loads_of_links}
+use Rattle.closed_jobs.specs.LocalCode as local
+use Rattle.closed_jobs.specs.LocalSites.{AreTiedSites, setting}
+use Rattle.whole_meaning.specs.Loads.{meaning_of}
+
+abbrev pub LocalCodeSaysTheSame : Type 0
+LocalCodeSaysTheSame = (relax : Bool) → BothSay (local.links relax) 4 local.lines [] local.says
+
+abbrev pub LocalCodeIsTied : Type 0
+LocalCodeIsTied = (relax : Bool)
+    → AreTiedSites (setting relax) (meaning_of (local.links relax)) (loads_of_links (local.links relax))

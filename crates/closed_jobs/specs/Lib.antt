@@ -1,0 +1,4 @@
+pub mod Worlds
+pub mod LocalCode
+pub mod LocalSites
+pub mod Laws

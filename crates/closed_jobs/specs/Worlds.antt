@@ -1,0 +1,49 @@
+-- A job in both worlds: from one list of links, what its linked images do and what its objects mean.
+use Rattle.std.specs.Prelude.{◌≡◌, ℕ, ◌+◌, ◌*◌, ◌-◌, List, [], ◌∷◌, map, nat_lt, if◌then◌else◌}
+use Rattle.std.specs.List.{flat_map}
+use Rattle.job_text.specs.declared.thread_lines.ThreadLine.{ThreadLine}
+use Rattle.link_core.specs.Images.{image_of}
+use Rattle.link_needs.specs.Linking.{Linking}
+use Rattle.loaded_modules.specs.Images.{JobImages}
+use Rattle.module_table.specs.declared.events.Event.{Event}
+use Rattle.thread_blocks.specs.Instances.{Loads}
+use Rattle.thread_blocks.specs.JobLoads.{job_loads}
+use Rattle.thread_blocks.specs.JobWorlds.{Shared, job_world}
+use Rattle.thread_blocks.specs.Turns.{Said}
+use Rattle.whole_meaning.specs.Jobs.{meant_world}
+use Rattle.whole_meaning.specs.Loads.{meaning_of}
+
+-- ** an object's file, as hexadecimal digits
+
+abbrev pub digit_of : ℕ → ℕ
+digit_of c = if nat_lt c 0x3a then c - 0x30 else c - 0x57
+
+abbrev pub bytes_of_digits : List ℕ → List ℕ
+bytes_of_digits [] = []
+bytes_of_digits (c ∷ []) = []
+bytes_of_digits (c ∷ d ∷ more) = (digit_of c * 16 + digit_of d) ∷ bytes_of_digits more
+
+unfoldable pub file : List (List ℕ) → List ℕ
+file lines = flat_map bytes_of_digits lines
+
+-- ** the two worlds
+
+-- the images of links, as they are loaded
+abbrev pub images_of : List Linking → JobImages
+images_of ls = record { kinds = map (λ (l : Linking). l.kind) ls; images = map image_of ls }
+
+abbrev pub loads_of_links : List Linking → Loads ℕ
+loads_of_links ls = job_loads (images_of ls)
+
+-- what each thread says of its lines, and the history
+abbrev pub Says : Type 0
+Says = List (List Said) × List Event
+
+abbrev pub said_in : {W F B L : Type 0} → Shared W F B L → Says
+said_in w = (map (λ t. t.said) w.threads, w.events)
+
+-- a job: steps of a call, lines of each thread, order of their turns; and what is said, in both worlds
+pub record BothSay (ls : List Linking) (fuel : ℕ) (lines : List (List ThreadLine)) (order : List ℕ) (says : Says)
+    : Type 0 where
+  pub meant : said_in (meant_world (meaning_of ls) fuel lines order) ≡ says
+  pub run : said_in (job_world (loads_of_links ls) fuel lines order) ≡ says

@@ -1,0 +1,16 @@
+//! Laws of single jobs. The functions do nothing: what they ensure is the law.
+
+ghost use Rattle.closed_jobs.specs.Laws.{LocalCodeIsTied, LocalCodeSaysTheSame};
+
+/// The job of `specs/LocalCode.antt` says the same by meaning and by machine, rewritten and kept.
+#[tactic(auto, using(crate::proofs::LocalCode::says_the_same))]
+pub fn local_code_says_the_same()
+    ensures { LocalCodeSaysTheSame }
+{}
+
+/// In the image of that job, rewritten and kept, what stands where a sequence is meant does what it means, and the
+/// offset field moves the base of each thread's block to one address.
+#[tactic(auto, using(crate::proofs::LocalSites::is_tied))]
+pub fn local_code_is_tied()
+    ensures { LocalCodeIsTied }
+{}

@@ -1,0 +1,29 @@
+//! One small job, from its object's bytes to what it says, in both worlds. No code runs here: definitions, and laws that
+//! the checker computes.
+//!
+//! A job is run by a machine over its linked images (`thread_blocks`), and it has a meaning, taken from its objects
+//! before anything is linked (`whole_meaning`). `tied_meaning` says what the two have in common, in many small
+//! definitions. Are they the right ones? A wrong one, a base that counts from the wrong end say, may long look well,
+//! and show at last as a law that can't be proved. Here such definitions meet numbers: **each side is computed from one
+//! list of links, and what is expected is written down**.
+//!
+//! ```text
+//! f: lea x@tlsld(%rip), %rdi          links                      thread 1 calls f        5
+//!    call __tls_get_addr@PLT    ----> image, rewritten  ---->    thread 1 calls g        -4
+//!    mov x@dtpoff(%rax), %eax   ----> image, kept       ---->    the same two lines
+//!    ret                        ----> meaning           ---->    the same two lines
+//! ```
+//!
+//! - `specs/Worlds.antt`: what it is that both worlds say the same of a list of links (`BothSay`);
+//! - `specs/LocalCode.antt`: the job of the picture, with its object as the bytes that an assembler wrote;
+//! - `specs/LocalSites.antt`: its sequences and its offset field, and what the linker chose for them in each setting.
+//!
+//! The first law runs both worlds ([`laws::local_code_says_the_same`]). The second takes the job's image apart: where a
+//! sequence is meant there stands, in the machine's words, what does the same, and the offset field moves the base of
+//! each thread's block to one address ([`laws::local_code_is_tied`]). So no premise of the laws over tied loads is false
+//! of every link.
+//!
+//! The link is computed too, byte for byte: no image is written down.
+#![tactic(auto)]
+
+pub mod laws;
