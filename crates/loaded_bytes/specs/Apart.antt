@@ -19,7 +19,8 @@ IsLoadedAt ls x place =
 -- of two instances with different numbers; a job has one program, and but for it all images may lie anywhere
 abbrev pub InstancesLieApart : Type 0
 InstancesLieApart = (ls : List Linking) (l m : Linking) (x y : Instance) (place : ℕ)
-    → IsInstanceOf ls l x → IsInstanceOf ls m y → x.number ≢ y.number → (is_moved l.kind ≡ true) ⊎ (is_moved m.kind ≡ true)
+    → IsInstanceOf ls l x → IsInstanceOf ls m y → x.number ≢ y.number
+    → (is_moved l.kind ≡ true) ⊎ (is_moved m.kind ≡ true)
     → IsLoadedAt ls x place → IsLoadedAt ls y place → ⊥
 
 -- an instruction has at most 15 bytes; none that begins outside the room has a byte that stands there, since the room
