@@ -63,7 +63,6 @@ four-of (p ∷ q ∷ []) a b c d long e f g h = absurd (omega arith)
 four-of (p ∷ q ∷ r ∷ []) a b c d long e f g h = absurd (omega arith)
 four-of (p ∷ q ∷ r ∷ s ∷ t ∷ more) a b c d long e f g h = absurd (omega arith)
 
-
 -- ** instructions and words
 
 pub instruction : (q : Loads ℕ) (x : Instance) (place : ℕ) (bytes : List ℕ) (d : Decoded) → decoded bytes ≡ Some d

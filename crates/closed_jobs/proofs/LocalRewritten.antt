@@ -30,11 +30,23 @@ base_stands = record {
   own = refl;
   ends = refl;
   asked = inl refl;
-  stands = inr (LdLe, (0, (0, (record {
-    code = (instruction q app 0x400000 (bytes_of_digits (codes "66666664488b042500000000")) (displaced 12 8 (load Rax of_thread) 0) refl refl, tt);
-    program = refl;
-    early = omega arith;
-  }, refl))));
+  stands = inr (
+    LdLe,
+    (
+      0,
+      (
+        0,
+        (
+          record {
+            code = (instruction q app 0x400000 (bytes_of_digits (codes "66666664488b042500000000")) (displaced 12 8 (load Rax of_thread) 0) refl refl, tt);
+            program = refl;
+            early = omega arith;
+          },
+          refl,
+        ),
+      ),
+    ),
+  );
 }
 
 pub lea_stands : Stands (setting true) q app 0x400013 lea
@@ -44,11 +56,23 @@ lea_stands = record {
   own = refl;
   ends = refl;
   asked = inl refl;
-  stands = inr (DescLe, (0, (2 ^ 64 - 4, (record {
-    code = (instruction q app 0x400013 (bytes_of_digits (codes "48c7c0fcffffff")) (immediate 7 3 (set Rax) (2 ^ 64 - 4)) refl refl, tt);
-    program = refl;
-    early = omega arith;
-  }, (refl, refl)))));
+  stands = inr (
+    DescLe,
+    (
+      0,
+      (
+        2 ^ 64 - 4,
+        (
+          record {
+            code = (instruction q app 0x400013 (bytes_of_digits (codes "48c7c0fcffffff")) (immediate 7 3 (set Rax) (2 ^ 64 - 4)) refl refl, tt);
+            program = refl;
+            early = omega arith;
+          },
+          (refl, refl),
+        ),
+      ),
+    ),
+  );
 }
 
 -- only the program has number 1
@@ -68,9 +92,21 @@ call_stands = record {
   own = refl;
   ends = refl;
   asked = inl refl;
-  stands = inr (DescLe, (0, (0, (record {
-    code = (instruction q app 0x40001a (bytes_of_digits (codes "6690")) (plain 2 (Nop None)) refl refl, tt);
-    program = refl;
-    early = omega arith;
-  }, λ made. distance))));
+  stands = inr (
+    DescLe,
+    (
+      0,
+      (
+        0,
+        (
+          record {
+            code = (instruction q app 0x40001a (bytes_of_digits (codes "6690")) (plain 2 (Nop None)) refl refl, tt);
+            program = refl;
+            early = omega arith;
+          },
+          λ made. distance,
+        ),
+      ),
+    ),
+  );
 }
