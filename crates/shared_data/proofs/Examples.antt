@@ -1,5 +1,6 @@
 -- What is told of a job whose threads count in one place.
-use Rattle.std.proofs.Common.{◌≡◌, ℕ, List, [], ◌∷◌, Some, None, true, false, refl}
+use Rattle.std.proofs.Common.{◌≡◌, ℕ, List, [], ◌∷◌, Some, None, true, false, refl, Bool, Option, Ok}
+use Rattle.std.specs.Prelude.{option_and_then, option_map}
 use Rattle.image_file.specs.Spelled.{Spelled}
 use Rattle.image_file.specs.declared.part.PartClass.TheVariants.{Executable, ReadOnly, Writable}
 use Rattle.image_file.specs.declared.symbol.SymbolBinding.TheVariants.{Local, Global}
@@ -11,12 +12,16 @@ use Rattle.job_text.specs.declared.thread_lines.ThreadLine.{ThreadLine}
 use Rattle.link_faults.specs.declared.image_kind.ImageKind.TheVariants.{Exe}
 use Rattle.thread_blocks.specs.Instances.{Loads}
 use Rattle.thread_blocks.specs.JobLoads.{job_loads}
-use Rattle.thread_blocks.specs.JobWorlds.{job_start}
-use Rattle.thread_blocks.specs.RunTime.{thread_accesses, thread_turns}
+use Rattle.thread_blocks.specs.JobWorlds.{Shared, job_start}
+use Rattle.thread_blocks.specs.Lines.{Line, event_by}
+use Rattle.thread_blocks.specs.MachineTurns.{stack_start}
+use Rattle.thread_blocks.specs.RunTime.{Runs, thread_accesses, thread_turns}
+use Rattle.thread_blocks.specs.Turns.{at_number}
 use Rattle.thread_blocks.proofs.JobRuns.{said}
-use Rattle.shared_data.specs.Changes.{Change, Filled, Written, last_left}
-use Rattle.shared_data.specs.Laws.{told_at}
+use Rattle.shared_data.specs.Changes.{Change, Filled, Written, data_at, last_left}
+use Rattle.shared_data.specs.Laws.{at_order, told_at}
 use Rattle.shared_data.specs.Steps.{machine_changes}
+use Rattle.shared_data.specs.Told.{begins}
 
 -- mov n(%rip), %eax; add $1, %eax; mov %eax, n(%rip); ret
 abbrev counter_app : Spelled
@@ -69,3 +74,23 @@ counted = refl
 counted_last : last_left 1 0 counter_told ≡ Some 8
 unfolding said
 counted_last = refl
+
+-- where thread 1 stands that takes its second turn, and what it reads there
+abbrev counter_world : Shared ℕ Bool ℕ Line
+counter_world = at_order counter_loads (λ thread. thread_turns counter_loads thread 4)
+    (λ thread. machine_changes counter_loads thread) (λ thread. thread_accesses counter_loads thread)
+    (job_start counter_loads ((count_line ∷ count_line ∷ []) ∷ (count_line ∷ []) ∷ [])) (1 ∷ 2 ∷ [])
+
+abbrev second_turn : Option (ℕ × Runs)
+second_turn = option_and_then (λ t. begins counter_loads (λ thread. thread_turns counter_loads thread 4)
+    (λ thread. event_by counter_loads thread) (λ thread. machine_changes counter_loads thread) counter_world 1 t)
+    (at_number counter_world.threads 1)
+
+counted_place : option_and_then (λ from. data_at (stack_start 1) from.1 0x401000) second_turn ≡ Some (1, 0)
+unfolding said
+counted_place = refl
+
+counted_read : option_map (λ from. (thread_accesses counter_loads 1).byte from.1.after.memory 0x401000) second_turn
+    ≡ Some (Ok 7)
+unfolding said
+counted_read = refl
