@@ -30,11 +30,27 @@ base_stands = record {
   own = refl;
   ends = refl;
   asked = inl refl;
-  stands = inr (LdLe, (0, (0, (record {
-    code = (instruction q app 0x400000 (bytes_of_digits (codes "66666664488b042500000000")) (displaced 12 8 (load Rax of_thread) 0) refl refl, tt);
-    program = refl;
-    early = omega arith;
-  }, refl))));
+  stands = inr (
+    LdLe,
+    (
+      0,
+      (
+        0,
+        (
+          record {
+            code = (
+              instruction q app 0x400000 (bytes_of_digits (codes "66666664488b042500000000"))
+                  (displaced 12 8 (load Rax of_thread) 0) refl refl,
+              tt,
+            );
+            program = refl;
+            early = omega arith;
+          },
+          refl,
+        ),
+      ),
+    ),
+  );
 }
 
 pub lea_stands : Stands (setting true) q app 0x400013 lea
@@ -44,11 +60,27 @@ lea_stands = record {
   own = refl;
   ends = refl;
   asked = inl refl;
-  stands = inr (DescLe, (0, (2 ^ 64 - 4, (record {
-    code = (instruction q app 0x400013 (bytes_of_digits (codes "48c7c0fcffffff")) (immediate 7 3 (set Rax) (2 ^ 64 - 4)) refl refl, tt);
-    program = refl;
-    early = omega arith;
-  }, (refl, refl)))));
+  stands = inr (
+    DescLe,
+    (
+      0,
+      (
+        2 ^ 64 - 4,
+        (
+          record {
+            code = (
+              instruction q app 0x400013 (bytes_of_digits (codes "48c7c0fcffffff"))
+                  (immediate 7 3 (set Rax) (2 ^ 64 - 4)) refl refl,
+              tt,
+            );
+            program = refl;
+            early = omega arith;
+          },
+          (refl, refl),
+        ),
+      ),
+    ),
+  );
 }
 
 -- only the program has number 1
@@ -59,7 +91,8 @@ only y e = cc
 distance : IsDistance (setting true) call ((2 ^ 64 - 4) % 2 ^ 64)
 distance thread y few known =
     let d : (2 ^ 64 - 4) % 2 ^ 64 ≡ plus (plus (pointer_of thread - 8) 4) (2 ^ 64 - pointer_of thread) = omega arith in
-    subst (λ z. (2 ^ 64 - 4) % 2 ^ 64 ≡ variable_distance call (block_start thread z) (pointer_of thread)) (sym (only y known)) d
+    subst (λ z. (2 ^ 64 - 4) % 2 ^ 64 ≡ variable_distance call (block_start thread z) (pointer_of thread))
+    (sym (only y known)) d
 
 pub call_stands : Stands (setting true) q app 0x40001a call
 unfolding q row
@@ -68,9 +101,25 @@ call_stands = record {
   own = refl;
   ends = refl;
   asked = inl refl;
-  stands = inr (DescLe, (0, (0, (record {
-    code = (instruction q app 0x40001a (bytes_of_digits (codes "6690")) (plain 2 (Nop None)) refl refl, tt);
-    program = refl;
-    early = omega arith;
-  }, λ made. distance))));
+  stands = inr (
+    DescLe,
+    (
+      0,
+      (
+        0,
+        (
+          record {
+            code = (
+              instruction q app 0x40001a (bytes_of_digits (codes "6690"))
+                  (plain 2 (Nop None)) refl refl,
+              tt,
+            );
+            program = refl;
+            early = omega arith;
+          },
+          λ made. distance,
+        ),
+      ),
+    ),
+  );
 }

@@ -64,5 +64,8 @@ lines = (record { image = 1; action = Call (codes "f") 0 0 0 }
     ∷ record { image = 1; action = Call (codes "g") 0 0 0 } ∷ []) ∷ []
 
 abbrev pub says : Says
-says = ((record { points = 0 ∷ []; ending = Stopped (Returned 5) }
-    ∷ record { points = 0 ∷ []; ending = Stopped (Returned 0xfffffffffffffffc) } ∷ []) ∷ [], [])
+says = (
+  (record { points = 0 ∷ []; ending = Stopped (Returned 5) }
+      ∷ record { points = 0 ∷ []; ending = Stopped (Returned 0xfffffffffffffffc) } ∷ []) ∷ [],
+  [],
+)
