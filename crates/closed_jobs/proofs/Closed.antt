@@ -1,4 +1,5 @@
--- What is loaded of images, with all that it is computed by open; and instructions and words of it, from one list of bytes.
+-- What is loaded of images, with all that it is computed by open; and instructions and words of it, from one list of
+-- bytes.
 use Rattle.std.proofs.Common.{◌≡◌, ◌<◌, ◌+◌, ◌⊎◌, ℕ, zero, suc, List, [], ◌∷◌, length, Option, Some, None, refl, ap, inl, inr, arith, eq-or-lt_of_le}
 use Rattle.std.specs.Prelude.{slice_get}
 use Rattle.amd64_subset.specs.declared.instr.Decoded.{Decoded}
@@ -66,7 +67,8 @@ four-of (p ∷ q ∷ r ∷ s ∷ t ∷ more) a b c d long e f g h = absurd (omeg
 -- ** instructions and words
 
 pub instruction : (q : Loads ℕ) (x : Instance) (place : ℕ) (bytes : List ℕ) (d : Decoded) → decoded bytes ≡ Some d
-    → listed (λ k. byte_in Run (q.fixed x) (place + k)) d.len ≡ listed (slice_get bytes) d.len → HasInstruction q x place d
+    → listed (λ k. byte_in Run (q.fixed x) (place + k)) d.len ≡ listed (slice_get bytes) d.len
+    → HasInstruction q x place d
 instruction q x place bytes d e f = record {
   bytes = bytes;
   read = e;
@@ -74,7 +76,8 @@ instruction q x place bytes d e f = record {
 }
 
 pub word : (q : Loads ℕ) (x : Instance) (address number : ℕ)
-    → listed (λ k. byte_in Read (q.fixed x) (address + k)) 8 ≡ listed (λ k. Some (digit number k)) 8 → HasWord q x address number
+    → listed (λ k. byte_in Read (q.fixed x) (address + k)) 8 ≡ listed (λ k. Some (digit number k)) 8
+    → HasWord q x address number
 word q x address number e = each (λ k. byte_in Read (q.fixed x) (address + k)) (λ k. Some (digit number k)) 8 e
 
 -- ** all that is loaded
@@ -82,9 +85,10 @@ word q x address number e = each (λ k. byte_in Read (q.fixed x) (address + k)) 
 -- what is loaded of linked images, with all that it is computed by open
 unfoldable pub loads : List ImageKind → List Spelled → Loads ℕ
 unfolding
-    begins_of end_branch_at escaped_at row_at operated_at body_at instruction_at decoded numbered_body operation_of operand_body signed_of
-    rex_at prefixes_at numbers_at named_register number_of encoded_condition fixed_row_of row_of escaped_row_of arithmetic_of shift_of
-    group_action takes allowed displacement_size memory_in sib_at selectors_at bytes_of splice start open_refusal close_refusal least_free
-    loaded retained released opened after_one past infos last_offset static_offset image_at bias export_of target_of relocation_bytes
-    part_bytes fresh_block entry_in zeros job_loads variable_in
+    begins_of end_branch_at escaped_at row_at operated_at body_at instruction_at decoded numbered_body
+    operation_of operand_body signed_of rex_at prefixes_at numbers_at named_register number_of encoded_condition
+    fixed_row_of row_of escaped_row_of arithmetic_of shift_of group_action takes allowed displacement_size
+    memory_in sib_at selectors_at bytes_of splice start open_refusal close_refusal least_free loaded retained
+    released opened after_one past infos last_offset static_offset image_at bias export_of target_of
+    relocation_bytes part_bytes fresh_block entry_in zeros job_loads variable_in
 loads kinds images = job_loads (record { kinds = kinds; images = images })

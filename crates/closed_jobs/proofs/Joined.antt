@@ -15,7 +15,8 @@ use Rattle.closed_jobs.proofs.Opened.{meant}
 use Rattle.closed_jobs.proofs.Ran.{ran}
 
 ran-is : (kinds : List ImageKind) (images : List Spelled) (fuel : ℕ) (lines : List (List ThreadLine)) (order : List ℕ)
-    → job_world (job_loads (record { kinds = kinds; images = images })) fuel lines order ≡ ran kinds images fuel lines order
+    → job_world (job_loads (record { kinds = kinds; images = images })) fuel lines order
+    ≡ ran kinds images fuel lines order
 unfolding ran
 ran-is kinds images fuel lines order = refl
 
@@ -35,8 +36,8 @@ pub both-say : (ls : List Linking) (images : List Spelled) (fuel : ℕ) (lines :
     → said_in (meant ls fuel lines order) ≡ says
     → said_in (ran (map (λ (l : Linking). l.kind) ls) images fuel lines order) ≡ says
     → BothSay ls fuel lines order says
-both-say ls images fuel lines order says e f g = record {
+both-say ls images fuel lines order says e f g = let kinds = map (λ (l : Linking). l.kind) ls in record {
   meant = ap said_in (meant-is ls fuel lines order) ∙ f;
-  run = ap (λ xs. said_in (job_world (job_loads (record { kinds = map (λ (l : Linking). l.kind) ls; images = xs })) fuel lines order)) e
-      ∙ (ap said_in (ran-is (map (λ (l : Linking). l.kind) ls) images fuel lines order) ∙ g);
+  run = ap (λ xs. said_in (job_world (job_loads (record { kinds = kinds; images = xs })) fuel lines order)) e
+      ∙ (ap said_in (ran-is kinds images fuel lines order) ∙ g);
 }

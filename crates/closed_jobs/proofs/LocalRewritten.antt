@@ -39,6 +39,8 @@ base_stands = record {
         (
           record {
             code = (instruction q app 0x400000 (bytes_of_digits (codes "66666664488b042500000000")) (displaced 12 8 (load Rax of_thread) 0) refl refl, tt);
+              instruction q app 0x400000 (bytes_of_digits (codes "66666664488b042500000000"))
+                  (displaced 12 8 (load Rax of_thread) 0) refl refl,
             program = refl;
             early = omega arith;
           },
@@ -65,6 +67,8 @@ lea_stands = record {
         (
           record {
             code = (instruction q app 0x400013 (bytes_of_digits (codes "48c7c0fcffffff")) (immediate 7 3 (set Rax) (2 ^ 64 - 4)) refl refl, tt);
+              instruction q app 0x400013 (bytes_of_digits (codes "48c7c0fcffffff"))
+                  (immediate 7 3 (set Rax) (2 ^ 64 - 4)) refl refl,
             program = refl;
             early = omega arith;
           },
@@ -83,7 +87,8 @@ only y e = cc
 distance : IsDistance (setting true) call ((2 ^ 64 - 4) % 2 ^ 64)
 distance thread y few known =
     let d : (2 ^ 64 - 4) % 2 ^ 64 ≡ plus (plus (pointer_of thread - 8) 4) (2 ^ 64 - pointer_of thread) = omega arith in
-    subst (λ z. (2 ^ 64 - 4) % 2 ^ 64 ≡ variable_distance call (block_start thread z) (pointer_of thread)) (sym (only y known)) d
+    subst (λ z. (2 ^ 64 - 4) % 2 ^ 64 ≡ variable_distance call (block_start thread z) (pointer_of thread))
+    (sym (only y known)) d
 
 pub call_stands : Stands (setting true) q app 0x40001a call
 unfolding q row
@@ -101,6 +106,8 @@ call_stands = record {
         (
           record {
             code = (instruction q app 0x40001a (bytes_of_digits (codes "6690")) (plain 2 (Nop None)) refl refl, tt);
+              instruction q app 0x40001a (bytes_of_digits (codes "6690"))
+                  (plain 2 (Nop None)) refl refl,
             program = refl;
             early = omega arith;
           },

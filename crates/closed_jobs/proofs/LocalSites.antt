@@ -50,13 +50,15 @@ field_meant false = refl
 kept_field : (four : List ℕ) → HasFourBytes kept.q app 0x40000e four → four ≡ bytes_of_digits (codes "04000000")
 unfolding kept.q
 kept_field four is =
-    four-of four 4 0 0 0 is.long (is.there 0 (omega arith)) (is.there 1 (omega arith)) (is.there 2 (omega arith)) (is.there 3 (omega arith))
+    four-of four 4 0 0 0 is.long (is.there 0 (omega arith)) (is.there 1 (omega arith))
+    (is.there 2 (omega arith)) (is.there 3 (omega arith))
 
 rewritten_field : (four : List ℕ) → HasFourBytes rewritten.q app 0x40000e four
     → four ≡ bytes_of_digits (codes "fcffffff")
 unfolding rewritten.q
 rewritten_field four is =
-    four-of four 0xfc 0xff 0xff 0xff is.long (is.there 0 (omega arith)) (is.there 1 (omega arith)) (is.there 2 (omega arith)) (is.there 3 (omega arith))
+    four-of four 0xfc 0xff 0xff 0xff is.long (is.there 0 (omega arith)) (is.there 1 (omega arith))
+    (is.there 2 (omega arith)) (is.there 3 (omega arith))
 
 found : (n : ℕ) (x : Instance) → n ≡ 1 → (if n == 1 then Some app else None) ≡ Some x → x ≡ app
 found n x e f =

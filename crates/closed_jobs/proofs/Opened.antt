@@ -64,46 +64,35 @@ use Rattle.job_meaning.specs.declared.values.Word.{Word}
 use Rattle.whole_meaning.specs.declared.unclean.UncleanStep.{UncleanStep}
 use Rattle.whole_meaning.specs.Jobs.{lines_of}
 
--- the images, the steps of a call, the lines of each thread, the order of their turns
-unfoldable pub meant : List Linking → ℕ → List (List ThreadLine) → List ℕ → Shared Word Flag Byte Line
-unfolding
-    begins_of end_branch_at escaped_at row_at operated_at body_at instruction_at decoded numbered_body operation_of operand_body signed_of
-    rex_at prefixes_at numbers_at named_register number_of encoded_condition fixed_row_of row_of escaped_row_of arithmetic_of encoded_shift
-    group_action takes allowed displacement_size encoded_memory sib_at selectors_at section_bytes section_class section_size section_alignment
-    symbol_name symbol_binding symbol_visibility symbol_place symbol_value relocation_at relocations_from kept_relocation_table relocations_in
-    number_at part_at bytes_of header_at section_at symbol_at rela_at text_at class_of kept_class first_below header section symbol_table
-    symbol rela relocation_table sum_overflows difference_overflows sum_effect difference_effect logic_effect compute_effect product_fits
-    product_effect shifted bit_out shift_overflows shift_effect with_changes is_less is_less_or_equal is_below_or_equal condition_of fetch_of
-    load_of store_of frame_of base_of index_of address_of kept kept_byte operand_number carried taken_at taken put register_of with_register
-    start_of is_cleared immediate_of finished concluded move_in stored store_byte move_number move_of extend_byte extend_long load_address
-    compute_in compute_out add_field compute_plain compute_number compute_of test_of multiply_of shift_of pushed push_of pop_of leave_of
-    return_of call_of jump_of jump_if nop_of act touches_of touched marked_operations owner_at completed block_offset address offset start
-    open_refusal close_refusal least_free loaded retained released opened after_one past row looked_at reached_at loaded_at instances_in
-    instance_at fixed_at begin_line zeros space_accesses end_of place_in executable read_only tls_image initial_data zero_data room address_at
-    initial_tls zero_tls greatest_alignment tls_alignment offset_at placed_at tls_offset_of round_up page_up section_of sections_of
-    all_sections section_counts position binding_of first_in definition_of value_of class_bytes function_of variable_of mark_of sequence_of
-    memory_in read_in marked_frame meant_world verdict_of verdict_text wants_surplus info_of loads_of meaning_of hindrance plain_step
-    reaches_linker marked_step meaning sequence_result in_room spot_in meant_accesses meant_steps resume_meant begin_meant meant_turns
-meant ls fuel lines order = meant_world (meaning_of ls) fuel lines order
-
 -- what links mean, with all that it is computed by open
 unfoldable pub opened_meaning : List Linking → Meaning
 unfolding
-    begins_of end_branch_at escaped_at row_at operated_at body_at instruction_at decoded numbered_body operation_of operand_body signed_of
-    rex_at prefixes_at numbers_at named_register number_of encoded_condition fixed_row_of row_of escaped_row_of arithmetic_of encoded_shift
-    group_action takes allowed displacement_size encoded_memory sib_at selectors_at section_bytes section_class section_size section_alignment
-    symbol_name symbol_binding symbol_visibility symbol_place symbol_value relocation_at relocations_from kept_relocation_table relocations_in
-    number_at part_at bytes_of header_at section_at symbol_at rela_at text_at class_of kept_class first_below header section symbol_table
-    symbol rela relocation_table sum_overflows difference_overflows sum_effect difference_effect logic_effect compute_effect product_fits
-    product_effect shifted bit_out shift_overflows shift_effect with_changes is_less is_less_or_equal is_below_or_equal condition_of fetch_of
-    load_of store_of frame_of base_of index_of address_of kept kept_byte operand_number carried taken_at taken put register_of with_register
-    start_of is_cleared immediate_of finished concluded move_in stored store_byte move_number move_of extend_byte extend_long load_address
-    compute_in compute_out add_field compute_plain compute_number compute_of test_of multiply_of shift_of pushed push_of pop_of leave_of
-    return_of call_of jump_of jump_if nop_of act touches_of touched marked_operations owner_at completed block_offset address offset start
-    open_refusal close_refusal least_free loaded retained released opened after_one past row looked_at reached_at loaded_at instances_in
-    instance_at fixed_at begin_line zeros space_accesses end_of place_in executable read_only tls_image initial_data zero_data room address_at
-    initial_tls zero_tls greatest_alignment tls_alignment offset_at placed_at tls_offset_of round_up page_up section_of sections_of
-    all_sections section_counts position binding_of first_in definition_of value_of class_bytes function_of variable_of mark_of sequence_of
-    memory_in read_in marked_frame meant_world verdict_of verdict_text wants_surplus info_of loads_of meaning_of hindrance plain_step
-    reaches_linker marked_step meaning sequence_result in_room spot_in meant_accesses meant_steps resume_meant begin_meant meant_turns
+    begins_of end_branch_at escaped_at row_at operated_at body_at instruction_at decoded numbered_body
+    operation_of operand_body signed_of rex_at prefixes_at numbers_at named_register number_of encoded_condition
+    fixed_row_of row_of escaped_row_of arithmetic_of encoded_shift group_action takes allowed displacement_size
+    encoded_memory sib_at selectors_at section_bytes section_class section_size section_alignment symbol_name
+    symbol_binding symbol_visibility symbol_place symbol_value relocation_at relocations_from
+    kept_relocation_table relocations_in number_at part_at bytes_of header_at section_at symbol_at rela_at
+    text_at class_of kept_class first_below header section symbol_table symbol rela relocation_table
+    sum_overflows difference_overflows sum_effect difference_effect logic_effect compute_effect product_fits
+    product_effect shifted bit_out shift_overflows shift_effect with_changes is_less is_less_or_equal
+    is_below_or_equal condition_of fetch_of load_of store_of frame_of base_of index_of address_of kept kept_byte
+    operand_number carried taken_at taken put register_of with_register start_of is_cleared immediate_of
+    finished concluded move_in stored store_byte move_number move_of extend_byte extend_long load_address
+    compute_in compute_out add_field compute_plain compute_number compute_of test_of multiply_of shift_of pushed
+    push_of pop_of leave_of return_of call_of jump_of jump_if nop_of act touches_of touched marked_operations
+    owner_at completed block_offset address offset start open_refusal close_refusal least_free loaded retained
+    released opened after_one past row looked_at reached_at loaded_at instances_in instance_at fixed_at
+    begin_line zeros space_accesses end_of place_in executable read_only tls_image initial_data zero_data room
+    address_at initial_tls zero_tls greatest_alignment tls_alignment offset_at placed_at tls_offset_of round_up
+    page_up section_of sections_of all_sections section_counts position binding_of first_in definition_of
+    value_of class_bytes function_of variable_of mark_of sequence_of memory_in read_in marked_frame meant_world
+    verdict_of verdict_text wants_surplus info_of loads_of meaning_of hindrance plain_step reaches_linker
+    marked_step meaning sequence_result in_room spot_in meant_accesses meant_steps resume_meant begin_meant
+    meant_turns
 opened_meaning ls = meaning_of ls
+
+-- all turns of their threads: the images, the steps of a call, the lines of each thread, the order of their turns
+unfoldable pub meant : List Linking → ℕ → List (List ThreadLine) → List ℕ → Shared Word Flag Byte Line
+unfolding opened_meaning
+meant ls fuel lines order = meant_world (meaning_of ls) fuel lines order

@@ -25,8 +25,8 @@ app = record { image = 1; number = 1; id = 1; offset = Some 8 }
 abbrev pub x_symbol : ℕ
 x_symbol = 2 ^ 56 + 1
 
--- rewritten: bases are thread pointers, and the descriptor of x is its distance. Kept: bases are where blocks begin, and
--- the descriptor is at its place in the table
+-- rewritten: bases are thread pointers, and the descriptor of x is its distance. Kept: bases are where blocks begin,
+-- and the descriptor is at its place in the table
 abbrev pub setting : Bool → Setting
 setting relax = record {
   known = λ number. if number == 1 then Some app else None;
@@ -41,10 +41,12 @@ abbrev pub base : Sequence
 base = record { form = Ld; next = 0x40000c; register = Rax; instance = 1; symbol = 0; target = 1; offset = 0 }
 
 abbrev pub lea : Sequence
-lea = record { form = DescLea; next = 0x40001a; register = Rax; instance = 1; symbol = x_symbol; target = 1; offset = 4 }
+lea =
+    record { form = DescLea; next = 0x40001a; register = Rax; instance = 1; symbol = x_symbol; target = 1; offset = 4 }
 
 abbrev pub call : Sequence
-call = record { form = DescCall; next = 0x40001c; register = Rax; instance = 1; symbol = x_symbol; target = 1; offset = 4 }
+call =
+    record { form = DescCall; next = 0x40001c; register = Rax; instance = 1; symbol = x_symbol; target = 1; offset = 4 }
 
 -- ** what is tied
 
