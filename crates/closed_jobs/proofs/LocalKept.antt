@@ -36,8 +36,6 @@ base_stands = record {
         0x2ff4,
         record {
           code = (
-            instruction q app 0x400000 (bytes_of_digits (codes "488d3df91f0000")) (displaced 7 3 (LoadAddress Quad Rdi of_next) 0x1ff9) refl refl,
-            (instruction q app 0x400007 (bytes_of_digits (codes "e8f42f0000")) (plain 5 (Call (Relative 0x2ff4))) refl refl, tt),
             instruction q app 0x400000 (bytes_of_digits (codes "488d3df91f0000"))
                 (displaced 7 3 (LoadAddress Quad Rdi of_next) 0x1ff9) refl refl,
             (
@@ -57,7 +55,6 @@ base_stands = record {
           stub = 0x403000;
           far = 2 ^ 64 - 0xfe6;
           goes = refl;
-          jumps = instruction q app 0x403000 (bytes_of_digits (codes "ff251af0ffff")) (displaced 6 2 (Jump (Indirect (InMemory of_next))) (2 ^ 64 - 0xfe6)) refl refl;
           jumps = instruction q app 0x403000 (bytes_of_digits (codes "ff251af0ffff"))
               (displaced 6 2 (Jump (Indirect (InMemory of_next))) (2 ^ 64 - 0xfe6)) refl refl;
           word = word q app 0x402020 0x1000 refl;
@@ -77,7 +74,6 @@ lea_stands = record {
   stands = inl (
     0x1ff6,
     record {
-      code = (instruction q app 0x400013 (bytes_of_digits (codes "488d05f61f0000")) (displaced 7 3 (LoadAddress Quad Rax of_next) 0x1ff6) refl refl, tt);
       code = (
         instruction q app 0x400013 (bytes_of_digits (codes "488d05f61f0000"))
             (displaced 7 3 (LoadAddress Quad Rax of_next) 0x1ff6) refl refl,

@@ -38,9 +38,11 @@ base_stands = record {
         0,
         (
           record {
-            code = (instruction q app 0x400000 (bytes_of_digits (codes "66666664488b042500000000")) (displaced 12 8 (load Rax of_thread) 0) refl refl, tt);
+            code = (
               instruction q app 0x400000 (bytes_of_digits (codes "66666664488b042500000000"))
                   (displaced 12 8 (load Rax of_thread) 0) refl refl,
+              tt,
+            );
             program = refl;
             early = omega arith;
           },
@@ -66,9 +68,11 @@ lea_stands = record {
         2 ^ 64 - 4,
         (
           record {
-            code = (instruction q app 0x400013 (bytes_of_digits (codes "48c7c0fcffffff")) (immediate 7 3 (set Rax) (2 ^ 64 - 4)) refl refl, tt);
+            code = (
               instruction q app 0x400013 (bytes_of_digits (codes "48c7c0fcffffff"))
                   (immediate 7 3 (set Rax) (2 ^ 64 - 4)) refl refl,
+              tt,
+            );
             program = refl;
             early = omega arith;
           },
@@ -105,9 +109,11 @@ call_stands = record {
         0,
         (
           record {
-            code = (instruction q app 0x40001a (bytes_of_digits (codes "6690")) (plain 2 (Nop None)) refl refl, tt);
+            code = (
               instruction q app 0x40001a (bytes_of_digits (codes "6690"))
                   (plain 2 (Nop None)) refl refl,
+              tt,
+            );
             program = refl;
             early = omega arith;
           },
