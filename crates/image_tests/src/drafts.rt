@@ -153,13 +153,18 @@ fn with_one(file: Vec<u8>, at: usize) -> Result<Vec<u8>, Fail> {
 }
 
 #[test]
-fn makes_the_images_of_drafts(rt: HostRuntime) -> Result<(), Fail> {
+fn makes_the_program_of_its_draft(rt: HostRuntime) -> Result<(), Fail> {
     let want = bytes_of(rt.alloc(), WRITTEN)?;
     let file = parts_of(rt.alloc(), want.as_slice(), 20_486)?;
     assert_eq!(rt; file.len(), 20_486);
     let files = written_program(rt.alloc(), file)?;
     assert_eq!(rt; files.appended.as_slice(), want.as_slice());
     assert_eq!(rt; files.made.as_slice(), want.as_slice());
+    Ok(())
+}
+
+#[test]
+fn makes_the_module_of_its_draft(rt: HostRuntime) -> Result<(), Fail> {
     let want = bytes_of(rt.alloc(), SURPLUS)?;
     let file = parts_of(rt.alloc(), want.as_slice(), 12_296)?;
     assert_eq!(rt; file.len(), 12_296);

@@ -102,9 +102,8 @@ fn program(alloc: Global) -> Result<Image, Fail> {
     Ok(read(alloc, bytes.as_slice())?)
 }
 
-#[test]
-fn lends_bytes_and_sharing(rt: HostRuntime) -> Result<(), Fail> {
-    let image = program(rt.alloc())?;
+/// What is lent of parts.
+fn lends_parts(rt: &impl Abort, image: &Image) -> Result<(), Fail> {
     let code = image.part(0).ok_or("there is code")?;
     assert_eq!(rt;
         code.bytes,
@@ -113,6 +112,11 @@ fn lends_bytes_and_sharing(rt: HostRuntime) -> Result<(), Fail> {
     let data = image.part(1).ok_or("there is data")?;
     assert_eq!(rt; data.bytes, b"\x2a\0\0\0".as_slice());
     assert!(rt; image.part(3).is_none());
+    Ok(())
+}
+
+/// What is lent of symbols.
+fn lends_symbols(rt: &impl Abort, image: &Image) -> Result<(), Fail> {
     assert!(rt; image.symbol(3).is_none());
     assert!(rt; image.symbol_name(3).is_none());
     assert!(rt; image.relocation(0).is_none());
@@ -122,6 +126,13 @@ fn lends_bytes_and_sharing(rt: HostRuntime) -> Result<(), Fail> {
     assert_eq!(rt; variable.size, 4);
     assert_eq!(rt; image.symbol_name(0), Some(b"".as_slice()));
     Ok(())
+}
+
+#[test]
+fn lends_bytes_and_sharing(rt: HostRuntime) -> Result<(), Fail> {
+    let image = program(rt.alloc())?;
+    lends_parts(&rt, &image)?;
+    lends_symbols(&rt, &image)
 }
 
 #[test]

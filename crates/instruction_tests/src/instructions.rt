@@ -27,6 +27,16 @@ fn bytes(alloc: Global, digits: &str) -> Result<Vec<u8>, Fail> {
     Ok(hex::decode(alloc, digits).ok().ok_or("hexadecimal digits")?)
 }
 
+/// No front of an instruction's bytes is one, and each begins one.
+fn checks_fronts(rt: &impl Abort, bytes: &[u8], line: &str) {
+    assert!(rt; !begins(bytes), "{line}");
+    for (end, _) in bytes.iter().enumerate() {
+        let front = &bytes[..end];
+        assert!(rt; begins(front), "{end} bytes of {line}");
+        assert_eq!(rt; decode(front), None, "{end} bytes of {line}");
+    }
+}
+
 /// The instruction of a line is read with its length and its text, and each of its fronts begins a
 /// spelling and is none.
 fn reads(rt: &impl Abort, alloc: Global, line: &str) -> Result<(), Fail> {
@@ -38,12 +48,7 @@ fn reads(rt: &impl Abort, alloc: Global, line: &str) -> Result<(), Fail> {
     let printed = text::text_of(read.instr, address.wrapping_add(read.len as u64));
     let printed = format!(in alloc; "{printed}")?;
     assert_eq!(rt; printed.as_str(), text, "{line}");
-    assert!(rt; !begins(&bytes), "{line}");
-    for (end, _) in bytes.iter().enumerate() {
-        let front = &bytes[..end];
-        assert!(rt; begins(front), "{end} bytes of {line}");
-        assert_eq!(rt; decode(front), None, "{end} bytes of {line}");
-    }
+    checks_fronts(rt, bytes.as_slice(), line);
     Ok(())
 }
 
