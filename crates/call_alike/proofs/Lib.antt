@@ -1,7 +1,8 @@
-pub mod Memories
+pub mod Found
+pub mod Marks
 pub mod Codes
-pub mod Kept
-pub mod Pointers
-pub mod Simulated
-pub mod Steps
 pub mod Threads
+pub mod Memories
+pub mod Pointers
+pub mod Steps
+pub mod Simulated
