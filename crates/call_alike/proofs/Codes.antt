@@ -1,12 +1,11 @@
 -- The code of two memories is alike, where it is the code of live instances that are tied.
-use Rattle.std.proofs.Common.{◌≡◌, ◌∙◌, ◌+◌, ◌-◌, ◌%◌, ◌^◌, ◌<◌, ◌≤◌, ℕ, zero, suc, Bool, true, false, List, [], ◌∷◌, All, length, Option, Some, None, Ok, refl, sym, ap, arith}
+use Rattle.std.proofs.Common.{◌≡◌, ◌∙◌, ◌+◌, ◌-◌, ◌%◌, ◌^◌, ◌<◌, ◌≤◌, ℕ, zero, suc, Bool, true, false, List, All, length, Option, Some, None, Ok, refl, sym, ap, arith}
 use Rattle.std.specs.Prelude.{slice_get, ℤ}
 use Rattle.std.specs.List.{find, list_any}
 use Rattle.amd64_subset.specs.Spelling.{field_of}
 use Rattle.guest_arithmetic.specs.Plain.{plain_operations}
 use Rattle.guest_operands.specs.declared.space.Access.TheVariants.{Run}
 use Rattle.guest_machine.specs.Access.{Accesses, bytes_from, code_at, code_then, load_of, next_place}
-use Rattle.guest_machine.specs.Ranges.{byte_in}
 use Rattle.guest_machine.specs.Use.{plus}
 use Rattle.job_meaning.specs.declared.values.Block.{Block}
 use Rattle.job_meaning.specs.declared.values.Byte.{Byte}
@@ -28,7 +27,7 @@ use Rattle.tied_meaning.specs.Sites.{HasWord}
 use Rattle.tied_meaning.specs.Ties.{HasFourBytes, IsTied}
 use Rattle.tied_memory.proofs.Bytes.{digits_spell_word}
 use Rattle.call_alike.proofs.Found.{is_number, of_owner}
-use Rattle.call_alike.proofs.Marks.{HasField, IsFieldMark, address_mark, code_low, field_at, field_begins, mark_at, meant_code, offset_mark, owner, owner_outside, owner_tied, real_code, real_found, same_at, same_owner}
+use Rattle.call_alike.proofs.Marks.{HasField, address_mark, code_low, field_at, field_begins, mark_at, meant_code, offset_mark, owner, owner_outside, owner_tied, real_code, real_found, same_at, same_owner}
 
 -- below all threads no place is past the last one
 exact_place : (here k : ℕ) → here < 2 ^ 39 → k < 15 → place_at here k ≡ here + k
@@ -159,11 +158,13 @@ module _ (g : Setting) (m : Meaning) (thread : ℕ) (q : Loads ℕ) (live : List
       let leads = f.it.address_field place number size addend (code_at acc' memory' place 4) f.marked
       (four_bytes place f long) minus in
       let here : find (is_number f.x.number) live ≡ Some f.x =
-      ap (λ (n : ℕ). find (is_number n) live) (sym f.at.0) ∙ f.owner in
-      (number, (
-        words f.x (plus (plus place size) (field_of (code_at acc' memory' place 4))) number f.it here leads.1 leads.0,
-        same_number g number leads.0,
-      ))
+      ap (λ (n : ℕ). find (is_number n) live) (sym f.at.0) ∙ f.owner in (
+        number,
+        (
+          words f.x (plus (plus place size) (field_of (code_at acc' memory' place 4))) number f.it here leads.1 leads.0,
+          same_number g number leads.0,
+        ),
+      )
 
   pub code_alike : SameCode (alike g) ops plain_operations mark_of shut acc acc' memory memory'
   unfolding alike

@@ -1,5 +1,5 @@
 -- Places of code of live instances: what the meaning marks there, and what the machine has.
-use Rattle.std.proofs.Common.{◌≡◌, ◌∙◌, ◌-◌, ◌^◌, ◌<◌, ◌≤◌, ◌==◌, ℕ, Bool, true, false, List, All, Option, Some, None, refl, sym, ap, subst}
+use Rattle.std.proofs.Common.{◌≡◌, ◌∙◌, ◌-◌, ◌^◌, ◌<◌, ℕ, Bool, true, false, List, All, Option, Some, None, refl, sym, ap, subst}
 use Rattle.std.specs.Prelude.{option_and_then, ℤ}
 use Rattle.std.specs.List.{find, flat_map, list_any}
 use Rattle.std.proofs.lemmas.Bool.{eqb-true}

@@ -79,10 +79,13 @@ module _ (g : Setting) (q : Loads ℕ) (thread : ℕ) where
           (owned (o ∷ owners) (if c then put_in range place b ∷ own else range ∷ with_byte own place b))
       of_grant true rest =
           let first = placed zero (record { owner = o; range = range }) (omega arith) in
-          all_cons (IsPlaced g q thread) _ _ (first.0, (
-            first.1.0,
-            set_range o.kind first.0 range _ (length-set range.bytes (place - range.start) b) first.1.1,
-          )) (λ k d below. placed (suc k) d (omega (arith, below)))
+          all_cons (IsPlaced g q thread) _ _ (
+            first.0,
+            (
+              first.1.0,
+              set_range o.kind first.0 range _ (length-set range.bytes (place - range.start) b) first.1.1,
+            ),
+          ) (λ k d below. placed (suc k) d (omega (arith, below)))
       of_grant false rest =
           all_cons (IsPlaced g q thread) _ _ (placed zero (record { owner = o; range = range }) (omega arith)) rest
 

@@ -19,7 +19,6 @@ use Rattle.tied_meaning.specs.Numbers.{Setting}
 use Rattle.tied_meaning.specs.Threads.{AtRest, InCall, Waiting}
 use Rattle.tied_meaning.specs.Ties.{AreTied}
 use Rattle.tied_meaning.proofs.Values.{values_follow}
-use Rattle.begin_alike.specs.Begun.{CallsAreAlike}
 use Rattle.site_steps.proofs.Advances.{advance}
 use Rattle.site_steps.proofs.Resume.{resumed_alike}
 use Rattle.call_alike.specs.Laws.{CallsStayAlike, meant_step}

@@ -18,9 +18,9 @@ use Rattle.thread_blocks.specs.Held.{Kind, Block, Data, Owner, owned}
 use Rattle.thread_blocks.specs.Instances.{Loads, fixed_at, instances, numbered_instance}
 use Rattle.thread_blocks.specs.MachineTurns.{pointer_word}
 use Rattle.thread_blocks.specs.RunTime.{Runs, thread_accesses}
-use Rattle.thread_blocks.specs.Spaces.{NoneRunnable, SameRange, Space, space_accesses}
+use Rattle.thread_blocks.specs.Spaces.{NoneRunnable, SameRange, space_accesses}
 use Rattle.whole_meaning.specs.Meanings.{Meaning}
-use Rattle.whole_meaning.specs.Threads.{Meant, Memory, meant_accesses, meant_mark, meant_shut, ops}
+use Rattle.whole_meaning.specs.Threads.{Meant, meant_accesses, meant_mark, meant_shut, ops}
 use Rattle.tied_meaning.specs.Codes.{SameCode}
 use Rattle.tied_meaning.specs.Numbers.{Setting, SameByte, alike}
 use Rattle.tied_meaning.specs.Sites.{HasWord}
@@ -78,8 +78,7 @@ own_runs tied thread [] [] placed paired = tt
 own_runs tied thread [] (range ∷ own) placed paired = absurd (omega (arith, paired))
 own_runs tied thread (o ∷ owners) [] placed paired = absurd (omega (arith, paired))
 own_runs tied thread (o ∷ owners) (range ∷ own) placed paired =
-    let first = placed zero (record { owner = o; range = range }) (omega arith) in
-    (
+    let first = placed zero (record { owner = o; range = range }) (omega arith) in (
       kind_runs thread o.kind first.0 range (tied.known o.instance first.0 first.1.0).0 first.1.1,
       own_runs tied thread owners own (λ k d below. placed (suc k) d (omega (arith, below))) (omega (arith, paired)),
     )
