@@ -1,0 +1,27 @@
+//! Laws of calls. The functions do nothing: what they ensure is the law.
+
+ghost use Rattle.call_alike.specs.Laws.{CallsStayAlike, CodeIsAlike, MemoriesStayAlike, UsualStepsAdvance};
+
+/// Memories of a thread in a call stay the same under reads and writes.
+#[tactic(auto, using(crate::proofs::Memories::memories_alike))]
+pub fn memories_stay_alike()
+    ensures { MemoriesStayAlike }
+{}
+
+/// The code of a thread in a call is what the tie of each live instance says.
+pub fn code_is_alike()
+    ensures { CodeIsAlike }
+{}
+
+/// Where no sequence begins, a step by meaning is a step of the machine, or the meaning is unclean.
+#[tactic(auto, using(crate::proofs::Steps::usual_steps))]
+pub fn usual_steps_advance()
+    ensures { UsualStepsAdvance }
+{}
+
+/// A call by meaning is a call of the machine: each step is one to four of its steps, and a look in the middle of the
+/// call comes to the same.
+#[tactic(auto, using(crate::proofs::Simulated::calls_alike))]
+pub fn calls_stay_alike()
+    ensures { CallsStayAlike }
+{}
