@@ -6,3 +6,4 @@ pub mod Memories
 pub mod Pointers
 pub mod Steps
 pub mod Simulated
+pub mod Printing

@@ -1,6 +1,7 @@
 //! Laws of calls. The functions do nothing: what they ensure is the law.
 
 ghost use Rattle.call_alike.specs.Laws.{CallsStayAlike, CodeIsAlike, MemoriesStayAlike, UsualStepsAdvance};
+ghost use Rattle.call_alike.specs.Prints.{TiedJobsPrint, TiedThreadsPrint};
 
 /// Memories of a thread in a call stay the same under reads and writes.
 #[tactic(auto, using(crate::proofs::Memories::memories_alike))]
@@ -24,4 +25,14 @@ pub fn usual_steps_advance()
 #[tactic(auto, using(crate::proofs::Simulated::calls_alike))]
 pub fn calls_stay_alike()
     ensures { CallsStayAlike }
+{}
+
+/// So a job that is found clean prints what it means, wherever what is loaded is tied to what is meant.
+pub fn tied_jobs_print()
+    ensures { TiedJobsPrint }
+{}
+
+/// And so does each clean thread by itself, whatever points its turns see.
+pub fn tied_threads_print()
+    ensures { TiedThreadsPrint }
 {}
