@@ -1,5 +1,5 @@
 -- Both worlds of a job, from what is computed with everything open.
-use Rattle.std.proofs.Common.{◌≡◌, ◌∙◌, ℕ, List, [], ◌∷◌, map, refl, sym, ap}
+use Rattle.std.proofs.Common.{◌≡◌, ◌∙◌, ℕ, List, ◌∷◌, map, refl, ap}
 use Rattle.image_file.specs.Spelled.{Spelled}
 use Rattle.job_text.specs.declared.thread_lines.ThreadLine.{ThreadLine}
 use Rattle.link_core.specs.Images.{image_of}

@@ -7,3 +7,5 @@ mod Closed
 mod LocalKept
 mod LocalRewritten
 mod LocalSites
+mod ReopenedImages
+mod Reopened

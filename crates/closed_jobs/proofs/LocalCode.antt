@@ -1,5 +1,5 @@
 -- The program with local dynamic code and a descriptor, computed.
-use Rattle.std.proofs.Common.{◌≡◌, Bool, true, false, List, [], ◌∷◌, refl}
+use Rattle.std.proofs.Common.{◌≡◌, true, false, [], ◌∷◌, refl}
 use Rattle.link_faults.specs.declared.image_kind.ImageKind.TheVariants.{Exe}
 use Rattle.closed_jobs.specs.Laws.{LocalCodeSaysTheSame}
 use Rattle.closed_jobs.specs.Worlds.{file, said_in}

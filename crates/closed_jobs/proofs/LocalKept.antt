@@ -1,6 +1,6 @@
 -- The kept program with local dynamic code and a descriptor: what stands at its sites does what is meant there.
-use Rattle.std.proofs.Common.{◌≡◌, ◌∙◌, ◌<◌, ◌+◌, ◌-◌, ◌*◌, ◌%◌, ◌^◌, ◌&&◌, ◌==◌, ℕ, true, false, List, [], ◌∷◌, Some, None, refl, ap, inl, inr, arith}
-use Rattle.std.specs.Prelude.{codes, if◌then◌else◌}
+use Rattle.std.proofs.Common.{◌+◌, ◌-◌, ◌*◌, ◌^◌, ℕ, false, [], ◌∷◌, refl, inl, arith}
+use Rattle.std.specs.Prelude.{codes}
 use Rattle.amd64_subset.specs.declared.instr.Operation.TheVariants.{Jump, LoadAddress, Call}
 use Rattle.amd64_subset.specs.declared.instr.Target.TheVariants.{Relative, Indirect}
 use Rattle.amd64_subset.specs.declared.instr.Width.TheVariants.{Quad}

@@ -1,6 +1,6 @@
 -- The rewritten program with local dynamic code and a descriptor: what stands at its sites does what is meant there.
-use Rattle.std.proofs.Common.{◌≡◌, ◌∙◌, ◌<◌, ◌+◌, ◌-◌, ◌*◌, ◌%◌, ◌^◌, ◌&&◌, ◌==◌, ℕ, true, false, List, [], ◌∷◌, Some, None, refl, sym, subst, inl, inr, arith}
-use Rattle.std.specs.Prelude.{codes, if◌then◌else◌}
+use Rattle.std.proofs.Common.{◌≡◌, ◌-◌, ◌%◌, ◌^◌, ℕ, true, [], ◌∷◌, Some, None, refl, sym, subst, inl, inr, arith}
+use Rattle.std.specs.Prelude.{codes}
 use Rattle.amd64_subset.specs.declared.instr.Operation.TheVariants.{Nop}
 use Rattle.amd64_words.specs.declared.register.Register.TheVariants.{Rax}
 use Rattle.link_faults.specs.declared.image_kind.ImageKind.TheVariants.{Exe}

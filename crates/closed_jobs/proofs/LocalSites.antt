@@ -1,21 +1,20 @@
 -- The sites of the program with local dynamic code and a descriptor, rewritten and kept.
-use Rattle.std.proofs.Common.{◌≡◌, ◌∙◌, ◌≤◌, ◌<◌, ◌+◌, ◌-◌, ◌%◌, ◌^◌, ◌&&◌, ◌==◌, ℕ, Bool, true, false, List, [], ◌∷◌, length, Some, None, refl, ap, subst, arith}
-use Rattle.std.specs.Prelude.{slice_get, codes, if◌then◌else◌}
+use Rattle.std.proofs.Common.{◌≡◌, ◌∙◌, ◌+◌, ◌-◌, ◌%◌, ◌^◌, ◌==◌, ℕ, Bool, true, false, List, Some, None, refl, ap, subst, arith}
+use Rattle.std.specs.Prelude.{codes, if◌then◌else◌}
 use Rattle.amd64_subset.specs.Spelling.{field_of}
 use Rattle.amd64_words.specs.Number.{signed_of}
 use Rattle.job_meaning.specs.declared.values.Block.{Block}
 use Rattle.job_meaning.specs.declared.values.Token.TheVariants.{Base}
 use Rattle.loaded_modules.specs.declared.instance.Instance.{Instance}
-use Rattle.thread_blocks.specs.Instances.{Loads, block_start}
+use Rattle.thread_blocks.specs.Instances.{block_start}
 use Rattle.thread_blocks.specs.MachineTurns.{pointer_of}
 use Rattle.tied_meaning.specs.Numbers.{IsMade, base_number}
 use Rattle.tied_meaning.specs.Ties.{HasFourBytes}
 use Rattle.whole_meaning.specs.declared.marks.Mark.TheVariants.{Offset}
 use Rattle.whole_meaning.specs.Loads.{meaning_of}
-use Rattle.whole_meaning.specs.Meanings.{Meaning}
 use Rattle.closed_jobs.specs.Laws.{LocalCodeIsTied}
 use Rattle.closed_jobs.specs.LocalCode.{object, program, links}
-use Rattle.closed_jobs.specs.LocalSites.{AreTiedSites, IsTiedField, app, setting, base, lea, call}
+use Rattle.closed_jobs.specs.LocalSites.{AreTiedSites, app, setting, base, lea, call}
 use Rattle.closed_jobs.specs.Worlds.{bytes_of_digits, file, loads_of_links}
 use Rattle.closed_jobs.proofs.Closed.{four-of}
 use Rattle.closed_jobs.proofs.LocalKept as kept

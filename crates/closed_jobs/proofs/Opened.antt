@@ -1,10 +1,7 @@
 -- What jobs mean, with all that it is computed by open: the objects' files in, and out what is printed.
-use Rattle.std.proofs.Common.{ℕ, ◌+◌, ◌*◌, ◌-◌, List, [], ◌∷◌, Option}
-use Rattle.std.specs.Prelude.{nat_lt, if◌then◌else◌}
-use Rattle.std.specs.List.{flat_map}
+use Rattle.std.proofs.Common.{ℕ, List}
 use Rattle.job_text.specs.declared.thread_lines.ThreadLine.{ThreadLine}
 use Rattle.link_needs.specs.Linking.{Linking}
-use Rattle.module_table.specs.declared.events.Event.{Event}
 use Rattle.amd64_subset.specs.Beginning.{begins_of}
 use Rattle.amd64_subset.specs.Decoding.{end_branch_at, escaped_at, row_at, operated_at, body_at, instruction_at, decoded}
 use Rattle.amd64_subset.specs.Meaning.{numbered_body, operation_of, operand_body}
@@ -61,8 +58,6 @@ use Rattle.thread_blocks.specs.Lines.{Line}
 use Rattle.job_meaning.specs.declared.values.Byte.{Byte}
 use Rattle.job_meaning.specs.declared.values.Flag.{Flag}
 use Rattle.job_meaning.specs.declared.values.Word.{Word}
-use Rattle.whole_meaning.specs.declared.unclean.UncleanStep.{UncleanStep}
-use Rattle.whole_meaning.specs.Jobs.{lines_of}
 
 -- what links mean, with all that it is computed by open
 unfoldable pub opened_meaning : List Linking → Meaning

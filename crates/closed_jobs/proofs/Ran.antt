@@ -1,7 +1,6 @@
 -- What the machine's threads say, with all that it is computed by open.
-use Rattle.std.proofs.Common.{ℕ, List, map, Bool}
+use Rattle.std.proofs.Common.{ℕ, List, Bool}
 use Rattle.image_file.specs.Spelled.{Spelled}
-use Rattle.module_table.specs.declared.events.Event.{Event}
 use Rattle.amd64_subset.specs.Beginning.{begins_of}
 use Rattle.amd64_subset.specs.Decoding.{end_branch_at, escaped_at, row_at, operated_at, body_at, instruction_at, decoded}
 use Rattle.amd64_subset.specs.Meaning.{numbered_body, operation_of, operand_body}
@@ -34,7 +33,6 @@ use Rattle.thread_blocks.specs.JobLoads.{job_loads}
 use Rattle.thread_blocks.specs.JobWorlds.{Shared, job_world}
 use Rattle.thread_blocks.specs.Lines.{Line, begin_line}
 use Rattle.thread_blocks.specs.RunTime.{thread_accesses, thread_steps, resume_line, thread_turns}
-use Rattle.thread_blocks.specs.Turns.{Said}
 use Rattle.job_text.specs.declared.thread_lines.ThreadLine.{ThreadLine}
 use Rattle.link_faults.specs.declared.image_kind.ImageKind.{ImageKind}
 

@@ -2,11 +2,15 @@
 use Rattle.std.specs.Prelude.{Bool, []}
 use Rattle.closed_jobs.specs.Worlds.{BothSay, loads_of_links}
 use Rattle.closed_jobs.specs.LocalCode as local
+use Rattle.closed_jobs.specs.Reopened as reopened
 use Rattle.closed_jobs.specs.LocalSites.{AreTiedSites, setting}
 use Rattle.whole_meaning.specs.Loads.{meaning_of}
 
 abbrev pub LocalCodeSaysTheSame : Type 0
 LocalCodeSaysTheSame = (relax : Bool) → BothSay (local.links relax) 4 local.lines [] local.says
+
+abbrev pub ReopenedSaysTheSame : Type 0
+ReopenedSaysTheSame = (relax : Bool) → BothSay (reopened.links relax) 4 reopened.lines reopened.order reopened.says
 
 abbrev pub LocalCodeIsTied : Type 0
 LocalCodeIsTied = (relax : Bool)

@@ -1,4 +1,5 @@
 pub mod Worlds
 pub mod LocalCode
 pub mod LocalSites
+pub mod Reopened
 pub mod Laws

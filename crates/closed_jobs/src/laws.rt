@@ -1,6 +1,6 @@
 //! Laws of single jobs. The functions do nothing: what they ensure is the law.
 
-ghost use Rattle.closed_jobs.specs.Laws.{LocalCodeIsTied, LocalCodeSaysTheSame};
+ghost use Rattle.closed_jobs.specs.Laws.{LocalCodeIsTied, LocalCodeSaysTheSame, ReopenedSaysTheSame};
 
 /// The job of `specs/LocalCode.antt` says the same by meaning and by machine, rewritten and kept.
 #[tactic(auto, using(crate::proofs::LocalCode::says_the_same))]
@@ -13,4 +13,10 @@ pub fn local_code_says_the_same()
 #[tactic(auto, using(crate::proofs::LocalSites::is_tied))]
 pub fn local_code_is_tied()
     ensures { LocalCodeIsTied }
+{}
+
+/// The job of `specs/Reopened.antt` says the same by meaning and by machine, rewritten and kept.
+#[tactic(auto, using(crate::proofs::Reopened::says_the_same))]
+pub fn reopened_says_the_same()
+    ensures { ReopenedSaysTheSame }
 {}

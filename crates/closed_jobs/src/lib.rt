@@ -1,5 +1,5 @@
-//! One small job, from its object's bytes to what it says, in both worlds. No code runs here: definitions, and laws that
-//! the checker computes.
+//! Two small jobs, from their objects' bytes to what they say, in both worlds. No code runs here: definitions, and
+//! laws that the checker computes.
 //!
 //! A job is run by a machine over its linked images (`thread_blocks`), and it has a meaning, taken from its objects
 //! before anything is linked (`whole_meaning`). `tied_meaning` says what the two have in common, in many small
@@ -16,14 +16,16 @@
 //!
 //! - `specs/Worlds.antt`: what it is that both worlds say the same of a list of links (`BothSay`);
 //! - `specs/LocalCode.antt`: the job of the picture, with its object as the bytes that an assembler wrote;
-//! - `specs/LocalSites.antt`: its sequences and its offset field, and what the linker chose for them in each setting.
+//! - `specs/LocalSites.antt`: its sequences and its offset field, and what the linker chose for them in each setting;
+//! - `specs/Reopened.antt`: a late module that another thread closes in the middle of a call, and that is opened again.
 //!
-//! The first law runs both worlds ([`laws::local_code_says_the_same`]). The second takes the job's image apart: where a
-//! sequence is meant there stands, in the machine's words, what does the same, and the offset field moves the base of
-//! each thread's block to one address ([`laws::local_code_is_tied`]). So no premise of the laws over tied loads is false
-//! of every link.
+//! Two laws run both worlds ([`laws::local_code_says_the_same`], [`laws::reopened_says_the_same`]). One takes the
+//! image of the picture apart ([`laws::local_code_is_tied`]): where a sequence is meant there stands, in the machine's
+//! words, what does the same, and the offset field moves the base of each thread's block to one address. So what is
+//! asked of the sites of tied loads is true of a link.
 //!
-//! The link is computed too, byte for byte: no image is written down.
+//! The links are computed too, byte for byte. Where a module is loaded twice its image is written down beside, so that
+//! it is linked once.
 #![tactic(auto)]
 
 pub mod laws;
