@@ -1,0 +1,10 @@
+mod Defined
+mod First
+mod Functions
+mod Images
+mod Infos
+mod Named
+mod Runs
+mod Symbols
+mod Table
+mod Variables
