@@ -9,14 +9,10 @@ use Rattle.object_faults.specs.declared.class.SectionClass.{SectionClass}
 use Rattle.object_faults.specs.declared.class.SectionClass.TheVariants as class
 use Rattle.elf_object.specs.declared.symbol.SymbolPlace.{SymbolPlace}
 use Rattle.elf_object.specs.declared.symbol.SymbolPlace.TheVariants.{Undefined, Absolute, InSection}
-use Rattle.elf_object.specs.declared.symbol.SymbolType.{SymbolType}
-use Rattle.elf_object.specs.declared.symbol.SymbolType.TheVariants as type_in_object
-use Rattle.elf_object.specs.Classes.{IsTls}
-use Rattle.elf_object.specs.Lent.{section_class, section_size, symbol_place, symbol_type, symbol_value}
+use Rattle.elf_object.specs.Lent.{section_class, symbol_place, symbol_type, symbol_value}
 use Rattle.dynamic_symbols.specs.Laws.{IsShared}
-use Rattle.image_file.specs.declared.symbol.ImageSymbol.{ImageSymbol}
 use Rattle.image_file.specs.declared.symbol.SymbolType.TheVariants as type_in_image
-use Rattle.image_file.specs.Spelled.{Part, Spelled}
+use Rattle.image_file.specs.Spelled.{Spelled}
 use Rattle.image_names.specs.Functions.{entry_in, function_place, is_tls, runs_at}
 use Rattle.link_core.specs.Dynamic.{defined, type_shown}
 use Rattle.link_core.specs.Faults.{Links}
@@ -24,20 +20,17 @@ use Rattle.link_core.specs.Images.{image_of}
 use Rattle.link_faults.specs.declared.symbol_ref.SymbolRef.{SymbolRef}
 use Rattle.link_needs.specs.Given.{IsGiven}
 use Rattle.link_needs.specs.Linking.{Linking, address, address_in, layout, object, offset}
-use Rattle.loaded_bytes.specs.Laws.{IsInstanceOf, images_of}
 use Rattle.loaded_names.proofs.Images.{image_bias, image_is}
-use Rattle.loaded_modules.specs.declared.instance.Instance.{Instance}
-use Rattle.loaded_modules.specs.Images.{image_at}
 use Rattle.loaded_modules.specs.Loader.{bias}
 use Rattle.thread_blocks.specs.JobLoads.{job_loads}
 use Rattle.tls_layout.specs.declared.extent.Extent.{Extent}
-use Rattle.tls_layout.specs.Laws.{LiesAt, extent_for}
+use Rattle.tls_layout.specs.Laws.{extent_for}
 use Rattle.tls_layout.specs.Places.{address_of, class_of, room}
 use Rattle.tls_layout.specs.Sections.{is_class}
 use Rattle.tls_layout.proofs.LawsOfPlaces.{classes_follow, have_addresses, lie_in_classes}
 use Rattle.tls_layout.proofs.LawsOfSections.{finds_sections}
 use Rattle.tls_symbols.specs.Bindings.{is_tls_class, is_tls_place}
-use Rattle.tls_symbols.specs.Definitions.{definition_of, is_defined}
+use Rattle.tls_symbols.specs.Definitions.{definition_of}
 use Rattle.whole_meaning.specs.Bytes.{below, code_place, function_at, function_of}
 use Rattle.whole_meaning.specs.Spots.{begin_of, bias_of}
 use Rattle.loaded_names.specs.Laws.{FunctionsAreLoaded}
@@ -68,13 +61,13 @@ module _ (l : Linking) (given : IsGiven l) (links : Links l) (found : SymbolRef)
   is : IsPlacedIn l found
   is = placed_in l given found shares
 
-  -- where it stands in its section's class, and before the room
+  -- where it stands if that is in section s: in the class, and not behind where the room begins
   abbrev at_in : ℕ → ℕ
   at_in s = begin_of (layout l) found.object s + symbol_value (object l found.object) found.symbol
 
   record Stands (s : ℕ) (c : SectionClass) : Type 0 where
-    pub begins : (extent_for c (layout l)).start ≤ begin_of (layout l) found.object s + symbol_value (object l found.object) found.symbol
-    pub below_room : begin_of (layout l) found.object s + symbol_value (object l found.object) found.symbol ≤ room (layout l).kind (layout l).sections
+    pub begins : (extent_for c (layout l)).start ≤ at_in s
+    pub below_room : at_in s ≤ room (layout l).kind (layout l).sections
 
   stands : (s : ℕ) (c : SectionClass) → symbol_place b e ≡ InSection s → section_class b s ≡ Some c → c ≢ class.Tls false
       → Stands s c
@@ -145,7 +138,9 @@ module _ (l : Linking) (given : IsGiven l) (links : Links l) (found : SymbolRef)
 
   -- a function of the objects, by where it is defined
   abbrev meant : SymbolPlace → ℕ → Option ℕ
-  meant (InSection s) at = if is_class class.Executable (section_class (object l found.object) s) then below (extent_for class.Executable (layout l)).end at else None
+  meant (InSection s) at = if is_class class.Executable (section_class (object l found.object) s)
+      then below (extent_for class.Executable (layout l)).end at
+      else None
   meant place at = None
 
   same_code : (place : SymbolPlace) → code_place l found place ≡ meant place (address l found)
@@ -188,7 +183,7 @@ pub functions_loaded : FunctionsAreLoaded
 unfolding job_loads
 functions_loaded ls l x name is =
     ap
-    (λ found. option_and_then (λ (image : Spelled). option_map (λ place. place + bias image.kind x.number) (entry_in image name)) found)
+    (option_and_then (λ (image : Spelled). option_map (λ place. place + bias image.kind x.number) (entry_in image name)))
     (image_is ls l x.image is.image)
     ∙ ap (λ n. option_map (λ place. place + n) (entry_in (image_of l) name)) (image_bias l x.number)
     ∙ ap (option_map (λ at. at + bias_of l.kind x.number)) (entry_is l is.given is.links name)

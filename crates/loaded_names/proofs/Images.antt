@@ -1,5 +1,5 @@
 -- The image of an instance, and how far a loader moves it.
-use Rattle.std.proofs.Common.{◌≡◌, ◌∙◌, ℕ, zero, suc, List, Option, Some, refl, ap}
+use Rattle.std.proofs.Common.{◌≡◌, ◌∙◌, ℕ, zero, suc, List, Some, refl, ap}
 use Rattle.std.specs.Prelude.{option_map}
 use Rattle.std.proofs.lemmas.Option.{slice_get-map}
 use Rattle.image_writer.specs.Tables.{finished}
@@ -8,7 +8,6 @@ use Rattle.link_faults.specs.declared.image_kind.ImageKind.{ImageKind}
 use Rattle.link_faults.specs.declared.image_kind.ImageKind.TheVariants.{Exe, Pie, Start, Late}
 use Rattle.link_needs.specs.Linking.{Linking}
 use Rattle.loaded_bytes.specs.Laws.{images_of}
-use Rattle.loaded_modules.specs.declared.instance.Instance.{Instance}
 use Rattle.loaded_modules.specs.Images.{image_at}
 use Rattle.loaded_modules.specs.Loader.{bias}
 use Rattle.thread_blocks.specs.Turns.{at_number}

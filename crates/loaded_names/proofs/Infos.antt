@@ -1,6 +1,5 @@
 -- Sizes and alignments of blocks, and who wants surplus.
-use Rattle.std.proofs.Common.{◌≡◌, ◌==◌, ◌∙◌, ◌||◌, ◌&&◌, ℕ, Bool, true, false, List, [], ◌∷◌, Some, None, map, refl, sym, ap, arith}
-use Rattle.std.specs.Prelude.{if◌then◌else◌}
+use Rattle.std.proofs.Common.{◌≡◌, ◌==◌, ◌∙◌, ◌||◌, ◌&&◌, ℕ, Bool, true, false, List, [], ◌∷◌, map, refl, sym, ap, arith}
 use Rattle.std.specs.List.{list_any}
 use Rattle.std.proofs.lemmas.Bool.Decides.{nat_tests}
 use Rattle.image_writer.specs.Tables.{finished}
@@ -9,7 +8,6 @@ use Rattle.link_core.specs.Dynamic as linker
 use Rattle.link_core.specs.Images.{contents, image_of, tls_part}
 use Rattle.link_faults.specs.ImageKinds.{is_module}
 use Rattle.link_needs.specs.Linking.{Linking, layout}
-use Rattle.loaded_bytes.specs.Laws.{images_of}
 use Rattle.loaded_modules.specs.Images.{block_alignment, block_size, infos, infos_of, last_offset}
 use Rattle.loaded_modules.specs.Images as loaded
 use Rattle.module_table.specs.declared.modules.ImageInfo.{ImageInfo}

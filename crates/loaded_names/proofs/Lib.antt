@@ -3,6 +3,7 @@ mod First
 mod Functions
 mod Images
 mod Infos
+mod Meant
 mod Named
 mod Runs
 mod Symbols

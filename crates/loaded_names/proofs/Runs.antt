@@ -9,7 +9,7 @@ use Rattle.std.proofs.lemmas.List.Folds.{list_any-append}
 use Rattle.image_file.specs.declared.part.PartClass.{PartClass}
 use Rattle.image_file.specs.declared.part.PartClass.TheVariants.{Executable, ReadOnly, Writable}
 use Rattle.image_file.specs.Spelled.{Part}
-use Rattle.image_names.specs.Functions.{is_code, runs_at}
+use Rattle.image_names.specs.Functions.{runs_at}
 use Rattle.image_writer.specs.declared.outline.PartPlace.{PartPlace}
 use Rattle.image_writer.specs.Contents.{part_in}
 use Rattle.image_writer.specs.Page.{file_offset}
@@ -57,6 +57,10 @@ none_within start end at none = grind (arith, nat_tests)
 rises : (start end : ℕ) → nat_lt start end ≡ true → start < end
 rises start end some = grind (arith, nat_tests)
 
+-- the part of an extent
+abbrev place_of : PartClass → Extent → PartPlace
+place_of kind extent = record { class = kind; address = extent.start; size = extent.end - extent.start }
+
 first_of : {X : Type 0} (P : X → Type 0) (t : Bool) (x : X) (ys zs : List X) → t ≡ true
     → All P (((if t then x ∷ [] else []) ++ ys) ++ zs) → P x
 first_of P true x ys zs is all = all 0 x (omega arith)
@@ -67,11 +71,13 @@ module _ (l : Linking) (given : IsGiven l) (links : Links l) where
   code = extent_for class.Executable (layout l)
 
   abbrev pub is_within : ℕ → Bool
-  is_within at = nat_le (extent_for class.Executable (layout l)).start at && nat_lt at (extent_for class.Executable (layout l)).end
+  is_within at =
+      nat_le (extent_for class.Executable (layout l)).start at
+      && nat_lt at (extent_for class.Executable (layout l)).end
 
   -- where the class has bytes, they are the first part of the image
   abbrev code_place : PartPlace
-  code_place = record { class = Executable; address = code.start; size = code.end - code.start }
+  code_place = place_of Executable (extent_for class.Executable (layout l))
 
   code_long : nat_lt code.start code.end ≡ true
       → length (part_in (file_kind l.kind) (file l) code_place).bytes ≡ code.end - code.start
@@ -95,8 +101,7 @@ module _ (l : Linking) (given : IsGiven l) (links : Links l) where
     constants_none extent = of_test (nat_lt extent.start extent.end)
       where
         of_test : (t : Bool)
-            → list_any runs (if t then record { class = ReadOnly; address = extent.start; size = extent.end - extent.start } ∷ [] else [])
-            ≡ false
+            → list_any runs (if t then place_of ReadOnly extent ∷ [] else []) ≡ false
         of_test true = refl
         of_test false = refl
 
@@ -104,8 +109,7 @@ module _ (l : Linking) (given : IsGiven l) (links : Links l) where
     data_none extent = of_test (nat_lt extent.start extent.end)
       where
         of_test : (t : Bool)
-            → list_any runs (if t then record { class = Writable; address = extent.start; size = extent.end - extent.start } ∷ [] else [])
-            ≡ false
+            → list_any runs (if t then place_of Writable extent ∷ [] else []) ≡ false
         of_test true = refl
         of_test false = refl
 
@@ -113,7 +117,8 @@ module _ (l : Linking) (given : IsGiven l) (links : Links l) where
     table_none = of_test (got_size l == 0)
       where
         of_test : (t : Bool)
-            → list_any runs (if t then [] else record { class = Writable; address = got_start l; size = got_size l } ∷ []) ≡ false
+            → list_any runs (if t then [] else record { class = Writable; address = got_start l; size = got_size l } ∷ [])
+            ≡ false
         of_test true = refl
         of_test false = refl
 
@@ -122,7 +127,8 @@ module _ (l : Linking) (given : IsGiven l) (links : Links l) where
     stub_none = of_test (has_stub l) refl
       where
         of_test : (t : Bool) → has_stub l ≡ t
-            → list_any runs (if t then record { class = Executable; address = stub_start l; size = 6 } ∷ [] else []) ≡ false
+            → list_any runs (if t then record { class = Executable; address = stub_start l; size = 6 } ∷ [] else [])
+            ≡ false
         of_test true has =
             let up = page_up-above (got_start l + got_size l) in
             rw (lt-leb (stub_start l) at (omega (arith, low, table_some l has, up))) refl
@@ -152,7 +158,7 @@ module _ (l : Linking) (given : IsGiven l) (links : Links l) where
         let w = filled Writable (writable (layout l).kind (layout l).sections) in
         let added = none_of runs (got_places l) (stub_places l) table_none stub_none in
         let last = none_of runs t w (constants_none (tls_image (layout l).kind (layout l).sections))
-            (data_none (writable (layout l).kind (layout l).sections)) in
+        (data_none (writable (layout l).kind (layout l).sections)) in
         let rest = none_of runs r (t ++ w) (constants_none (read_only (layout l).kind (layout l).sections)) last in
         first_alone runs (x ++ (r ++ (t ++ w))) (got_places l ++ stub_places l) added
         ∙ first_alone runs x (r ++ (t ++ w)) rest

@@ -1,5 +1,5 @@
 -- A definition stands in a section that linking keeps, and its type is that of thread-local storage in such a section alone.
-use Rattle.std.proofs.Common.{◌≡◌, ◌≢◌, ◌+◌, ◌≤◌, ℕ, true, false, List, [], IsSome, refl, ap, subst, arith}
+use Rattle.std.proofs.Common.{◌≡◌, ◌≢◌, ◌≤◌, ℕ, true, false, List, [], IsSome, refl, subst, arith}
 use Rattle.elf_object.specs.declared.symbol.SymbolBinding.{SymbolBinding}
 use Rattle.elf_object.specs.declared.symbol.SymbolBinding.TheVariants.{Local, Global, Weak}
 use Rattle.elf_object.specs.declared.symbol.SymbolPlace.{SymbolPlace}

@@ -3,7 +3,6 @@ use Rattle.std.proofs.Common.{◌≡◌, ◌∙◌, ℕ, Bool, true, false, List
 use Rattle.std.specs.Prelude.{option_and_then, option_map, if◌then◌else◌}
 use Rattle.dynamic_symbols.specs.Laws.{IsShared}
 use Rattle.elf_object.specs.Lent.{symbol_type}
-use Rattle.image_file.specs.declared.symbol.ImageSymbol.{ImageSymbol}
 use Rattle.image_file.specs.declared.symbol.SymbolType.TheVariants as type_in_image
 use Rattle.image_file.specs.Spelled.{Spelled}
 use Rattle.image_names.specs.declared.variable.Variable.{Variable}
@@ -14,9 +13,7 @@ use Rattle.link_core.specs.Images.{image_of}
 use Rattle.link_faults.specs.declared.symbol_ref.SymbolRef.{SymbolRef}
 use Rattle.link_needs.specs.Given.{IsGiven}
 use Rattle.link_needs.specs.Linking.{Linking, address, object, offset}
-use Rattle.loaded_bytes.specs.Laws.{IsInstanceOf, images_of}
 use Rattle.loaded_names.proofs.Images.{image_is}
-use Rattle.loaded_modules.specs.declared.instance.Instance.{Instance}
 use Rattle.thread_blocks.specs.JobLoads.{job_loads}
 use Rattle.tls_symbols.specs.Bindings.{is_tls_symbol}
 use Rattle.tls_symbols.specs.Definitions.{definition_of}
@@ -39,7 +36,8 @@ module _ (l : Linking) (given : IsGiven l) where
   variable_alike found shares = of_test (is_tls_symbol (object l found.object) found.symbol) refl
     where
       of_test : (t : Bool) → is_tls_symbol (object l found.object) found.symbol ≡ t
-          → offset_in (if is_tls (if t then type_in_image.Tls else type_shown (symbol_type (object l found.object) found.symbol))
+          → offset_in (if is_tls
+          (if t then type_in_image.Tls else type_shown (symbol_type (object l found.object) found.symbol))
           then Some (record { offset = (if t then offset l found else address l found) })
           else None)
           ≡ (if t then Some (offset l found) else None)
@@ -60,6 +58,6 @@ module _ (l : Linking) (given : IsGiven l) where
 -- the law
 pub variables_loaded : VariablesAreLoaded
 unfolding job_loads
-variables_loaded ls l x name is =
-    ap (λ found. offset_in (option_and_then (λ (image : Spelled). variable_in image name) found)) (image_is ls l x.image is.image)
-    ∙ variable_is l is.given name
+variables_loaded ls l image name is given =
+    ap (λ found. offset_in (option_and_then (λ (image : Spelled). variable_in image name) found)) (image_is ls l image is)
+    ∙ variable_is l given name

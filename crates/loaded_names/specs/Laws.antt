@@ -1,12 +1,15 @@
 -- What is known of a loaded image by name, and of its blocks, is what its objects say.
-use Rattle.std.specs.Prelude.{◌≡◌, ◌+◌, ℕ, List, map, option_map}
+use Rattle.std.specs.Prelude.{◌≡◌, ◌+◌, ℕ, List, Some, map, option_map}
+use Rattle.std.specs.List.{All}
+use Rattle.link_needs.specs.Given.{IsGiven}
 use Rattle.link_needs.specs.Linking.{Linking}
 use Rattle.loaded_modules.specs.declared.instance.Instance.{Instance}
 use Rattle.loaded_bytes.specs.Laws.{IsInstanceOf, images_of}
 use Rattle.module_table.specs.Laws.{startup_end}
 use Rattle.thread_blocks.specs.JobLoads.{job_loads}
+use Rattle.thread_blocks.specs.Turns.{at_number}
 use Rattle.whole_meaning.specs.Bytes.{function_of, variable_of}
-use Rattle.whole_meaning.specs.Loads.{info_of}
+use Rattle.whole_meaning.specs.Loads.{info_of, loads_of}
 use Rattle.whole_meaning.specs.Spots.{bias_of}
 
 -- ** blocks
@@ -26,7 +29,25 @@ FunctionsAreLoaded = (ls : List Linking) (l : Linking) (x : Instance) (name : Li
 
 -- ** variables
 
--- a variable lies in a block where its definition lies in the TLS segment
+-- a variable lies in a block where its definition lies in the TLS segment; it is asked for by an image's number
 abbrev pub VariablesAreLoaded : Type 0
-VariablesAreLoaded = (ls : List Linking) (l : Linking) (x : Instance) (name : List ℕ) → IsInstanceOf ls l x
-    → (job_loads (images_of ls)).variable x.image name ≡ variable_of l name
+VariablesAreLoaded = (ls : List Linking) (l : Linking) (image : ℕ) (name : List ℕ)
+    → at_number ls image ≡ Some l → IsGiven l
+    → (job_loads (images_of ls)).variable image name ≡ variable_of l name
+
+-- ** what the meaning of a job says
+
+-- of each instance
+abbrev pub FunctionsAreMeant : Type 0
+FunctionsAreMeant = (ls : List Linking) (l : Linking) (x : Instance) (name : List ℕ) → IsInstanceOf ls l x
+    → (job_loads (images_of ls)).function x name ≡ (loads_of ls).function x name
+
+-- of each number, those that no image has among them
+abbrev pub VariablesAreMeant : Type 0
+VariablesAreMeant = (ls : List Linking) (image : ℕ) (name : List ℕ) → All IsGiven ls
+    → (job_loads (images_of ls)).variable image name ≡ (loads_of ls).variable image name
+
+-- and of each job, whatever it links
+abbrev pub InfosAreMeant : Type 0
+InfosAreMeant = (ls : List Linking) → ((job_loads (images_of ls)).infos ≡ (loads_of ls).infos)
+    × ((job_loads (images_of ls)).last_offset ≡ (loads_of ls).last_offset)

@@ -1,6 +1,7 @@
 //! The laws. The functions do nothing: what they ensure is the law.
 
-ghost use Rattle.loaded_names.specs.Laws.{FunctionsAreLoaded, InfosAreLoaded, VariablesAreLoaded};
+ghost use Rattle.loaded_names.specs.Laws.{FunctionsAreLoaded, FunctionsAreMeant, InfosAreLoaded, InfosAreMeant};
+ghost use Rattle.loaded_names.specs.Laws.{VariablesAreLoaded, VariablesAreMeant};
 
 /// Sizes and alignments of blocks, and who wants surplus, are those of the objects' sections and sequences.
 pub fn infos_are_loaded()
@@ -15,4 +16,19 @@ pub fn functions_are_loaded()
 /// A variable is found by its name where the objects define it.
 pub fn variables_are_loaded()
     ensures { VariablesAreLoaded }
+{}
+
+/// So names are found, and blocks are told of, as the meaning of the job has them: functions of each instance,
+pub fn functions_are_meant()
+    ensures { FunctionsAreMeant }
+{}
+
+/// variables of each image,
+pub fn variables_are_meant()
+    ensures { VariablesAreMeant }
+{}
+
+/// and blocks of all.
+pub fn infos_are_meant()
+    ensures { InfosAreMeant }
 {}

@@ -23,4 +23,7 @@
 
 mod laws;
 
-pub use laws::{functions_are_loaded, infos_are_loaded, variables_are_loaded};
+pub use laws::{
+    functions_are_loaded, functions_are_meant, infos_are_loaded, infos_are_meant,
+    variables_are_loaded, variables_are_meant,
+};
