@@ -49,7 +49,7 @@ variables_meant ls image name given = of_link (at_number ls image) refl
         ≡ option_and_then (λ (l : Linking). variable_of l name) found
     of_link None at =
         ap
-        (λ image. option_map (λ (v : Variable). v.offset) (option_and_then (λ (found : Spelled). variable_in found name) image))
+        (λ image. option_map (λ (v : Variable). v.offset) (option_and_then (λ (s : Spelled). variable_in s name) image))
         (none_at ls image at)
     of_link (Some l) at = variables_loaded ls l image name at (given_at ls given image l at)
 

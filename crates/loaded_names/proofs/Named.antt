@@ -95,7 +95,8 @@ module _ (l : Linking) (name : List ℕ) where
       of_test (test (name_of l.objects found)) refl none (own_behind own others symbols)
     where
       of_test : (t : Bool) → test (name_of l.objects found) ≡ t → (t || list_any test (map (name_of l.objects) own)) ≡ false
-          → (list_any test (map (name_of l.objects) own) ≡ false → first_of own others symbols ≡ first_named test others symbols)
+          → (list_any test (map (name_of l.objects) own) ≡ false
+          → first_of own others symbols ≡ first_named test others symbols)
           → first_of (found ∷ own) others symbols ≡ first_named test others symbols
       of_test true here none rest = absurd (cc)
       of_test false other none rest =

@@ -10,7 +10,8 @@ use Rattle.got_pairs.specs.declared.need.Need.TheVariants.{AddressWord, RuntimeW
 use Rattle.got_pairs.specs.Needs.{size_of, start_from, total_size}
 use Rattle.got_pairs.proofs.Served.{served}
 use Rattle.link_needs.specs.Linking.{Linking, choice}
-use Rattle.link_needs.specs.Needs.{any_stub_call, as_list, calls, calls_stub, entries, got_size, has_stub, is_kept, is_stub_call}
+use Rattle.link_needs.specs.Needs.{any_stub_call, as_list, calls, calls_stub, entries, got_size, has_stub, is_kept}
+use Rattle.link_needs.specs.Needs.{is_stub_call}
 use Rattle.link_needs.specs.Needs.{needs, object_needs_from, reaching, relocation_need, site_needs, site_needs_from}
 use Rattle.sequence_forms.specs.declared.forms.Form.{Form}
 use Rattle.sequence_forms.specs.declared.forms.Form.TheVariants.{Gd, Ld, IeMov, IeAdd, GdInd, LdInd, DescLea, DescCall}

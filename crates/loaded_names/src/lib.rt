@@ -1,9 +1,9 @@
 //! What is found by name in a loaded image, and what is known of its blocks: laws, and no code.
 //!
-//! A linker writes a table of symbols into each image (gABI, "Symbol Table"), and beside it a segment of thread-local
-//! storage and a flag (gABI, "Program Header", DF_STATIC_TLS). A loader looks up a name, and asks how long a block is, by
-//! these alone. Objects know nothing of such tables: of several definitions of a name, one is the name's, by the rules of
-//! binding.
+//! A linker writes a table of symbols into each image (gABI, "Symbol Table"), and tells of its thread-local storage by a
+//! segment (gABI, "Program Header", PT_TLS) and a flag (gABI, "Dynamic Section", DF_STATIC_TLS). A loader looks up a name,
+//! and asks how long a block is, by these alone. Objects know nothing of such tables: of several definitions of a name,
+//! one is the name's, by the rules of binding.
 //!
 //! The rule of the crate: **what is read back is what was meant**. A name has a function where its definition stands in
 //! code, as far moved as the instance ([`functions_are_loaded`]); it has a variable where its definition is thread-local,
