@@ -1,11 +1,11 @@
 mod Defined
 mod First
-mod Functions
+pub mod Functions
 mod Images
-mod Infos
-mod Meant
+pub mod Infos
+pub mod Meant
 mod Named
 mod Runs
 mod Symbols
 mod Table
-mod Variables
+pub mod Variables
