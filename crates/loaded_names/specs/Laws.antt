@@ -1,0 +1,53 @@
+-- What is known of a loaded image by name, and of its blocks, is what its objects say.
+use Rattle.std.specs.Prelude.{◌≡◌, ◌+◌, ℕ, List, Some, map, option_map}
+use Rattle.std.specs.List.{All}
+use Rattle.link_needs.specs.Given.{IsGiven}
+use Rattle.link_needs.specs.Linking.{Linking}
+use Rattle.loaded_modules.specs.declared.instance.Instance.{Instance}
+use Rattle.loaded_bytes.specs.Laws.{IsInstanceOf, images_of}
+use Rattle.module_table.specs.Laws.{startup_end}
+use Rattle.thread_blocks.specs.JobLoads.{job_loads}
+use Rattle.thread_blocks.specs.Turns.{at_number}
+use Rattle.whole_meaning.specs.Bytes.{function_of, variable_of}
+use Rattle.whole_meaning.specs.Loads.{info_of, loads_of}
+use Rattle.whole_meaning.specs.Spots.{bias_of}
+
+-- ** blocks
+
+-- sizes and alignments of blocks, and who wants surplus; with them, where the last startup image's block begins
+abbrev pub InfosAreLoaded : Type 0
+InfosAreLoaded = (ls : List Linking) → ((job_loads (images_of ls)).infos ≡ map info_of ls)
+    × ((job_loads (images_of ls)).last_offset ≡ startup_end (map info_of ls) 0)
+
+-- ** functions
+
+-- a function begins where its definition stands, moved as far as the instance
+abbrev pub FunctionsAreLoaded : Type 0
+FunctionsAreLoaded = (ls : List Linking) (l : Linking) (x : Instance) (name : List ℕ) → IsInstanceOf ls l x
+    → (job_loads (images_of ls)).function x name
+    ≡ option_map (λ at. at + bias_of l.kind x.number) (function_of l name)
+
+-- ** variables
+
+-- a variable lies in a block where its definition lies in the TLS segment; it is asked for by an image's number
+abbrev pub VariablesAreLoaded : Type 0
+VariablesAreLoaded = (ls : List Linking) (l : Linking) (image : ℕ) (name : List ℕ)
+    → at_number ls image ≡ Some l → IsGiven l
+    → (job_loads (images_of ls)).variable image name ≡ variable_of l name
+
+-- ** what the meaning of a job says
+
+-- of each instance
+abbrev pub FunctionsAreMeant : Type 0
+FunctionsAreMeant = (ls : List Linking) (l : Linking) (x : Instance) (name : List ℕ) → IsInstanceOf ls l x
+    → (job_loads (images_of ls)).function x name ≡ (loads_of ls).function x name
+
+-- of each number, those that no image has among them
+abbrev pub VariablesAreMeant : Type 0
+VariablesAreMeant = (ls : List Linking) (image : ℕ) (name : List ℕ) → All IsGiven ls
+    → (job_loads (images_of ls)).variable image name ≡ (loads_of ls).variable image name
+
+-- and of each job, whatever it links
+abbrev pub InfosAreMeant : Type 0
+InfosAreMeant = (ls : List Linking) → ((job_loads (images_of ls)).infos ≡ (loads_of ls).infos)
+    × ((job_loads (images_of ls)).last_offset ≡ (loads_of ls).last_offset)
