@@ -1,23 +1,23 @@
-mod Apart
+pub mod Apart
 mod Biases
-mod Blocks
-mod ClassFile
+pub mod Blocks
+pub mod ClassFile
 mod ClassParts
 mod Classes
-mod Data
-mod Elsewhere
+pub mod Data
+pub mod Elsewhere
 mod FieldBytes
 mod Finds
-mod LeftBytes
-mod Meant
-mod Origins
-mod Places
+pub mod LeftBytes
+pub mod Meant
+pub mod Origins
+pub mod Places
 mod Ranges
 mod RoomParts
-mod RunsOn
-mod Sections
-mod Small
+pub mod RunsOn
+pub mod Sections
+pub mod Small
 mod Spots
-mod Still
-mod Values
+pub mod Still
+pub mod Values
 mod Zeros
