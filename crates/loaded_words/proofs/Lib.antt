@@ -1,0 +1,9 @@
+pub mod Entries
+pub mod Images
+pub mod Names
+pub mod Ranges
+pub mod Rows
+pub mod Table
+pub mod Tests
+pub mod Words
+pub mod Written
