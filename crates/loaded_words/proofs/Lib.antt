@@ -3,7 +3,9 @@ pub mod Images
 pub mod Names
 pub mod Ranges
 pub mod Rows
+pub mod Stub
 pub mod Table
+pub mod Tables
 pub mod Tests
 pub mod Words
 pub mod Written

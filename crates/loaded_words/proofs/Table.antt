@@ -107,9 +107,9 @@ module _ (l : Linking) (some : 0 < got_size l) where
 
 -- ** the bytes of an entry
 
-size_some : (l : Linking) (need : Need) (at : ℕ) → start_of (entries l) need ≡ Some at
+pub inside_table : (l : Linking) (need : Need) (at : ℕ) → start_of (entries l) need ≡ Some at
     → at + size_of need ≤ got_size l
-size_some l need at e =
+inside_table l need at e =
     subst (λ o. IfSome o (λ s. s + size_of need ≤ got_size l)) e (within (entries l) need (start_of (entries l) need) refl)
 
 module _ (ls : List Linking) (l : Linking) (x : Instance) (is : IsInstanceOf ls l x) (need : Need) (at : ℕ)
@@ -119,7 +119,7 @@ module _ (ls : List Linking) (l : Linking) (x : Instance) (is : IsInstanceOf ls 
       → slice_get (got_part l).bytes (at + k) ≡ Some byte
   unfolding part_at
   filed k byte below e long =
-      let inside = size_some l need at starts in
+      let inside = inside_table l need at starts in
       let place : file_offset (file_kind l.kind) (got_start l) + (at + k) ≡ offset_of (layout l) (got_start l + at) + k =
       omega (arith, same_base l.kind, base_before l) in
       slice_get-take (got_size l) (at + k) _ (omega (arith, inside, below))
@@ -136,7 +136,7 @@ module _ (ls : List Linking) (l : Linking) (x : Instance) (is : IsInstanceOf ls 
       ≡ Some (left_byte (images_of ls) (image_of l) x (got_start l + at + k) byte)
   unfolding image_of
   found k byte below e =
-      let inside = size_some l need at starts in
+      let inside = inside_table l need at starts in
       let some : 0 < got_size l = omega (arith, inside, below) in
       let link = linkable l is.given is.links.sound in
       let long = part_size l some is.given is.links in

@@ -63,7 +63,7 @@ are_fields l given = of_test (is_moved l.kind)
         (all_from l given 0 l.objects refl)
     of_test false = All-nil (IsField l 0)
 
-no_relative : (l : Linking) → IsGiven l → FitsTable l → (address : ℕ) → got_start l ≤ address
+pub no_relative : (l : Linking) → IsGiven l → FitsTable l → (address : ℕ) → got_start l ≤ address
     → find (is_written_at address) (relatives l) ≡ None
 no_relative l given limits address low =
     none_found (is_written_at address) (relatives l) (λ r has passes.

@@ -3,4 +3,4 @@
 
 mod laws;
 
-pub use laws::words_are_loaded;
+pub use laws::{stub_is_loaded, tables_hold, words_are_loaded};
