@@ -1,6 +1,6 @@
 -- What a loader reads of an entry: the name of an import is the one that was written, and numbers have 64 bits.
 use Rattle.std.proofs.Common.{◌≡◌, ◌∙◌, ◌+◌, ◌-◌, ◌<◌, ◌≤◌, ◌^◌, ℕ, zero, suc, Bool, true, false, List, [], ◌∷◌, ◌++◌}
-use Rattle.std.proofs.Common.{Option, Some, None, length, map, refl, sym, ap, arith, if◌then◌else◌}
+use Rattle.std.proofs.Common.{Some, length, map, refl, sym, ap, arith}
 use Rattle.std.specs.Prelude.{slice_get, slice_index_or, unwrap_or}
 use Rattle.std.specs.List.{Contains, position_from}
 use Rattle.std.specs.Str.{bytes_eq}

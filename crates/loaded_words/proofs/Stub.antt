@@ -1,5 +1,5 @@
 -- The stub, as an instance has it.
-use Rattle.std.proofs.Common.{◌≡◌, ◌∙◌, ◌+◌, ◌-◌, ◌<◌, ◌≤◌, ℕ, true, List, [], ◌∷◌, ◌++◌, None, Some, length, map}
+use Rattle.std.proofs.Common.{◌≡◌, ◌∙◌, ◌+◌, ◌-◌, ◌≤◌, ℕ, true, List, [], ◌∷◌, ◌++◌, None, Some, length, map}
 use Rattle.std.proofs.Common.{refl, sym, ap, arith, subst}
 use Rattle.std.specs.Prelude.{option_map, slice_get, slice_index_or}
 use Rattle.std.specs.List.{find}
@@ -33,14 +33,13 @@ use Rattle.link_core.specs.Images.{contents, file_kind, got_places, image_of, pl
 use Rattle.link_needs.specs.Given.{FitsTable, IsGiven}
 use Rattle.link_needs.specs.Linking.{Linking, layout}
 use Rattle.link_needs.specs.Needs.{got_size, got_start, has_stub, stub_start}
-use Rattle.loaded_modules.specs.declared.instance.Instance.{Instance}
 use Rattle.loaded_modules.specs.Loader.{part_bytes}
 use Rattle.relocated_parts.proofs.Loaded.{part_left}
 use Rattle.relocated_parts.proofs.Parts.{parts_follow}
 use Rattle.relocated_parts.specs.Laws.{IsMade}
 use Rattle.relocated_parts.specs.Left.{byte_by, is_written_at, left_byte}
 use Rattle.section_file.specs.Files.{offset_of}
-use Rattle.thread_blocks.specs.JobLoads.{job_loads, parts_from}
+use Rattle.thread_blocks.specs.JobLoads.{parts_from}
 use Rattle.tls_layout.proofs.Together.{page_up-above}
 use Rattle.tls_relocs.specs.Elements.{slice_get-append, slice_get-append_behind, slice_get-drop, slice_get-take}
 use Rattle.whole_meaning.specs.Spots.{bias_of}

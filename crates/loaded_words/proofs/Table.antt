@@ -1,11 +1,10 @@
 -- The table is a part of the image that can be read and that no thread writes.
-use Rattle.std.proofs.Common.{◌≡◌, ◌+◌, ◌-◌, ◌<◌, ◌≤◌, ◌==◌, ◌∙◌, ℕ, Bool, true, false, List, [], ◌∷◌, ◌++◌, Some, length}
-use Rattle.std.proofs.Common.{map, refl, sym, ap, subst, arith, if◌then◌else◌}
+use Rattle.std.proofs.Common.{◌≡◌, ◌+◌, ◌-◌, ◌<◌, ◌≤◌, ◌==◌, ◌∙◌, ℕ, true, false, List, [], ◌∷◌, ◌++◌, Some, length}
+use Rattle.std.proofs.Common.{map, refl, sym, ap, subst, arith}
 use Rattle.std.specs.Prelude.{option_map, slice_get}
-use Rattle.std.specs.List.{Contains, slice_index_or}
+use Rattle.std.specs.List.{slice_index_or}
 use Rattle.std.specs.Option.{IfSome}
 use Rattle.std.proofs.lemmas.Bool.Decides.{nat_tests}
-use Rattle.std.proofs.lemmas.List.{length-append}
 use Rattle.std.proofs.lemmas.Option.{get_or_from_slice_get, slice_get-map, slice_get_within}
 use Rattle.elf_records.specs.Fields.{part_at}
 use Rattle.got_pairs.proofs.Served.{within}
@@ -40,7 +39,7 @@ use Rattle.relocated_parts.proofs.Parts.{parts_follow}
 use Rattle.relocated_parts.specs.Laws.{IsMade}
 use Rattle.relocated_parts.specs.Left.{left_byte}
 use Rattle.section_file.specs.Files.{offset_of}
-use Rattle.thread_blocks.specs.JobLoads.{instance_part, job_loads, parts_from}
+use Rattle.thread_blocks.specs.JobLoads.{job_loads, parts_from}
 use Rattle.thread_blocks.specs.Loading.{is_loaders}
 use Rattle.tls_relocs.specs.Elements.{slice_get-append, slice_get-append_behind, slice_get-drop, slice_get-take}
 use Rattle.whole_meaning.specs.Spots.{bias_of}

@@ -1,11 +1,10 @@
 -- The table is among what the run time reads pairs and descriptors from.
-use Rattle.std.proofs.Common.{◌≡◌, ◌∙◌, ◌+◌, ◌<◌, ◌≤◌, ◌||◌, ◌&&◌, ℕ, zero, suc, Bool, true, false, List, [], ◌∷◌, Some, length}
-use Rattle.std.proofs.Common.{refl, sym, ap, arith, subst, if◌then◌else◌}
+use Rattle.std.proofs.Common.{◌≡◌, ◌∙◌, ◌+◌, ◌<◌, ◌≤◌, ◌||◌, ℕ, zero, suc, Bool, true, false, List, [], ◌∷◌, Some, length}
+use Rattle.std.proofs.Common.{refl, ap, arith, if◌then◌else◌}
 use Rattle.std.specs.Prelude.{slice_get}
 use Rattle.std.specs.List.{list_any}
 use Rattle.std.proofs.lemmas.Bool.{le-leb}
 use Rattle.std.proofs.lemmas.Option.{same_Some}
-use Rattle.guest_operands.specs.Ranges.{Range}
 use Rattle.image_file.specs.Spelled.{Part, Spelled}
 use Rattle.link_core.specs.Images.{image_of}
 use Rattle.link_needs.specs.Needs.{got_size, got_start}

@@ -1,11 +1,10 @@
 -- Each word of the table, as an instance has it.
-use Rattle.std.proofs.Common.{◌≡◌, ◌∙◌, ◌+◌, ◌-◌, ◌*◌, ◌<◌, ◌≤◌, ℕ, zero, suc, Bool, true, false, List, [], ◌∷◌, ◌++◌, Option, Some, None}
-use Rattle.std.proofs.Common.{length, refl, sym, ap, subst, arith, if◌then◌else◌}
-use Rattle.std.specs.Prelude.{option_map, slice_get}
-use Rattle.std.specs.List.{All, Contains, find, flat_map}
+use Rattle.std.proofs.Common.{◌≡◌, ◌∙◌, ◌+◌, ◌-◌, ◌*◌, ◌<◌, ◌≤◌, ℕ, zero, suc, Bool, true, false, List, [], ◌∷◌, ◌++◌, Some, None}
+use Rattle.std.proofs.Common.{length, refl, sym, ap, arith, if◌then◌else◌}
+use Rattle.std.specs.Prelude.{slice_get}
+use Rattle.std.specs.List.{All, find, flat_map}
 use Rattle.std.specs.Option.{option_or}
-use Rattle.std.proofs.lemmas.List.{append-nil, length-append}
-use Rattle.std.proofs.lemmas.List.Elements.{All-contains, All-nil, All-weaker}
+use Rattle.std.proofs.lemmas.List.Elements.{All-contains, All-nil}
 use Rattle.std.proofs.lemmas.List.Folds.{find-append}
 use Rattle.std.proofs.lemmas.Option.{same_Some, slice_get_within}
 use Rattle.elf_records.specs.Fields.{bytes_of}
@@ -17,12 +16,11 @@ use Rattle.got_pairs.specs.Entries.{entry_of, words}
 use Rattle.got_pairs.specs.Needs.{same_need, size_of, start_from, start_of}
 use Rattle.guest_arithmetic.specs.Values.{digit}
 use Rattle.image_file.specs.declared.relocation.ImageRelocation.{ImageRelocation}
-use Rattle.image_writer.specs.Linkable.{width}
 use Rattle.image_writer.specs.Tables.{finished}
 use Rattle.link_core.proofs.Few.{table_fits}
 use Rattle.link_core.proofs.LengthsRaw.{need_length}
 use Rattle.link_core.proofs.Relatives.{relatives_below}
-use Rattle.link_core.proofs.RelativesApart.{IsRelative, all_sorted, width_of}
+use Rattle.link_core.proofs.RelativesApart.{all_sorted, width_of}
 use Rattle.link_core.proofs.RelativesFields.{IsField, all_from}
 use Rattle.link_core.specs.Bytes.{need_bytes}
 use Rattle.link_core.specs.Dynamic.{got_relocations, image_relocations, need_relocations, object_relocations_from, relatives}

@@ -1,6 +1,6 @@
 -- The words that a loader writes over those of the table.
-use Rattle.std.proofs.Common.{◌≡◌, ◌∙◌, ◌+◌, ◌-◌, ◌*◌, ◌%◌, ◌^◌, ◌<◌, ◌≤◌, ◌⊎◌, ◌&&◌, ◌==◌, ℕ, Bool, true, false, List, [], ◌∷◌, Option, Some, None}
-use Rattle.std.proofs.Common.{inl, inr, refl, sym, ap, arith, if◌then◌else◌}
+use Rattle.std.proofs.Common.{◌≡◌, ◌∙◌, ◌+◌, ◌-◌, ◌^◌, ◌<◌, ◌≤◌, ◌⊎◌, ◌&&◌, ◌==◌, ℕ, false, List, ◌∷◌, Option, Some, None}
+use Rattle.std.proofs.Common.{inl, inr, refl, ap, arith}
 use Rattle.std.specs.Prelude.{nat_le, nat_lt, unwrap_or}
 use Rattle.std.specs.Int.{w64, cast_signed, cast_unsigned}
 use Rattle.std.specs.List.{find}
@@ -8,7 +8,6 @@ use Rattle.std.proofs.lemmas.Bool.{le-ltb, lt-ltb}
 use Rattle.std.proofs.lemmas.Bool.Decides.{nat_tests}
 use Rattle.std.proofs.lemmas.Int.{of_z-to_z}
 use Rattle.got_pairs.specs.declared.entry.DynamicKind.{DynamicKind}
-use Rattle.got_pairs.specs.declared.entry.DynamicKind.TheVariants as dynamic
 use Rattle.got_pairs.specs.declared.entry.DynamicSymbol.TheVariants.{Image, Imported}
 use Rattle.guest_arithmetic.specs.Values.{digit}
 use Rattle.image_file.specs.declared.relocation.ImageRelocation.{ImageRelocation}
