@@ -1,5 +1,5 @@
 -- The words of each kind of entry, as the loader leaves them.
-use Rattle.std.proofs.Common.{◌≡◌, ◌∙◌, ◌+◌, ◌-◌, ◌*◌, ◌^◌, ◌<◌, ℕ, true, false, List, [], ◌∷◌, Some}
+use Rattle.std.proofs.Common.{◌≡◌, ◌∙◌, ◌+◌, ◌-◌, ◌*◌, ◌^◌, ◌<◌, ℕ, true, false, List, [], ◌∷◌}
 use Rattle.std.proofs.Common.{inr, refl, sym, ap, arith}
 use Rattle.std.specs.Prelude.{unwrap_or}
 use Rattle.std.specs.List.{find}
@@ -11,7 +11,7 @@ use Rattle.got_pairs.specs.declared.need.Need.{Need}
 use Rattle.got_pairs.specs.declared.need.Need.TheVariants.{ModulePair, SymbolPair, Descriptor, SymbolWord}
 use Rattle.got_pairs.specs.declared.need.Need.TheVariants.{AddressWord, RuntimeWord}
 use Rattle.got_pairs.specs.declared.need.Target.TheVariants.{Here, Import}
-use Rattle.got_pairs.specs.Entries.{entry_of, held, less}
+use Rattle.got_pairs.specs.Entries.{entry_of, filled, held, less, loaded}
 use Rattle.guest_arithmetic.specs.Values.{digit}
 use Rattle.link_core.specs.Dynamic.{entry_relocations, number_of, relocation_of}
 use Rattle.link_core.specs.Images.{image_of}
@@ -62,7 +62,7 @@ module _ (m : JobImages) (l : Linking) (x : Instance) where
 
   -- ** pairs
 
-  own_pair : (at o : ℕ) → IsRow at (Two (record { number = 0; relocation = Some (record { kind = dynamic.DtpMod64; symbol = Image; addend = 0 }) }) (held o)) (x.id ∷ o ∷ [])
+  own_pair : (at o : ℕ) → IsRow at (Two (filled dynamic.DtpMod64 Image 0) (held o)) (x.id ∷ o ∷ [])
   own_pair at o = (
     λ i below. hit m l x (own m l x at dynamic.DtpMod64 0) [] i (digit 0 i) below
         ∙ own_written m l x at dynamic.DtpMod64 0 i ∙ front x.id _ i below,
@@ -74,10 +74,12 @@ module _ (m : JobImages) (l : Linking) (x : Instance) where
       → let t = exported m (export_of m n) in
       IsRow at (entry_of l.kind (block_offset l) (SymbolPair (Import n))) (t.id ∷ t.offset ∷ [])
   import_pair at n named = (
-    λ i below. hit m l x (imported m l x at dynamic.DtpMod64 n) (imported m l x (at + 8) dynamic.DtpOff64 n ∷ []) i (digit 0 i) below
+    λ i below. hit m l x (imported m l x at dynamic.DtpMod64 n) (imported m l x (at + 8) dynamic.DtpOff64 n ∷ []) i
+        (digit 0 i) below
         ∙ import_written m l x at dynamic.DtpMod64 n named i ∙ front (exported m (export_of m n)).id _ i below,
     λ i below. ap (byte_by m (image_of l) x (at + 8 + i) (digit 0 i))
-        (miss m l x (at + 8 + i) (imported m l x at dynamic.DtpMod64 n) (imported m l x (at + 8) dynamic.DtpOff64 n ∷ []) (inr (omega arith)))
+        (miss m l x (at + 8 + i) (imported m l x at dynamic.DtpMod64 n) (imported m l x (at + 8) dynamic.DtpOff64 n ∷ [])
+        (inr (omega arith)))
         ∙ hit m l x (imported m l x (at + 8) dynamic.DtpOff64 n) [] i (digit 0 i) below
         ∙ import_written m l x (at + 8) dynamic.DtpOff64 n named i ∙ front (exported m (export_of m n)).offset _ i below,
   )
@@ -85,7 +87,7 @@ module _ (m : JobImages) (l : Linking) (x : Instance) where
   -- ** descriptors
 
   own_descriptor : (at o : ℕ) → o < 2 ^ 64
-      → IsRow at (Two (record { number = 0; relocation = Some (record { kind = dynamic.TlsDesc; symbol = Image; addend = o }) }) (held 0)) (0x1800 ∷ (x.id * 2 ^ 32 + o) ∷ [])
+      → IsRow at (Two (filled dynamic.TlsDesc Image o) (held 0)) (0x1800 ∷ (x.id * 2 ^ 32 + o) ∷ [])
   own_descriptor at o small = (
     λ i below. hit m l x (own m l x at dynamic.TlsDesc o) [] i (digit 0 i) (omega (arith, below))
         ∙ own_written m l x at dynamic.TlsDesc o i ∙ front 0x1800 _ i below,
@@ -105,7 +107,8 @@ module _ (m : JobImages) (l : Linking) (x : Instance) where
         ∙ import_written m l x at dynamic.TlsDesc n named i ∙ front 0x1800 _ i below,
     λ i below.
         let index : at + 8 + i ≡ at + (8 + i) = omega arith in
-        ap (λ a. byte_by m (image_of l) x a (digit 0 i) (find (is_written_at a) (imported m l x at dynamic.TlsDesc n ∷ []))) index
+        ap (λ a. byte_by m (image_of l) x a (digit 0 i) (find (is_written_at a) (imported m l x at dynamic.TlsDesc n ∷ [])))
+        index
         ∙ hit m l x (imported m l x at dynamic.TlsDesc n) [] (8 + i) (digit 0 i) (omega (arith, below))
         ∙ import_written m l x at dynamic.TlsDesc n named (8 + i) ∙ behind 0x1800 _ i below,
   )
@@ -113,7 +116,7 @@ module _ (m : JobImages) (l : Linking) (x : Instance) where
   -- ** distances
 
   own_distance : (at o : ℕ) → o < 2 ^ 64
-      → IsRow at (One (record { number = 0; relocation = Some (record { kind = dynamic.TpOff64; symbol = Image; addend = o }) })) (less o (unwrap_or x.offset 0) ∷ [])
+      → IsRow at (One (filled dynamic.TpOff64 Image o)) (less o (unwrap_or x.offset 0) ∷ [])
   own_distance at o small = λ i below.
       hit m l x (own m l x at dynamic.TpOff64 o) [] i (digit 0 i) below
       ∙ own_written m l x at dynamic.TpOff64 o i ∙ front _ _ i below
@@ -132,9 +135,10 @@ module _ (m : JobImages) (l : Linking) (x : Instance) where
   -- ** addresses
 
   own_address : (kind : ImageKind) → l.kind ≡ kind → (at p : ℕ) → p < 2 ^ 64
-      → IsRow at (One (record { number = p; relocation = Some (record { kind = dynamic.Relative; symbol = Image; addend = p }) })) ((p + bias_of kind x.number) ∷ [])
+      → IsRow at (One (loaded p dynamic.Relative Image p)) ((p + bias_of kind x.number) ∷ [])
   own_address kind e at p small = λ i below.
-      let moved : bias (image_of l).kind x.number ≡ bias_of kind x.number = image_bias l x.number ∙ ap (λ k. bias_of k x.number) e in
+      let moved : bias (image_of l).kind x.number ≡ bias_of kind x.number =
+      image_bias l x.number ∙ ap (λ k. bias_of k x.number) e in
       let order : bias_of kind x.number + p ≡ p + bias_of kind x.number = omega arith in
       hit m l x (own m l x at dynamic.Relative p) [] i (digit p i) below
       ∙ own_written m l x at dynamic.Relative p i ∙ front _ _ i below

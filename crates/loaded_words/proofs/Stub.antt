@@ -117,7 +117,8 @@ module _ (l : Linking) (has : has_stub l ≡ true) where
         ∙ ap (λ o. option_or o (find (is_written_at address) (got_relocations l)))
         (no_relative l given limits address (omega (arith, low, up)))
         ∙ none_found (is_written_at address) (got_relocations l) (λ r among passes.
-        let lies = All-contains (LiesBetween (got_start l) (got_start l + got_size l)) (got_relocations l) r (got_lies l) among in
+        let lies = All-contains (LiesBetween (got_start l) (got_start l + got_size l)) (got_relocations l) r
+        (got_lies l) among in
         omega (arith, (written_from address r passes).1, lies.below, low, up))
 
 -- the law
@@ -132,7 +133,8 @@ stub_loaded ls l x k byte is has e =
     let long = stub_size l has is.given limits in
     let made : IsMade m (contents l) x = record { linkable = link; image = image_is ls l x is.image } in
     let index : stub_start l + k - stub_start l ≡ k = omega arith in
-    ap (λ (ranges : List (Range ℕ)). byte_in Run ranges (stub_start l + k + bias_of l.kind x.number)) (fixed_is ls l x is.image)
+    ap (λ (ranges : List (Range ℕ)). byte_in Run ranges (stub_start l + k + bias_of l.kind x.number))
+    (fixed_is ls l x is.image)
     ∙ ap (λ b. byte_in Run (still (parts_from m (image_of l) x 0 (image_of l).parts)) (stub_start l + k + b))
     (sym (image_bias l x.number))
     ∙ found_in_part m (image_of l) x Run (stub_start l + k) (stub_part l) (omega arith)

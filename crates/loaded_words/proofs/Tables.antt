@@ -57,11 +57,13 @@ tables_hold ls l x need at is starts wide =
     let long = part_size l some is.given is.links in
     let kept = left_long m (image_of l) x (got_part l) in
     let moved = image_bias l x.number in
-    let begins : got_start l + bias (image_of l).kind x.number ≤ got_start l + at + bias_of l.kind x.number = omega (arith, moved) in
+    let begins : got_start l + bias (image_of l).kind x.number ≤ got_start l + at + bias_of l.kind x.number =
+    omega (arith, moved) in
     let ends : got_start l + at + bias_of l.kind x.number + 16
     ≤ got_start l + bias (image_of l).kind x.number + length (part_bytes m (image_of l) x (got_part l)) =
     omega (arith, moved, kept, long, inside, wide) in
-    ap (λ image. list_any (has_words (got_start l + at + bias_of l.kind x.number)) (tables_in m x image)) (image_is ls l x is.image)
+    ap (λ image. list_any (has_words (got_start l + at + bias_of l.kind x.number)) (tables_in m x image))
+    (image_is ls l x is.image)
     ∙ among m (image_of l) x (got_start l + at + bias_of l.kind x.number) (got_part l) 0 (got_index l) (got_index l)
     (image_of l).parts (omega arith) (part_at_index l some) refl
     (rw (

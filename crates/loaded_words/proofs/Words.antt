@@ -1,5 +1,6 @@
 -- Each word of the table, as an instance has it.
-use Rattle.std.proofs.Common.{◌≡◌, ◌∙◌, ◌+◌, ◌-◌, ◌*◌, ◌<◌, ◌≤◌, ℕ, zero, suc, Bool, true, false, List, [], ◌∷◌, ◌++◌, Some, None}
+use Rattle.std.proofs.Common.{◌≡◌, ◌∙◌, ◌+◌, ◌-◌, ◌*◌, ◌<◌, ◌≤◌, ℕ, zero, suc, Bool, true, false, List, [], ◌∷◌, ◌++◌}
+use Rattle.std.proofs.Common.{Some, None}
 use Rattle.std.proofs.Common.{length, refl, sym, ap, arith, if◌then◌else◌}
 use Rattle.std.specs.Prelude.{slice_get}
 use Rattle.std.specs.List.{All, find, flat_map}
@@ -65,7 +66,8 @@ pub no_relative : (l : Linking) → IsGiven l → FitsTable l → (address : ℕ
     → find (is_written_at address) (relatives l) ≡ None
 no_relative l given limits address low =
     none_found (is_written_at address) (relatives l) (λ r has passes.
-    let below = All-contains (λ (y : ImageRelocation). y.place + 8 ≤ got_start l) (relatives l) r (relatives_below l given limits) has in
+    let below = All-contains (λ (y : ImageRelocation). y.place + 8 ≤ got_start l) (relatives l) r
+    (relatives_below l given limits) has in
     let is = All-contains (IsField l 0) (relatives l) r (are_fields l given) has in
     let wide = width_of r is.lies.kind_is in
     omega (arith, (written_from address r passes).1, below, wide, low))
@@ -179,14 +181,16 @@ word_loaded ls l x need at k word is placed fits starts has i below =
     let lies = slice_get_within (need_bytes l need) (8 * k + i) (digit w.number i) w.filed in
     let size = need_length l need in
     let inside : 8 * k + i < size_of need = omega (arith, lies, size) in
-    let place : got_start l + at + 8 * k + bias_of l.kind x.number + i ≡ got_start l + at + (8 * k + i) + bias_of l.kind x.number =
+    let place : got_start l + at + 8 * k + bias_of l.kind x.number + i
+    ≡ got_start l + at + (8 * k + i) + bias_of l.kind x.number =
     omega arith in
     let address : got_start l + at + (8 * k + i) ≡ got_start l + at + 8 * k + i = omega arith in
     ap (byte_in Read ((job_loads m).fixed x)) place
     ∙ found ls l x is need at starts (8 * k + i) (digit w.number i) inside w.filed
     ∙ ap (λ o. Some (byte_by m (image_of l) x (got_start l + at + (8 * k + i)) (digit w.number i) o))
     (only_own l is.given limits need at starts (got_start l + at + (8 * k + i)) (omega arith) (omega (arith, inside)))
-    ∙ ap (λ a. Some (byte_by m (image_of l) x a (digit w.number i) (find (is_written_at a) (need_relocations l (need, got_start l + at))))) address
+    ∙ ap (λ a. Some (byte_by m (image_of l) x a (digit w.number i)
+    (find (is_written_at a) (need_relocations l (need, got_start l + at))))) address
     ∙ ap Some w.left
 
 -- the law

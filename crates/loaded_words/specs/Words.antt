@@ -1,5 +1,5 @@
--- The words of the global offset table once an instance is loaded, a line for each kind of entry (Drepper, "ELF Handling
--- For Thread-Local Storage", sections 3 and 4; psABI, "Relocation Types").
+-- The words of the global offset table once an instance is loaded, a line for each kind of entry (Drepper, "ELF
+-- Handling For Thread-Local Storage", sections 3 and 4; psABI, "Relocation Types").
 use Rattle.std.specs.Prelude.{◌+◌, ◌*◌, ◌^◌, ℕ, List, [], ◌∷◌, Option, Some, None, unwrap_or}
 use Rattle.got_pairs.specs.declared.need.Need.{Need}
 use Rattle.got_pairs.specs.declared.need.Need.TheVariants.{ModulePair, SymbolPair, Descriptor, SymbolWord}
