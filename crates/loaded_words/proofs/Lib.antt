@@ -1,0 +1,11 @@
+pub mod Entries
+pub mod Images
+pub mod Names
+pub mod Ranges
+pub mod Rows
+pub mod Stub
+pub mod Table
+pub mod Tables
+pub mod Tests
+pub mod Words
+pub mod Written

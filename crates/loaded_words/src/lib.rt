@@ -1,0 +1,37 @@
+//! Which words stand in the global offset table once an instance is loaded: laws, and no code.
+//!
+//! Code that is not rewritten reaches thread-local storage through entries of the table (`got_pairs`). In the file an
+//! entry has the numbers that the linker knows, and relocations for the others (`link_core`); a loader writes these over
+//! (`loaded_modules`). Whether the linker or the loader fills a word depends on what the image is linked as, and on where
+//! the variable is. What stands there in the end does not.
+//!
+//! The rule of the crate: **one table, a line for each kind of entry, says which words stand there** (`specs/Words`;
+//! Drepper, "ELF Handling For Thread-Local Storage", sections 3 and 4).
+//!
+//! ```text
+//! pair                   the module's id, the variable's offset in each of its blocks
+//! descriptor             0x1800, id * 2^32 + offset
+//! distance               the offset less how far below the thread pointer the block begins, modulo 2^64
+//! address                the symbol's address, moved as far as the instance
+//! the run time's word    0x1000
+//! ```
+//!
+//! A variable of the image has the instance's own id and distance; one that it imports has those of the first startup
+//! image that exports the name. It is so in a program at a fixed address, where no relocation writes a pair of its own
+//! variables, as in a module, where DTPMOD64 does ([`words_are_loaded`]).
+//!
+//! For example, instance 5 of a module has the id 3 and is moved by 0x1_1400_0000. A pair of its variable at offset 0x10,
+//! a descriptor of the same, and the address of a symbol at 0x2040 are
+//!
+//! ```text
+//! in the file            0, 0x10                 0, 0                      0x2040
+//! loaded                 3, 0x10                 0x1800, 0x3_0000_0010     0x1_1400_2040
+//! ```
+//!
+//! The run time finds both words of a pair or of a descriptor in a table of the instance ([`tables_hold`]), and the stub,
+//! which jumps through the run time's word, is run as it stands in the file ([`stub_is_loaded`]).
+#![tactic(auto)]
+
+mod laws;
+
+pub use laws::{stub_is_loaded, tables_hold, words_are_loaded};
