@@ -20,7 +20,8 @@ use Rattle.link_core.specs.Images.{image_of}
 use Rattle.link_faults.specs.declared.symbol_ref.SymbolRef.{SymbolRef}
 use Rattle.link_needs.specs.Given.{IsGiven}
 use Rattle.link_needs.specs.Linking.{Linking, address, address_in, layout, object, offset}
-use Rattle.loaded_names.proofs.Images.{image_bias, image_is}
+use Rattle.loaded_bytes.proofs.Biases.{image_bias}
+use Rattle.loaded_names.proofs.Images.{image_is}
 use Rattle.loaded_modules.specs.Loader.{bias}
 use Rattle.thread_blocks.specs.JobLoads.{job_loads}
 use Rattle.tls_layout.specs.declared.extent.Extent.{Extent}

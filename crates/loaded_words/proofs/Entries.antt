@@ -25,7 +25,7 @@ use Rattle.loaded_modules.specs.Loader.{bias, export_of, name_of}
 use Rattle.relocated_parts.proofs.Words.{low_digit}
 use Rattle.relocated_parts.specs.Left.{byte_by, is_written_at}
 use Rattle.whole_meaning.specs.Spots.{bias_of}
-use Rattle.loaded_words.proofs.Images.{image_bias}
+use Rattle.loaded_bytes.proofs.Biases.{image_bias}
 use Rattle.loaded_words.proofs.Written.{behind, front, hit, imported, import_written, kept_addend, miss, own, own_written}
 use Rattle.loaded_words.specs.Laws.{IsPlaced}
 use Rattle.loaded_words.specs.Words.{exported, loaded_words}

@@ -1,7 +1,5 @@
 pub mod Entries
-pub mod Images
 pub mod Names
-pub mod Ranges
 pub mod Rows
 pub mod Stub
 pub mod Table

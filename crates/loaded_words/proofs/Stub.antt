@@ -44,8 +44,9 @@ use Rattle.tls_layout.proofs.Together.{page_up-above}
 use Rattle.tls_relocs.specs.Elements.{slice_get-append, slice_get-append_behind, slice_get-drop, slice_get-take}
 use Rattle.whole_meaning.specs.Spots.{bias_of}
 use Rattle.loaded_bytes.specs.Laws.{images_of}
-use Rattle.loaded_words.proofs.Images.{fixed_is, image_bias, image_is}
-use Rattle.loaded_words.proofs.Ranges.{found_in_part, still}
+use Rattle.loaded_bytes.proofs.Biases.{image_bias}
+use Rattle.loaded_bytes.proofs.Still.{fixed_is, image_is}
+use Rattle.loaded_bytes.proofs.Ranges.{found_in_part, still}
 use Rattle.loaded_words.proofs.Tests.{none_found, written_from}
 use Rattle.loaded_words.proofs.Words.{no_relative}
 use Rattle.loaded_words.specs.Laws.{StubIsLoaded}

@@ -17,7 +17,8 @@ use Rattle.thread_blocks.specs.Loading.{is_written}
 use Rattle.thread_blocks.specs.RunTime.{has_words}
 use Rattle.whole_meaning.specs.Spots.{bias_of}
 use Rattle.loaded_bytes.specs.Laws.{images_of}
-use Rattle.loaded_words.proofs.Images.{image_bias, image_is}
+use Rattle.loaded_bytes.proofs.Biases.{image_bias}
+use Rattle.loaded_bytes.proofs.Still.{image_is}
 use Rattle.loaded_words.proofs.Table.{got_index, got_part, inside_table, part_at_index, part_size}
 use Rattle.loaded_words.specs.Laws.{TablesHold}
 
