@@ -8,9 +8,9 @@ ghost use Rattle.job_link.specs.Linked.{exports_of, link_in, AllLink};
 ghost use Rattle.job_link.specs.Beside.{link_beside};
 
 use crate::images::ImageObjects;
-use link_core::{Prepared, prepare};
 use link_faults::LinkFault;
 use link_needs::Inputs;
+use link_tables::{Prepared, prepare};
 use std::alloc::{AllocError, Global};
 use tls_symbols::Exports;
 

@@ -20,9 +20,9 @@ use Rattle.sequence_match.specs.Faults.{AreSites}
 use Rattle.link_needs.specs.Linking.{Linking, block_offset, choice}
 use Rattle.link_needs.specs.Needs.{as_list, calls, entries, got_size, got_start, is_kept, needs, object_needs}
 use Rattle.link_needs.specs.Needs.{object_needs_from, reaching, relocation_need, site_needs, site_needs_from}
-use Rattle.link_core.specs.Dynamic.{entry_relocations, got_relocations, image_relocations, need_relocations}
-use Rattle.link_core.specs.Dynamic.{object_relocations, object_relocations_from, relatives, word_relocations}
-use Rattle.link_core.specs.Faults.{FitsLimits}
+use Rattle.link_tables.specs.Dynamic.{entry_relocations, got_relocations, image_relocations, need_relocations}
+use Rattle.link_tables.specs.Dynamic.{object_relocations, object_relocations_from, relatives, word_relocations}
+use Rattle.link_tables.specs.Faults.{FitsLimits}
 use Rattle.link_needs.specs.Given.{FitsTable, IsGiven}
 use Rattle.link_needs.specs.Sorting.{sorted_by}
 use Rattle.link_core.proofs.FewEntries.{length-entries, others, others-append, others-le, total_size-le}

@@ -33,7 +33,7 @@ use Rattle.link_faults.specs.declared.binding.Binding.{Binding}
 use Rattle.link_faults.specs.declared.binding.Binding.TheVariants.{Here, Startup, Runtime}
 use Rattle.link_needs.specs.Linking.{Linking, binding}
 use Rattle.link_needs.specs.Needs.{address_fields, address_needs, is_address_kind, object_needs, own_word, section_needs}
-use Rattle.link_core.specs.Dynamic.{field_relocations, is_absolute, object_relocations, section_relocations}
+use Rattle.link_tables.specs.Dynamic.{field_relocations, is_absolute, object_relocations, section_relocations}
 use Rattle.link_core.proofs.FewLists.{contains_flat, length-each, length-sorted_by, no_longer}
 
 -- ** the first relocations of sequences

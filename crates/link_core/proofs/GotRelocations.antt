@@ -19,8 +19,8 @@ use Rattle.image_writer.proofs.SameBytes.{part_length}
 use Rattle.link_needs.specs.Linking.{Linking, layout}
 use Rattle.link_needs.specs.Needs.{entries, got_size, got_start}
 use Rattle.link_core.specs.Bytes.{file}
-use Rattle.link_core.specs.Dynamic.{got_relocations}
-use Rattle.link_core.specs.Faults.{IsSound}
+use Rattle.link_tables.specs.Dynamic.{got_relocations}
+use Rattle.link_tables.specs.Faults.{IsSound}
 use Rattle.link_needs.specs.Given.{FitsTable, IsGiven}
 use Rattle.link_core.specs.Images.{contents, file_kind, places, section_places, stub_places}
 use Rattle.link_core.proofs.GotRelocationsNamed.{rows_named, IsNamed}

@@ -46,8 +46,8 @@ use Rattle.link_needs.specs.Linking.{Linking, address, binding, choice, object, 
 use Rattle.link_needs.specs.Needs.{address_needs, as_list, calls, entries, is_kept, need_by, needs, new_relocation}
 use Rattle.link_needs.specs.Needs.{object_needs, object_needs_from, own_word, reaching, relocation_need, section_needs}
 use Rattle.link_needs.specs.Needs.{site_needs, site_needs_from, target_by, address_fields, uses_runtime}
-use Rattle.link_core.specs.Dynamic.{imports}
-use Rattle.link_core.specs.Faults.{IsSound}
+use Rattle.link_tables.specs.Dynamic.{imports}
+use Rattle.link_tables.specs.Faults.{IsSound}
 use Rattle.link_needs.specs.Given.{IsGiven}
 use Rattle.link_core.proofs.GotRelocationsSites.{known, segment, IsKnown}
 

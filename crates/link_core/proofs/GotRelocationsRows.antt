@@ -15,7 +15,7 @@ use Rattle.link_faults.specs.declared.image_kind.ImageKind.{ImageKind}
 use Rattle.link_faults.specs.declared.image_kind.ImageKind.TheVariants.{Exe, Pie, Start, Late}
 use Rattle.link_needs.specs.Linking.{Linking, block_offset}
 use Rattle.link_needs.specs.Needs.{entries, got_size, got_start}
-use Rattle.link_core.specs.Dynamic.{entry_relocations, got_relocations, need_relocations}
+use Rattle.link_tables.specs.Dynamic.{entry_relocations, got_relocations, need_relocations}
 
 -- the relocations of these entries, the first of which begins there
 abbrev pub rows : Linking → ℕ → List Need → List ImageRelocation

@@ -13,8 +13,8 @@ use Rattle.dynamic_symbols.specs.Names.{name_of}
 use Rattle.tls_symbols.specs.Bindings.{get_address}
 use Rattle.link_needs.specs.Linking.{Linking}
 use Rattle.link_needs.specs.Needs.{uses_runtime}
-use Rattle.link_core.specs.Dynamic.{defined, foreign, imports, names, number_of, own_symbols, runtime_names}
-use Rattle.link_core.specs.Dynamic.{runtime_symbols, symbols}
+use Rattle.link_tables.specs.Dynamic.{defined, foreign, imports, names, number_of, own_symbols, runtime_names}
+use Rattle.link_tables.specs.Dynamic.{runtime_symbols, symbols}
 use Rattle.link_core.specs.Images.{contents}
 
 -- the element behind the first ones of a list that are made of others

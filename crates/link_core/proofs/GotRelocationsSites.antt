@@ -44,8 +44,8 @@ use Rattle.dynamic_symbols.proofs.Foreign.{bindings_by_use}
 use Rattle.link_refusals.specs.Faults.{by_storage}
 use Rattle.link_refusals.specs.Refused.{asks_storage}
 use Rattle.link_needs.specs.Linking.{Linking, binding, layout, object, offset, offset_in, sites_at}
-use Rattle.link_core.specs.Dynamic.{imports}
-use Rattle.link_core.specs.Faults.{IsSound}
+use Rattle.link_tables.specs.Dynamic.{imports}
+use Rattle.link_tables.specs.Faults.{IsSound}
 use Rattle.link_needs.specs.Given.{IsGiven}
 
 -- how many bytes the segment has

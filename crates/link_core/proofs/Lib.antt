@@ -16,9 +16,7 @@ pub mod LengthsPlaces
 pub mod LengthsRaw
 pub mod LinkDrafts
 pub mod LinkFaults
-pub mod LinkLists
 pub mod Linkable
-pub mod ListedFields
 pub mod Loads
 pub mod LoadsChains
 pub mod LoadsCounts
@@ -34,8 +32,6 @@ pub mod Relatives
 pub mod RelativesApart
 pub mod RelativesFields
 pub mod RelativesParts
-pub mod RelativesTables
-pub mod RelocationListLemmas
 pub mod Standing
 pub mod StandingAway
 pub mod StandingFields

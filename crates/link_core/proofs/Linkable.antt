@@ -7,8 +7,8 @@ use Rattle.link_faults.specs.declared.image_kind.ImageKind.{ImageKind}
 use Rattle.link_faults.specs.declared.image_kind.ImageKind.TheVariants.{Exe, Pie, Start, Late}
 use Rattle.link_faults.specs.ImageKinds.{is_module}
 use Rattle.link_needs.specs.Linking.{Linking}
-use Rattle.link_core.specs.Dynamic.{got_relocations, image_relocations, is_flagged, relatives}
-use Rattle.link_core.specs.Faults.{IsSound}
+use Rattle.link_tables.specs.Dynamic.{got_relocations, image_relocations, is_flagged, relatives}
+use Rattle.link_tables.specs.Faults.{IsSound}
 use Rattle.link_needs.specs.Given.{IsGiven}
 use Rattle.link_core.specs.Images.{contents, file_kind}
 use Rattle.link_core.proofs.GotRelocations.{right_got}

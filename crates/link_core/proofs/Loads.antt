@@ -28,7 +28,7 @@ use Rattle.tls_layout.proofs.Together.{page_up-above}
 use Rattle.link_needs.specs.Linking.{Linking, layout}
 use Rattle.link_needs.specs.Needs.{got_size, got_start, has_stub, stub_start}
 use Rattle.link_core.specs.Bytes.{file}
-use Rattle.link_core.specs.Faults.{FitsLimits}
+use Rattle.link_tables.specs.Faults.{FitsLimits}
 use Rattle.link_needs.specs.Given.{IsGiven}
 use Rattle.link_core.specs.Images.{contents, file_kind, got_number, got_places, places, section_places, stub_places}
 use Rattle.link_core.specs.Images.{tls_part}

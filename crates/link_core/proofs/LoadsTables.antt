@@ -14,9 +14,9 @@ use Rattle.image_writer.proofs.TableSizes.{tables_long}
 use Rattle.link_faults.specs.declared.symbol_ref.SymbolRef.{SymbolRef}
 use Rattle.link_needs.specs.Linking.{Linking}
 use Rattle.link_needs.specs.Needs.{uses_runtime}
-use Rattle.link_core.specs.Dynamic.{defined, foreign, image_relocations, imports, names, own_symbols, runtime_names}
-use Rattle.link_core.specs.Dynamic.{runtime_symbols, symbols}
-use Rattle.link_core.specs.Faults.{FitsLimits}
+use Rattle.link_tables.specs.Dynamic.{defined, foreign, image_relocations, imports, names, own_symbols, runtime_names}
+use Rattle.link_tables.specs.Dynamic.{runtime_symbols, symbols}
+use Rattle.link_tables.specs.Faults.{FitsLimits}
 use Rattle.link_core.specs.Images.{contents}
 
 -- ** names

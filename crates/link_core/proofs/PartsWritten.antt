@@ -18,7 +18,7 @@ use Rattle.link_needs.specs.Given.{FitsTable, IsGiven}
 use Rattle.link_needs.specs.Linking.{Linking, layout, object}
 use Rattle.link_needs.specs.Needs.{has_stub, stub_start}
 use Rattle.link_core.specs.Bytes.{raw_file}
-use Rattle.link_core.specs.Faults.{Overflows}
+use Rattle.link_tables.specs.Faults.{Overflows}
 use Rattle.link_core.specs.Overflows.{IsFirstAtAll, IsFirstOverflow, NoneAtAll, NoOverflow}
 use Rattle.link_core.specs.Parts.{part_with_fields_from, start_in, AreWritten, IsCut, IsPart, IsWritten, OverflowsIn}
 use Rattle.link_core.proofs.LengthsPlaces.{got_end, got_end-before}

@@ -11,7 +11,7 @@ use Rattle.tls_layout.specs.Places.{section_named}
 use Rattle.tls_layout.proofs.LawsOfPlaces.{lie_in_classes}
 use Rattle.link_needs.specs.Linking.{Linking, layout}
 use Rattle.link_needs.specs.Needs.{got_start}
-use Rattle.link_core.specs.Dynamic.{image_relocations, got_relocations, object_relocations_from, relatives}
+use Rattle.link_tables.specs.Dynamic.{image_relocations, got_relocations, object_relocations_from, relatives}
 use Rattle.link_needs.specs.Given.{FitsTable, IsGiven}
 use Rattle.link_core.specs.Images.{contents}
 use Rattle.link_needs.specs.Sorting.{sorted_by}

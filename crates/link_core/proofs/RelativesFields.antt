@@ -24,11 +24,11 @@ use Rattle.tls_layout.specs.Places.{address_of, class_of, section_named}
 use Rattle.tls_layout.proofs.LawsOfPlaces.{addresses_apart, have_addresses}
 use Rattle.tls_layout.proofs.LawsOfSections.{finds_sections}
 use Rattle.link_needs.specs.Linking.{Linking, layout, object, place}
-use Rattle.link_core.specs.Dynamic.{field_relocations, is_absolute, object_relocations, object_relocations_from}
-use Rattle.link_core.specs.Dynamic.{relative, section_relocations, sum_of}
+use Rattle.link_tables.specs.Dynamic.{field_relocations, is_absolute, object_relocations, object_relocations_from}
+use Rattle.link_tables.specs.Dynamic.{relative, section_relocations, sum_of}
 use Rattle.link_needs.specs.Given.{IsGiven}
 use Rattle.link_core.proofs.RelativesApart.{AreApart, IsApart, apart_append, apart_range}
-use Rattle.link_core.proofs.RelativesTables.{IsPlaced, IsApart as FieldsApart, apart_first, apart_rest, placed_section}
+use Rattle.link_tables.proofs.RelativesTables.{IsPlaced, IsApart as FieldsApart, apart_first, apart_rest, placed_section}
 
 -- ** where a relocation lies
 

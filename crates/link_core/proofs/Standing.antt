@@ -14,7 +14,7 @@ use Rattle.link_needs.specs.Linking.{Linking, layout, object, sites_at}
 use Rattle.link_needs.specs.Needs.{got_size, got_start, has_stub, stub_start}
 use Rattle.link_core.specs.Bytes.{file, got_bytes, raw_file, stub_bytes, with_fields_from, with_got, with_part}
 use Rattle.link_core.specs.Bytes.{with_sites_from, with_stub}
-use Rattle.link_core.specs.Faults.{Links}
+use Rattle.link_tables.specs.Faults.{Links}
 use Rattle.link_needs.specs.Given.{IsGiven}
 use Rattle.link_core.specs.Meant.{field_byte, is_in_field, is_in_rewritten, meant_byte, site_byte}
 use Rattle.link_core.proofs.LengthsInside.{are_laid, got_longer}

@@ -34,7 +34,7 @@ use Rattle.tls_relocs.specs.Values.{fits_signed, fits_unsigned, signed_field, st
 use Rattle.tls_symbols.specs.Faults.{held_for, held_in}
 use Rattle.link_needs.specs.Linking.{Linking, layout, object, place}
 use Rattle.link_core.specs.Bytes.{raw_file, with_field, with_field_at, with_fields, with_fields_from, with_table}
-use Rattle.link_core.specs.Faults.{Links, Overflows}
+use Rattle.link_tables.specs.Faults.{Links, Overflows}
 use Rattle.link_needs.specs.Given.{FitsTable, IsGiven}
 use Rattle.link_core.specs.Meant.{is_in_field}
 use Rattle.link_needs.specs.Values.{field, is_replaced}

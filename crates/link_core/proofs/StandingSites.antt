@@ -30,7 +30,7 @@ use Rattle.tls_relocs.specs.Fields.{field_bytes}
 use Rattle.link_needs.specs.Linking.{Linking, choice, layout, object, place, sites_at}
 use Rattle.link_needs.specs.Needs.{is_kept, new_relocation}
 use Rattle.link_core.specs.Bytes.{in_file, raw_file, with_new_field, with_site, with_sites_from}
-use Rattle.link_core.specs.Faults.{Links}
+use Rattle.link_tables.specs.Faults.{Links}
 use Rattle.link_needs.specs.Given.{FitsTable, IsGiven}
 use Rattle.link_core.specs.Meant.{is_in_rewritten, rewritten_bytes, row_with}
 use Rattle.link_needs.specs.Values.{field}

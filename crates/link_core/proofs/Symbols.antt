@@ -5,7 +5,7 @@ use Rattle.std.proofs.lemmas.List.{length-map}
 use Rattle.image_writer.specs.Contents.{null_symbol}
 use Rattle.image_writer.specs.Linkable.{IsRightSymbol}
 use Rattle.link_needs.specs.Linking.{Linking, layout}
-use Rattle.link_core.specs.Dynamic.{names, runtime_names, runtime_symbols, symbols}
+use Rattle.link_tables.specs.Dynamic.{names, runtime_names, runtime_symbols, symbols}
 use Rattle.link_needs.specs.Given.{FitsTable, IsGiven}
 use Rattle.link_core.specs.Images.{contents}
 use Rattle.link_core.proofs.SymbolsInside.{size_told, symbols_right}

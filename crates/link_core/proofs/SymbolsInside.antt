@@ -35,8 +35,8 @@ use Rattle.tls_layout.proofs.LawsOfTls.{have_offsets, lie_in_segment}
 use Rattle.tls_symbols.specs.Bindings.{is_tls_class, is_tls_place}
 use Rattle.tls_symbols.specs.Definitions.{same_binding}
 use Rattle.link_needs.specs.Linking.{Linking, address, layout, object, offset, offset_in}
-use Rattle.link_core.specs.Dynamic.{binding_shown, defined, foreign, imports, own_symbols, runtime_symbols, symbols}
-use Rattle.link_core.specs.Dynamic.{type_shown}
+use Rattle.link_tables.specs.Dynamic.{binding_shown, defined, foreign, imports, own_symbols, runtime_symbols, symbols}
+use Rattle.link_tables.specs.Dynamic.{type_shown}
 use Rattle.link_needs.specs.Given.{FitsTable, IsGiven}
 use Rattle.link_core.specs.Images.{tls_part}
 use Rattle.link_needs.specs.Needs.{uses_runtime}

@@ -16,7 +16,7 @@ use Rattle.tls_symbols.specs.Bindings.{get_address, object_at}
 use Rattle.dynamic_symbols.specs.Names.{imported_at, imported_from, imported_in, imports, is_import, name_of}
 use Rattle.dynamic_symbols.proofs.Lists.{all_distinct, all_flat}
 use Rattle.link_needs.specs.Linking.{Linking}
-use Rattle.link_core.specs.Dynamic.{names, own_symbols, runtime_names, imports as imported}
+use Rattle.link_tables.specs.Dynamic.{names, own_symbols, runtime_names, imports as imported}
 use Rattle.link_needs.specs.Needs.{uses_runtime}
 
 -- a name of no zero byte

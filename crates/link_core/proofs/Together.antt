@@ -29,7 +29,7 @@ use Rattle.link_faults.specs.declared.binding.Binding.TheVariants.{Here, Startup
 use Rattle.tls_symbols.specs.Faults.{is_faulty, is_mismatched, is_tls_kind, names_symbol, Stands}
 use Rattle.dynamic_symbols.proofs.Foreign.{bindings_by_use}
 use Rattle.link_needs.specs.Linking.{Linking, binding, choice, chosen, object, sites_at}
-use Rattle.link_core.specs.Faults.{Links}
+use Rattle.link_tables.specs.Faults.{Links}
 use Rattle.link_needs.specs.Given.{IsGiven}
 use Rattle.link_core.specs.Laws.{FieldsGoWithTheirSites, HasNoStray, IsCovered, IsInSite}
 use Rattle.link_needs.specs.Needs.{is_kept}

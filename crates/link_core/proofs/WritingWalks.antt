@@ -20,7 +20,7 @@ use Rattle.link_faults.specs.declared.fault.LinkFaultKind.TheVariants as fault
 use Rattle.tls_symbols.specs.Faults.{Earlier, held_for, held_in}
 use Rattle.tls_symbols.proofs.Search.{range_first, range_none}
 use Rattle.link_needs.specs.Linking.{Linking, object}
-use Rattle.link_core.specs.Faults.{Overflows}
+use Rattle.link_tables.specs.Faults.{Overflows}
 use Rattle.link_core.specs.Overflows.{IsFilled, IsFirstAtAll, IsFirstIn, IsFirstOf, IsOverflow}
 use Rattle.link_core.specs.Overflows.{NoneAtAll, NoneIn, NoneOf}
 use Rattle.link_core.specs.Parts.{part_with_field, part_with_fields, part_with_fields_from, part_with_held}

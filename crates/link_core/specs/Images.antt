@@ -19,7 +19,7 @@ use Rattle.relax_sites.specs.declared.choices.Choice.{Choice}
 use Rattle.link_needs.specs.Linking.{Linking, choices_from, layout}
 use Rattle.link_needs.specs.Needs.{got_size, got_start, has_stub, stub_start}
 use Rattle.link_core.specs.Bytes.{file}
-use Rattle.link_core.specs.Dynamic.{image_relocations, is_flagged, names, symbols}
+use Rattle.link_tables.specs.Dynamic.{image_relocations, is_flagged, names, symbols}
 
 abbrev pub file_kind : ImageKind → FileKind
 file_kind Exe = file_kinds.Exe

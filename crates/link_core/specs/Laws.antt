@@ -17,7 +17,7 @@ use Rattle.sequence_match.specs.Faults.{Nowhere}
 use Rattle.std.specs.List.{Contains}
 use Rattle.tls_layout.specs.Places.{address_of}
 use Rattle.link_core.specs.Bytes.{file, need_bytes, stub_bytes}
-use Rattle.link_core.specs.Faults.{Links}
+use Rattle.link_tables.specs.Faults.{Links}
 use Rattle.link_needs.specs.Given.{IsGiven}
 use Rattle.link_core.specs.Images.{image_of}
 use Rattle.link_needs.specs.Linking.{Linking, choice, layout, object, sites_at}

@@ -6,7 +6,7 @@ use Rattle.link_faults.specs.declared.fault.LinkFault.TheVariants.{OutOfMemory, 
 use Rattle.link_faults.specs.declared.fault.LinkFaultKind.TheVariants as fault
 use Rattle.tls_symbols.specs.Faults.{Earlier}
 use Rattle.link_needs.specs.Linking.{Linking}
-use Rattle.link_core.specs.Faults.{Overflows}
+use Rattle.link_tables.specs.Faults.{Overflows}
 use Rattle.link_needs.specs.Values.{field, is_replaced}
 
 -- a relocation of section t of object o has a field that does not hold its value

@@ -14,7 +14,7 @@ use Rattle.tls_relocs.specs.declared.fields.Field.TheVariants.{Empty}
 use Rattle.tls_relocs.specs.Fields.{field_patch}
 use Rattle.tls_relocs.specs.Patches.{patched}
 use Rattle.tls_symbols.specs.Faults.{held_in}
-use Rattle.link_core.specs.Faults.{Overflows}
+use Rattle.link_tables.specs.Faults.{Overflows}
 use Rattle.link_core.specs.Overflows.{NoOverflow, NoneAtAll}
 use Rattle.link_needs.specs.Linking.{Linking, layout, object, place}
 use Rattle.link_needs.specs.Values.{field, is_replaced}

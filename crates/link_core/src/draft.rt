@@ -3,7 +3,7 @@
 ghost use Rattle.std.specs.Prelude.{◌≡◌, ◌<◌, ◌++◌, IfOk, OnOk, length};
 ghost use Rattle.std.specs.List.{list_any};
 ghost use Rattle.sequence_forms.specs.declared.places.Site.{Site};
-ghost use Rattle.link_core.specs.Dynamic.{is_flagged, is_initial};
+ghost use Rattle.link_tables.specs.Dynamic.{is_flagged, is_initial};
 ghost use Rattle.link_needs.specs.Linking.{layout};
 ghost use Rattle.link_core.specs.Images.{file_kind, filled, got_number, got_places, section_places};
 ghost use Rattle.link_core.specs.Images.{stub_places, tls_part};
@@ -120,7 +120,7 @@ fn any_initial(sites: &[Vec<Site>]) -> bool
 }
 
 /// Whether the image is a module that reaches thread-local data at a fixed distance from the thread pointer.
-#[tactic(auto, using(crate::proofs::DraftLemmas::any_seen), unfolding(crate::specs::Dynamic::is_flagged))]
+#[tactic(auto, using(crate::proofs::DraftLemmas::any_seen), unfolding(link_tables::specs::Dynamic::is_flagged))]
 pub fn is_flagged(inputs: &Inputs) -> bool
     ensures { result ≡ is_flagged inputs.now }
 {

@@ -13,7 +13,7 @@
 //! file       sections at their places, the table, the stub                   section_file, here
 //! fields     the value of each relocation, written                           tls_relocs, here
 //! sequences  those that stand in the place of others                         relax_sites, here
-//! tables     symbols and relocations for a loader                            dynamic_symbols, image_writer
+//! tables     symbols and relocations for a loader                            link_tables, image_writer
 //! ```
 //!
 //! **The rule of bytes** (`specs/Bytes`): each byte of a section stands at its place, changed only in the fields of its
@@ -21,7 +21,7 @@
 //! the dynamic tables; gaps are zero, and there is nothing else. `specs/Meant` says the same of each byte in words that
 //! know nothing of a writer, and `laws::bytes_are_meant` that they agree.
 //!
-//! **The rule of faults** (`specs/Faults`): of all that may be wrong the first is told: Undefined, Duplicate, NotTls,
+//! **The rule of faults** (link_tables, `specs/Faults`): of all that may be wrong the first is told: Undefined, Duplicate, NotTls,
 //! LocalExecInModule, NarrowInModule, TlsTooLarge, ImageTooLarge, NoTls, and Overflow last, since it needs every place;
 //! of each kind the first object, section and entry.
 //!
@@ -59,11 +59,7 @@ pub mod laws;
 mod linked;
 mod linking;
 mod parts;
-mod prepared;
-mod relocation_list;
-mod symbol_list;
 mod writing;
 
 pub use linked::Linked;
 pub use linking::link;
-pub use prepared::{Prepared, prepare};

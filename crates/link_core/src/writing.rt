@@ -13,7 +13,7 @@ ghost use Rattle.tls_relocs.specs.Fields.{field_patch, width_of};
 ghost use Rattle.tls_relocs.specs.Patches.{patched};
 ghost use Rattle.tls_symbols.specs.Bindings.{object_at};
 ghost use Rattle.link_core.specs.Bytes.{raw_file, with_new_field, with_site, with_sites_from};
-ghost use Rattle.link_core.specs.Faults.{Overflows};
+ghost use Rattle.link_tables.specs.Faults.{Overflows};
 ghost use Rattle.link_needs.specs.Linking.{choice, layout, sites_at};
 ghost use Rattle.link_core.specs.Overflows.{IsFilled, IsFirstAtAll, IsFirstIn, IsFirstOf, IsOverflow};
 ghost use Rattle.link_core.specs.Overflows.{NoneAtAll, NoneIn, NoneOf};

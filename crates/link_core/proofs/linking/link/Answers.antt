@@ -3,7 +3,7 @@ use Rattle.std.specs.Prelude.{Result, IfErr, IfOk, OnOk}
 use Rattle.link_faults.specs.declared.fault.LinkFault.{LinkFault}
 use Rattle.tls_symbols.specs.Resolved.{Resolved}
 use Rattle.link_needs.specs.Linking.{Linking, link_of}
-use Rattle.link_core.specs.Faults.{IsSound}
+use Rattle.link_tables.specs.Faults.{IsSound}
 use Rattle.link_core.specs.Images.{linked_of}
 use Rattle.link_core.specs.Overflows.{IsOverflowFault, NoOverflow}
 use Rattle.link_core.proofs.LinkFaults.{fault_of, links_of}

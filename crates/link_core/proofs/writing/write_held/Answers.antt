@@ -1,6 +1,6 @@
 use Rattle.std.proofs.Common.{◌∙◌, fold, length, sym, ap, arith, subst}
 use Rattle.elf_object.specs.Lent.{relocations}
-use Rattle.link_core.specs.Faults.{Overflows}
+use Rattle.link_tables.specs.Faults.{Overflows}
 use Rattle.link_needs.specs.Linking.{object}
 use Rattle.link_core.specs.Overflows.{IsFirstIn}
 use Rattle.link_core.specs.Parts.{part_with_field}

@@ -1,0 +1,5 @@
+pub mod LinkFaults
+pub mod LinkLists
+pub mod ListedFields
+pub mod RelativesTables
+pub mod RelocationListLemmas

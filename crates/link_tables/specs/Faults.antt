@@ -1,0 +1,108 @@
+-- When objects do not link, and what is told.
+use Rattle.std.specs.Prelude.{◌≡◌, ◌<◌, ◌≤◌, ◌^◌, ◌⊎◌, ℕ, List, Option, Some, None, IsNone, IsSomeAnd, false}
+use Rattle.std.specs.Prelude.{length, slice_get}
+use Rattle.std.specs.List.{All}
+use Rattle.elf_object.specs.declared.relocation.Relocation.{Relocation}
+use Rattle.elf_object.specs.Lent.{relocation_target}
+use Rattle.elf_object.specs.Object.{section_count}
+use Rattle.dynamic_symbols.specs.Names.{name_size}
+use Rattle.link_faults.specs.declared.fault.LinkFault.{LinkFault}
+use Rattle.link_faults.specs.declared.fault.LinkFault.TheVariants.{OutOfMemory, At}
+use Rattle.link_faults.specs.declared.fault.LinkFaultKind.TheVariants as fault
+use Rattle.link_refusals.specs.Counts.{relocation_count}
+use Rattle.link_refusals.specs.Faults.{FitsKind, FitsStorage, IsKindFault, IsStorageFault}
+use Rattle.tls_layout.specs.Places.{span, tls_size, IsLawful}
+use Rattle.link_faults.specs.declared.image_kind.ImageKind.{ImageKind}
+use Rattle.link_faults.specs.declared.symbol_ref.SymbolRef.{SymbolRef}
+use Rattle.tls_symbols.specs.Definitions.{IsWithin}
+use Rattle.tls_symbols.specs.Faults.{held_in, AreResolved, Earlier, IsFirst}
+use Rattle.link_needs.specs.Given.{IsGiven}
+use Rattle.link_needs.specs.Linking.{Linking, layout, object}
+use Rattle.link_needs.specs.Values.{field, is_replaced}
+use Rattle.link_tables.specs.Dynamic.{imports, own_symbols}
+
+-- ** limits
+
+-- an image has at most 2^19 relocations
+abbrev pub IsCrowded : Linking → Type 0
+IsCrowded l = 2 ^ 19 < relocation_count l.objects
+
+-- and its names take at most 2^22 bytes
+abbrev pub IsWordy : Linking → Type 0
+IsWordy l = 2 ^ 22 < name_size l.objects (own_symbols l) (imports l)
+
+pub record FitsLimits (l : Linking) : Type 0 where
+  pub lawful : IsLawful (layout l)
+  pub few : relocation_count l.objects ≤ 2 ^ 19
+  pub short : name_size l.objects (own_symbols l) (imports l) ≤ 2 ^ 22
+
+-- ** fields
+
+-- entry e of section s of object o is a relocation whose value its field does not hold
+abbrev pub Overflows : Linking → ℕ → ℕ → ℕ → Type 0
+Overflows l o s e =
+    (o < length l.objects) × (0 < s) × (s < section_count (object l o))
+    × IsSomeAnd (slice_get (held_in (object l o) s) e)
+    (λ (r : Relocation). (is_replaced l o r ≡ false) × IsNone (field l o (relocation_target (object l o) s) r))
+
+-- ** storage
+
+-- what is told where thread-local storage is asked for and there is none; of want of memory nothing is said
+abbrev pub LacksStorage : List (List ℕ) → List (List (List ℕ)) → ImageKind → ℕ → LinkFault → Type 0
+LacksStorage objects startup kind size OutOfMemory = Unit {0}
+LacksStorage objects startup kind size told = IsStorageFault objects startup kind size told
+
+-- ** the first fault
+
+-- what is asked before fields are filled
+pub record IsSound (l : Linking) : Type 0 where
+  pub resolved : AreResolved l.objects l.startup
+  pub kind : FitsKind l.objects l.kind
+  pub limits : FitsLimits l
+  pub storage : FitsStorage l.objects l.startup l.kind (tls_size (layout l).sections)
+
+-- the objects link
+pub record Links (l : Linking) : Type 0 where
+  pub sound : IsSound l
+  pub fits : (o s e : ℕ) → Overflows l o s e → ⊥
+
+-- a fault of the image as a whole stands at no object
+abbrev pub IsOfWhole : Option ℕ → ℕ → ℕ → Type 0
+IsOfWhole object s e = (object ≡ None) × (s ≡ 0) × (e ≡ 0)
+
+-- a fault of an image whose names are resolved
+abbrev pub IsLaterFault : Linking → LinkFault → Type 0
+IsLaterFault l (At fault.LocalExecInModule object s e) =
+    IsKindFault l.objects l.kind (At fault.LocalExecInModule object s e)
+IsLaterFault l (At fault.NarrowInModule object s e) =
+    IsKindFault l.objects l.kind (At fault.NarrowInModule object s e)
+IsLaterFault l (At fault.TlsTooLarge object s e) =
+    IsOfWhole object s e × FitsKind l.objects l.kind × (2 ^ 20 < tls_size (layout l).sections)
+IsLaterFault l (At fault.ImageTooLarge object s e) =
+    IsOfWhole object s e × FitsKind l.objects l.kind × (tls_size (layout l).sections ≤ 2 ^ 20)
+    × ((2 ^ 24 < span l.kind (layout l).sections) ⊎ (IsCrowded l ⊎ IsWordy l))
+IsLaterFault l (At fault.NoTls object s e) =
+    FitsKind l.objects l.kind × FitsLimits l
+    × IsStorageFault l.objects l.startup l.kind (tls_size (layout l).sections) (At fault.NoTls object s e)
+IsLaterFault l (At fault.Overflow (Some o) s e) =
+    IsSound l × Overflows l o s e × ((p t f : ℕ) → Earlier p t f o s e → Overflows l p t f → ⊥)
+IsLaterFault l told = ⊥
+
+-- what a refusal says of the objects: the first fault, in the order of the kinds, Overflow last; of want of memory
+-- nothing
+abbrev pub IsLinkFault : Linking → LinkFault → Type 0
+IsLinkFault l OutOfMemory = Unit {0}
+IsLinkFault l (At fault.Undefined (Some o) s e) = IsFirst l.objects l.startup fault.Undefined o s e
+IsLinkFault l (At fault.Duplicate (Some o) s e) = IsFirst l.objects l.startup fault.Duplicate o s e
+IsLinkFault l (At fault.NotTls (Some o) s e) = IsFirst l.objects l.startup fault.NotTls o s e
+IsLinkFault l told = AreResolved l.objects l.startup × IsLaterFault l told
+
+-- ** what the linker keeps
+
+-- these belong to the link: the symbols that it defines and the names that it imports, all within the limits
+pub record ArePrepared (l : Linking) (own : List SymbolRef) (names : List (List ℕ)) : Type 0 where
+  pub given : IsGiven l
+  pub limits : FitsLimits l
+  pub own_are : own ≡ own_symbols l
+  pub within : All (IsWithin l.objects) own
+  pub imports_are : names ≡ imports l

@@ -1,0 +1,3 @@
+pub mod Dynamic
+pub mod Faults
+pub mod Named

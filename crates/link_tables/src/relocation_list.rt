@@ -1,0 +1,297 @@
+//! The relocations of an image, by which a loader fills in what linking can't know.
+
+ghost use Rattle.std.specs.Prelude.{◌≡◌, ◌+◌, ◌*◌, ◌<◌, ◌≤◌, ◌^◌, ◌++◌, IfOk, OnOk, length, option_map, slice_get};
+ghost use Rattle.std.specs.Prelude.{unwrap_or};
+ghost use Rattle.std.specs.List.{Contains, position_from};
+ghost use Rattle.std.specs.Str.{bytes_eq};
+ghost use Rattle.elf_object.specs.Lent.{relocations};
+ghost use Rattle.got_pairs.specs.Entries.{entry_of, words};
+ghost use Rattle.link_faults.specs.ImageKinds.{is_moved};
+ghost use Rattle.tls_layout.specs.Places.{address_of};
+ghost use Rattle.tls_symbols.specs.Bindings.{object_at};
+ghost use Rattle.link_tables.specs.Dynamic.{entry_relocations, field_relocations, got_relocations, image_relocations};
+ghost use Rattle.link_tables.specs.Dynamic.{imports, loader_kind};
+ghost use Rattle.link_tables.specs.Dynamic.{is_absolute, number_of, own_symbols};
+ghost use Rattle.link_tables.specs.Dynamic.{object_relocations, object_relocations_from, relatives, relocation_of};
+ghost use Rattle.link_tables.specs.Dynamic.{section_relocations, word_relocations};
+ghost use Rattle.link_needs.specs.Linking.{block_offset, layout};
+ghost use Rattle.link_needs.specs.Needs.{entries, got_size, got_start};
+
+use crate::prepared::Prepared;
+use elf_object::{Relocation, RelocationKind};
+use got_pairs::{DynamicKind, DynamicRelocation, DynamicSymbol, Entry, Word};
+use image_file::{ImageRelocation, LoaderKind};
+use link_faults::ImageKind;
+use link_needs::Plan;
+use std::alloc::{AllocError, Global};
+
+/// What a loader writes for a word of the table.
+fn loader_kind(kind: DynamicKind) -> LoaderKind
+    ensures { result ≡ loader_kind kind }
+{
+    match kind {
+        DynamicKind::JumpSlot => LoaderKind::JumpSlot,
+        DynamicKind::Relative => LoaderKind::Relative,
+        DynamicKind::DtpMod64 => LoaderKind::Module,
+        DynamicKind::DtpOff64 => LoaderKind::ModuleOffset,
+        DynamicKind::TpOff64 => LoaderKind::ThreadOffset,
+        DynamicKind::TlsDesc => LoaderKind::Descriptor,
+    }
+}
+
+/// How many symbols the image defines.
+#[tactic(auto, using(crate::proofs::RelocationListLemmas::few_symbols))]
+fn own_count(prepared: &Prepared) -> usize
+    ensures count { result ≡ length (own_symbols prepared.now) }
+    ensures few { length (own_symbols prepared.now) + length (imports prepared.now) ≤ 2 ^ 22 }
+{
+    prepared.own.len()
+}
+
+/// How many names it imports.
+fn import_count(prepared: &Prepared) -> usize
+    ensures { result ≡ length (imports prepared.now) }
+{
+    prepared.imports.len()
+}
+
+/// The number of an import among the imports; 0 where there is no such import.
+fn import_number(prepared: &Prepared, name: &[u8]) -> usize
+    ensures number { result ≡ unwrap_or (position_from (bytes_eq name.now) 0 (imports prepared.now)) 0 }
+    ensures small { result ≤ length (imports prepared.now) }
+{
+    prepared.imports.get_index_of(name).unwrap_or(0)
+}
+
+impl Prepared<'_, '_, '_> {
+    /// The number of the symbol that a word of the table names.
+    fn number_of(&self, symbol: &DynamicSymbol) -> u32
+        ensures { result ≡ number_of self.now symbol.now }
+    {
+        let own = own_count(self);
+        match symbol {
+            DynamicSymbol::Image => 0,
+            DynamicSymbol::Imported(name) => {
+                (1 + own + import_number(self, name.as_bytes())) as u32
+            }
+            DynamicSymbol::Runtime => (1 + own + import_count(self)) as u32,
+        }
+    }
+
+    /// The relocation of a word at an address.
+    fn relocation_of(&self, place: u64, relocation: &DynamicRelocation) -> ImageRelocation
+        ensures { result ≡ relocation_of self.now place relocation.now }
+    {
+        ImageRelocation {
+            place,
+            kind: loader_kind(relocation.kind),
+            symbol: self.number_of(&relocation.symbol),
+            addend: relocation.addend.cast_signed(),
+        }
+    }
+
+    /// Adds that of a word at an address, if it has one.
+    fn push_word(
+        &self,
+        place: u64,
+        word: &Word,
+        all: &mut Vec<ImageRelocation>,
+    ) -> Result<(), AllocError>
+        ensures { OnOk result
+            (all.new.items ≡ all.old.items ++ word_relocations self.now place word.now.relocation) }
+    {
+        if let Some(relocation) = &word.relocation {
+            all.push(self.relocation_of(place, relocation))?;
+        }
+        Ok(())
+    }
+
+    /// Adds those of an entry at an address.
+    fn push_entry(
+        &self,
+        place: u64,
+        entry: &Entry,
+        all: &mut Vec<ImageRelocation>,
+    ) -> Result<(), AllocError>
+        requires { place < 2 ^ 32 }
+        ensures { OnOk result (all.new.items ≡ all.old.items ++ entry_relocations self.now place entry.now) }
+    {
+        match entry {
+            Entry::One(word) => self.push_word(place, word, all),
+            Entry::Two(first, second) => {
+                self.push_word(place, first, all)?;
+                self.push_word(place + 8, second, all)
+            }
+        }
+    }
+}
+
+/// Where the table begins.
+#[tactic(auto, using(crate::proofs::RelocationListLemmas::table_low))]
+fn table_start(plan: &Plan) -> u64
+    ensures start { result ≡ got_start plan.now }
+    ensures low { got_start plan.now + got_size plan.now ≤ 2 ^ 26 }
+{
+    plan.got_start
+}
+
+/// How many entries it has.
+fn entry_count(plan: &Plan) -> usize
+    ensures { result ≡ length (entries plan.now) }
+{
+    plan.got.entry_count()
+}
+
+/// What an entry holds, by its number.
+fn entry<'a>(plan: &Plan<'_, '_, '_, 'a>, number: usize) -> Option<Entry<'a>>
+    ensures { result
+        ≡ option_map (entry_of plan.now.kind (block_offset plan.now)) (slice_get (entries plan.now) number) }
+{
+    plan.got.entry(number)
+}
+
+/// How many bytes an entry has.
+fn size_of(entry: &Entry) -> u64
+    ensures { result ≡ 8 * length (words entry.now) }
+{
+    match entry {
+        Entry::One(_) => 8,
+        Entry::Two(_, _) => 16,
+    }
+}
+
+/// Adds those of the table.
+fn push_got(
+    plan: &Plan,
+    prepared: &Prepared,
+    all: &mut Vec<ImageRelocation>,
+) -> Result<(), AllocError>
+    requires { plan.now ≡ prepared.now }
+    ensures { OnOk result (all.new.items ≡ all.old.items ++ got_relocations prepared.now) }
+{
+    let mut place = table_start(plan);
+    for number in 0..entry_count(plan) {
+        let Some(entry) = entry(plan, number) else {
+            return Ok(());
+        };
+        prepared.push_entry(place, &entry, all)?;
+        place += size_of(&entry);
+    }
+    Ok(())
+}
+
+/// Whether a field of this type has an address of 8 bytes.
+fn is_absolute(kind: RelocationKind) -> bool
+    ensures { result ≡ is_absolute kind }
+{
+    matches!(kind, RelocationKind::Absolute64)
+}
+
+/// Adds that of a field of 8 bytes with an address, of a section that begins at this address.
+fn push_field(
+    plan: &Plan,
+    object: usize,
+    section: u32,
+    address: u64,
+    relocation: &Relocation,
+    all: &mut Vec<ImageRelocation>,
+) -> Result<(), AllocError>
+    requires object { object < length plan.now.objects }
+    requires own { Contains (relocations (object_at plan.now.objects object) section) relocation.now }
+    requires address { address ≡ unwrap_or (address_of (layout plan.now) object section) 0 }
+    requires small { address ≤ 2 ^ 25 }
+    ensures { OnOk result
+        (all.new.items ≡ all.old.items ++ field_relocations plan.now object section relocation.now) }
+{
+    if !is_absolute(relocation.kind) {
+        return Ok(());
+    }
+    // What is known of a plan is known where a part of it is read.
+    let _inputs = plan.inputs;
+    let symbol = plan.symbol_value(object, relocation.symbol);
+    let place = plan.own_number(relocation.kind, symbol);
+    all.push(ImageRelocation {
+        place: address + relocation.offset,
+        kind: LoaderKind::Relative,
+        symbol: 0,
+        addend: place.wrapping_add_signed(relocation.addend).cast_signed(),
+    })?;
+    Ok(())
+}
+
+/// Adds those of a section's fields.
+fn push_section(
+    plan: &Plan,
+    object: usize,
+    section: u32,
+    all: &mut Vec<ImageRelocation>,
+) -> Result<(), AllocError>
+    requires { object < length plan.now.objects }
+    ensures { OnOk result (all.new.items
+        ≡ all.old.items ++ section_relocations plan.now object (object_at plan.now.objects object) section) }
+{
+    let address = plan.inputs.section_address(object, section);
+    for relocation in plan.inputs.object(object).relocs(section) {
+        push_field(plan, object, section, address, &relocation, all)?;
+    }
+    Ok(())
+}
+
+/// Adds those of an object's fields.
+fn push_object(plan: &Plan, object: usize, all: &mut Vec<ImageRelocation>) -> Result<(), AllocError>
+    requires { object < length plan.now.objects }
+    ensures { OnOk result (all.new.items
+        ≡ all.old.items ++ object_relocations plan.now object (object_at plan.now.objects object)) }
+{
+    for section in 0..plan.inputs.object(object).section_count() {
+        push_section(plan, object, section, all)?;
+    }
+    Ok(())
+}
+
+/// Those of all fields, in the order of the file.
+fn found_fields(alloc: Global, plan: &Plan) -> Result<Vec<ImageRelocation>, AllocError>
+    ensures { IfOk result (λ all. all.items ≡ object_relocations_from plan.now 0 plan.now.objects) }
+{
+    let mut all = Vec::new(alloc);
+    let inputs = plan.inputs;
+    for object in 0..inputs.objects.len() {
+        push_object(plan, object, &mut all)?;
+    }
+    Ok(all)
+}
+
+/// Whether the image may lie at any address.
+fn is_moved(plan: &Plan) -> bool
+    ensures { result ≡ is_moved plan.now.kind }
+{
+    let inputs = plan.inputs;
+    !matches!(inputs.kind, ImageKind::Exe)
+}
+
+/// The relocations of fields with addresses by their places, in an image that may lie anywhere.
+fn relatives(alloc: Global, plan: &Plan) -> Result<Vec<ImageRelocation>, AllocError>
+    ensures { IfOk result (λ all. all.items ≡ relatives plan.now) }
+{
+    if !is_moved(plan) {
+        return Ok(Vec::new(alloc));
+    }
+    let mut all = found_fields(alloc, plan)?;
+    all.sort_by_key(|relocation| relocation.place)?;
+    Ok(all)
+}
+
+/// All relocations of an image, in the order of their places.
+#[tactic(auto, unfolding(crate::specs::Dynamic::image_relocations))]
+pub fn relocations(
+    alloc: Global,
+    plan: &Plan,
+    prepared: &Prepared,
+) -> Result<Vec<ImageRelocation>, AllocError>
+    requires { plan.now ≡ prepared.now }
+    ensures { IfOk result (λ all. all.items ≡ image_relocations prepared.now) }
+{
+    let mut all = relatives(alloc, plan)?;
+    push_got(plan, prepared, &mut all)?;
+    Ok(all)
+}

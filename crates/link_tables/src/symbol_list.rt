@@ -1,0 +1,205 @@
+//! The symbols of an image: those that it defines, those that it imports, and the function of the run time.
+
+ghost use Rattle.std.specs.Prelude.{◌≡◌, ◌++◌, ℕ, List, IfOk, OnOk, map, if◌then◌else◌};
+ghost use Rattle.std.specs.List.{All};
+ghost use Rattle.tls_symbols.specs.Bindings.{is_tls_place};
+ghost use Rattle.tls_symbols.specs.Definitions.{IsWithin};
+ghost use Rattle.dynamic_symbols.specs.Names.{name_of};
+ghost use Rattle.image_file.specs.declared.symbol.SymbolType.TheVariants as type_in_image;
+ghost use Rattle.link_tables.specs.Dynamic.{binding_shown, defined, foreign, names, runtime_names, runtime_symbols};
+ghost use Rattle.link_tables.specs.Dynamic.{symbols, type_shown, visibility_shown};
+ghost use Rattle.link_needs.specs.Linking.{address, offset};
+ghost use Rattle.link_tables.specs.Named.{names_in, symbols_in};
+
+use crate::prepared::Prepared;
+use elf_object::{Object, SectionClass, SymbolPlace};
+use got_pairs::Need;
+use image_file::{ImageSymbol, SymbolBinding, SymbolType, Visibility};
+use image_writer::NamedSymbol;
+use link_faults::SymbolRef;
+use link_needs::{Inputs, Plan};
+use std::alloc::{AllocError, Global};
+
+/// The name of the function of the run time.
+const GET_ADDRESS: &[u8] = b"__tls_get_addr";
+
+/// What an object says of a symbol's binding, as an image does.
+fn binding_shown(binding: elf_object::SymbolBinding) -> SymbolBinding
+    ensures { result ≡ binding_shown binding }
+{
+    match binding {
+        elf_object::SymbolBinding::Local => SymbolBinding::Local,
+        elf_object::SymbolBinding::Global => SymbolBinding::Global,
+        elf_object::SymbolBinding::Weak => SymbolBinding::Weak,
+    }
+}
+
+/// Its visibility.
+fn visibility_shown(visibility: elf_object::Visibility) -> Visibility
+    ensures { result ≡ visibility_shown visibility }
+{
+    match visibility {
+        elf_object::Visibility::Default => Visibility::Default,
+        elf_object::Visibility::Internal => Visibility::Internal,
+        elf_object::Visibility::Hidden => Visibility::Hidden,
+        elf_object::Visibility::Protected => Visibility::Protected,
+    }
+}
+
+/// Its type.
+fn type_shown(kind: elf_object::SymbolType) -> SymbolType
+    ensures { result ≡ type_shown kind }
+{
+    match kind {
+        elf_object::SymbolType::NoType => SymbolType::NoType,
+        elf_object::SymbolType::Object => SymbolType::Object,
+        elf_object::SymbolType::Func => SymbolType::Func,
+        elf_object::SymbolType::Section => SymbolType::Section,
+        elf_object::SymbolType::File => SymbolType::File,
+        elf_object::SymbolType::Tls => SymbolType::Tls,
+    }
+}
+
+/// A symbol of another image.
+fn foreign(kind: SymbolType) -> ImageSymbol
+    ensures { result ≡ foreign kind }
+{
+    ImageSymbol {
+        binding: SymbolBinding::Global,
+        kind,
+        visibility: Visibility::Default,
+        is_defined: false,
+        value: 0,
+        size: 0,
+    }
+}
+
+/// Whether what is defined at a place is thread-local.
+#[tactic(auto, using(tls_symbols::proofs::Sections::past_class))]
+fn is_tls_place(object: &Object, place: SymbolPlace) -> bool
+    ensures { result ≡ is_tls_place object.now place }
+{
+    match place {
+        SymbolPlace::InSection(section) => match object.section(section) {
+            Some(part) => matches!(part.class, Some(SectionClass::Tls { .. })),
+            None => false,
+        },
+        _ => false,
+    }
+}
+
+/// What a symbol of the image stands for: a thread-local one for a variable, whatever type its object says.
+fn kind_of(is_thread_local: bool, kind: elf_object::SymbolType) -> SymbolType
+    ensures { result ≡ (if is_thread_local then type_in_image.Tls else type_shown kind) }
+{
+    if is_thread_local {
+        SymbolType::Tls
+    } else {
+        type_shown(kind)
+    }
+}
+
+/// Its value: a thread-local one has its offset in the TLS segment.
+fn value_of(inputs: &Inputs, is_thread_local: bool, found: SymbolRef) -> u64
+    requires { IsWithin inputs.now.objects found }
+    ensures { result ≡ (if is_thread_local then offset inputs.now found else address inputs.now found) }
+{
+    if is_thread_local {
+        inputs.offset(found)
+    } else {
+        inputs.address(found)
+    }
+}
+
+/// A symbol of the image.
+#[tactic(auto, unfolding(crate::specs::Dynamic::defined))]
+fn defined(inputs: &Inputs, found: SymbolRef) -> ImageSymbol
+    requires { IsWithin inputs.now.objects found }
+    ensures { result ≡ defined inputs.now found }
+{
+    let object = inputs.object(found.object as usize);
+    let Some(part) = object.symbol(found.symbol) else {
+        return foreign(SymbolType::NoType);
+    };
+    let is_thread_local = is_tls_place(object, part.place);
+    ImageSymbol {
+        binding: binding_shown(part.binding),
+        kind: kind_of(is_thread_local, part.kind),
+        visibility: visibility_shown(part.visibility),
+        is_defined: true,
+        value: value_of(inputs, is_thread_local, found),
+        size: part.size,
+    }
+}
+
+/// All symbols from number 1 on, with their names: those that the image defines, the imports, and the function of the
+/// run time where it is called through its word.
+#[tactic(auto, unfolding(crate::specs::Dynamic::symbols, crate::specs::Dynamic::names))]
+pub fn symbols<'a>(
+    alloc: Global,
+    plan: &Plan,
+    prepared: &Prepared<'_, '_, 'a>,
+) -> Result<Vec<NamedSymbol<'a>>, AllocError>
+    requires { plan.now ≡ prepared.now }
+    ensures symbols { IfOk result (λ all. symbols_in all.items ≡ symbols prepared.now) }
+    ensures names { IfOk result (λ all. names_in all.items ≡ names prepared.now) }
+{
+    let mut all = Vec::new(alloc);
+    push_own(&prepared.inputs, prepared.own.as_slice(), &mut all)?;
+    push_imports(prepared.imports.as_slice(), &mut all)?;
+    push_runtime(plan.got.start(&Need::RuntimeWord).is_some(), &mut all)?;
+    Ok(all)
+}
+
+/// Adds the symbols that the image defines.
+fn push_own<'a>(
+    inputs: &Inputs<'_, '_, 'a>,
+    own: &[SymbolRef],
+    all: &mut Vec<NamedSymbol<'a>>,
+) -> Result<(), AllocError>
+    requires { All (IsWithin inputs.now.objects) own.now }
+    ensures symbols { OnOk result
+        (symbols_in all.new.items ≡ symbols_in all.old.items ++ map (defined inputs.now) own.now) }
+    ensures names { OnOk result
+        (names_in all.new.items ≡ names_in all.old.items ++ map (name_of inputs.now.objects) own.now) }
+{
+    for found in own {
+        all.push(NamedSymbol {
+            symbol: defined(inputs, *found),
+            name: inputs
+                .object(found.object as usize)
+                .symbol_name(found.symbol),
+        })?;
+    }
+    Ok(())
+}
+
+/// Adds the imports of these names.
+fn push_imports<'a>(names: &[&'a [u8]], all: &mut Vec<NamedSymbol<'a>>) -> Result<(), AllocError>
+    ensures symbols { OnOk result (symbols_in all.new.items
+        ≡ symbols_in all.old.items
+        ++ map (λ (name : List ℕ). foreign type_in_image.Tls) (map (λ name. name.now) names.now)) }
+    ensures names { OnOk result (names_in all.new.items ≡ names_in all.old.items ++ map (λ name. name.now) names.now) }
+{
+    for name in names {
+        all.push(NamedSymbol {
+            symbol: foreign(SymbolType::Tls),
+            name: *name,
+        })?;
+    }
+    Ok(())
+}
+
+/// Adds the function of the run time, where it is called through its word.
+fn push_runtime(is_used: bool, all: &mut Vec<NamedSymbol>) -> Result<(), AllocError>
+    ensures symbols { OnOk result (symbols_in all.new.items ≡ symbols_in all.old.items ++ runtime_symbols is_used) }
+    ensures names { OnOk result (names_in all.new.items ≡ names_in all.old.items ++ runtime_names is_used) }
+{
+    if is_used {
+        all.push(NamedSymbol {
+            symbol: foreign(SymbolType::NoType),
+            name: GET_ADDRESS,
+        })?;
+    }
+    Ok(())
+}
