@@ -9,7 +9,7 @@ ghost use Rattle.tls_layout.specs.Sections.{layout_of};
 ghost use Rattle.tls_symbols.specs.Bindings.{object_at};
 ghost use Rattle.tls_symbols.specs.Faults.{AreResolved};
 ghost use Rattle.link_needs.specs.Linking.{link_of};
-ghost use Rattle.link_tables.specs.Faults.{IsLinkFault, IsSound, LacksStorage};
+ghost use Rattle.link_tables.specs.Faults.{ArePrepared, IsLinkFault, IsSound, LacksStorage};
 
 use dynamic_symbols::{defined_symbols, imports, names_fit};
 use elf_object::Object;

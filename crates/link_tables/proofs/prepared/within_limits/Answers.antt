@@ -1,6 +1,5 @@
-use Rattle.std.proofs.Common.{◌∙◌, map, refl, ap, subst}
+use Rattle.std.proofs.Common.{◌∙◌, refl, ap, subst}
 use Rattle.std.proofs.lemmas.Result.{err_from_is_err_and}
-use Rattle.std.specs.Global.{Vec}
 use Rattle.link_refusals.specs.Faults.{FitsStorage}
 use Rattle.tls_layout.specs.Places.{tls_alignment, tls_size, IsLawful}
 use Rattle.tls_layout.specs.Rounding.{round_up}
