@@ -1,5 +1,5 @@
 -- What a refusal of an image that is sound tells.
-use Rattle.std.proofs.Common.{Result, Ok, Err, None, Some, absurd, tt}
+use Rattle.std.proofs.Common.{Result, Ok, Err, None, Some}
 use Rattle.std.specs.Prelude.{IfErr, OnOk}
 use Rattle.link_faults.specs.declared.fault.LinkFault.{LinkFault}
 use Rattle.link_faults.specs.declared.fault.LinkFault.TheVariants.{OutOfMemory, At}
