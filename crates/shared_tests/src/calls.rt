@@ -10,8 +10,7 @@ use std::process::Abort;
 use std::sync::Wait;
 use std::test::Fail;
 
-/// A pass's first thread opens or closes an image. The text has the answer, and then the line of each event that the
-/// pass lacked.
+/// A pass's first thread opens or closes an image. The text has the answer, and then how many events the pass lacked.
 fn call<R: Wait>(
     rt: &R,
     alloc: Global,
@@ -35,28 +34,46 @@ fn call<R: Wait>(
     format!(in alloc; "{answer:?} {}", events.len())
 }
 
-fn same(rt: &impl Abort, found: &str, want: &str) {
+/// A pass's first thread, of 32, opens or closes an image, and is answered so.
+fn ask<R: Wait + Abort>(
+    rt: &R,
+    alloc: Global,
+    shared: &Shared,
+    pass: &mut Pass,
+    thread: u32,
+    line: u32,
+    opens: bool,
+    image: u32,
+    want: &str,
+) -> Result<(), Fail>
+    requires { IsReady thread 32 shared.now pass.old }
+    ensures { IsReady thread 32 shared.now pass.new }
+{
+    let answer = call(rt, alloc, shared, pass, thread, 32, line, opens, image)?;
+    let found = answer.as_str();
     assert!(rt; found == want, "found {found}, want {want}");
+    Ok(())
 }
 
 // Image 1 is the program, image 2 a late one, and there is no image 9. A refused call tells what the pass lacked too.
 #[test]
 fn a_pass_finds_what_the_other_did(rt: HostRuntime) -> Result<(), Fail> {
-    let (shared, pass) = started(rt.alloc())?;
+    let opened = "Ok(Opened { instance: 2, id: 2, at: 0 }) 0";
+    let unknown = "Err(Unknown) 1";
+    let closed = "Ok(Closed { at: 1, gone: true }) 0";
+    let not_open = "Err(NotOpen) 1";
+    let permanent = "Err(Permanent) 0";
+    let alloc = rt.alloc();
+    let (shared, pass) = started(alloc)?;
     let (mut left, mut right) = halve(&shared, pass, 1, 64);
-    let answer = call(&rt, rt.alloc(), &shared, &mut left, 1, 32, 1, true, 2)?;
-    same(&rt, &answer, "Ok(Opened { instance: 2, id: 2, at: 0 }) 0");
+    ask(&rt, alloc, &shared, &mut left, 1, 1, true, 2, opened)?;
     assert!(rt; shared.newer(&mut right) && !shared.newer(&mut left));
-    let answer = call(&rt, rt.alloc(), &shared, &mut right, 33, 32, 1, true, 9)?;
-    same(&rt, &answer, "Err(Unknown) 1");
+    ask(&rt, alloc, &shared, &mut right, 33, 1, true, 9, unknown)?;
     assert!(rt; !shared.newer(&mut right) && right.seen() == 1);
-    let answer = call(&rt, rt.alloc(), &shared, &mut right, 33, 32, 2, false, 2)?;
-    same(&rt, &answer, "Ok(Closed { at: 1, gone: true }) 0");
-    let answer = call(&rt, rt.alloc(), &shared, &mut left, 1, 32, 2, false, 2)?;
-    same(&rt, &answer, "Err(NotOpen) 1");
-    let answer = call(&rt, rt.alloc(), &shared, &mut left, 1, 32, 3, false, 1)?;
-    same(&rt, &answer, "Err(Permanent) 0");
-    let mut events = Vec::new(rt.alloc());
+    ask(&rt, alloc, &shared, &mut right, 33, 2, false, 2, closed)?;
+    ask(&rt, alloc, &shared, &mut left, 1, 2, false, 2, not_open)?;
+    ask(&rt, alloc, &shared, &mut left, 1, 3, false, 1, permanent)?;
+    let mut events = Vec::new(alloc);
     shared.catch_up(&rt, &mut right, &mut events)?;
     let pass = shared.join(left, right);
     let registry = shared.finish(pass);
