@@ -2,8 +2,9 @@
 """run_docs.py [TLSLD] [FILE..]: runs the commands that the documents show, and compares what they print with what stands there.
 
 In a document, a block of commands begins with the line ```console FOLDER. It is run in a copy of that folder of the
-repository (`.` is an empty one, and `top` the repository itself, for commands that only read), by sh, with the program TLSLD as `tlsld`. A line that begins with `$ ` is a command, and the lines
-behind it are what it prints, errors too. A line `...` stands for any lines. What stands behind two spaces and `# ` is a remark.
+repository (`.` is an empty one, and `top` the repository itself, for commands that only read), by sh, with the program
+TLSLD as `tlsld`. A line that begins with `$ ` is a command, and the lines behind it are what it prints, errors too. A line
+`...` stands for any lines. What stands behind two spaces and `# ` is a remark.
 Blocks of other kinds are not run. Without names it takes README.md, the documents beside it, and those of the examples.
 """
 import glob
@@ -19,7 +20,7 @@ REMARK = re.compile(r" {2,}# .*$")
 
 
 def blocks(path):
-    """The blocks of a document that are run: the line that each begins at, its folder, and its commands with what they print."""
+    """The blocks of a document that are run: the line that each begins at, its folder, its commands and what they print."""
     begun, found = None, []
     for number, line in enumerate(open(path, encoding="utf-8").read().splitlines(), 1):
         opens = re.match(r"```console (\S+)$", line)
@@ -47,7 +48,8 @@ def matches(shown, printed):
 def run(command, room, tools):
     """What a command prints, line by line."""
     paths = {**os.environ, "PATH": f"{tools}:{os.environ['PATH']}", "LC_ALL": "C"}
-    ran = subprocess.run(["sh", "-c", command], cwd=room, env=paths, stdout=subprocess.PIPE, stderr=subprocess.STDOUT, timeout=120)
+    ran = subprocess.run(["sh", "-c", command], cwd=room, env=paths, stdout=subprocess.PIPE, stderr=subprocess.STDOUT,
+        timeout=120)
     return ran.stdout.decode(errors="replace").splitlines()
 
 
@@ -72,33 +74,24 @@ def wrong_in(block, tools):
                 yield number, command, shown, printed
 
 
-def has_check(tools):
-    """Whether the program has the command `check`: of a job that is not there it says more than that the words are none."""
-    return run("tlsld check nothing; echo $?", "/", tools)[-1:] != ["2"]
-
-
 def documents():
-    return [f"{TOP}/README.md", *sorted(glob.glob(f"{TOP}/docs/*.md")), *sorted(glob.glob(f"{TOP}/examples/**/README.md", recursive=True))]
+    return [f"{TOP}/README.md", *sorted(glob.glob(f"{TOP}/docs/*.md")),
+        *sorted(glob.glob(f"{TOP}/examples/**/README.md", recursive=True))]
 
 
 def main():
     built = os.path.abspath(sys.argv[1] if len(sys.argv) > 1 else f"{TOP}/crates/tlsld/out/tlsld")
-    ran = failed = unasked = 0
+    ran = failed = 0
     with tempfile.TemporaryDirectory() as tools:
         os.symlink(built, f"{tools}/tlsld")
-        can_check = has_check(tools)
         for path in sys.argv[2:] or documents():
             for block in blocks(path):
-                if not can_check and any("tlsld check" in command for _, command, _ in block[2]):
-                    unasked += len(block[2])
-                    continue
                 ran += len(block[2])
                 for number, command, shown, printed in wrong_in(block, tools):
                     failed += 1
                     print(f"{os.path.relpath(path, TOP)}:{number}: $ {command}")
-                    print("".join(f"    shown    {line}\n" for line in shown) + "".join(f"    printed  {line}\n" for line in printed), end="")
-    if unasked:
-        print(f"the program has no command check: {unasked} commands in blocks that show it were not run")
+                    print("".join(f"    shown    {line}\n" for line in shown), end="")
+                    print("".join(f"    printed  {line}\n" for line in printed), end="")
     print(f"{ran - failed} of {ran} commands print what the documents show")
     sys.exit(1 if failed else 0)
 

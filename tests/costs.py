@@ -1,8 +1,8 @@
 #!/usr/bin/env python3
-"""Runs `rt ci` with the words that follow, and says what it cost, crate by crate, in processor seconds: proofs, tests (which prove
-their crate once more), must-fail edits, and building and running programs. `python3 tests/costs.py --anew` measures the gate from
-nothing; `taskset -c 0,1 python3 tests/costs.py --anew` on two processors. Processes are looked at twice a second, so each may count
-half a second too little; the sum is the kernel's own. Lines of the run go to standard error."""
+"""Runs `rt ci` with the words that follow, and says what it cost, crate by crate, in processor seconds: proofs, tests (which
+prove their crate once more), must-fail edits, and building and running programs. `python3 tests/costs.py --anew` measures the
+gate from nothing; `taskset -c 0,1 python3 tests/costs.py --anew` on two processors. Processes are looked at twice a second, so
+each may count half a second too little; the sum is the kernel's own. Lines of the run go to standard error."""
 import os, re, resource, subprocess, sys, threading, time
 
 KINDS = ["proof", "tests", "edits", "programs"]
@@ -56,7 +56,8 @@ def main():
     sums = [sum(it[kind] for it in costs.values()) for kind in KINDS]
     print(f"{'seconds':22}" + "".join(f"{it:10.0f}" for it in [*sums, sum(sums)]))
     used = resource.getrusage(resource.RUSAGE_CHILDREN)
-    print(f"{(used.ru_utime + used.ru_stime) / 60:.0f} processor minutes, {(time.time() - start) / 60:.0f} minutes of wall clock")
+    minutes = (used.ru_utime + used.ru_stime) / 60
+    print(f"{minutes:.0f} processor minutes, {(time.time() - start) / 60:.0f} minutes of wall clock")
     sys.exit(run.returncode)
 
 

@@ -1,11 +1,11 @@
 #!/usr/bin/env python3
 """example_data.py [--check]: copies examples/ to where the gate can see it, crates/command_runs; or says whether it is in step.
 
-The gate runs a program over files of its own crate alone. So data/examples of the crate command_runs are the folders of examples/
-whose jobs have something to print: these jobs, the objects, what stands beside the jobs, and `runs`, the list of what is to be run.
-The crate's `stdout` is what the program prints where all is well: a line for this list, and one for each list of data/cases, which
-are written by hand. tests/examples.sh says which file beside a job means which runs, and crates/command_runs/src/main.rt what the
-lines of a list are.
+The gate runs a program over files of its own crate alone. So data/examples of the crate command_runs are the folders of
+examples/ whose jobs have something to print: these jobs, the objects, what stands beside the jobs, and `runs`, the list of what
+is to be run. The crate's `stdout` is what the program prints where all is well: a line for this list, and one for each list of
+data/cases, which are written by hand. tests/examples.sh says which file beside a job means which runs, and
+crates/command_runs/src/main.rt what the lines of a list are.
 """
 import os
 import re

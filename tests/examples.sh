@@ -22,7 +22,6 @@ room=$(mktemp -d)
 trap 'rm -rf "$room"' EXIT
 ran=0
 failed=0
-unasked=0
 
 # holds WANTED STATUS WORD..: the program ends so on these words, in the folder of the example.
 holds() {
@@ -67,23 +66,11 @@ runs() {
         holds "refusal$end" "$ends" run "$job" --no-relax
     fi
     if [ -f "verdict$end" ]; then
-        checks "$job" "verdict$end"
+        if [ "$(cat "verdict$end")" = clean ]; then ends=0; else ends=9; fi
+        holds "verdict$end" "$ends" check "$job"
     fi
 }
 
-# checks JOB VERDICT: what `check` says of a job, where the program has that command.
-checks() {
-    if [ "$has_check" = no ]; then
-        unasked=$((unasked + 1))
-    elif [ "$(cat "$2")" = clean ]; then
-        holds "$2" 0 check "$1"
-    else
-        holds "$2" 9 check "$1"
-    fi
-}
-
-"$tlsld" check "$room/nothing" >/dev/null
-if [ $? -eq 2 ]; then has_check=no; else has_check=yes; fi
 for job in "$top"/examples/*/job* "$top"/examples/*/*/job*; do
     folder=$(dirname "$job")
     cd "$folder" || exit 1
@@ -94,6 +81,5 @@ for name in a.o job; do
     cmp "$top/examples/thread_local_42/$name" "$top/crates/tlsld/data/$name" || failed=$((failed + 1))
 done
 python3 "$top/tests/example_data.py" --check || failed=$((failed + 1))
-[ "$unasked" -eq 0 ] || echo "the program has no command check: $unasked verdicts were not asked"
 [ "$failed" -eq 0 ] && echo "$ran runs of examples print what stands beside them"
 [ "$failed" -eq 0 ]

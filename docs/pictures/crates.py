@@ -15,8 +15,11 @@ TOP = os.path.dirname(os.path.dirname(HERE))
 AREAS = [
     ("commands, and the outside", "#fff3c4", "#b58900", r"tlsld|commands|command_.*|ports|job_text|generated_job|run_summary"),
     ("the checker: what objects mean", "#e3f4f1", "#20807a", r"class_bytes|meant_.*|job_check"),
-    ("definitions and laws: no code that runs", "#f9e4e4", "#a05050", r"thread_blocks|lawful_points|static_blocks|relocated_parts|loaded_bytes|loaded_words|loaded_names|held_alike|begin_alike|tied_.*|site_steps|call_alike|closed_jobs|shared_data|job_meaning|whole_meaning|known_instances|marked_code|job_run|.*_laws|linked_modules"),
-    ("the run time: modules, threads, turns", "#ece4f7", "#6c4ab0", r"module_.*|loaded_modules|thread_.*|job_turns|shared_modules|transcript_text|image_names"),
+    ("definitions and laws: no code that runs", "#f9e4e4", "#a05050", 
+        r"thread_blocks|job_meaning|whole_meaning|job_run|linked_modules|relocated_parts|loaded_(bytes|words|names)|closed_jobs"
+        r"|lawful_points|static_blocks|shared_data|known_instances|tied_.*|marked_code|site_steps|(held|begin|call)_alike|.*_laws"),
+    ("the run time: modules, threads, turns", "#ece4f7", "#6c4ab0",
+        r"module_.*|loaded_modules|thread_.*|job_turns|shared_modules|transcript_text|image_names"),
     ("the machine", "#ffe6d2", "#c0651a", r"amd64_.*|guest_.*"),
     ("objects and images: files", "#dceafc", "#2f6db5", r"elf_.*|object_(rules|faults)|image_.*"),
     ("linking", "#def3e0", "#2e8540", r"(link|tls|relax|sequence|got|section|site)_.*|dynamic_symbols|job_link"),
@@ -163,7 +166,8 @@ def key(names, y):
     """The areas that these crates are of, with their colours."""
     drawn, x = [], MARGIN
     for name, fill, edge, _ in [AREAS[it] for it in sorted({area_of(name) for name in names})]:
-        drawn.append(f'<rect x="{x}" y="{y - 10}" width="14" height="14" rx="3" fill="{fill}" stroke="{edge}"/><text x="{x + 20}" y="{y + 2}">{name}</text>')
+        drawn.append(f'<rect x="{x}" y="{y - 10}" width="14" height="14" rx="3" fill="{fill}" stroke="{edge}"/>'
+                     f'<text x="{x + 20}" y="{y + 2}">{name}</text>')
         x += 34 + 6.2 * len(name)
     return drawn
 
@@ -179,13 +183,15 @@ def picture(uses):
     foot = MARGIN + 44 + ROW * len(rows)
     small, end = beside([name for name in uses if name not in shown], foot + 24)
     parts = [
-        f'<svg xmlns="http://www.w3.org/2000/svg" viewBox="0 0 {WIDTH} {end + 24}" font-family="DejaVu Sans, Verdana, sans-serif" font-size="11">',
+        f'<svg xmlns="http://www.w3.org/2000/svg" viewBox="0 0 {WIDTH} {end + 24}" '
+        'font-family="DejaVu Sans, Verdana, sans-serif" font-size="11">',
         "<title>The crates of tlsld by layers</title>",
         f'<rect width="{WIDTH}" height="{end + 24}" fill="#fff"/>',
         *key(shown, MARGIN + 10),
         '<g fill="none" stroke-width="1.1" stroke-opacity="0.45">', *[line(*it, at, height) for it in lines], "</g>",
         *[box(name, at[name], height[name], uses) for row in rows for name in row],
-        f'<text x="{MARGIN}" y="{foot}" fill="#555">Beside them: crates of tests, what tests are made of, and programs that list, change, run commands or measure.</text>',
+        f'<text x="{MARGIN}" y="{foot}" fill="#555">Beside them: crates of tests, what tests are made of, and programs that '
+        'list, change, run commands or measure.</text>',
         '<g font-size="9.5">', *small, "</g>", "</svg>", "",
     ]
     return "\n".join(parts)
@@ -195,7 +201,8 @@ def main():
     drawn, path = picture(read_crates()), f"{HERE}/crates.svg"
     if sys.argv[1:] == ["--check"]:
         same = os.path.exists(path) and open(path, encoding="utf-8").read() == drawn
-        print(f"crates.svg is {'in step with' if same else 'not what'} crates.txt{'' if same else ' gives: run docs/pictures/crates.py'}")
+        print("crates.svg is in step with crates.txt" if same
+              else "crates.svg is not what crates.txt gives: run docs/pictures/crates.py")
         sys.exit(0 if same else 1)
     with open(path, "w", encoding="utf-8") as file:
         file.write(drawn)

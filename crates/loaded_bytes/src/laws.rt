@@ -67,7 +67,7 @@ pub fn bytes_are_small()
     ensures { BytesAreSmall }
 {}
 
-/// What is loaded of two instances lies apart.
+/// What is loaded of two instances lies apart, where not both are programs at fixed addresses.
 pub fn instances_lie_apart()
     ensures { InstancesLieApart }
 {}

@@ -22,7 +22,7 @@
 //! Between sections stand zeros. All that a linker adds to the sections, its table, the stub and the dynamic tables, lies
 //! in the room behind them ([`all_else_is_in_the_room`]); what may be run there begins a page later, so that no
 //! instruction of the objects runs on into it ([`none_runs_on`]). Each instance has 2^26 addresses of its own, and so two
-//! of them lie apart ([`places_are_own`], [`instances_lie_apart`]).
+//! of them lie apart, where not both are programs at fixed addresses ([`places_are_own`], [`instances_lie_apart`]).
 //!
 //! Outside code such a byte is the one that the meaning of the job has there ([`bytes_are_meant`]), so that what is read
 //! of constants, the data and the blocks as they begin are those of the meaning ([`reads_are_meant`], [`data_is_meant`],

@@ -6,6 +6,8 @@ use Rattle.std.specs.Int.{w64, cast_unsigned}
 use Rattle.std.proofs.lemmas.Bool.{cases_lt, lt-ltb, le-ltb}
 use Rattle.elf_records.specs.Fields.{bytes_of}
 use Rattle.elf_records.specs.Laws.{length-bytes_of}
+use Rattle.guest_arithmetic.specs.PlainLaws.{plain_laws}
+use Rattle.guest_arithmetic.specs.Plain.{plain_operations}
 use Rattle.guest_arithmetic.specs.Values.{digit}
 use Rattle.image_faults.specs.declared.loader_kind.LoaderKind.{LoaderKind}
 use Rattle.image_faults.specs.declared.loader_kind.LoaderKind.TheVariants.{JumpSlot, Relative, Module, ModuleOffset}
@@ -35,16 +37,9 @@ digits n (suc (suc (suc (suc (suc (suc (suc zero))))))) below = refl
 digits n (suc (suc (suc (suc (suc (suc (suc (suc k)))))))) below = absurd (omega arith)
 
 -- those of a number modulo 2^64 are its own
-pub low_digit : (n k : ℕ) → k < 8 → digit (n % 2 ^ 64) k ≡ digit n k
-low_digit n zero below = omega arith
-low_digit n (suc zero) below = omega arith
-low_digit n (suc (suc zero)) below = omega arith
-low_digit n (suc (suc (suc zero))) below = omega arith
-low_digit n (suc (suc (suc (suc zero)))) below = omega arith
-low_digit n (suc (suc (suc (suc (suc zero))))) below = omega arith
-low_digit n (suc (suc (suc (suc (suc (suc zero)))))) below = omega arith
-low_digit n (suc (suc (suc (suc (suc (suc (suc zero))))))) below = omega arith
-low_digit n (suc (suc (suc (suc (suc (suc (suc (suc k)))))))) below = absurd (omega arith)
+low_digit : (n k : ℕ) → k < 8 → digit (n % 2 ^ 64) k ≡ digit n k
+unfolding plain_operations
+low_digit n k below = plain_laws.byte_of-word n k below
 
 -- ** one word, or two
 
