@@ -8,6 +8,7 @@ use Rattle.module_table.specs.declared.events.Event.{Event}
 use Rattle.thread_blocks.specs.Held.{Held, Owned}
 use Rattle.thread_blocks.specs.JobWorlds.{Shared, shared_order}
 use Rattle.thread_blocks.specs.Lines.{Line}
+use Rattle.thread_blocks.specs.RunTime.{Runs}
 use Rattle.thread_blocks.specs.Turns.{Thread, Turns, turns}
 use Rattle.thread_blocks.specs.TurnsAlike.{IsFront}
 use Rattle.order_laws.specs.Alike.{AreAlike, AtHistory, SameOne}
@@ -45,12 +46,9 @@ module _ {W F B W' F' B' : Type 0} (Rel Wait Rest : ℕ → Held W F B → Held 
 
 -- ** as clauses
 
--- what a thread holds by meaning, and by machine
+-- what a thread holds by meaning
 abbrev pub Meant : Type 0
 Meant = Held Word Flag Byte
-
-abbrev pub Runs : Type 0
-Runs = Held ℕ Bool ℕ
 
 -- tests as relations
 abbrev pub Passes : {A : Type 0} → (A → Bool) → A → Type 0

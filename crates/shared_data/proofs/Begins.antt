@@ -26,6 +26,11 @@ abbrev pub BegunHolds : {W F B : Type 0} → List (Change B) → Begun (Held W F
 BegunHolds log (Says ending h) = Holds log h
 BegunHolds log (Calls h) = Holds log h
 
+-- where a line fills nothing, nothing more is told
+pub none_filled : {W F B : Type 0} (log : List (Change B)) (begun : Begun (Held W F B)) → BegunHolds log begun
+    → BegunHolds (log ++ []) begun
+none_filled {W} {F} {B} log begun = subst (λ (cs : List (Change B)). BegunHolds cs begun) (sym (append_none log))
+
 -- what is known of the live instances where so many events were seen
 pub record AreOwn {B : Type 0} (l : Loads B) (seen : List Event) : Type 0 where
   pub numbers : Numbered l seen
@@ -48,9 +53,6 @@ module _ {W F B : Type 0} (ops : Operations W F B) (l : Loads B) (show : List B 
   with_load_holds log true x h own one holds = subst (λ (cs : List (Change B)). Holds cs h) (sym (append_none log)) holds
   with_load_holds log false None h own one holds = subst (λ (cs : List (Change B)). Holds cs h) (sym (append_none log)) holds
   with_load_holds log false (Some x) h own one holds = load_holds l thread log x h own (one x refl) holds.1
-
-  none_filled : (log : List (Change B)) (begun : Begun (Held W F B)) → BegunHolds log begun → BegunHolds (log ++ []) begun
-  none_filled log begun = subst (λ (cs : List (Change B)). BegunHolds cs begun) (sym (append_none log))
 
   open_holds : (log : List (Change B)) (line : Line) (seen : List Event) (h : Held W F B) (refusal : Option OpenRefusal)
       → AreOwn l (with_event seen (unless_refused refusal (event_at thread line.number true line.told.image))) → Holds log h

@@ -11,7 +11,7 @@ use Rattle.thread_blocks.specs.Lines.{Line, event_by}
 use Rattle.thread_blocks.specs.Turns.{Begun, Says, Calls, Phase, Idle, Mid, Said, Thread, Turns, after_look, after_run, event_of, turn_at, with_event, with_last}
 use Rattle.shared_data.specs.Changes.{Change}
 use Rattle.shared_data.specs.Told.{called, filled_by, run_told, step_told, steps_of, steps_told, unless_over}
-use Rattle.shared_data.proofs.Begins.{AreOwn, BegunHolds}
+use Rattle.shared_data.proofs.Begins.{AreOwn, BegunHolds, none_filled}
 use Rattle.shared_data.proofs.Held.{Holds}
 use Rattle.shared_data.proofs.Last.{append_append, append_none}
 use Rattle.shared_data.proofs.Left.{AreLeft}
@@ -94,9 +94,6 @@ module _ {W F B : Type 0} (l : Loads B) (thread : ℕ) (x : Turns (Held W F B) L
   -- the event of a thread that stands so
   abbrev event_at : List Line → Phase (Held W F B) → List Event → Option Event
   event_at todo phase seen = event_of (event_by l thread) (record { todo = todo; phase = phase; said = []; seen = [] }) seen
-
-  none_filled : (log : List (Change B)) (begun : Begun (Held W F B)) → BegunHolds log begun → BegunHolds (log ++ []) begun
-  none_filled log begun = subst (λ (cs : List (Change B)). BegunHolds cs begun) (sym (append_none log))
 
   turn_in : (log : List (Change B)) (todo : List Line) (phase : Phase (Held W F B)) (said : List Said) (old seen : List Event)
       → IsLegal l.infos l.last_offset seen → AreLeft log (owned_by (held_in phase))

@@ -23,6 +23,9 @@
 //! than its blocks, each event was accepted, and what turns see are fronts of the history, with the thread's own event
 //! behind them (`lawful_points`, `AtHistory`).
 //!
+//! It is said of a thread that takes its turns alone, and of what it holds after a turn. Of the steps within a turn, and of
+//! turns that begin with data which other threads wrote, nothing is said yet.
+//!
 //! The proof follows the list of what a thread holds: a block of each live instance, in their order, and data behind
 //! (`proofs/Shapes`). Looks and writes keep that shape (`proofs/Keeping`). No two of these blocks share an address
 //! (`proofs/Live`): static ones by the laws of `module_table`, and any other lies far below them. Which instance a number
