@@ -10,9 +10,6 @@ use Rattle.thread_blocks.specs.Instances.{Loads}
 use Rattle.static_blocks.proofs.Shapes.{AreData, Shape, bytes_of_shape, of_member}
 
 module _ (l : Loads ℕ) (thread : ℕ) where
-  AllData : List (Owned ℕ) → Type 0
-  AllData xs = AreData l thread (owners_of xs) (ranges_in xs)
-
   -- what is made of an instance is as long as its blocks are, and is there where its distance is fixed
   pub record IsGood (y : Instance) (o : Option (List ℕ)) : Type 0 where
     pub size : (bytes : List ℕ) → o ≡ Some bytes → length bytes ≡ length (l.block y)
