@@ -111,6 +111,13 @@ impl<V: Values> Machine<V> {
         self.state.place
     }
 
+    /// Sets the address of the next instruction.
+    pub fn set_place(&mut self, place: u64)
+        ensures { self.new ≡ record self.old { state = record self.old.state { place = place } } }
+    {
+        self.state.place = place;
+    }
+
     /// Sets what the FS prefix adds to an address.
     pub fn set_thread_pointer(&mut self, thread_pointer: u64)
         ensures { self.new ≡ record self.old { state = record self.old.state { thread_pointer = thread_pointer } } }

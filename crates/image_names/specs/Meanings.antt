@@ -13,7 +13,6 @@ use Rattle.image_names.specs.declared.meaning.Meaning.{Meaning}
 use Rattle.image_names.specs.declared.meaning.Meaning.TheVariants.{Function, Other, Variable}
 use Rattle.image_names.specs.declared.variable.Variable.{Variable as TlsVariable}
 use Rattle.image_names.specs.Functions.{is_tls, runs_at}
-use Rattle.image_names.specs.Variables.{block_size}
 
 -- what a defined symbol is
 abbrev pub defined_meaning : List Part → ImageSymbol → Meaning
@@ -79,7 +78,3 @@ same_names x y = bytes_eq x.now y.now
 -- a name was given this meaning, where it had none
 abbrev pub noted : Meanings → Bor (List ℕ) → Meaning → Meanings
 noted meanings name meaning = insert_entry same_names meanings name (unwrap_or (told meanings name.now) meaning)
-
--- all that is kept of an image
-abbrev pub IsTold : Spelled → Meanings → ℕ → Type 0
-IsTold image meanings size = Tells image meanings × (size ≡ block_size image.tls)

@@ -15,9 +15,6 @@
 //! 2. It is a *variable* where it is defined and thread-local. The value of such a symbol is no address: it is an offset
 //!    in the TLS segment, and so in the block that each thread has of it (gABI, "Symbol Table", `STT_TLS`; Drepper, "ELF
 //!    Handling For Thread-Local Storage", section 3). [`variable`](ImageNames::variable) answers it.
-//! 3. [`shows`](ImageNames::shows) is for bytes of a variable, from its first on. They are refused as
-//!    [`Symbol`](PeekRefusal::Symbol) where the name is no variable, and as [`Length`](PeekRefusal::Length) where they do
-//!    not end within the TLS segment. The numbers are whole: a sum that 64 bits do not hold lies past every segment.
 //!
 //! An example. A program has nine bytes of code at 0x400000, a TLS segment of eight bytes, and these symbols:
 //!
@@ -30,8 +27,8 @@
 //! 5    09 00 00 00  16   00  00 00    00 00 00 00 00 00 00 00  ..    y, which another image defines
 //! ```
 //!
-//! `f` is called at 0x400000. `end` is no function, since the code ends before 0x400009, and neither are `x` and `y`. Of
-//! `x` six bytes are shown, from offset 2 on; seven are refused as `Length`, and any of `y` or `f` as `Symbol`.
+//! `f` is called at 0x400000. `end` is no function, since the code ends before 0x400009, and neither are `x` and `y`. `x`
+//! lies 2 bytes into each block; `y` is another image's, and `f` no variable.
 //!
 //! `specs/Functions` and `specs/Variables` say what a name stands for. `specs/Meanings` speaks of what the code keeps.
 #![tactic(auto)]
@@ -43,4 +40,4 @@ mod variable;
 
 pub use meaning::{is_executed, is_tls};
 pub use names::ImageNames;
-pub use variable::{PeekRefusal, Variable};
+pub use variable::Variable;

@@ -3,12 +3,12 @@
 ghost use Rattle.std.specs.Prelude.{◌≡◌, IfOk};
 ghost use Rattle.image_names.specs.Functions.{entry_in};
 ghost use Rattle.image_names.specs.Meanings.{meaning_in};
-ghost use Rattle.image_names.specs.Variables.{block_size, shown_in, shown_of, variable_in};
+ghost use Rattle.image_names.specs.Variables.{variable_in};
 
 use crate::meaning::Meaning;
 use crate::table::meanings_of;
-use crate::variable::{PeekRefusal, Variable};
-use image_file::{Image, TlsPart};
+use crate::variable::Variable;
+use image_file::Image;
 use indexmap::IndexMap;
 use std::alloc::{AllocError, Global};
 use std::marker::Model;
@@ -18,42 +18,17 @@ use std::marker::Model;
 pub struct ImageNames<'i> {
     image: &'i Image,
     meanings: IndexMap<&'i [u8], Meaning>,
-    /// How many bytes each thread's block has.
-    block_size: u64,
 }
 
 impl<'i> Model for ImageNames<'i> {
     ghost use Rattle.image_file.specs.Spelled.{Spelled};
-    ghost use Rattle.image_names.specs.Meanings.{IsTold};
+    ghost use Rattle.image_names.specs.Meanings.{Tells};
 
     ghost Value = { Spelled };
 
     ghost view = { λ names. names.image.now };
 
-    ghost invariant = { λ names. IsTold names.image.now names.meanings.entries names.block_size };
-}
-
-/// How many bytes each thread's block has, by the TLS segment.
-fn block_size(tls: Option<TlsPart>) -> u64
-    ensures { result ≡ block_size tls }
-{
-    match tls {
-        Some(tls) => tls.size,
-        None => 0,
-    }
-}
-
-/// Where bytes of a variable begin in a thread's block of this size, if it holds them all.
-fn shown_of(size: u64, length: u64, variable: Option<Variable>) -> Result<u64, PeekRefusal>
-    ensures { result ≡ shown_of size length variable }
-{
-    let Some(Variable { offset }) = variable else {
-        return Err(PeekRefusal::Symbol);
-    };
-    match offset.checked_add(length) {
-        Some(end) if end <= size => Ok(offset),
-        _ => Err(PeekRefusal::Length),
-    }
+    ghost invariant = { λ names. Tells names.image.now names.meanings.entries };
 }
 
 impl<'i> ImageNames<'i> {
@@ -63,11 +38,7 @@ impl<'i> ImageNames<'i> {
         ensures { IfOk result (λ names. names ≡ image.now) }
     {
         let meanings = meanings_of(alloc, image)?;
-        Ok(ImageNames {
-            image,
-            meanings,
-            block_size: block_size(image.tls()),
-        })
+        Ok(ImageNames { image, meanings })
     }
 
     /// The image.
@@ -97,15 +68,5 @@ impl<'i> ImageNames<'i> {
         ensures { result ≡ variable_in self.now name.now }
     {
         self.meaning(name)?.variable()
-    }
-
-    /// Where `length` bytes of the variable of a name begin in a thread's block, in bytes from the block's first.
-    ///
-    /// It is refused as `Symbol` where there is no such variable, and else as `Length` where the block ends before the
-    /// last of the bytes.
-    pub fn shows(&self, name: &[u8], length: u64) -> Result<u64, PeekRefusal>
-        ensures { result ≡ shown_in self.now name.now length }
-    {
-        shown_of(self.block_size, length, self.variable(name))
     }
 }
