@@ -9,3 +9,4 @@ pub mod Placed
 pub mod Startup
 pub mod StartupNumbers
 pub mod StaticOffsets
+pub mod Surplus

@@ -99,7 +99,7 @@ none_early (x ∷ xs) d late =
     rw (sum_by-cons (λ (i : ImageInfo). cond (not i.late) 1 0) x xs, first) refl in
     omega (arith, here, rest)
 
-early : (infos : List ImageInfo) (k : ℕ) (d : ImageInfo)
+pub early : (infos : List ImageInfo) (k : ℕ) (d : ImageInfo)
     → AllPairs (λ (a b : ImageInfo). a.late ≡ true → b.late ≡ true) infos → k < startup_count infos
     → (k < length infos) × ((get_or infos k d).late ≡ false)
 early [] k d last l = absurd (omega arith)

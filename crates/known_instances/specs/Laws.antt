@@ -1,11 +1,13 @@
 -- The laws of instances along a history whose every event was accepted. What a thread has seen of it, at any time, is
 -- one of its fronts.
-use Rattle.std.specs.Prelude.{◌≡◌, ◌<◌, ◌≤◌, ℕ, false, List, Some}
+use Rattle.std.specs.Prelude.{◌≡◌, ◌<◌, ◌≤◌, ℕ, true, false, List, Some, IsSome}
 use Rattle.loaded_modules.specs.declared.instance.Instance.{Instance}
 use Rattle.module_table.specs.declared.events.Event.{Event}
+use Rattle.module_table.specs.declared.modules.ImageInfo.{ImageInfo}
 use Rattle.module_table.specs.History.{IsLegal}
 use Rattle.module_table.specs.Past.{startup_count}
 use Rattle.thread_blocks.specs.Instances.{Loads, instance_with_id, is_startup_id, numbered_instance}
+use Rattle.thread_blocks.specs.Turns.{at_number}
 use Rattle.thread_blocks.specs.TurnsAlike.{IsFront}
 use Rattle.known_instances.specs.Known.{known_in}
 
@@ -48,3 +50,12 @@ abbrev pub LateIdsAreLate : Type 0
 LateIdsAreLate = (q : Loads ℕ) (history : List Event) → IsLegal q.infos q.last_offset history
     → (seen : List Event) (x : Instance) → IsFront seen history
     → numbered_instance q seen x.number ≡ Some x → startup_count q.infos < x.number → is_startup_id q x.id ≡ false
+
+-- ** blocks
+
+-- where an image wants its blocks at a fixed distance from the thread pointer (gABI, "Dynamic Section": DF_STATIC_TLS),
+-- each of its instances has such a distance
+abbrev pub StaticBlocksHaveOffsets : Type 0
+StaticBlocksHaveOffsets = (q : Loads ℕ) (history : List Event) → IsLegal q.infos q.last_offset history
+    → (number : ℕ) (x : Instance) (info : ImageInfo) → known_in q history number ≡ Some x
+    → at_number q.infos x.image ≡ Some info → info.statics ≡ true → IsSome x.offset

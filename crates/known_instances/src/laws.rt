@@ -1,7 +1,7 @@
 //! Laws of instance numbers. The functions do nothing: what they ensure is the law.
 
 ghost use Rattle.known_instances.specs.Laws.{IdsAreOwn, KnownInstancesLived, LateIdsAreLate};
-ghost use Rattle.known_instances.specs.Laws.{NumbersAreKnown, StartupInstancesStay};
+ghost use Rattle.known_instances.specs.Laws.{NumbersAreKnown, StartupInstancesStay, StaticBlocksHaveOffsets};
 
 /// In all fronts of a legal history a number of an instance stands for one instance.
 #[tactic(auto, using(crate::proofs::Known::numbers_known))]
@@ -29,4 +29,10 @@ pub fn startup_instances_stay()
 #[tactic(auto, using(crate::proofs::Live::late_late))]
 pub fn late_ids_are_late()
     ensures { LateIdsAreLate }
+{}
+
+/// An instance of an image that wants its blocks at a fixed distance from the thread pointer has them there.
+#[tactic(auto, using(crate::proofs::Surplus::static_offsets))]
+pub fn static_blocks_have_offsets()
+    ensures { StaticBlocksHaveOffsets }
 {}
