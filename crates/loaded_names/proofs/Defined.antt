@@ -100,7 +100,7 @@ or_true true = refl
 or_true false = refl
 
 -- in joined lists
-any_flat : {X Y : Type 0} (test : X → Bool) (f : Y → List X) (ys : List Y) (k : ℕ) (d : Y) → k < length ys
+pub any_flat : {X Y : Type 0} (test : X → Bool) (f : Y → List X) (ys : List Y) (k : ℕ) (d : Y) → k < length ys
     → list_any test (f (slice_index_or ys k d)) ≡ true → list_any test (flat_map f ys) ≡ true
 any_flat test f [] k d below is = absurd (omega (arith, below))
 any_flat test f (y ∷ ys) zero d below is =
@@ -135,7 +135,7 @@ any_kept name other (x ∷ xs) apart is =
     of_tests false apart true here is rest = rw here refl
     of_tests false apart false other is rest = rw other (rest is)
 
-any_distinct : (name : List ℕ) (xs : List (List ℕ)) → list_any (bytes_eq name) xs ≡ true
+pub any_distinct : (name : List ℕ) (xs : List (List ℕ)) → list_any (bytes_eq name) xs ≡ true
     → list_any (bytes_eq name) (distinct xs) ≡ true
 any_distinct name [] is = is
 any_distinct name (x ∷ xs) is = of_test (bytes_eq name x) refl is (any_distinct name xs)

@@ -1,11 +1,13 @@
-mod Defined
+pub mod Defined
+mod Exports
 mod First
 pub mod Functions
 mod Images
+pub mod Imports
 pub mod Infos
 pub mod Meant
 mod Named
 mod Runs
-mod Symbols
+pub mod Symbols
 mod Table
 pub mod Variables

@@ -28,7 +28,7 @@ use Rattle.loaded_names.proofs.First.{first_behind, first_here, first_named, one
 
 -- ** symbols of other images
 
-abbrev IsForeign : ImageSymbol → Type 0
+abbrev pub IsForeign : ImageSymbol → Type 0
 IsForeign symbol = symbol.is_defined ≡ false
 
 imports_foreign : (names : List (List ℕ)) → All IsForeign (map (λ (name : List ℕ). foreign type_in_image.Tls) names)
@@ -106,13 +106,13 @@ module _ (l : Linking) (name : List ℕ) where
 
   -- ** the image
 
-  abbrev other_names : List (List ℕ)
+  abbrev pub other_names : List (List ℕ)
   other_names = imports l ++ runtime_names (uses_runtime l)
 
-  abbrev other_symbols : List ImageSymbol
+  abbrev pub other_symbols : List ImageSymbol
   other_symbols = map (λ (name : List ℕ). foreign type_in_image.Tls) (imports l) ++ runtime_symbols (uses_runtime l)
 
-  others_foreign : All IsForeign other_symbols
+  pub others_foreign : All IsForeign other_symbols
   others_foreign =
       All-append IsForeign (map (λ (name : List ℕ). foreign type_in_image.Tls) (imports l))
       (runtime_symbols (uses_runtime l)) (imports_foreign (imports l)) (runtime_foreign (uses_runtime l))

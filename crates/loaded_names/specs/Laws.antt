@@ -1,13 +1,21 @@
 -- What is known of a loaded image by name, and of its blocks, is what its objects say.
-use Rattle.std.specs.Prelude.{◌≡◌, ◌+◌, ℕ, List, Some, map, option_map}
+use Rattle.std.specs.Prelude.{◌≡◌, ◌+◌, ℕ, false, List, Some, map, option_map}
 use Rattle.std.specs.List.{All}
+use Rattle.elf_object.specs.declared.relocation.Relocation.{Relocation}
+use Rattle.elf_object.specs.Lent.{symbol_name}
+use Rattle.job_text.specs.LateImages.{LateLast, is_late}
+use Rattle.link_faults.specs.declared.binding.Binding.TheVariants.{Startup}
+use Rattle.link_faults.specs.declared.symbol_ref.SymbolRef.{SymbolRef}
 use Rattle.link_needs.specs.Given.{IsGiven}
-use Rattle.link_needs.specs.Linking.{Linking}
-use Rattle.loaded_modules.specs.declared.instance.Instance.{Instance}
+use Rattle.link_needs.specs.Linking.{Linking, binding, object, offset}
+use Rattle.linked_modules.specs.Together.{AreTogether}
 use Rattle.loaded_bytes.specs.Laws.{IsInstanceOf, images_of}
+use Rattle.loaded_modules.specs.declared.instance.Instance.{Instance}
+use Rattle.loaded_modules.specs.Loader.{export_of}
 use Rattle.module_table.specs.Laws.{startup_end}
 use Rattle.thread_blocks.specs.JobLoads.{job_loads}
 use Rattle.thread_blocks.specs.Turns.{at_number}
+use Rattle.tls_symbols.specs.Definitions.{definition_of}
 use Rattle.whole_meaning.specs.Bytes.{function_of, variable_of}
 use Rattle.whole_meaning.specs.Loads.{info_of, loads_of}
 use Rattle.whole_meaning.specs.Spots.{bias_of}
@@ -34,6 +42,24 @@ abbrev pub VariablesAreLoaded : Type 0
 VariablesAreLoaded = (ls : List Linking) (l : Linking) (image : ℕ) (name : List ℕ)
     → at_number ls image ≡ Some l → IsGiven l
     → (job_loads (images_of ls)).variable image name ≡ variable_of l name
+
+-- ** imports
+
+-- image k is one of those that start with the program, and has a definition of the name; that is what a loader finds by
+-- the name, as far into a block of image k as into its TLS segment
+pub record IsFoundIn (ls : List Linking) (name : List ℕ) (k : ℕ) : Type 0 where
+  pub image : Linking
+  pub at : at_number ls k ≡ Some image
+  pub early : is_late image.kind ≡ false
+  pub found : SymbolRef
+  pub defined : definition_of image.objects name ≡ Some found
+  pub shared : export_of (images_of ls) name ≡ Some (record { image = k; offset = offset image found })
+
+-- a symbol that is bound to another image is found in that image
+abbrev pub ImportsAreFound : Type 0
+ImportsAreFound = (ls : List Linking) (l : Linking) (number o k : ℕ) (r : Relocation) → AreTogether ls
+    → LateLast (map (λ l. l.kind) ls) → at_number ls number ≡ Some l → binding l o r ≡ Some (Startup k)
+    → IsFoundIn ls (symbol_name (object l o) r.symbol) k
 
 -- ** what the meaning of a job says
 

@@ -1,7 +1,7 @@
 //! The laws. The functions do nothing: what they ensure is the law.
 
-ghost use Rattle.loaded_names.specs.Laws.{FunctionsAreLoaded, FunctionsAreMeant, InfosAreLoaded, InfosAreMeant};
-ghost use Rattle.loaded_names.specs.Laws.{VariablesAreLoaded, VariablesAreMeant};
+ghost use Rattle.loaded_names.specs.Laws.{FunctionsAreLoaded, FunctionsAreMeant, ImportsAreFound, InfosAreLoaded};
+ghost use Rattle.loaded_names.specs.Laws.{InfosAreMeant, VariablesAreLoaded, VariablesAreMeant};
 
 /// Sizes and alignments of blocks, and who wants surplus, are those of the objects' sections and sequences.
 pub fn infos_are_loaded()
@@ -16,6 +16,11 @@ pub fn functions_are_loaded()
 /// A variable is found by its name where the objects define it.
 pub fn variables_are_loaded()
     ensures { VariablesAreLoaded }
+{}
+
+/// A name that a sequence takes from a startup image is found in the image that it is bound to, by its definition there.
+pub fn imports_are_found()
+    ensures { ImportsAreFound }
 {}
 
 /// So names are found, and blocks are told of, as the meaning of the job has them: functions of each instance,

@@ -9,7 +9,8 @@
 //! code, as far moved as the instance ([`functions_are_loaded`]); it has a variable where its definition is thread-local,
 //! as far into each block as into the TLS segment ([`variables_are_loaded`]); and sizes and alignments of blocks, and
 //! whether an image wants its blocks at a fixed distance from the thread pointer, are those of its sections and of its
-//! sequences ([`infos_are_loaded`]).
+//! sequences ([`infos_are_loaded`]). A name that an image takes from others is found where the linker bound it: in the
+//! first startup image that exports it, by its definition there ([`imports_are_found`]).
 //!
 //! For example, an object of a module defines `count` twelve bytes into the executable class, which begins at 0x0.
 //! `count` is shown in the image with the value 0xc; in instance 5, which is moved by 0x1_1400_0000, it is called at
@@ -18,12 +19,13 @@
 //! Two lists are compared: a symbol of the image is found as the first of its name (`proofs/First`), and the image lists
 //! each definition of its objects once, before all names that it takes from others (`proofs/Defined`, `proofs/Named`). What
 //! the linker adds has code too, the stub; but it stands behind the table, whose page no section reaches, so that
-//! no symbol names it (`proofs/Runs`).
+//! no symbol names it (`proofs/Runs`). Of several symbols of a name an image exports the name's definition or none
+//! (`proofs/Exports`), and late images, which export nothing, come last (`proofs/Imports`).
 #![tactic(auto)]
 
 mod laws;
 
 pub use laws::{
-    functions_are_loaded, functions_are_meant, infos_are_loaded, infos_are_meant,
-    variables_are_loaded, variables_are_meant,
+    functions_are_loaded, functions_are_meant, imports_are_found, infos_are_loaded,
+    infos_are_meant, variables_are_loaded, variables_are_meant,
 };
