@@ -1,5 +1,5 @@
 -- The words of each kind of entry, as the loader leaves them.
-use Rattle.std.proofs.Common.{◌≡◌, ◌∙◌, ◌+◌, ◌-◌, ◌*◌, ◌^◌, ◌<◌, ℕ, true, false, List, [], ◌∷◌}
+use Rattle.std.proofs.Common.{◌≡◌, ◌∙◌, ◌+◌, ◌-◌, ◌*◌, ◌^◌, ◌<◌, ℕ, true, false, List, [], ◌∷◌, Option}
 use Rattle.std.proofs.Common.{inr, refl, sym, ap, arith}
 use Rattle.std.specs.Prelude.{unwrap_or}
 use Rattle.std.specs.List.{find}
@@ -152,7 +152,7 @@ module _ (m : JobImages) (l : Linking) (x : Instance) where
 
   -- ** all kinds
 
-  module _ (placed : IsPlaced l x) where
+  module _ (ls : List Linking) (placed : IsPlaced ls l x) where
     own_id : (kind : ImageKind) → l.kind ≡ kind → is_module kind ≡ false → 1 ≡ x.id
     own_id kind e alone = sym (placed.id (ap is_module e ∙ alone))
 
@@ -163,7 +163,7 @@ module _ (m : JobImages) (l : Linking) (x : Instance) where
     program_distance : (kind : ImageKind) → l.kind ≡ kind → is_module kind ≡ false → (at o : ℕ)
         → IsRow at (One (held (less o (block_offset l)))) (less o (unwrap_or x.offset 0) ∷ [])
     program_distance kind e alone at o = λ i below.
-        ap (λ d. digit (less o d) i) (sym (placed.block (ap is_module e ∙ alone)))
+        ap (λ d. digit (less o d) i) (sym (ap (λ (p : Option ℕ). unwrap_or p 0) (placed.offset (ap is_module e ∙ alone))))
 
     pub row : (kind : ImageKind) → l.kind ≡ kind → (need : Need) → Fits l kind need → (at : ℕ)
         → IsRow at (entry_of kind (block_offset l) need) (loaded_words m kind x need)

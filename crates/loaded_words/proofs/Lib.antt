@@ -1,7 +1,12 @@
+pub mod Addresses
 pub mod Entries
 pub mod Names
+pub mod Placed
+pub mod Read
 pub mod Rows
 pub mod Stub
+pub mod StubJump
+pub mod StubWord
 pub mod Table
 pub mod Tables
 pub mod Tests

@@ -1,8 +1,8 @@
 -- What a loader reads of an entry: the name of an import is the one that was written, and numbers have 64 bits.
-use Rattle.std.proofs.Common.{◌≡◌, ◌∙◌, ◌+◌, ◌-◌, ◌<◌, ◌≤◌, ◌^◌, ℕ, zero, suc, Bool, true, false, List, [], ◌∷◌, ◌++◌}
+use Rattle.std.proofs.Common.{◌≡◌, ◌∙◌, ◌+◌, ◌-◌, ◌≤◌, ◌^◌, ℕ, suc, Bool, true, false, List, [], ◌∷◌, ◌++◌}
 use Rattle.std.proofs.Common.{Some, length, map, refl, sym, ap, arith}
-use Rattle.std.specs.Prelude.{slice_get, slice_index_or, unwrap_or}
-use Rattle.std.specs.List.{Contains, position_from}
+use Rattle.std.specs.Prelude.{◌||◌, slice_get, unwrap_or}
+use Rattle.std.specs.List.{Contains, list_any, position_from}
 use Rattle.std.specs.Str.{bytes_eq}
 use Rattle.std.proofs.lemmas.List.{length-map}
 use Rattle.std.proofs.lemmas.List.Elements.{All-contains}
@@ -26,7 +26,7 @@ use Rattle.link_needs.specs.Needs.{entries, uses_runtime}
 use Rattle.loaded_modules.specs.Loader.{name_of}
 use Rattle.tls_relocs.specs.Elements.{slice_get-append, slice_get-append_behind}
 use Rattle.loaded_words.proofs.Entries.{Fits}
-use Rattle.loaded_words.specs.Laws.{IsRead}
+use Rattle.loaded_words.proofs.Read.{IsListed, IsRead, entries_read}
 
 -- ** names
 
@@ -36,26 +36,22 @@ record IsAt (name : List ℕ) (i : ℕ) (names : List (List ℕ)) : Type 0 where
   pub position : position_from (bytes_eq name) i names ≡ Some (i + behind)
   pub at : slice_get names behind ≡ Some name
 
-is_at : (name : List ℕ) (i : ℕ) (names : List (List ℕ)) → Contains names name → IsAt name i names
-is_at name i [] has = absurd (omega (arith, has.1))
-is_at name i (other ∷ names) has =
-    of_test (bytes_eq name other) refl has.0 has.1 has.2 (λ rest. is_at name (i + 1) names rest)
+is_at : (name : List ℕ) (i : ℕ) (names : List (List ℕ)) → list_any (bytes_eq name) names ≡ true → IsAt name i names
+is_at name i [] has = absurd (cc)
+is_at name i (other ∷ names) has = of_test (bytes_eq name other) refl has (is_at name (i + 1) names)
   where
-    of_test : (t : Bool) → bytes_eq name other ≡ t → (k : ℕ) → k < length (other ∷ names)
-        → slice_index_or (other ∷ names) k name ≡ name → (Contains names name → IsAt name (i + 1) names)
-        → IsAt name i (other ∷ names)
-    of_test true e k below at later =
+    of_test : (t : Bool) → bytes_eq name other ≡ t → (t || list_any (bytes_eq name) names) ≡ true
+        → (list_any (bytes_eq name) names ≡ true → IsAt name (i + 1) names) → IsAt name i (other ∷ names)
+    of_test true e has later =
         let same : name ≡ other = (bytes_eq-Decides name other).0 e in
         let start : i ≡ i + 0 = omega arith in
         record { behind = 0; position = rw e (ap Some start); at = ap Some (sym same) }
-    of_test false e zero below at later =
-        let same : bytes_eq name other ≡ true = (bytes_eq-Decides name other).1 (sym at) in absurd (cc)
-    of_test false e (suc k) below at later =
-        let rest = later (k, omega (arith, below), at) in
+    of_test false e has later =
+        let rest = later has in
         let next : i + 1 + rest.behind ≡ i + suc rest.behind = omega arith in
         record { behind = suc rest.behind; position = rw e (rest.position ∙ ap Some next); at = rest.at }
 
-pub name_read : (l : Linking) (name : List ℕ) → Contains (imports l) name
+pub name_read : (l : Linking) (name : List ℕ) → IsListed l name
     → name_of (image_of l) (number_of l (Imported name)) ≡ name
 unfolding image_of finished contents names
 name_read l name has =
@@ -90,9 +86,9 @@ fits_of l (SymbolWord (Import n)) small suits read = name_read l n read
 fits_of l (AddressWord s p) small suits read = read
 fits_of l RuntimeWord small suits read = tt
 
-pub entry_fits : (l : Linking) → IsGiven l → Links l → (need : Need) → Contains (entries l) need → IsRead l need
-    → Fits l l.kind need
+pub entry_fits : (l : Linking) → IsGiven l → Links l → (need : Need) → Contains (entries l) need → Fits l l.kind need
 unfolding IsEntry
-entry_fits l given links need among read =
+entry_fits l given links need among =
     fits_of l need links.sound.limits.lawful.small_tls
-    (All-contains (IsEntry l) (entries l) need (are_entries l given links.sound) among).0 read
+    (All-contains (IsEntry l) (entries l) need (are_entries l given links.sound) among).0
+    (All-contains (IsRead l) (entries l) need (entries_read l given links.sound.limits.lawful) among)

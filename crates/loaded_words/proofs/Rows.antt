@@ -1,9 +1,8 @@
 -- The relocation of the table that writes at an address of an entry is one of the entry's own.
-use Rattle.std.proofs.Common.{◌≡◌, ◌∙◌, ◌+◌, ◌<◌, ◌≤◌, ◌⊎◌, ◌&&◌, ℕ, Bool, true, false, List, [], ◌∷◌, Option, Some, None}
-use Rattle.std.proofs.Common.{inl, inr}
-use Rattle.std.proofs.Common.{refl, sym, ap, arith, if◌then◌else◌}
+use Rattle.std.proofs.Common.{◌≡◌, ◌∙◌, ◌+◌, ◌<◌, ◌≤◌, ◌⊎◌, ◌&&◌, ℕ, suc, Bool, true, false, List, [], ◌∷◌, Option, Some}
+use Rattle.std.proofs.Common.{None, inl, inr, refl, sym, ap, arith, if◌then◌else◌}
 use Rattle.std.specs.Prelude.{nat_eq}
-use Rattle.std.specs.List.{All, find}
+use Rattle.std.specs.List.{All, Contains, find}
 use Rattle.std.specs.Option.{option_or}
 use Rattle.std.proofs.lemmas.Bool.Decides.{nat_tests}
 use Rattle.std.proofs.lemmas.List.Elements.{All-contains, All-cons, All-nil}
@@ -59,7 +58,7 @@ target_is (Import n) (Import m) e = ap Import ((bytes_eq-Decides n m).0 e)
 target_is (Here s o) (Import m) e = absurd (cc)
 target_is (Import n) (Here t p) e = absurd (cc)
 
-need_is : (x y : Need) → same_need x y ≡ true → x ≡ y
+pub need_is : (x y : Need) → same_need x y ≡ true → x ≡ y
 need_is ModulePair ModulePair e = refl
 need_is (SymbolPair x) (SymbolPair y) e = ap SymbolPair (target_is x y e)
 need_is (Descriptor x) (Descriptor y) e = ap Descriptor (target_is x y e)
@@ -71,6 +70,20 @@ need_is (AddressWord s p) (AddressWord t q) e =
     cc
 need_is RuntimeWord RuntimeWord e = refl
 need_is x y e = absurd (cc)
+
+-- an entry that begins somewhere is one of them
+pub start_among : (need : Need) (from at : ℕ) (ks : List Need) → start_from from ks need ≡ Some at → Contains ks need
+start_among need from at [] e = absurd (cc)
+start_among need from at (k ∷ ks) e = of_test (same_need need k) refl e (start_among need (from + size_of k) at ks)
+  where
+    of_test : (t : Bool) → same_need need k ≡ t
+        → (if t then Some from else start_from (from + size_of k) ks need) ≡ Some at
+        → (start_from (from + size_of k) ks need ≡ Some at → Contains ks need) → Contains (k ∷ ks) need
+    of_test true same e rest = (0, omega arith, sym (need_is need k same))
+    of_test false same e rest =
+        let has = rest e in
+        let below = has.1 in
+        (suc has.0, omega (arith, below), has.2)
 
 -- ** those of an entry lie in it
 

@@ -1,4 +1,4 @@
--- The stub, as an instance has it.
+-- The bytes of the stub, as an instance has them.
 use Rattle.std.proofs.Common.{◌≡◌, ◌∙◌, ◌+◌, ◌-◌, ◌≤◌, ℕ, true, List, [], ◌∷◌, ◌++◌, None, Some, length, map}
 use Rattle.std.proofs.Common.{refl, sym, ap, arith, subst}
 use Rattle.std.specs.Prelude.{option_map, slice_get, slice_index_or}
@@ -33,23 +33,23 @@ use Rattle.link_core.specs.Images.{contents, file_kind, got_places, image_of, pl
 use Rattle.link_needs.specs.Given.{FitsTable, IsGiven}
 use Rattle.link_needs.specs.Linking.{Linking, layout}
 use Rattle.link_needs.specs.Needs.{got_size, got_start, has_stub, stub_start}
+use Rattle.loaded_modules.specs.declared.instance.Instance.{Instance}
 use Rattle.loaded_modules.specs.Loader.{part_bytes}
 use Rattle.relocated_parts.proofs.Loaded.{part_left}
 use Rattle.relocated_parts.proofs.Parts.{parts_follow}
 use Rattle.relocated_parts.specs.Laws.{IsMade}
 use Rattle.relocated_parts.specs.Left.{byte_by, is_written_at, left_byte}
 use Rattle.section_file.specs.Files.{offset_of}
-use Rattle.thread_blocks.specs.JobLoads.{parts_from}
+use Rattle.thread_blocks.specs.JobLoads.{job_loads, parts_from}
 use Rattle.tls_layout.proofs.Together.{page_up-above}
 use Rattle.tls_relocs.specs.Elements.{slice_get-append, slice_get-append_behind, slice_get-drop, slice_get-take}
 use Rattle.whole_meaning.specs.Spots.{bias_of}
-use Rattle.loaded_bytes.specs.Laws.{images_of}
+use Rattle.loaded_bytes.specs.Laws.{IsInstanceOf, images_of}
 use Rattle.loaded_bytes.proofs.Biases.{image_bias}
 use Rattle.loaded_bytes.proofs.Still.{fixed_is, image_is}
 use Rattle.loaded_bytes.proofs.Ranges.{found_in_part, still}
 use Rattle.loaded_words.proofs.Tests.{none_found, written_from}
 use Rattle.loaded_words.proofs.Words.{no_relative}
-use Rattle.loaded_words.specs.Laws.{StubIsLoaded}
 
 abbrev stub_place : Linking → PartPlace
 stub_place l = record { class = Executable; address = stub_start l; size = 6 }
@@ -122,10 +122,12 @@ module _ (l : Linking) (has : has_stub l ≡ true) where
         (got_lies l) among in
         omega (arith, (written_from address r passes).1, lies.below, low, up))
 
--- the law
-pub stub_loaded : StubIsLoaded
+-- each byte of it, where it is run
+pub stub_byte : (ls : List Linking) (l : Linking) (x : Instance) (k byte : ℕ) → IsInstanceOf ls l x → has_stub l ≡ true
+    → slice_get (stub_bytes l) k ≡ Some byte
+    → byte_in Run ((job_loads (images_of ls)).fixed x) (stub_start l + k + bias_of l.kind x.number) ≡ Some byte
 unfolding left_byte image_of
-stub_loaded ls l x k byte is has e =
+stub_byte ls l x k byte is has e =
     let m = images_of ls in
     let limits = table_fits l is.given is.links.sound.limits in
     let link = linkable l is.given is.links.sound in

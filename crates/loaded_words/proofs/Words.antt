@@ -43,7 +43,8 @@ use Rattle.guest_operands.specs.Ranges.{byte_in}
 use Rattle.thread_blocks.specs.JobLoads.{job_loads}
 use Rattle.loaded_words.proofs.Entries.{Fits, IsRow, byte_left, row}
 use Rattle.loaded_words.proofs.Names.{entry_fits}
-use Rattle.loaded_words.proofs.Rows.{row_found}
+use Rattle.loaded_words.proofs.Placed.{placed}
+use Rattle.loaded_words.proofs.Rows.{row_found, start_among}
 use Rattle.loaded_words.proofs.Table.{found}
 use Rattle.loaded_words.proofs.Tests.{none_found, written_from}
 use Rattle.loaded_words.specs.Laws.{HasWord, IsPlaced, WordsAreLoaded}
@@ -168,7 +169,7 @@ module _ (m : JobImages) (l : Linking) (x : Instance) (at i : ℕ) (below : i < 
 -- ** as an instance has them
 
 word_loaded : (ls : List Linking) (l : Linking) (x : Instance) (need : Need) (at k word : ℕ) → IsInstanceOf ls l x
-    → IsPlaced l x → Fits l l.kind need → start_of (entries l) need ≡ Some at
+    → IsPlaced ls l x → Fits l l.kind need → start_of (entries l) need ≡ Some at
     → slice_get (loaded_words (images_of ls) l.kind x need) k ≡ Some word
     → HasWord ((job_loads (images_of ls)).fixed x) (got_start l + at + 8 * k + bias_of l.kind x.number) word
 unfolding left_byte
@@ -177,7 +178,7 @@ word_loaded ls l x need at k word is placed fits starts has i below =
     let limits = table_fits l is.given is.links.sound.limits in
     let e = entry_of l.kind (block_offset l) need in
     let w = word_is m l x (got_start l + at) i below e (loaded_words m l.kind x need)
-    (row m l x placed l.kind refl need fits (got_start l + at)) k word has in
+    (row m l x ls placed l.kind refl need fits (got_start l + at)) k word has in
     let lies = slice_get_within (need_bytes l need) (8 * k + i) (digit w.number i) w.filed in
     let size = need_length l need in
     let inside : 8 * k + i < size_of need = omega (arith, lies, size) in
@@ -195,5 +196,6 @@ word_loaded ls l x need at k word is placed fits starts has i below =
 
 -- the law
 pub words_loaded : WordsAreLoaded
-words_loaded ls l x need at k word is placed read among starts has =
-    word_loaded ls l x need at k word is placed (entry_fits l is.given is.links need among read) starts has
+words_loaded ls l x history need at k word known is starts has =
+    word_loaded ls l x need at k word is (placed ls l x history known is.image)
+    (entry_fits l is.given is.links need (start_among need 0 at (entries l) starts)) starts has

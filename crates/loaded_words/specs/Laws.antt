@@ -1,44 +1,66 @@
 -- What is loaded of the global offset table of an instance of a linked image.
-use Rattle.std.specs.Prelude.{◌≡◌, ◌+◌, ◌*◌, ◌<◌, ◌^◌, ℕ, true, false, List, Some, slice_get, unwrap_or}
-use Rattle.std.specs.List.{Contains, list_any}
+use Rattle.std.specs.Prelude.{◌≡◌, ◌+◌, ◌*◌, ◌<◌, ℕ, true, false, List, [], ◌∷◌, Some, IsSome, map, slice_get}
+use Rattle.std.specs.List.{All, list_any}
+use Rattle.amd64_subset.specs.declared.instr.Operation.TheVariants.{Jump}
+use Rattle.amd64_subset.specs.declared.instr.Target.TheVariants.{Indirect}
+use Rattle.amd64_subset.specs.declared.operand.Operand.TheVariants.{InMemory}
+use Rattle.amd64_subset.specs.Decoding.{decoded}
 use Rattle.got_pairs.specs.declared.need.Need.{Need}
-use Rattle.got_pairs.specs.declared.need.Need.TheVariants.{ModulePair, SymbolPair, Descriptor, SymbolWord}
-use Rattle.got_pairs.specs.declared.need.Need.TheVariants.{AddressWord, RuntimeWord}
-use Rattle.got_pairs.specs.declared.need.Target.{Target}
-use Rattle.got_pairs.specs.declared.need.Target.TheVariants.{Here, Import}
+use Rattle.got_pairs.specs.declared.need.Need.TheVariants.{RuntimeWord}
 use Rattle.got_pairs.specs.Needs.{size_of, start_of}
 use Rattle.guest_arithmetic.specs.Values.{digit}
 use Rattle.guest_operands.specs.declared.space.Access.TheVariants.{Read, Run}
 use Rattle.guest_operands.specs.Ranges.{Range, byte_in}
-use Rattle.link_core.specs.Bytes.{stub_bytes}
-use Rattle.link_core.specs.Dynamic.{imports}
+use Rattle.guest_operands.specs.Use.{plus}
+use Rattle.known_instances.specs.Known.{known_in}
+use Rattle.link_faults.specs.declared.image_kind.ImageKind.{ImageKind}
 use Rattle.link_faults.specs.ImageKinds.{is_module}
 use Rattle.link_needs.specs.Linking.{Linking, block_offset}
 use Rattle.link_needs.specs.Needs.{entries, got_start, has_stub, stub_start}
 use Rattle.loaded_bytes.specs.Laws.{IsInstanceOf, images_of}
 use Rattle.loaded_modules.specs.declared.instance.Instance.{Instance}
+use Rattle.loaded_modules.specs.Images.{is_late, static_offset}
+use Rattle.module_table.specs.declared.events.Event.{Event}
+use Rattle.module_table.specs.History.{IsLegal}
+use Rattle.module_table.specs.Past.{startup_count}
+use Rattle.site_laws.specs.Instructions.{displaced, of_next}
 use Rattle.thread_blocks.specs.JobLoads.{job_loads}
 use Rattle.thread_blocks.specs.RunTime.{has_words}
+use Rattle.thread_blocks.specs.Turns.{at_number}
+use Rattle.whole_meaning.specs.Loads.{wants_surplus}
 use Rattle.whole_meaning.specs.Spots.{bias_of}
 use Rattle.loaded_words.specs.Words.{loaded_words}
 
--- a program is module 1, and its blocks begin right below the thread pointer
-pub record IsPlaced (l : Linking) (x : Instance) : Type 0 where
+-- ** instances
+
+-- the program is image 1, and no other image is one
+abbrev pub ProgramFirst : List ImageKind → Type 0
+ProgramFirst [] = ⊥
+ProgramFirst (kind ∷ kinds) = (is_module kind ≡ false) × All (λ other. is_module other ≡ true) kinds
+
+-- an instance to which a number was given in a history of the images' opens and closes, each of which was accepted
+pub record IsKnown (ls : List Linking) (history : List Event) (x : Instance) : Type 0 where
+  pub program : ProgramFirst (map (λ l. l.kind) ls)
+  pub legal : IsLegal (job_loads (images_of ls)).infos (job_loads (images_of ls)).last_offset history
+  pub known : known_in (job_loads (images_of ls)) history x.number ≡ Some x
+
+-- what starts with the program is under its image's number, which is its id, and its blocks begin where those of the
+-- images before it end; what came late has a number above all these, and its blocks a fixed distance where its code
+-- counts on one. A program is instance 1 and module 1, and its blocks begin right below the thread pointer
+pub record IsPlaced (ls : List Linking) (l : Linking) (x : Instance) : Type 0 where
+  pub early : is_late l.kind ≡ false
+      → (x.number ≡ x.image) × (x.id ≡ x.image) × (x.offset ≡ Some (static_offset (images_of ls) x.image))
+  pub late : is_late l.kind ≡ true → startup_count (job_loads (images_of ls)).infos < x.number
+  pub surplus : wants_surplus l ≡ true → IsSome x.offset
+  pub number : is_module l.kind ≡ false → x.number ≡ 1
   pub id : is_module l.kind ≡ false → x.id ≡ 1
-  pub block : is_module l.kind ≡ false → unwrap_or x.offset 0 ≡ block_offset l
+  pub offset : is_module l.kind ≡ false → x.offset ≡ Some (block_offset l)
 
--- an entry that imports has a name of the image's imports, and one with an address has an address of 64 bits
-abbrev pub TargetIsRead : Linking → Target → Type 0
-TargetIsRead l (Here s o) = Unit {0}
-TargetIsRead l (Import n) = Contains (imports l) n
+abbrev pub InstancesArePlaced : Type 0
+InstancesArePlaced = (ls : List Linking) (l : Linking) (x : Instance) (history : List Event) → IsKnown ls history x
+    → at_number ls x.image ≡ Some l → IsPlaced ls l x
 
-abbrev pub IsRead : Linking → Need → Type 0
-IsRead l ModulePair = Unit {0}
-IsRead l (SymbolPair t) = TargetIsRead l t
-IsRead l (Descriptor t) = TargetIsRead l t
-IsRead l (SymbolWord t) = TargetIsRead l t
-IsRead l (AddressWord s p) = p < 2 ^ 64
-IsRead l RuntimeWord = Unit {0}
+-- ** words
 
 -- eight bytes that can be read from an address on are those of a word, the lowest first
 abbrev pub HasWord : List (Range ℕ) → ℕ → ℕ → Type 0
@@ -46,8 +68,8 @@ HasWord ranges address word = (k : ℕ) → k < 8 → byte_in Read ranges (addre
 
 -- each word of each entry is that of the table
 abbrev pub WordsAreLoaded : Type 0
-WordsAreLoaded = (ls : List Linking) (l : Linking) (x : Instance) (need : Need) (at k word : ℕ) → IsInstanceOf ls l x
-    → IsPlaced l x → IsRead l need → Contains (entries l) need → start_of (entries l) need ≡ Some at
+WordsAreLoaded = (ls : List Linking) (l : Linking) (x : Instance) (history : List Event) (need : Need) (at k word : ℕ)
+    → IsKnown ls history x → IsInstanceOf ls l x → start_of (entries l) need ≡ Some at
     → slice_get (loaded_words (images_of ls) l.kind x need) k ≡ Some word
     → HasWord ((job_loads (images_of ls)).fixed x) (got_start l + at + 8 * k + bias_of l.kind x.number) word
 
@@ -57,8 +79,20 @@ TablesHold = (ls : List Linking) (l : Linking) (x : Instance) (need : Need) (at 
     → start_of (entries l) need ≡ Some at → size_of need ≡ 16
     → list_any (has_words (got_start l + at + bias_of l.kind x.number)) ((job_loads (images_of ls)).tables x) ≡ true
 
--- each byte of the stub, where it is run; how far its jump reaches is told by the image (`StubStands` of link_core)
+-- ** the stub
+
+-- where it is run it is one instruction, jmp *far(%rip), which jumps through the run time's word: the place of that word
+-- is so far behind the instruction's end
+pub record IsStub (l : Linking) (bias : ℕ) (fixed : List (Range ℕ)) : Type 0 where
+  pub bytes : List ℕ
+  pub far : ℕ
+  pub read : decoded bytes ≡ Some (displaced 6 2 (Jump (Indirect (InMemory of_next))) far)
+  pub there : (k : ℕ) → k < 6 → byte_in Run fixed (stub_start l + bias + k) ≡ slice_get bytes k
+  pub at : ℕ
+  pub starts : start_of (entries l) RuntimeWord ≡ Some at
+  pub goes : plus (stub_start l + bias + 6) far ≡ got_start l + at + bias
+
 abbrev pub StubIsLoaded : Type 0
-StubIsLoaded = (ls : List Linking) (l : Linking) (x : Instance) (k byte : ℕ) → IsInstanceOf ls l x → has_stub l ≡ true
-    → slice_get (stub_bytes l) k ≡ Some byte
-    → byte_in Run ((job_loads (images_of ls)).fixed x) (stub_start l + k + bias_of l.kind x.number) ≡ Some byte
+StubIsLoaded = (ls : List Linking) (l : Linking) (x : Instance) (history : List Event) → IsKnown ls history x
+    → IsInstanceOf ls l x → has_stub l ≡ true
+    → IsStub l (bias_of l.kind x.number) ((job_loads (images_of ls)).fixed x)

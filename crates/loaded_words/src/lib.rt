@@ -17,8 +17,11 @@
 //! ```
 //!
 //! A variable of the image has the instance's own id and distance; one that it imports has those of the first startup
-//! image that exports the name. It is so in a program at a fixed address, where no relocation writes a pair of its own
-//! variables, as in a module, where DTPMOD64 does ([`words_are_loaded`]).
+//! image that exports the name (`loaded_names`' `imports_are_found` says which image that is). It is so in a program at a
+//! fixed address, where no relocation writes a pair of its own variables, as in a module, where DTPMOD64 does
+//! ([`words_are_loaded`]). So the numbers that a linker writes for a program have to be those that its loading gives: in
+//! each history of a job the program's instance is 1, its id is 1, and its blocks begin right below the thread pointer
+//! ([`instances_are_placed`]).
 //!
 //! For example, instance 5 of a module has the id 3 and is moved by 0x1_1400_0000. A pair of its variable at offset 0x10,
 //! a descriptor of the same, and the address of a symbol at 0x2040 are
@@ -28,10 +31,10 @@
 //! loaded                 3, 0x10                 0x1800, 0x3_0000_0010     0x1_1400_2040
 //! ```
 //!
-//! The run time finds both words of a pair or of a descriptor in a table of the instance ([`tables_hold`]), and the stub,
-//! which jumps through the run time's word, is run as it stands in the file ([`stub_is_loaded`]).
+//! The run time finds both words of a pair or of a descriptor in a table of the instance ([`tables_hold`]), and the stub
+//! is run as one instruction, a jump through the run time's word ([`stub_is_loaded`]).
 #![tactic(auto)]
 
 mod laws;
 
-pub use laws::{stub_is_loaded, tables_hold, words_are_loaded};
+pub use laws::{instances_are_placed, stub_is_loaded, tables_hold, words_are_loaded};
