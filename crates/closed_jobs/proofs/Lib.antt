@@ -9,3 +9,4 @@ mod LocalRewritten
 mod LocalSites
 mod ReopenedImages
 mod Reopened
+mod Tables

@@ -3,3 +3,4 @@ pub mod LocalCode
 pub mod LocalSites
 pub mod Reopened
 pub mod Laws
+pub mod Tables

@@ -1,6 +1,6 @@
 //! Laws of single jobs. The functions do nothing: what they ensure is the law.
 
-ghost use Rattle.closed_jobs.specs.Laws.{LocalCodeIsTied, LocalCodeSaysTheSame, ReopenedSaysTheSame};
+ghost use Rattle.closed_jobs.specs.Laws.{LocalCodeIsTied, LocalCodeSaysTheSame, ReopenedSaysTheSame, TablesHoldTheirWords};
 
 /// The job of `specs/LocalCode.antt` says the same by meaning and by machine, rewritten and kept.
 #[tactic(auto, using(crate::proofs::LocalCode::says_the_same))]
@@ -19,4 +19,11 @@ pub fn local_code_is_tied()
 #[tactic(auto, using(crate::proofs::Reopened::says_the_same))]
 pub fn reopened_says_the_same()
     ensures { ReopenedSaysTheSame }
+{}
+
+/// The tables of the three images of `specs/Tables.antt` hold the words that are written there, and these are the words of
+/// `loaded_words`.
+#[tactic(auto, using(crate::proofs::Tables::hold_their_words))]
+pub fn tables_hold_their_words()
+    ensures { TablesHoldTheirWords }
 {}

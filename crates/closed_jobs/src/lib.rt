@@ -1,4 +1,4 @@
-//! Two small jobs, from their objects' bytes to what they say, in both worlds. No code runs here: definitions, and
+//! Small jobs, from their objects' bytes to what they say, in both worlds. No code runs here: definitions, and
 //! laws that the checker computes.
 //!
 //! A job is run by a machine over its linked images (`thread_blocks`), and it has a meaning, taken from its objects
@@ -17,12 +17,14 @@
 //! - `specs/Worlds.antt`: what it is that both worlds say the same of a list of links (`BothSay`);
 //! - `specs/LocalCode.antt`: the job of the picture, with its object as the bytes that an assembler wrote;
 //! - `specs/LocalSites.antt`: its sequences and its offset field, and what the linker chose for them in each setting;
-//! - `specs/Reopened.antt`: a late module that another thread closes in the middle of a call, and that is opened again.
+//! - `specs/Reopened.antt`: a late module that another thread closes in the middle of a call, and that is opened again;
+//! - `specs/Tables.antt`: a program, a module that starts with it and a late one, with an entry of each kind in their tables.
 //!
 //! Two laws run both worlds ([`laws::local_code_says_the_same`], [`laws::reopened_says_the_same`]). One takes the
 //! image of the picture apart ([`laws::local_code_is_tied`]): where a sequence is meant there stands, in the machine's
 //! words, what does the same, and the offset field moves the base of each thread's block to one address. So what is
-//! asked of the sites of tied loads is true of a link.
+//! asked of the sites of tied loads is true of a link. And one has the words of three tables as numbers, by what is loaded
+//! and by the definition that says what each entry holds ([`laws::tables_hold_their_words`]).
 //!
 //! The links are computed too, byte for byte. Where a module is loaded twice its image is written down beside, so that
 //! it is linked once.
