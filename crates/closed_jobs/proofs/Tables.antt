@@ -2,7 +2,7 @@
 use Rattle.std.proofs.Common.{refl}
 use Rattle.thread_blocks.specs.Instances.{instances_in}
 use Rattle.closed_jobs.specs.Laws.{TablesHoldTheirWords}
-use Rattle.closed_jobs.specs.Tables.{HasTable, app, app_object, app_words, lib, lib_object, lib_words, links, of_app, of_lib}
+use Rattle.closed_jobs.specs.Tables.{HasTable, app, app_object, app_words, lib, lib_object, lib_words, of_app, of_lib}
 use Rattle.closed_jobs.specs.Tables.{of_plug, plug, plug_object, plug_words}
 use Rattle.closed_jobs.specs.Worlds.{file}
 use Rattle.closed_jobs.proofs.Closed.{loads}

@@ -1,13 +1,17 @@
 -- A program, a module that starts with it and a late one, whose code reaches variables by every kind of entry of the
 -- global offset table. No sequence is rewritten. Their objects, as assembled:
 --
---   program f: gd a, gd y, desc a, desc y, ie a, ie y, mov f@gotpcrel(%rip), %rax     .tdata    .long 7; a: .long 5
---   started g: ld y, gd y, desc y, ie y, mov g@gotpcrel(%rip), %rax                   .tdata    .long 1, 2; y: .long 3
---   late    h: ld z, gd z, gd y, desc z, desc y, ie z, ie y, mov h@gotpcrel(%rip), %rax   .tdata    .quad 1; z: .quad 2
+--   program f: gd a, gd y, desc a, desc y, ie a, ie y, mov f@gotpcrel(%rip), %rax
+--              .tdata .long 7; a: .long 5
+--   started g: ld y, gd y, desc y, ie y, mov g@gotpcrel(%rip), %rax
+--              .tdata .long 1, 2; y: .long 3
+--   late    h: ld z, gd z, gd y, desc z, desc y, ie z, ie y, mov h@gotpcrel(%rip), %rax
+--              .tdata .quad 1; z: .quad 2
 --
---   gd x: data16 lea x@tlsgd(%rip), %rdi             ld x: lea x@tlsld(%rip), %rdi        ie x: mov x@gottpoff(%rip), %rax
---         data16 data16 rex64 call __tls_get_addr@PLT      call __tls_get_addr@PLT        desc x: lea x@tlsdesc(%rip), %rax
---                                                                                                 call *x@tlscall(%rax)
+--   gd x: data16 lea x@tlsgd(%rip), %rdi                    ld x: lea x@tlsld(%rip), %rdi
+--         data16 data16 rex64 call __tls_get_addr@PLT             call __tls_get_addr@PLT
+--   ie x: mov x@gottpoff(%rip), %rax                        desc x: lea x@tlsdesc(%rip), %rax
+--                                                                   call *x@tlscall(%rax)
 --
 -- The program, which may lie anywhere, is instance 1; what starts with it is instance 2. Thread 1 opens the late module,
 -- closes it and opens it again: it is instance 4 then, with the id 3 again, and its block is the second of 16 bytes that
