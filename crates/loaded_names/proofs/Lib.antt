@@ -1,5 +1,5 @@
 pub mod Defined
-mod Exports
+pub mod Exports
 mod First
 pub mod Functions
 mod Images
