@@ -1,0 +1,4 @@
+mod Infos
+mod Linked
+pub mod Printing
+mod Tied

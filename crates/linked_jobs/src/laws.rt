@@ -1,0 +1,18 @@
+//! The laws. The functions do nothing: what they ensure is the law.
+
+ghost use Rattle.linked_jobs.specs.Laws.{LinkedJobsPrint, LinkedThreadsPrint, LinksAreTied};
+
+/// All that a loader leaves of linked images is tied to all that their objects mean, at each time of a job.
+pub fn links_are_tied()
+    ensures { LinksAreTied }
+{}
+
+/// So a clean job of linked images prints what their objects mean: its events, and its lines, thread by thread.
+pub fn linked_jobs_print()
+    ensures { LinkedJobsPrint }
+{}
+
+/// And so does each clean thread by itself, whatever points its turns see.
+pub fn linked_threads_print()
+    ensures { LinkedThreadsPrint }
+{}

@@ -1,0 +1,37 @@
+//! What a job prints is what its objects mean: the laws that all others lead to, and no code.
+//!
+//! Who reads a job's objects can say what its threads compute without knowing a linker: each sequence of thread-local
+//! storage means one step, each variable one block a thread. That is the job's meaning (`whole_meaning`), and it is one
+//! whether sequences are rewritten or not. Where the meaning is *clean*, so that nothing in it hangs on what a linker or a
+//! loader chose, the linked images must compute the same. [`linked_jobs_print`] says that they do, of every job whose
+//! images link, in every order of turns: the machine's events and lines, thread by thread, are the meaning's.
+//! [`linked_threads_print`] says it of one thread by itself, whatever the others do, at any points of a legal history at
+//! which its turns look.
+//!
+//! Between the two lies [`links_are_tied`]: what a loader leaves of linked images is tied to what their objects mean
+//! (`tied_meaning`, `AreTied`), at each time of a job.
+//!
+//! ```text
+//! what is tied                              where it is proved
+//! bytes of constants, data and blocks       loaded_bytes
+//! functions, variables, sizes of blocks     loaded_names
+//! code, the fields in it, where all lies    tied_fields, over the words of loaded_words
+//! sequences                                 tied_sites
+//! numbers, ids, and who is live             known_instances
+//! what follows of a thread and of a job     call_alike
+//! ```
+//!
+//! For example, thread 1 opens a module and calls its `f`, which asks for the module's own variable by a general dynamic
+//! sequence. The meaning has the variable's block, and no module id at all. The machine calls the run time by a pair of
+//! words that a loader wrote, and finds the block by an id; the line that it prints is the same.
+//!
+//! What is asked of the links (`specs/Ready`) is what a reader of the job and of its objects has seen to: they link, side
+//! by side; files are bytes; no object has a loose relocation of a sequence or a stray call; the program comes first, and
+//! what is opened late comes last; there are 64 images at most, and of one image fewer than 2^32 objects, so that a
+//! symbol's number is its own. Of the threads it is asked that there are 64 at most: from number 2^24 on a thread's
+//! pointer would be past 2^64.
+#![tactic(auto)]
+
+mod laws;
+
+pub use laws::{linked_jobs_print, linked_threads_print, links_are_tied};
