@@ -211,7 +211,8 @@ module _ (ls : List Linking) (known : ℕ → Option Instance) (x : Instance) (l
             let i = imports o (first_of site) k e in
             let image = images k i.image i.at in
             let within = some_is (IsWithin i.image.objects)
-            (definition_of i.image.objects (symbol_name (object l o) site.symbol)) i.found i.defined (definition_within i.image.objects (symbol_name (object l o) site.symbol)) in
+            (definition_of i.image.objects (symbol_name (object l o) site.symbol)) i.found i.defined
+            (definition_within i.image.objects (symbol_name (object l o) site.symbol)) in
             let n = names_is (Some (Startup k)) (not (is_rewriting l)) e
             (of_variable l site.form (Some (Startup k)) (taken_startup site.form k form)) in
             let shared : variable_by ls x.image x.number l o site (Some (Startup k)) ≡ Some (defined_in i.image k k i.found) =
