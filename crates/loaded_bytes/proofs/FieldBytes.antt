@@ -1,4 +1,4 @@
--- The field of an address at a byte of a section, and bytes that no relocation of the image writes.
+-- The field of a relocation at a byte of a section, and bytes that no relocation of the image writes.
 use Rattle.std.proofs.Common.{◌≡◌, ◌+◌, ◌-◌, ◌<◌, ◌≤◌, ◌==◌, ◌&&◌, ◌∙◌, ℕ, Bool, true, false, not, List}
 use Rattle.std.proofs.Common.{Option, Some, None, length, inl, inr, refl, sym, ap, arith, if◌then◌else◌}
 use Rattle.std.specs.Prelude.{◌^◌, ◌+ℤ◌, ℤ, pos, nat_le, nat_lt, slice_get, slice_index_or, unwrap_or}
@@ -81,7 +81,7 @@ module _ (l : Linking) (given : IsGiven l) (links : Links l) (stray : HasNoStray
   fits = table_fits l given links.sound.limits
 
   -- an address of 8 bytes has its field
-  not_replaced : (o : ℕ) (r : Relocation) → is_absolute r.kind ≡ true → is_replaced l o r ≡ false
+  pub not_replaced : (o : ℕ) (r : Relocation) → is_absolute r.kind ≡ true → is_replaced l o r ≡ false
   unfolding is_replaced
   not_replaced o r e = ap (λ kind. is_rewriting l && goes (binding l o r) kind) (absolute_is r.kind e)
       ∙ of_test (is_rewriting l)
@@ -90,13 +90,10 @@ module _ (l : Linking) (given : IsGiven l) (links : Links l) (stray : HasNoStray
       of_test true = refl
       of_test false = refl
 
-  -- ** the field of an address at a byte of a section
+  -- ** the field of a relocation that has one, at a byte of a section
 
   module _ (o t k : ℕ) (there : o < length l.objects) (r : Relocation) (has : Contains (relocations (object l o) t) r)
-      (absolute : is_absolute r.kind ≡ true) (low : r.offset ≤ k) (high : k < r.offset + 8) where
-    wide : field_width r.kind ≡ 8
-    wide = ap field_width (absolute_is r.kind absolute)
-
+      (stays : is_replaced l o r ≡ false) (low : r.offset ≤ k) (high : k < r.offset + field_width r.kind) where
     in_field : (k' : ℕ) (y : Relocation) → is_in_field l o k' y ≡ true → Covers y k'
     in_field k' y e = test y.offset k' (y.offset + field_width y.kind) (is_replaced l o y) e
       where
@@ -110,9 +107,8 @@ module _ (l : Linking) (given : IsGiven l) (links : Links l) (stray : HasNoStray
         hits =
             rw (
               le-leb r.offset k low,
-              lt-ltb k (r.offset + field_width r.kind)
-                  (omega (arith, wide, high)),
-              not_replaced o r absolute,
+              lt-ltb k (r.offset + field_width r.kind) high,
+              stays,
             ) refl
 
         of_found : (found : Option Relocation) → find (is_in_field l o k) (relocations (object l o) t) ≡ found
@@ -121,15 +117,15 @@ module _ (l : Linking) (given : IsGiven l) (links : Links l) (stray : HasNoStray
         of_found (Some y) e =
             let f = found_is (is_in_field l o k) (relocations (object l o) t) y e in
             e ∙ ap Some (shared (relocations (object l o) t) r y k (fields_apart (object l o) (is_object l o given there) t)
-            has f.among (low, omega (arith, wide, high)) (in_field k y f.passes))
+            has f.among (low, high) (in_field k y f.passes))
 
     -- no sequence stands there
     no_sequence : find (is_in_rewritten l o t k) (sites_at l o) ≡ None
     no_sequence =
         none_found (is_in_rewritten l o t k) (sites_at l o) (λ site own passes.
         let x = tests site.section t site.start k (site.start + site.len) (is_kept (choice l o site)) passes in
-        let kept = (together l o t r given links stray there has).outside (not_replaced o r absolute) k site
-        (low, omega (arith, wide, high)) (record { own = own; section = x.0; from = x.1; to = x.2 }) in
+        let kept = (together l o t r given links stray there has).outside stays k site (low, high)
+        (record { own = own; section = x.0; from = x.1; to = x.2 }) in
         let other = x.3 in
         cc)
       where

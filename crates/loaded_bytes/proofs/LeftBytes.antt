@@ -50,7 +50,8 @@ use Rattle.loaded_bytes.specs.Bytes.{byte_at, byte_of_spot, loaded_field}
 use Rattle.loaded_bytes.proofs.Biases.{moved_digit, same_bias}
 use Rattle.loaded_bytes.proofs.Classes.{class_before, class_below, rank, same_rank}
 use Rattle.loaded_bytes.proofs.ClassFile.{filed_byte}
-use Rattle.loaded_bytes.proofs.FieldBytes.{absolute_is, loaded_is, same_byte, written_from, written_so}
+use Rattle.loaded_bytes.proofs.FieldBytes.{absolute_is, loaded_is, not_replaced, same_byte, written_from}
+use Rattle.loaded_bytes.proofs.FieldBytes.{written_so}
 use Rattle.loaded_bytes.proofs.Finds.{found_is, none_found, none_passes}
 use Rattle.loaded_bytes.proofs.Origins.{Origin, all_origins, has_relative}
 use Rattle.loaded_bytes.proofs.Spots.{standing}
@@ -201,11 +202,12 @@ module _ (l : Linking) (given : IsGiven l) (links : Links l) (stray : HasNoStray
       written =
           let k = address - begin_of (layout l) o t in
           let same : address - place l o t r.offset ≡ k - r.offset = omega (arith, low) in
+          let wide = ap field_width (absolute_is r.kind absolute) in
           word_at
           ∙ ap
           (λ j. slice_index_or (field_bytes (unwrap_or (loaded_field l (bias_of l.kind x.number) o t r) Empty)) j 0) same
-          ∙ sym (loaded_is l given links stray o t k there r has absolute (omega (arith, low)) (omega (arith, low, high))
-          (bias_of l.kind x.number))
+          ∙ sym (loaded_is l given links stray o t k there r has (not_replaced l given links stray o r absolute)
+          (omega (arith, low)) (omega (arith, low, high, wide)) (bias_of l.kind x.number))
           ∙ sym (ap (byte_of_spot l (bias_of l.kind x.number)) spot_is_own)
 
     pub left_is : left_byte m (image_of l) x address (filed_byte l (spot_in l class address))

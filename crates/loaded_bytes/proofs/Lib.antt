@@ -3,7 +3,7 @@ pub mod Biases
 pub mod Blocks
 pub mod ClassFile
 mod ClassParts
-mod Classes
+pub mod Classes
 pub mod Data
 pub mod Elsewhere
 pub mod FieldBytes
@@ -17,7 +17,7 @@ mod RoomParts
 pub mod RunsOn
 pub mod Sections
 pub mod Small
-mod Spots
+pub mod Spots
 pub mod Still
 pub mod Values
 mod Zeros

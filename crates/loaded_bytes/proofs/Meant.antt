@@ -36,7 +36,7 @@ use Rattle.loaded_bytes.proofs.Still.{constants_loaded}
 use Rattle.loaded_bytes.proofs.Values.{bytes_meant}
 
 -- two lists that agree element by element
-same_lists : (xs ys : List ℕ) → length xs ≡ length ys → ((k : ℕ) → k < length xs → slice_get xs k ≡ slice_get ys k)
+pub same_lists : (xs ys : List ℕ) → length xs ≡ length ys → ((k : ℕ) → k < length xs → slice_get xs k ≡ slice_get ys k)
     → xs ≡ ys
 same_lists [] [] long same = refl
 same_lists [] (y ∷ ys) long same = absurd (omega (arith, long))
@@ -157,7 +157,7 @@ module _ (ls : List Linking) (l : Linking) (x : Instance) (is : IsInstanceOf ls 
   bias = bias_of l.kind x.number
 
   -- a place in a range of the meaning is one of its class
-  in_range : (class : SectionClass) (place : ℕ) → holds (constant_range l (bias_of l.kind x.number) class) place ≡ true
+  pub in_range : (class : SectionClass) (place : ℕ) → holds (constant_range l (bias_of l.kind x.number) class) place ≡ true
       → IsInMoved l (bias_of l.kind x.number) class place
   in_range class place h =
       let start = (extent_for class (layout l)).start in
@@ -171,7 +171,7 @@ module _ (ls : List Linking) (l : Linking) (x : Instance) (is : IsInstanceOf ls 
           → (start ≤ place) × (place - start < n)
       so start place n e = grind (arith, nat_tests)
 
-  held : (class : SectionClass) (address : ℕ) → IsIn l class address
+  pub held : (class : SectionClass) (address : ℕ) → IsIn l class address
       → holds (constant_range l (bias_of l.kind x.number) class) (address + bias_of l.kind x.number) ≡ true
   held class address within =
       let mapped = length-map (class_bytes l (bias_of l.kind x.number) class) Value in
@@ -184,7 +184,7 @@ module _ (ls : List Linking) (l : Linking) (x : Instance) (is : IsInstanceOf ls 
             (omega (arith, mapped, long, within.0, within.1)),
       ) refl
 
-  byte_there : (class : SectionClass) (address : ℕ) → IsIn l class address
+  pub byte_there : (class : SectionClass) (address : ℕ) → IsIn l class address
       → slice_get (constant_range l (bias_of l.kind x.number) class).bytes
       (address + bias_of l.kind x.number - (constant_range l (bias_of l.kind x.number) class).start)
       ≡ Some (Value (byte_of l (bias_of l.kind x.number) (spot_in l class address)))

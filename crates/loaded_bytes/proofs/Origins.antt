@@ -95,7 +95,7 @@ contains_first x xs = (0, omega arith, refl)
 contains_next : {X : Type 0} (y : X) (xs : List X) (x : X) → Contains xs x → Contains (y ∷ xs) x
 contains_next y xs x has = (suc has.0, (let lt = has.1 in omega arith), has.2)
 
-contains_flat : {X Y : Type 0} (f : Y → List X) (ys : List Y) (y : Y) (x : X) → Contains ys y → Contains (f y) x
+pub contains_flat : {X Y : Type 0} (f : Y → List X) (ys : List Y) (y : Y) (x : X) → Contains ys y → Contains (f y) x
     → Contains (flat_map f ys) x
 contains_flat f [] y x has inner = absurd (omega (arith, has.1))
 contains_flat f (z ∷ more) y x has inner =
@@ -127,7 +127,7 @@ module _ {X : Type 0} (number : X → ℕ) where
       of_test true rest = has
       of_test false rest = of_index has.0 has.1 has.2 rest
 
-  contains_sorted : (xs : List X) (z : X) → Contains xs z → Contains (sorted_by number xs) z
+  pub contains_sorted : (xs : List X) (z : X) → Contains xs z → Contains (sorted_by number xs) z
   contains_sorted [] z has = has
   contains_sorted (x ∷ xs) z has =
       contains_inserted x (sorted_by number xs) z

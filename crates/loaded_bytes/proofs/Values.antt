@@ -33,8 +33,10 @@ use Rattle.link_needs.specs.Values.{field, goes, is_replaced, is_rewriting, othe
 use Rattle.link_refusals.specs.Faults.{by_type}
 use Rattle.link_refusals.specs.Refused.{is_refused}
 use Rattle.object_faults.specs.declared.class.SectionClass.TheVariants.{Executable}
-use Rattle.sequence_match.specs.Faults.{IsGetter}
-use Rattle.sequence_match.specs.Sites.{IsEntry}
+use Rattle.sequence_forms.specs.declared.places.Site.{Site}
+use Rattle.sequence_forms.specs.Forms.{row}
+use Rattle.sequence_match.specs.Faults.{IsGetter, code_of}
+use Rattle.sequence_match.specs.Sites.{IsEntry, IsSecond, IsSiteOf}
 use Rattle.tls_relocs.specs.declared.fields.Field.{Field}
 use Rattle.tls_relocs.specs.declared.fields.Field.TheVariants.{Empty, Word64}
 use Rattle.tls_relocs.specs.Fields.{field_bytes}
@@ -68,29 +70,27 @@ data_kind Absolute32Signed other some = (refl, refl)
 data_kind TpOff32 other some = (refl, refl)
 data_kind kind other some = absurd (other tt)
 
--- how a field outside code may be bound
+-- how a field may be bound that is no sequence's
 pub record IsBound (l : Linking) (kind : RelocationKind) (bound : Option Binding) : Type 0 where
   pub some : bound ≢ None
   pub other : bound ≢ Some Runtime
   pub own : (image : ℕ) → is_tls_kind kind ≡ false → bound ≢ Some (Startup image)
   pub narrow : is_moved l.kind ≡ true → is_refused NarrowInModule l.kind kind ≡ false
 
-module _ (l : Linking) (given : IsGiven l) (links : Links l) (stray : HasNoStray l) (o s : ℕ) (r : Relocation)
-    (there : o < length l.objects) (has : Contains (relocations (object l o) s) r)
-    (data_here : section_class (object l o) s ≢ Some Executable) (some : r.kind ≢ Nothing) where
-  xs : List Relocation
-  xs = relocations (object l o) s
+-- no sequence of section s calls the run time by relocation number f
+abbrev pub CallsNone : List ℕ → ℕ → ℕ → Type 0
+CallsNone b s f = (e : ℕ) (site : Site) → IsSiteOf (code_of b s) (relocations b s) (IsGetter b) e site
+    → IsSecond (row site.form).second (IsGetter b) (relocations b s) site.start f → ⊥
 
+names_some : (kind : RelocationKind) → kind ≢ Nothing → names_symbol kind ≡ true
+names_some Nothing some = absurd (some refl)
+names_some kind some = refl
+
+module _ (l : Linking) (given : IsGiven l) (links : Links l) (stray : HasNoStray l) (o s : ℕ) (r : Relocation)
+    (there : o < length l.objects) (has : Contains (relocations (object l o) s) r) (some : r.kind ≢ Nothing)
+    (alone : CallsNone (object l o) s has.0) where
   entry : IsEntry (relocations (object l o) s) has.0 r
   entry = slice_get-get_or (relocations (object l o) s) has.0 r has.1 ∙ ap Some has.2
-
-  law : IsLawful (object l o) s r
-  law =
-      All-contains (IsLawful (object l o) s) (relocations (object l o) s) r
-      (lawful (object l o) (given.are_objects o [] there) s) has
-
-  pub kind_is : (names_symbol r.kind ≡ true) × (has_value r.kind ≡ true)
-  kind_is = data_kind r.kind (λ of_code. data_here (law.code of_code)) some
 
   not_undefined : is_faulty Undefined l.objects l.startup o r ≡ true → ⊥
   unfolding Stands
@@ -112,36 +112,25 @@ module _ (l : Linking) (given : IsGiven l) (links : Links l) (stray : HasNoStray
       links.sound.kind.no_narrow.nowhere o at.table at.entry
       (there, at.above, at.below, passes (object l o) r (by_type NarrowInModule l.kind o) at wrong)
 
-  -- the run time's function is called in code alone
+  -- the run time's function is called by sequences alone
   not_runtime : binding l o r ≡ Some Runtime → ⊥
   not_runtime bound =
+      let law = All-contains (IsLawful (object l o) s) (relocations (object l o) s) r
+      (lawful (object l o) (given.are_objects o [] there) s) has in
       let named = law.symbol some in
       let getter : IsGetter (object l o) r.symbol =
       runtime_getter l.objects l.startup o links.sound.resolved there r named.0 named.1 bound in
       (stray o there).1 (kept_relocation_table (object l o) s) has.0 (
         has_table (object l o) (kept_relocation_table (object l o) s) has.0 r entry,
-        (
-          s,
-          refl,
-          (
-            r,
-            entry,
-            some,
-            getter,
-            λ e site is second.
-                let spelled = is.spelled.inside in
-                let few = form_some site.form in
-                data_here (is_code (object l o) (is_object l o given there) s (omega arith)).class_is,
-          ),
-        ),
+        (s, refl, (r, entry, some, getter, alone)),
       )
 
   pub bound_is : IsBound l r.kind (binding l o r)
   bound_is = record {
-    some = λ e. not_undefined (ap (λ t. t && is_none (binding l o r)) kind_is.0 ∙ ap is_none e);
+    some = λ e. not_undefined (ap (λ t. t && is_none (binding l o r)) (names_some r.kind some) ∙ ap is_none e);
     other = not_runtime;
     own = λ image other e. not_mismatched (
-        ap (λ t. t && is_mismatched l.objects r.kind (binding l o r)) kind_is.0
+        ap (λ t. t && is_mismatched l.objects r.kind (binding l o r)) (names_some r.kind some)
         ∙ ap (is_mismatched l.objects r.kind) e ∙ rw other refl);
     narrow = λ moved. of_test (is_refused NarrowInModule l.kind r.kind) refl;
   }
@@ -176,33 +165,45 @@ module _ (l : Linking) (bias : ℕ) (still : is_moved l.kind ≡ false → bias 
   unmoved : (n : ℕ) → bias ≡ 0 → n ≡ n + bias
   unmoved n still_there = omega (arith, still_there)
 
-  same : (kind : RelocationKind) (bound : Option Binding) → has_value kind ≡ true → (IsOfCode kind → ⊥)
-      → IsBound l kind bound → left kind bound ≡ meant kind bound
-  same Absolute64 None value other is = absurd (is.some refl)
-  same Absolute64 (Some (Here found)) value other is = refl
-  same Absolute64 (Some (Startup image)) value other is = absurd (is.own image refl refl)
-  same Absolute64 (Some Runtime) value other is = absurd (is.other refl)
-  same Pc32 None value other is = absurd (is.some refl)
-  same Pc32 (Some (Here found)) value other is = ap signed_field (sym (moved_distance (address l found) at bias a))
-  same Pc32 (Some (Startup image)) value other is = absurd (is.own image refl refl)
-  same Pc32 (Some Runtime) value other is = absurd (is.other refl)
-  same Absolute32 None value other is = absurd (is.some refl)
-  same Absolute32 (Some (Here found)) value other is =
+  same : (kind : RelocationKind) (bound : Option Binding) → has_value kind ≡ true → IsBound l kind bound
+      → left kind bound ≡ meant kind bound
+  same Absolute64 None value is = absurd (is.some refl)
+  same Absolute64 (Some (Here found)) value is = refl
+  same Absolute64 (Some (Startup image)) value is = absurd (is.own image refl refl)
+  same Absolute64 (Some Runtime) value is = absurd (is.other refl)
+  same Pc32 None value is = absurd (is.some refl)
+  same Pc32 (Some (Here found)) value is = ap signed_field (sym (moved_distance (address l found) at bias a))
+  same Pc32 (Some (Startup image)) value is = absurd (is.own image refl refl)
+  same Pc32 (Some Runtime) value is = absurd (is.other refl)
+  same Plt32 None value is = absurd (is.some refl)
+  same Plt32 (Some (Here found)) value is = ap signed_field (sym (moved_distance (address l found) at bias a))
+  same Plt32 (Some (Startup image)) value is = absurd (is.own image refl refl)
+  same Plt32 (Some Runtime) value is = absurd (is.other refl)
+  same Absolute32 None value is = absurd (is.some refl)
+  same Absolute32 (Some (Here found)) value is =
       ap (λ n. unsigned_field (pos n +ℤ a)) (unmoved (address l found) (zero_bias is.narrow))
-  same Absolute32 (Some (Startup image)) value other is = absurd (is.own image refl refl)
-  same Absolute32 (Some Runtime) value other is = absurd (is.other refl)
-  same Absolute32Signed None value other is = absurd (is.some refl)
-  same Absolute32Signed (Some (Here found)) value other is =
+  same Absolute32 (Some (Startup image)) value is = absurd (is.own image refl refl)
+  same Absolute32 (Some Runtime) value is = absurd (is.other refl)
+  same Absolute32Signed None value is = absurd (is.some refl)
+  same Absolute32Signed (Some (Here found)) value is =
       ap (λ n. signed_field (pos n +ℤ a)) (unmoved (address l found) (zero_bias is.narrow))
-  same Absolute32Signed (Some (Startup image)) value other is = absurd (is.own image refl refl)
-  same Absolute32Signed (Some Runtime) value other is = absurd (is.other refl)
-  same TpOff32 None value other is = absurd (is.some refl)
-  same TpOff32 (Some (Here found)) value other is =
+  same Absolute32Signed (Some (Startup image)) value is = absurd (is.own image refl refl)
+  same Absolute32Signed (Some Runtime) value is = absurd (is.other refl)
+  same TpOff32 None value is = absurd (is.some refl)
+  same TpOff32 (Some (Here found)) value is =
       ap (λ n. signed_field ((pos (offset l found) +ℤ a) -ℤ pos n)) storage
-  same TpOff32 (Some (Startup image)) value other is = ap (λ n. signed_field ((pos 0 +ℤ a) -ℤ pos n)) storage
-  same TpOff32 (Some Runtime) value other is = absurd (is.other refl)
-  same Plt32 bound value other is = absurd (other tt)
-  same kind bound value other is = impossible value
+  same TpOff32 (Some (Startup image)) value is = ap (λ n. signed_field ((pos 0 +ℤ a) -ℤ pos n)) storage
+  same TpOff32 (Some Runtime) value is = absurd (is.other refl)
+  same kind bound value is = impossible value
+
+-- in each field that has one the loaded number is the meaning's
+pub value_is : (l : Linking) (number o s : ℕ) (r : Relocation) → has_value r.kind ≡ true
+    → IsBound l r.kind (binding l o r)
+    → loaded_field l (bias_of l.kind number) o s r ≡ value_of l (bias_of l.kind number) o s r
+unfolding value_of field
+value_is l number o s r value bound =
+    same l (bias_of l.kind number) (λ still. rw still refl) r.addend (place l o s r.offset) (other_number l o r) refl r.kind
+    (binding l o r) value bound
 
 -- ** a byte
 
@@ -210,8 +211,8 @@ names_nothing : (kind : RelocationKind) → names_symbol kind ≡ false → kind
 names_nothing Nothing e = refl
 names_nothing kind e = cc
 
-names_some : (kind : RelocationKind) → names_symbol kind ≡ true → kind ≢ Nothing
-names_some kind e none = let no : names_symbol kind ≡ false = ap names_symbol none in cc
+some_kind : (kind : RelocationKind) → names_symbol kind ≡ true → kind ≢ Nothing
+some_kind kind e none = let no : names_symbol kind ≡ false = ap names_symbol none in cc
 
 -- outside code no relocation goes with a sequence
 goes_none : (kind : RelocationKind) (bound : Option Binding) → (IsOfCode kind → ⊥) → bound ≢ Some Runtime
@@ -254,13 +255,15 @@ module _ (l : Linking) (given : IsGiven l) (links : Links l) (stray : HasNoStray
       data_here ((All-contains (IsLawful (object l o) s) (relocations (object l o) s) r
       (lawful (object l o) (given.are_objects o [] there) s) has).code of_code)
 
-  value_is : (r : Relocation) → Contains (relocations (object l o) s) r → has_value r.kind ≡ true
-      → loaded_field l (bias_of l.kind number) o s r ≡ value_of l (bias_of l.kind number) o s r
-  unfolding value_of field
-  value_is r has value =
-      same l (bias_of l.kind number) (λ still. rw still refl) r.addend (place l o s r.offset) (other_number l o r) refl r.kind
-      (binding l o r) value (not_code r has)
-      (bound_is l given links stray o s r there has data_here (λ none. impossible (sym (ap has_value none) ∙ value)))
+  -- no sequence stands there
+  alone : (f : ℕ) → CallsNone (object l o) s f
+  alone f e site is second =
+      let spelled = is.spelled.inside in
+      let few = form_some site.form in
+      data_here (is_code (object l o) (is_object l o given there) s (omega arith)).class_is
+
+  bound : (r : Relocation) → Contains (relocations (object l o) s) r → r.kind ≢ Nothing → IsBound l r.kind (binding l o r)
+  bound r has some = bound_is l given links stray o s r there has some (alone has.0)
 
   -- byte k has the same field
   test_is : (k : ℕ) (r : Relocation) → Contains (relocations (object l o) s) r
@@ -270,11 +273,10 @@ module _ (l : Linking) (given : IsGiven l) (links : Links l) (stray : HasNoStray
     where
       of_test : (t : Bool) → names_symbol r.kind ≡ t → is_in_field l o k r ≡ (has_value r.kind && covers k r)
       of_test true e =
-          let some = names_some r.kind e in
-          let bound = bound_is l given links stray o s r there has data_here some in
-          let none = goes_none r.kind (binding l o r) (not_code r has) bound.other in
+          let some = some_kind r.kind e in
+          let none = goes_none r.kind (binding l o r) (not_code r has) (bound r has some).other in
           full_field (covers k r) (has_value r.kind) (is_rewriting l && goes (binding l o r) r.kind)
-          (kind_is l given links stray o s r there has data_here some).1
+          (data_kind r.kind (not_code r has) some).1
           (ap (λ t. is_rewriting l && t) none ∙ no_other (is_rewriting l))
         where
           no_other : (t : Bool) → (t && false) ≡ false
@@ -309,7 +311,8 @@ module _ (l : Linking) (given : IsGiven l) (links : Links l) (stray : HasNoStray
           let f : IsFound (λ r. has_value r.kind && covers k r) (relocations (object l o) s) r =
           found_is (λ r. has_value r.kind && covers k r) (relocations (object l o) s) r e in
           ap (λ value. slice_index_or (field_bytes (unwrap_or value Empty)) (k - r.offset) 0)
-          (value_is r f.among (first_part (has_value r.kind) (covers k r) f.passes))
+          (let value = first_part (has_value r.kind) (covers k r) f.passes in
+          value_is l number o s r value (bound r f.among (λ none. impossible (sym (ap has_value none) ∙ value))))
 
 -- the law
 pub bytes_meant : BytesAreMeant

@@ -54,7 +54,7 @@ module _ (objects : List (List ℕ)) (name : List ℕ) (binding : SymbolBinding)
           (named_in b e here ∙ ap (λ c. symbol_name c e) (sym at.here))
       of_symbol None here rest is = rest at.rest is
 
-definition_named : (objects : List (List ℕ)) (name : List ℕ) (found : SymbolRef)
+pub definition_named : (objects : List (List ℕ)) (name : List ℕ) (found : SymbolRef)
     → definition_of objects name ≡ Some found → name ≡ name_of objects found
 unfolding definition_of
 definition_named objects name found is = of_strong (first_from Global name 0 objects) refl is

@@ -1,0 +1,16 @@
+pub mod Addresses
+pub mod Begins
+pub mod CodeBytes
+pub mod Descriptors
+pub mod Fields
+pub mod Jobs
+pub mod Lies
+pub mod Makers
+pub mod Marks
+pub mod Needed
+pub mod Numbers
+pub mod Offsets
+pub mod OneNumber
+pub mod Program
+pub mod SameBytes
+pub mod Tied
