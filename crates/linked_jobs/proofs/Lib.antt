@@ -1,4 +1,3 @@
 mod Infos
-mod Linked
 pub mod Printing
 mod Tied
