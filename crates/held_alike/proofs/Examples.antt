@@ -1,5 +1,5 @@
--- The example of the crate's essay: thread 1 of a program with 8 bytes of thread-local storage, which hold the base of the
--- thread's own block, as an image with rewritten local dynamic code has it, and as one with kept code has it.
+-- The example of the crate's essay: thread 1 of a program with 8 bytes of thread-local storage, which hold the base of
+-- the thread's own block, as an image with rewritten local dynamic code has it, and as one with kept code has it.
 use Rattle.std.proofs.Common.{◌≡◌, ◌==◌, ℕ, Bool, true, false, List, [], ◌∷◌, Some, None, length, refl}
 use Rattle.std.specs.Prelude.{if◌then◌else◌}
 use Rattle.std.proofs.lemmas.List.Elements.{All-cons, All-nil}
@@ -54,7 +54,7 @@ meant = Part own_base 0 ∷ Part own_base 1 ∷ Part own_base 2 ∷ Part own_bas
 is_made : (rewritten : Bool) → IsMade (setting rewritten) own_base
 is_made rewritten = (program, (refl, refl))
 
--- bytes that are those of the token are held alike: of one owner, at one place, and as many as a block of the program has
+-- bytes that are those of the token are held alike: of one owner, at one place, as many as a block of the program has
 same_held : (rewritten : Bool) (bytes : List ℕ) → All2 (SameByte (setting rewritten)) meant bytes → length bytes ≡ 8
     → SameHeld (setting rewritten) loads 1 (held meant) (held bytes)
 same_held rewritten bytes all eight = (

@@ -90,7 +90,8 @@ module _ {B : Type 0} where
   )
   hit log Data n j b r os rs other left = (now, rest_spared log n j b os rs other left.1)
     where
-      now : IsLeft (log ++ Written n j b ∷ []) (record { owner = record { kind = Data; instance = n }; range = record r { bytes = slice_set r.bytes j b } })
+      now : IsLeft (log ++ Written n j b ∷ [])
+          (record { owner = record { kind = Data; instance = n }; range = record r { bytes = slice_set r.bytes j b } })
       now d k c e = elim (cases_eq j k) [
         | inl same ↦
             let here : slice_get (slice_set r.bytes j b) j ≡ Some c = ap (slice_get (slice_set r.bytes j b)) same ∙ e in

@@ -16,8 +16,8 @@ abbrev pub Keeps : {E B : Type 0} → List (Change B) → List Owner → Space E
 Keeps log os space = Apart os × AreLeft log (owned os space.own)
 
 module _ {E B : Type 0} (stack : ℕ) (os : List Owner) (log : List (Change B)) where
-  either_put : (g : Bool) (space : Space E B) (bytes : List B) (more : List (Change B)) (changes : List (Change B)) (own : List (Range B))
-      → Keeps (log ++ more) os space → Keeps (log ++ (more ++ changes)) os (record space { own = own })
+  either_put : (g : Bool) (space : Space E B) (bytes : List B) (more : List (Change B)) (changes : List (Change B))
+      (own : List (Range B)) → Keeps (log ++ more) os space → Keeps (log ++ (more ++ changes)) os (record space { own = own })
       → Keeps (log ++ (more ++ (if g then [] else changes))) os
       (if g then record space { stack = bytes } else record space { own = own })
   either_put true space bytes more changes own h k =
