@@ -3,7 +3,7 @@
 use Rattle.std.proofs.Common.{◌≡◌, ◌+◌, ◌-◌, ◌<◌, ◌≤◌, ◌&&◌, ◌||◌, ◌⊎◌, ℕ, Bool, true, false, not, List, [], ◌∷◌, Option, Some, None, length, refl, inl, inr, arith}
 use Rattle.std.specs.Prelude.{nat_le, nat_lt, slice_get, if◌then◌else◌}
 use Rattle.std.specs.List.{list_all}
-use Rattle.std.proofs.lemmas.Bool.{and_cases, and_parts, cases_Bool, false_from_ne_true, leb-false, leb-true, ltb-false, ltb-true, or_cases, not-true}
+use Rattle.std.proofs.lemmas.Bool.{and_cases, and_parts, and_right, cases_Bool, false_from_ne_true, le-ltb, leb-false, leb-true, ltb-false, ltb-true, or_cases, not-true}
 use Rattle.guest_operands.specs.declared.space.Access.{Access}
 use Rattle.guest_machine.specs.Ranges.{Range, allows, byte_in, grants, holds}
 
@@ -83,3 +83,6 @@ not_between low high place e = elim (and_cases (nat_le low place) (nat_lt place 
   | inl low' ↦ inl (leb-false low place low')
   | inr high' ↦ inr (ltb-false place high high')
 ]
+
+pub above_between : (low high place : ℕ) → high ≤ place → is_between low high place ≡ false
+above_between low high place above = and_right (nat_le low place) (nat_lt place high) (le-ltb place high above)

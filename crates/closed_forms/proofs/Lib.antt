@@ -1,0 +1,6 @@
+mod LibraryImage
+mod Library
+mod EachFormImages
+mod EachForm
+mod HandedOverImages
+mod HandedOver

@@ -1,0 +1,4 @@
+pub mod Library
+pub mod EachForm
+pub mod HandedOver
+pub mod Laws
