@@ -15,13 +15,13 @@ unfolding file
 program_rewritten = record {
   kind = ExeFile;
   parts = record {
-        class = Executable;
-        address = 0x400000;
-        bytes = file (codes "64488b042500000000480305f01f00008b00c364488b042500000000488d80fcffffff8b00c3666666666448"
-            ∷ codes "8b0425000000008b80fcffffffc3488b05bf1f00006690648b00c349c7c2fcffffff64418b02c364488b3425"
-            ∷ codes "00000000488db6fcffffff8b06c3644c8b2425000000004981c4fcffffff418b0424c364488b342500000000"
-            ∷ codes "480335751f00008b06c3" ∷ []);
-      }
+    class = Executable;
+    address = 0x400000;
+    bytes = file (codes "64488b042500000000480305f01f00008b00c364488b042500000000488d80fcffffff8b00c3666666666448"
+        ∷ codes "8b0425000000008b80fcffffffc3488b05bf1f00006690648b00c349c7c2fcffffff64418b02c364488b3425"
+        ∷ codes "00000000488db6fcffffff8b06c3644c8b2425000000004981c4fcffffff418b0424c364488b342500000000"
+        ∷ codes "480335751f00008b06c3" ∷ []);
+  }
       ∷ record { class = ReadOnly; address = 0x401000; bytes = file (codes "0300000006000000" ∷ []) }
       ∷ record { class = Writable; address = 0x402000; bytes = file (codes "0000000000000000" ∷ []) }
       ∷ record {
@@ -65,13 +65,13 @@ unfolding file
 program_kept = record {
   kind = ExeFile;
   parts = record {
-        class = Executable;
-        address = 0x400000;
-        bytes = file (codes "66488d3d08200000666648e8f02f00008b00c366488d3d052000006648ff152d2000008b00c3488d3dd31f00"
-            ∷ codes "00ff151d2000008b8004000000c3488d05ef1f0000ff10648b00c34c8b15f21f000064418b02c364488b3425"
-            ∷ codes "00000000480335dd1f00008b06c3644c8b2425000000004c0325ca1f0000418b0424c364488b342500000000"
-            ∷ codes "480335bd1f00008b06c3" ∷ []);
-      }
+    class = Executable;
+    address = 0x400000;
+    bytes = file (codes "66488d3d08200000666648e8f02f00008b00c366488d3d052000006648ff152d2000008b00c3488d3dd31f00"
+        ∷ codes "00ff151d2000008b8004000000c3488d05ef1f0000ff10648b00c34c8b15f21f000064418b02c364488b3425"
+        ∷ codes "00000000480335dd1f00008b06c3644c8b2425000000004c0325ca1f0000418b0424c364488b342500000000"
+        ∷ codes "480335bd1f00008b06c3" ∷ []);
+  }
       ∷ record { class = ReadOnly; address = 0x401000; bytes = file (codes "0300000006000000" ∷ []) }
       ∷ record {
         class = Writable;

@@ -15,12 +15,12 @@ unfolding file
 program_rewritten = record {
   kind = PieFile;
   parts = record {
-        class = Executable;
-        address = 0x0;
-        bytes = file (codes "488b05f93f0000488905fa2f000066666664488b042500000000488905df2f00008b80fcffffffc3488b05d1"
-            ∷ codes "2f00008b80fcffffffc3488b05cb2f00006690c3488b1dc13f0000ff15c33f00000303c348b8001000000000"
-            ∷ codes "00008b00c3" ∷ []);
-      }
+    class = Executable;
+    address = 0x0;
+    bytes = file (codes "488b05f93f0000488905fa2f000066666664488b042500000000488905df2f00008b80fcffffffc3488b05d1"
+        ∷ codes "2f00008b80fcffffffc3488b05cb2f00006690c3488b1dc13f0000ff15c33f00000303c348b8001000000000"
+        ∷ codes "00008b00c3" ∷ []);
+  }
       ∷ record { class = ReadOnly; address = 0x1000; bytes = file (codes "08000000" ∷ []) }
       ∷ record { class = ReadOnly; address = 0x2000; bytes = file (codes "0300000006000000" ∷ []) }
       ∷ record { class = Writable; address = 0x3000; bytes = file (codes "00000000000000000000000000000000" ∷ []) }
@@ -69,12 +69,12 @@ unfolding file
 program_kept = record {
   kind = PieFile;
   parts = record {
-        class = Executable;
-        address = 0x0;
-        bytes = file (codes "488d0509400000488905fa2f0000488d3deb3f0000e8e64f0000488905df2f00008b8004000000c3488b05d1"
-            ∷ codes "2f00008b8004000000c3488b05cb2f0000ff10c3488b1dd93f0000ff15db3f00000303c348b8001000000000"
-            ∷ codes "00008b00c3" ∷ []);
-      }
+    class = Executable;
+    address = 0x0;
+    bytes = file (codes "488d0509400000488905fa2f0000488d3deb3f0000e8e64f0000488905df2f00008b8004000000c3488b05d1"
+        ∷ codes "2f00008b8004000000c3488b05cb2f0000ff10c3488b1dd93f0000ff15db3f00000303c348b8001000000000"
+        ∷ codes "00008b00c3" ∷ []);
+  }
       ∷ record { class = ReadOnly; address = 0x1000; bytes = file (codes "08000000" ∷ []) }
       ∷ record { class = ReadOnly; address = 0x2000; bytes = file (codes "0300000006000000" ∷ []) }
       ∷ record { class = Writable; address = 0x3000; bytes = file (codes "00000000000000000000000000000000" ∷ []) }

@@ -250,12 +250,12 @@ BeginsThere place = (place ≡ 0x400000) ⊎ ((place ≡ 0x400013) ⊎ (place �
 begins : (place : ℕ) (s : Sequence) (o : Option Sequence) → o ≡ Some s → begins_there place o ≡ true → BeginsThere place
 begins place s o e test = elim (or_cases ((place == 0x400000) || ((place == 0x400013) || (place == 0x40001a))) (is_none o) test) [
   | inl there ↦ elim (or_cases (place == 0x400000) ((place == 0x400013) || (place == 0x40001a)) there) [
-      | inl first ↦ inl (eqb-true place 0x400000 first)
-      | inr more ↦ elim (or_cases (place == 0x400013) (place == 0x40001a) more) [
-          | inl second ↦ inr (inl (eqb-true place 0x400013 second))
-          | inr third ↦ inr (inr (eqb-true place 0x40001a third))
-        ]
+    | inl first ↦ inl (eqb-true place 0x400000 first)
+    | inr more ↦ elim (or_cases (place == 0x400013) (place == 0x40001a) more) [
+      | inl second ↦ inr (inl (eqb-true place 0x400013 second))
+      | inr third ↦ inr (inr (eqb-true place 0x40001a third))
     ]
+  ]
   | inr none ↦ let no : false ≡ true = rw e at none in absurd cc
 ]
 

@@ -12,19 +12,19 @@ unfolding m q
 function true name = elim (cases_Bool (bytes_eq name (codes "f"))) [
   | inl f ↦ rw f refl
   | inr not_f ↦ elim (cases_Bool (bytes_eq name (codes "g"))) [
-      | inl g ↦ rw (not_f, g) refl
-      | inr not_g ↦ rw (not_f, not_g) refl
-    ]
+    | inl g ↦ rw (not_f, g) refl
+    | inr not_g ↦ rw (not_f, not_g) refl
+  ]
 ]
 function false name = elim (cases_Bool (bytes_eq name (codes "f"))) [
   | inl f ↦ rw f refl
   | inr not_f ↦ elim (cases_Bool (bytes_eq name (codes "g"))) [
-      | inl g ↦ rw (not_f, g) refl
-      | inr not_g ↦ elim (cases_Bool (bytes_eq name (codes "__tls_get_addr"))) [
-          | inl t ↦ rw (not_f, not_g, t) refl
-          | inr not_t ↦ rw (not_f, not_g, not_t) refl
-        ]
+    | inl g ↦ rw (not_f, g) refl
+    | inr not_g ↦ elim (cases_Bool (bytes_eq name (codes "__tls_get_addr"))) [
+      | inl t ↦ rw (not_f, not_g, t) refl
+      | inr not_t ↦ rw (not_f, not_g, not_t) refl
     ]
+  ]
 ]
 
 pub variable : (relax : Bool) (image : ℕ) (name : List ℕ)
@@ -35,17 +35,17 @@ variable relax (suc (suc more)) name = refl
 variable true (suc zero) name = elim (cases_Bool (bytes_eq name (codes "f"))) [
   | inl f ↦ rw f refl
   | inr not_f ↦ elim (cases_Bool (bytes_eq name (codes "g"))) [
-      | inl g ↦ rw (not_f, g) refl
-      | inr not_g ↦ rw (not_f, not_g) refl
-    ]
+    | inl g ↦ rw (not_f, g) refl
+    | inr not_g ↦ rw (not_f, not_g) refl
+  ]
 ]
 variable false (suc zero) name = elim (cases_Bool (bytes_eq name (codes "f"))) [
   | inl f ↦ rw f refl
   | inr not_f ↦ elim (cases_Bool (bytes_eq name (codes "g"))) [
-      | inl g ↦ rw (not_f, g) refl
-      | inr not_g ↦ elim (cases_Bool (bytes_eq name (codes "__tls_get_addr"))) [
-          | inl t ↦ rw (not_f, not_g, t) refl
-          | inr not_t ↦ rw (not_f, not_g, not_t) refl
-        ]
+    | inl g ↦ rw (not_f, g) refl
+    | inr not_g ↦ elim (cases_Bool (bytes_eq name (codes "__tls_get_addr"))) [
+      | inl t ↦ rw (not_f, not_g, t) refl
+      | inr not_t ↦ rw (not_f, not_g, not_t) refl
     ]
+  ]
 ]

@@ -171,9 +171,10 @@ only_known relax number x e = elim (cases_Bool (number == 1)) [
 known : (relax : Bool) (number : ℕ) (x : Instance) → (setting relax).known number ≡ Some x
     → IsTied (setting relax) (m relax) (q relax) x × (x.number ≡ number)
 known relax number x e =
-    let is = only_known relax number x e in
-    (subst (λ (y : Instance). IsTied (setting relax) (m relax) (q relax) y) (sym is.1) (instance_tied relax),
-    ap (λ (y : Instance). y.number) is.1 ∙ sym is.0)
+    let is = only_known relax number x e in (
+      subst (λ (y : Instance). IsTied (setting relax) (m relax) (q relax) y) (sym is.1) (instance_tied relax),
+      ap (λ (y : Instance). y.number) is.1 ∙ sym is.0,
+    )
 
 -- ** ids
 

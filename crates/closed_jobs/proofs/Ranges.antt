@@ -52,11 +52,11 @@ not_granted access low high place range e above below g =
     elim (or_cases (not (allows access range)) _ e) [
       | inl never ↦ let no : allows access range ≡ false = not-true _ never in absurd cc
       | inr apart ↦ elim (or_cases (nat_le (range.start + length range.bytes) low) (nat_le high range.start) apart) [
-          | inl before ↦
-              let a = leb-true (range.start + length range.bytes) low before in
-              absurd (omega (arith, a, c, d, above))
-          | inr behind ↦ let a = leb-true high range.start behind in absurd (omega (arith, a, c, below))
-        ]
+        | inl before ↦
+            let a = leb-true (range.start + length range.bytes) low before in
+            absurd (omega (arith, a, c, d, above))
+        | inr behind ↦ let a = leb-true high range.start behind in absurd (omega (arith, a, c, below))
+      ]
     ]
 
 pub none_found : {B : Type 0} (access : Access) (low high place : ℕ) (ranges : List (Range B))
@@ -66,7 +66,7 @@ none_found access low high place [] e above below = refl
 none_found access low high place (range ∷ ranges) e above below =
     let all = and_parts (lies_apart access low high range) (list_all (lies_apart access low high) ranges) e in
     let other : grants access range place ≡ false =
-        false_from_ne_true _ (not_granted access low high place range all.0 above below) in
+    false_from_ne_true _ (not_granted access low high place range all.0 above below) in
     rw other (none_found access low high place ranges all.1 above below)
 
 -- a place is from one place on and before another, as a test
