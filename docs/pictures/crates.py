@@ -15,7 +15,7 @@ TOP = os.path.dirname(os.path.dirname(HERE))
 AREAS = [
     ("commands, and the outside", "#fff3c4", "#b58900", r"tlsld|commands|command_.*|ports|job_text|generated_job|run_summary"),
     ("the checker: what objects mean", "#e3f4f1", "#20807a", r"class_bytes|meant_.*|job_check"),
-    ("definitions and laws: no code that runs", "#f9e4e4", "#a05050", r"thread_blocks|lawful_points|static_blocks|relocated_parts|loaded_bytes|loaded_words|loaded_names|held_alike|begin_alike|tied_.*|site_steps|call_alike|closed_jobs|shared_data|job_meaning|whole_meaning|known_instances|marked_code|job_run|.*_laws|linked_modules"),
+    ("definitions and laws: no code that runs", "#f9e4e4", "#a05050", r"thread_blocks|lawful_points|static_blocks|relocated_parts|loaded_bytes|loaded_words|loaded_names|held_alike|begin_alike|tied_.*|site_steps|call_alike|closed_.*|shared_data|job_meaning|whole_meaning|known_instances|marked_code|job_run|.*_laws|linked_modules"),
     ("the run time: modules, threads, turns", "#ece4f7", "#6c4ab0", r"module_.*|loaded_modules|thread_.*|job_turns|shared_modules|transcript_text|image_names"),
     ("the machine", "#ffe6d2", "#c0651a", r"amd64_.*|guest_.*"),
     ("objects and images: files", "#dceafc", "#2f6db5", r"elf_.*|object_(rules|faults)|image_.*"),
