@@ -4,3 +4,5 @@ mod EachFormImages
 mod EachForm
 mod HandedOverImages
 mod HandedOver
+mod LateDataImages
+mod LateData

@@ -36,9 +36,9 @@ use Rattle.job_text.specs.declared.thread_lines.ThreadLine.{ThreadLine}
 use Rattle.link_faults.specs.declared.image_kind.ImageKind.TheVariants.{Exe}
 use Rattle.link_needs.specs.Linking.{Linking}
 use Rattle.sequence_forms.specs.declared.forms.Form.TheVariants.{Gd, GdInd, LdInd, DescLea, DescCall, IeMov, IeAdd}
-use Rattle.thread_blocks.specs.Turns.{Said, Stopped}
+use Rattle.thread_blocks.specs.Turns.{Stopped}
 use Rattle.closed_forms.specs.Library.{library}
-use Rattle.closed_jobs.specs.Worlds.{Says, file}
+use Rattle.closed_jobs.specs.Worlds.{BothSay, Says, file}
 
 unfoldable pub program_object : List ℕ
 unfolding file
@@ -95,16 +95,23 @@ program relax = record {
 abbrev pub links : Bool → List Linking
 links relax = program relax ∷ library relax ∷ []
 
-abbrev calls : List ℕ → ThreadLine
-calls name = record { image = 1; action = Call name 0 0 0 }
+-- thread 1 calls a function of the program
+abbrev pub calls : List ℕ → List (List ThreadLine)
+calls name = (record { image = 1; action = Call name 0 0 0 } ∷ []) ∷ []
 
--- thread 1 calls each function
-abbrev pub lines : List (List ThreadLine)
-lines = (calls (codes "a") ∷ calls (codes "b") ∷ calls (codes "c") ∷ calls (codes "d") ∷ calls (codes "e")
-    ∷ calls (codes "f") ∷ calls (codes "g") ∷ calls (codes "h") ∷ []) ∷ []
+abbrev pub answers : ℕ → Says
+answers number = ((record { points = 0 ∷ []; ending = Stopped (Returned number) } ∷ []) ∷ [], [])
 
-abbrev loads : ℕ → Said
-loads number = record { points = 0 ∷ []; ending = Stopped (Returned number) }
+-- in both worlds the function of this name answers the number
+abbrev pub Loads : Bool → List ℕ → ℕ → Type 0
+Loads relax name number = BothSay (links relax) 4 (calls name) [] (answers number)
 
-abbrev pub says : Says
-says = ((loads 7 ∷ loads 6 ∷ loads 6 ∷ loads 7 ∷ loads 6 ∷ loads 6 ∷ loads 6 ∷ loads 7 ∷ []) ∷ [], [])
+pub record EachLoads (relax : Bool) : Type 0 where
+  pub gd : Loads relax (codes "a") 7
+  pub gd_ind : Loads relax (codes "b") 6
+  pub ld_ind : Loads relax (codes "c") 6
+  pub desc : Loads relax (codes "d") 7
+  pub ie_mov : Loads relax (codes "e") 6
+  pub ie_add : Loads relax (codes "f") 6
+  pub ie_add_r12 : Loads relax (codes "g") 6
+  pub ie_add_shared : Loads relax (codes "h") 7

@@ -1,45 +1,33 @@
 -- Three threads, of which one hands over what only a linker knows. The program lies anywhere (pie), x is the library's:
 --
---   program p: lea x@tlsdesc(%rip), %rax           module c: addl $1, n(%rip)
---              mov %rax, w(%rip)                             mov n(%rip), %eax
---              lea y@tlsld(%rip), %rdi                       ret
---              call __tls_get_addr@PLT             .data  n: .long 5
---              mov %rax, u(%rip)
---              mov y@dtpoff(%rax), %eax
---              ret
---           t: mov u(%rip), %rax
---              mov y@dtpoff(%rax), %eax
---              ret
---           s: mov w(%rip), %rax
---              call *x@tlscall(%rax)
---              ret
---           g: mov e@gotpcrel(%rip), %rbx
---              call *h@gotpcrel(%rip)
---              add (%rbx), %eax
---              ret
---           h: movabs $e, %rax
---              mov (%rax), %eax
---              ret
---   .rodata e: .long 8
---   .tdata     .long 3
---           y: .long 6
---   .data   u: .quad 0
---           w: .quad 0
+--   p: lea x@tlsdesc(%rip), %rax           g: mov e@gotpcrel(%rip), %rbx
+--      mov %rax, w(%rip)                      call *h@gotpcrel(%rip)
+--      lea y@tlsld(%rip), %rdi                add (%rbx), %eax
+--      call __tls_get_addr@PLT                ret
+--      mov %rax, u(%rip)                   h: movabs $e, %rax
+--      mov y@dtpoff(%rax), %eax               mov (%rax), %eax
+--      ret                                    ret
+--   t: mov u(%rip), %rax                   .section .rodata
+--      mov y@dtpoff(%rax), %eax            e:   .long 8
+--      ret                                 .section .tdata
+--   s: mov w(%rip), %rax                        .long 3
+--      call *x@tlscall(%rax)               y:   .long 6
+--      ret                                 .data
+--                                          u:   .quad 0
+--                                          w:   .quad 0
 --
 -- Thread 1 puts a descriptor of x and the base of its own block into the program's data. Thread 2 takes the base and
 -- reaches for y: that is in a block of thread 1, which thread 2 does not have. Thread 3 calls the descriptor, and is
--- told how far x is from its own thread pointer, -12. Meanwhile threads 1 and 2 count in the data of a late module,
--- from 5 on; thread 2 closes it, and once it is open again they are 5 once more. In the end thread 1 reads e by an
--- address in a table and by one in the code, 8 each time.
-use Rattle.std.specs.Prelude.{ℕ, Bool, true, false, List, [], ◌∷◌, codes}
+-- told how far x is from its own thread pointer, -12. In a job of its own g reads e by an address in a table and by one
+-- in the code, 8 each time: the one is of the program as it was moved, and so is the other.
+use Rattle.std.specs.Prelude.{ℕ, Bool, List, [], ◌∷◌, codes}
 use Rattle.guest_operands.specs.declared.stop.Stop.TheVariants.{Returned, Address}
-use Rattle.job_text.specs.declared.thread_lines.Action.TheVariants.{Call, Open, Close}
+use Rattle.job_text.specs.declared.thread_lines.Action.TheVariants.{Call}
 use Rattle.job_text.specs.declared.thread_lines.ThreadLine.{ThreadLine}
-use Rattle.link_faults.specs.declared.image_kind.ImageKind.TheVariants.{Pie, Late}
+use Rattle.link_faults.specs.declared.image_kind.ImageKind.TheVariants.{Pie}
 use Rattle.link_needs.specs.Linking.{Linking}
 use Rattle.sequence_forms.specs.declared.forms.Form.TheVariants.{Ld, DescLea, DescCall}
-use Rattle.thread_blocks.specs.Turns.{Answered, Stopped}
-use Rattle.transcript_text.specs.declared.outcomes.Outcome.TheVariants.{Opened, Closed}
+use Rattle.thread_blocks.specs.Turns.{Stopped}
 use Rattle.closed_forms.specs.Library.{library}
 use Rattle.closed_jobs.specs.Worlds.{Says, file}
 
@@ -80,26 +68,6 @@ program_object = file (
     ∷ codes "01000000000000000000000000000000110000000300000000000000000000000000000000000000a003000000000000"
     ∷ codes "3b00000000000000000000000000000001000000000000000000000000000000" ∷ [])
 
-unfoldable pub module_object : List ℕ
-unfolding file
-module_object = file (
-    codes "7f454c4602010100000000000000000001003e0001000000000000000000000000000000000000002001000000000000"
-    ∷ codes "00000000400000000000400007000600830500000000018b0500000000c3000005000000000000000000000000000000"
-    ∷ codes "000000000000000000000000000000000000000003000300000000000000000000000000000000000100000000000300"
-    ∷ codes "00000000000000000000000000000000030000001200010000000000000000000000000000000000006e006300000000"
-    ∷ codes "02000000000000000200000001000000fbffffffffffffff09000000000000000200000001000000fcffffffffffffff"
-    ∷ codes "002e73796d746162002e737472746162002e7368737472746162002e72656c612e74657874002e646174610000000000"
-    ∷ codes "000000000000000000000000000000000000000000000000000000000000000000000000000000000000000000000000"
-    ∷ codes "000000000000000000000000000000002000000001000000060000000000000000000000000000004000000000000000"
-    ∷ codes "0e000000000000000000000000000000010000000000000000000000000000001b000000040000004000000000000000"
-    ∷ codes "0000000000000000c0000000000000003000000000000000040000000100000008000000000000001800000000000000"
-    ∷ codes "260000000100000003000000000000000000000000000000500000000000000004000000000000000000000000000000"
-    ∷ codes "040000000000000000000000000000000100000002000000000000000000000000000000000000005800000000000000"
-    ∷ codes "600000000000000005000000030000000800000000000000180000000000000009000000030000000000000000000000"
-    ∷ codes "0000000000000000b8000000000000000500000000000000000000000000000001000000000000000000000000000000"
-    ∷ codes "110000000300000000000000000000000000000000000000f0000000000000002c000000000000000000000000000000"
-    ∷ codes "01000000000000000000000000000000" ∷ [])
-
 unfoldable pub program : Bool → Linking
 unfolding program_object
 program relax = record {
@@ -112,51 +80,30 @@ program relax = record {
   relax = relax;
 }
 
-unfoldable pub late : Bool → Linking
-unfolding module_object
-late relax = record {
-  kind = Late;
-  objects = module_object ∷ [];
-  startup = [] ∷ (codes "x" ∷ []) ∷ [];
-  sites = [] ∷ [];
-  relax = relax;
-}
-
 abbrev pub links : Bool → List Linking
-links relax = program relax ∷ library relax ∷ late relax ∷ []
+links relax = program relax ∷ library relax ∷ []
 
-abbrev calls : ℕ → List ℕ → ThreadLine
-calls image name = record { image = image; action = Call name 0 0 0 }
+-- each thread calls one function
+abbrev pub calls : List ℕ → List ThreadLine
+calls name = record { image = 1; action = Call name 0 0 0 } ∷ []
 
 abbrev pub lines : List (List ThreadLine)
-lines =
-    (calls 1 (codes "p")
-    ∷ record { image = 3; action = Open }
-    ∷ calls 3 (codes "c")
-    ∷ record { image = 3; action = Open }
-    ∷ calls 3 (codes "c")
-    ∷ calls 1 (codes "g") ∷ [])
-    ∷ (calls 1 (codes "t")
-    ∷ calls 3 (codes "c")
-    ∷ record { image = 3; action = Close } ∷ [])
-    ∷ (calls 1 (codes "s") ∷ []) ∷ []
+lines = calls (codes "p") ∷ calls (codes "t") ∷ calls (codes "s") ∷ []
 
 abbrev pub order : List ℕ
-order = 1 ∷ 1 ∷ 1 ∷ 2 ∷ 2 ∷ 3 ∷ 2 ∷ 1 ∷ 1 ∷ []
+order = 1 ∷ 2 ∷ 3 ∷ []
 
 abbrev pub says : Says
 says = (
-  (record { points = 0 ∷ []; ending = Stopped (Returned 6) }
-      ∷ record { points = 0 ∷ []; ending = Answered (Opened 3) }
-      ∷ record { points = 1 ∷ []; ending = Stopped (Returned 6) }
-      ∷ record { points = 2 ∷ []; ending = Answered (Opened 4) }
-      ∷ record { points = 3 ∷ []; ending = Stopped (Returned 6) }
-      ∷ record { points = 3 ∷ []; ending = Stopped (Returned 16) } ∷ [])
-      ∷ (record { points = 1 ∷ []; ending = Stopped (Address 0x10400002f) }
-      ∷ record { points = 1 ∷ []; ending = Stopped (Returned 7) }
-      ∷ record { points = 1 ∷ []; ending = Answered Closed } ∷ [])
-      ∷ (record { points = 1 ∷ []; ending = Stopped (Returned 0xfffffffffffffff4) } ∷ []) ∷ [],
-  record { thread = 1; line = 2; opens = true; image = 3 }
-      ∷ record { thread = 2; line = 3; opens = false; image = 3 }
-      ∷ record { thread = 1; line = 4; opens = true; image = 3 } ∷ [],
+  (record { points = 0 ∷ []; ending = Stopped (Returned 6) } ∷ [])
+      ∷ (record { points = 0 ∷ []; ending = Stopped (Address 0x10400002f) } ∷ [])
+      ∷ (record { points = 0 ∷ []; ending = Stopped (Returned 0xfffffffffffffff4) } ∷ []) ∷ [],
+  [],
 )
+
+-- g alone
+abbrev pub reading : List (List ThreadLine)
+reading = calls (codes "g") ∷ []
+
+abbrev pub says_of_reading : Says
+says_of_reading = ((record { points = 0 ∷ []; ending = Stopped (Returned 16) } ∷ []) ∷ [], [])

@@ -1,4 +1,5 @@
 pub mod Library
 pub mod EachForm
 pub mod HandedOver
+pub mod LateData
 pub mod Laws

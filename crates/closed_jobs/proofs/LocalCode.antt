@@ -14,10 +14,18 @@ unfolding meant program object file
 meant_says true = refl
 meant_says false = refl
 
-run_says : (relax : Bool) → said_in (ran (Exe ∷ []) (linked (program relax) ∷ []) 4 lines []) ≡ says
+-- each by itself: both are more than the checker computes for one lemma
+run_rewritten : said_in (ran (Exe ∷ []) (linked (program true) ∷ []) 4 lines []) ≡ says
 unfolding ran linked program object file
-run_says true = refl
-run_says false = refl
+run_rewritten = refl
+
+run_kept : said_in (ran (Exe ∷ []) (linked (program false) ∷ []) 4 lines []) ≡ says
+unfolding ran linked program object file
+run_kept = refl
+
+run_says : (relax : Bool) → said_in (ran (Exe ∷ []) (linked (program relax) ∷ []) 4 lines []) ≡ says
+run_says true = run_rewritten
+run_says false = run_kept
 
 pub says_the_same : LocalCodeSaysTheSame
 unfolding program
