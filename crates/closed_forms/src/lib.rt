@@ -1,8 +1,8 @@
-//! More jobs, from their objects' bytes to what they say, in both worlds: all forms of sequences, three threads, and data
-//! of a late module. No code runs here: definitions, and laws that the checker computes.
+//! More jobs, from their objects' bytes to what they say, in both worlds: all forms of sequences, three threads, and
+//! data of a late module. No code runs here: definitions, and laws that the checker computes.
 //!
-//! `closed_jobs` says what it is that a job's meaning and its machine say the same (`BothSay`), and has two jobs, with few
-//! rewritten sequences and two threads at most. Here is the rest, each in both settings:
+//! `closed_jobs` says what it is that a job's meaning and its machine say the same (`BothSay`), and has two jobs, with
+//! few rewritten sequences and two threads at most. Here is the rest, each in both settings:
 //!
 //! ```text
 //! b: data16 lea y@tlsgd(%rip), %rdi                      rewritten: mov %fs:0, %rax
@@ -11,8 +11,8 @@
 //!    ret                                                 meant:     one step
 //! ```
 //!
-//! - `specs/EachForm.antt`: a program with each form of sequence that the jobs of `closed_jobs` leave out, for a variable
-//!   of its own or of a library's; so each of the eight forms is kept in a job, and rewritten in one;
+//! - `specs/EachForm.antt`: a program with each form of sequence that the jobs of `closed_jobs` leave out, for a
+//!   variable of its own or of a library's; so each of the eight forms is kept in a job, and rewritten in one;
 //! - `specs/HandedOver.antt`: a base and a descriptor that one thread puts into data and two others take, and addresses
 //!   in a program that was moved;
 //! - `specs/LateData.antt`: data of a late module, as they are after a reload;
