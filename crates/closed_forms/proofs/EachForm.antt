@@ -4,12 +4,12 @@ use Rattle.std.specs.Prelude.{codes}
 use Rattle.image_file.specs.Spelled.{Spelled}
 use Rattle.link_core.specs.Images.{image_of}
 use Rattle.link_faults.specs.declared.image_kind.ImageKind.TheVariants.{Exe, Start}
-use Rattle.closed_jobs.specs.Worlds.{file, said_in}
+use Rattle.closed_jobs.specs.Worlds.{said_in}
 use Rattle.closed_jobs.proofs.Joined.{both-say, one-linked}
 use Rattle.closed_jobs.proofs.Linked.{linked}
 use Rattle.closed_jobs.proofs.Opened.{meant}
 use Rattle.closed_jobs.proofs.Ran.{ran}
-use Rattle.closed_forms.specs.EachForm.{EachLoads, Loads, answers, calls, links, program, program_object}
+use Rattle.closed_forms.specs.EachForm.{Loads, answers, calls, links, program, program_object}
 use Rattle.closed_forms.specs.Laws.{EachFormSaysTheSame}
 use Rattle.closed_forms.specs.Library.{library, library_object}
 use Rattle.closed_forms.proofs.EachFormImages.{program_kept, program_rewritten}

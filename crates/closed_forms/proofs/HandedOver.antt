@@ -1,9 +1,9 @@
 -- The program of three threads, computed.
-use Rattle.std.proofs.Common.{◌≡◌, Bool, true, false, List, [], ◌∷◌, map, refl}
+use Rattle.std.proofs.Common.{◌≡◌, Bool, true, false, [], ◌∷◌, map, refl}
 use Rattle.image_file.specs.Spelled.{Spelled}
 use Rattle.link_core.specs.Images.{image_of}
 use Rattle.link_faults.specs.declared.image_kind.ImageKind.TheVariants.{Pie, Start}
-use Rattle.closed_jobs.specs.Worlds.{file, said_in}
+use Rattle.closed_jobs.specs.Worlds.{said_in}
 use Rattle.closed_jobs.proofs.Joined.{both-say, one-linked}
 use Rattle.closed_jobs.proofs.Linked.{linked}
 use Rattle.closed_jobs.proofs.Opened.{meant}

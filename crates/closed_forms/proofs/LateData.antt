@@ -1,7 +1,7 @@
 -- The program and the late module that has data, computed.
 use Rattle.std.proofs.Common.{◌≡◌, Bool, true, false, [], ◌∷◌, refl}
 use Rattle.link_faults.specs.declared.image_kind.ImageKind.TheVariants.{Exe, Late}
-use Rattle.closed_jobs.specs.Worlds.{file, said_in}
+use Rattle.closed_jobs.specs.Worlds.{said_in}
 use Rattle.closed_jobs.proofs.Joined.{both-say, one-linked}
 use Rattle.closed_jobs.proofs.Linked.{linked}
 use Rattle.closed_jobs.proofs.Opened.{meant}

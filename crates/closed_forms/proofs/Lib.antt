@@ -6,3 +6,4 @@ mod HandedOverImages
 mod HandedOver
 mod LateDataImages
 mod LateData
+mod NoStack

@@ -1,6 +1,7 @@
 //! Laws of single jobs. The functions do nothing: what they ensure is the law.
 
 ghost use Rattle.closed_forms.specs.Laws.{EachFormSaysTheSame, HandedOverSaysTheSame, LateDataSaysTheSame};
+ghost use Rattle.closed_forms.specs.Laws.{StackIsAskedFirst};
 
 /// Each job of `specs/EachForm.antt`, of one form each, says the same by meaning and by machine, rewritten and kept.
 #[tactic(auto, using(crate::proofs::EachForm::says_the_same))]
@@ -18,4 +19,10 @@ pub fn handed_over_says_the_same()
 #[tactic(auto, using(crate::proofs::LateData::says_the_same))]
 pub fn late_data_says_the_same()
     ensures { LateDataSaysTheSame }
+{}
+
+/// In the job of `specs/NoStack.antt` a sequence that finds no stack is unclean, and no look is made for its variable.
+#[tactic(auto, using(crate::proofs::NoStack::asks_first))]
+pub fn stack_is_asked_first()
+    ensures { StackIsAskedFirst }
 {}

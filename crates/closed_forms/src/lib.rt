@@ -16,6 +16,7 @@
 //! - `specs/HandedOver.antt`: a base and a descriptor that one thread puts into data and two others take, and addresses
 //!   in a program that was moved;
 //! - `specs/LateData.antt`: data of a late module, as they are after a reload;
+//! - `specs/NoStack.antt`: a late module that calls without a stack, which is unclean before anything is looked for;
 //! - `specs/Library.antt`: the library of the first two, which starts with the program.
 //!
 //! Base and descriptor are two numbers in the two settings, and what is said is the same: who takes another thread's

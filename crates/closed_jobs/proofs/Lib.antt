@@ -2,6 +2,7 @@ pub mod Linked
 pub mod Ran
 pub mod Opened
 pub mod Joined
+pub mod Images
 mod LocalCode
 mod Closed
 mod Ranges

@@ -1,5 +1,5 @@
 -- The kept program with local dynamic code and a descriptor: what stands at its sites does what is meant there.
-use Rattle.std.proofs.Common.{◌+◌, ◌-◌, ◌*◌, ◌^◌, ℕ, false, [], ◌∷◌, refl, inl, arith}
+use Rattle.std.proofs.Common.{◌+◌, ◌-◌, ◌*◌, ◌^◌, ℕ, false, refl, inl, arith}
 use Rattle.std.specs.Prelude.{codes}
 use Rattle.amd64_subset.specs.declared.instr.Operation.TheVariants.{Jump, LoadAddress, Call}
 use Rattle.amd64_subset.specs.declared.instr.Target.TheVariants.{Relative, Indirect}

@@ -1,6 +1,6 @@
 -- The program with local dynamic code and a descriptor, in both settings: what each place of it is, and that what is
 -- loaded there is what is meant. Of the 29 places of its code each is computed, and of 8 bytes of its initial image.
-use Rattle.std.proofs.Common.{◌≡◌, ◌∙◌, ◌+◌, ◌-◌, ◌<◌, ◌≤◌, ◌&&◌, ◌||◌, ◌==◌, ◌⊎◌, ℕ, ℤ, Bool, true, false, Option, Some, None, refl, sym, ap, subst, inl, inr, arith}
+use Rattle.std.proofs.Common.{◌≡◌, ◌∙◌, ◌+◌, ◌-◌, ◌&&◌, ◌||◌, ◌==◌, ◌⊎◌, ℕ, ℤ, Bool, true, false, Option, Some, None, refl, sym, ap, inl, inr, arith}
 use Rattle.std.specs.Prelude.{is_none, nat_lt, option_and_then}
 use Rattle.std.proofs.lemmas.Bool.{agree_below, agree_below_at, and_parts, cases_Bool, eqb-true, le-ltb, ltb-true, or_cases}
 use Rattle.guest_machine.specs.Ranges.{byte_in}
@@ -17,19 +17,18 @@ use Rattle.tied_meaning.specs.Numbers.{SameByte}
 use Rattle.whole_meaning.specs.declared.marks.Mark.{Mark}
 use Rattle.whole_meaning.specs.declared.marks.Mark.TheVariants.{Usual, Offset, Address, Inside}
 use Rattle.whole_meaning.specs.declared.sequences.Sequence.{Sequence}
-use Rattle.whole_meaning.specs.Spots.{Spot, moved_spot, spot_in}
+use Rattle.whole_meaning.specs.Spots.{moved_spot, spot_in}
 use Rattle.whole_meaning.specs.Code.{sequence_in, spot_mark}
-use Rattle.closed_jobs.specs.LocalCode.{object, program, links}
+use Rattle.closed_jobs.specs.LocalCode.{program, links}
 use Rattle.closed_jobs.specs.LocalSites.{app, setting}
-use Rattle.closed_jobs.specs.Worlds.{file}
 use Rattle.closed_jobs.proofs.LocalLoads.{m, q}
 use Rattle.closed_jobs.proofs.LocalPlaces.{in_code, in_image, in_room, no_code, none_read, none_run, room_is}
-use Rattle.closed_jobs.proofs.Opened.{opened_meaning}
 use Rattle.closed_jobs.proofs.Ranges.{above_between, between}
 
 -- ** outside of code nothing is marked, and no sequence begins
 
-spot_outside : (relax : Bool) (address : ℕ) → in_code address ≡ false → spot_in (program relax) Executable address ≡ None
+spot_outside : (relax : Bool) (address : ℕ) → in_code address ≡ false
+    → spot_in (program relax) Executable address ≡ None
 unfolding m
 spot_outside true address e = rw e refl
 spot_outside false address e = rw e refl
@@ -50,7 +49,8 @@ unfolding m
 mark_is relax place = refl
 
 sequence_is : (relax : Bool) (place : ℕ) → (m relax).sequence app place
-    ≡ option_and_then (sequence_in (links relax) 1 1 (program relax) place) (moved_spot (program relax) Executable 0 place)
+    ≡ option_and_then (sequence_in (links relax) 1 1 (program relax) place)
+    (moved_spot (program relax) Executable 0 place)
 unfolding m
 sequence_is relax place = refl
 
@@ -106,7 +106,8 @@ meant_code : Bool → ℕ → Option ℕ
 meant_code relax place = option_and_then code_byte (byte_in Run ((m relax).loads.fixed app) place)
 
 fits_code : Bool → ℕ → Bool
-fits_code relax place = is_same_code ((m relax).mark app place) (meant_code relax place) (byte_in Run ((q relax).fixed app) place)
+fits_code relax place =
+    is_same_code ((m relax).mark app place) (meant_code relax place) (byte_in Run ((q relax).fixed app) place)
 
 code_fits : (relax : Bool) → agree_below (λ k. fits_code relax (0x400000 + k)) (λ k. true) 29 ≡ true
 unfolding m q meant_code fits_code
@@ -123,7 +124,8 @@ in_all_code test all place inside =
     ∙ agree_below_at (λ k. test (0x400000 + k)) (λ k. true) 29 (place - 0x400000) all (omega (arith, b.0, b.1))
 
 pub code : (relax : Bool) (place : ℕ) → (m relax).room app place ≡ false
-    → SameCodeByte ((m relax).mark app place) (option_and_then code_byte (byte_in Run ((m relax).loads.fixed app) place))
+    → SameCodeByte ((m relax).mark app place)
+    (option_and_then code_byte (byte_in Run ((m relax).loads.fixed app) place))
     (byte_in Run ((q relax).fixed app) place)
 unfolding meant_code fits_code
 code relax place not_room = elim (cases_Bool (in_code place)) [
@@ -163,7 +165,8 @@ found_alike relax (Some Hidden) (Some b') e = absurd cc
 found_alike relax (Some (Part token k)) (Some b') e = absurd cc
 
 fits_image : Bool → ℕ → Bool
-fits_image relax place = is_found (byte_in Read ((m relax).loads.fixed app) place) (byte_in Read ((q relax).fixed app) place)
+fits_image relax place =
+    is_found (byte_in Read ((m relax).loads.fixed app) place) (byte_in Read ((q relax).fixed app) place)
 
 image_fits : (relax : Bool) → agree_below (λ k. fits_image relax (0x401000 + k)) (λ k. true) 8 ≡ true
 unfolding m q fits_image
@@ -233,8 +236,11 @@ room_unmarked relax place e =
 -- ** sequences
 
 -- one begins at three places
+abbrev is_begin : ℕ → Bool
+is_begin place = (place == 0x400000) || ((place == 0x400013) || (place == 0x40001a))
+
 abbrev begins_there : ℕ → Option Sequence → Bool
-begins_there place found = ((place == 0x400000) || ((place == 0x400013) || (place == 0x40001a))) || is_none found
+begins_there place found = is_begin place || is_none found
 
 fits_sequence : Bool → ℕ → Bool
 fits_sequence relax place = begins_there place ((m relax).sequence app place)
@@ -248,7 +254,7 @@ abbrev pub BeginsThere : ℕ → Type 0
 BeginsThere place = (place ≡ 0x400000) ⊎ ((place ≡ 0x400013) ⊎ (place ≡ 0x40001a))
 
 begins : (place : ℕ) (s : Sequence) (o : Option Sequence) → o ≡ Some s → begins_there place o ≡ true → BeginsThere place
-begins place s o e test = elim (or_cases ((place == 0x400000) || ((place == 0x400013) || (place == 0x40001a))) (is_none o) test) [
+begins place s o e test = elim (or_cases (is_begin place) (is_none o) test) [
   | inl there ↦ elim (or_cases (place == 0x400000) ((place == 0x400013) || (place == 0x40001a)) there) [
     | inl first ↦ inl (eqb-true place 0x400000 first)
     | inr more ↦ elim (or_cases (place == 0x400013) (place == 0x40001a) more) [

@@ -1,5 +1,5 @@
 -- The rewritten program with local dynamic code and a descriptor: what stands at its sites does what is meant there.
-use Rattle.std.proofs.Common.{◌≡◌, ◌-◌, ◌%◌, ◌^◌, ℕ, true, [], ◌∷◌, Some, None, refl, sym, subst, arith}
+use Rattle.std.proofs.Common.{◌≡◌, ◌-◌, ◌%◌, ◌^◌, ℕ, true, Some, None, refl, sym, subst, arith}
 use Rattle.std.specs.Prelude.{codes}
 use Rattle.amd64_subset.specs.declared.instr.Operation.TheVariants.{Nop}
 use Rattle.amd64_words.specs.declared.register.Register.TheVariants.{Rax}

@@ -1,10 +1,10 @@
--- The program with local dynamic code and a descriptor, rewritten and kept: all that is loaded of it is tied to all that
--- is meant. Its job has no events.
-use Rattle.std.proofs.Common.{◌≡◌, ◌∙◌, ◌+◌, ◌-◌, ◌<◌, ◌≤◌, ◌%◌, ◌^◌, ◌++◌, ◌==◌, ℕ, ℤ, zero, suc, Bool, true, false, List, [], ◌∷◌, All, Option, Some, None, length, refl, sym, ap, subst, inl, inr, arith}
-use Rattle.std.specs.Prelude.{IfSome, map, nat_lt, if◌then◌else◌}
+-- The program with local dynamic code and a descriptor, rewritten and kept: all that is loaded of it is tied to all
+-- that is meant. Its job has no events.
+use Rattle.std.proofs.Common.{◌≡◌, ◌∙◌, ◌+◌, ◌-◌, ◌<◌, ◌≤◌, ◌%◌, ◌^◌, ◌==◌, ℕ, Bool, true, false, List, [], ◌∷◌, All, Some, None, length, refl, sym, ap, subst, inl, inr, arith}
+use Rattle.std.specs.Prelude.{map, nat_lt}
 use Rattle.std.specs.List.{list_all}
 use Rattle.std.proofs.lemmas.Bool.{and_parts, cases_Bool, eqb-true, ltb-true}
-use Rattle.std.proofs.lemmas.List.Elements.{All-cons, All-nil, All-same}
+use Rattle.std.proofs.lemmas.List.Elements.{All-cons, All-nil}
 use Rattle.amd64_subset.specs.Spelling.{field_of}
 use Rattle.guest_machine.specs.Follow.{All2}
 use Rattle.job_meaning.specs.declared.values.Block.{Block}
@@ -17,8 +17,8 @@ use Rattle.thread_blocks.specs.Instances.{Loads, instances, instances_in, instan
 use Rattle.thread_blocks.specs.TurnsAlike.{IsFront}
 use Rattle.tied_meaning.specs.Numbers.{Setting, IsMade, SameByte, base_number}
 use Rattle.tied_meaning.specs.Sites.{Stands}
-use Rattle.tied_meaning.specs.Ties.{AreTied, HasFourBytes, IsTied, SameShared}
-use Rattle.whole_meaning.specs.declared.marks.Mark.TheVariants.{Offset, Address}
+use Rattle.tied_meaning.specs.Ties.{AreTied, HasFourBytes, IsTied}
+use Rattle.whole_meaning.specs.declared.marks.Mark.TheVariants.{Offset}
 use Rattle.whole_meaning.specs.declared.sequences.Sequence.{Sequence}
 use Rattle.whole_meaning.specs.Loads.{meaning_of}
 use Rattle.whole_meaning.specs.Meanings.{Meaning}
@@ -92,11 +92,14 @@ sites relax place s e = at_place (marks.sequence_places relax place s e)
 
     at_place : marks.BeginsThere place → Stands (setting relax) (q relax) app place s
     at_place (inl here) =
-        subst Found (sym here) (λ e. meant_at relax 0x400000 s base e (ties relax).base.meant (ties relax).base.stands) e
+        subst Found (sym here)
+        (λ e. meant_at relax 0x400000 s base e (ties relax).base.meant (ties relax).base.stands) e
     at_place (inr (inl here)) =
-        subst Found (sym here) (λ e. meant_at relax 0x400013 s lea e (ties relax).lea.meant (ties relax).lea.stands) e
+        subst Found (sym here)
+        (λ e. meant_at relax 0x400013 s lea e (ties relax).lea.meant (ties relax).lea.stands) e
     at_place (inr (inr here)) =
-        subst Found (sym here) (λ e. meant_at relax 0x40001a s call e (ties relax).call.meant (ties relax).call.stands) e
+        subst Found (sym here)
+        (λ e. meant_at relax 0x40001a s call e (ties relax).call.meant (ties relax).call.stands) e
 
 -- ** the instance
 

@@ -1,9 +1,9 @@
 -- The program and the late module that another thread closes, computed.
-use Rattle.std.proofs.Common.{◌≡◌, Bool, true, false, List, [], ◌∷◌, refl}
+use Rattle.std.proofs.Common.{◌≡◌, Bool, true, false, [], ◌∷◌, refl}
 use Rattle.image_file.specs.Spelled.{Spelled}
 use Rattle.link_faults.specs.declared.image_kind.ImageKind.TheVariants.{Exe, Late}
 use Rattle.closed_jobs.specs.Laws.{ReopenedSaysTheSame}
-use Rattle.closed_jobs.specs.Worlds.{file, said_in}
+use Rattle.closed_jobs.specs.Worlds.{said_in}
 use Rattle.closed_jobs.specs.Reopened.{program_object, module_object, program, late, links, lines, order, says}
 use Rattle.closed_jobs.proofs.ReopenedImages.{late_image, program_kept, program_rewritten}
 use Rattle.closed_jobs.proofs.Joined.{both-say, one-linked}

@@ -11,21 +11,22 @@ use Rattle.tied_meaning.specs.Numbers.{Setting}
 use Rattle.tied_meaning.specs.Sites.{AsksForOwnBlock, HasInstruction, KeptAs, Stands, WrittenAs}
 use Rattle.whole_meaning.specs.declared.sequences.Sequence.{Sequence}
 
-module _ (g : Setting) (q : Loads ℕ) (x : Instance) (place : ℕ) (s : Sequence) (base : AsksForOwnBlock g q x place s s.form)
-    (own : s.instance ≡ x.number) (ends : s.next ≡ place + form_length s.form) (target : s.target ≡ x.number) where
-  pub kept : KeptAs g q x place s s.form → Stands g q x place s
-  kept is = record { base = base; own = own; ends = ends; asked = inl target; stands = inl is }
+module _ (g : Setting) (q : Loads ℕ) (x : Instance) (place : ℕ) (s : Sequence) where
+  module _ (base : AsksForOwnBlock g q x place s s.form) (own : s.instance ≡ x.number) where
+    module _ (ends : s.next ≡ place + form_length s.form) (target : s.target ≡ x.number) where
+      pub kept : KeptAs g q x place s s.form → Stands g q x place s
+      kept is = record { base = base; own = own; ends = ends; asked = inl target; stands = inl is }
 
-  pub written : (choice : Choice) (reg number : ℕ) (d : Decoded) → new_instructions s.form choice reg number ≡ d ∷ []
-      → HasInstruction q x place d → x.number ≡ 1 → s.target ≤ startup_count q.infos
-      → WrittenAs g q x place s s.form choice reg number → Stands g q x place s
-  written choice reg number d one there program early is = record {
-    base = base;
-    own = own;
-    ends = ends;
-    asked = inl target;
-    stands = inr (
-      choice,
-      (reg, (number, (record { code = rw one (there, tt); program = program; early = early }, is))),
-    );
-  }
+      pub written : (choice : Choice) (reg number : ℕ) (d : Decoded)
+          → new_instructions s.form choice reg number ≡ d ∷ [] → HasInstruction q x place d → x.number ≡ 1
+          → s.target ≤ startup_count q.infos → WrittenAs g q x place s s.form choice reg number → Stands g q x place s
+      written choice reg number d one there program early is = record {
+        base = base;
+        own = own;
+        ends = ends;
+        asked = inl target;
+        stands = inr (
+          choice,
+          (reg, (number, (record { code = rw one (there, tt); program = program; early = early }, is))),
+        );
+      }

@@ -21,10 +21,10 @@
 //!
 //! Two laws run both worlds ([`laws::local_code_says_the_same`], [`laws::reopened_says_the_same`]). One takes the
 //! image of the picture apart ([`laws::local_code_is_tied`]): where a sequence is meant there stands, in the machine's
-//! words, what does the same, and the offset field moves the base of each thread's block to one address. The fourth goes
-//! through all that is loaded of that job ([`laws::local_job_is_tied`]): each byte of code and of the initial image, each
-//! name, where everything lies, and which instance there is. So what the laws of whole jobs ask of links (`AreTied`) is
-//! true of one.
+//! words, what does the same, and the offset field moves the base of each thread's block to one address. The fourth
+//! goes through all that is loaded of that job ([`laws::local_job_is_tied`]): each byte of code and of the initial
+//! image, each name, where everything lies, and which instance there is. So what the laws of whole jobs ask of links
+//! (`AreTied`) is true of one.
 //!
 //! The links are computed too, byte for byte. Where a module is loaded twice its image is written down beside, so that
 //! it is linked once.

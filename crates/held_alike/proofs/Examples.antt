@@ -1,6 +1,6 @@
 -- The example of the crate's essay: thread 1 of a program with 8 bytes of thread-local storage, which hold the base of
 -- the thread's own block, as an image with rewritten local dynamic code has it, and as one with kept code has it.
-use Rattle.std.proofs.Common.{◌≡◌, ◌==◌, ℕ, Bool, true, false, List, [], ◌∷◌, Some, None, map, refl}
+use Rattle.std.proofs.Common.{◌==◌, ℕ, Bool, true, false, List, [], ◌∷◌, Some, None, map, refl}
 use Rattle.std.specs.Prelude.{if◌then◌else◌}
 use Rattle.std.proofs.lemmas.List.Elements.{All-cons, All-nil}
 use Rattle.guest_arithmetic.specs.Values.{digit}
