@@ -30,109 +30,65 @@ linked_all : (relax : Bool) → map image_of (links relax) ≡ program_image rel
 linked_all relax = one-linked (program relax) (program_image relax) (library relax ∷ []) (library_image ∷ [])
     (linked_program relax) (one-linked (library relax) library_image [] [] (linked_library relax) refl)
 
--- what is meant, and what the images do, one call after the other
+-- what is meant, in any setting, and what the images do, one call after the other
 
 abbrev Meant : Bool → List ℕ → ℕ → Type 0
-Meant relax name number = said_in (meant (links relax) 4 (calls name) []) ≡ answers number
+Meant relax name number = said_in (meant (links relax) 8 (calls name) []) ≡ answers number
 
-abbrev Runs : Bool → List ℕ → ℕ → Type 0
-Runs relax name number =
-    said_in (ran (Exe ∷ Start ∷ []) (program_image relax ∷ library_image ∷ []) 4 (calls name) []) ≡ answers number
+abbrev Does : Spelled → List ℕ → ℕ → Type 0
+Does image name number =
+    said_in (ran (Exe ∷ Start ∷ []) (image ∷ library_image ∷ []) 8 (calls name) []) ≡ answers number
 
-loads : (relax : Bool) (name : List ℕ) (number : ℕ) → Meant relax name number → Runs relax name number
-    → Loads relax name number
+does : (relax : Bool) (name : List ℕ) (number : ℕ) → Does program_rewritten name number
+    → Does program_kept name number → Does (program_image relax) name number
+does true name number rewritten kept = rewritten
+does false name number rewritten kept = kept
+
+loads : (relax : Bool) (name : List ℕ) (number : ℕ) → Meant relax name number → Does program_rewritten name number
+    → Does program_kept name number → Loads relax name number
 unfolding program library
-loads relax name number m r = both-say (links relax) (program_image relax ∷ library_image ∷ []) 4 (calls name) []
-    (answers number) (linked_all relax) m r
+loads relax name number m r k = both-say (links relax) (program_image relax ∷ library_image ∷ []) 8 (calls name) []
+    (answers number) (linked_all relax) m (does relax name number r k)
 
-gd_meant : (relax : Bool) → Meant relax (codes "a") 7
+general_meant : (relax : Bool) → Meant relax (codes "a") 13
 unfolding meant program library program_object library_object
-gd_meant true = refl
-gd_meant false = refl
+general_meant relax = refl
 
-gd_runs : (relax : Bool) → Runs relax (codes "a") 7
-unfolding ran program_rewritten program_kept library_image
-gd_runs true = refl
-gd_runs false = refl
+general_rewritten : Does program_rewritten (codes "a") 13
+unfolding ran program_rewritten library_image
+general_rewritten = refl
 
-gd_ind_meant : (relax : Bool) → Meant relax (codes "b") 6
+general_kept : Does program_kept (codes "a") 13
+unfolding ran program_kept library_image
+general_kept = refl
+
+local_meant : (relax : Bool) → Meant relax (codes "b") 12
 unfolding meant program library program_object library_object
-gd_ind_meant true = refl
-gd_ind_meant false = refl
+local_meant relax = refl
 
-gd_ind_runs : (relax : Bool) → Runs relax (codes "b") 6
-unfolding ran program_rewritten program_kept library_image
-gd_ind_runs true = refl
-gd_ind_runs false = refl
+local_rewritten : Does program_rewritten (codes "b") 12
+unfolding ran program_rewritten library_image
+local_rewritten = refl
 
-ld_ind_meant : (relax : Bool) → Meant relax (codes "c") 6
+local_kept : Does program_kept (codes "b") 12
+unfolding ran program_kept library_image
+local_kept = refl
+
+described_meant : (relax : Bool) → Meant relax (codes "c") 13
 unfolding meant program library program_object library_object
-ld_ind_meant true = refl
-ld_ind_meant false = refl
+described_meant relax = refl
 
-ld_ind_runs : (relax : Bool) → Runs relax (codes "c") 6
-unfolding ran program_rewritten program_kept library_image
-ld_ind_runs true = refl
-ld_ind_runs false = refl
+described_rewritten : Does program_rewritten (codes "c") 13
+unfolding ran program_rewritten library_image
+described_rewritten = refl
 
-desc_meant : (relax : Bool) → Meant relax (codes "d") 7
-unfolding meant program library program_object library_object
-desc_meant true = refl
-desc_meant false = refl
-
-desc_runs : (relax : Bool) → Runs relax (codes "d") 7
-unfolding ran program_rewritten program_kept library_image
-desc_runs true = refl
-desc_runs false = refl
-
-ie_mov_meant : (relax : Bool) → Meant relax (codes "e") 6
-unfolding meant program library program_object library_object
-ie_mov_meant true = refl
-ie_mov_meant false = refl
-
-ie_mov_runs : (relax : Bool) → Runs relax (codes "e") 6
-unfolding ran program_rewritten program_kept library_image
-ie_mov_runs true = refl
-ie_mov_runs false = refl
-
-ie_add_meant : (relax : Bool) → Meant relax (codes "f") 6
-unfolding meant program library program_object library_object
-ie_add_meant true = refl
-ie_add_meant false = refl
-
-ie_add_runs : (relax : Bool) → Runs relax (codes "f") 6
-unfolding ran program_rewritten program_kept library_image
-ie_add_runs true = refl
-ie_add_runs false = refl
-
-ie_add_r12_meant : (relax : Bool) → Meant relax (codes "g") 6
-unfolding meant program library program_object library_object
-ie_add_r12_meant true = refl
-ie_add_r12_meant false = refl
-
-ie_add_r12_runs : (relax : Bool) → Runs relax (codes "g") 6
-unfolding ran program_rewritten program_kept library_image
-ie_add_r12_runs true = refl
-ie_add_r12_runs false = refl
-
-ie_add_shared_meant : (relax : Bool) → Meant relax (codes "h") 7
-unfolding meant program library program_object library_object
-ie_add_shared_meant true = refl
-ie_add_shared_meant false = refl
-
-ie_add_shared_runs : (relax : Bool) → Runs relax (codes "h") 7
-unfolding ran program_rewritten program_kept library_image
-ie_add_shared_runs true = refl
-ie_add_shared_runs false = refl
+described_kept : Does program_kept (codes "c") 13
+unfolding ran program_kept library_image
+described_kept = refl
 
 pub says_the_same : EachFormSaysTheSame
 says_the_same relax = record {
-  gd = loads relax (codes "a") 7 (gd_meant relax) (gd_runs relax);
-  gd_ind = loads relax (codes "b") 6 (gd_ind_meant relax) (gd_ind_runs relax);
-  ld_ind = loads relax (codes "c") 6 (ld_ind_meant relax) (ld_ind_runs relax);
-  desc = loads relax (codes "d") 7 (desc_meant relax) (desc_runs relax);
-  ie_mov = loads relax (codes "e") 6 (ie_mov_meant relax) (ie_mov_runs relax);
-  ie_add = loads relax (codes "f") 6 (ie_add_meant relax) (ie_add_runs relax);
-  ie_add_r12 = loads relax (codes "g") 6 (ie_add_r12_meant relax) (ie_add_r12_runs relax);
-  ie_add_shared = loads relax (codes "h") 7 (ie_add_shared_meant relax) (ie_add_shared_runs relax);
+  general = loads relax (codes "a") 13 (general_meant relax) general_rewritten general_kept;
+  local = loads relax (codes "b") 12 (local_meant relax) local_rewritten local_kept;
+  described = loads relax (codes "c") 13 (described_meant relax) described_rewritten described_kept;
 }

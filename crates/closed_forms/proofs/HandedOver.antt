@@ -33,8 +33,7 @@ linked_all relax = one-linked (program relax) (program_image relax) (library rel
 
 meant_says : (relax : Bool) → said_in (meant (links relax) 6 lines order) ≡ says
 unfolding meant program library program_object library_object
-meant_says true = refl
-meant_says false = refl
+meant_says relax = refl
 
 run_rewritten : said_in (ran (Pie ∷ Start ∷ []) (program_rewritten ∷ library_image ∷ []) 6 lines order)
     ≡ says
@@ -55,14 +54,22 @@ run_says false = run_kept
 
 reading_meant : (relax : Bool) → said_in (meant (links relax) 7 reading []) ≡ says_of_reading
 unfolding meant program library program_object library_object
-reading_meant true = refl
-reading_meant false = refl
+reading_meant relax = refl
+
+reading_rewritten : said_in (ran (Pie ∷ Start ∷ []) (program_rewritten ∷ library_image ∷ []) 7 reading [])
+    ≡ says_of_reading
+unfolding ran program_rewritten library_image
+reading_rewritten = refl
+
+reading_kept : said_in (ran (Pie ∷ Start ∷ []) (program_kept ∷ library_image ∷ []) 7 reading [])
+    ≡ says_of_reading
+unfolding ran program_kept library_image
+reading_kept = refl
 
 reading_runs : (relax : Bool)
     → said_in (ran (Pie ∷ Start ∷ []) (program_image relax ∷ library_image ∷ []) 7 reading []) ≡ says_of_reading
-unfolding ran program_rewritten program_kept library_image
-reading_runs true = refl
-reading_runs false = refl
+reading_runs true = reading_rewritten
+reading_runs false = reading_kept
 
 pub says_the_same : HandedOverSaysTheSame
 unfolding program library

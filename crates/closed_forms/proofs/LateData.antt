@@ -22,8 +22,7 @@ linked_late false = refl
 
 meant_says : (relax : Bool) → said_in (meant (links relax) 3 lines order) ≡ says
 unfolding meant program late program_object module_object
-meant_says true = refl
-meant_says false = refl
+meant_says relax = refl
 
 run_says : said_in (ran (Exe ∷ Late ∷ []) (program_image ∷ late_image ∷ []) 3 lines order) ≡ says
 unfolding ran program_image late_image

@@ -3,7 +3,7 @@
 ghost use Rattle.closed_forms.specs.Laws.{EachFormSaysTheSame, HandedOverSaysTheSame, LateDataSaysTheSame};
 ghost use Rattle.closed_forms.specs.Laws.{StackIsAskedFirst};
 
-/// Each job of `specs/EachForm.antt`, of one form each, says the same by meaning and by machine, rewritten and kept.
+/// Each job of `specs/EachForm.antt` says the same by meaning and by machine, rewritten and kept.
 #[tactic(auto, using(crate::proofs::EachForm::says_the_same))]
 pub fn each_form_says_the_same()
     ensures { EachFormSaysTheSame }

@@ -5,10 +5,10 @@
 //! few rewritten sequences and two threads at most. Here is the rest, each in both settings:
 //!
 //! ```text
-//! b: data16 lea y@tlsgd(%rip), %rdi                      rewritten: mov %fs:0, %rax
-//!    data16 rex64 call *__tls_get_addr@GOTPCREL(%rip)               lea -4(%rax), %rax
-//!    mov (%rax), %eax                                    kept:      the object's own
-//!    ret                                                 meant:     one step
+//! data16 lea y@tlsgd(%rip), %rdi                      rewritten: mov %fs:0, %rax
+//! data16 rex64 call *__tls_get_addr@GOTPCREL(%rip)               lea -4(%rax), %rax
+//!                                                     kept:      the object's own
+//!                                                     meant:     one step
 //! ```
 //!
 //! - `specs/EachForm.antt`: a program with each form of sequence that the jobs of `closed_jobs` leave out, for a
