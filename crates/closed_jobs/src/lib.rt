@@ -25,9 +25,8 @@
 //! words, what does the same, and the offset field moves the base of each thread's block to one address. The fourth
 //! goes through all that is loaded of that job ([`laws::local_job_is_tied`]): each byte of code and of the initial
 //! image, each name, where everything lies, and which instance there is. So what the laws of whole jobs ask of links
-//! (`AreTied`) is true of one. And
-//! one has the words of three tables as numbers, by what is loaded and by the definition that says what each entry holds
-//! ([`laws::tables_hold_their_words`]).
+//! (`AreTied`) is true of one. The fifth has the words of three tables as numbers, by what is loaded and by the definition
+//! that says what each entry holds ([`laws::tables_hold_their_words`]).
 //!
 //! The links are computed too, byte for byte. Where a module is loaded twice its image is written down beside, so that
 //! it is linked once.

@@ -1,5 +1,5 @@
 -- What is loaded of a job's linked images, and what is printed of them, by what their objects mean.
-use Rattle.std.specs.Prelude.{◌≡◌, ◌⊎◌, ◌≤◌, ℕ, List, length, None}
+use Rattle.std.specs.Prelude.{◌≡◌, ◌≤◌, ℕ, List, length, None}
 use Rattle.job_text.specs.declared.thread_lines.ThreadLine.{ThreadLine}
 use Rattle.link_needs.specs.Linking.{Linking}
 use Rattle.loaded_bytes.specs.Laws.{images_of}
@@ -7,15 +7,11 @@ use Rattle.module_table.specs.declared.events.Event.{Event}
 use Rattle.module_table.specs.History.{IsLegal}
 use Rattle.thread_blocks.specs.JobLoads.{job_loads}
 use Rattle.thread_blocks.specs.JobWorlds.{job_world}
-use Rattle.thread_blocks.specs.Lines.{event_by}
-use Rattle.thread_blocks.specs.RunTime.{thread_turns}
-use Rattle.thread_blocks.specs.TurnsAlike.{HasUnclean, IsFront}
 use Rattle.whole_meaning.specs.Jobs.{lines_of, meant_world, verdict_of}
 use Rattle.whole_meaning.specs.Loads.{meaning_of}
-use Rattle.order_laws.specs.Alike.{AtHistory}
 use Rattle.tied_fields.specs.Settings.{setting_of}
 use Rattle.tied_meaning.specs.Ties.{AreTied}
-use Rattle.begin_alike.specs.Laws.{all_said, first_thread, meant_thread, runs_thread}
+use Rattle.begin_alike.specs.Laws.{ThreadPrints, all_said}
 use Rattle.linked_jobs.specs.Ready.{AreReady}
 
 -- ** what is loaded
@@ -33,7 +29,7 @@ pub record AreJob (ls : List Linking) : Type 0 where
   pub ready : AreReady ls
   pub few : length ls ≤ 64
 
--- a clean job prints what it means, in any order of its threads' turns
+-- a clean job prints what it means, in any order of its threads' turns: its events, and its lines, thread by thread
 abbrev pub LinkedJobsPrint : Type 0
 LinkedJobsPrint = (ls : List Linking) (fuel : ℕ) (lines : List (List ThreadLine)) (order : List ℕ) → AreJob ls
     → length lines ≤ 64 → verdict_of (lines_of (meant_world (meaning_of ls) fuel lines order)) ≡ None
@@ -44,9 +40,4 @@ LinkedJobsPrint = (ls : List Linking) (fuel : ℕ) (lines : List (List ThreadLin
 abbrev pub LinkedThreadsPrint : Type 0
 LinkedThreadsPrint = (ls : List Linking) (history : List Event) → AreReady ls
     → IsLegal (job_loads (images_of ls)).infos (job_loads (images_of ls)).last_offset history
-    → (fuel thread : ℕ) → 1 ≤ thread → thread ≤ 64 → (lines : List ThreadLine) (points : List (List Event))
-    → AtHistory (thread_turns (job_loads (images_of ls)) thread fuel) (event_by (job_loads (images_of ls)) thread)
-    (λ seen. IsFront seen history) (first_thread (job_loads (images_of ls)) thread lines) points
-    → HasUnclean (meant_thread (meaning_of ls) fuel thread lines points).said
-    ⊎ ((runs_thread (job_loads (images_of ls)) fuel thread lines points).said
-    ≡ (meant_thread (meaning_of ls) fuel thread lines points).said)
+    → ThreadPrints (meaning_of ls) (job_loads (images_of ls)) history

@@ -25,11 +25,15 @@
 //! [`laws::meant_data_are_last_left`]), where a byte may be unknown, or a part of an address. All turns of a job are
 //! such turns ([`laws::jobs_are_orders`], [`laws::meanings_are_orders`]).
 //!
-//! Which bytes a step writes no definition of a step says: it is a function of registers and memory. So the same step
-//! is made over a memory that notes each store as it is made (`noting`). To note changes nothing
-//! ([`laws::notes_follow_the_machine`], [`laws::notes_follow_the_meaning`]). A store goes to the first range that may
-//! be written at its place: the thread's stack, one of its blocks, or data, whose owner and start give instance and
-//! offset.
+//! These laws are of places of data, and which these are is a law of its own ([`laws::data_are_there`],
+//! [`laws::meant_data_are_there`]): byte k of the data of an instance is at place k of the range in which a thread holds
+//! them, if nothing else that it holds lies there. Of a live instance it holds them in the range that the load fills; after
+//! a load as the loader fills them, and after a look as they were before.
+//!
+//! Which bytes a step writes no definition of a step says: it is a function of registers and memory. So the same step is
+//! made over a memory that notes each store as it is made (`noting`). To note changes nothing
+//! ([`laws::notes_follow_the_machine`], [`laws::notes_follow_the_meaning`]). A store goes to the first range that may be
+//! written at its place: the thread's stack, one of its blocks, or data, whose owner and start give instance and offset.
 //!
 //! The premise is what every job has: what is known of its images is in order. With it no two live instances have one
 //! number, which is what a change is told by.

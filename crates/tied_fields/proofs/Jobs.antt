@@ -44,7 +44,7 @@ module _ (ls : List Linking) (history : List Event) (ready : IsReady ls history)
 
     link : (l : Linking) × (at_number ls x.image ≡ Some l)
     link =
-        let live = known_live (job_loads (images_of ls)) history ready.legal x.number x e in
+        let live = known_live (job_loads (images_of ls)) history x.number x e in
         let placed = placed_in (job_loads (images_of ls)) history ready.legal live.seen x.number x live.front live.live in
         let many : length (job_loads (images_of ls)).infos ≡ length ls =
         ap (λ (infos : List ImageInfo). length infos) (infos_loaded ls).0 ∙ length-map ls info_of in

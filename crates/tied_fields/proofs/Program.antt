@@ -67,7 +67,7 @@ module _ (ls : List Linking) (history : List Event) (l : Linking) (x : Instance)
 
   low_is : (o : ℕ) → x.offset ≡ Some o → o < 2 ^ 28
   low_is o e =
-      let live = known_live (job_loads (images_of ls)) history known.legal x.number x known.known in
+      let live = known_live (job_loads (images_of ls)) history x.number x known.known in
       let placed = placed_in (job_loads (images_of ls)) history known.legal live.seen x.number x live.front live.live in
       (subst (λ (found : Option ℕ). IfSome found (λ (n : ℕ). (n < 2 ^ 28)
       × ((get_or (job_loads (images_of ls)).infos placed.index no_module.info).size ≤ n))) e placed.offset).0
@@ -85,6 +85,6 @@ module _ (ls : List Linking) (history : List Event) (l : Linking) (x : Instance)
   -- and the instance of number 1
   pub numbered_one : x.number ≡ 1 → IsProgram l x
   numbered_one number =
-      let given = known_given (job_loads (images_of ls)) history known.legal x.number x known.known in
+      let given = known_given (job_loads (images_of ls)) history x.number x known.known in
       let image : x.image ≡ 1 = given.image (omega (arith, number, count)) ∙ number in
       linked_program (first_is ls l known.program (ap (at_number ls) (sym image) ∙ is.image))
