@@ -85,6 +85,6 @@ module _ (ls : List Linking) (history : List Event) (l : Linking) (x : Instance)
   -- and the instance of number 1
   pub numbered_one : x.number ≡ 1 → IsProgram l x
   numbered_one number =
-      let given = known_given (job_loads (images_of ls)) history x.number x known.known in
+      let given = known_given (job_loads (images_of ls)) history known.legal x.number x known.known in
       let image : x.image ≡ 1 = given.image (omega (arith, number, count)) ∙ number in
       linked_program (first_is ls l known.program (ap (at_number ls) (sym image) ∙ is.image))

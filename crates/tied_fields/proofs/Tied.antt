@@ -72,7 +72,7 @@ module _ (ls : List Linking) (history : List Event) (l : Linking) (x : Instance)
 pub instances_tied : InstancesAreTied
 unfolding meaning_of
 instances_tied ls history l x bytes known is stand =
-    let given = known_given (job_loads (images_of ls)) history x.number x known.known in
+    let given = known_given (job_loads (images_of ls)) history known.legal x.number x known.known in
     let there = lies_there ls history l x known is in
     record {
       known = known.known;
