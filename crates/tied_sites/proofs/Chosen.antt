@@ -1,0 +1,139 @@
+-- What is chosen for a site, and what the site needs for it.
+use Rattle.std.proofs.Common.{◌≡◌, ◌∙◌, ◌<◌, ◌&&◌, ℕ, Bool, true, false, [], ◌∷◌, Option, Some}
+use Rattle.std.proofs.Common.{length}
+use Rattle.std.proofs.Common.{refl, sym, ap, subst, arith, if◌then◌else◌}
+use Rattle.std.specs.Prelude.{option_and_then, option_map}
+use Rattle.std.specs.List.{Contains}
+use Rattle.std.proofs.lemmas.List.Elements.{Contains-append_left, Contains-append_right}
+use Rattle.elf_object.specs.declared.relocation.Relocation.{Relocation}
+use Rattle.elf_records.specs.declared.relocation.RelocationKind.{RelocationKind}
+use Rattle.elf_records.specs.declared.relocation.RelocationKind.TheVariants.{TlsGd, TlsLd, GotTpOff, GotPc32TlsDesc}
+use Rattle.got_pairs.specs.declared.need.Need.{Need}
+use Rattle.got_pairs.specs.declared.need.Need.TheVariants.{ModulePair, SymbolPair, Descriptor, SymbolWord, RuntimeWord}
+use Rattle.got_pairs.specs.declared.need.Target.{Target}
+use Rattle.link_core.proofs.TogetherRows.{chosen_kept, chosen_taken, taken}
+use Rattle.link_faults.specs.declared.binding.Binding.{Binding}
+use Rattle.link_faults.specs.ImageKinds.{is_module}
+use Rattle.link_needs.specs.Given.{IsGiven}
+use Rattle.link_needs.specs.Linking.{Linking, binding, choice, sites_at}
+use Rattle.link_needs.specs.Needs.{as_list, calls, is_kept, need_by, new_relocation, reaching}
+use Rattle.link_needs.specs.Needs.{relocation_need, site_needs, target_by}
+use Rattle.link_needs.specs.Values.{is_rewriting}
+use Rattle.relax_sites.specs.declared.choices.Choice.{Choice}
+use Rattle.relax_sites.specs.declared.choices.Choice.TheVariants.{Keep}
+use Rattle.relax_sites.specs.declared.rows.NewField.{NewField}
+use Rattle.relax_sites.specs.Rows.{new_field}
+use Rattle.sequence_forms.specs.declared.forms.Form.{Form}
+use Rattle.sequence_forms.specs.declared.places.Site.{Site}
+use Rattle.sequence_forms.specs.Forms.{row}
+use Rattle.sequence_match.specs.Sites.{first_of}
+use Rattle.tied_sites.proofs.Needed.{HasEntry, entry_has}
+
+pub kept_is : (choice : Choice) → is_kept choice ≡ true → choice ≡ Keep
+kept_is Keep e = refl
+kept_is choice e = absurd (cc)
+
+-- ** where programs are rewritten
+
+rewrites_program : (l : Linking) → is_rewriting l ≡ true → is_module l.kind ≡ false
+rewrites_program l e = of_test (is_module l.kind) e
+  where
+    of_test : (t : Bool) → (if t then false else l.relax) ≡ true → t ≡ false
+    of_test true e = absurd (cc)
+    of_test false e = refl
+
+module _ (l : Linking) (o : ℕ) (site : Site) where
+  -- a site that is not kept is one of a program that is rewritten
+  pub rewriting : is_kept (choice l o site) ≡ false → is_rewriting l ≡ true
+  unfolding choice
+  rewriting off = of_test (is_rewriting l) refl
+    where
+      of_test : (t : Bool) → is_rewriting l ≡ t → is_rewriting l ≡ true
+      of_test true e = e
+      of_test false e =
+          let kept = chosen_kept l site.form (binding l o (first_of site)) e in absurd (cc)
+
+  pub in_program : is_kept (choice l o site) ≡ false → is_module l.kind ≡ false
+  in_program off = rewrites_program l (rewriting off)
+
+  -- the choice, by what the site is bound to
+  pub choice_is : is_kept (choice l o site) ≡ false → (bound : Option Binding) → binding l o (first_of site) ≡ bound
+      → (form : Form) → site.form ≡ form → choice l o site ≡ taken form bound
+  unfolding choice
+  choice_is off bound e form is =
+      chosen_taken l site.form (binding l o (first_of site)) (rewriting off)
+      ∙ ap (taken site.form) e ∙ ap (λ f. taken f bound) is
+
+  -- ** needs
+
+  needs_reached : (r : Option Relocation) (need : Need) → reaching site (choice l o site) ≡ r
+      → option_and_then (relocation_need l o) r ≡ Some need → Contains (site_needs l o site) need
+  unfolding site_needs
+  needs_reached r need reach e =
+      let listed : as_list (option_and_then (relocation_need l o) (reaching site (choice l o site))) ≡ need ∷ [] =
+      ap (λ found. as_list (option_and_then (relocation_need l o) found)) reach ∙ ap as_list e in
+      Contains-append_left (as_list (option_and_then (relocation_need l o) (reaching site (choice l o site))))
+      (if is_kept (choice l o site) && calls site.form then RuntimeWord ∷ [] else []) need
+      (subst (λ xs. Contains xs need) (sym listed) (0, omega arith, refl))
+
+  needs_runtime : is_kept (choice l o site) ≡ true → calls site.form ≡ true → Contains (site_needs l o site) RuntimeWord
+  unfolding site_needs
+  needs_runtime kept call =
+      let listed : (if is_kept (choice l o site) && calls site.form then RuntimeWord ∷ [] else []) ≡ RuntimeWord ∷ [] =
+      rw (kept, call) refl in
+      Contains-append_right (as_list (option_and_then (relocation_need l o) (reaching site (choice l o site))))
+      (if is_kept (choice l o site) && calls site.form then RuntimeWord ∷ [] else []) RuntimeWord
+      (subst (λ xs. Contains xs RuntimeWord) (sym listed) (0, omega arith, refl))
+
+  module _ (given : IsGiven l) (there : o < length l.objects) (own : Contains (sites_at l o) site) where
+    -- of a site that is kept
+    pub kept_entry : is_kept (choice l o site) ≡ true → (need : Need) → relocation_need l o (first_of site) ≡ Some need
+        → HasEntry l need
+    kept_entry kept need e =
+        entry_has l given o site need there own
+        (needs_reached (Some (first_of site)) need (ap (reaching site) (kept_is (choice l o site) kept)) e)
+
+    pub runtime_entry : is_kept (choice l o site) ≡ true → calls site.form ≡ true → HasEntry l RuntimeWord
+    runtime_entry kept call = entry_has l given o site RuntimeWord there own (needs_runtime kept call)
+
+    -- of one that is rewritten
+    pub new_entry : is_kept (choice l o site) ≡ false → (f : NewField) → new_field site.form (choice l o site) ≡ Some f
+        → (need : Need) → relocation_need l o (new_relocation site f) ≡ Some need → HasEntry l need
+    new_entry off f new need e =
+        entry_has l given o site need there own
+        (needs_reached (Some (new_relocation site f)) need
+        (by_choice (choice l o site) off ∙ ap (option_map (new_relocation site)) new) e)
+      where
+        by_choice : (c : Choice) → is_kept c ≡ false
+            → reaching site c ≡ option_map (new_relocation site) (new_field site.form c)
+        by_choice Keep off = absurd (cc)
+        by_choice c off = refl
+
+  -- ** of which sort they are
+
+  needs_by : (kind : RelocationKind) → (row site.form).first ≡ kind
+      → relocation_need l o (first_of site) ≡ need_by l o site.symbol (binding l o (first_of site)) kind
+  unfolding relocation_need
+  needs_by kind e = ap (need_by l o site.symbol (binding l o (first_of site))) e
+
+  module _ (t : Target) (is : target_by l o site.symbol (binding l o (first_of site)) ≡ Some t) where
+    pub needs_pair : (row site.form).first ≡ TlsGd → relocation_need l o (first_of site) ≡ Some (SymbolPair t)
+    needs_pair e = needs_by TlsGd e ∙ ap (option_map SymbolPair) is
+
+    pub needs_word : (row site.form).first ≡ GotTpOff → relocation_need l o (first_of site) ≡ Some (SymbolWord t)
+    needs_word e = needs_by GotTpOff e ∙ ap (option_map SymbolWord) is
+
+    pub needs_descriptor : (row site.form).first ≡ GotPc32TlsDesc
+        → relocation_need l o (first_of site) ≡ Some (Descriptor t)
+    needs_descriptor e = needs_by GotPc32TlsDesc e ∙ ap (option_map Descriptor) is
+
+  pub needs_module : (row site.form).first ≡ TlsLd → relocation_need l o (first_of site) ≡ Some ModulePair
+  needs_module e = needs_by TlsLd e
+
+  -- the word of a new field
+  pub new_word : (f : NewField) (t : Target) → f.kind ≡ GotTpOff
+      → target_by l o site.symbol (binding l o (new_relocation site f)) ≡ Some t
+      → relocation_need l o (new_relocation site f) ≡ Some (SymbolWord t)
+  unfolding relocation_need
+  new_word f t kind is =
+      ap (need_by l o site.symbol (binding l o (new_relocation site f))) kind ∙ ap (option_map SymbolWord) is

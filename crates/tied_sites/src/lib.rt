@@ -1,0 +1,34 @@
+//! What stands in an instance where the meaning of its job has a sequence: laws, and no code.
+//!
+//! The meaning takes a sequence of thread-local storage as one step (`whole_meaning`). In the image that is loaded
+//! there stand instructions instead: those that a compiler wrote, whose fields lead to a stub and to entries of a
+//! table, or the row that a linker wrote over them. This crate says that the two belong together, for each form, kept
+//! and rewritten, and for each linked image: it gives the record `Stands` (`tied_meaning`), by which the steps of the
+//! machine are compared.
+//!
+//! The rule of the crate: **a field leads from the instruction's end to where its value says, wherever the image is
+//! moved**, since the field's place and what it reaches move together; and **what is reached there is told by the
+//! entry's line in the table of loaded words** (`loaded_words`). So a form needs no more than its row of fields and
+//! entries:
+//!
+//! ```text
+//! gd       lea pair(%rip), %rdi; call stub        the pair of the variable; the stub, which jumps through a word
+//! ie       mov word(%rip), %r                     the variable's distance
+//! desc     lea descriptor(%rip), %rax             the descriptor of the symbol
+//! gd, rewritten to local exec
+//!          mov %fs:0, %rax; lea d(%rax), %rax     d is the variable's distance itself
+//! ```
+//!
+//! For example, an image has the pair of `x` at 0x3000, and the sequence's lea at 0x1000, whose field lies at 0x1004
+//! and ends at 0x1008. The linker writes 0x3000 - 4 - 0x1004, that is 0x1ff8. Where the instance is moved by b the lea
+//! has 0x1008 + b + 0x1ff8 = 0x3000 + b, and there stand x's module id and offset, as the loader left them.
+//!
+//! `specs/Instances` has what is asked of an instance's numbers, and `specs/Laws` the laws, one a group of forms.
+#![tactic(auto)]
+
+mod laws;
+
+pub use laws::{
+    descriptor_sites_stand, general_sites_stand, initial_sites_stand, local_sites_stand,
+    sites_stand,
+};
