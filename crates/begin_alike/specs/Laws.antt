@@ -91,8 +91,8 @@ first_thread q thread lines = ready (thread_ready q thread) (numbered_lines 1 li
 abbrev pub runs_thread : Loads ℕ → ℕ → ℕ → List ThreadLine → List (List Event) → Thread Runs Line Event
 runs_thread q fuel thread lines points = turns (thread_turns q thread fuel) (first_thread q thread lines) points
 
--- a clean thread prints what it means, where each point, and so with the event that the thread adds there, is a front of
--- the history
+-- a clean thread prints what it means, where each point, and so with the event that the thread adds there, is a front
+-- of the history
 abbrev pub CleanThreadsPrint : Type 0
 CleanThreadsPrint = (g : Setting) (m : Meaning) (q : Loads ℕ) (history : List Event) → AreTied g m q history
     → CallsAreAlike g m q history

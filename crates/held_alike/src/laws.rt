@@ -18,8 +18,8 @@ pub fn loads_keep_held()
     ensures { LoadsKeepHeld }
 {}
 
-/// A thread that is related stays so with the data of the job in its hands, and without them; and the data that it leaves
-/// are related.
+/// A thread that is related stays so with the data of the job in its hands, and without them; and the data that it
+/// leaves are related.
 #[tactic(auto, using(crate::proofs::Lent::data_lent))]
 pub fn data_are_lent_alike()
     ensures { DataAreLentAlike }

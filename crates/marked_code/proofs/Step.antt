@@ -1,5 +1,5 @@
--- The machine's step follows the meaning's, whatever numbers a linker writes into fields, and wherever it puts the words
--- that address fields stand for.
+-- The machine's step follows the meaning's, whatever numbers a linker writes into fields, and wherever it puts the
+-- words that address fields stand for.
 use Rattle.std.proofs.Common.{◌≡◌, ℕ, ◌+◌, ◌-◌, ◌<◌, ◌≤◌, ◌⊎◌, inl, inr, Bool, true, false, List, length, take, drop, Option, Some, None, Result, Ok, Err, refl, sym, ap, subst, ◌∙◌, arith}
 use Rattle.std.specs.Prelude.{if◌then◌else◌, not, ◌&&◌}
 use Rattle.std.specs.List.{list_any, slice_get}

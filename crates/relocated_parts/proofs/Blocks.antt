@@ -42,7 +42,8 @@ cut_at xs a n k below = slice_get-take (a + n - a) k (drop a xs) (omega (arith, 
 filled_long : (size : ℕ) (initial : List ℕ) → length initial ≤ size → length (filled size initial) ≡ size
 filled_long size initial within =
     length-append initial (replicate (size - length initial) 0)
-    ∙ (let zeros : length {A = ℕ} (replicate (size - length initial) 0) ≡ size - length initial = length-replicate (size - length initial) 0 in
+    ∙ (let zeros : length {A = ℕ} (replicate (size - length initial) 0) ≡ size - length initial =
+    length-replicate (size - length initial) 0 in
     omega (arith, zeros, within))
 
 filled_front : (size k : ℕ) (initial : List ℕ) → k < length initial → slice_get (filled size initial) k ≡ slice_get initial k

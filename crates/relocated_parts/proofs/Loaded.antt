@@ -25,4 +25,5 @@ loaded_is m c x i part made is = ap (λ image. loaded_in m x image i) made.image
 -- the law
 pub loaded_left : LoadedPartsAreLeft
 loaded_left m c x i part made is =
-    subst (λ (bytes : List ℕ). IsLeft m (finished c) x part bytes) (sym (loaded_is m c x i part made is)) (part_left m c x i part made is)
+    subst (λ (bytes : List ℕ). IsLeft m (finished c) x part bytes) (sym (loaded_is m c x i part made is))
+    (part_left m c x i part made is)

@@ -1,5 +1,6 @@
--- The example of the crate's essay: a program with 8 bytes of thread-local storage, x at offset 4 in them, and a general
--- dynamic sequence for x, as it is kept and as it is rewritten. What each law asks of a sequence's place holds of both.
+-- The example of the crate's essay: a program with 8 bytes of thread-local storage, x at offset 4 in them, and a
+-- general dynamic sequence for x, as it is kept and as it is rewritten. What each law asks of a sequence's place holds
+-- of both.
 use Rattle.std.proofs.Common.{if◌then◌else◌, ◌≡◌, ◌+◌, ◌-◌, ◌^◌, ◌<◌, ◌≤◌, ◌==◌, ℕ, zero, suc, true, false, List, [], ◌∷◌, Option, Some, None, refl, subst, inl, inr, arith}
 use Rattle.std.specs.Prelude.{slice_get}
 use Rattle.amd64_subset.specs.declared.instr.Decoded.{Decoded}

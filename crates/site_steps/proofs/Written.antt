@@ -89,7 +89,8 @@ module _ {g : Setting} {m : Meaning} {q : Loads ℕ} {history : List Event} {thr
   base_is instance start counts program known e =
       rw (counts, eq-eqb instance 1 program) (omega (arith, high), (b.y, (known, e)))
 
-  -- where the meaning is a call, and the machine has the answer after one or more steps that change %rax and flags alone
+  -- where the meaning is a call, and the machine has the answer after one or more steps
+  -- that change %rax and flags alone
   pub call_goes : (word : Word) (w : ℕ) (flags : Flags Bool) (p k : ℕ) → k ≤ 3
       → Moves (thread_steps q thread) (suc k) h' (record h' {
         after = left (record h'.after.state {

@@ -7,14 +7,14 @@ pub fn fresh_blocks_are_filled()
     ensures { FreshBlocksAreFilled }
 {}
 
-/// A look leaves a thread the block that it had of a live instance at a fixed distance from the thread pointer, and where
-/// it had none a fresh one.
+/// A look leaves a thread the block that it had of a live instance at a fixed distance from the thread pointer, and
+/// where it had none a fresh one.
 pub fn looks_fill_blocks()
     ensures { LooksFillBlocks }
 {}
 
-/// After any turns at points of a legal history a thread has its own block of each live instance at a fixed distance: all
-/// that reaches a place of it reaches this block.
+/// After any turns at points of a legal history a thread has its own block of each live instance at a fixed distance:
+/// all that reaches a place of it reaches this block.
 pub fn static_blocks_are_own()
     ensures { StaticBlocksAreOwn }
 {}
