@@ -1,6 +1,6 @@
 -- What is loaded of images, with all that it is computed by open; and instructions and words of it, from one list of
 -- bytes.
-use Rattle.std.proofs.Common.{◌≡◌, ◌<◌, ◌+◌, ◌⊎◌, ℕ, zero, suc, List, [], ◌∷◌, length, Option, Some, None, ap, inl, inr, arith, eq-or-lt_of_le}
+use Rattle.std.proofs.Common.{◌≡◌, ◌<◌, ◌+◌, ◌⊎◌, ℕ, zero, suc, List, [], ◌∷◌, length, Some, inl, inr, arith, eq-or-lt_of_le}
 use Rattle.std.specs.Prelude.{slice_get}
 use Rattle.amd64_subset.specs.declared.instr.Decoded.{Decoded}
 use Rattle.guest_arithmetic.specs.Values.{digit}
@@ -31,26 +31,20 @@ use Rattle.thread_blocks.specs.MachineTurns.{zeros}
 
 -- ** functions below a number
 
-abbrev pub listed : (ℕ → Option ℕ) → ℕ → List (Option ℕ)
+abbrev pub listed : {X : Type 0} → (ℕ → X) → ℕ → List X
 listed f zero = []
 listed f (suc n) = f n ∷ listed f n
 
-abbrev head_of : List (Option ℕ) → Option ℕ
-head_of [] = None
-head_of (x ∷ xs) = x
-
-abbrev tail_of : List (Option ℕ) → List (Option ℕ)
-tail_of [] = []
-tail_of (x ∷ xs) = xs
-
-each-at : (f g : ℕ → Option ℕ) (n k : ℕ) → f n ≡ g n → ((k < n) → f k ≡ g k) → (k ≡ n) ⊎ (k < n) → f k ≡ g k
+each-at : {X : Type 0} (f g : ℕ → X) (n k : ℕ) → f n ≡ g n → ((k < n) → f k ≡ g k) → (k ≡ n) ⊎ (k < n) → f k ≡ g k
 each-at f g n k last before (inl e) = rw e last
 each-at f g n k last before (inr below) = before below
 
-pub each : (f g : ℕ → Option ℕ) (n : ℕ) → listed f n ≡ listed g n → (k : ℕ) → k < n → f k ≡ g k
+pub each : {X : Type 0} (f g : ℕ → X) (n : ℕ) → listed f n ≡ listed g n → (k : ℕ) → k < n → f k ≡ g k
 each f g zero e k below = absurd (omega arith)
 each f g (suc n) e k below =
-    each-at f g n k (ap head_of e) (λ less. each f g n (ap tail_of e) k less) (eq-or-lt_of_le (omega arith))
+    let last : f n ≡ g n = cc in
+    let before : listed f n ≡ listed g n = cc in
+    each-at f g n k last (λ less. each f g n before k less) (eq-or-lt_of_le (omega arith))
 
 -- ** bytes
 

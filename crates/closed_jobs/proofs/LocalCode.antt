@@ -1,5 +1,5 @@
 -- The program with local dynamic code and a descriptor, computed.
-use Rattle.std.proofs.Common.{◌≡◌, true, false, [], ◌∷◌, refl}
+use Rattle.std.proofs.Common.{◌≡◌, Bool, true, false, [], ◌∷◌, refl}
 use Rattle.link_faults.specs.declared.image_kind.ImageKind.TheVariants.{Exe}
 use Rattle.closed_jobs.specs.Laws.{LocalCodeSaysTheSame}
 use Rattle.closed_jobs.specs.Worlds.{file, said_in}
@@ -9,14 +9,12 @@ use Rattle.closed_jobs.proofs.Linked.{linked}
 use Rattle.closed_jobs.proofs.Opened.{meant}
 use Rattle.closed_jobs.proofs.Ran.{ran}
 
-meant_rewritten : said_in (meant (links true) 4 lines []) ≡ says
+meant_says : (relax : Bool) → said_in (meant (links relax) 4 lines []) ≡ says
 unfolding meant program object file
-meant_rewritten = refl
+meant_says true = refl
+meant_says false = refl
 
-meant_kept : said_in (meant (links false) 4 lines []) ≡ says
-unfolding meant program object file
-meant_kept = refl
-
+-- each by itself: both are more than the checker computes for one lemma
 run_rewritten : said_in (ran (Exe ∷ []) (linked (program true) ∷ []) 4 lines []) ≡ says
 unfolding ran linked program object file
 run_rewritten = refl
@@ -25,9 +23,11 @@ run_kept : said_in (ran (Exe ∷ []) (linked (program false) ∷ []) 4 lines [])
 unfolding ran linked program object file
 run_kept = refl
 
+run_says : (relax : Bool) → said_in (ran (Exe ∷ []) (linked (program relax) ∷ []) 4 lines []) ≡ says
+run_says true = run_rewritten
+run_says false = run_kept
+
 pub says_the_same : LocalCodeSaysTheSame
 unfolding program
-says_the_same true = both-say (links true) (linked (program true) ∷ []) 4 lines [] says
-    (one-linked (program true) (linked (program true)) [] [] refl refl) meant_rewritten run_rewritten
-says_the_same false = both-say (links false) (linked (program false) ∷ []) 4 lines [] says
-    (one-linked (program false) (linked (program false)) [] [] refl refl) meant_kept run_kept
+says_the_same relax = both-say (links relax) (linked (program relax) ∷ []) 4 lines [] says
+    (one-linked (program relax) (linked (program relax)) [] [] refl refl) (meant_says relax) (run_says relax)

@@ -1,9 +1,8 @@
 -- The rewritten program with local dynamic code and a descriptor: what stands at its sites does what is meant there.
-use Rattle.std.proofs.Common.{◌≡◌, ◌-◌, ◌%◌, ◌^◌, ℕ, true, [], ◌∷◌, Some, None, refl, sym, subst, inl, inr, arith}
+use Rattle.std.proofs.Common.{◌≡◌, ◌-◌, ◌%◌, ◌^◌, ℕ, true, Some, None, refl, sym, subst, arith}
 use Rattle.std.specs.Prelude.{codes}
 use Rattle.amd64_subset.specs.declared.instr.Operation.TheVariants.{Nop}
 use Rattle.amd64_words.specs.declared.register.Register.TheVariants.{Rax}
-use Rattle.link_faults.specs.declared.image_kind.ImageKind.TheVariants.{Exe}
 use Rattle.loaded_modules.specs.declared.instance.Instance.{Instance}
 use Rattle.relax_sites.specs.declared.choices.Choice.TheVariants.{DescLe, LdLe}
 use Rattle.sequence_forms.specs.Forms.{row}
@@ -13,75 +12,28 @@ use Rattle.thread_blocks.specs.MachineTurns.{pointer_of}
 use Rattle.tied_meaning.specs.Sites.{IsDistance, Stands}
 use Rattle.guest_machine.specs.Use.{plus}
 use Rattle.whole_meaning.specs.Sequences.{variable_distance}
-use Rattle.closed_jobs.specs.LocalCode.{object, program}
 use Rattle.closed_jobs.specs.LocalSites.{app, setting, base, lea, call}
-use Rattle.closed_jobs.specs.Worlds.{bytes_of_digits, file}
-use Rattle.closed_jobs.proofs.Closed.{instruction, loads}
-use Rattle.closed_jobs.proofs.Linked.{linked}
+use Rattle.closed_jobs.specs.Worlds.{bytes_of_digits}
+use Rattle.closed_jobs.proofs.Closed.{instruction}
+use Rattle.closed_jobs.proofs.LocalLoads as local
+use Rattle.closed_jobs.proofs.Sites.{written}
 
-unfoldable pub q : Loads ℕ
-unfolding loads linked program object file
-q = loads (Exe ∷ []) (linked (program true) ∷ [])
+abbrev q : Loads ℕ
+q = local.q true
 
 pub base_stands : Stands (setting true) q app 0x400000 base
-unfolding q row
-base_stands = record {
-  base = (refl, refl);
-  own = refl;
-  ends = refl;
-  asked = inl refl;
-  stands = inr (
-    LdLe,
-    (
-      0,
-      (
-        0,
-        (
-          record {
-            code = (
-              instruction q app 0x400000 (bytes_of_digits (codes "66666664488b042500000000"))
-                  (displaced 12 8 (load Rax of_thread) 0) refl refl,
-              tt,
-            );
-            program = refl;
-            early = omega arith;
-          },
-          refl,
-        ),
-      ),
-    ),
-  );
-}
+unfolding local.q row
+base_stands = written (setting true) q app 0x400000 base (refl, refl) refl refl refl LdLe 0 0
+    (displaced 12 8 (load Rax of_thread) 0) refl
+    (instruction q app 0x400000 (bytes_of_digits (codes "66666664488b042500000000"))
+    (displaced 12 8 (load Rax of_thread) 0) refl refl) refl (omega arith) refl
 
 pub lea_stands : Stands (setting true) q app 0x400013 lea
-unfolding q row
-lea_stands = record {
-  base = tt;
-  own = refl;
-  ends = refl;
-  asked = inl refl;
-  stands = inr (
-    DescLe,
-    (
-      0,
-      (
-        2 ^ 64 - 4,
-        (
-          record {
-            code = (
-              instruction q app 0x400013 (bytes_of_digits (codes "48c7c0fcffffff"))
-                  (immediate 7 3 (set Rax) (2 ^ 64 - 4)) refl refl,
-              tt,
-            );
-            program = refl;
-            early = omega arith;
-          },
-          (refl, refl),
-        ),
-      ),
-    ),
-  );
-}
+unfolding local.q row
+lea_stands = written (setting true) q app 0x400013 lea tt refl refl refl DescLe 0 (2 ^ 64 - 4)
+    (immediate 7 3 (set Rax) (2 ^ 64 - 4)) refl
+    (instruction q app 0x400013 (bytes_of_digits (codes "48c7c0fcffffff"))
+    (immediate 7 3 (set Rax) (2 ^ 64 - 4)) refl refl) refl (omega arith) (refl, refl)
 
 -- only the program has number 1
 only : (y : Instance) → Some app ≡ Some y → y ≡ app
@@ -95,31 +47,7 @@ distance thread y few known =
     (sym (only y known)) d
 
 pub call_stands : Stands (setting true) q app 0x40001a call
-unfolding q row
-call_stands = record {
-  base = tt;
-  own = refl;
-  ends = refl;
-  asked = inl refl;
-  stands = inr (
-    DescLe,
-    (
-      0,
-      (
-        0,
-        (
-          record {
-            code = (
-              instruction q app 0x40001a (bytes_of_digits (codes "6690"))
-                  (plain 2 (Nop None)) refl refl,
-              tt,
-            );
-            program = refl;
-            early = omega arith;
-          },
-          λ made. distance,
-        ),
-      ),
-    ),
-  );
-}
+unfolding local.q row
+call_stands = written (setting true) q app 0x40001a call tt refl refl refl DescLe 0 0 (plain 2 (Nop None)) refl
+    (instruction q app 0x40001a (bytes_of_digits (codes "6690")) (plain 2 (Nop None)) refl refl)
+    refl (omega arith) (λ made. distance)

@@ -4,6 +4,7 @@ use Rattle.closed_jobs.specs.Worlds.{BothSay, loads_of_links}
 use Rattle.closed_jobs.specs.LocalCode as local
 use Rattle.closed_jobs.specs.Reopened as reopened
 use Rattle.closed_jobs.specs.LocalSites.{AreTiedSites, setting}
+use Rattle.tied_meaning.specs.Ties.{AreTied}
 use Rattle.closed_jobs.specs.Tables.{HasTable, app, app_words, lib, lib_words, of_app, of_lib, of_plug, plug, plug_words}
 use Rattle.whole_meaning.specs.Loads.{meaning_of}
 
@@ -16,6 +17,11 @@ ReopenedSaysTheSame = (relax : Bool) → BothSay (reopened.links relax) 4 reopen
 abbrev pub LocalCodeIsTied : Type 0
 LocalCodeIsTied = (relax : Bool)
     → AreTiedSites (setting relax) (meaning_of (local.links relax)) (loads_of_links (local.links relax))
+
+-- all that the laws of jobs ask of what is loaded is true of this job; it has no events
+abbrev pub LocalJobIsTied : Type 0
+LocalJobIsTied = (relax : Bool)
+    → AreTied (setting relax) (meaning_of (local.links relax)) (loads_of_links (local.links relax)) []
 
 abbrev pub TablesHoldTheirWords : Type 0
 TablesHoldTheirWords =

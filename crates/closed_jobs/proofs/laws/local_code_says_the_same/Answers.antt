@@ -1,6 +1,5 @@
 use Rattle.closed_jobs.proofs.LocalCode.{says_the_same}
 use Rattle.closed_jobs.proofs.laws.local_code_says_the_same.Goals as goal
 
--- src/laws.rt:6:1
 pub returns : goal.returns
 returns c = says_the_same
