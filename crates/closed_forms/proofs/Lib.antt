@@ -1,0 +1,9 @@
+mod LibraryImage
+mod Library
+mod EachFormImages
+mod EachForm
+mod HandedOverImages
+mod HandedOver
+mod LateDataImages
+mod LateData
+mod NoStack
