@@ -4,8 +4,8 @@ use Rattle.closed_jobs.specs.Worlds.{BothSay, loads_of_links}
 use Rattle.closed_jobs.specs.LocalCode as local
 use Rattle.closed_jobs.specs.Reopened as reopened
 use Rattle.closed_jobs.specs.LocalSites.{AreTiedSites, setting}
-use Rattle.closed_jobs.specs.Tables.{HasTable, app, app_words, lib, lib_words, of_app, of_lib, of_plug, plug, plug_words}
 use Rattle.tied_meaning.specs.Ties.{AreTied}
+use Rattle.closed_jobs.specs.Tables.{HasTable, app, app_words, lib, lib_words, of_app, of_lib, of_plug, plug, plug_words}
 use Rattle.whole_meaning.specs.Loads.{meaning_of}
 
 abbrev pub LocalCodeSaysTheSame : Type 0
@@ -18,12 +18,12 @@ abbrev pub LocalCodeIsTied : Type 0
 LocalCodeIsTied = (relax : Bool)
     → AreTiedSites (setting relax) (meaning_of (local.links relax)) (loads_of_links (local.links relax))
 
-abbrev pub TablesHoldTheirWords : Type 0
-TablesHoldTheirWords =
-    HasTable app of_app 0x1_0400_2000 app_words × HasTable lib of_lib 0x1_0800_2000 lib_words
-    × HasTable plug of_plug 0x1_1000_2000 plug_words
-
 -- all that the laws of jobs ask of what is loaded is true of this job; it has no events
 abbrev pub LocalJobIsTied : Type 0
 LocalJobIsTied = (relax : Bool)
     → AreTied (setting relax) (meaning_of (local.links relax)) (loads_of_links (local.links relax)) []
+
+abbrev pub TablesHoldTheirWords : Type 0
+TablesHoldTheirWords =
+    HasTable app of_app 0x1_0400_2000 app_words × HasTable lib of_lib 0x1_0800_2000 lib_words
+    × HasTable plug of_plug 0x1_1000_2000 plug_words

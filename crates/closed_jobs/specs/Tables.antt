@@ -13,9 +13,9 @@
 --   ie x: mov x@gottpoff(%rip), %rax                        desc x: lea x@tlsdesc(%rip), %rax
 --                                                                   call *x@tlscall(%rax)
 --
--- The program, which may lie anywhere, is instance 1; what starts with it is instance 2. Thread 1 opens the late module,
--- closes it and opens it again: it is instance 4 then, with the id 3 again, and its block is the second of 16 bytes that
--- the surplus gives behind the 20 bytes of the first two.
+-- The program, which may lie anywhere, is instance 1; what starts with it is instance 2. Thread 1 opens the late
+-- module, closes it and opens it again: it is instance 4 then, with the id 3 again, and its block is the second of 16
+-- bytes that the surplus gives behind the 20 bytes of the first two.
 use Rattle.std.specs.Prelude.{◌≡◌, ◌+◌, ◌*◌, ◌-◌, ◌^◌, ℕ, true, false, List, [], ◌∷◌, Some, codes, length, map}
 use Rattle.std.specs.List.{flat_map, range_with_len}
 use Rattle.elf_records.specs.Fields.{bytes_of}

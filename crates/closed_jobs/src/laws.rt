@@ -29,8 +29,8 @@ pub fn reopened_says_the_same()
     ensures { ReopenedSaysTheSame }
 {}
 
-/// The tables of the three images of `specs/Tables.antt` hold the words that are written there, and these are the words of
-/// `loaded_words`.
+/// The tables of the three images of `specs/Tables.antt` hold the words that are written there, and these are the words
+/// of `loaded_words`.
 #[tactic(auto, using(crate::proofs::Tables::hold_their_words))]
 pub fn tables_hold_their_words()
     ensures { TablesHoldTheirWords }

@@ -18,15 +18,16 @@
 //! - `specs/LocalCode.antt`: the job of the picture, with its object as the bytes that an assembler wrote;
 //! - `specs/LocalSites.antt`: its sequences and its offset field, and what the linker chose for them in each setting;
 //! - `specs/Reopened.antt`: a late module that another thread closes in the middle of a call, and that is opened again;
-//! - `specs/Tables.antt`: a program, a module that starts with it and a late one, with an entry of each kind in their tables.
+//! - `specs/Tables.antt`: a program, a module that starts with it and a late one, with an entry of each kind in their
+//!   tables.
 //!
 //! Two laws run both worlds ([`laws::local_code_says_the_same`], [`laws::reopened_says_the_same`]). One takes the
 //! image of the picture apart ([`laws::local_code_is_tied`]): where a sequence is meant there stands, in the machine's
 //! words, what does the same, and the offset field moves the base of each thread's block to one address. The fourth
 //! goes through all that is loaded of that job ([`laws::local_job_is_tied`]): each byte of code and of the initial
 //! image, each name, where everything lies, and which instance there is. So what the laws of whole jobs ask of links
-//! (`AreTied`) is true of one. The fifth has the words of three tables as numbers, by what is loaded and by the definition
-//! that says what each entry holds ([`laws::tables_hold_their_words`]).
+//! (`AreTied`) is true of one. And one law has the words of three tables as numbers, by what is loaded and by the
+//! definition that says what each entry holds ([`laws::tables_hold_their_words`]).
 //!
 //! The links are computed too, byte for byte. Where a module is loaded twice its image is written down beside, so that
 //! it is linked once.
