@@ -109,7 +109,7 @@ module _ (ls : List Linking) (history : List Event) where
     counted at =
         let q = job_loads (images_of ls) in
         let g = given in
-        let live = known_live q history is.legal x.number x is.known in
+        let live = known_live q history x.number x is.known in
         let here = legal_front q history is.legal live.seen live.front in
         let placed = placed_in q history is.legal live.seen x.number x live.front live.live in
         let kind = instances_placed ls l x history is at in
