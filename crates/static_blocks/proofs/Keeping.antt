@@ -1,9 +1,9 @@
 -- A thread's turns keep what it holds of the live instances, at points of a history.
-use Rattle.std.proofs.Common.{◌≡◌, ◌∙◌, ◌+◌, ◌-◌, ◌==◌, ℕ, Bool, true, false, List, [], ◌∷◌, length, Option, Some, None, refl, sym, ap, arith}
+use Rattle.std.proofs.Common.{◌≡◌, ◌∙◌, ◌+◌, ◌-◌, ◌==◌, ℕ, Bool, true, false, List, [], ◌∷◌, length, Option, Some, None, refl, sym, ap, subst, arith}
 use Rattle.std.specs.Prelude.{All, if◌then◌else◌, is_none, is_some, nat_le, option_map, slice_range}
 use Rattle.guest_arithmetic.specs.Plain.{plain_operations}
 use Rattle.guest_machine.specs.Ranges.{Range, grants, with_byte}
-use Rattle.guest_machine.specs.Run.{Outcome, Ended, Waits, run}
+use Rattle.guest_machine.specs.Run.{Outcome, Ended, Waits, run, state_after}
 use Rattle.guest_machine.specs.State.{start_of}
 use Rattle.guest_machine.specs.Use.{left}
 use Rattle.guest_operands.specs.declared.space.Access.TheVariants.{Write}
@@ -28,6 +28,7 @@ use Rattle.thread_blocks.specs.Spaces.{Space, space_accesses, stack_range}
 use Rattle.thread_blocks.specs.Turns.{Answered, Said, Begun, Says, Calls, Turns, Phase, Idle, Mid, Thread, after_look, after_run, event_of, turn, turn_at, turns, with_event, with_last}
 use Rattle.thread_blocks.specs.TurnsAlike.{IsFront}
 use Rattle.lawful_points.specs.Laws.{AtHistory}
+use Rattle.shared_data.specs.Told.{called, steps_of}
 use Rattle.static_blocks.proofs.Looking.{held_shape}
 use Rattle.static_blocks.proofs.Shapes.{Shape, found_shape, written_shape}
 use Rattle.static_blocks.proofs.Steps.{OutHolds, run_holds, resumed_holds}
@@ -276,6 +277,42 @@ module _ (l : Loads ℕ) (thread : ℕ) (history : List Event) (known : ℕ → 
     turns_fit [] t at fits = fits
     turns_fit (seen ∷ more) t at fits =
         turns_fit more (turn x t seen) at.1 (turn_at_fits t.todo t.phase t.said t.seen seen at.0.0 at.0.1 fits)
+
+    -- ** in the midst of a turn
+
+    called_fits : (steps : ℕ) (begun : Begun Runs) (from : ℕ × Runs) → called steps begun ≡ Some from → BegunFits begun
+        → Fits from.1
+    called_fits steps (Says ending h) from e fits = cc
+    called_fits steps (Calls h) from e fits =
+        let same : (steps, h) ≡ from = let s = e in cc in subst (λ (p : ℕ × Runs). Fits p.1) same fits
+
+    begins_fit : (todo : List Line) (phase : Phase Runs) (said : List Said) (old seen : List Event) (from : ℕ × Runs)
+        → IsFront seen history
+        → IsFront (with_event seen (event_of (event_by l thread)
+        (record { todo = todo; phase = phase; said = said; seen = old }) seen)) history
+        → Fits (held_in phase) → steps_of x todo phase seen ≡ Some from → Fits from.1
+    unfolding thread_turns
+    begins_fit [] (Idle h) said old seen from front own fits e = cc
+    begins_fit (line ∷ todo) (Idle h) said old seen from front own fits e =
+        called_fits x.fuel (x.begin line seen h) from e (begin_fits line seen h front own fits)
+    begins_fit [] (Mid steps points h) said old seen from front own fits e =
+        called_fits (steps - 1) (x.resume seen h) from e (resume_fits seen h front fits)
+    begins_fit (line ∷ todo) (Mid steps points h) said old seen from front own fits e =
+        called_fits (steps - 1) (x.resume seen h) from e (resume_fits seen h front fits)
+
+    -- the law of steps
+    pub steps_fit : (n : ℕ) (h : Runs) → Fits h → Fits (state_after (run (thread_steps l thread) n h))
+    steps_fit n h fits = after (run (thread_steps l thread) n h) (run_holds l thread Keeps put_keeps n h fits)
+      where
+        after : (out : Outcome Runs) → OutHolds l thread Keeps put_keeps out → Fits (state_after out)
+        after (Ended stop n h) fits = fits
+        after (Waits n h) fits = fits
+
+    pub within_fits : (t : Thread Runs Line Event) (seen : List Event) (from : ℕ × Runs) (n : ℕ) → IsFront seen history
+        → IsFront (with_event seen (event_of (event_by l thread) t seen)) history → FitsIn t
+        → steps_of x t.todo t.phase seen ≡ Some from → Fits (state_after (run (thread_steps l thread) n from.1))
+    within_fits t seen from n front own fits e =
+        steps_fit n from.1 (begins_fit t.todo t.phase t.said t.seen seen from front own fits e)
 
   -- a thread before its first line
   pub ready_fits : Fits (thread_ready l thread)

@@ -4,8 +4,11 @@ use Rattle.std.specs.Prelude.{All, nat_le, nat_lt, slice_get, slice_set}
 use Rattle.std.specs.List.{find}
 use Rattle.std.proofs.lemmas.Bool.{and_parts, false_from_ne_true, le-leb, leb-true, lt-ltb}
 use Rattle.std.proofs.lemmas.Option.{slice_get-get_or}
-use Rattle.guest_machine.specs.Ranges.{Range, byte_in, holds, with_byte}
-use Rattle.guest_operands.specs.declared.space.Access.TheVariants.{Read}
+use Rattle.guest_machine.specs.Ranges.{Range, allows, byte_in, holds, with_byte}
+use Rattle.guest_machine.specs.Run.{run, state_after}
+use Rattle.guest_operands.specs.declared.space.Access.{Access}
+use Rattle.guest_operands.specs.declared.space.Access.TheVariants.{Read, Write}
+use Rattle.lawful_points.specs.Raced.{first_of}
 use Rattle.loaded_modules.specs.declared.instance.Instance.{Instance}
 use Rattle.loaded_modules.specs.Images.{JobImages, infos, last_offset}
 use Rattle.module_table.specs.declared.modules.ImageInfo.{ImageInfo}
@@ -17,14 +20,16 @@ use Rattle.module_table.specs.Past.{is_legal, module_of, past, start}
 use Rattle.thread_blocks.specs.Held.{Owned, Owner, is_block_of, owned}
 use Rattle.thread_blocks.specs.Instances.{Loads, block_range, block_start, instances, numbered_instance}
 use Rattle.thread_blocks.specs.JobLoads.{job_loads}
+use Rattle.thread_blocks.specs.JobWorlds.{held_in}
 use Rattle.thread_blocks.specs.MachineTurns.{stack_start}
-use Rattle.thread_blocks.specs.RunTime.{Runs, thread_accesses}
+use Rattle.thread_blocks.specs.RunTime.{Runs, thread_accesses, thread_steps, thread_turns}
 use Rattle.thread_blocks.specs.Spaces.{Space, space_accesses, stack_range}
+use Rattle.thread_blocks.specs.Turns.{turns}
 use Rattle.thread_blocks.specs.TurnsAlike.{IsFront}
-use Rattle.static_blocks.specs.Blocks.{HasBlock, block_owned}
+use Rattle.static_blocks.specs.Blocks.{HasBlock, HasOwnBlocks, block_owned}
 use Rattle.known_instances.specs.Known.{known_in}
 use Rattle.static_blocks.specs.Laws.{InitialsFit, StaticBlocksAreOwn}
-use Rattle.static_blocks.proofs.Keeping.{Fits, ready_fits, turns_fit}
+use Rattle.static_blocks.proofs.Keeping.{Fits, ready_fits, turns_fit, within_fits}
 use Rattle.static_blocks.proofs.Live.{IsLive, all_live, apart_at, offset_of, start_some}
 use Rattle.known_instances.proofs.Legal.{job_legal}
 use Rattle.known_instances.proofs.Placed.{all_found}
@@ -49,6 +54,13 @@ module _ (l : Loads ℕ) (thread : ℕ) where
   read_past m place byte low e =
       let apart = stack_apart m.stack place low in rw (apart, e _) refl
 
+  write_past : (m : Space Event ℕ) (place byte : ℕ) → place < stack_start thread
+      → ((more : List (Range ℕ)) → byte_in Write (m.own ++ more) place ≡ Some byte)
+      → (thread_accesses l thread).writes m place ≡ Ok tt
+  unfolding thread_accesses space_accesses
+  write_past m place byte low e =
+      let apart = stack_apart m.stack place low in rw (apart, e _) refl
+
   put_past : (os : List Owner) (m : Space Event ℕ) (place byte : ℕ) → place < stack_start thread
       → owned os ((thread_accesses l thread).put m place byte).own ≡ owned os (with_byte m.own place byte)
   unfolding thread_accesses space_accesses
@@ -70,35 +82,57 @@ module _ (l : Loads ℕ) (thread : ℕ) where
       let at : block_start thread x + k - block_start thread x ≡ k = omega arith in
       rw (from, at, lt-ltb k (length bytes) less) refl
 
-  has_block : (h : Runs) (x : Instance) (there : HasRange l thread x.number x h.owners h.after.memory.own)
+  -- a place of the block, as it is reached
+  record IsAt (h : Runs) (x : Instance) (bytes : List ℕ) (k : ℕ) : Type 0 where
+    pub low : block_start thread x + k < stack_start thread
+    pub access : (how : Access) → ((at : Instance) (all : List ℕ) → allows how (block_range thread at all) ≡ true)
+        → (more : List (Range ℕ))
+        → byte_in how (h.after.memory.own ++ more) (block_start thread x + k) ≡ Some (get_or bytes k 0)
+    pub written : (byte : ℕ)
+        → find (λ (o : Owned ℕ). is_block_of x.number o.owner)
+        (owned h.owners (with_byte h.after.memory.own (block_start thread x + k) byte))
+        ≡ Some (block_owned thread x (slice_set bytes k byte))
+
+  is_at : (h : Runs) (x : Instance) (there : HasRange l thread x.number x h.owners h.after.memory.own)
       → (block_start thread x + length (l.block x) ≤ stack_start thread)
       → ((k : ℕ) → k < length (l.block x) → IsReached l thread x.number x h.owners h.after.memory.own
       (block_start thread x + k))
-      → HasBlock l thread h x
-  has_block h x there below reached = record {
+      → (k : ℕ) → k < length there.bytes → IsAt h x there.bytes k
+  is_at h x there below reached k less =
+      let size = there.size in
+      let r = reached k (omega (arith, size, less)) in
+      let same : r.bytes ≡ there.bytes = bytes_same x r.bytes there.bytes _ r.found there.found in
+      let inside : k < length r.bytes = subst (λ (bs : List ℕ). k < length bs) (sym same) less in
+      let at : block_start thread x + k - block_start thread x ≡ k = omega arith in
+      record {
+        low = omega (arith, below, size, less);
+        access = λ how allowed more. r.access (place_held x r.bytes k inside) how allowed more
+            ∙ (ap (slice_get r.bytes) at ∙ (ap (λ (bs : List ℕ). slice_get bs k) same
+            ∙ slice_get-get_or there.bytes k 0 less));
+        written = λ byte. r.written (place_held x r.bytes k inside) byte
+            ∙ (ap (λ (i : ℕ). Some (block_owned thread x (slice_set r.bytes i byte))) at
+            ∙ ap (λ (bs : List ℕ). Some (block_owned thread x (slice_set bs k byte))) same);
+      }
+
+  has_block : (h : Runs) (x : Instance) (there : HasRange l thread x.number x h.owners h.after.memory.own)
+      → ((k : ℕ) → k < length there.bytes → IsAt h x there.bytes k) → HasBlock l thread h x
+  has_block h x there at = record {
     bytes = there.bytes;
     held = there.found;
     size = there.size;
     reads = λ k less.
-        let size = there.size in
-        let r = reached k (omega (arith, size, less)) in
-        let same : r.bytes ≡ there.bytes = bytes_same x r.bytes there.bytes _ r.found there.found in
-        let inside : k < length r.bytes = subst (λ (bs : List ℕ). k < length bs) (sym same) less in
-        let at : block_start thread x + k - block_start thread x ≡ k = omega arith in
-        read_past h.after.memory (block_start thread x + k) (get_or there.bytes k 0) (omega (arith, below, size, less))
-        (λ more. r.read (place_held x r.bytes k inside) more
-        ∙ (ap (slice_get r.bytes) at ∙ (ap (λ (bs : List ℕ). slice_get bs k) same ∙ slice_get-get_or there.bytes k 0 less)));
-    writes = λ k byte less.
-        let size = there.size in
-        let r = reached k (omega (arith, size, less)) in
-        let same : r.bytes ≡ there.bytes = bytes_same x r.bytes there.bytes _ r.found there.found in
-        let inside : k < length r.bytes = subst (λ (bs : List ℕ). k < length bs) (sym same) less in
-        let at : block_start thread x + k - block_start thread x ≡ k = omega arith in
+        let here = at k less in
+        read_past h.after.memory (block_start thread x + k) (get_or there.bytes k 0) here.low
+        (here.access Read (λ y all. refl));
+    writes = λ k less.
+        let here = at k less in
+        write_past h.after.memory (block_start thread x + k) (get_or there.bytes k 0) here.low
+        (here.access Write (λ y all. refl));
+    put = λ k byte less.
+        let here = at k less in
         ap (find (λ (o : Owned ℕ). is_block_of x.number o.owner))
-        (put_past h.owners h.after.memory (block_start thread x + k) byte (omega (arith, below, size, less)))
-        ∙ (r.written (place_held x r.bytes k inside) byte
-        ∙ (ap (λ (i : ℕ). Some (block_owned thread x (slice_set r.bytes i byte))) at
-        ∙ ap (λ (bs : List ℕ). Some (block_owned thread x (slice_set bs k byte))) same));
+        (put_past h.owners h.after.memory (block_start thread x + k) byte here.low)
+        ∙ here.written byte;
   }
 
 -- ** a job
@@ -133,31 +167,35 @@ module _ (m : JobImages) (thread : ℕ) (history : List Event) (are : AreInfos (
       fresh_long m x image.index no_module.info fits (ap (λ (y : Instance). y.image) (sym live.is) ∙ image.image) image.within
       ∙ ap (λ (i : ImageInfo). i.size) (sym image.info)
 
-  block_of_live : (h : Runs) → Fits l thread history known each h → (x : Instance) (offset : ℕ)
-      → numbered_instance l h.after.memory.seen x.number ≡ Some x → x.offset ≡ Some offset → HasBlock l thread h x
-  block_of_live h keeps x offset numbered at =
+  blocks_of_live : (h : Runs) → Fits l thread history known each h → HasOwnBlocks l thread h
+  blocks_of_live h keeps x offset numbered at =
       let seen = h.after.memory.seen in
       let all = all_live l history legal last seen keeps.0 in
       let live = all_found (IsLive l history legal last seen keeps.0) _ (instances l seen) x all numbered in
       let size = block_long seen keeps.0 x live in
       let far = offset_of l history legal last seen keeps.0 x live offset at in
       let from = start_some l history legal last seen keeps.0 thread x offset at in
-      has_block l thread h x
-      (found_shape l thread x.number x offset (instances l seen) h.owners h.after.memory.own keeps.1 numbered at)
-      (omega (arith, size, far.0, far.1, from))
+      let there = found_shape l thread x.number x offset (instances l seen) h.owners h.after.memory.own keeps.1 numbered at in
+      has_block l thread h x there
+      (is_at l thread h x there (omega (arith, size, far.0, far.1, from))
       (λ k less. reached_shape l thread x.number x offset (block_start thread x + k)
       (instances l seen) h.owners h.after.memory.own
       keeps.1 numbered at
       (λ j d inside. let other = all j d inside in λ ne bytes long.
       apart_at l history legal last seen keeps.0 thread x _ offset k live other at ne (omega (arith, size, less)) bytes
-      (long ∙ block_long seen keeps.0 _ other)))
+      (long ∙ block_long seen keeps.0 _ other))))
 
--- the law
+-- the law of a thread by itself
 pub static_own : StaticBlocksAreOwn
-static_own m fuel thread own history points are fits accepted at x offset numbered e =
-    block_of_live m thread history are fits accepted _
-    (turns_fit (job_loads m) thread history (known m thread history are fits accepted)
-    (each m thread history are fits accepted) fuel points _ at
-    (ready_fits (job_loads m) thread history (known m thread history are fits accepted)
-    (each m thread history are fits accepted)))
-    x offset numbered e
+unfolding thread_turns
+static_own m fuel thread own history points are fits accepted at =
+    let known = known m thread history are fits accepted in
+    let each = each m thread history are fits accepted in
+    let t = turns (thread_turns (job_loads m) thread fuel) (first_of (job_loads m) thread own) points in
+    let now = turns_fit (job_loads m) thread history known each fuel points (first_of (job_loads m) thread own) at
+    (ready_fits (job_loads m) thread history known each) in (
+      blocks_of_live m thread history are fits accepted (held_in t.phase) now,
+      λ seen from n front mine begun. blocks_of_live m thread history are fits accepted
+          (state_after (run (thread_steps (job_loads m) thread) n from.1))
+          (within_fits (job_loads m) thread history known each fuel t seen from n front mine now begun),
+    )

@@ -3,8 +3,8 @@ use Rattle.std.proofs.Common.{◌≡◌, ◌∙◌, ◌++◌, ◌-◌, ◌==◌,
 use Rattle.std.specs.Prelude.{All, slice_get, slice_set}
 use Rattle.std.specs.List.{find}
 use Rattle.std.proofs.lemmas.Bool.{cases_Bool}
-use Rattle.guest_machine.specs.Ranges.{Range, byte_in, holds, with_byte}
-use Rattle.guest_operands.specs.declared.space.Access.TheVariants.{Read}
+use Rattle.guest_machine.specs.Ranges.{Range, allows, byte_in, holds, with_byte}
+use Rattle.guest_operands.specs.declared.space.Access.{Access}
 use Rattle.loaded_modules.specs.declared.instance.Instance.{Instance}
 use Rattle.thread_blocks.specs.Held.{Owned, Owner, is_block_of, owned}
 use Rattle.thread_blocks.specs.Instances.{Loads, block_range, block_start}
@@ -13,13 +13,13 @@ use Rattle.static_blocks.proofs.Shapes.{IsBlock, Shape, entry_is, first_of_numbe
 
 -- a range that has the place, or has it not
 
-read_here : (r s : Range ℕ) (more : List (Range ℕ)) (place : ℕ) → r ≡ s → s.readable ≡ true → holds s place ≡ true
-    → byte_in Read (r ∷ more) place ≡ slice_get s.bytes (place - s.start)
-read_here r s more place e readable h = rw (e, readable, h) refl
+byte_here : (access : Access) (r s : Range ℕ) (more : List (Range ℕ)) (place : ℕ) → r ≡ s → allows access s ≡ true
+    → holds s place ≡ true → byte_in access (r ∷ more) place ≡ slice_get s.bytes (place - s.start)
+byte_here access r s more place e allowed h = rw (e, allowed, h) refl
 
-read_later : (r s : Range ℕ) (more : List (Range ℕ)) (place : ℕ) → r ≡ s → s.readable ≡ true → holds s place ≡ false
-    → byte_in Read (r ∷ more) place ≡ byte_in Read more place
-read_later r s more place e readable h = rw (e, readable, h) refl
+byte_later : (access : Access) (r s : Range ℕ) (more : List (Range ℕ)) (place : ℕ) → r ≡ s → allows access s ≡ true
+    → holds s place ≡ false → byte_in access (r ∷ more) place ≡ byte_in access more place
+byte_later access r s more place e allowed h = rw (e, allowed, h) refl
 
 written_here : (r s : Range ℕ) (more : List (Range ℕ)) (place byte : ℕ) → r ≡ s → s.writable ≡ true → holds s place ≡ true
     → with_byte (r ∷ more) place byte ≡ record s { bytes = slice_set s.bytes (place - s.start) byte } ∷ more
@@ -39,8 +39,10 @@ module _ (l : Loads ℕ) (thread : ℕ) where
     pub bytes : List ℕ
     pub found : find (λ (o : Owned ℕ). is_block_of n o.owner) (owned os rs) ≡ Some (block_owned thread y bytes)
     pub size : length bytes ≡ length (l.block y)
-    pub read : holds (block_range thread y bytes) place ≡ true → (more : List (Range ℕ))
-        → byte_in Read (rs ++ more) place ≡ slice_get bytes (place - block_start thread y)
+    -- by each access that a block allows
+    pub access : holds (block_range thread y bytes) place ≡ true → (how : Access)
+        → ((at : Instance) (all : List ℕ) → allows how (block_range thread at all) ≡ true) → (more : List (Range ℕ))
+        → byte_in how (rs ++ more) place ≡ slice_get bytes (place - block_start thread y)
     pub written : holds (block_range thread y bytes) place ≡ true → (byte : ℕ)
         → find (λ (o : Owned ℕ). is_block_of n o.owner) (owned os (with_byte rs place byte))
         ≡ Some (block_owned thread y (slice_set bytes (place - block_start thread y) byte))
@@ -56,7 +58,8 @@ module _ (l : Loads ℕ) (thread : ℕ) where
     bytes = r.bytes;
     found = taken_first l thread n o r os rs t ∙ ap (λ (x : Owned ℕ). Some x) (entry_is l thread y o r b);
     size = b.size;
-    read = λ h more. read_here r (block_range thread y r.bytes) (rs ++ more) place b.range refl h;
+    access = λ h how allowed more.
+        byte_here how r (block_range thread y r.bytes) (rs ++ more) place b.range (allowed y r.bytes) h;
     written = λ h byte.
         let new : Range ℕ = block_range thread y (slice_set r.bytes (place - block_start thread y) byte) in
         owned_found n o os (with_byte (r ∷ rs) place byte) (new ∷ rs) (Some (block_owned thread y new.bytes))
@@ -73,7 +76,9 @@ module _ (l : Loads ℕ) (thread : ℕ) where
         bytes = rest.bytes;
         found = skipped l thread n o r os rs f ∙ rest.found;
         size = rest.size;
-        read = λ h more. read_later r (block_range thread z r.bytes) (rs ++ more) place b.range refl apart ∙ rest.read h more;
+        access = λ h how allowed more.
+            byte_later how r (block_range thread z r.bytes) (rs ++ more) place b.range (allowed z r.bytes) apart
+            ∙ rest.access h how allowed more;
         written = λ h byte.
             owned_found n o os (with_byte (r ∷ rs) place byte) (r ∷ with_byte rs place byte) _
             (written_later r (block_range thread z r.bytes) rs place byte b.range refl apart)

@@ -3,7 +3,7 @@ use Rattle.std.specs.Prelude.{◌≡◌, ◌+◌, ◌<◌, ℕ, List, length, ge
 use Rattle.std.specs.List.{find}
 use Rattle.loaded_modules.specs.declared.instance.Instance.{Instance}
 use Rattle.thread_blocks.specs.Held.{Block, Owned, is_block_of, owned, owned_by}
-use Rattle.thread_blocks.specs.Instances.{Loads, block_range, block_start}
+use Rattle.thread_blocks.specs.Instances.{Loads, block_range, block_start, numbered_instance}
 use Rattle.thread_blocks.specs.RunTime.{Runs, thread_accesses}
 
 -- the range that a thread's memory has for its block of an instance, with these bytes
@@ -19,7 +19,15 @@ pub record HasBlock (l : Loads ℕ) (thread : ℕ) (h : Runs) (x : Instance) : T
   pub size : length bytes ≡ length (l.block x)
   pub reads : (k : ℕ) → k < length bytes
       → (thread_accesses l thread).byte h.after.memory (block_start thread x + k) ≡ Ok (get_or bytes k 0)
-  pub writes : (k byte : ℕ) → k < length bytes
+  -- a store is allowed, and goes there
+  pub writes : (k : ℕ) → k < length bytes
+      → (thread_accesses l thread).writes h.after.memory (block_start thread x + k) ≡ Ok tt
+  pub put : (k byte : ℕ) → k < length bytes
       → let memory = (thread_accesses l thread).put h.after.memory (block_start thread x + k) byte in
       find (λ o. is_block_of x.number o.owner) (owned h.owners memory.own)
       ≡ Some (block_owned thread x (slice_set bytes k byte))
+
+-- a thread has its own block of each live instance at a fixed distance
+abbrev pub HasOwnBlocks : Loads ℕ → ℕ → Runs → Type 0
+HasOwnBlocks l thread h = (x : Instance) (offset : ℕ) → numbered_instance l h.after.memory.seen x.number ≡ Some x
+    → x.offset ≡ Some offset → HasBlock l thread h x

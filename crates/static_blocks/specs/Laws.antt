@@ -1,6 +1,7 @@
 -- Static accesses reach the thread's own block.
 use Rattle.std.specs.Prelude.{◌≡◌, ◌≤◌, ◌-◌, ◌++◌, ℕ, true, List, length, replicate, Some, All, IfSome, unwrap_or}
 use Rattle.std.specs.List.{find}
+use Rattle.guest_machine.specs.Run.{run, state_after}
 use Rattle.image_file.specs.declared.part.TlsPart.{TlsPart}
 use Rattle.image_file.specs.Spelled.{Spelled}
 use Rattle.job_text.specs.declared.thread_lines.ThreadLine.{ThreadLine}
@@ -12,14 +13,16 @@ use Rattle.loaded_modules.specs.Loader.{holds, initial_bytes}
 use Rattle.module_table.specs.declared.events.Event.{Event}
 use Rattle.module_table.specs.Modules.{AreInfos}
 use Rattle.module_table.specs.Past.{is_legal, start}
-use Rattle.static_blocks.specs.Blocks.{HasBlock}
+use Rattle.shared_data.specs.Told.{steps_of}
+use Rattle.static_blocks.specs.Blocks.{HasOwnBlocks}
 use Rattle.thread_blocks.specs.Held.{block_bytes, looked, owned_by}
 use Rattle.thread_blocks.specs.Instances.{Loads, numbered_instance}
 use Rattle.thread_blocks.specs.JobLoads.{job_loads}
 use Rattle.thread_blocks.specs.JobWorlds.{held_in}
 use Rattle.thread_blocks.specs.Lines.{event_by}
 use Rattle.thread_blocks.specs.RunTime.{Runs, thread_turns}
-use Rattle.thread_blocks.specs.Turns.{turns}
+use Rattle.thread_blocks.specs.Turns.{event_of, turns, with_event}
+use Rattle.thread_blocks.specs.TurnsAlike.{IsFront}
 
 -- an image's initial image is no longer than the blocks that begin with it (gABI, "Program Header": p_filesz, p_memsz)
 abbrev pub InitialsFit : JobImages → Type 0
@@ -41,14 +44,18 @@ LooksFillBlocks = (l : Loads ℕ) (thread : ℕ) (seen : List Event) (h : Runs) 
     → block_bytes x.number (owned_by (looked l thread seen h))
     ≡ Some (unwrap_or (block_bytes x.number (owned_by h)) (l.block x))
 
--- after any turns at points of a legal history a thread has its own block of each such instance
+-- after any turns of a thread by itself, at points of a legal history, it has its own block of each such instance; and
+-- so it has after any number of steps in the midst of the next turn
 abbrev pub StaticBlocksAreOwn : Type 0
 StaticBlocksAreOwn = (m : JobImages) (fuel thread : ℕ) (own : List ThreadLine) (history : List Event)
     (points : List (List Event)) → AreInfos (infos m) → InitialsFit m
     → is_legal (start (job_loads m).infos (job_loads m).last_offset) history ≡ true
-    → AtHistory (thread_turns (job_loads m) thread fuel) (event_by (job_loads m) thread) history
-    (first_of (job_loads m) thread own) points
-    → let h = held_in (turns (thread_turns (job_loads m) thread fuel)
-    (first_of (job_loads m) thread own) points).phase in
-    (x : Instance) (offset : ℕ) → numbered_instance (job_loads m) h.after.memory.seen x.number ≡ Some x
-    → x.offset ≡ Some offset → HasBlock (job_loads m) thread h x
+    → let l = job_loads m in
+    let all = thread_turns l thread fuel in
+    AtHistory all (event_by l thread) history (first_of l thread own) points
+    → let t = turns all (first_of l thread own) points in
+    HasOwnBlocks l thread (held_in t.phase)
+    × ((seen : List Event) (from : ℕ × Runs) (n : ℕ) → IsFront seen history
+    → IsFront (with_event seen (event_of (event_by l thread) t seen)) history
+    → steps_of all t.todo t.phase seen ≡ Some from
+    → HasOwnBlocks l thread (state_after (run all.steps n from.1)))

@@ -13,8 +13,8 @@ pub fn looks_fill_blocks()
     ensures { LooksFillBlocks }
 {}
 
-/// After any turns at points of a legal history a thread has its own block of each live instance at a fixed distance: all
-/// that reaches a place of it reaches this block.
+/// After any turns at points of a legal history, and after any steps of the next, a thread has its own block of each live
+/// instance at a fixed distance: all that reaches a place of it reaches this block.
 pub fn static_blocks_are_own()
     ensures { StaticBlocksAreOwn }
 {}

@@ -12,19 +12,20 @@
 //! 0x23fffffffe0   07 00 00 00 00 00 00 00 ..  the module's, from the first look on that sees it open
 //! ```
 //!
-//! The rule of the crate: **after any turns, at points of a legal history, a thread has its own block of each live instance
-//! at a fixed distance, and each access to a place of that block reaches it** ([`laws::static_blocks_are_own`];
-//! `specs/Blocks`, `HasBlock`). It is found under its instance's number and begins where the instance's offset says; it is as
-//! long as a fresh one; what is read at its place are its bytes, and what is written there goes into them. A look leaves a
-//! block with what stands in it, and where there was none makes a fresh one ([`laws::looks_fill_blocks`]), which is the
-//! initial image and zeros ([`laws::fresh_blocks_are_filled`]).
+//! The rule of the crate: **after any turns, at points of a legal history, and at each step within a turn, a thread has its
+//! own block of each live instance at a fixed distance, and each access to a place of that block reaches it**
+//! ([`laws::static_blocks_are_own`]; `specs/Blocks`, `HasBlock`). It is found under its instance's number and begins where
+//! the instance's offset says; it is as long as a fresh one; what is read at its place are its bytes; a store there is
+//! allowed, and goes into them. A look leaves a block with what stands in it, and where there was none makes a fresh one
+//! ([`laws::looks_fill_blocks`]), which is the initial image and zeros ([`laws::fresh_blocks_are_filled`]).
 //!
 //! The premises are what every job has: what is known of its images is in order (`AreInfos`), none has an initial image longer
 //! than its blocks, each event was accepted, and what turns see are fronts of the history, with the thread's own event
 //! behind them (`lawful_points`, `AtHistory`).
 //!
-//! It is said of a thread that takes its turns alone, and of what it holds after a turn. Of the steps within a turn, and of
-//! turns that begin with data which other threads wrote, nothing is said yet.
+//! Code makes its accesses within turns. So the law speaks of the state between two turns, and of each that comes after a
+//! turn's look and any number of steps (`steps_of`, of `shared_data`, says where these begin). It is said of a thread that
+//! takes its turns by itself. Of turns that begin with data which other threads wrote nothing is said yet.
 //!
 //! The proof follows the list of what a thread holds: a block of each live instance, in their order, and data behind
 //! (`proofs/Shapes`). Looks and writes keep that shape (`proofs/Keeping`). No two of these blocks share an address
