@@ -7,6 +7,7 @@ pub mod Legal
 pub mod Turns
 pub mod ReadsData
 pub mod Orders
+pub mod There
 pub mod First
 pub mod Noting
 pub mod Machine

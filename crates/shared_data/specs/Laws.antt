@@ -1,24 +1,27 @@
 -- Each byte of shared data is the one that the last write before it, in the order of turns, left there, or the first
 -- that the loader put there: of the machine's threads, and of what they mean.
-use Rattle.std.specs.Prelude.{◌≡◌, ℕ, ◌*◌, ◌++◌, Bool, List, [], slice_get, ok_or, Option, Some}
+use Rattle.std.specs.Prelude.{◌≡◌, ℕ, ◌+◌, ◌*◌, ◌<◌, ◌++◌, Bool, true, false, List, [], length, slice_get, ok_or, Option, Some, All}
+use Rattle.std.specs.List.{find, flat_map}
 use Rattle.guest_arithmetic.specs.Plain.{plain_operations}
 use Rattle.guest_operands.specs.declared.state.State.{State}
 use Rattle.guest_machine.specs.Access.{Accesses, Refused}
+use Rattle.guest_machine.specs.Ranges.{Range, holds}
 use Rattle.guest_machine.specs.Run.{machine, run, state_after}
 use Rattle.guest_machine.specs.Use.{After}
 use Rattle.job_meaning.specs.declared.values.Byte.{Byte}
 use Rattle.job_meaning.specs.declared.values.Flag.{Flag}
 use Rattle.job_meaning.specs.declared.values.Word.{Word}
 use Rattle.job_text.specs.declared.thread_lines.ThreadLine.{ThreadLine}
+use Rattle.loaded_modules.specs.declared.instance.Instance.{Instance}
 use Rattle.module_table.specs.declared.events.Event.{Event}
 use Rattle.module_table.specs.History.{IsLegal}
-use Rattle.thread_blocks.specs.Held.{Held, Owned, Owner, data_bytes}
-use Rattle.thread_blocks.specs.Instances.{Loads}
+use Rattle.thread_blocks.specs.Held.{Data, Held, Owned, Owner, data_after, data_bytes, is_data_of, loaded, looked, owned_by, with_owned}
+use Rattle.thread_blocks.specs.Instances.{Loads, instances, numbered_instance}
 use Rattle.thread_blocks.specs.JobWorlds.{Shared, job_start, job_world, shared_order}
 use Rattle.thread_blocks.specs.Lines.{Line, event_by}
 use Rattle.thread_blocks.specs.MachineTurns.{stack_start}
 use Rattle.thread_blocks.specs.RunTime.{thread_accesses, thread_turns}
-use Rattle.thread_blocks.specs.Spaces.{Space, after_of, mapped, next_image, no_field}
+use Rattle.thread_blocks.specs.Spaces.{Space, after_of, mapped, next_image, no_field, stack_range}
 use Rattle.thread_blocks.specs.Turns.{Thread, Turns, at_number, whole_order}
 use Rattle.whole_meaning.specs.declared.marks.Mark.{Mark}
 use Rattle.whole_meaning.specs.Jobs.{job_start as meant_start, meant_world}
@@ -66,6 +69,38 @@ module _ {W F B : Type 0} (l : Loads B) (x : ℕ → Turns (Held W F B) Line Eve
       ++ run_told (x thread).steps (changes thread) steps from.1) in
       (place : ℕ) (at : ℕ × ℕ) → data_at (stack_start thread) h place ≡ Some at
       → (acc thread).byte h.after.memory place ≡ ok_or (last_left at.0 at.1 told) Refused
+
+-- ** which places are data
+
+-- a thread holds the data of an instance in this range, with these bytes in it
+abbrev pub HoldsData : {W F B : Type 0} → Held W F B → Instance → Range B → List B → Type 0
+HoldsData h x range bytes = find (λ o. is_data_of x.number o.owner) (owned_by h)
+    ≡ Some (record { owner = record { kind = Data; instance = x.number }; range = record range { bytes = bytes } })
+
+-- then byte k of them is what a thread reads at place k of the range, if nothing else that it holds lies there
+abbrev pub DataAreThere : (W F B : Type 0) → Type 0
+DataAreThere W F B = (stack : ℕ) (h : Held W F B) (x : Instance) (range : Range B) (bytes : List B) (k : ℕ)
+    → HoldsData h x range bytes → range.readable ≡ true → k < length bytes
+    → holds (stack_range stack h.after.memory.stack) (range.start + k) ≡ false
+    → All (λ (o : Owned B). is_data_of x.number o.owner ≡ false → holds o.range (range.start + k) ≡ false) (owned_by h)
+    → data_at stack h (range.start + k) ≡ Some (x.number, k)
+
+-- of a live instance a thread holds them after a look where it held them before, after a load as the loader fills them;
+-- and before the first turn they are among those that the first thread gets
+abbrev pub DataAreHeld : (W F B : Type 0) → Type 0
+DataAreHeld W F B = (l : Loads B) (thread : ℕ) (seen : List Event) (h : Held W F B) (x : Instance) (range : Range B)
+    → l.shared x ≡ Some range
+    → (numbered_instance l seen x.number ≡ Some x → (bytes : List B) → data_bytes x.number (owned_by h) ≡ Some bytes
+    → HoldsData (looked l thread seen h) x range bytes)
+    × (numbered_instance l h.after.memory.seen x.number ≡ Some x → HoldsData (loaded l thread x h) x range range.bytes)
+    × (numbered_instance l [] x.number ≡ Some x
+    → HoldsData (with_owned h (flat_map (data_after l (λ y. true) []) (instances l []))) x range range.bytes)
+
+abbrev pub MachineDataAreThere : Type 0
+MachineDataAreThere = DataAreThere ℕ Bool ℕ × DataAreHeld ℕ Bool ℕ
+
+abbrev pub MeantDataAreThere : Type 0
+MeantDataAreThere = DataAreThere Word Flag Byte × DataAreHeld Word Flag Byte
 
 -- ** the machine
 

@@ -1,7 +1,8 @@
 //! The laws. The functions do nothing: what they ensure is the law.
 
-ghost use Rattle.shared_data.specs.Laws.{JobsAreOrders, MachineDataLast, MachineReadsLast, NotesFollow};
-ghost use Rattle.shared_data.specs.Laws.{MeaningsAreOrders, MeantDataLast, MeantReadsLast, NotesFollowMeaning};
+ghost use Rattle.shared_data.specs.Laws.{JobsAreOrders, MachineDataAreThere, MachineDataLast, MachineReadsLast};
+ghost use Rattle.shared_data.specs.Laws.{MeaningsAreOrders, MeantDataAreThere, MeantDataLast, MeantReadsLast};
+ghost use Rattle.shared_data.specs.Laws.{NotesFollow, NotesFollowMeaning};
 
 /// A step over a memory that notes its stores is the machine's step: to note them changes nothing.
 #[tactic(auto, using(crate::proofs::Machine::notes_follow))]
@@ -25,6 +26,13 @@ pub fn reads_are_last_left()
     ensures { MachineReadsLast }
 {}
 
+/// A thread that holds the data of a live instance reads byte k of them at place k of their range; and it holds them from
+/// their load on, from look to look.
+#[tactic(auto, using(crate::proofs::There::machine_there))]
+pub fn data_are_there()
+    ensures { MachineDataAreThere }
+{}
+
 /// To note the stores of the meaning's instructions changes nothing.
 #[tactic(auto, using(crate::proofs::Jobs::notes_follow_meaning))]
 pub fn notes_follow_the_meaning()
@@ -45,4 +53,10 @@ pub fn meant_data_are_last_left()
 /// A thread of the meaning reads at each place of data what was left there last, in the order of all turns.
 pub fn meant_reads_are_last_left()
     ensures { MeantReadsLast }
+{}
+
+/// So does a thread of the meaning.
+#[tactic(auto, using(crate::proofs::There::meant_there))]
+pub fn meant_data_are_there()
+    ensures { MeantDataAreThere }
 {}

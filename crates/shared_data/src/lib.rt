@@ -24,6 +24,11 @@
 //! where a byte may be unknown, or a part of an address. All turns of a job are such turns ([`laws::jobs_are_orders`],
 //! [`laws::meanings_are_orders`]).
 //!
+//! Which places are data is no matter of these laws, so it is a law too ([`laws::data_are_there`],
+//! [`laws::meant_data_are_there`]): byte k of the data of an instance is at place k of the range in which a thread holds
+//! them, if nothing else that it holds lies there. Of a live instance it holds them in the range that the load fills; after
+//! a load as the loader fills them, and after a look as they were before.
+//!
 //! Which bytes a step writes no definition of a step says: it is a function of registers and memory. So the same step is
 //! made over a memory that notes each store as it is made (`noting`). To note changes nothing
 //! ([`laws::notes_follow_the_machine`], [`laws::notes_follow_the_meaning`]). A store goes to the first range that may be
