@@ -13,7 +13,9 @@ use Rattle.thread_blocks.proofs.Orders.{front-trans}
 use Rattle.whole_meaning.specs.Jobs.{job_start, lines_of, meant_world, verdict_of}
 use Rattle.whole_meaning.specs.Meanings.{Meaning}
 use Rattle.whole_meaning.specs.Threads.{Meant, meant_ready, meant_turns}
-use Rattle.order_laws.specs.Alike.{AreAlike, AtHistory, SameOne}
+use Rattle.lawful_points.specs.Laws.{AtFronts}
+use Rattle.lawful_points.specs.Raced.{first_of, raced_of}
+use Rattle.order_laws.specs.Alike.{AreAlike, SameOne}
 use Rattle.order_laws.specs.Worlds.{AreLent, IsSomeUnclean}
 use Rattle.order_laws.proofs.Turns.{turns_alike}
 use Rattle.order_laws.proofs.Worlds.{order_alike}
@@ -22,7 +24,7 @@ use Rattle.tied_meaning.specs.Ties.{AreTied}
 use Rattle.tied_meaning.specs.Threads.{AtRest, InCall, SameData, Waiting}
 use Rattle.held_alike.proofs.Lent.{are_lent}
 use Rattle.begin_alike.specs.Begun.{CallsAreAlike}
-use Rattle.begin_alike.specs.Laws.{CleanJobsPrint, CleanThreadsPrint, EndsIn, JobsStayAlike, SameJob, all_said, first_thread, meant_thread, runs_thread}
+use Rattle.begin_alike.specs.Laws.{CleanJobsPrint, CleanThreadsPrint, EndsIn, JobsStayAlike, SameJob, all_said, meant_thread}
 use Rattle.begin_alike.proofs.Begins.{begin_alike, event_same}
 use Rattle.begin_alike.proofs.Firsts.{ready_rests, start_alike}
 use Rattle.begin_alike.proofs.Printed.{lines_same, verdict_clean}
@@ -104,19 +106,19 @@ module _ (g : Setting) (m : Meaning) (q : Loads ℕ) (history : List Event) (tie
   -- ** one thread at any points that its own events are at
 
   pub thread_printed : (fuel thread : ℕ) → 1 ≤ thread → thread ≤ 64 → (own : List ThreadLine) (points : List (List Event))
-      → AtHistory (thread_turns q thread fuel) (event_by q thread) Fine (first_thread q thread own) points
+      → AtFronts (thread_turns q thread fuel) (event_by q thread) history (first_of q thread own) points
       → HasUnclean (meant_thread m fuel thread own points).said
-      ⊎ ((runs_thread q fuel thread own points).said ≡ (meant_thread m fuel thread own points).said)
+      ⊎ ((raced_of q fuel thread own points).said ≡ (meant_thread m fuel thread own points).said)
   thread_printed fuel thread one most own points at =
       of_threads (turns_alike (Call thread) (Wait thread) (Rest thread) Fine (meant_turns m thread fuel)
       (thread_turns q thread fuel) (event_by q thread) (threads_do fuel thread one most) points
-      (ready (meant_ready m thread) (numbered_lines 1 own)) (first_thread q thread own) at
+      (ready (meant_ready m thread) (numbered_lines 1 own)) (first_of q thread own) at
       (inr (record { todo = refl; said = refl; seen = refl; phase = ready_rests g m q history tied thread })))
     where
       of_threads : SameOne (Wait thread) (Rest thread) (meant_thread m fuel thread own points)
-          (runs_thread q fuel thread own points)
+          (raced_of q fuel thread own points)
           → HasUnclean (meant_thread m fuel thread own points).said
-          ⊎ ((runs_thread q fuel thread own points).said ≡ (meant_thread m fuel thread own points).said)
+          ⊎ ((raced_of q fuel thread own points).said ≡ (meant_thread m fuel thread own points).said)
       of_threads (inl h) = inl h
       of_threads (inr h) = inr h.said
 

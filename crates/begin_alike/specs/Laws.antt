@@ -7,7 +7,7 @@ use Rattle.job_meaning.specs.declared.values.Word.{Word}
 use Rattle.job_text.specs.declared.thread_lines.ThreadLine.{ThreadLine}
 use Rattle.module_table.specs.declared.events.Event.{Event}
 use Rattle.thread_blocks.specs.Instances.{Loads}
-use Rattle.thread_blocks.specs.JobWorlds.{Shared, job_start as runs_start, job_world, numbered_lines, thread_ready}
+use Rattle.thread_blocks.specs.JobWorlds.{Shared, job_start as runs_start, job_world, numbered_lines}
 use Rattle.thread_blocks.specs.Lines.{Line, begin_line, event_by}
 use Rattle.thread_blocks.specs.RunTime.{Runs, shows, thread_turns}
 use Rattle.thread_blocks.specs.Turns.{Said, Thread, ready, turns, with_event}
@@ -15,7 +15,8 @@ use Rattle.thread_blocks.specs.TurnsAlike.{HasUnclean, IsFront}
 use Rattle.whole_meaning.specs.Jobs.{job_start, lines_of, meant_world, verdict_of}
 use Rattle.whole_meaning.specs.Meanings.{Meaning}
 use Rattle.whole_meaning.specs.Threads.{Meant, begin_meant, meant_ready, meant_turns}
-use Rattle.order_laws.specs.Alike.{AtHistory}
+use Rattle.lawful_points.specs.Laws.{AtFronts}
+use Rattle.lawful_points.specs.Raced.{first_of, raced_of}
 use Rattle.order_laws.specs.Worlds.{IsSomeUnclean, SameWorld}
 use Rattle.tied_meaning.specs.Numbers.{Setting}
 use Rattle.tied_meaning.specs.Threads.{AtRest, SameData, Waiting}
@@ -70,34 +71,32 @@ JobsStayAlike = (g : Setting) (m : Meaning) (q : Loads ℕ) (history : List Even
 abbrev pub all_said : {W F B : Type 0} → Shared W F B Line → List (List Said)
 all_said w = map (λ t. t.said) w.threads
 
--- a clean job prints what it means: its lines and its events
-abbrev pub CleanJobsPrint : Type 0
-CleanJobsPrint = (g : Setting) (m : Meaning) (q : Loads ℕ) (history : List Event) → AreTied g m q history
-    → CallsAreAlike g m q history
-    → (fuel : ℕ) (lines : List (List ThreadLine)) (order : List ℕ) → length lines ≤ 64
-    → EndsIn q fuel lines order history → verdict_of (lines_of (meant_world m fuel lines order)) ≡ None
-    → ((job_world q fuel lines order).events ≡ (meant_world m fuel lines order).events)
-    × (all_said (job_world q fuel lines order) ≡ lines_of (meant_world m fuel lines order))
-
--- ** one thread by itself, at any points
-
+-- a thread by meaning, by itself, after turns that see these lists of events
 abbrev pub meant_thread : Meaning → ℕ → ℕ → List ThreadLine → List (List Event) → Thread Meant Line Event
 meant_thread m fuel thread lines points =
     turns (meant_turns m thread fuel) (ready (meant_ready m thread) (numbered_lines 1 lines)) points
 
-abbrev pub first_thread : Loads ℕ → ℕ → List ThreadLine → Thread Runs Line Event
-first_thread q thread lines = ready (thread_ready q thread) (numbered_lines 1 lines)
+module _ (m : Meaning) (q : Loads ℕ) (history : List Event) where
+  -- a clean job prints what it means: its events, and its lines, thread by thread
+  abbrev pub JobPrints : Type 0
+  JobPrints = (fuel : ℕ) (lines : List (List ThreadLine)) (order : List ℕ) → length lines ≤ 64
+      → EndsIn q fuel lines order history → verdict_of (lines_of (meant_world m fuel lines order)) ≡ None
+      → ((job_world q fuel lines order).events ≡ (meant_world m fuel lines order).events)
+      × (all_said (job_world q fuel lines order) ≡ lines_of (meant_world m fuel lines order))
 
-abbrev pub runs_thread : Loads ℕ → ℕ → ℕ → List ThreadLine → List (List Event) → Thread Runs Line Event
-runs_thread q fuel thread lines points = turns (thread_turns q thread fuel) (first_thread q thread lines) points
+  -- a clean thread prints what it means by itself, where each point, and so with the event that the thread adds there, is
+  -- a front of the history
+  abbrev pub ThreadPrints : Type 0
+  ThreadPrints = (fuel thread : ℕ) → 1 ≤ thread → thread ≤ 64 → (lines : List ThreadLine) (points : List (List Event))
+      → AtFronts (thread_turns q thread fuel) (event_by q thread) history (first_of q thread lines) points
+      → HasUnclean (meant_thread m fuel thread lines points).said
+      ⊎ ((raced_of q fuel thread lines points).said ≡ (meant_thread m fuel thread lines points).said)
 
--- a clean thread prints what it means, where each point, and so with the event that the thread adds there, is a front of
--- the history
+-- where calls are alike
+abbrev pub CleanJobsPrint : Type 0
+CleanJobsPrint = (g : Setting) (m : Meaning) (q : Loads ℕ) (history : List Event) → AreTied g m q history
+    → CallsAreAlike g m q history → JobPrints m q history
+
 abbrev pub CleanThreadsPrint : Type 0
 CleanThreadsPrint = (g : Setting) (m : Meaning) (q : Loads ℕ) (history : List Event) → AreTied g m q history
-    → CallsAreAlike g m q history
-    → (fuel thread : ℕ) → 1 ≤ thread → thread ≤ 64 → (lines : List ThreadLine) (points : List (List Event))
-    → AtHistory (thread_turns q thread fuel) (event_by q thread) (λ seen. IsFront seen history)
-    (first_thread q thread lines) points
-    → HasUnclean (meant_thread m fuel thread lines points).said
-    ⊎ ((runs_thread q fuel thread lines points).said ≡ (meant_thread m fuel thread lines points).said)
+    → CallsAreAlike g m q history → ThreadPrints m q history

@@ -21,7 +21,7 @@ use Rattle.tied_meaning.specs.Ties.{AreTied}
 use Rattle.tied_meaning.proofs.Values.{values_follow}
 use Rattle.site_steps.proofs.Advances.{advance}
 use Rattle.site_steps.proofs.Resume.{resumed_alike}
-use Rattle.call_alike.specs.Laws.{CallsStayAlike, meant_step}
+use Rattle.call_alike.specs.Laws.{CallsStayAlike, usual_step}
 use Rattle.call_alike.proofs.Steps.{AdvancesTo, at_rest, usual_advances}
 
 -- ** where the fuel is spent the meaning is unclean
@@ -109,7 +109,7 @@ module _ {g : Setting} {m : Meaning} {q : Loads ℕ} {history : List Event} {thr
       where
         of_sequence : (o : Option Sequence) → sequence_at m thread h.after.memory.seen h.after.state.place ≡ o
             → AdvancesTo tied low h h' (held_next m thread h
-            (sequence_or (option_map (sequence_next m thread h.after) o) (next_of (meant_step m thread h))))
+            (sequence_or (option_map (sequence_next m thread h.after) o) (next_of (usual_step m thread h))))
         of_sequence None f = usual_advances tied low h h' call (both_go_on h h' call e)
         of_sequence (Some s) f = advance g m q history thread tied low high h h' call s f
 

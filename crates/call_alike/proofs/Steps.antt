@@ -34,7 +34,7 @@ use Rattle.tied_meaning.specs.Numbers.{Setting, alike}
 use Rattle.tied_meaning.specs.Threads.{AtRest, InCall, IsPlaced, SameMemory, Waiting}
 use Rattle.tied_meaning.specs.Ties.{AreTied}
 use Rattle.marked_code.proofs.Related.{marked_step_follows}
-use Rattle.call_alike.specs.Laws.{UsualStepsAdvance, meant_step}
+use Rattle.call_alike.specs.Laws.{UsualStepsAdvance, usual_step}
 use Rattle.call_alike.proofs.Memories.{memory_kept}
 use Rattle.call_alike.proofs.Pointers.{Keeps, pointer_stays}
 use Rattle.call_alike.proofs.Threads.{call_code, low_open}
@@ -88,7 +88,7 @@ module _ {g : Setting} {m : Meaning} {q : Loads ℕ} {history : List Event} {thr
       Advances (thread_steps q thread) Calling (Waiting g m q history thread) (AtRest g m q history thread) h next h'
 
   step_follows : {h : Meant} {h' : Runs} → Calling h h'
-      → Follows (SameAfter (alike g) (Same h)) (meant_step m thread h) (real_step h')
+      → Follows (SameAfter (alike g) (Same h)) (usual_step m thread h) (real_step h')
   step_follows {h} {h'} call =
       marked_step_follows (Same h) g (meant_accesses m thread) (thread_accesses q thread) (meant_shut m thread)
       (meant_mark m thread) (memory_kept g m q history thread tied h.owners h.after.memory.seen call.front)
@@ -154,7 +154,7 @@ module _ {g : Setting} {m : Meaning} {q : Loads ℕ} {history : List Event} {thr
 
   -- where the run time is called the meaning is unclean
   look_stops : (h : Meant) → is_look h.after.state.place ≡ true
-      → (why : Cause) × (meant_step m thread h ≡ Err (Unclean h.after.state.place why))
+      → (why : Cause) × (usual_step m thread h ≡ Err (Unclean h.after.state.place why))
   look_stops h look =
       shut_stops (meant_accesses m thread) (meant_mark m thread h.after.memory)
       (meant_shut m thread h.after.memory) h.after.state h.after.memory
@@ -162,14 +162,14 @@ module _ {g : Setting} {m : Meaning} {q : Loads ℕ} {history : List Event} {thr
       (instances m.loads h.after.memory.seen)) look)
 
   pub usual_advances : (h : Meant) (h' : Runs) → Calling h h' → (thread_steps q thread).over h' ≡ None
-      → AdvancesTo h h' (held_next m thread h (next_of (meant_step m thread h)))
+      → AdvancesTo h h' (held_next m thread h (next_of (usual_step m thread h)))
   usual_advances h h' call on = of_look (is_look h.after.state.place) refl
     where
       of_look : (b : Bool) → is_look h.after.state.place ≡ b
-          → AdvancesTo h h' (held_next m thread h (next_of (meant_step m thread h)))
+          → AdvancesTo h h' (held_next m thread h (next_of (usual_step m thread h)))
       of_look true e = let p = look_stops h e in rw p.1 (inl tt)
       of_look false e =
-          advances h h' call on (ap is_look (sym call.state.place) ∙ e) (meant_step m thread h) (real_step h') refl
+          advances h h' call on (ap is_look (sym call.state.place) ∙ e) (usual_step m thread h) (real_step h') refl
           (step_keeps (meant_accesses m thread) (meant_mark m thread h.after.memory)
           (meant_shut m thread h.after.memory) h.after.state h.after.memory) (step_follows call)
 

@@ -5,7 +5,7 @@ use Rattle.module_table.specs.declared.events.Event.{Event}
 use Rattle.shared_modules.specs.Laws.{Placed, own_from}
 use Rattle.thread_blocks.specs.Turns.{Thread, Turns, event_of, turn, with_event}
 use Rattle.thread_blocks.specs.TurnsAlike.{AllFronts, IsFront}
-use Rattle.lawful_points.specs.Laws.{AtHistory}
+use Rattle.lawful_points.specs.Laws.{AtFronts}
 use Rattle.lawful_points.specs.Orders.{looks_of}
 use Rattle.lawful_points.specs.Points.{AreLawful, Look, made, placed, seen_by}
 use Rattle.lawful_points.specs.Told.{Point, points_of}
@@ -85,7 +85,7 @@ with_own history seen (Some e) front are =
 
 module _ {S L : Type 0} (x : Turns S L Event) (event : L → List Event → Option Event) (history : List Event) where
   turns_there : (points : List (List Event)) (t : Thread S L Event) → AllFronts (seen_by (looks_of x event t points)) history
-      → AreThere history (made (looks_of x event t points)) → AtHistory x event history t points
+      → AreThere history (made (looks_of x event t points)) → AtFronts x event history t points
   turns_there [] t fronts are = tt
   turns_there (seen ∷ more) t fronts are =
       let own = event_of event t seen in
@@ -94,6 +94,6 @@ module _ {S L : Type 0} (x : Turns S L Event) (event : L → List Event → Opti
 
   -- the law
   pub in_history : (thread : ℕ) (t : Thread S L Event) (points : List (List Event))
-      → AreLawful thread history (looks_of x event t points) → AtHistory x event history t points
+      → AreLawful thread history (looks_of x event t points) → AtFronts x event history t points
   in_history thread t points lawful =
       turns_there points t lawful.fronts (subst (AreThere history) lawful.own (own_there thread [] history))

@@ -8,7 +8,7 @@ use Rattle.lawful_points.specs.Orders.{job_looks}
 use Rattle.lawful_points.specs.Points.{AreLawful}
 use Rattle.lawful_points.specs.Raced.{IsRaced, IsRacer, first_of}
 use Rattle.lawful_points.specs.Told.{AreLawfulPoints, points_of, printed_points, told_by}
-use Rattle.order_laws.specs.Alike.{AtHistory as IsEachFine}
+use Rattle.order_laws.specs.Alike.{AtHistory}
 use Rattle.thread_blocks.specs.Instances.{Loads}
 use Rattle.thread_blocks.specs.JobStatements.{HasNoData}
 use Rattle.thread_blocks.specs.JobWorlds.{Shared, job_world, numbered_lines}
@@ -58,15 +58,15 @@ RacedPointsAreLawful = (l : Loads ℕ) (fuel : ℕ) (lines : List (List ThreadLi
     → AreLawfulPoints thread transcript.events (told_by thread (numbered_lines 1 own) said)
 
 -- what each turn of a thread sees is a front of a history, and so it is with the thread's own event behind it
-abbrev pub AtHistory : {S L : Type 0} → Turns S L Event → (L → List Event → Option Event) → List Event
+abbrev pub AtFronts : {S L : Type 0} → Turns S L Event → (L → List Event → Option Event) → List Event
     → Thread S L Event → List (List Event) → Type 0
-AtHistory x event history = IsEachFine x event (λ (seen : List Event). IsFront seen history)
+AtFronts x event history = AtHistory x event (λ (seen : List Event). IsFront seen history)
 
 -- so it is with each that raced
 abbrev pub RacersAreInHistory : Type 0
 RacersAreInHistory = (l : Loads ℕ) (fuel thread : ℕ) (own : List ThreadLine) (history : List Event)
     (said : List ShownLine) → (racer : IsRacer l fuel thread own history said)
-    → AtHistory (thread_turns l thread fuel) (event_by l thread) history (first_of l thread own) racer.points
+    → AtFronts (thread_turns l thread fuel) (event_by l thread) history (first_of l thread own) racer.points
 
 -- and what its turns saw can be said again from the history and the numbers that its lines print
 abbrev pub RacersPrintTheirPoints : Type 0

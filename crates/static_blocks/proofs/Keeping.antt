@@ -27,7 +27,7 @@ use Rattle.thread_blocks.specs.RunTime.{Runs, resume_line, resumed_by, resumed_i
 use Rattle.thread_blocks.specs.Spaces.{Space, space_accesses, stack_range}
 use Rattle.thread_blocks.specs.Turns.{Answered, Said, Begun, Says, Calls, Turns, Phase, Idle, Mid, Thread, after_look, after_run, event_of, turn, turn_at, turns, with_event, with_last}
 use Rattle.thread_blocks.specs.TurnsAlike.{IsFront}
-use Rattle.lawful_points.specs.Laws.{AtHistory}
+use Rattle.lawful_points.specs.Laws.{AtFronts}
 use Rattle.shared_data.specs.Told.{called, steps_of}
 use Rattle.static_blocks.proofs.Looking.{held_shape}
 use Rattle.static_blocks.proofs.Shapes.{Shape, found_shape, written_shape}
@@ -272,7 +272,7 @@ module _ (l : Loads ℕ) (thread : ℕ) (history : List Event) (known : ℕ → 
         (resume_fits seen h front fits)
 
     -- the law of turns
-    pub turns_fit : (points : List (List Event)) (t : Thread Runs Line Event) → AtHistory x (event_by l thread) history t points
+    pub turns_fit : (points : List (List Event)) (t : Thread Runs Line Event) → AtFronts x (event_by l thread) history t points
         → FitsIn t → FitsIn (turns x t points)
     turns_fit [] t at fits = fits
     turns_fit (seen ∷ more) t at fits =

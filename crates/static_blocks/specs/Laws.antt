@@ -5,7 +5,7 @@ use Rattle.guest_machine.specs.Run.{run, state_after}
 use Rattle.image_file.specs.declared.part.TlsPart.{TlsPart}
 use Rattle.image_file.specs.Spelled.{Spelled}
 use Rattle.job_text.specs.declared.thread_lines.ThreadLine.{ThreadLine}
-use Rattle.lawful_points.specs.Laws.{AtHistory}
+use Rattle.lawful_points.specs.Laws.{AtFronts}
 use Rattle.lawful_points.specs.Raced.{first_of}
 use Rattle.loaded_modules.specs.declared.instance.Instance.{Instance}
 use Rattle.loaded_modules.specs.Images.{JobImages, image_at, infos}
@@ -52,7 +52,7 @@ StaticBlocksAreOwn = (m : JobImages) (fuel thread : ℕ) (own : List ThreadLine)
     → is_legal (start (job_loads m).infos (job_loads m).last_offset) history ≡ true
     → let l = job_loads m in
     let all = thread_turns l thread fuel in
-    AtHistory all (event_by l thread) history (first_of l thread own) points
+    AtFronts all (event_by l thread) history (first_of l thread own) points
     → let t = turns all (first_of l thread own) points in
     HasOwnBlocks l thread (held_in t.phase)
     × ((seen : List Event) (from : ℕ × Runs) (n : ℕ) → IsFront seen history

@@ -21,7 +21,7 @@
 //!
 //! The premises are what every job has: what is known of its images is in order (`AreInfos`), none has an initial image longer
 //! than its blocks, each event was accepted, and what turns see are fronts of the history, with the thread's own event
-//! behind them (`lawful_points`, `AtHistory`).
+//! behind them (`lawful_points`, `AtFronts`).
 //!
 //! Code makes its accesses within turns. So the law speaks of the state between two turns, and of each that comes after a
 //! turn's look and any number of steps (`steps_of`, of `shared_data`, says where these begin). It is said of a thread that
