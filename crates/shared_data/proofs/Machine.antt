@@ -29,7 +29,7 @@ use Rattle.shared_data.proofs.Begins.{AreOwn, BegunHolds, begin_holds}
 use Rattle.shared_data.proofs.Held.{Holds, look_holds, reach_holds}
 use Rattle.shared_data.proofs.Last.{append_none}
 use Rattle.shared_data.proofs.Left.{AreLeft}
-use Rattle.shared_data.proofs.Noting.{Keeps, NotedHolds, Proved, noted_holds, noting_image, plain, proved_accesses, proved_image}
+use Rattle.shared_data.proofs.Noting.{Keeps, NotedHolds, Proved, ResultKeeps, noted_holds, noting_image, plain, proved_accesses, proved_image, then_keeps}
 use Rattle.shared_data.proofs.Turns.{NextHolds, TellAll}
 
 -- ** the machine
@@ -67,16 +67,6 @@ module _ (l : Loads ℕ) (thread : ℕ) where
         (noted_holds (stack_start thread) os acc log puts ((machine plain_operations lender no_field).step fine))
 
   -- ** answers
-
-  abbrev ResultKeeps : List (Change ℕ) → List Owner → Result (After ℕ Bool (Space Event ℕ)) Stop → Type 0
-  ResultKeeps log os (Ok at) = Keeps log os at.memory
-  ResultKeeps log os (Err stop) = Unit {0}
-
-  then_keeps : {A : Type 0} (log : List (Change ℕ)) (os : List Owner) (r : Result A Stop)
-      (f : A → Result (After ℕ Bool (Space Event ℕ)) Stop)
-      → ((a : A) → ResultKeeps log os (f a)) → ResultKeeps log os (r >>= f)
-  then_keeps log os (Ok a) f h = h a
-  then_keeps log os (Err stop) f h = tt
 
   -- a return changes no memory
   return_keeps : (log : List (Change ℕ)) (os : List Owner) (state : State ℕ Bool) (memory : Space Event ℕ)

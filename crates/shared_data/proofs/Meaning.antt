@@ -9,7 +9,7 @@ use Rattle.guest_machine.specs.Access.{Accesses, code_at, code_then, fetch_of, n
 use Rattle.guest_machine.specs.Run.{Next, Goes, Ends, Looks, next_of}
 use Rattle.guest_machine.specs.Step.{act}
 use Rattle.guest_machine.specs.State.{at_place, register_of}
-use Rattle.guest_machine.specs.Use.{◌>>=◌, After, clean, left, plus}
+use Rattle.guest_machine.specs.Use.{After, clean, left, plus}
 use Rattle.job_meaning.specs.declared.values.Byte.{Byte}
 use Rattle.job_meaning.specs.declared.values.Flag.{Flag}
 use Rattle.job_meaning.specs.declared.values.Word.{Word}
@@ -39,7 +39,7 @@ use Rattle.shared_data.proofs.Begins.{AreOwn, BegunHolds, begin_holds}
 use Rattle.shared_data.proofs.Held.{Holds, look_holds, reach_holds}
 use Rattle.shared_data.proofs.Last.{append_none}
 use Rattle.shared_data.proofs.Left.{AreLeft}
-use Rattle.shared_data.proofs.Noting.{Keeps, Proved, plain, proved_accesses}
+use Rattle.shared_data.proofs.Noting.{Keeps, Proved, ResultKeeps, plain, proved_accesses, then_keeps}
 use Rattle.shared_data.proofs.Turns.{NextHolds, TellAll}
 
 abbrev pub At : Type 0
@@ -143,15 +143,6 @@ module _ (m : Meaning) (thread : ℕ) where
     plain_noted mark state p = done_noted mark _ _ state p
 
   -- ** results
-
-  abbrev ResultKeeps : List (Change Byte) → List Owner → Result At Stop → Type 0
-  ResultKeeps log os (Ok at) = Keeps log os at.memory
-  ResultKeeps log os (Err stop) = Unit {0}
-
-  then_keeps : {A : Type 0} (log : List (Change Byte)) (os : List Owner) (r : Result A Stop) (f : A → Result At Stop)
-      → ((a : A) → ResultKeeps log os (f a)) → ResultKeeps log os (r >>= f)
-  then_keeps log os (Ok a) f h = h a
-  then_keeps log os (Err stop) f h = tt
 
   abbrev NextKeeps : List (Change Byte) → List Owner → Next At → Type 0
   NextKeeps log os (Goes at) = Keeps log os at.memory

@@ -1,10 +1,11 @@
 -- A memory that notes its stores keeps data as they were left.
-use Rattle.std.proofs.Common.{◌≡◌, ◌++◌, ℕ, Bool, true, false, List, [], if◌then◌else◌, refl, sym, subst}
+use Rattle.std.proofs.Common.{◌≡◌, ◌++◌, ℕ, Bool, true, false, List, [], Result, Ok, Err, if◌then◌else◌, refl, sym, subst}
 use Rattle.guest_operands.specs.declared.space.Access.TheVariants.{Write}
+use Rattle.guest_operands.specs.declared.stop.Stop.{Stop}
 use Rattle.guest_machine.specs.Access.{Accesses}
 use Rattle.guest_machine.specs.Ranges.{Range, grants, with_byte}
 use Rattle.guest_machine.specs.Run.{Next, Goes, Ends, Looks}
-use Rattle.guest_machine.specs.Use.{After}
+use Rattle.guest_machine.specs.Use.{◌>>=◌, After}
 use Rattle.thread_blocks.specs.Held.{Owner, owned}
 use Rattle.thread_blocks.specs.Spaces.{IsImage, Space, after_of, next_image, put_byte, stack_range}
 use Rattle.shared_data.specs.Changes.{Change, Noted, changed_by, noting, written_in}
@@ -14,6 +15,16 @@ use Rattle.shared_data.proofs.Left.{Apart, AreLeft, written_left}
 -- a memory that holds data as they were left
 abbrev pub Keeps : {E B : Type 0} → List (Change B) → List Owner → Space E B → Type 0
 Keeps log os space = Apart os × AreLeft log (owned os space.own)
+
+-- so does what was made, if it was
+abbrev pub ResultKeeps : {W F E B : Type 0} → List (Change B) → List Owner → Result (After W F (Space E B)) Stop → Type 0
+ResultKeeps log os (Ok at) = Keeps log os at.memory
+ResultKeeps log os (Err stop) = Unit {0}
+
+pub then_keeps : {W F E B A : Type 0} (log : List (Change B)) (os : List Owner) (r : Result A Stop)
+    (f : A → Result (After W F (Space E B)) Stop) → ((a : A) → ResultKeeps log os (f a)) → ResultKeeps log os (r >>= f)
+then_keeps log os (Ok a) f h = h a
+then_keeps log os (Err stop) f h = tt
 
 module _ {E B : Type 0} (stack : ℕ) (os : List Owner) (log : List (Change B)) where
   either_put : (g : Bool) (space : Space E B) (bytes : List B) (more changes : List (Change B)) (own : List (Range B))

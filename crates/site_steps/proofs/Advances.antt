@@ -2,12 +2,10 @@
 use Rattle.std.proofs.Common.{◌≡◌, ◌∙◌, ◌⊎◌, ◌+◌, ◌^◌, ◌<◌, ◌≤◌, ◌&&◌, ℕ, Bool, true, false, List, Option, Some, Result, refl, sym, ap, subst, arith, inl, inr}
 use Rattle.std.proofs.lemmas.Bool.{le-ltb}
 use Rattle.guest_operands.specs.declared.stop.Stop.{Stop}
-use Rattle.amd64_subset.specs.declared.instr.Decoded.{Decoded}
 use Rattle.site_steps.proofs.Answers.{AsksFromStart, kept_from_start}
 use Rattle.site_steps.proofs.Called.{AdvancesTo}
 use Rattle.site_steps.proofs.Looks.{AnswersTo}
-use Rattle.tied_memory.proofs.Standing.{stands_at}
-use Rattle.tied_meaning.specs.Sites.{HasCode, HasInstruction, HasPair, AsksForOwnBlock, KeptAs, IsWritten, WrittenAs, first_length}
+use Rattle.tied_meaning.specs.Sites.{HasCode, HasPair, AsksForOwnBlock, KeptAs, IsWritten, WrittenAs, first_length}
 use Rattle.guest_machine.specs.Run.{Next, next_of}
 use Rattle.guest_machine.specs.Simulate.{Moves}
 use Rattle.guest_machine.specs.Use.{After, plus}
@@ -28,6 +26,7 @@ use Rattle.tied_meaning.specs.Numbers.{Setting}
 use Rattle.tied_meaning.specs.Ties.{AreTied}
 use Rattle.tied_meaning.specs.Threads.{InCall}
 use Rattle.site_steps.proofs.Owners.{Begins}
+use Rattle.site_steps.proofs.Steps.{small_place}
 use Rattle.amd64_subset.specs.Register.{register_of as register_named}
 use Rattle.relax_sites.specs.declared.choices.Choice.{Choice}
 use Rattle.relax_sites.specs.declared.choices.Choice.TheVariants.{Keep, GdLe, GdIe, LdLe, IeLe, DescLe, DescIe}
@@ -39,7 +38,7 @@ use Rattle.whole_meaning.specs.Threads.{sequence_next, start_in}
 use Rattle.site_steps.proofs.Owners.{begins as begins_at}
 use Rattle.site_steps.proofs.Callers.{by_stub, by_word}
 use Rattle.site_steps.proofs.Descriptors.{descriptor_goes}
-use Rattle.site_steps.proofs.Calls.{HasUse, run_at}
+use Rattle.site_steps.proofs.Calls.{HasUse, asking_at}
 use Rattle.site_steps.proofs.Pairs.{IsPair, pair_goes}
 use Rattle.site_steps.specs.Laws.{SequencesAdvance}
 use Rattle.site_steps.proofs.Single.{desc_ie, desc_le, desc_lea, desc_nop, ie_add, ie_add_le, ie_mov, ie_mov_le}
@@ -110,9 +109,6 @@ module _ {g : Setting} {m : Meaning} {q : Loads ℕ} {history : List Event} {thr
     new_code_of choice reg number form f code =
         subst (λ (form : Form). HasCode q b.x here (new_instructions form choice reg number)) f code
 
-    small_here : (d : Decoded) → HasInstruction q b.x here d → here < 2 ^ 39
-    small_here d has = (stands_at b.it has).1.1
-
     pair_at : (len n : ℕ) → len ≤ 15 → here < 2 ^ 39 → HasPair q b.x s (plus (here + len) n)
         → HasPair q b.x s (plus (plus here len) n)
     pair_at len n few small pair = subst (λ (p : ℕ). HasPair q b.x s (plus p n)) (omega (arith, few, small)) pair
@@ -130,7 +126,7 @@ module _ {g : Setting} {m : Meaning} {q : Loads ℕ} {history : List Event} {thr
         → len ≡ first_length form → HasPair q b.x s (plus (here + first_length s.form) n) → s.next < 2 ^ 64
         → AsksFromStart g s b.y s.form → (k : ℕ) → k ≤ 3
         → (HasUse m thread h h' → Moves (thread_steps q thread) k h'
-        (run_at thread h' s (plus (plus here len) n) 0x1000 h'.asked))
+        (asking_at thread h' s (plus (plus here len) n) 0x1000))
         → answer_goal form
     pair_answers form f is len n few small e pair ends from k steps moves =
         let found : HasPair q b.x s (plus (plus here len) n) =
@@ -144,27 +140,27 @@ module _ {g : Setting} {m : Meaning} {q : Loads ℕ} {history : List Event} {thr
     of_kept Gd f from (first, (second, k)) =
         let code = code_of 0 first second Gd f k.code in
         let ends = ends_at Gd f in
-        let small = small_here _ code.0 in
+        let small = small_place b.it code.0 in
         pair_answers Gd f tt 8 first (omega arith) small refl k.pair (omega (arith, ends, small)) from 3 (omega arith)
         (by_stub tied low high call b 8 4 first (omega arith) code.0 8 second k.stub k.far (omega arith) code.1.0 ends
         k.goes k.jumps k.word)
     of_kept Ld f from (own, (first, (second, k))) =
         let code = code_of 0 first second Ld f k.code in
         let ends = ends_at Ld f in
-        let small = small_here _ code.0 in
+        let small = small_place b.it code.0 in
         pair_answers Ld f tt 7 first (omega arith) small refl k.pair (omega (arith, ends, small)) from 3 (omega arith)
         (by_stub tied low high call b 7 3 first (omega arith) code.0 5 second k.stub k.far (omega arith) code.1.0 ends
         k.goes k.jumps k.word)
     of_kept GdInd f from (first, (second, k)) =
         let code = code_of 0 first second GdInd f k.code in
         let ends = ends_at GdInd f in
-        let small = small_here _ code.0 in
+        let small = small_place b.it code.0 in
         pair_answers GdInd f tt 8 first (omega arith) small refl k.pair (omega (arith, ends, small)) from 2 (omega arith)
         (by_word tied low high call b 8 4 first (omega arith) code.0 8 4 second (omega arith) code.1.0 ends k.word)
     of_kept LdInd f from (own, (first, (second, k))) =
         let code = code_of 0 first second LdInd f k.code in
         let ends = ends_at LdInd f in
-        let small = small_here _ code.0 in
+        let small = small_place b.it code.0 in
         pair_answers LdInd f tt 7 first (omega arith) small refl k.pair (omega (arith, ends, small)) from 2 (omega arith)
         (by_word tied low high call b 7 3 first (omega arith) code.0 6 2 second (omega arith) code.1.0 ends k.word)
     of_kept IeMov f from (reg, (first, (word, k))) =
@@ -177,7 +173,7 @@ module _ {g : Setting} {m : Meaning} {q : Loads ℕ} {history : List Event} {thr
         desc_lea tied low high call b first k.code.0 (ends_at DescLea f) b.stands.own k.made k.number
     of_kept DescCall f from k =
         let ends = ends_at DescCall f in
-        let small = small_here _ k.code.0 in
+        let small = small_place b.it k.code.0 in
         descriptor_goes tied low high call b f begins (omega (arith, ends, small)) k.code.0 ends b.stands.own k.low k.descriptor
 
     -- ** rewritten

@@ -43,6 +43,10 @@ abbrev pub run_at : ℕ → Runs → Sequence → ℕ → ℕ → Option Asked �
 run_at thread h' s rdi place o =
     record { after = left (run_state h' rdi place) (run_memory thread h' s); owners = h'.owners; asked = o }
 
+-- with nothing asked for yet that was not before
+abbrev pub asking_at : ℕ → Runs → Sequence → ℕ → ℕ → Runs
+asking_at thread h' s rdi place = run_at thread h' s rdi place h'.asked
+
 module _ {g : Setting} {m : Meaning} {q : Loads ℕ} {history : List Event} {thread : ℕ} {h : Meant} {h' : Runs}
     (call : InCall g m q history thread h h') where
   pub run_in_place : (s : Sequence) → AreInPlace g q history thread h'.owners (run_memory thread h' s)

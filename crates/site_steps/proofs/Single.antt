@@ -41,8 +41,8 @@ use Rattle.tied_meaning.specs.Threads.{InCall}
 use Rattle.site_steps.proofs.Acts.{adds_next, adds_number, does_here, leas_next, leas_register, loads_next, passes, sets}
 use Rattle.site_steps.proofs.Owners.{Begins}
 use Rattle.site_steps.proofs.Called.{AdvancesTo, described_same, goes_to, hidden_call, stack_room}
-use Rattle.site_steps.proofs.Steps.{in_place, one_move, stepped, still_in_call}
-use Rattle.tied_memory.proofs.Standing.{stands_at, word_read}
+use Rattle.site_steps.proofs.Steps.{in_place, one_move, small_place, stepped, still_in_call, sum_small}
+use Rattle.tied_memory.proofs.Standing.{word_read}
 
 -- a descriptor that %rax holds
 pub descriptor_is : (g : Setting) (s : Sequence) (w : Word) (n : ℕ) → descriptor_use s w ≡ Ok tt → SameWord g w n
@@ -99,10 +99,7 @@ module _ {g : Setting} {m : Meaning} {q : Loads ℕ} {history : List Event} {thr
       distance thread b.y high b.known_target ∙ ap (variable_distance s (block_start thread b.y)) (sym call.pointer)
 
   next_is : (d : Decoded) → HasInstruction q b.x here d → (len : ℕ) → len ≤ 15 → s.next ≡ here + len → s.next ≡ plus here len
-  next_is d has len short ends = ends ∙ sum_small len short here (stands_at b.it has).1.1
-    where
-      sum_small : (len : ℕ) → len ≤ 15 → (here : ℕ) → here < 2 ^ 39 → here + len ≡ plus here len
-      sum_small len short here low = omega (arith, short, low)
+  next_is d has len short ends = ends ∙ sum_small len short here (small_place b.it has)
 
   -- ** initial exec
 

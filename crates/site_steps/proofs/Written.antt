@@ -28,14 +28,14 @@ use Rattle.whole_meaning.specs.Sequences.{after_call, called_with, own_base, sta
 use Rattle.whole_meaning.specs.Threads.{Meant, Memory, meant_stack}
 use Rattle.tied_meaning.specs.Numbers.{Setting, SameWord}
 use Rattle.tied_meaning.specs.Sites.{HasInstruction, HasWord, IsDistance}
-use Rattle.tied_meaning.specs.Ties.{AreTied, IsPlaceOf}
+use Rattle.tied_meaning.specs.Ties.{AreTied}
 use Rattle.tied_meaning.specs.Threads.{InCall}
 use Rattle.site_steps.proofs.Acts.{adds_next, leas_register, loads_pointer}
 use Rattle.site_steps.proofs.Owners.{Begins}
 use Rattle.site_steps.proofs.Called.{AdvancesTo, called_same, goes_to, hidden_call, stack_room}
-use Rattle.site_steps.proofs.Steps.{StepsTo, in_place, one_move, stepped, then_moves}
+use Rattle.site_steps.proofs.Steps.{StepsTo, in_place, one_move, small_place, stepped, sum_small, then_moves}
 use Rattle.tied_memory.proofs.Pointer.{pointer_read}
-use Rattle.tied_memory.proofs.Standing.{stands_at, word_read}
+use Rattle.tied_memory.proofs.Standing.{word_read}
 
 module _ {g : Setting} {m : Meaning} {q : Loads ℕ} {history : List Event} {thread : ℕ} (tied : AreTied g m q history)
     (low : 1 ≤ thread) (high : thread ≤ 64) {h : Meant} {h' : Runs} (call : InCall g m q history thread h h')
@@ -48,10 +48,6 @@ module _ {g : Setting} {m : Meaning} {q : Loads ℕ} {history : List Event} {thr
 
   abbrev pub here : ℕ
   here = h'.after.state.place
-
-  -- where the first instruction stands no sum is cut off
-  placed : (d : Decoded) → HasInstruction q b.x here d → IsPlaceOf b.x here
-  placed d has = stands_at b.it has
 
   pub pointer_is : h'.after.state.thread_pointer ≡ pointer_of thread
   pointer_is = sym call.state.thread_pointer ∙ call.pointer
@@ -73,12 +69,9 @@ module _ {g : Setting} {m : Meaning} {q : Loads ℕ} {history : List Event} {thr
       (record h' { after = left (at_place (with_word h'.after.state Rax (pointer_of thread)) (plus here len)) h'.after.memory })
   pointer_step len at has = one_move (pointer_steps len at has)
 
-  sum_small : (len : ℕ) → len ≤ 15 → (here : ℕ) → here < 2 ^ 39 → here + len ≡ plus here len
-  sum_small len short here low = omega (arith, short, low)
-
   -- the next instruction's place
   pub next_place_is : (d : Decoded) → HasInstruction q b.x here d → (len : ℕ) → len ≤ 15 → here + len ≡ plus here len
-  next_place_is d has len short = sum_small len short here (placed d has).1.1
+  next_place_is d has len short = sum_small len short here (small_place b.it has)
 
   -- ** local dynamic
 
@@ -161,7 +154,7 @@ module _ {g : Setting} {m : Meaning} {q : Loads ℕ} {history : List Event} {thr
       h.after.state h.after.memory))
   unfolding with_register register_of
   gd_le n first second ends distance =
-      let small = (placed _ first).1.1 in
+      let small = small_place b.it first in
       let sound = in_place call in
       call_goes (Number (variable_address s start)) (plus (pointer_of thread) n) h'.after.state.flags
       (plus (plus here 9) 7) 1 (omega arith)
@@ -178,7 +171,7 @@ module _ {g : Setting} {m : Meaning} {q : Loads ℕ} {history : List Event} {thr
       h.after.state h.after.memory))
   unfolding with_register register_of
   gd_ie n word first second ends there distance =
-      let small = (placed _ first).1.1 in
+      let small = small_place b.it first in
       let sound = in_place call in
       let same : word ≡ variable_distance s start (pointer_of thread) = distance thread b.y high b.known_target in
       let next : s.next ≡ plus (plus here 9) 7 = ends ∙ sym (second_place here small) in
