@@ -79,29 +79,6 @@ module _ (q : Loads ℕ) (history : List Event) (legal : IsLegal q.infos q.last_
       known_after (length seen) n x (subst (λ (events : List Event). numbered_instance q events n ≡ Some x) (sym is) at) 0
       (length history) (omega arith) (omega arith)
 
-  -- ** and what is known was live at some time
-
-  abbrev IsLive : ℕ → Instance → Type 0
-  IsLive n x = IsLiveAt q history n x
-
-  live_take : (k n : ℕ) (x : Instance) → numbered_instance q (take k history) n ≡ Some x → IsLive n x
-  live_take k n x e = record { seen = take k history; front = (drop k history, sym (take-append-drop k history)); live = e }
-
-  live_step : (k more n : ℕ) (x : Instance) → (known_from q history n (k + 1) more ≡ Some x → IsLive n x)
-      → (o : Option Instance) → numbered_instance q (take k history) n ≡ o
-      → option_or o (known_from q history n (k + 1) more) ≡ Some x → IsLive n x
-  live_step k more n x rest None e f = rest f
-  live_step k more n x rest (Some y) e f = live_take k n x (e ∙ f)
-
-  live_from : (n : ℕ) (x : Instance) (k more : ℕ) → known_from q history n k more ≡ Some x → IsLive n x
-  live_from n x k zero e = live_take k n x e
-  live_from n x k (suc more) e =
-      live_step k more n x (live_from n x (k + 1) more) (numbered_instance q (take k history) n) refl e
-
-  pub known_live : (n : ℕ) (x : Instance) → known_in q history n ≡ Some x → IsLive n x
-  unfolding known_in
-  known_live n x e = live_from n x 0 (length history) e
-
   -- ** each live instance
 
   -- the instance of a loaded image is found under its number, and by its id
@@ -155,6 +132,30 @@ module _ (q : Loads ℕ) (history : List Event) (legal : IsLegal q.infos q.last_
       (numbered_at (left_by q seen) f.image is).instance f.loaded in
       omega (arith, low, is.made, f.number)
 
+-- ** what is known was live at some time, in any history
+
+module _ (q : Loads ℕ) (history : List Event) where
+  abbrev IsLive : ℕ → Instance → Type 0
+  IsLive n x = IsLiveAt q history n x
+
+  live_take : (k n : ℕ) (x : Instance) → numbered_instance q (take k history) n ≡ Some x → IsLive n x
+  live_take k n x e = record { seen = take k history; front = (drop k history, sym (take-append-drop k history)); live = e }
+
+  live_step : (k more n : ℕ) (x : Instance) → (known_from q history n (k + 1) more ≡ Some x → IsLive n x)
+      → (o : Option Instance) → numbered_instance q (take k history) n ≡ o
+      → option_or o (known_from q history n (k + 1) more) ≡ Some x → IsLive n x
+  live_step k more n x rest None e f = rest f
+  live_step k more n x rest (Some y) e f = live_take k n x (e ∙ f)
+
+  live_from : (n : ℕ) (x : Instance) (k more : ℕ) → known_from q history n k more ≡ Some x → IsLive n x
+  live_from n x k zero e = live_take k n x e
+  live_from n x k (suc more) e =
+      live_step k more n x (live_from n x (k + 1) more) (numbered_instance q (take k history) n) refl e
+
+  pub known_live : (n : ℕ) (x : Instance) → known_in q history n ≡ Some x → IsLive n x
+  unfolding known_in
+  known_live n x e = live_from n x 0 (length history) e
+
   -- who is found under a number has it
   pub numbered_number : (seen : List Event) (n : ℕ) (x : Instance) → numbered_instance q seen n ≡ Some x → x.number ≡ n
   numbered_number seen n x e =
@@ -167,9 +168,9 @@ pub numbers_known : NumbersAreKnown
 numbers_known q history legal seen number x front at = known_is q history legal seen number x front at
 
 pub known_lived : KnownInstancesLived
-known_lived q history legal number x e =
-    let live = known_live q history legal number x e in
-    (live, numbered_number q history legal live.seen number x live.live)
+known_lived q history number x e =
+    let live = known_live q history number x e in
+    (live, numbered_number q history live.seen number x live.live)
 
 pub ids_own : IdsAreOwn
 ids_own q history legal seen x front e = ids q history legal seen x front e

@@ -127,7 +127,7 @@ module _ (q : Loads ℕ) (history : List Event) (legal : IsLegal q.infos q.last_
   pub known_each : (P : Instance → Type 0) → ((seen : List Event) → IsFront seen history → All P (instances q seen))
       → (number : ℕ) (x : Instance) → known_in q history number ≡ Some x → P x × (x.number ≡ number)
   known_each P each number x e =
-      let live = known_live q history legal number x e in (
+      let live = known_live q history number x e in (
         all_found P _ (instances q live.seen) x (each live.seen live.front) live.live,
-        numbered_number q history legal live.seen number x live.live,
+        numbered_number q history live.seen number x live.live,
       )

@@ -35,7 +35,7 @@ module _ (q : Loads ℕ) (history : List Event) (legal : IsLegal q.infos q.last_
       let f = numbered_is q.infos (left_by q seen) n x e in
       let image : f.image ≡ x.image = ap (λ (y : Instance). y.image) f.is in
       let placed = placed_in q history legal seen n x front e in
-      let some : 0 < n = subst (λ (k : ℕ). 0 < k) (numbered_number q history legal seen n x e) placed.some in
+      let some : 0 < n = subst (λ (k : ℕ). 0 < k) (numbered_number q history seen n x e) placed.some in
       let s = startup_kept q.infos q.last_offset seen n here some low in
       elim (cases_eq f.image n) [
         | inl same ↦ sym image ∙ same
@@ -54,8 +54,8 @@ module _ (q : Loads ℕ) (history : List Event) (legal : IsLegal q.infos q.last_
   -- and so it is of each known instance
   pub known_given : (n : ℕ) (x : Instance) → known_in q history n ≡ Some x → IsGiven n x
   known_given n x e =
-      let live = known_live q history legal n x e in
-      let number = numbered_number q history legal live.seen n x live.live in
+      let live = known_live q history n x e in
+      let number = numbered_number q history live.seen n x live.live in
       record {
         number = number;
         some = subst (λ (k : ℕ). 0 < k) number (placed_in q history legal live.seen n x live.front live.live).some;

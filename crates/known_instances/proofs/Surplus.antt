@@ -119,7 +119,7 @@ have_offsets infos last events legal =
 pub static_offsets : StaticBlocksHaveOffsets
 unfolding HasOffset
 static_offsets q history legal number x info known at statics =
-    let live = known_live q history legal number x known in
+    let live = known_live q history number x known in
     let here = legal_front q history legal live.seen live.front in
     let f = numbered_is q.infos (left_by q live.seen) number x live.live in
     let m = is_image q.infos q.last_offset live.seen f.image here f.loaded in

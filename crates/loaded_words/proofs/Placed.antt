@@ -172,7 +172,7 @@ module _ (ls : List Linking) (l : Linking) (x : Instance) (history : List Event)
 
     own_id : x.id ≡ x.image
     own_id =
-        let live = known_live q history is.legal x.number x is.known in
+        let live = known_live q history x.number x is.known in
         let some = given.some in
         let s = startup q history is.legal live.seen x.number live.front some (omega (arith, own_number, image_low)) in
         let same : s.0 ≡ x = same_Some s.0 x (sym s.1.0 ∙ live.live) in
@@ -181,7 +181,7 @@ module _ (ls : List Linking) (l : Linking) (x : Instance) (history : List Event)
     begins : x.offset ≡ Some (static_offset (images_of ls) x.image)
     unfolding static_offset job_loads
     begins =
-        let live = known_live q history is.legal x.number x is.known in
+        let live = known_live q history x.number x is.known in
         let here = legal_front q history is.legal live.seen live.front in
         let f = numbered_is q.infos (left_by q live.seen) x.number x live.live in
         let m = is_image q.infos q.last_offset live.seen f.image here f.loaded in

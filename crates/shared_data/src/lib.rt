@@ -24,7 +24,7 @@
 //! where a byte may be unknown, or a part of an address. All turns of a job are such turns ([`laws::jobs_are_orders`],
 //! [`laws::meanings_are_orders`]).
 //!
-//! Which places are data is no matter of these laws, so it is a law too ([`laws::data_are_there`],
+//! These laws are of places of data, and which these are is a law of its own ([`laws::data_are_there`],
 //! [`laws::meant_data_are_there`]): byte k of the data of an instance is at place k of the range in which a thread holds
 //! them, if nothing else that it holds lies there. Of a live instance it holds them in the range that the load fills; after
 //! a load as the loader fills them, and after a look as they were before.

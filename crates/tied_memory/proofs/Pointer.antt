@@ -109,4 +109,4 @@ module _ {g : Setting} {m : Meaning} {q : Loads ℕ} {history : List Event} {thr
       (ap (λ (n : ℕ). Ok n) (digits_spell_word (pointer_of thread) (omega (arith, small))))
 
 pub pointers_loaded : PointersAreLoaded
-pointers_loaded g m q history thread tied low high owners space sound = pointer_read tied low high sound
+pointers_loaded g m q history thread tied low owners space sound high = pointer_read tied low high sound

@@ -88,9 +88,9 @@ module _ {g : Setting} {m : Meaning} {q : Loads ℕ} {history : List Event} {thr
 -- ** the laws
 
 pub are_fetched : InstructionsAreFetched
-are_fetched g m q history thread tied low high owners space sound x live place d has =
+are_fetched g m q history thread tied low owners space sound x live place d has =
     fetched tied low sound (tied_at tied space.seen sound.front x.number x live).0 live has
 
 pub are_loaded : WordsAreLoaded
-are_loaded g m q history thread tied low high owners space sound x live address word has small =
+are_loaded g m q history thread tied low owners space sound x live address word has small =
     word_read tied low sound (tied_at tied space.seen sound.front x.number x live).0 live address word has small

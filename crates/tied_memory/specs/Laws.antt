@@ -17,11 +17,11 @@ use Rattle.tied_meaning.specs.Sites.{HasInstruction, HasWord}
 use Rattle.tied_meaning.specs.Ties.{AreTied}
 use Rattle.tied_memory.specs.Places.{AreInPlace}
 
--- so it is of each of the first 64 threads, in any memory of its in which what it writes is in its place. Which owners
--- its ranges have, and which history the job ends with, is any
+-- so it is of each thread, in any memory of its in which what it writes is in its place. Which owners its ranges have, and
+-- which history the job ends with, is any
 abbrev pub OfThreads : (Loads ℕ → ℕ → Space Event ℕ → Type 0) → Type 0
 OfThreads Reads = (g : Setting) (m : Meaning) (q : Loads ℕ) (history : List Event) (thread : ℕ)
-    → AreTied g m q history → 1 ≤ thread → thread ≤ 64
+    → AreTied g m q history → 1 ≤ thread
     → (owners : List Owner) (space : Space Event ℕ) → AreInPlace g q history thread owners space → Reads q thread space
 
 abbrev pub InstructionsAreFetched : Type 0
@@ -36,6 +36,7 @@ WordsAreLoaded = OfThreads (λ q thread space. (x : Instance)
     → (address word : ℕ) → HasWord q x address word → word < 2 ^ 64
     → load_of plain_operations (thread_accesses q thread) space address 8 ≡ Ok word)
 
+-- of the first 64 threads: a much later one has its pointer past 2^64
 abbrev pub PointersAreLoaded : Type 0
-PointersAreLoaded = OfThreads (λ q thread space.
-    load_of plain_operations (thread_accesses q thread) space (pointer_of thread) 8 ≡ Ok (pointer_of thread))
+PointersAreLoaded = OfThreads (λ q thread space. thread ≤ 64
+    → load_of plain_operations (thread_accesses q thread) space (pointer_of thread) 8 ≡ Ok (pointer_of thread))
