@@ -51,7 +51,7 @@ filter_each p (x ∷ xs) = either (p x) refl (filter_each p xs)
     either false e rest = rest
 
 module _ {W F B : Type 0} where
-  held_changed : (f : Held W F B → Held W F B) (phase : Phase (Held W F B)) → held_in (changed f phase) ≡ f (held_in phase)
+  pub held_changed : (f : Held W F B → Held W F B) (phase : Phase (Held W F B)) → held_in (changed f phase) ≡ f (held_in phase)
   held_changed f (Idle h) = refl
   held_changed f (Mid steps points h) = refl
 
@@ -87,7 +87,7 @@ module _ {W F B : Type 0} (l : Loads B) (x : ℕ → Turns (Held W F B) Line Eve
   event i = event_by l i
 
   -- the event is that of the thread, with the data in its hands or without
-  same_event : (i : ℕ) (xs : List (Owned B)) (seen : List Event) (todo : List Line) (phase : Phase (Held W F B))
+  pub same_event : (i : ℕ) (xs : List (Owned B)) (seen : List Event) (todo : List Line) (phase : Phase (Held W F B))
       (said : List Said) (old : List Event)
       → let t : Thread (Held W F B) Line Event = record { todo = todo; phase = phase; said = said; seen = old } in
       event_of (event i) (with_data xs t) seen ≡ event_of (event i) t seen

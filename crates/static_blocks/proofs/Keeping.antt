@@ -252,7 +252,7 @@ module _ (l : Loads ℕ) (thread : ℕ) (history : List Event) (known : ℕ → 
     look_turn steps todo said seen points (Says ending h) fits = fits
     look_turn steps todo said seen points (Calls h) fits = run_fits todo said seen points steps h fits
 
-    turn_at_fits : (todo : List Line) (phase : Phase Runs) (said : List Said) (old seen : List Event) → IsFront seen history
+    pub turn_at_fits : (todo : List Line) (phase : Phase Runs) (said : List Said) (old seen : List Event) → IsFront seen history
         → IsFront (with_event seen (event_of (event_by l thread) (record {
           todo = todo;
           phase = phase;

@@ -7,3 +7,5 @@ pub mod Steps
 pub mod Keeping
 pub mod Filling
 pub mod Own
+pub mod Lent
+pub mod Jobs

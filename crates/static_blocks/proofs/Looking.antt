@@ -24,7 +24,7 @@ module _ (l : Loads ℕ) (thread : ℕ) where
   data_entry y (Some range) None more are = are
   data_entry y (Some range) (Some bytes) more are = (refl, are)
 
-  data_made : (loads : Instance → Bool) (xs : List (Owned ℕ)) (live : List Instance)
+  pub data_made : (loads : Instance → Bool) (xs : List (Owned ℕ)) (live : List Instance)
       → AreData l thread (owners_of (flat_map (data_after l loads xs) live)) (ranges_in (flat_map (data_after l loads xs) live))
   data_made loads xs [] = tt
   data_made loads xs (y ∷ live) =
@@ -36,7 +36,7 @@ module _ (l : Loads ℕ) (thread : ℕ) where
   no_ranges [] o os shape = shape
   no_ranges (y ∷ ys) o os shape = shape
 
-  loose : (y : Instance) (ys : List Instance) (os : List Owner) (rs : List (Range ℕ)) → y.offset ≡ None
+  pub loose : (y : Instance) (ys : List Instance) (os : List Owner) (rs : List (Range ℕ)) → y.offset ≡ None
       → Shape l thread ys os rs → Shape l thread (y ∷ ys) os rs
   loose y ys [] rs none shape = (none, shape)
   loose y ys (o ∷ os) [] none shape = no_ranges ys o os shape

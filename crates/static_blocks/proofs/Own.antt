@@ -149,10 +149,10 @@ module _ (m : JobImages) (thread : ℕ) (history : List Event) (are : AreInfos (
   unfolding job_loads last_offset
   last = refl
 
-  abbrev known : ℕ → Option Instance
+  abbrev pub known : ℕ → Option Instance
   known = known_in l history
 
-  each : (seen : List Event) → IsFront seen history
+  pub each : (seen : List Event) → IsFront seen history
       → All (λ (y : Instance). (known y.number ≡ Some y) × (numbered_instance l seen y.number ≡ Some y)) (instances l seen)
   each seen front = λ k d less.
       let live = all_live l history legal last seen front k d less in (live.known, live.numbered)
@@ -167,7 +167,7 @@ module _ (m : JobImages) (thread : ℕ) (history : List Event) (are : AreInfos (
       fresh_long m x image.index no_module.info fits (ap (λ (y : Instance). y.image) (sym live.is) ∙ image.image) image.within
       ∙ ap (λ (i : ImageInfo). i.size) (sym image.info)
 
-  blocks_of_live : (h : Runs) → Fits l thread history known each h → HasOwnBlocks l thread h
+  pub blocks_of_live : (h : Runs) → Fits l thread history known each h → HasOwnBlocks l thread h
   blocks_of_live h keeps x offset numbered at =
       let seen = h.after.memory.seen in
       let all = all_live l history legal last seen keeps.0 in

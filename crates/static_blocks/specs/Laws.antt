@@ -18,10 +18,10 @@ use Rattle.static_blocks.specs.Blocks.{HasOwnBlocks}
 use Rattle.thread_blocks.specs.Held.{block_bytes, looked, owned_by}
 use Rattle.thread_blocks.specs.Instances.{Loads, numbered_instance}
 use Rattle.thread_blocks.specs.JobLoads.{job_loads}
-use Rattle.thread_blocks.specs.JobWorlds.{held_in}
-use Rattle.thread_blocks.specs.Lines.{event_by}
+use Rattle.thread_blocks.specs.JobWorlds.{held_in, job_start, shared_order, with_data}
+use Rattle.thread_blocks.specs.Lines.{Line, event_by}
 use Rattle.thread_blocks.specs.RunTime.{Runs, thread_turns}
-use Rattle.thread_blocks.specs.Turns.{event_of, turns, with_event}
+use Rattle.thread_blocks.specs.Turns.{Thread, Turns, at_number, event_of, turns, with_event}
 use Rattle.thread_blocks.specs.TurnsAlike.{IsFront}
 
 -- an image's initial image is no longer than the blocks that begin with it (gABI, "Program Header": p_filesz, p_memsz)
@@ -59,3 +59,17 @@ StaticBlocksAreOwn = (m : JobImages) (fuel thread : ℕ) (own : List ThreadLine)
     → IsFront (with_event seen (event_of (event_by l thread) t seen)) history
     → steps_of all t.todo t.phase seen ≡ Some from
     → HasOwnBlocks l thread (state_after (run all.steps n from.1)))
+
+-- in any order of turns of a job's threads, each of which begins with the data that the turn before left, each thread has
+-- its own blocks between its turns; and so it has after any number of steps of its next one, with the data in its hands
+abbrev pub JobBlocksAreOwn : Type 0
+JobBlocksAreOwn = (m : JobImages) (fuel : ℕ) (lines : List (List ThreadLine)) (order : List ℕ) → AreInfos (infos m)
+    → InitialsFit m
+    → let l = job_loads m in
+    let all : ℕ → Turns Runs Line Event = λ i. thread_turns l i fuel in
+    let w = shared_order all (λ i. event_by l i) order (job_start l lines) in
+    (thread : ℕ) (t : Thread Runs Line Event) → at_number w.threads thread ≡ Some t
+    → HasOwnBlocks l thread (held_in t.phase)
+    × ((from : ℕ × Runs) (n : ℕ)
+    → steps_of (all thread) (with_data w.shared t).todo (with_data w.shared t).phase w.events ≡ Some from
+    → HasOwnBlocks l thread (state_after (run (all thread).steps n from.1)))

@@ -1,6 +1,6 @@
 //! The laws. The functions do nothing: what they ensure is the law.
 
-ghost use Rattle.static_blocks.specs.Laws.{FreshBlocksAreFilled, LooksFillBlocks, StaticBlocksAreOwn};
+ghost use Rattle.static_blocks.specs.Laws.{FreshBlocksAreFilled, JobBlocksAreOwn, LooksFillBlocks, StaticBlocksAreOwn};
 
 /// A fresh block is the initial image, as the instance has it, and zeros.
 pub fn fresh_blocks_are_filled()
@@ -17,4 +17,9 @@ pub fn looks_fill_blocks()
 /// instance at a fixed distance: all that reaches a place of it reaches this block.
 pub fn static_blocks_are_own()
     ensures { StaticBlocksAreOwn }
+{}
+
+/// In any order of turns of a job each thread has them, between its turns and within, whatever data other threads wrote.
+pub fn job_blocks_are_own()
+    ensures { JobBlocksAreOwn }
 {}

@@ -12,25 +12,27 @@
 //! 0x23fffffffe0   07 00 00 00 00 00 00 00 ..  the module's, from the first look on that sees it open
 //! ```
 //!
-//! The rule of the crate: **after any turns, at points of a legal history, and at each step within a turn, a thread has its
-//! own block of each live instance at a fixed distance, and each access to a place of that block reaches it**
-//! ([`laws::static_blocks_are_own`]; `specs/Blocks`, `HasBlock`). It is found under its instance's number and begins where
-//! the instance's offset says; it is as long as a fresh one; what is read at its place are its bytes; a store there is
-//! allowed, and goes into them. A look leaves a block with what stands in it, and where there was none makes a fresh one
+//! The rule of the crate: **in any order of turns of a job, between turns and at each step within one, a thread has its own
+//! block of each live instance at a fixed distance, and each access to a place of that block reaches it**
+//! ([`laws::job_blocks_are_own`]; `specs/Blocks`, `HasBlock`). It is found under its instance's number and begins where the
+//! instance's offset says; it is as long as a fresh one; what is read at its place are its bytes; a store there is allowed,
+//! and goes into them. A look leaves a block with what stands in it, and where there was none makes a fresh one
 //! ([`laws::looks_fill_blocks`]), which is the initial image and zeros ([`laws::fresh_blocks_are_filled`]).
 //!
-//! The premises are what every job has: what is known of its images is in order (`AreInfos`), none has an initial image longer
-//! than its blocks, each event was accepted, and what turns see are fronts of the history, with the thread's own event
-//! behind them (`lawful_points`, `AtFronts`).
-//!
 //! Code makes its accesses within turns. So the law speaks of the state between two turns, and of each that comes after a
-//! turn's look and any number of steps (`steps_of`, of `shared_data`, says where these begin). It is said of a thread that
-//! takes its turns by itself. Of turns that begin with data which other threads wrote nothing is said yet.
+//! turn's look and any number of steps (`steps_of`, of `shared_data`, says where these begin), with the data in hand that the
+//! turn before left, whoever took it. So it is too of a thread that takes its turns by itself, at any points of a history
+//! ([`laws::static_blocks_are_own`]).
+//!
+//! The premises are what every job has: what is known of its images is in order (`AreInfos`), and none has an initial image
+//! longer than its blocks. Of a thread by itself it is asked too that each event was accepted, and that what its turns see
+//! are fronts of the history, with the thread's own event behind them (`lawful_points`, `AtFronts`).
 //!
 //! The proof follows the list of what a thread holds: a block of each live instance, in their order, and data behind
-//! (`proofs/Shapes`). Looks and writes keep that shape (`proofs/Keeping`). No two of these blocks share an address
-//! (`proofs/Live`): static ones by the laws of `module_table`, and any other lies far below them. Which instance a number
-//! stands for, in all of a history, and that its block ends below the thread pointer, `known_instances` says.
+//! (`proofs/Shapes`). Looks and writes keep that shape (`proofs/Keeping`), and so do data that are lent and taken back
+//! (`proofs/Lent`); all turns of a job follow (`proofs/Jobs`). No two of these blocks share an address (`proofs/Live`):
+//! static ones by the laws of `module_table`, and any other lies far below them. Which instance a number stands for, in all
+//! of a history, and that its block ends below the thread pointer, `known_instances` says.
 #![tactic(auto)]
 
 pub mod laws;
