@@ -37,7 +37,7 @@ digits n (suc (suc (suc (suc (suc (suc (suc zero))))))) below = refl
 digits n (suc (suc (suc (suc (suc (suc (suc (suc k)))))))) below = absurd (omega arith)
 
 -- those of a number modulo 2^64 are its own
-low_digit : (n k : ℕ) → k < 8 → digit (n % 2 ^ 64) k ≡ digit n k
+pub low_digit : (n k : ℕ) → k < 8 → digit (n % 2 ^ 64) k ≡ digit n k
 unfolding plain_operations
 low_digit n k below = plain_laws.byte_of-word n k below
 
