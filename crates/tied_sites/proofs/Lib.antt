@@ -1,4 +1,4 @@
-mod AllSites
+pub mod AllSites
 mod Bytes
 mod Calls
 mod Cells
