@@ -1,8 +1,7 @@
 -- What is loaded of linked images is tied to what they mean, so that what is printed is what is meant.
-use Rattle.std.proofs.Common.{◌≡◌, List, [], refl}
+use Rattle.std.proofs.Common.{List, []}
 use Rattle.std.proofs.lemmas.List.{append-nil}
 use Rattle.known_instances.proofs.Legal.{job_legal}
-use Rattle.link_needs.specs.Linking.{Linking}
 use Rattle.loaded_bytes.specs.Laws.{images_of}
 use Rattle.module_table.specs.declared.events.Event.{Event}
 use Rattle.thread_blocks.proofs.Histories.{histories_legal}
@@ -21,8 +20,6 @@ whole events = ([], search (append-nil))
 
 pub linked_jobs : LinkedJobsPrint
 linked_jobs ls fuel lines order job few clean =
-    let q = job_loads (images_of ls) in
-    let history = (job_world (job_loads (images_of ls)) fuel lines order).events in
     let legal = job_legal (images_of ls) (job_world (job_loads (images_of ls)) fuel lines order).events (are_infos ls job)
     (histories_legal (job_loads (images_of ls)) fuel lines order) in
     tied_jobs (setting_of ls (job_world (job_loads (images_of ls)) fuel lines order).events) (meaning_of ls)

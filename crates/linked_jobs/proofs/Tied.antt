@@ -1,6 +1,4 @@
 -- All sequences stand, so that all that is loaded is tied.
-use Rattle.std.specs.Prelude.{List}
-use Rattle.link_needs.specs.Linking.{Linking}
 use Rattle.tied_fields.proofs.Jobs.{jobs_tied}
 use Rattle.tied_sites.proofs.AllSites.{all_sites}
 use Rattle.linked_jobs.specs.Laws.{LinksAreTied}

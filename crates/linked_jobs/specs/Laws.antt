@@ -33,8 +33,10 @@ pub record AreJob (ls : List Linking) : Type 0 where
 abbrev pub LinkedJobsPrint : Type 0
 LinkedJobsPrint = (ls : List Linking) (fuel : ℕ) (lines : List (List ThreadLine)) (order : List ℕ) → AreJob ls
     → length lines ≤ 64 → verdict_of (lines_of (meant_world (meaning_of ls) fuel lines order)) ≡ None
-    → ((job_world (job_loads (images_of ls)) fuel lines order).events ≡ (meant_world (meaning_of ls) fuel lines order).events)
-    × (all_said (job_world (job_loads (images_of ls)) fuel lines order) ≡ lines_of (meant_world (meaning_of ls) fuel lines order))
+    → ((job_world (job_loads (images_of ls)) fuel lines order).events
+    ≡ (meant_world (meaning_of ls) fuel lines order).events)
+    × (all_said (job_world (job_loads (images_of ls)) fuel lines order)
+    ≡ lines_of (meant_world (meaning_of ls) fuel lines order))
 
 -- a clean thread prints what it means by itself, at whatever fronts of a legal history its turns look
 abbrev pub LinkedThreadsPrint : Type 0
