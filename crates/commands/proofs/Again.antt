@@ -10,6 +10,7 @@ use Rattle.link_core.specs.Images.{LinkedImage, image_of, linked_of}
 use Rattle.link_needs.specs.Given.{IsGiven}
 use Rattle.link_needs.specs.Linking.{Linking}
 use Rattle.linked_modules.specs.Together.{LinkedImagesAreModules}
+use Rattle.link_faults.specs.declared.image_kind.ImageKind.{ImageKind}
 use Rattle.loaded_modules.specs.Given.{AreModules, LateLast}
 use Rattle.commands.specs.Runs.{AreLinks}
 use Rattle.commands.proofs.Transcribed.{AreBack, images_are}
@@ -20,8 +21,9 @@ module _ (job : JobParts) (ls : List Linking) (links : AreLinks job ls) (all : L
   all_hold tls =
       All-same (λ (linked : LinkedImage). HoldsTls (outline_of linked.image)) all (map linked_of ls) all_is
       (All-map (λ (linked : LinkedImage). HoldsTls (outline_of linked.image)) linked_of ls
-      (λ k d below. tls (get_or ls k d) (links.together.given k d below) (links.together.links k d below)))
+      (λ k d below. tls (get_or ls k d) (links.links.ready.together.given k d below) (links.links.ready.together.links k d below)))
 
-  pub are_modules : LinkedImagesAreModules → LateLast (map (λ image. image.kind) job.images) → (images : List Spelled) → AreBack job all images → AreModules job images
-  are_modules are late images back =
-      subst (AreModules job) (sym (images_are job ls links all all_is images back)) (are job ls links.together links.kinds late)
+  pub are_modules : LinkedImagesAreModules → (images : List Spelled) → AreBack job all images → AreModules job images
+  are_modules are images back =
+      let late = subst (λ (kinds : List ImageKind). LateLast kinds) links.kinds links.links.ready.late in
+      subst (AreModules job) (sym (images_are job ls links all all_is images back)) (are job ls links.links.ready.together links.kinds late)

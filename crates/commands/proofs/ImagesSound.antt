@@ -16,7 +16,7 @@ use Rattle.link_needs.specs.Linking.{Linking}
 use Rattle.meant_images.specs.Images.{AreSound}
 
 -- an image whose accesses of thread-local storage are sequences
-none_stray : (images : List Given) (relax : Bool) (g : Given) → IsGiven g → HasNoStray (link_in images relax g)
+pub none_stray : (images : List Given) (relax : Bool) (g : Given) → IsGiven g → HasNoStray (link_in images relax g)
 unfolding link_in
 none_stray images relax g given o below = let sound = given.sound o [] below in (sound.no_loose, sound.no_stray)
 

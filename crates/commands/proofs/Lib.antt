@@ -13,6 +13,7 @@ mod Mentioned
 mod NeverRefused
 mod NoFault
 mod Places
+mod ProgramFirst
 mod Running
 mod SameGiven
 mod Shown

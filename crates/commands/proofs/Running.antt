@@ -1,5 +1,5 @@
 -- The steps of `run`, joined.
-use Rattle.std.proofs.Common.{◌≡◌, ◌∙◌, ◌≤◌, ℕ, Bool, List, All, [], ◌∷◌, length, map, get_or, IfSome, Option, Result, Some, None, Err, inl, inr, refl, sym, ap, arith}
+use Rattle.std.proofs.Common.{◌≡◌, ◌∙◌, ◌≤◌, ◌<◌, ◌^◌, ℕ, Bool, List, All, [], ◌∷◌, length, map, get_or, IfSome, Option, Result, Some, None, Err, inl, inr, refl, sym, ap, subst, arith}
 use Rattle.std.specs.List.{Contains}
 use Rattle.std.proofs.lemmas.List.{length-map}
 use Rattle.std.proofs.lemmas.List.Elements.{All-cons, All-map, All-nil, All-same, All-weaker}
@@ -11,18 +11,23 @@ use Rattle.job_link.specs.Linked.{AllLink, link_in}
 use Rattle.job_link.specs.LinkLaws.{is_given, kinds_linked}
 use Rattle.job_link.specs.Mentions.{AreFilesOf, Fetched, bytes_at, bytes_in, object_names}
 use Rattle.job_link.specs.Refusals.{IsImageRefusal}
-use Rattle.job_run.specs.Plain.{AreBytes}
 use Rattle.job_text.specs.declared.images.Image.{Image}
 use Rattle.job_text.specs.Jobs.{JobParts}
+use Rattle.job_text.specs.LateImages.{LateLast}
 use Rattle.link_core.specs.Images.{linked_of}
+use Rattle.link_core.specs.Laws.{HasNoStray}
+use Rattle.link_faults.specs.declared.image_kind.ImageKind.{ImageKind}
 use Rattle.link_needs.specs.Given.{IsGiven}
 use Rattle.link_needs.specs.Linking.{Linking}
+use Rattle.loaded_bytes.specs.Small.{AreBytes}
+use Rattle.loaded_words.specs.Laws.{ProgramFirst}
 use Rattle.ports.specs.Files.{Files}
 use Rattle.commands.specs.LinkSteps.{IsImageRefusalOf}
 use Rattle.commands.specs.Links.{IsUnlinked}
 use Rattle.commands.specs.RunJobs.{BytesRun, ImagesRun, ObjectsRun, links_of}
-use Rattle.commands.specs.Runs.{AreLinks}
+use Rattle.commands.specs.Runs.{AreInOrder, AreLinks, IsOfFew}
 use Rattle.commands.specs.declared.told.Purpose.{Purpose}
+use Rattle.commands.proofs.ImagesSound.{none_stray}
 use Rattle.commands.proofs.Making.{fault_by, is_unlinked}
 use Rattle.commands.proofs.Mentioned.{given_at, faulty_at}
 use Rattle.commands.proofs.Stages.{Text, comes_by, items}
@@ -90,11 +95,36 @@ module _ (job : JobParts) (images : List Given) (relax : Bool) (bytes : List ℕ
   all_small each =
       All-map (λ (l : Linking). All AreBytes l.objects) (link_in images relax) images (of_names bytes each images job.images are.objects)
 
-  pub are_links : ((name : List ℕ) → AreBytes (bytes name)) → AllLink images relax → AreLinks job (links_of images relax)
-  are_links each links = record {
-    together = together images relax all_given links;
-    kinds = kinds_linked images relax images ∙ are.kinds;
-    bytes = all_small each;
+  all_stray : All HasNoStray (links_of images relax)
+  all_stray =
+      All-map HasNoStray (link_in images relax) images
+      (All-weaker IsGivenImage (λ g. HasNoStray (link_in images relax g)) (none_stray images relax) images are.given)
+
+  all_few : All IsOfFew images → All (λ (l : Linking). length l.objects < 2 ^ 32) (links_of images relax)
+  unfolding link_in
+  all_few each = All-map (λ (l : Linking). length l.objects < 2 ^ 32) (link_in images relax) images each
+
+  kinds_are : map (λ (l : Linking). l.kind) (links_of images relax) ≡ map (λ (i : Image). i.kind) job.images
+  kinds_are = kinds_linked images relax images ∙ are.kinds
+
+  few_links : length (links_of images relax) ≤ 64
+  few_links = let long = length-map images (link_in images relax) in let count = count_is in omega (arith, long, count, few)
+
+  pub are_links : ((name : List ℕ) → AreBytes (bytes name)) → AreInOrder (map (λ (i : Image). i.kind) job.images) → All IsOfFew images
+      → AllLink images relax → AreLinks job (links_of images relax)
+  are_links each order of_few links = record {
+    links = record {
+      ready = record {
+        together = together images relax all_given links;
+        bytes = all_small each;
+        stray = all_stray;
+        few = all_few of_few;
+        program = subst (λ (kinds : List ImageKind). ProgramFirst kinds) (sym kinds_are) order.program;
+        late = subst (λ (kinds : List ImageKind). LateLast kinds) (sym kinds_are) order.late;
+      };
+      few = few_links;
+    };
+    kinds = kinds_are;
   }
 
 -- what they came to

@@ -7,10 +7,11 @@ ghost use Rattle.command_replies.specs.Faults.{NoStoreFault};
 ghost use Rattle.command_replies.specs.Steps.{Comes};
 ghost use Rattle.job_link.specs.Mentions.{bytes_in};
 ghost use Rattle.generated_job.specs.Generated.{generated_files};
-ghost use Rattle.loaded_modules.specs.Given.{LateLast};
+ghost use Rattle.commands.specs.Runs.{AreInOrder};
 ghost use Rattle.commands.specs.GeneratedRuns.{GenSays};
 ghost use Rattle.commands.specs.RunJobs.{BytesRun};
 
+use crate::order::images_are_in_order;
 use crate::telling::Telling;
 use crate::told::{Purpose, told_of_files};
 use command_replies::{CommandFault, job_of};
@@ -20,7 +21,6 @@ use generated_laws::objects::generated_objects_are_faultless;
 use generated_laws::texts::generated_texts_are_jobs;
 use job_link::Files;
 use job_text::Job;
-use loaded_modules::laws::late_images_come_last;
 use std::alloc::{AllocError, Global};
 use std::thread::Threads;
 
@@ -35,7 +35,7 @@ pub fn generated<R: Threads + Sync>(
     ensures says { Comes (λ text. text.items) (GenSays count) result }
     ensures cause { NoStoreFault result }
 {
-    late_images_come_last();
+    images_are_in_order();
     generated_texts_are_jobs();
     generated_objects_are_faultless();
     generated_objects_link();
@@ -55,7 +55,7 @@ fn run_generated<R: Threads + Sync>(
 ) -> Result<Vec<u8>, CommandFault>
     requires some { 1 ≤ count }
     requires few { count ≤ 1000 }
-    requires late { LateLast (map (λ image. image.kind) job.now.images) }
+    requires order { AreInOrder (map (λ image. image.kind) job.now.images) }
     ensures says { Comes (λ text. text.items) (BytesRun (Purpose.Run (Telling.Summary count)) true
         (bytes_in (generated_files count)) job.now) result }
     ensures cause { NoStoreFault result }

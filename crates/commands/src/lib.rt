@@ -38,6 +38,7 @@ mod command;
 mod generated;
 mod links;
 mod made;
+mod order;
 mod runs;
 mod telling;
 mod told;

@@ -3,26 +3,29 @@
 //! Each image is written into its file and read back from it, and then all threads of the job take their turns over the
 //! images that were read. So what is printed comes of bytes that `link` would put into files, by a reader and a run time
 //! that know nothing of this linker.
-ghost use Rattle.std.specs.Prelude.{◌≡◌, List, All, IfOk, map};
+//!
+//! What is printed is the machine's, and of a clean job also what its objects mean: `HasRun` says both, and the laws of
+//! `linked_jobs` tie the one to the other.
+ghost use Rattle.std.specs.Prelude.{◌≡◌, List, All, IfOk, map, true};
 ghost use Rattle.commands.specs.RunJobs.{IsTold};
-ghost use Rattle.commands.specs.Runs.{AreLinks, HasRun, read_back};
+ghost use Rattle.commands.specs.Runs.{AreLinks, HasRun, IsOfFew, read_back};
 ghost use Rattle.image_file.specs.Spelled.{spelled};
 ghost use Rattle.image_writer.specs.Loadable.{HoldsTls};
 ghost use Rattle.image_writer.specs.Outlined.{outline_of};
 ghost use Rattle.image_writer.specs.Written.{written};
 ghost use Rattle.link_core.specs.Images.{linked_of};
 ghost use Rattle.link_needs.specs.Linking.{Linking};
-ghost use Rattle.loaded_modules.specs.Given.{LateLast};
 ghost use Rattle.transcript_text.specs.Texts.{IsImageNumber};
 
 use crate::telling::Telling;
 use image_file::Image;
 use image_writer::into_file;
-use job_run::laws::threads_print_their_meaning;
+use job_link::ImageObjects;
 use job_text::Job;
 use job_turns::run_job;
 use link_core::Linked;
 use link_core::laws::images_hold_tls;
+use linked_jobs::{linked_jobs_print, transcripts_tell_their_threads};
 use linked_modules::laws::linked_images_are_modules;
 use loaded_modules::Modules;
 use run_summary::SiteCounts;
@@ -37,7 +40,6 @@ pub fn told_run(
     telling: Telling,
 ) -> Result<Vec<u8>, AllocError>
     requires links { (ls : List Linking) × AreLinks job.now ls × (all.items ≡ map linked_of ls) }
-    requires late { LateLast (map (λ image. image.kind) job.now.images) }
     ensures { IfOk result (λ text. (ls : List Linking) → AreLinks job.now ls → all.items ≡ map linked_of ls
         → IsTold telling job.now ls text.items) }
 {
@@ -50,7 +52,6 @@ pub fn told_run(
 /// read.
 fn run_linked(alloc: Global, job: &Job, all: Vec<Linked>) -> Result<Transcript, AllocError>
     requires links { (ls : List Linking) × AreLinks job.now ls × (all.items ≡ map linked_of ls) }
-    requires late { LateLast (map (λ image. image.kind) job.now.images) }
     ensures ran { IfOk result (λ transcript. (ls : List Linking) → AreLinks job.now ls → all.items ≡ map linked_of ls
         → HasRun job.now ls transcript) }
     ensures images { IfOk result (λ transcript.
@@ -58,10 +59,25 @@ fn run_linked(alloc: Global, job: &Job, all: Vec<Linked>) -> Result<Transcript, 
 {
     images_hold_tls();
     linked_images_are_modules();
-    threads_print_their_meaning();
+    linked_jobs_print();
+    transcripts_tell_their_threads();
+    let _threads = job.threads();
     let images = images_again(alloc, all)?;
     let modules = Modules::new(alloc, job, images)?;
     run_job(alloc, job, &modules)
+}
+
+/// Whether each image is linked of so few objects that each of their symbols has a number of its own.
+pub fn are_of_few(images: &[ImageObjects]) -> bool
+    ensures few { result ≡ true → All IsOfFew images.now }
+    ensures many { All IsOfFew images.now → result ≡ true }
+{
+    for image in images {
+        if image.objects().len() >= 1 << 32 {
+            return false;
+        }
+    }
+    true
 }
 
 /// All linked images, each as it is read from the file that is written of it.

@@ -9,18 +9,18 @@ ghost use Rattle.commands.specs.RunJobs.{BytesRun, ImagesRun, JobSays, ObjectsRu
 ghost use Rattle.commands.specs.RunJobs.{job_names, run_names};
 ghost use Rattle.job_link.specs.Given.{AreGiven};
 ghost use Rattle.job_link.specs.Mentions.{bytes_in, object_names};
-ghost use Rattle.job_run.specs.Plain.{AreBytes};
+ghost use Rattle.loaded_bytes.specs.Small.{AreBytes};
 ghost use Rattle.job_text.specs.Jobs.{job_of as job_of_text};
-ghost use Rattle.loaded_modules.specs.Given.{LateLast};
+ghost use Rattle.commands.specs.Runs.{AreInOrder};
 
 use crate::checks::verdict_line;
-use crate::runs::told_run;
+use crate::order::images_are_in_order;
+use crate::runs::{are_of_few, told_run};
 use crate::telling::Telling;
 use crate::unlinked::{unlinked, unread};
 use command_replies::{CommandFault, job_of, whole_file};
 use job_link::{Files, ImageObjects, fetch_objects, link_images, read_objects};
 use job_text::Job;
-use loaded_modules::laws::late_images_come_last;
 use ports::Store;
 use std::alloc::Global;
 use std::thread::Threads;
@@ -71,7 +71,7 @@ fn told_of_text<R: Threads + Sync, S: Store>(
         (JobSays purpose relax fs (job_of_text text.now)) result) }
     ensures asks { Asks (job_names (job_of_text text.now)) (S.asked store.old) (S.asked store.new) result }
 {
-    late_images_come_last();
+    images_are_in_order();
     match job_of(alloc, text) {
         Ok(job) => told_of_job(rt, alloc, store, &job, relax, purpose),
         Err(fault) => Err(fault),
@@ -87,7 +87,7 @@ fn told_of_job<R: Threads + Sync, S: Store>(
     relax: bool,
     purpose: Purpose,
 ) -> Result<Vec<u8>, CommandFault>
-    requires late { LateLast (map (λ image. image.kind) job.now.images) }
+    requires order { AreInOrder (map (λ image. image.kind) job.now.images) }
     ensures files { S.files store.new ≡ S.files store.old }
     ensures cause { StoreCounts (S.faults store.old) (S.faults store.new) result }
     ensures says { IfSome (S.files store.old) (λ fs. Comes (λ text. text.items)
@@ -108,7 +108,7 @@ pub fn told_of_files<R: Threads + Sync>(
     relax: bool,
     purpose: Purpose,
 ) -> Result<Vec<u8>, CommandFault>
-    requires late { LateLast (map (λ image. image.kind) job.now.images) }
+    requires order { AreInOrder (map (λ image. image.kind) job.now.images) }
     ensures says { Comes (λ text. text.items) (BytesRun purpose relax (bytes_in files.now) job.now) result }
     ensures cause { NoStoreFault result }
 {
@@ -130,14 +130,20 @@ fn told_of_images<R: Threads + Sync>(
 ) -> Result<Vec<u8>, CommandFault>
     requires given { (bytes : List ℕ → List ℕ) × AreGiven bytes job.now images.now
         × ((name : List ℕ) → AreBytes (bytes name)) }
-    requires late { LateLast (map (λ image. image.kind) job.now.images) }
+    requires order { AreInOrder (map (λ image. image.kind) job.now.images) }
     ensures says { Comes (λ text. text.items) (ImagesRun purpose relax job.now images.now) result }
     ensures cause { NoStoreFault result }
 {
     let _images = job.images();
     match link_images(rt, alloc, images, relax) {
         Ok(all) => match purpose {
-            Purpose::Run(telling) => Ok(told_run(alloc, job, all, telling)?),
+            Purpose::Run(telling) => {
+                if are_of_few(images) {
+                    Ok(told_run(alloc, job, all, telling)?)
+                } else {
+                    Err(CommandFault::OutOfMemory)
+                }
+            }
             Purpose::Check => verdict_line(alloc, job, images, relax),
         },
         Err(refusal) => Err(unlinked(alloc, job, refusal)),

@@ -1,3 +1,5 @@
 mod Infos
 pub mod Printing
+mod Telling
 mod Tied
+mod WithoutData

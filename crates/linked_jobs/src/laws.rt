@@ -1,6 +1,7 @@
 //! The laws. The functions do nothing: what they ensure is the law.
 
 ghost use Rattle.linked_jobs.specs.Laws.{LinkedJobsPrint, LinkedThreadsPrint, LinksAreTied};
+ghost use Rattle.linked_jobs.specs.Laws.{TranscriptsTellTheirThreads};
 
 /// All that a loader leaves of linked images is tied to all that their objects mean, at each time of a job.
 pub fn links_are_tied()
@@ -15,4 +16,10 @@ pub fn linked_jobs_print()
 /// And so does each clean thread by itself, whatever points its turns see.
 pub fn linked_threads_print()
     ensures { LinkedThreadsPrint }
+{}
+
+/// So where no image has data that threads write, each thread of a transcript that is clean at the points that it prints
+/// has what its lines mean there.
+pub fn transcripts_tell_their_threads()
+    ensures { TranscriptsTellTheirThreads }
 {}

@@ -9,7 +9,8 @@ pub told_run-requires-clause-links : goal.told_run-requires-clause-links
 told_run-requires-clause-links g c = (
   links_of c.args.images.now c.args.relax,
   are_links c.args.job.now c.args.images.now c.args.relax c.requires.given.0 c.requires.given.1
-      (subst (λ is. length is ≤ 64) c.images-images.ensures.value c.images-images.ensures.few) c.requires.given.2 c.in-Ok.ensures.links,
+      (subst (λ is. length is ≤ 64) c.images-images.ensures.value c.images-images.ensures.few) c.requires.given.2 c.requires.order
+      (c.are_of_few.ensures.few c.in-true.is) c.in-Ok.ensures.links,
   c.in-Ok.ensures.linked ∙ linked_all c.args.images.now c.args.relax c.args.images.now,
 )
 
@@ -20,7 +21,8 @@ pub returns-in_ok-told_run-in-Run-clause-says : goal.returns-in_ok-told_run-in-R
 returns-in_ok-told_run-in-Run-clause-says g c =
     let links =
     are_links c.args.job.now c.args.images.now c.args.relax c.requires.given.0 c.requires.given.1
-    (subst (λ is. length is ≤ 64) c.images-images.ensures.value c.images-images.ensures.few) c.requires.given.2 c.in-Ok.ensures.links in
+    (subst (λ is. length is ≤ 64) c.images-images.ensures.value c.images-images.ensures.few) c.requires.given.2 c.requires.order
+      (c.are_of_few.ensures.few c.in-true.is) c.in-Ok.ensures.links in
     images_run c.args.purpose c.in-Run.telling c.in-Run.is c.args.relax c.args.job.now c.args.images.now c.in-Ok.ensures.links
     c.in_ok-told_run-in-Run.field-0.items
     (c.in_ok-told_run-in-Run.ensures (links_of c.args.images.now c.args.relax) links

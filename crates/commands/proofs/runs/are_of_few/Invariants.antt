@@ -1,0 +1,6 @@
+use Rattle.std.specs.List.{All}
+use Rattle.commands.specs.Runs.{IsOfFew}
+use Rattle.commands.proofs.runs.are_of_few.Given as goal
+
+abbrev pub invariant-loop-image : goal.invariant-loop-image
+invariant-loop-image l = All IsOfFew l.yielded
