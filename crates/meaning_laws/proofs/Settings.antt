@@ -14,7 +14,9 @@ use Rattle.sequence_forms.specs.declared.forms.Form.{Form}
 use Rattle.sequence_forms.specs.declared.forms.Form.TheVariants.{Ld, LdInd}
 use Rattle.sequence_forms.specs.declared.places.Site.{Site}
 use Rattle.thread_blocks.specs.Turns.{at_number}
+use Rattle.whole_meaning.specs.declared.marks.Mark.{Mark}
 use Rattle.whole_meaning.specs.declared.marks.Mark.TheVariants.{Usual}
+use Rattle.whole_meaning.specs.declared.sequences.Sequence.{Sequence}
 use Rattle.whole_meaning.specs.Bytes.{block_bytes, class_bytes, function_of, value_of, variable_of}
 use Rattle.whole_meaning.specs.Code.{mark_of, no_variable, sequence_of, sequence_with, shared_by, starts_at, variable_by, variable_for}
 use Rattle.whole_meaning.specs.Jobs.{lines_of, meant_world, verdict_of}
@@ -66,7 +68,8 @@ module _ (relax : Bool) where
   abbrev moved_function : List ℕ → Linking → ℕ → Option ℕ
   moved_function name l bias = option_map (λ at. at + bias) (function_of l name)
 
-  function_same : (name : List ℕ) (l : Linking) (bias : ℕ) → moved_function name (set l) bias ≡ moved_function name l bias
+  function_same : (name : List ℕ) (l : Linking) (bias : ℕ)
+      → moved_function name (set l) bias ≡ moved_function name l bias
   unfolding function_of address
   function_same name l bias = refl
 
@@ -135,8 +138,10 @@ module _ (relax : Bool) where
   loads_same ls = λ i. record {
     infos = infos_same ls i;
     last_offset = startup_end (infos_same ls i) 0;
-    function = λ x name. image None (moved_function name) (moved_function name) (function_same name) ls x.image x.number i;
-    variable = λ k name. found (λ l. variable_of l name) (λ l. variable_of l name) (variable_same name) ls k i;
+    function = λ x name.
+        let f = moved_function name in image None f f (function_same name) ls x.image x.number i;
+    variable = λ k name.
+        let f : Linking → Option ℕ = λ l. variable_of l name in found f f (variable_same name) ls k i;
     fixed = λ x. image [] still_ranges still_ranges fixed_same ls x.image x.number i;
     tables = λ x. [];
     shared = λ x. image None data_ranges data_ranges shared_same ls x.image x.number i;
@@ -147,12 +152,15 @@ module _ (relax : Bool) where
   unfolding meaning_of
   meaning_same ls = λ i. record {
     loads = loads_same ls i;
-    mark = λ x place. image Usual (λ l bias. mark_of l bias place) (λ l bias. mark_of l bias place) (mark_same place) ls x.image x.number i;
+    mark = λ x place.
+        let f : Linking → ℕ → Mark = λ l bias. mark_of l bias place in
+        image Usual f f (mark_same place) ls x.image x.number i;
     sequence = λ x place.
-        image None (λ l bias. sequence_of (map set ls) x.image x.number l place)
-        (λ l bias. sequence_of ls x.image x.number l place) (λ l bias. sequence_same ls x.image x.number l place) ls x.image
-        x.number i;
-    room = λ x place. image false (λ l bias. in_room l bias place) (λ l bias. in_room l bias place) (room_same place) ls x.image x.number i;
+        let f : List Linking → Linking → ℕ → Option Sequence = λ ls l bias. sequence_of ls x.image x.number l place in
+        image None (f (map set ls)) (f ls) (λ l bias. sequence_same ls x.image x.number l place) ls x.image x.number i;
+    room = λ x place.
+        let f : Linking → ℕ → Bool = λ l bias. in_room l bias place in
+        image false f f (room_same place) ls x.image x.number i;
   }
 
 -- the laws

@@ -31,13 +31,16 @@ ThreadsMeanTheirOwn = (m : Meaning) (fuel : ℕ) (lines : List (List ThreadLine)
 abbrev pub ImagesWithoutDataShareNone : Type 0
 ImagesWithoutDataShareNone = (ls : List Linking) → All (λ l. has_data l ≡ false) ls → HasNoData (meaning_of ls)
 
--- the meaning is one thing whether sequences may be rewritten or not, image by image the same
-abbrev pub MeaningKnowsNoSetting : Type 0
-MeaningKnowsNoSetting = (ls : List Linking) (relax : Bool)
-    → meaning_of (map (λ (l : Linking). record l { relax = relax }) ls) ≡ meaning_of ls
+-- the links of a job, where sequences may be rewritten, or not
+abbrev pub set_to : Bool → List Linking → List Linking
+set_to relax ls = map (λ (l : Linking). record l { relax = relax }) ls
 
--- and so is the verdict on a job: no step is unclean in both settings, or the same one is the first
+-- the meaning is one thing in both settings
+abbrev pub MeaningKnowsNoSetting : Type 0
+MeaningKnowsNoSetting = (ls : List Linking) (relax : Bool) → meaning_of (set_to relax ls) ≡ meaning_of ls
+
+-- and so is the verdict on a job: no step is unclean in either, or the same one is the first
 abbrev pub VerdictKnowsNoSetting : Type 0
 VerdictKnowsNoSetting = (ls : List Linking) (relax : Bool) (fuel : ℕ) (lines : List (List ThreadLine)) (order : List ℕ)
-    → verdict_of (lines_of (meant_world (meaning_of (map (λ (l : Linking). record l { relax = relax }) ls)) fuel lines order))
+    → verdict_of (lines_of (meant_world (meaning_of (set_to relax ls)) fuel lines order))
     ≡ verdict_of (lines_of (meant_world (meaning_of ls) fuel lines order))

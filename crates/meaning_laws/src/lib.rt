@@ -16,8 +16,8 @@
 //! none has a byte in a writable section ([`laws::images_without_data_share_none`]).
 //!
 //! A linker may rewrite sequences of thread-local storage, or must keep them: one setting for all links of a job. **The
-//! meaning is one thing in both** ([`laws::meaning_knows_no_setting`]), since a sequence is one step of it whatever stands
-//! in its place; and so is the verdict on a job, clean or where it is unclean first
+//! meaning is one thing in both** ([`laws::meaning_knows_no_setting`]), since a sequence is one step of it whatever
+//! stands in its place; and so is the verdict on a job, clean or where it is unclean first
 //! ([`laws::verdict_knows_no_setting`]). What is found of a job once holds for its images with rewritten sequences and
 //! with kept ones.
 #![tactic(auto)]
