@@ -4,3 +4,4 @@ pub mod Alone
 pub mod Steps
 pub mod OwnTurns
 pub mod NoData
+pub mod Settings

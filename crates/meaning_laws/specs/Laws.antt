@@ -1,5 +1,5 @@
--- What each thread of a job means by itself, and where that is all.
-use Rattle.std.specs.Prelude.{◌≡◌, ℕ, false, List, [], Some, None}
+-- What each thread of a job means by itself, and where that is all; and that no linker's setting enters.
+use Rattle.std.specs.Prelude.{◌≡◌, ℕ, Bool, false, List, [], Some, None, map}
 use Rattle.std.specs.List.{All}
 use Rattle.job_text.specs.declared.thread_lines.ThreadLine.{ThreadLine}
 use Rattle.link_needs.specs.Linking.{Linking}
@@ -8,7 +8,7 @@ use Rattle.module_table.specs.declared.events.Event.{Event}
 use Rattle.thread_blocks.specs.JobWorlds.{numbered_lines}
 use Rattle.thread_blocks.specs.Turns.{at_number, ready, turns}
 use Rattle.thread_blocks.specs.TurnsAlike.{AllFronts, IsFront, Rises}
-use Rattle.whole_meaning.specs.Jobs.{meant_world}
+use Rattle.whole_meaning.specs.Jobs.{lines_of, meant_world, verdict_of}
 use Rattle.whole_meaning.specs.Loads.{has_data, meaning_of}
 use Rattle.whole_meaning.specs.Meanings.{Meaning}
 use Rattle.whole_meaning.specs.Threads.{meant_ready, meant_turns}
@@ -30,3 +30,17 @@ ThreadsMeanTheirOwn = (m : Meaning) (fuel : ℕ) (lines : List (List ThreadLine)
 -- images whose objects have no byte in a writable section have no such data
 abbrev pub ImagesWithoutDataShareNone : Type 0
 ImagesWithoutDataShareNone = (ls : List Linking) → All (λ l. has_data l ≡ false) ls → HasNoData (meaning_of ls)
+
+-- the links of a job, where sequences may be rewritten, or not
+abbrev pub set_to : Bool → List Linking → List Linking
+set_to relax ls = map (λ (l : Linking). record l { relax = relax }) ls
+
+-- the meaning is one thing in both settings
+abbrev pub MeaningKnowsNoSetting : Type 0
+MeaningKnowsNoSetting = (ls : List Linking) (relax : Bool) → meaning_of (set_to relax ls) ≡ meaning_of ls
+
+-- and so is the verdict on a job: no step is unclean in either, or the same one is the first
+abbrev pub VerdictKnowsNoSetting : Type 0
+VerdictKnowsNoSetting = (ls : List Linking) (relax : Bool) (fuel : ℕ) (lines : List (List ThreadLine)) (order : List ℕ)
+    → verdict_of (lines_of (meant_world (meaning_of (set_to relax ls)) fuel lines order))
+    ≡ verdict_of (lines_of (meant_world (meaning_of ls) fuel lines order))
