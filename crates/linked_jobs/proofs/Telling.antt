@@ -1,6 +1,6 @@
 -- What a transcript's lines tell of each thread by itself.
-use Rattle.std.proofs.Common.{◌≡◌, ◌∙◌, ◌≤◌, ◌<◌, ℕ, zero, suc, List, [], ◌∷◌, length, map, Option, Some, None, refl, sym, ap, subst, arith}
-use Rattle.std.specs.Prelude.{◌⊎◌, inl, inr, take}
+use Rattle.std.proofs.Common.{◌≡◌, ◌∙◌, ◌≤◌, ◌<◌, ℕ, zero, suc, List, [], ◌∷◌, length, map, Option, Some, None, inl, inr, refl, sym, ap, subst, arith}
+use Rattle.std.specs.Prelude.{◌⊎◌, take}
 use Rattle.std.proofs.lemmas.Option.{slice_get_within}
 use Rattle.begin_alike.proofs.Printed.{verdict_clean}
 use Rattle.begin_alike.specs.Laws.{meant_thread}
