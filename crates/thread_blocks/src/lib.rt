@@ -14,8 +14,8 @@
 //! points.
 //!
 //! **Turns** (`specs/Turns.antt`) are defined over any steps, lines and events: `turn`, and `turns` at any lists of
-//! events. Threads whose steps follow each other do so turn by turn, up to the first unclean line (`specs/TurnsAlike.antt`,
-//! `turn_alike`, `turns_alike`).
+//! events. That two threads have done the same, up to the first unclean line, is stated in `specs/TurnsAlike.antt`; that
+//! turns leave it so is a law of `order_laws`.
 //!
 //! **Orders** (`specs/JobWorlds.antt`): each entry of an order lets a thread take a turn that sees the whole history, has
 //! the shared data in its hands, and may add its event (`shared_order`). A whole job is its own order and then each thread
