@@ -1,8 +1,7 @@
 -- A call begins alike on both sides: with the same arguments and a fresh stack, at the same place.
-use Rattle.std.proofs.Common.{◌≡◌, ◌∙◌, ℕ, ◌+◌, ◌-◌, List, [], ◌++◌, All, length, replicate, Option, Some, None, refl, sym, ap, subst, inr, arith}
+use Rattle.std.proofs.Common.{◌≡◌, ◌∙◌, ℕ, ◌+◌, ◌-◌, List, ◌++◌, All, length, replicate, Option, Some, None, refl, sym, ap, subst, inr, arith}
 use Rattle.std.proofs.lemmas.List.{length-append, length-replicate}
 use Rattle.guest_arithmetic.specs.Plain.{plain_operations}
-use Rattle.guest_machine.specs.Use.{left}
 use Rattle.job_meaning.specs.declared.values.Byte.{Byte}
 use Rattle.job_meaning.specs.declared.values.Byte.TheVariants.{Value}
 use Rattle.job_meaning.specs.Marked.{marked_operations}
@@ -11,10 +10,10 @@ use Rattle.module_table.specs.declared.events.Event.{Event}
 use Rattle.thread_blocks.specs.Held.{Owner, owned}
 use Rattle.thread_blocks.specs.Instances.{Loads}
 use Rattle.thread_blocks.specs.Lines.{begun_at, begun_in}
-use Rattle.thread_blocks.specs.MachineTurns.{CallLine, Loaded, SameRun, call_start, fresh_space, fresh_stack, return_place, stack_size, word_bytes, zeros}
+use Rattle.thread_blocks.specs.MachineTurns.{fresh_stack, return_place, stack_size, word_bytes, zeros}
 use Rattle.thread_blocks.specs.RunTime.{Runs}
 use Rattle.thread_blocks.specs.Turns.{Begun, Ending}
-use Rattle.thread_blocks.proofs.Begin.{begin_call_alike}
+use Rattle.thread_blocks.proofs.Begin.{call_start_alike, stack_alike}
 use Rattle.whole_meaning.specs.Meanings.{Meaning}
 use Rattle.whole_meaning.specs.Threads.{Meant, ops}
 use Rattle.tied_meaning.specs.Numbers.{Setting, alike}
@@ -34,10 +33,6 @@ is_deep : length (fresh_stack ops) ≡ stack_size
 unfolding marked_operations
 is_deep = behind_zeros (stack_size - 8) (word_bytes ops return_place)
 
--- a load of which nothing is known but where the function begins
-abbrev loaded_at_place : {B : Type 0} → ℕ → Loaded B
-loaded_at_place place = record { entry = λ symbol. Some place; fixed = []; blocks = λ thread. [] }
-
 zero_byte : (g : Setting) → (alike g).byte (ops.byte 0) (plain_operations.byte 0)
 unfolding alike marked_operations plain_operations
 zero_byte g = (refl, omega arith)
@@ -51,29 +46,20 @@ module _ (g : Setting) (m : Meaning) (q : Loads ℕ) (history : List Event) (thr
   abbrev Begins : Begun Meant → Begun Runs → Type 0
   Begins = BegunAlike g m q history thread seen
 
-  abbrev call_line : CallLine
-  call_line = record { symbol = symbol; a = a; b = b; c = c }
-
-  runs_alike : (place : ℕ) → SameRun (alike g) h.after.memory.seen
-      (left (call_start ops thread place call_line) (fresh_space ops h.after.memory.seen h.after.memory.own))
-      (left (call_start plain_operations thread place call_line)
-      (fresh_space plain_operations h.after.memory.seen h'.after.memory.own))
-  unfolding alike
-  runs_alike place =
-      begin_call_alike (alike g) ops plain_operations (values_follow g) (zero_byte g) (loaded_at_place place)
-      (loaded_at_place place) thread (λ symbol. refl) call_line h.after.memory.seen h.after h'.after
-      (record { own = r.own })
-
   -- of a function that begins here, if there is one
   at_alike : (place : Option ℕ) → Begins (begun_at ops m.loads show thread symbol a b c h place)
       (begun_at plain_operations q show' thread symbol a b c h' place)
   unfolding alike
   at_alike None = inr (refl, r)
-  at_alike (Some place) = let both = runs_alike place in record {
-    state = both.after.state;
+  at_alike (Some place) = record {
+    state = call_start_alike (alike g) ops plain_operations (values_follow g) (zero_byte g) thread place a b c;
     pointer = refl;
     memory = record {
-      space = record { seen = r.seen; stack = both.after.memory.stack; own = r.own };
+      space = record {
+        seen = r.seen;
+        stack = stack_alike (alike g) ops plain_operations (values_follow g) (zero_byte g);
+        own = r.own;
+      };
       events = refl;
       placed =
           subst (λ (os : List Owner). All (IsPlaced g q thread) (owned os h'.after.memory.own)) r.owners r.placed;

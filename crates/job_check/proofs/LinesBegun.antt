@@ -107,7 +107,7 @@ module _ (line : Line) (symbol : List ℕ) (a b c : ℕ) (p : Past) (k : Kept) (
   pub call_begins : (x : Instance) (place : ℕ) (new : Kept) (first : State Word Flag)
       → loaded_instance (infos_of k.images) line.told.image (module_of p line.told.image) ≡ Some x
       → (loads_of k.images).function x symbol ≡ Some place → new ≡ record k { stack = fresh_stack ops }
-      → ((name : List ℕ) → first ≡ call_start ops k.thread place (record { symbol = name; a = a; b = b; c = c }))
+      → first ≡ call_start ops k.thread place a b c
       → BeginsCall line symbol a b c p k (Calls first) p new
   unfolding begun_for
   call_begins x place new first is found fresh state = rw fresh (record {
@@ -119,7 +119,7 @@ module _ (line : Line) (symbol : List ℕ) (a b c : ℕ) (p : Past) (k : Kept) (
         subst (BegunAs line.number seen old there (Calls first))
         (sym (ap (begun_for seen (held_at seen old k)) (found_at k.images p seen left line.told.image ∙ is)
         ∙ ap (λ at. begun_at ops (loads_of k.images) (shows line k seen) k.thread symbol a b c (held_at seen old k) at) found))
-        (rw (state symbol) refl);
+        (rw state refl);
   })
 
 -- ** peeks
@@ -240,7 +240,7 @@ number_is : (n : ℕ) → n < 2 ^ 64 → ops.word n ≡ Number n
 unfolding marked_operations
 number_is n small = let same : n % 2 ^ 64 ≡ n = omega (arith, small) in ap Number same
 
-pub marked_start : (thread place a b c : ℕ) (symbol : List ℕ) → a < 2 ^ 64 → b < 2 ^ 64 → c < 2 ^ 64
-    → call_start ops thread place (record { symbol = symbol; a = a; b = b; c = c })
+pub marked_start : (thread place a b c : ℕ) → a < 2 ^ 64 → b < 2 ^ 64 → c < 2 ^ 64
+    → call_start ops thread place a b c
     ≡ (record (start_of ops place (stack_end thread - 8) (Number a) (Number b) (Number c)) { thread_pointer = pointer_of thread })
-marked_start thread place a b c symbol f g h = rw (number_is a f, number_is b g, number_is c h) refl
+marked_start thread place a b c f g h = rw (number_is a f, number_is b g, number_is c h) refl

@@ -1,6 +1,6 @@
 //! What the first look of a thread's line comes to.
 
-ghost use Rattle.std.specs.Prelude.{◌≡◌, ◌≤◌, ◌<◌, ◌+◌, ◌^◌, ℕ, List, IfOk, OnOk, is_some, length, map, option_map};
+ghost use Rattle.std.specs.Prelude.{◌≡◌, ◌≤◌, ◌<◌, ◌+◌, ◌^◌, ℕ, IfOk, OnOk, is_some, length, map, option_map};
 ghost use Rattle.job_meaning.specs.Marked.{values_of};
 ghost use Rattle.module_table.specs.Past.{module_of};
 ghost use Rattle.thread_blocks.specs.Instances.{instances_in, loaded_instance};
@@ -38,8 +38,7 @@ const CLEAN: Started = Started::Says(None);
 /// The registers before a call of the function at a place.
 fn registers_at(thread: u32, place: u64, a: u64, b: u64, c: u64) -> State<Word, Flag>
     requires { thread ≤ 64 }
-    ensures { (symbol : List ℕ) → result
-        ≡ call_start ops thread place (record { symbol = symbol; a = a; b = b; c = c }) }
+    ensures { result ≡ call_start ops thread place a b c }
 {
     let thread = u64::from(thread);
     let stack = thread * (1 << 40) + (1 << 39) - 8;

@@ -1,4 +1,4 @@
--- The image's step follows the meaning's, whatever numbers a linker writes into fields.
+-- What spells an instruction spells it with other numbers in its fields.
 use Rattle.std.proofs.Common.{◌≡◌, ℕ, ◌+◌, ◌-◌, ◌<◌, ◌≤◌, ◌⊎◌, inl, inr, true, List, ◌++◌, length, take, drop, Option, Some, None, refl, sym, ap, subst, ◌∙◌, append_assoc, arith}
 use Rattle.std.specs.Prelude.{IfSome}
 use Rattle.std.specs.List.{slice_get}
@@ -20,12 +20,6 @@ placed_of bytes d e = decoded_placed bytes (Some d) (sym e)
 
 pub length_of : (bytes : List ℕ) (d : Decoded) → decoded bytes ≡ Some d → d.len ≤ length bytes
 length_of bytes d e = decoded_length bytes (Some d) (sym e)
-
-same_some : {A : Type 0} (o : Option A) (a b : A) → o ≡ Some a → o ≡ Some b → a ≡ b
-same_some o a b e f = cc
-
-none_some : {A : Type 0} (o : Option A) (a : A) → o ≡ None → o ≡ Some a → ⊥
-none_some o a e f = cc
 
 -- the bytes before an instruction's last begin one
 pub front-begins : (bytes : List ℕ) (d : Decoded) (k : ℕ) → decoded bytes ≡ Some d → k < d.len → begins_of (take k bytes) ≡ true

@@ -1,9 +1,4 @@
-pub mod Code
-pub mod Laws
 pub mod Marked
 pub mod MarkedLaws
 pub mod Owner
 pub mod Reading
-pub mod Running
-pub mod Same
-pub mod Spaces

@@ -23,14 +23,14 @@ use Rattle.module_table.proofs.StartLemmas.{length-first_modules}
 use Rattle.module_table.proofs.Starting.{past_start}
 use Rattle.module_table.proofs.Steps.{late_within, loaded_within}
 use Rattle.thread_blocks.specs.JobLoads.{job_loads}
-use Rattle.thread_blocks.specs.JobWorlds.{Shared, job_start, job_world}
+use Rattle.thread_blocks.specs.JobWorlds.{Shared, Tells, job_start, job_world}
 use Rattle.thread_blocks.specs.Lines.{Line}
 use Rattle.thread_blocks.specs.MachineTurns.{shown}
 use Rattle.thread_blocks.specs.Turns.{finishing}
 use Rattle.transcript_text.specs.Texts.{Shown}
 use Rattle.job_turns.specs.Standing.{Run}
 use Rattle.job_turns.specs.Progress.{IsFirst, Progress, Stands, StandsForSome, TakesTurns}
-use Rattle.job_turns.specs.Transcripts.{IsTranscript, transcript_of}
+use Rattle.job_turns.specs.Transcripts.{transcript_of}
 use Rattle.job_turns.proofs.FirstTurn.{first_stands}
 use Rattle.job_turns.proofs.Lists.{same_images, set-length}
 use Rattle.job_turns.proofs.Orders.{takes_both}
@@ -42,7 +42,7 @@ map-map f g [] = refl
 map-map f g (x ∷ xs) = ap (λ ys. f (g x) ∷ ys) (map-map f g xs)
 
 pub stands_shown : (m : JobImages) (fuel : ℕ) (w : Shared ℕ Bool ℕ Line) (x : Progress) → Stands m fuel w x
-    → IsTranscript w (transcript_of x)
+    → Tells w (transcript_of x)
 stands_shown m fuel w x stands = record {
   events = stands.events_are;
   lines = map-map (map Some) (λ (r : Run). r.said) x.runs
@@ -139,7 +139,7 @@ module _ (m : JobImages) (job : JobParts) (x y z : Progress) (first : IsFirst m 
       (job_start (job_loads m) job.lines) (first_stands m job x first)
 
   pub all_shown : {X : Type 0} (result : Result Shown X) → IfOk result (λ shown. shown ≡ transcript_of z)
-      → IfOk result (λ shown. IsTranscript (job_world (job_loads m) job.fuel job.lines job.order) shown)
+      → IfOk result (λ shown. Tells (job_world (job_loads m) job.fuel job.lines job.order) shown)
   all_shown (Ok shown) is = rw is (stands_shown m job.fuel (job_world (job_loads m) job.fuel job.lines job.order) z whole_world)
   all_shown (Err why) is = tt
 

@@ -79,7 +79,7 @@ module _ (k : Kept) (image : ℕ) (symbol : List ℕ) (a b c : ℕ) where
   pub call_begins : (x : Instance) (place : ℕ) (new : Kept) (m : Standing ℕ Bool)
       → loaded_instance (infos k.vector.images) image (module_of k.vector.past image) ≡ Some x
       → (job_loads k.vector.images).function x symbol ≡ Some place → HasFreshStack k new
-      → ((name : List ℕ) → m.state ≡ call_start plain_operations k.vector.thread place (record { symbol = name; a = a; b = b; c = c })) → m.taken ≡ 0
+      → m.state ≡ call_start plain_operations k.vector.thread place a b c → m.taken ≡ 0
       → BeginsCall image symbol a b c k (Calls m) new
   unfolding l begun_for
   call_begins x place new m is found fresh state taken = record {
@@ -93,7 +93,7 @@ module _ (k : Kept) (image : ℕ) (symbol : List ℕ) (a b c : ℕ) where
     past = ap (λ v. v.past) fresh.vector;
     begins = λ seen old asked has_seen.
         ap (begun_for (held_at seen old asked k)) (found_at k seen has_seen image ∙ is)
-        ∙ rw (found, state symbol, fresh.vector, fresh.data_is, fresh.stack) refl;
+        ∙ rw (found, state, fresh.vector, fresh.data_is, fresh.stack) refl;
   }
 
 -- ** peeks

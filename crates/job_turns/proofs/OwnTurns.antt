@@ -3,7 +3,6 @@ use Rattle.std.proofs.Common.{◌≡◌, ◌∙◌, ◌+◌, ◌-◌, ◌++◌, 
 use Rattle.std.specs.Prelude.{drop, slice_get}
 use Rattle.std.proofs.lemmas.List.{drop_more}
 use Rattle.guest_arithmetic.specs.Plain.{plain_operations}
-use Rattle.guest_machine.specs.Run.{Outcome, Ended, Waits, run}
 use Rattle.guest_operands.specs.declared.state.State.{State}
 use Rattle.guest_operands.specs.Use.{left}
 use Rattle.job_text.specs.declared.thread_lines.ThreadLine.{ThreadLine}
@@ -11,15 +10,17 @@ use Rattle.module_data.specs.Pieces.{Piece}
 use Rattle.module_table.specs.declared.events.Event.{Event}
 use Rattle.module_table.specs.Past.{after}
 use Rattle.thread_blocks.specs.declared.asked.Asked.{Asked}
-use Rattle.thread_blocks.specs.Held.{Owned, Owner, looked, looked_at, owned_by, owners_of, ranges_in, with_owned}
+use Rattle.thread_blocks.specs.Held.{Owned, looked, looked_at, owned_by, owners_of, ranges_in, with_owned}
 use Rattle.thread_blocks.specs.Instances.{Loads}
 use Rattle.thread_blocks.specs.JobLoads.{job_loads}
 use Rattle.thread_blocks.specs.JobStatements.{HasNoData}
-use Rattle.thread_blocks.specs.JobWorlds.{blocks_in, changed, held_in, numbered_lines, with_data, without_data}
+use Rattle.thread_blocks.specs.JobWorlds.{changed, held_in, numbered_lines, with_data}
 use Rattle.thread_blocks.specs.Lines.{Line, begin_line, begun_by}
 use Rattle.thread_blocks.specs.RunTime.{Runs, resume_line, shows, thread_turns}
-use Rattle.thread_blocks.specs.Turns.{Said, Begun, Says, Calls, Turns, Phase, Idle, Mid, Thread, after_look, after_run, turn, turn_at, with_last}
-use Rattle.thread_blocks.proofs.OwnBlocks.{BegunHolds, HoldsBlocks, OutHolds, begin_holds, blocks_again, no_data, owners_again, ranges_again, resume_holds, run_holds}
+use Rattle.thread_blocks.specs.Turns.{Said, Turns, Phase, Idle, Mid, Thread, after_look, turn, turn_at, with_last}
+use Rattle.thread_blocks.proofs.Alone.{Holds, KeepsBlocks, look_keeps, without_none}
+use Rattle.thread_blocks.proofs.Blocks.{no_data}
+use Rattle.thread_blocks.proofs.OwnBlocks.{keeps_blocks}
 use Rattle.thread_space.specs.Kept.{Kept, blocks_of, shared_of}
 use Rattle.thread_space.proofs.Owners.{owned_again}
 use Rattle.job_turns.specs.Alone.{StandsAlone, TakesOwnTurn, has_data}
@@ -77,24 +78,12 @@ Moves todo (Mid steps points h) = in_hands h ≡ h
 
 -- ** what it leaves holds blocks
 
-abbrev Holds : Ours → Type 0
-Holds t = HoldsBlocks (held_in t.phase)
-
 module _ (l : Loads ℕ) (none : HasNoData l) (thread fuel : ℕ) where
   abbrev x : Turns Runs Line Event
   x = thread_turns l thread fuel
 
-  run_keeps : (todo : List Line) (said : List Said) (seen : List Event) (points : List ℕ) (out : Outcome Runs)
-      → OutHolds l none thread out → Holds (after_run todo said seen points out)
-  run_keeps todo said seen points (Ended stop n h) holds = holds
-  run_keeps todo said seen points (Waits n h) holds = holds
-
-  look_keeps : (steps : ℕ) (todo : List Line) (said : List Said) (seen : List Event) (points : List ℕ) (begun : Begun Runs)
-      → BegunHolds l none thread begun → Holds (after_look x steps todo said seen points begun)
-  unfolding thread_turns
-  look_keeps steps todo said seen points (Says ending h) holds = holds
-  look_keeps steps todo said seen points (Calls h) holds =
-      run_keeps todo said seen points (run x.steps steps h) (run_holds l none thread steps h holds)
+  keeps : KeepsBlocks x
+  keeps = keeps_blocks l none thread fuel
 
   record IsSameTurn (todo : List Line) (phase : Phase Runs) (said : List Said) (old seen : List Event) : Type 0 where
     pub same : turn_at x todo (changed in_hands phase) said old seen ≡ turn_at x todo phase said old seen
@@ -106,36 +95,16 @@ module _ (l : Loads ℕ) (none : HasNoData l) (thread fuel : ℕ) where
   same_turn [] (Idle h) said old seen moves = absurd moves
   same_turn (line ∷ todo) (Idle h) said old seen moves = record {
     same = ap (after_look x x.fuel todo said seen (length seen ∷ [])) (same_begin l thread fuel line seen h);
-    holds = look_keeps x.fuel todo said seen (length seen ∷ []) (x.begin line seen h) (begin_holds l none thread line seen h);
+    holds = look_keeps x keeps x.fuel todo said seen (length seen ∷ []) (x.begin line seen h) (keeps.begin line seen h);
   }
   same_turn [] (Mid steps points h) said old seen moves = record {
     same = ap (λ g. after_look x (steps - 1) [] said seen (with_last points (length seen)) (resume_line l thread seen g)) moves;
-    holds = look_keeps (steps - 1) [] said seen (with_last points (length seen)) (x.resume seen h) (resume_holds l none thread seen h);
+    holds = look_keeps x keeps (steps - 1) [] said seen (with_last points (length seen)) (x.resume seen h) (keeps.resume seen h);
   }
   same_turn (line ∷ todo) (Mid steps points h) said old seen moves = record {
     same = ap (λ g. after_look x (steps - 1) (line ∷ todo) said seen (with_last points (length seen)) (resume_line l thread seen g)) moves;
-    holds = look_keeps (steps - 1) (line ∷ todo) said seen (with_last points (length seen)) (x.resume seen h) (resume_holds l none thread seen h);
+    holds = look_keeps x keeps (steps - 1) (line ∷ todo) said seen (with_last points (length seen)) (x.resume seen h) (keeps.resume seen h);
   }
-
--- ** and that taking none out of its hands is no change
-
-none_out : (h : Runs) → HoldsBlocks h → with_owned h (blocks_in (owned_by h)) ≡ h
-none_out h holds =
-    ap (with_owned h) (blocks_again h.owners h.after.memory.own holds)
-    ∙ ap (λ (os : List Owner). record {
-      after = left h.after.state (record h.after.memory { own = ranges_in (owned_by h) });
-      owners = os;
-      asked = h.asked;
-    }) (owners_again h.owners h.after.memory.own holds)
-    ∙ ap (λ own. record { after = left h.after.state (record h.after.memory { own = own }); owners = h.owners; asked = h.asked })
-    (ranges_again h.owners h.after.memory.own holds)
-
-phase_out : (phase : Phase Runs) → HoldsBlocks (held_in phase) → changed (λ h. with_owned h (blocks_in (owned_by h))) phase ≡ phase
-phase_out (Idle h) holds = ap (λ g. Idle g) (none_out h holds)
-phase_out (Mid steps points h) holds = ap (λ g. Mid steps points g) (none_out h holds)
-
-thread_out : (t : Ours) → Holds t → without_data t ≡ t
-thread_out t holds = ap (λ (phase : Phase Runs). record t { phase = phase }) (phase_out t.phase holds)
 
 -- ** runners
 
@@ -183,7 +152,7 @@ module _ (old new : Run) (events : List Event) (d d' : List Piece) (none : has_d
     alone shared =
         let own = subst (λ (u : Ours). StandsAfter new d' now u) is_alone shared in
         record {
-          stands = subst (λ (u : Ours). StandsFor new u) (thread_out (turn turns_of t seen) is_same.holds) own.stands;
+          stands = subst (λ (u : Ours). StandsFor new u) (without_none (turn turns_of t seen) is_same.holds) own.stands;
           has_seen = own.has_seen;
         }
 
@@ -193,7 +162,7 @@ module _ (old new : Run) (events : List Event) (d d' : List Piece) (none : has_d
         let u = turn turns_of t seen in
         let held = held_in u.phase in
         subst (λ (u : Ours). StandsAfter new d' now u) (sym is_alone) (record {
-          stands = subst (λ (u : Ours). StandsFor new u) (sym (thread_out u is_same.holds)) own.stands;
+          stands = subst (λ (u : Ours). StandsFor new u) (sym (without_none u is_same.holds)) own.stands;
           shared = no_data held.owners held.after.memory.own is_same.holds
               ∙ sym (none_shared new.kept.vector.images (ap has_data images ∙ none) new.kept.vector.past d');
           has_seen = own.has_seen;

@@ -1,9 +1,8 @@
 //! All turns of a job.
 
 ghost use Rattle.std.specs.Prelude.{◌≡◌, All, IfOk, map};
-ghost use Rattle.job_turns.specs.Transcripts.{IsTranscript};
 ghost use Rattle.thread_blocks.specs.JobLoads.{job_loads};
-ghost use Rattle.thread_blocks.specs.JobWorlds.{job_world};
+ghost use Rattle.thread_blocks.specs.JobWorlds.{Tells, job_world};
 ghost use Rattle.transcript_text.specs.Texts.{IsImageNumber};
 
 use crate::threads::Threads;
@@ -17,7 +16,7 @@ use transcript_text::Transcript;
 /// only error is want of memory.
 pub fn run_job(alloc: Global, job: &Job, modules: &Modules) -> Result<Transcript, AllocError>
     requires { modules.now.kinds ≡ map (λ image. image.kind) job.now.images }
-    ensures transcript { IfOk result (λ transcript. IsTranscript
+    ensures transcript { IfOk result (λ transcript. Tells
         (job_world (job_loads modules.now) job.now.fuel job.now.lines job.now.order) transcript) }
     ensures images { IfOk result (λ transcript.
         All (λ event. IsImageNumber job.now.images event.image) transcript.events) }

@@ -1,6 +1,6 @@
 //! What the first look of a thread's line comes to.
 
-ghost use Rattle.std.specs.Prelude.{◌≡◌, ◌≤◌, ◌<◌, ◌+◌, ◌-◌, ◌^◌, ℕ, List, true, None, Some, Result, IfOk, OnOk, length};
+ghost use Rattle.std.specs.Prelude.{◌≡◌, ◌≤◌, ◌<◌, ◌+◌, ◌-◌, ◌^◌, ℕ, true, None, Some, Result, IfOk, OnOk, length};
 ghost use Rattle.guest_arithmetic.specs.Plain.{plain_operations};
 ghost use Rattle.loaded_modules.specs.Images.{infos};
 ghost use Rattle.module_table.specs.History.{unless};
@@ -45,8 +45,7 @@ fn refused(refusal: LineRefusal) -> Started
 /// A machine before a call of the function at a place.
 fn machine_at(thread: u32, place: u64, a: u64, b: u64, c: u64) -> Machine<Plain>
     requires { thread ≤ 64 }
-    ensures state { (symbol : List ℕ) → result.state
-        ≡ call_start plain_operations thread place (record { symbol = symbol; a = a; b = b; c = c }) }
+    ensures state { result.state ≡ call_start plain_operations thread place a b c }
     ensures fresh { result.taken ≡ 0 }
 {
     let stack = end_of_stack(thread) - 8;

@@ -12,12 +12,12 @@ use Rattle.transcript_text.specs.declared.outcomes.Line.{Line as ShownLine}
 use Rattle.transcript_text.specs.Texts.{Shown}
 use Rattle.thread_blocks.specs.MachineTurns.{shown}
 use Rattle.thread_blocks.specs.Instances.{Loads, left_by}
-use Rattle.thread_blocks.specs.JobWorlds.{Shared, job_start, job_world, numbered_lines, thread_ready}
+use Rattle.thread_blocks.specs.JobWorlds.{Shared, Tells, job_start, job_world, numbered_lines, thread_ready}
 use Rattle.thread_blocks.specs.Lines.{Line, event_at, event_by, unless_refused}
 use Rattle.thread_blocks.specs.RunTime.{Runs, shows, thread_turns}
 use Rattle.thread_blocks.specs.Turns.{IsFinished, Thread, at_number, ready, whole_order}
 use Rattle.thread_blocks.proofs.Endings.{thread_at, threads_ended}
-use Rattle.lawful_points.specs.Laws.{IsTold, LinesTellLooks, LooksAreLawful, PointsAreLawful}
+use Rattle.lawful_points.specs.Laws.{LinesTellLooks, LooksAreLawful, PointsAreLawful}
 use Rattle.lawful_points.specs.Orders.{job_looks}
 use Rattle.lawful_points.specs.Points.{AreLawful}
 use Rattle.lawful_points.specs.Told.{AreLawfulPoints, points_of, told_by}
@@ -103,7 +103,7 @@ said_lines l fuel lines order i own t at found =
 
 -- what a transcript shows of thread i
 pub shown_at : (transcript : Shown) (w : Shared ℕ Bool ℕ Line) (i : ℕ) (said : List ShownLine) (t : Thread Runs Line Event)
-    → IsTold w transcript → slice_get transcript.threads i ≡ Some said → slice_get w.threads i ≡ Some t
+    → Tells w transcript → slice_get transcript.threads i ≡ Some said → slice_get w.threads i ≡ Some t
     → map Some said ≡ map shown t.said
 shown_at transcript w i said t told found there =
     let says : List ShownLine → List (Option ShownLine) = map (λ (line : ShownLine). Some line) in

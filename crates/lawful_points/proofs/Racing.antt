@@ -9,7 +9,7 @@ use Rattle.transcript_text.specs.declared.outcomes.Line.{Line as ShownLine}
 use Rattle.transcript_text.specs.Texts.{Shown}
 use Rattle.thread_blocks.specs.Instances.{Loads}
 use Rattle.thread_blocks.specs.JobStatements.{HasNoData}
-use Rattle.thread_blocks.specs.JobWorlds.{Shared, job_start, job_world, numbered_lines, ready_from, shared_order, shared_turn, thread_ready}
+use Rattle.thread_blocks.specs.JobWorlds.{Shared, Tells, job_start, job_world, numbered_lines, ready_from, shared_order, shared_turn, thread_ready}
 use Rattle.thread_blocks.specs.Lines.{Line, event_by}
 use Rattle.thread_blocks.specs.MachineTurns.{shown}
 use Rattle.thread_blocks.specs.RunTime.{Runs, thread_turns}
@@ -17,7 +17,7 @@ use Rattle.thread_blocks.specs.Turns.{Thread, Turns, IsFinished, at_number, turn
 use Rattle.thread_blocks.specs.TurnsAlike.{AllFronts}
 use Rattle.thread_blocks.proofs.Endings.{threads_ended}
 use Rattle.thread_blocks.proofs.Own.{own_turns}
-use Rattle.lawful_points.specs.Laws.{IsTold, RacedPointsAreLawful, RunsAreRaced}
+use Rattle.lawful_points.specs.Laws.{RacedPointsAreLawful, RunsAreRaced}
 use Rattle.lawful_points.specs.Orders.{job_looks, looks_of}
 use Rattle.lawful_points.specs.Points.{AreLawful, Look, seen_by}
 use Rattle.lawful_points.specs.Raced.{IsRacer, first_of, raced_looks}
@@ -115,7 +115,7 @@ module _ (l : Loads ℕ) (fuel : ℕ) where
         let both : points_of looks ≡ points_of among = sym told ∙ said_lines l fuel lines order i own last at there in
         subst (AreLawful (suc i) world.events) (sym (same_looks world.events looks among fronts is.fronts both)) is
 
-    racer : (transcript : Shown) (said : List ShownLine) → IsTold world transcript → slice_get transcript.threads i ≡ Some said
+    racer : (transcript : Shown) (said : List ShownLine) → Tells world transcript → slice_get transcript.threads i ≡ Some said
         → IsRacer l fuel (suc i) own transcript.events said
     racer transcript said tells found =
         let shows = shown_at transcript world i said last tells found there in record {
@@ -127,7 +127,7 @@ module _ (l : Loads ℕ) (fuel : ℕ) where
         }
 
 each_raced : (l : Loads ℕ) (fuel : ℕ) (lines : List (List ThreadLine)) (order : List ℕ) (transcript : Shown) → HasNoData l
-    → IsTold (job_world l fuel lines order) transcript
+    → Tells (job_world l fuel lines order) transcript
     → (thread : ℕ) (own : List ThreadLine) (said : List ShownLine) → at_number lines thread ≡ Some own
     → at_number transcript.threads thread ≡ Some said → IsRacer l fuel thread own transcript.events said
 each_raced l fuel lines order transcript none tells zero own said at found = cc

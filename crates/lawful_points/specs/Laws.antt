@@ -1,5 +1,5 @@
 -- The points of every job's threads are lawful.
-use Rattle.std.specs.Prelude.{◌≡◌, ℕ, Bool, List, map, Option, Some, take}
+use Rattle.std.specs.Prelude.{◌≡◌, ℕ, List, map, Option, Some, take}
 use Rattle.job_text.specs.declared.thread_lines.ThreadLine.{ThreadLine}
 use Rattle.module_table.specs.declared.events.Event.{Event}
 use Rattle.transcript_text.specs.declared.outcomes.Line.{Line as ShownLine}
@@ -11,17 +11,11 @@ use Rattle.lawful_points.specs.Told.{AreLawfulPoints, points_of, printed_points,
 use Rattle.order_laws.specs.Alike.{AtHistory}
 use Rattle.thread_blocks.specs.Instances.{Loads}
 use Rattle.thread_blocks.specs.JobStatements.{HasNoData}
-use Rattle.thread_blocks.specs.JobWorlds.{Shared, job_world, numbered_lines}
-use Rattle.thread_blocks.specs.Lines.{Line, event_by}
-use Rattle.thread_blocks.specs.MachineTurns.{shown}
+use Rattle.thread_blocks.specs.JobWorlds.{Tells, job_world, numbered_lines}
+use Rattle.thread_blocks.specs.Lines.{event_by}
 use Rattle.thread_blocks.specs.RunTime.{thread_turns}
 use Rattle.thread_blocks.specs.Turns.{Thread, Turns, at_number}
 use Rattle.thread_blocks.specs.TurnsAlike.{IsFront}
-
--- a transcript of what a job's threads said
-pub record IsTold (w : Shared ℕ Bool ℕ Line) (transcript : Shown) : Type 0 where
-  pub events : transcript.events ≡ w.events
-  pub lines : map (map Some) transcript.threads ≡ map (λ t. map shown t.said) w.threads
 
 -- in any order of turns the looks of each thread are lawful, whatever is loaded
 abbrev pub LooksAreLawful : Type 0
@@ -31,7 +25,7 @@ LooksAreLawful = (l : Loads ℕ) (fuel : ℕ) (lines : List (List ThreadLine)) (
 -- and they are those that its lines tell
 abbrev pub LinesTellLooks : Type 0
 LinesTellLooks = (l : Loads ℕ) (fuel : ℕ) (lines : List (List ThreadLine)) (order : List ℕ) (transcript : Shown)
-    → IsTold (job_world l fuel lines order) transcript
+    → Tells (job_world l fuel lines order) transcript
     → (thread : ℕ) (own : List ThreadLine) (said : List ShownLine) → at_number lines thread ≡ Some own
     → at_number transcript.threads thread ≡ Some said
     → told_by thread (numbered_lines 1 own) said ≡ points_of (job_looks l fuel lines order thread)
@@ -39,7 +33,7 @@ LinesTellLooks = (l : Loads ℕ) (fuel : ℕ) (lines : List (List ThreadLine)) (
 -- so the points that are printed are lawful
 abbrev pub PointsAreLawful : Type 0
 PointsAreLawful = (l : Loads ℕ) (fuel : ℕ) (lines : List (List ThreadLine)) (order : List ℕ) (transcript : Shown)
-    → IsTold (job_world l fuel lines order) transcript
+    → Tells (job_world l fuel lines order) transcript
     → (thread : ℕ) (own : List ThreadLine) (said : List ShownLine) → at_number lines thread ≡ Some own
     → at_number transcript.threads thread ≡ Some said
     → AreLawfulPoints thread transcript.events (told_by thread (numbered_lines 1 own) said)
@@ -47,7 +41,7 @@ PointsAreLawful = (l : Loads ℕ) (fuel : ℕ) (lines : List (List ThreadLine)) 
 -- where no image has data that threads write, the transcript is raced
 abbrev pub RunsAreRaced : Type 0
 RunsAreRaced = (l : Loads ℕ) (fuel : ℕ) (lines : List (List ThreadLine)) (order : List ℕ) (transcript : Shown)
-    → HasNoData l → IsTold (job_world l fuel lines order) transcript → IsRaced l fuel lines transcript
+    → HasNoData l → Tells (job_world l fuel lines order) transcript → IsRaced l fuel lines transcript
 
 -- and each raced transcript has lawful points, in any order of turns or in none
 abbrev pub RacedPointsAreLawful : Type 0

@@ -1,7 +1,7 @@
 pub mod AddressFields
+pub mod Fetched
 pub mod Fields
 pub mod Lent
-pub mod LikeFields
 pub mod NextIndex
 pub mod Nothing
 pub mod Numbers

@@ -18,7 +18,7 @@ use Rattle.tied_meaning.specs.Codes.{SameCode, SameCodeByte}
 use Rattle.whole_meaning.specs.declared.marks.Mark.{Mark}
 use Rattle.whole_meaning.specs.declared.marks.Mark.TheVariants.{Usual, Offset, Address, Inside}
 use Rattle.whole_meaning.specs.Reading.{hindrance, hindrance_of, plain_step}
-use Rattle.marked_code.proofs.LikeFields.{code-none}
+use Rattle.marked_code.proofs.Fetched.{code-none}
 
 module _ {W F B W' F' B' : Type 0} (same : Alike W F B W' F' B') (ops : Operations W F B) (ops' : Operations W' F' B')
     {M M' : Type 0} (acc : Accesses M B) (acc' : Accesses M' B') (Same : M → M' → Type 0) (shut : M → ℕ → Bool)

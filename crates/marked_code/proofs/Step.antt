@@ -23,9 +23,8 @@ use Rattle.guest_machine.specs.Touch.{touched, touches_of}
 use Rattle.guest_machine.proofs.FollowMemory.{store-reach}
 use Rattle.guest_machine.proofs.FollowRows.{act_follows}
 use Rattle.guest_machine.proofs.Touching.{Free, act-open}
-use Rattle.job_meaning.specs.Code.{SameCodeAt}
 use Rattle.job_meaning.specs.Reading.{beside_linker, place_at}
-use Rattle.job_meaning.proofs.Fetch.{code-length, code-part, code-as_long, code-usual}
+use Rattle.job_meaning.proofs.Fetch.{code-length, code-part}
 use Rattle.job_meaning.proofs.Reading.{placed_of, length_of, length-four, field_place, picked, with_numbers}
 use Rattle.tied_meaning.specs.Codes.{SameCode}
 use Rattle.whole_meaning.specs.declared.marks.Mark.{Mark}
@@ -33,9 +32,9 @@ use Rattle.whole_meaning.specs.declared.marks.Mark.TheVariants.{Usual, Offset}
 use Rattle.whole_meaning.specs.Fields.{is_from_next, lent, lent_at, lent_frame, marked_frame, number_in, read_in, starts_offset, without_operand}
 use Rattle.whole_meaning.specs.Reading.{acted, done, hindered, hindrance, marked_step, own_touches, plain_step, reaches_linker}
 use Rattle.marked_code.proofs.AddressFields.{AddressIn, NoAddressIn, address_in, next-operand, no-offset, picked-at, sums}
+use Rattle.marked_code.proofs.Fetched.{SameFetched, code-as_long, code-usual, small-byte}
 use Rattle.marked_code.proofs.Fields.{AreFields, field_in, place-behind, starts_field}
 use Rattle.marked_code.proofs.Lent.{lent-load, lent-store, lent-address, lent_open, next-address}
-use Rattle.marked_code.proofs.LikeFields.{like-byte, like_field, no-odd, small-byte}
 use Rattle.marked_code.proofs.NextIndex.{next_has_no_index}
 use Rattle.marked_code.proofs.Reading.{each-none, reads, reads_address, reads_none}
 use Rattle.marked_code.proofs.Nothing.{nothing_follows}
@@ -62,16 +61,14 @@ module _ {W F B W' F' B' : Type 0} (same : Alike W F B W' F' B') (ops : Operatio
       abbrev read' : List ℕ
       read' = code_at acc' m' s.place 15
 
-      near : SameCodeAt (λ place. like_field (mark place)) acc acc' m m' s.place 15
-      near j below = like-byte (mark (place_at s.place j)) _ _ (code.byte s.place j first outside there below)
+      near : SameFetched mark acc acc' m m' s.place 15
+      near j below = code.byte s.place j first outside there below
 
       equal : length read ≡ length read'
-      equal = code-as_long (λ place. like_field (mark place)) acc acc' m m' 15 s.place near
-          (λ short. no-odd (mark (place_at s.place (length read))))
+      equal = code-as_long mark acc acc' m m' 15 s.place near
 
       usual : (j : ℕ) → j < length read → mark (place_at s.place j) ≡ Usual → slice_get read j ≡ slice_get read' j
-      usual j below e = code-usual (λ place. like_field (mark place)) acc acc' m m' 15 s.place near j below
-          (ap like_field e)
+      usual j below e = code-usual mark acc acc' m m' 15 s.place near j below e
 
       fields : AreFields mark s.place
       fields = record {

@@ -19,8 +19,8 @@ use Rattle.whole_meaning.specs.Jobs.{job_start, meant_world, ready_from}
 use Rattle.whole_meaning.specs.Meanings.{Meaning}
 use Rattle.whole_meaning.specs.Threads.{Meant, meant_ready, meant_turns, ops}
 use Rattle.meaning_laws.specs.Laws.{HasNoData, ThreadsMeanTheirOwn}
-use Rattle.meaning_laws.proofs.Alone.{Holds, IsOn, order_points}
-use Rattle.meaning_laws.proofs.Blocks.{HoldsBlocks, look_holds}
+use Rattle.thread_blocks.proofs.Alone.{Holds, IsOn, order_points}
+use Rattle.thread_blocks.proofs.Blocks.{HoldsBlocks, look_holds}
 use Rattle.meaning_laws.proofs.Steps.{meant_keeps}
 
 abbrev Ours : Type 0

@@ -29,7 +29,9 @@ use Rattle.thread_blocks.specs.Lines.{Line}
 use Rattle.thread_blocks.specs.MachineTurns.{stack_start}
 use Rattle.thread_blocks.specs.Spaces.{IsImage, mapped, space_accesses, stack_range}
 use Rattle.thread_blocks.proofs.Image.{act_image}
-use Rattle.thread_blocks.proofs.OwnBlocks.{AreBlocks}
+use Rattle.thread_blocks.proofs.Alone.{KeepsBlocks, NextHolds}
+use Rattle.thread_blocks.proofs.Blocks.{AreBlocks, HoldsBlocks, look_holds, reach_holds, written_are}
+use Rattle.thread_blocks.proofs.BlocksBegun.{BegunHolds, begin_holds}
 use Rattle.whole_meaning.specs.declared.marks.Mark.{Mark}
 use Rattle.whole_meaning.specs.declared.sequences.Sequence.{Sequence}
 use Rattle.whole_meaning.specs.Fields.{address_at, lent, lent_frame, marked_frame}
@@ -39,9 +41,6 @@ use Rattle.whole_meaning.specs.Running.{meaning, sequence_or}
 use Rattle.whole_meaning.specs.Sequences.{Stack, added, after_call, called_with, descriptor_called, descriptor_calls, does, looks_first, own_base, sequence_result, stack_use, variable_address, variable_distance, with_answer, with_sum, without_flags}
 use Rattle.whole_meaning.specs.Threads.{Meant, Memory, begin_meant, held_next, meant_accesses, meant_mark, meant_sequence, meant_shut, meant_show, meant_stack, meant_steps, meant_turns, ops, resume_meant, resumed, resumed_at, resumed_by, resumed_for, sequence_at, sequence_does, sequence_next}
 use Rattle.meaning_laws.specs.Laws.{HasNoData}
-use Rattle.meaning_laws.proofs.Alone.{KeepsBlocks, NextHolds}
-use Rattle.meaning_laws.proofs.Begins.{BegunHolds, begin_holds}
-use Rattle.meaning_laws.proofs.Blocks.{HoldsBlocks, look_holds, reach_holds, written_are}
 
 module _ (m : Meaning) (thread : ℕ) (os : List Owner) where
   -- ** what a step leaves

@@ -1,5 +1,5 @@
 -- The bare machine at a look, and how it stands before a call.
-use Rattle.std.proofs.Common.{◌≡◌, ℕ, ◌-◌, ◌^◌, ◌<◌, Bool, true, false, List, Result, Ok, Err, refl, arith}
+use Rattle.std.proofs.Common.{◌≡◌, ℕ, ◌-◌, ◌^◌, ◌<◌, Bool, true, false, Result, Ok, Err, refl, arith}
 use Rattle.std.specs.Prelude.{if◌then◌else◌}
 use Rattle.guest_operands.specs.declared.stop.Stop.{Stop}
 use Rattle.guest_machine.specs.Access.{Accesses}
@@ -25,7 +25,7 @@ plain_word : (number : ℕ) → number < 2 ^ 64 → plain_operations.word number
 unfolding plain_operations
 plain_word number small = omega arith
 
-pub plain_start : (thread place a b c : ℕ) (symbol : List ℕ) → a < 2 ^ 64 → b < 2 ^ 64 → c < 2 ^ 64
-    → call_start plain_operations thread place (record { symbol = symbol; a = a; b = b; c = c })
+pub plain_start : (thread place a b c : ℕ) → a < 2 ^ 64 → b < 2 ^ 64 → c < 2 ^ 64
+    → call_start plain_operations thread place a b c
     ≡ (record (start_of plain_operations place (stack_end thread - 8) a b c) { thread_pointer = pointer_of thread })
-plain_start thread place a b c symbol f g h = rw (plain_word a f, plain_word b g, plain_word c h) refl
+plain_start thread place a b c f g h = rw (plain_word a f, plain_word b g, plain_word c h) refl

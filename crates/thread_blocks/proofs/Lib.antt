@@ -7,8 +7,11 @@ pub mod Histories
 pub mod Endings
 pub mod Looks
 pub mod Orders
-pub mod Own
+pub mod Blocks
+pub mod BlocksBegun
+pub mod Alone
 pub mod OwnBlocks
+pub mod Own
 pub mod JobRuns
 mod ExampleImages
 mod Examples

@@ -1,240 +1,35 @@
 -- Where no image has data, a thread among others takes the turns that it would take alone, at fronts of the history.
-use Rattle.std.proofs.Common.{◌≡◌, ◌⊎◌, ◌∙◌, ◌-◌, ◌*◌, ◌++◌, ℕ, zero, suc, Bool, true, List, [], ◌∷◌, length, Option, Some, None, refl, sym, ap, subst, inl, inr, arith, append-nil}
-use Rattle.std.specs.Prelude.{slice_get, slice_set}
+use Rattle.std.proofs.Common.{◌≡◌, ◌∙◌, ◌*◌, ◌++◌, ℕ, zero, suc, true, List, [], ◌∷◌, Option, Some, None, refl, subst, arith}
+use Rattle.std.specs.Prelude.{slice_get}
 use Rattle.std.specs.List.{flat_map}
 use Rattle.guest_arithmetic.specs.Plain.{plain_operations}
-use Rattle.guest_machine.specs.Run.{Outcome, Ended, Waits, run}
 use Rattle.guest_machine.specs.State.{start_of}
 use Rattle.guest_machine.specs.Use.{left}
 use Rattle.job_text.specs.declared.thread_lines.ThreadLine.{ThreadLine}
 use Rattle.loaded_modules.specs.declared.instance.Instance.{Instance}
 use Rattle.module_table.specs.declared.events.Event.{Event}
-use Rattle.thread_blocks.specs.Held.{Owned, Owner, data_after, owned_by, ranges_in, with_owned}
+use Rattle.thread_blocks.specs.Held.{Owned, data_after}
 use Rattle.thread_blocks.specs.Instances.{Loads, instances}
 use Rattle.thread_blocks.specs.JobStatements.{HasNoData, ThreadsTakeTheirOwnTurns}
-use Rattle.thread_blocks.specs.JobWorlds.{Shared, blocks_in, changed, data_in, held_in, job_start, job_world, numbered_lines, ready_from, shared_order, shared_turn, thread_ready, with_data, without_data}
+use Rattle.thread_blocks.specs.JobWorlds.{job_start, job_world, numbered_lines, ready_from, thread_ready}
 use Rattle.thread_blocks.specs.Lines.{Line, event_by}
 use Rattle.thread_blocks.specs.RunTime.{Runs, thread_turns}
-use Rattle.thread_blocks.specs.Turns.{Said, Begun, Says, Calls, Turns, Phase, Idle, Mid, Thread, IsFinished, after_look, after_run, ready, turn, turn_at, turns, whole_order, with_last}
-use Rattle.thread_blocks.specs.TurnsAlike.{AllFronts, IsFront, Rises}
+use Rattle.thread_blocks.specs.Turns.{Turns, Thread, ready, whole_order}
+use Rattle.thread_blocks.specs.TurnsAlike.{IsFront}
 use Rattle.thread_blocks.proofs.Endings.{thread_at}
-use Rattle.thread_blocks.proofs.Orders.{front-trans, get-set, get-set_same, order-front, taken, turn-front, turned}
-use Rattle.thread_blocks.proofs.OwnBlocks.{BegunHolds, HoldsBlocks, OutHolds, begin_holds, blocks_again, look_holds, no_data, owners_again, ranges_again, resume_holds, run_holds}
-use Rattle.thread_blocks.proofs.Turns.{turn-finished, turn-seen}
+use Rattle.thread_blocks.proofs.Alone.{Holds, IsOn, order_points}
+use Rattle.thread_blocks.proofs.Blocks.{HoldsBlocks, look_holds}
+use Rattle.thread_blocks.proofs.OwnBlocks.{keeps_blocks}
 
 abbrev Ours : Type 0
 Ours = Thread Runs Line Event
 
--- ** no data in a thread's hands is no change
-
-module _ (h : Runs) (holds : HoldsBlocks h) where
-  same_again : with_owned h (owned_by h) ≡ h
-  same_again =
-      ap (λ (os : List Owner). record {
-        after = left h.after.state (record h.after.memory { own = ranges_in (owned_by h) });
-        owners = os;
-        asked = h.asked;
-      }) (owners_again h.owners h.after.memory.own holds)
-      ∙ ap (λ own. record { after = left h.after.state (record h.after.memory { own = own }); owners = h.owners; asked = h.asked })
-      (ranges_again h.owners h.after.memory.own holds)
-
-  in_hands : with_owned h (owned_by h ++ []) ≡ h
-  in_hands = ap (with_owned h) (append-nil (owned_by h)) ∙ same_again
-
-  out_of_hands : with_owned h (blocks_in (owned_by h)) ≡ h
-  out_of_hands = ap (with_owned h) (blocks_again h.owners h.after.memory.own holds) ∙ same_again
-
-phase_same : (f : Runs → Runs) (phase : Phase Runs) → f (held_in phase) ≡ held_in phase → changed f phase ≡ phase
-phase_same f (Idle h) e = ap (λ g. Idle g) e
-phase_same f (Mid steps points h) e = ap (λ g. Mid steps points g) e
-
--- a thread that holds blocks
-abbrev Holds : Ours → Type 0
-Holds t = HoldsBlocks (held_in t.phase)
-
-with_none : (t : Ours) → Holds t → with_data [] t ≡ t
-with_none t holds =
-    ap (λ (phase : Phase Runs). record t { phase = phase })
-    (phase_same (λ h. with_owned h (owned_by h ++ [])) t.phase (in_hands (held_in t.phase) holds))
-
-without_none : (t : Ours) → Holds t → without_data t ≡ t
-without_none t holds =
-    ap (λ (phase : Phase Runs). record t { phase = phase })
-    (phase_same (λ h. with_owned h (blocks_in (owned_by h))) t.phase (out_of_hands (held_in t.phase) holds))
-
--- ** turns
-
-module _ (l : Loads ℕ) (none : HasNoData l) (fuel thread : ℕ) where
-  abbrev x : Turns Runs Line Event
-  x = thread_turns l thread fuel
-
-  run_keeps : (todo : List Line) (said : List Said) (seen : List Event) (points : List ℕ) (out : Outcome Runs)
-      → OutHolds l none thread out → Holds (after_run todo said seen points out)
-  run_keeps todo said seen points (Ended stop n h) holds = holds
-  run_keeps todo said seen points (Waits n h) holds = holds
-
-  look_keeps : (steps : ℕ) (todo : List Line) (said : List Said) (seen : List Event) (points : List ℕ) (begun : Begun Runs)
-      → BegunHolds l none thread begun → Holds (after_look x steps todo said seen points begun)
-  unfolding thread_turns
-  look_keeps steps todo said seen points (Says ending h) holds = holds
-  look_keeps steps todo said seen points (Calls h) holds =
-      run_keeps todo said seen points (run x.steps steps h) (run_holds l none thread steps h holds)
-
-  turn_at_keeps : (todo : List Line) (phase : Phase Runs) (said : List Said) (old seen : List Event) → HoldsBlocks (held_in phase)
-      → Holds (turn_at x todo phase said old seen)
-  unfolding thread_turns
-  turn_at_keeps [] (Idle h) said old seen holds = holds
-  turn_at_keeps (line ∷ todo) (Idle h) said old seen holds =
-      look_keeps x.fuel todo said seen (length seen ∷ []) (x.begin line seen h) (begin_holds l none thread line seen h)
-  turn_at_keeps [] (Mid steps points h) said old seen holds =
-      look_keeps (steps - 1) [] said seen (with_last points (length seen)) (x.resume seen h) (resume_holds l none thread seen h)
-  turn_at_keeps (line ∷ todo) (Mid steps points h) said old seen holds =
-      look_keeps (steps - 1) (line ∷ todo) said seen (with_last points (length seen)) (x.resume seen h)
-      (resume_holds l none thread seen h)
-
-  turn_keeps : (t : Ours) (seen : List Event) → Holds t → Holds (turn x t seen)
-  turn_keeps t seen holds = turn_at_keeps t.todo t.phase t.said t.seen seen holds
-
--- ** orders
-
 module _ (l : Loads ℕ) (none : HasNoData l) (fuel : ℕ) where
-  abbrev World : Type 0
-  World = Shared ℕ Bool ℕ Line
-
   abbrev each : ℕ → Turns Runs Line Event
   each thread = thread_turns l thread fuel
 
   abbrev event : ℕ → Line → List Event → Option Event
   event thread = event_by l thread
-
-  -- no data is shared, and each thread holds blocks and saw a front of the history
-  record IsOn (w : World) : Type 0 where
-    pub shared : w.shared ≡ []
-    pub holds : (i : ℕ) (t : Ours) → slice_get w.threads i ≡ Some t → Holds t
-    pub saw : (i : ℕ) (t : Ours) → slice_get w.threads i ≡ Some t → IsFront t.seen w.events
-
-  -- a turn of thread i is a turn of its own
-  turned_is : (w : World) (i : ℕ) (t : Ours) → w.shared ≡ [] → Holds t → turned each event w i t ≡ turn (each i) t w.events
-  turned_is w i t shared holds =
-      ap (λ xs. without_data (turn (each i) (with_data xs t) w.events)) shared
-      ∙ (ap (λ (u : Ours). without_data (turn (each i) u w.events)) (with_none t holds)
-      ∙ without_none (turn (each i) t w.events) (turn_keeps l none fuel i t w.events holds))
-
-  -- and it leaves no data
-  none_left : (w : World) (i : ℕ) (t : Ours) → w.shared ≡ [] → Holds t
-      → data_in (owned_by (held_in (turn (each i) (with_data w.shared t) w.events).phase)) ≡ []
-  none_left w i t shared holds =
-      ap (λ xs. data_in (owned_by (held_in (turn (each i) (with_data xs t) w.events).phase))) shared
-      ∙ (ap (λ (u : Ours). data_in (owned_by (held_in (turn (each i) u w.events).phase))) (with_none t holds)
-      ∙ no_data (held_in (turn (each i) t w.events).phase).owners (held_in (turn (each i) t w.events).phase).after.memory.own
-      (turn_keeps l none fuel i t w.events holds))
-
-  -- what its turn saw is a front
-  turn_saw : (i : ℕ) (t : Ours) (events later : List Event) → IsFront t.seen events → IsFront events later
-      → IsFront (turn (each i) t events).seen later
-  turn_saw i t events later saw front =
-      (elim (turn-seen (each i) t events)
-      as (λ (k : IsFinished t.todo t.phase ⊎ ((turn (each i) t events).seen ≡ events)). IsFront (turn (each i) t events).seen later) [
-        | inl done ↦ subst (λ (u : Ours). IsFront u.seen later) (sym (turn-finished (each i) t events done))
-            (front-trans each event t.seen events later saw front)
-        | inr e ↦ subst (λ (seen : List Event). IsFront seen later) (sym e) front
-      ])
-
-  -- whatever holds of the one that took the turn, and of the others as they were
-  at_set : (P : Ours → Type 0) (threads : List Ours) (i j : ℕ) (u v t : Ours) → slice_get threads j ≡ Some u → P v
-      → ((t : Ours) → slice_get threads i ≡ Some t → P t) → slice_get (slice_set threads j v) i ≡ Some t → P t
-  at_set P threads i j u v t at new old found =
-      (elim (get-set threads i j v) as (λ (o : (j ≡ i) ⊎ (slice_get (slice_set threads j v) i ≡ slice_get threads i)). P t) [
-        | inl here ↦
-            let own : slice_get (slice_set threads j v) j ≡ Some v = get-set_same threads j u v at in
-            let same : v ≡ t = cc in
-            subst P same new
-        | inr other ↦ let mine : slice_get threads i ≡ Some t = cc in old t mine
-      ])
-
-  some_on : (w : World) (j : ℕ) (u : Ours) → slice_get w.threads j ≡ Some u → IsOn w
-      → IsOn (shared_turn each event w (suc j) (Some u))
-  some_on w j u at on =
-      let holds = on.holds j u at in
-      let is = turned_is w (suc j) u on.shared holds in
-      let front = turn-front each event w (suc j) (Some u) in
-      let later = (shared_turn each event w (suc j) (Some u)).events in
-      record {
-        shared = none_left w (suc j) u on.shared holds;
-        holds = λ i t found.
-            at_set Holds w.threads i j u (turned each event w (suc j) u) t at
-            (subst Holds (sym is) (turn_keeps l none fuel (suc j) u w.events holds)) (λ t mine. on.holds i t mine) found;
-        saw = λ i t found.
-            at_set (λ t. IsFront t.seen later) w.threads i j u (turned each event w (suc j) u) t at
-            (subst (λ (v : Ours). IsFront v.seen later) (sym is) (turn_saw (suc j) u w.events later (on.saw j u at) front))
-            (λ t mine. front-trans each event t.seen w.events later (on.saw i t mine) front) found;
-      }
-
-  -- the turns of thread i are its own
-  record AtPoints (t : Ours) (i : ℕ) (w : World) : Type 0 where
-    pub points : List (List Event)
-    pub rises : Rises IsFront t.seen points
-    pub fronts : AllFronts points w.events
-    pub thread : slice_get w.threads i ≡ Some (turns (each (suc i)) t points)
-
-  -- with one more in front
-  own_points : (t : Ours) (i : ℕ) (events : List Event) (v : World) → IsFront t.seen events → IsFront events v.events
-      → AtPoints (turn (each (suc i)) t events) i v → AtPoints t i v
-  own_points t i events v saw front at =
-      (elim (turn-seen (each (suc i)) t events)
-      as (λ (k : IsFinished t.todo t.phase ⊎ ((turn (each (suc i)) t events).seen ≡ events)). AtPoints t i v) [
-        | inl done ↦ subst (λ (u : Ours). AtPoints u i v) (turn-finished (each (suc i)) t events done) at
-        | inr e ↦ record {
-          points = events ∷ at.points;
-          rises = (saw, subst (λ (old : List Event). Rises IsFront old at.points) e at.rises);
-          fronts = (front, at.fronts);
-          thread = at.thread;
-        }
-      ])
-
-  module _ (order : List ℕ) (i : ℕ)
-      (rest : (v : World) (u : Ours) → slice_get v.threads i ≡ Some u → IsOn v → AtPoints u i (shared_order each event order v)) where
-    some_points : (w : World) (j : ℕ) (t u : Ours) → slice_get w.threads i ≡ Some t → IsOn w → slice_get w.threads j ≡ Some u
-        → AtPoints t i (shared_order each event order (shared_turn each event w (suc j) (Some u)))
-    some_points w j t u mine on at =
-        let v = shared_turn each event w (suc j) (Some u) in
-        let new = turned each event w (suc j) u in
-        let after = some_on w j u at on in
-        (elim (get-set w.threads i j new)
-        as (λ (o : (j ≡ i) ⊎ (slice_get (slice_set w.threads j new) i ≡ slice_get w.threads i)). AtPoints t i (shared_order each event order v)) [
-          | inl here ↦
-              let same : u ≡ t = cc in
-              let is : new ≡ turn (each (suc i)) t w.events =
-              turned_is w (suc j) u on.shared (on.holds j u at)
-              ∙ (ap (λ (n : ℕ). turn (each (suc n)) u w.events) here ∙ ap (λ (s : Ours). turn (each (suc i)) s w.events) same) in
-              let own : slice_get (slice_set w.threads j new) j ≡ Some new = get-set_same w.threads j u new at in
-              let found : slice_get v.threads i ≡ Some (turn (each (suc i)) t w.events) =
-              subst (λ (n : ℕ). slice_get (slice_set w.threads j new) n ≡ Some new) here own ∙ ap (λ (s : Ours). Some s) is in
-              own_points t i w.events (shared_order each event order v) (on.saw i t mine)
-              (front-trans each event w.events v.events (shared_order each event order v).events
-              (turn-front each event w (suc j) (Some u)) (order-front each event order v))
-              (rest v (turn (each (suc i)) t w.events) found after)
-          | inr other ↦ rest v t (other ∙ mine) after
-        ])
-
-    taken_points : (w : World) (j : ℕ) (t : Ours) → slice_get w.threads i ≡ Some t → IsOn w
-        → AtPoints t i (shared_order each event order (taken each event w j))
-    taken_points w zero t mine on = rest w t mine on
-    taken_points w (suc j) t mine on =
-        (elim (slice_get w.threads j)
-        as (λ (o : Option Ours). slice_get w.threads j ≡ o
-        → AtPoints t i (shared_order each event order (shared_turn each event w (suc j) o))) [
-          | None ↦ λ at. rest w t mine on
-          | Some u ↦ λ at. some_points w j t u mine on at
-        ]) refl
-
-  order_points : (order : List ℕ) (i : ℕ) (w : World) (t : Ours) → slice_get w.threads i ≡ Some t → IsOn w
-      → AtPoints t i (shared_order each event order w)
-  order_points [] i w t mine on = record { points = []; rises = tt; fronts = tt; thread = mine }
-  order_points (j ∷ order) i w t mine on =
-      taken_points order i (λ v u found on. order_points order i v u found on) w j t mine on
-
-  -- ** the job
 
   no_range : (y : Instance) (rest : List (Owned ℕ)) → data_after l (λ y. true) [] y ++ rest ≡ rest
   no_range y rest = rw (none y) refl
@@ -266,7 +61,8 @@ module _ (l : Loads ℕ) (none : HasNoData l) (fuel : ℕ) where
       subst (λ (u : Ours). IsFront u.seen []) same ([], refl)
   first_saw first (own ∷ lines) (suc i) t found = first_saw (suc first) lines i t found
 
-  starts : (lines : List (List ThreadLine)) → IsOn (job_start l lines)
+  starts : (lines : List (List ThreadLine))
+      → IsOn each event (λ thread. keeps_blocks l none thread fuel) (job_start l lines)
   starts lines = record {
     shared = no_first (instances l []);
     holds = λ i t found. first_holds 1 lines i t found;
@@ -278,6 +74,7 @@ pub own_turns : ThreadsTakeTheirOwnTurns
 unfolding job_world
 own_turns l fuel lines order zero own none at = cc
 own_turns l fuel lines order (suc i) own none at =
-    let points = order_points l none fuel (whole_order (4 * fuel) lines order) i (job_start l lines)
+    let points = order_points (λ thread. thread_turns l thread fuel) (λ thread. event_by l thread)
+    (λ thread. keeps_blocks l none thread fuel) (whole_order (4 * fuel) lines order) i (job_start l lines)
     (ready (thread_ready l (suc i)) (numbered_lines 1 own)) (thread_at l 1 lines i (suc i) own (omega arith) at)
     (starts l none fuel lines) in (points.points, points.rises, points.fronts, points.thread)

@@ -9,8 +9,9 @@ use Rattle.loaded_modules.specs.Images.{JobImages, image_at, infos, last_offset}
 use Rattle.loaded_modules.specs.Loader.{bias, fresh_block, part_bytes}
 use Rattle.thread_blocks.specs.Instances.{Loads}
 use Rattle.image_names.specs.declared.variable.Variable.{Variable}
+use Rattle.image_names.specs.Functions.{entry_in}
 use Rattle.image_names.specs.Variables.{variable_in}
-use Rattle.thread_blocks.specs.Loading.{entry_in, is_code, is_loaders, is_written}
+use Rattle.thread_blocks.specs.Loading.{is_code, is_loaders, is_written}
 
 -- part i of an image, as an instance has it
 abbrev pub instance_part : JobImages → Spelled → Instance → ℕ → Part → Range ℕ

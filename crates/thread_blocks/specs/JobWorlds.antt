@@ -1,14 +1,17 @@
--- All threads of a job, and the data that they share: each turn begins with the data as the turn before left it.
-use Rattle.std.specs.Prelude.{ℕ, ◌*◌, Bool, true, suc, not, List, [], ◌∷◌, ◌++◌, Option, Some, None}
+-- All threads of a job, and the data that they share: each turn begins with the data as the turn before left it; and what
+-- a transcript tells of that.
+use Rattle.std.specs.Prelude.{◌≡◌, ℕ, ◌*◌, Bool, true, suc, not, List, [], ◌∷◌, ◌++◌, map, Option, Some, None}
 use Rattle.std.specs.List.{filter, flat_map}
 use Rattle.guest_machine.specs.Use.{left}
 use Rattle.guest_arithmetic.specs.Plain.{plain_operations}
 use Rattle.guest_machine.specs.State.{start_of}
 use Rattle.job_text.specs.declared.thread_lines.ThreadLine.{ThreadLine}
 use Rattle.module_table.specs.declared.events.Event.{Event}
+use Rattle.transcript_text.specs.Texts.{Shown}
 use Rattle.thread_blocks.specs.Held.{Held, Owned, owned_by, with_owned, data_after, is_block, looked}
 use Rattle.thread_blocks.specs.Instances.{Loads, instances}
 use Rattle.thread_blocks.specs.Lines.{Line, event_by}
+use Rattle.thread_blocks.specs.MachineTurns.{shown}
 use Rattle.thread_blocks.specs.RunTime.{Runs, thread_turns}
 use Rattle.thread_blocks.specs.Turns.{Phase, Idle, Mid, Thread, Turns, at_number, with_number, event_of, ready, turn, whole_order, with_event}
 
@@ -58,6 +61,11 @@ module _ {W F B : Type 0} where
     abbrev pub shared_order : List ℕ → Shared W F B L → Shared W F B L
     shared_order [] w = w
     shared_order (i ∷ order) w = shared_order order (shared_turn w i (at_number w.threads i))
+
+-- a transcript tells all turns of a job: the history that they left, and what came of each line, thread by thread
+pub record Tells {W F B : Type 0} (w : Shared W F B Line) (transcript : Shown) : Type 0 where
+  pub events : transcript.events ≡ w.events
+  pub lines : map (map Some) transcript.threads ≡ map (λ t. map shown t.said) w.threads
 
 -- ---- the machine's threads
 

@@ -69,8 +69,7 @@ module _ {W F B : Type 0} (ops : Operations W F B) (l : Loads B) (show : List B 
   abbrev pub begun_at : List ℕ → ℕ → ℕ → ℕ → Held W F B → Option ℕ → Begun (Held W F B)
   begun_at symbol a b c h None = refused NoSymbol h
   begun_at symbol a b c h (Some place) = Calls (record h {
-    after = left (call_start ops thread place (record { symbol = symbol; a = a; b = b; c = c }))
-        (fresh_space ops h.after.memory.seen h.after.memory.own);
+    after = left (call_start ops thread place a b c) (fresh_space ops h.after.memory.seen h.after.memory.own);
   })
 
   abbrev pub begun_in : List ℕ → ℕ → ℕ → ℕ → Held W F B → Option Instance → Begun (Held W F B)

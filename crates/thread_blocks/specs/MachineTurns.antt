@@ -1,21 +1,18 @@
--- Calls of functions: where a thread's parts lie, what is loaded, what a call begins with, and what is said of a line.
-use Rattle.std.specs.Prelude.{◌≡◌, ℕ, ◌+◌, ◌-◌, ◌*◌, ◌^◌, true, false, List, [], ◌∷◌, ◌++◌, replicate, Option, Some, None, option_map}
+-- Calls of functions: where a thread's parts lie, what a call begins with, and what is said of a line.
+use Rattle.std.specs.Prelude.{ℕ, ◌+◌, ◌-◌, ◌*◌, ◌^◌, true, false, List, ◌++◌, replicate, Option, Some, None, option_map}
 use Rattle.guest_operands.specs.declared.state.State.{State}
 use Rattle.guest_operands.specs.declared.stop.Stop.{Stop}
 use Rattle.guest_operands.specs.declared.stop.Stop.TheVariants.{Returned, Look, Address, Code, Unclean, Steps}
 use Rattle.guest_machine.specs.Access.{bytes_from}
-use Rattle.guest_machine.specs.Follow.{All2, Alike, SameAfter}
 use Rattle.guest_machine.specs.Ranges.{Range}
 use Rattle.guest_machine.specs.State.{start_of}
-use Rattle.guest_machine.specs.Use.{After, left}
 use Rattle.guest_arithmetic.specs.Values.{Operations}
 use Rattle.transcript_text.specs.declared.outcomes.Line.{Line}
 use Rattle.transcript_text.specs.declared.outcomes.LineFault.TheVariants.{Address as AddressFault, Code as CodeFault, Steps as StepsFault}
 use Rattle.transcript_text.specs.declared.outcomes.Outcome.{Outcome as Answer}
-use Rattle.transcript_text.specs.declared.outcomes.Outcome.TheVariants.{Returned as ReturnedAnswer, Refused, Fault}
-use Rattle.transcript_text.specs.declared.outcomes.LineRefusal.TheVariants.{Symbol}
-use Rattle.thread_blocks.specs.Spaces.{Space, SameRange, SameSpace}
-use Rattle.thread_blocks.specs.Turns.{Ending, Answered, Stopped, Said, Begun, Says, Calls}
+use Rattle.transcript_text.specs.declared.outcomes.Outcome.TheVariants.{Returned as ReturnedAnswer, Fault}
+use Rattle.thread_blocks.specs.Spaces.{Space}
+use Rattle.thread_blocks.specs.Turns.{Ending, Answered, Stopped, Said}
 
 -- ---- where a thread's parts lie
 
@@ -59,61 +56,19 @@ module _ {W F B : Type 0} (ops : Operations W F B) where
     runnable = false;
   }
 
--- ---- what is loaded
-
--- B: a byte
-pub record Loaded (B : Type 0) : Type 0 where
-  -- where the function of a name begins, where there is one that can be called
-  pub entry : List ℕ → Option ℕ
-  -- code and constants
-  pub fixed : List (Range B)
-  -- the blocks that a thread has from its start, as they are then
-  pub blocks : ℕ → List (Range B)
-
--- what stands in a thread's memory to be read and to be run
-abbrev pub fixed_of : {W F E B : Type 0} → Operations W F B → Loaded B → ℕ → List E → List (Range B)
-fixed_of ops loaded thread seen = pointer_word ops thread ∷ loaded.fixed
-
--- ---- lines
-
--- a call of the function of a name, with three arguments
-pub record CallLine : Type 0 where
-  pub symbol : List ℕ
-  pub a : ℕ
-  pub b : ℕ
-  pub c : ℕ
+-- ---- what a call begins with
 
 module _ {W F B : Type 0} (ops : Operations W F B) where
-  -- a machine before a call: its arguments in %rdi, %rsi and %rdx (psABI, section 3.2.3), and %rsp at the return
-  -- address
-  abbrev pub call_start : ℕ → ℕ → CallLine → State W F
-  call_start thread place line =
-      let start = start_of ops place (stack_end thread - 8) (ops.word line.a) (ops.word line.b) (ops.word line.c) in
+  -- a machine before a call of the function at a place: its three arguments in %rdi, %rsi and %rdx (psABI, section
+  -- 3.2.3), and %rsp at the return address
+  abbrev pub call_start : (thread place a b c : ℕ) → State W F
+  call_start thread place a b c =
+      let start = start_of ops place (stack_end thread - 8) (ops.word a) (ops.word b) (ops.word c) in
       record start { thread_pointer = pointer_of thread }
 
   -- a fresh stack, and the blocks as the line before left them
   abbrev pub fresh_space : {E : Type 0} → List E → List (Range B) → Space E B
   fresh_space seen own = record { seen = seen; stack = fresh_stack ops; own = own }
-
-  abbrev pub looked : {E : Type 0} → List E → After W F (Space E B) → After W F (Space E B)
-  looked seen at = left at.state (record at.memory { seen = seen })
-
-  abbrev pub begun_call : {E : Type 0} → ℕ → CallLine → List E → After W F (Space E B) → Option ℕ
-      → Begun (After W F (Space E B))
-  begun_call thread line seen at None = Says (Answered (Refused Symbol)) (looked seen at)
-  begun_call thread line seen at (Some place) =
-      Calls (left (call_start thread place line) (fresh_space seen at.memory.own))
-
-  -- the first look of a line that calls
-  abbrev pub begin_call : {E : Type 0} → Loaded B → ℕ → CallLine → List E → After W F (Space E B)
-      → Begun (After W F (Space E B))
-  begin_call loaded thread line seen at = begun_call thread line seen at (loaded.entry line.symbol)
-
-  -- what a thread holds before its first line
-  abbrev pub thread_start : {E : Type 0} → Loaded B → ℕ → After W F (Space E B)
-  thread_start loaded thread =
-      left (start_of ops 0 0 (ops.word 0) (ops.word 0) (ops.word 0))
-      (record { seen = []; stack = []; own = loaded.blocks thread })
 
 -- ---- what is said of a line
 
@@ -133,16 +88,3 @@ answer_of (Stopped stop) = answer_of_stop stop
 -- a line as the transcript has it
 abbrev pub shown : Said → Option Line
 shown said = option_map (λ outcome. record { points = said.points; outcome = outcome }) (answer_of said.ending)
-
--- ---- two threads, one over values of each kind
-
-module _ {W F B W' F' B' : Type 0} (same : Alike W F B W' F' B') where
-  -- in a call, where the events were seen
-  pub record SameRun {E : Type 0} (seen : List E)
-      (at : After W F (Space E B)) (at' : After W' F' (Space E B')) : Type 0 where
-    pub after : SameAfter same (SameSpace same.byte) at at'
-    pub events : at.memory.seen ≡ seen
-
-  -- between two lines only the blocks count
-  pub record SameRest {E : Type 0} (at : After W F (Space E B)) (at' : After W' F' (Space E B')) : Type 0 where
-    pub own : All2 (SameRange same.byte) at.memory.own at'.memory.own

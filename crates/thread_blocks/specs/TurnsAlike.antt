@@ -1,7 +1,7 @@
--- That threads of one kind do what threads of another do, turn by turn; an unclean line of the first allows anything.
+-- That threads of one kind did what threads of another did; an unclean line of the first allows anything.
 use Rattle.std.specs.Prelude.{◌≡◌, ◌⊎◌, ◌+◌, ◌*◌, ◌≤◌, List, [], ◌∷◌, ◌++◌}
-use Rattle.guest_machine.specs.Simulate.{IsUnclean, IsSimulated}
-use Rattle.thread_blocks.specs.Turns.{Ending, Answered, Stopped, Said, Begun, Says, Calls, Turns, Phase, Idle, Mid, Thread}
+use Rattle.guest_machine.specs.Simulate.{IsUnclean}
+use Rattle.thread_blocks.specs.Turns.{Ending, Answered, Stopped, Said, Begun, Says, Calls, Phase, Idle, Mid, Thread}
 
 abbrev pub IsUncleanEnding : Ending → Type 0
 IsUncleanEnding (Answered answer) = ⊥
@@ -19,17 +19,6 @@ SameBegun Rel Rest seen (Says ending s) (Says ending' s') =
 SameBegun Rel Rest seen (Says ending s) (Calls s') = IsUncleanEnding ending
 SameBegun Rel Rest seen (Calls s) (Says ending' s') = ⊥
 SameBegun Rel Rest seen (Calls s) (Calls s') = Rel seen s s'
-
-module _ {S S' L E : Type 0} (Rel Wait Rest : List E → S → S' → Type 0) where
-  -- Fine old new: after the events `old` a thread may see the events `new`. The relations are those where the events
-  -- are seen: Rel of states in a run, Wait at a look in the middle of a line, Rest between two lines
-  pub record IsAlike (Fine : List E → List E → Type 0) (x : Turns S L E) (y : Turns S' L E) : Type 0 where
-    pub steps : (seen : List E) → IsSimulated x.steps y.steps (Rel seen) (Wait seen) (Rest seen)
-    pub fuel : 4 * x.fuel ≤ y.fuel
-    pub begin : (old new : List E) → Fine old new → (line : L) (s : S) (s' : S') → Rest old s s'
-        → SameBegun Rel Rest new (x.begin line new s) (y.begin line new s')
-    pub resume : (old new : List E) → Fine old new → (s : S) (s' : S') → Wait old s s'
-        → SameBegun Rel Rest new (x.resume new s) (y.resume new s')
 
 module _ {S S' E : Type 0} (Wait Rest : List E → S → S' → Type 0) where
   abbrev pub SamePhase : List E → Phase S → Phase S' → Type 0

@@ -14,8 +14,8 @@
 //! points.
 //!
 //! **Turns** (`specs/Turns.antt`) are defined over any steps, lines and events: `turn`, and `turns` at any lists of
-//! events. Threads whose steps follow each other do so turn by turn, up to the first unclean line (`specs/TurnsAlike.antt`,
-//! `turn_alike`, `turns_alike`).
+//! events. That two threads have done the same, up to the first unclean line, is stated in `specs/TurnsAlike.antt`; that
+//! turns leave it so is a law of `order_laws`.
 //!
 //! **Orders** (`specs/JobWorlds.antt`): each entry of an order lets a thread take a turn that sees the whole history, has
 //! the shared data in its hands, and may add its event (`shared_order`). A whole job is its own order and then each thread
@@ -44,8 +44,7 @@
 //! can be fetched and not be read, constants can be read, data can be read and written, but for the part that the loader
 //! alone writes (GNU_RELRO), which can be read. The TLS segment is no part: it says how each thread's block begins, with
 //! the initial image, which lies in the first part that holds it whole, and zeros behind it. A function is found by the
-//! first symbol of its name. `specs/Loading.antt` says the same of a program alone of which a loader moves nothing, to
-//! be compared with what its objects mean.
+//! first symbol of its name.
 //!
 //! **Where the rest lies.** Thread t has its thread pointer at t * 2^40 + 2^38, and its stack is the
 //! 65,536 bytes before t * 2^40 + 2^39. By variant II of Drepper's "ELF Handling For Thread-Local
@@ -72,7 +71,7 @@
 //! two threads share, descriptors.
 //!
 //! What a call begins with is one definition for any kind of values, so that a meaning over marked values begins as the
-//! machine does (`begin_call_alike`, `proofs/Begin.antt`).
+//! machine does (`call_start_alike`, `proofs/Begin.antt`).
 #![tactic(auto)]
 
 mod asked;

@@ -17,10 +17,9 @@ use Rattle.job_meaning.specs.declared.values.Flag.TheVariants.{Truth, Unsettled}
 use Rattle.job_meaning.specs.declared.values.Byte.{Byte}
 use Rattle.job_meaning.specs.declared.values.Byte.TheVariants.{Value, Hidden, Part}
 use Rattle.job_meaning.specs.Marked.{used_number, used_truth, part_of, is_same_block, is_same, with_value, values_of, are_parts, whole, joined_as, moved_in, marked_operations}
-use Rattle.job_meaning.specs.Same.{SameFlag}
 use Rattle.job_meaning.specs.Owner.{owner_at}
 use Rattle.tied_meaning.specs.Laws.{NumbersFollowMarkedValues}
-use Rattle.tied_meaning.specs.Numbers.{Setting, IsMade, SameByte, SameField, SameWord, alike, base_number, number_for}
+use Rattle.tied_meaning.specs.Numbers.{Setting, IsMade, SameByte, SameField, SameFlag, SameWord, alike, base_number, number_for}
 
 -- ** numbers
 

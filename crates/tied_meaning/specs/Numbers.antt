@@ -9,10 +9,10 @@ use Rattle.job_meaning.specs.declared.values.Token.TheVariants.{Base, Descriptor
 use Rattle.job_meaning.specs.declared.values.Word.{Word}
 use Rattle.job_meaning.specs.declared.values.Word.TheVariants.{Number, Undefined, Marked}
 use Rattle.job_meaning.specs.declared.values.Flag.{Flag}
+use Rattle.job_meaning.specs.declared.values.Flag.TheVariants.{Truth, Unsettled}
 use Rattle.job_meaning.specs.declared.values.Byte.{Byte}
 use Rattle.job_meaning.specs.declared.values.Byte.TheVariants.{Value, Hidden, Part}
 use Rattle.job_meaning.specs.Owner.{owner_at}
-use Rattle.job_meaning.specs.Same.{SameFlag}
 use Rattle.loaded_modules.specs.declared.instance.Instance.{Instance}
 use Rattle.thread_blocks.specs.Instances.{block_start}
 use Rattle.thread_blocks.specs.MachineTurns.{pointer_of}
@@ -72,6 +72,11 @@ module _ (g : Setting) where
   SameField (Some place) field number number' =
       (field ≡ None) × ((block : Block) → IsMade (Base block) → block.instance ≡ owner_at place
       → (block.start + number) % 2 ^ 64 ≡ (base_number block + number') % 2 ^ 64)
+
+-- a flag: what is known of it is so
+abbrev pub SameFlag : Flag → Bool → Type 0
+SameFlag (Truth truth) flag = flag ≡ truth
+SameFlag Unsettled flag = Unit {0}
 
 -- all of this, as a machine that follows another is asked for it
 unfoldable pub alike : Setting → Alike Word Flag Byte ℕ Bool ℕ

@@ -1,4 +1,3 @@
-pub mod Agreeing
 pub mod Answering
 mod CauseExamples
 mod DataExamples

@@ -1,14 +1,10 @@
 -- What is so of the meaning, in words that know nothing of how it is defined.
-use Rattle.std.specs.Prelude.{◌≡◌, ◌<◌, ◌^◌, ℕ, Bool, true, false, Ok}
+use Rattle.std.specs.Prelude.{◌≡◌, ◌<◌, ◌^◌, ℕ, true, false, Ok}
 use Rattle.guest_operands.specs.declared.state.State.{State}
-use Rattle.guest_operands.specs.Access.{Accesses}
 use Rattle.guest_operands.specs.Use.{After, plus}
-use Rattle.job_meaning.specs.declared.marks.Mark.TheVariants.{Usual as Plain}
-use Rattle.job_meaning.specs.declared.values.Byte.{Byte}
 use Rattle.job_meaning.specs.declared.values.Flag.{Flag}
 use Rattle.job_meaning.specs.declared.values.Word.{Word}
 use Rattle.job_meaning.specs.declared.values.Word.TheVariants.{Number}
-use Rattle.job_meaning.specs.Reading.{meaning_step}
 use Rattle.link_faults.specs.declared.symbol_ref.SymbolRef.{SymbolRef}
 use Rattle.loaded_modules.specs.declared.instance.Instance.{Instance}
 use Rattle.sequence_forms.specs.declared.forms.Form.{Form}
@@ -17,17 +13,10 @@ use Rattle.thread_blocks.specs.declared.asked.Asked.{Asked}
 use Rattle.thread_blocks.specs.Instances.{Loads}
 use Rattle.thread_blocks.specs.MachineTurns.{pointer_of}
 use Rattle.thread_blocks.specs.RunTime.{answer_word}
-use Rattle.whole_meaning.specs.declared.marks.Mark.TheVariants.{Usual}
 use Rattle.whole_meaning.specs.Code.{definition_number}
-use Rattle.whole_meaning.specs.Reading.{marked_step}
 use Rattle.whole_meaning.specs.Sequences.{Stack, does}
 use Rattle.whole_meaning.specs.declared.sequences.Sequence.{Sequence}
-use Rattle.whole_meaning.specs.Threads.{Memory, ops}
-
--- code without fields and sequences means what it means where none can be told apart: the step is that of `job_meaning`
-abbrev pub UsualCodeAgrees : Type 0
-UsualCodeAgrees = (acc : Accesses Memory Byte) (shut : ℕ → Bool) (state : State Word Flag) (memory : Memory)
-    → marked_step ops acc (λ place. Usual) shut state memory ≡ meaning_step ops acc (λ place. Plain) shut state memory
+use Rattle.whole_meaning.specs.Threads.{Memory}
 
 -- the forms of a general dynamic sequence
 abbrev pub IsGeneral : Form → Type 0

@@ -1,11 +1,11 @@
 //! What every job means: definitions, and laws of them. No code runs here.
 //!
-//! `job_meaning` has the idea: objects mean something before anything is linked, values and code are marked, and a step
-//! is clean, so that each image of the objects does the same, or it is unclean and says why. Here it is said of every
-//! job: of images of all kinds, opened and closed by their threads, with sequences and with data that threads share.
-//! The theorem that is to come compares two things turn by turn: what is defined here, and what `thread_blocks` says that
-//! the machine does with the linked images. So both have one shape. Lines, looks, blocks, data and turns are the
-//! definitions of `thread_blocks`, over marked values; only steps are stated anew, and what is loaded.
+//! `job_meaning` has the idea and the values: objects mean something before anything is linked, values and code are
+//! marked, and a step is clean, so that each image of the objects does the same, or it is unclean and says why. Here it is
+//! said of every job: of images of all kinds, opened and closed by their threads, with sequences and with data that
+//! threads share. The theorem (`linked_jobs`) compares two things turn by turn: what is defined here, and what
+//! `thread_blocks` says that the machine does with the linked images. So both have one shape. Lines, looks, blocks, data
+//! and turns are the definitions of `thread_blocks`, over marked values; only steps are stated anew, and what is loaded.
 //!
 //! **A sequence is one step** (`specs/Sequences.antt`). `lea x@tlsgd(%rip), %rdi; call __tls_get_addr` puts the address
 //! of x into %rax, whatever stands there in an image. What a call leaves its caller unknown is undefined behind it: the
@@ -130,10 +130,9 @@
 //!     ret
 //! ```
 //!
-//! **Laws** ([`laws`]): over code without fields and sequences a step is that of `job_meaning`; a general dynamic sequence
-//! and the call of a descriptor find a variable at one address, here and where the run time answers; no two symbols of a
-//! job have one number. `job_check` decides whether a job is clean, and `tlsld check` says so. That a clean job prints what
-//! it means is not proved yet.
+//! **Laws** ([`laws`]): a general dynamic sequence and the call of a descriptor find a variable at one address, here and
+//! where the run time answers; no two symbols of a job have one number. `job_check` decides whether a job is clean, and
+//! `tlsld check` says so. That a clean job prints what it means is proved in `linked_jobs`.
 //!
 //! The checker computes whole jobs from the files of their objects by these definitions (`proofs/FormExamples.antt` and
 //! its neighbours): each form of sequence, each kind of image that a variable may lie in, and each cause.

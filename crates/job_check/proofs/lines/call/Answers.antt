@@ -34,6 +34,6 @@ returns c = λ number.
     (ap (λ ls. loaded_instance (infos_of ls) image (module_of p image)) (sym c.images.ensures) ∙ sym c.in-Some.ensures)
     (ap (λ ls. (loads_of ls).function c.in-Some.instance c.args.symbol.now) (sym c.images-2.ensures) ∙ sym c.in-Some-function.ensures)
     c.in_ok-renew_stack.ensures.renewed
-    (λ name. c.registers_at.ensures name
-    ∙ ap (λ t. call_start ops t c.in-Some-function.place (record { symbol = name; a = c.args.a; b = c.args.b; c = c.args.c }))
+    (c.registers_at.ensures
+    ∙ ap (λ t. call_start ops t c.in-Some-function.place c.args.a c.args.b c.args.c)
     (c.thread.ensures.value ∙ ap (λ (k : Kept). k.thread) c.in_ok-renew_stack.ensures.renewed))

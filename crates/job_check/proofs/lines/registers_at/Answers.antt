@@ -9,10 +9,10 @@ use Rattle.job_check.proofs.LinesBegun.{marked_start}
 use Rattle.job_check.proofs.lines.registers_at.Goals as goal
 
 pub returns : goal.returns
-returns c = λ symbol.
+returns c =
     let pointed : State Word Flag → State Word Flag = λ s. record s { thread_pointer = c.from-thread.result * 1099511627776 + 274877906944 } in
     let started : ℕ → State Word Flag = λ t.
     record (start_of ops c.args.place (t * 1099511627776 + 549755813888 - 8) (Number c.args.a) (Number c.args.b) (Number c.args.c))
     { thread_pointer = t * 1099511627776 + 274877906944 } in
     ap pointed c.start-state.ensures ∙ ap started c.from-thread.ensures
-    ∙ sym (marked_start c.args.thread c.args.place c.args.a c.args.b c.args.c symbol (omega arith) (omega arith) (omega arith))
+    ∙ sym (marked_start c.args.thread c.args.place c.args.a c.args.b c.args.c (omega arith) (omega arith) (omega arith))

@@ -23,6 +23,6 @@ returns c =
     call_begins c.args.space.now c.args.image c.args.symbol.now c.args.a c.args.b c.args.c c.in-Some.instance c.in-Some-function.place
     c.renew_stack.new.self c.machine_at.result (sym c.in-Some.ensures)
     (ap (λ m. (job_loads m).function c.in-Some.instance c.args.symbol.now) (sym c.requires) ∙ sym c.in-Some-function.ensures) fresh
-    (λ name. c.machine_at.ensures.state name
-    ∙ ap (λ t. call_start plain_operations t c.in-Some-function.place (record { symbol = name; a = c.args.a; b = c.args.b; c = c.args.c })) thread)
+    (c.machine_at.ensures.state
+    ∙ ap (λ t. call_start plain_operations t c.in-Some-function.place c.args.a c.args.b c.args.c) thread)
     c.machine_at.ensures.fresh

@@ -10,10 +10,9 @@ use Rattle.thread_blocks.specs.JobWorlds.{Shared, blocks_in, changed, data_in, h
 use Rattle.thread_blocks.specs.Turns.{Said, Begun, Says, Calls, Turns, Phase, Idle, Mid, Thread, IsFinished, after_look, after_run, turn, turn_at, turns, with_last}
 use Rattle.thread_blocks.specs.TurnsAlike.{AllFronts, IsFront, Rises}
 use Rattle.thread_blocks.proofs.Orders.{front-trans, get-set, get-set_same, order-front, taken, turn-front, turned}
-use Rattle.thread_blocks.proofs.OwnBlocks.{blocks_again, no_data, owners_again, ranges_again}
+use Rattle.thread_blocks.proofs.Blocks.{HoldsBlocks, blocks_again, no_data, owners_again, ranges_again}
+use Rattle.thread_blocks.proofs.BlocksBegun.{BegunHolds}
 use Rattle.thread_blocks.proofs.Turns.{turn-finished, turn-seen}
-use Rattle.meaning_laws.proofs.Begins.{BegunHolds}
-use Rattle.meaning_laws.proofs.Blocks.{HoldsBlocks}
 
 abbrev pub NextHolds : {W F B : Type 0} → Next (Held W F B) → Type 0
 NextHolds (Goes h) = HoldsBlocks h
@@ -69,7 +68,7 @@ module _ {W F B L : Type 0} where
       ap (λ (phase : Phase (Held W F B)). record t { phase = phase })
       (phase_same (λ h. with_owned h (owned_by h ++ [])) t.phase (in_hands (held_in t.phase) holds))
 
-  without_none : (t : Thread (Held W F B) L Event) → Holds t → without_data t ≡ t
+  pub without_none : (t : Thread (Held W F B) L Event) → Holds t → without_data t ≡ t
   without_none t holds =
       ap (λ (phase : Phase (Held W F B)). record t { phase = phase })
       (phase_same (λ h. with_owned h (blocks_in (owned_by h))) t.phase (out_of_hands (held_in t.phase) holds))
@@ -104,7 +103,7 @@ module _ {W F B L : Type 0} (x : Turns (Held W F B) L Event) (keeps : KeepsBlock
   run_keeps todo said seen points (Ended stop n h) holds = holds
   run_keeps todo said seen points (Waits n h) holds = holds
 
-  look_keeps : (steps : ℕ) (todo : List L) (said : List Said) (seen : List Event) (points : List ℕ)
+  pub look_keeps : (steps : ℕ) (todo : List L) (said : List Said) (seen : List Event) (points : List ℕ)
       → (begun : Begun (Held W F B)) → BegunHolds begun → Holds (after_look x steps todo said seen points begun)
   look_keeps steps todo said seen points (Says ending h) holds = holds
   look_keeps steps todo said seen points (Calls h) holds =

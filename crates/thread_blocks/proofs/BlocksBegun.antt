@@ -15,11 +15,16 @@ use Rattle.thread_blocks.specs.Instances.{Loads, instance_at, left_by}
 use Rattle.thread_blocks.specs.Lines.{Line, begin_line, begun_at, begun_by, begun_close, begun_in, begun_open, begun_peek, event_at, refused, shown_from, shown_in, with_load}
 use Rattle.thread_blocks.specs.Turns.{Begun, Says, Calls, Ending, with_last}
 use Rattle.transcript_text.specs.declared.outcomes.LineRefusal.TheVariants.{Length as TooLong}
-use Rattle.meaning_laws.proofs.Blocks.{HoldsBlocks, load_holds, look_holds, reach_holds}
+use Rattle.thread_blocks.proofs.Blocks.{HoldsBlocks, load_holds, look_holds, reach_holds}
 
 abbrev pub BegunHolds : {W F B : Type 0} → Begun (Held W F B) → Type 0
 BegunHolds (Says ending h) = HoldsBlocks h
 BegunHolds (Calls h) = HoldsBlocks h
+
+pub either_begins : {W F B : Type 0} (b : Bool) (x y : Begun (Held W F B)) → BegunHolds x → BegunHolds y
+    → BegunHolds (if b then x else y)
+either_begins true x y f g = f
+either_begins false x y f g = g
 
 module _ {W F B : Type 0} (ops : Operations W F B) (l : Loads B) (none : (x : Instance) → l.shared x ≡ None)
     (show : List B → Ending) (thread : ℕ) where
@@ -60,10 +65,6 @@ module _ {W F B : Type 0} (ops : Operations W F B) (l : Loads B) (none : (x : In
   close_holds line seen h None holds = look_holds l none thread _ h
 
   -- ** bytes that are shown
-
-  pub either_begins : (b : Bool) (x y : Begun Ours) → BegunHolds x → BegunHolds y → BegunHolds (if b then x else y)
-  either_begins true x y f g = f
-  either_begins false x y f g = g
 
   shown_in_holds : (h : Ours) (size offset : ℕ) (bytes : Option (List B)) → HoldsBlocks h
       → BegunHolds (shown_in ops l show thread h size offset bytes)

@@ -1,18 +1,50 @@
 -- A thread that holds blocks alone, and looks, which leave it so where no image has data.
-use Rattle.std.proofs.Common.{◌≡◌, ◌++◌, ◌==◌, Bool, true, false, ℕ, List, [], ◌∷◌, Option, Some, None, refl}
+use Rattle.std.proofs.Common.{◌≡◌, ◌++◌, ◌==◌, Bool, true, false, ℕ, List, [], ◌∷◌, Option, Some, None, refl, ap}
 use Rattle.std.specs.Prelude.{if◌then◌else◌, is_some}
 use Rattle.std.specs.List.{flat_map}
 use Rattle.guest_machine.specs.Ranges.{Range, grants, with_byte}
 use Rattle.guest_operands.specs.declared.space.Access.TheVariants.{Write}
 use Rattle.loaded_modules.specs.declared.instance.Instance.{Instance}
 use Rattle.module_table.specs.declared.events.Event.{Event}
-use Rattle.thread_blocks.specs.Held.{Held, Owned, Owner, block_after, block_with, data_after, data_with, held_of, loaded, loaded_at, looked, looked_at, owned_by, owners_of, ranges_in, reached, reached_at}
+use Rattle.thread_blocks.specs.Held.{Held, Owned, Owner, block_after, block_with, data_after, data_with, held_of, is_block, loaded, loaded_at, looked, looked_at, owned, owned_by, owners_of, ranges_in, reached, reached_at}
 use Rattle.thread_blocks.specs.Instances.{Loads, instances}
-use Rattle.thread_blocks.proofs.OwnBlocks.{AreBlocks}
+use Rattle.thread_blocks.specs.JobWorlds.{blocks_in, data_in}
+
+-- ** ranges that are all blocks
 
 module _ {B : Type 0} where
-  -- ** a write changes bytes alone
+  -- each range has an owner, and is the block of it
+  abbrev pub AreBlocks : List Owner → List (Range B) → Type 0
+  AreBlocks [] [] = Unit {0}
+  AreBlocks [] (r ∷ rs) = ⊥
+  AreBlocks (o ∷ os) [] = ⊥
+  AreBlocks (o ∷ os) (r ∷ rs) = (is_block o.kind ≡ true) × AreBlocks os rs
 
+  pub owners_again : (os : List Owner) (rs : List (Range B)) → AreBlocks os rs → owners_of (owned os rs) ≡ os
+  owners_again [] [] are = refl
+  owners_again [] (r ∷ rs) are = absurd are
+  owners_again (o ∷ os) [] are = absurd are
+  owners_again (o ∷ os) (r ∷ rs) are = ap (λ more. o ∷ more) (owners_again os rs are.1)
+
+  pub ranges_again : (os : List Owner) (rs : List (Range B)) → AreBlocks os rs → ranges_in (owned os rs) ≡ rs
+  ranges_again [] [] are = refl
+  ranges_again [] (r ∷ rs) are = absurd are
+  ranges_again (o ∷ os) [] are = absurd are
+  ranges_again (o ∷ os) (r ∷ rs) are = ap (λ more. r ∷ more) (ranges_again os rs are.1)
+
+  pub blocks_again : (os : List Owner) (rs : List (Range B)) → AreBlocks os rs → blocks_in (owned os rs) ≡ owned os rs
+  blocks_again [] [] are = refl
+  blocks_again [] (r ∷ rs) are = absurd are
+  blocks_again (o ∷ os) [] are = absurd are
+  blocks_again (o ∷ os) (r ∷ rs) are = rw are.0 (ap (λ more. record { owner = o; range = r } ∷ more) (blocks_again os rs are.1))
+
+  pub no_data : (os : List Owner) (rs : List (Range B)) → AreBlocks os rs → data_in (owned os rs) ≡ []
+  no_data [] [] are = refl
+  no_data [] (r ∷ rs) are = absurd are
+  no_data (o ∷ os) [] are = absurd are
+  no_data (o ∷ os) (r ∷ rs) are = rw are.0 (no_data os rs are.1)
+
+  -- a write changes bytes alone
   either_are : (g : Bool) (os : List Owner) (xs ys : List (Range B)) → AreBlocks os xs → AreBlocks os ys
       → AreBlocks os (if g then xs else ys)
   either_are true os xs ys h k = h
