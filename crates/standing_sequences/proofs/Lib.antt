@@ -1,0 +1,9 @@
+mod Choosing
+mod Covering
+mod Kept
+mod NewValues
+mod Parts
+mod Rewritten
+mod Rows
+mod Sequences
+mod Values
