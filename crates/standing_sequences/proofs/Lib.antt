@@ -1,5 +1,6 @@
 mod Choosing
 mod Covering
+mod Example
 mod Kept
 mod NewValues
 mod Parts

@@ -1,5 +1,6 @@
 //! The laws. The functions do nothing: what they ensure is the law.
 
+ghost use Rattle.standing_sequences.specs.Example.{ExampleStands};
 ghost use Rattle.standing_sequences.specs.Laws.{FieldsStand, OwnBytesStand, RewrittenFormsStand, RowsDiffer};
 ghost use Rattle.standing_sequences.specs.Laws.{SequencesStandByTheTable};
 
@@ -26,4 +27,9 @@ pub fn rows_differ()
 /// So at the place of each sequence stands a rewritten form exactly where the table gives it, and else the sequence.
 pub fn sequences_stand_by_the_table()
     ensures { SequencesStandByTheTable }
+{}
+
+/// For example of a program with three sequences, linked with rewriting and without.
+pub fn example_stands()
+    ensures { ExampleStands }
 {}

@@ -4,5 +4,5 @@
 mod laws;
 
 pub use laws::{
-    fields_stand, own_bytes_stand, rewritten_forms_stand, rows_differ, sequences_stand_by_the_table,
+    example_stands, fields_stand, own_bytes_stand, rewritten_forms_stand, rows_differ, sequences_stand_by_the_table,
 };
