@@ -1,7 +1,7 @@
 -- The table is the one that the linker goes by.
-use Rattle.std.proofs.Common.{◌≡◌, ◌≢◌, ◌∙◌, ℕ, Bool, true, false, Option, Some, None, refl, sym, ap, subst}
+use Rattle.std.proofs.Common.{◌≡◌, ◌≢◌, ◌∙◌, ℕ, Bool, true, false, Option, Some, None, refl, ap, subst}
 use Rattle.link_faults.specs.declared.binding.Binding.{Binding}
-use Rattle.link_faults.specs.declared.binding.Binding.TheVariants.{Here, Startup, Runtime}
+use Rattle.link_faults.specs.declared.binding.Binding.TheVariants.{Here, Startup}
 use Rattle.link_faults.specs.declared.image_kind.ImageKind.{ImageKind}
 use Rattle.link_faults.specs.declared.image_kind.ImageKind.TheVariants.{Exe, Pie, Start, Late}
 use Rattle.link_needs.specs.Linking.{Linking, binding, choice, chosen}
@@ -13,6 +13,7 @@ use Rattle.sequence_forms.specs.declared.forms.Form.{Form}
 use Rattle.sequence_forms.specs.declared.forms.Form.TheVariants.{Gd, Ld, IeMov, IeAdd, GdInd, LdInd, DescLea, DescCall}
 use Rattle.sequence_forms.specs.declared.places.Site.{Site}
 use Rattle.sequence_match.specs.Sites.{first_of}
+use Rattle.standing_sequences.specs.Laws.{ChoicesAreTheTables}
 use Rattle.standing_sequences.specs.Table.{IsInTable, IsProgram, Matches}
 
 -- ** one row
@@ -126,3 +127,13 @@ matches l o site e = of_bound (binding l o (first_of site)) refl e
     of_bound (Some bound) is e =
         let h = asked_of site.form bound l.kind l.relax e in
         record { asked = h.asked; program = h.program; bound = bound; bound_is = is; listed = h.listed }
+
+pub choices_are_the_tables : ChoicesAreTheTables
+choices_are_the_tables l o site c changes = (
+  λ e. subst (Matches l o site) e (matches l o site (ap is_kept e ∙ not_kept c changes)),
+  matched l o site c,
+)
+  where
+    not_kept : (c : Choice) → c ≢ Keep → is_kept c ≡ false
+    not_kept Keep changes = absurd (changes refl)
+    not_kept c changes = refl

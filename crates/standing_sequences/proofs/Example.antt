@@ -8,7 +8,7 @@ use Rattle.sequence_forms.specs.declared.forms.Form.TheVariants.{IeMov}
 use Rattle.link_needs.specs.Linking.{binding}
 use Rattle.sequence_match.specs.Sites.{first_of}
 use Rattle.standing_sequences.specs.Bytes.{byte_at}
-use Rattle.standing_sequences.specs.Example.{ExampleStands, HasCode, asks_for_x, asks_for_y, kept_code, loads_y, object}
+use Rattle.standing_sequences.specs.Example.{ExampleStands, HasCode, kept_code, loads_y, object}
 use Rattle.standing_sequences.specs.Example.{program, rewritten_code}
 use Rattle.standing_sequences.specs.Table.{IsInTable, Matches}
 use Rattle.image_file.specs.Spelled.{Spelled}
@@ -90,7 +90,11 @@ pub example_stands : ExampleStands
 unfolding linked program object
 example_stands = record {
   own = record {
-    asked = refl; program = tt; bound = Here (record { object = 0; symbol = 1 }); bound_is = refl; listed = tt;
+    asked = refl;
+    program = tt;
+    bound = Here (record { object = 0; symbol = 1 });
+    bound_is = refl;
+    listed = tt;
   };
   theirs = record { asked = refl; program = tt; bound = Startup 2; bound_is = refl; listed = tt };
   reads_already = none_for_y;

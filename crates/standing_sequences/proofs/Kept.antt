@@ -1,20 +1,18 @@
 -- The image's bytes in a section, and those that no rewritten sequence has.
-use Rattle.std.proofs.Common.{◌≡◌, ◌+◌, ◌-◌, ◌<◌, ◌∙◌, ℕ, true, List, Option, Some, None, length, refl, sym, ap, arith}
+use Rattle.std.proofs.Common.{◌≡◌, ◌+◌, ◌-◌, ◌<◌, ◌∙◌, ℕ, Some, refl, sym, ap, arith}
 use Rattle.std.specs.Prelude.{slice_get, slice_index_or, unwrap_or}
 use Rattle.std.specs.List.{Contains, find}
 use Rattle.std.proofs.lemmas.Option.{slice_get-get_or}
 use Rattle.elf_object.specs.declared.relocation.Relocation.{Relocation}
 use Rattle.elf_object.specs.Lent.{relocations, section_bytes, section_class, section_size}
-use Rattle.elf_object.specs.Relocations.{field_width}
 use Rattle.link_core.proofs.Few.{table_fits}
 use Rattle.link_core.proofs.Standing.{byte_stands}
 use Rattle.link_core.proofs.StandingPlaces.{field_in, lies_at}
 use Rattle.link_core.specs.Images.{image_of}
-use Rattle.link_core.specs.Meant.{field_byte, is_in_field, is_in_rewritten, meant_byte, site_byte}
+use Rattle.link_core.specs.Meant.{field_byte, is_in_field, meant_byte, site_byte}
 use Rattle.link_needs.specs.Given.{FitsTable}
-use Rattle.link_needs.specs.Linking.{Linking, layout, object, sites_at}
+use Rattle.link_needs.specs.Linking.{Linking, layout, object}
 use Rattle.link_needs.specs.Values.{field}
-use Rattle.object_faults.specs.declared.class.SectionClass.{SectionClass}
 use Rattle.section_file.proofs.Rising.{class_is}
 use Rattle.section_file.proofs.Standing.{HasPlace, has_place, memory_byte}
 use Rattle.sequence_match.specs.Sites.{Covers}
@@ -83,7 +81,8 @@ module _ (l : Linking) (linked : IsLinked l) (o t address : ℕ) (at : IsSection
           value.1,
           image_byte k (omega (arith, inside, high))
               ∙ ap Some (by_field
-              ∙ ap (λ found. field_byte l o t k found own) (field_found l linked.given o t at.there r k has covers stays)
+              ∙ ap (λ found. field_byte l o t k found own)
+              (field_found l linked.given o t at.there r k has covers stays)
               ∙ ap (λ v. slice_index_or (field_bytes (unwrap_or v Empty)) (k - r.offset) 0) value.1)
               ∙ sym (slice_get-get_or (field_bytes value.0) (k - r.offset) 0 (omega (arith, long, low, high))),
         )

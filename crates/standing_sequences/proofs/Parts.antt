@@ -17,7 +17,8 @@ use Rattle.image_writer.specs.Page.{file_offset}
 use Rattle.image_writer.specs.Tables.{finished, tables_part}
 use Rattle.link_core.proofs.LoadsTls.{same_base}
 use Rattle.link_core.specs.Bytes.{file}
-use Rattle.link_core.specs.Images.{contents, file_kind, filled, got_places, image_of, places, section_places, stub_places}
+use Rattle.link_core.specs.Images.{contents, file_kind, filled, got_places, image_of, places, section_places}
+use Rattle.link_core.specs.Images.{stub_places}
 use Rattle.link_faults.specs.ImageKinds.{base_of}
 use Rattle.link_needs.specs.Linking.{Linking, layout}
 use Rattle.object_faults.specs.declared.class.SectionClass.{SectionClass}
@@ -70,7 +71,7 @@ module _ (l : Linking) (a : ℕ) where
     hit : (byte : ℕ) → x.start ≤ a → a < x.end → slice_get (part (place class x)).bytes (a - x.start) ≡ Some byte
         → find (holds a) (built (filled class x)) ≡ Some (part (place class x))
     hit byte low high is = rw (lt-ltb x.start x.end (omega (arith, low, high))) (
-      ap (find (holds a)) (step (place class x)) ∙ rw on refl)
+        ap (find (holds a)) (step (place class x)) ∙ rw on refl)
       where
         on : holds a (part (place class x)) ≡ true
         on =

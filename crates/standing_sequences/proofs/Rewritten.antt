@@ -5,14 +5,12 @@ use Rattle.std.specs.Prelude.{slice_get, slice_index_or, unwrap_or}
 use Rattle.std.specs.List.{Contains, find}
 use Rattle.std.proofs.lemmas.Option.{slice_get-get_or, slice_get_within}
 use Rattle.elf_object.specs.Lent.{relocations, section_bytes, section_size}
-use Rattle.elf_object.specs.Relocations.{field_width}
-use Rattle.elf_records.specs.declared.relocation.RelocationKind.{RelocationKind}
 use Rattle.elf_records.specs.Fields.{splice}
 use Rattle.elf_records.specs.Laws.{length-splice}
 use Rattle.link_core.proofs.LengthsKept.{new_width}
 use Rattle.link_core.proofs.StandingPlaces.{site_in}
 use Rattle.link_core.specs.Images.{image_of}
-use Rattle.link_core.specs.Meant.{field_byte, is_in_field, is_in_rewritten, meant_byte, rewritten_bytes, row_with, site_byte}
+use Rattle.link_core.specs.Meant.{field_byte, is_in_field, meant_byte, rewritten_bytes, site_byte}
 use Rattle.link_needs.specs.Linking.{Linking, choice, object, sites_at}
 use Rattle.link_needs.specs.Needs.{is_kept, new_relocation}
 use Rattle.link_needs.specs.Values.{field}
@@ -26,7 +24,8 @@ use Rattle.tls_relocs.specs.declared.fields.Field.{Field}
 use Rattle.tls_relocs.specs.declared.fields.Field.TheVariants.{Empty}
 use Rattle.tls_relocs.specs.Elements.{slice_get-splice_after, slice_get-splice_before}
 use Rattle.tls_relocs.specs.Fields.{field_bytes}
-use Rattle.standing_sequences.specs.Bytes.{AreOfForm, HasForm, IsFilled, IsLinked, IsOutside, IsSectionAt, Stand, byte_at}
+use Rattle.standing_sequences.specs.Bytes.{AreOfForm, HasForm, IsFilled, IsLinked, IsOutside, IsSectionAt, Stand}
+use Rattle.standing_sequences.specs.Bytes.{byte_at}
 use Rattle.standing_sequences.specs.Laws.{RewrittenFormsStand}
 use Rattle.standing_sequences.specs.Table.{IsSequence, Matches}
 use Rattle.standing_sequences.proofs.Choosing.{listed_changes, listed_own, matched}
@@ -79,7 +78,8 @@ module _ (l : Linking) (linked : IsLinked l) (o t address : ℕ) (at : IsSection
 
   abbrev filled : Option NewField → List ℕ
   filled None = row
-  filled (Some new) = splice new.at (field_bytes (unwrap_or (field l o site.section (new_relocation site new)) Empty)) row
+  filled (Some new) =
+      splice new.at (field_bytes (unwrap_or (field l o site.section (new_relocation site new)) Empty)) row
 
   filled_is : (new : Option NewField) → new_field site.form c ≡ new → IsFilled l o site row new (filled new)
   filled_is None e = refl
@@ -129,7 +129,8 @@ module _ (l : Linking) (linked : IsLinked l) (o t address : ℕ) (at : IsSection
   unfolding meant_byte
   meant k below =
       let index : site.start + k - site.start ≡ k = omega arith in
-      let other = field_byte l o t (site.start + k) (find (is_in_field l o (site.start + k)) (relocations (object l o) t))
+      let other = field_byte l o t (site.start + k)
+      (find (is_in_field l o (site.start + k)) (relocations (object l o) t))
       (slice_index_or (section_bytes (object l o) t) (site.start + k) 0) in
       ap (λ found. site_byte l o (site.start + k) found other)
       (rewritten_found l linked.given o t at.there site (site.start + k) is off (omega arith) (omega (arith, below)))

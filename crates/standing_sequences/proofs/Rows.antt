@@ -1,19 +1,19 @@
 -- The rows of the table, and the sequences that they replace, differ where no field stands.
-use Rattle.std.proofs.Common.{◌≡◌, ◌≢◌, ◌<◌, ◌≤◌, ◌⊎◌, ◌%◌, ◌==◌, ℕ, Bool, true, false, List, [], ◌∷◌, Some, None}
+use Rattle.std.proofs.Common.{◌≡◌, ◌≢◌, ◌⊎◌, ◌%◌, ◌==◌, ℕ, Bool, true, false, List, ◌∷◌, Some}
 use Rattle.std.proofs.Common.{inl, inr, refl, arith, if◌then◌else◌}
 use Rattle.std.specs.Prelude.{slice_get}
 use Rattle.link_faults.specs.declared.binding.Binding.{Binding}
 use Rattle.link_faults.specs.declared.binding.Binding.TheVariants.{Here, Startup}
 use Rattle.relax_sites.specs.declared.choices.Choice.{Choice}
 use Rattle.relax_sites.specs.declared.choices.Choice.TheVariants.{GdLe, GdIe, LdLe, IeLe, DescLe, DescIe}
-use Rattle.relax_sites.specs.Rows.{field_of_zeros, new_bytes, new_field, rex_both, rex_rm}
+use Rattle.relax_sites.specs.Rows.{new_bytes, new_field, rex_both, rex_rm}
 use Rattle.sequence_forms.specs.declared.forms.Cell.TheVariants.{Is}
 use Rattle.sequence_forms.specs.declared.forms.Form.{Form}
 use Rattle.sequence_forms.specs.declared.forms.Form.TheVariants.{Gd, Ld, IeMov, IeAdd, GdInd, LdInd, DescLea, DescCall}
 use Rattle.sequence_forms.specs.Forms.{fits, row}
 use Rattle.standing_sequences.specs.Bytes.{IsOutside}
 use Rattle.standing_sequences.specs.Laws.{Differs, RowsDiffer}
-use Rattle.standing_sequences.specs.Table.{IsInTable, MayReplace}
+use Rattle.standing_sequences.specs.Table.{IsInTable}
 
 -- ** a row, and the sequence in whose place it stands
 
@@ -34,25 +34,74 @@ add_other false = refl
 differs : (form : Form) (bound : Binding) (c : Choice) (reg : ℕ) → IsInTable form bound c → Differs form c reg
 unfolding row
 differs Gd (Here variable) GdLe reg h = record {
-  at = 0; cell = Is 0x66; cell_is = refl; literal = tt; byte = 0x64; byte_is = refl; outside = inl (omega arith); other = refl;
+  at = 0;
+  cell = Is 0x66;
+  cell_is = refl;
+  literal = tt;
+  byte = 0x64;
+  byte_is = refl;
+  outside = inl (omega arith);
+  other = refl;
 }
 differs Gd (Startup image) GdIe reg h = record {
-  at = 0; cell = Is 0x66; cell_is = refl; literal = tt; byte = 0x64; byte_is = refl; outside = inl (omega arith); other = refl;
+  at = 0;
+  cell = Is 0x66;
+  cell_is = refl;
+  literal = tt;
+  byte = 0x64;
+  byte_is = refl;
+  outside = inl (omega arith);
+  other = refl;
 }
 differs GdInd (Here variable) GdLe reg h = record {
-  at = 0; cell = Is 0x66; cell_is = refl; literal = tt; byte = 0x64; byte_is = refl; outside = inl (omega arith); other = refl;
+  at = 0;
+  cell = Is 0x66;
+  cell_is = refl;
+  literal = tt;
+  byte = 0x64;
+  byte_is = refl;
+  outside = inl (omega arith);
+  other = refl;
 }
 differs GdInd (Startup image) GdIe reg h = record {
-  at = 0; cell = Is 0x66; cell_is = refl; literal = tt; byte = 0x64; byte_is = refl; outside = inl (omega arith); other = refl;
+  at = 0;
+  cell = Is 0x66;
+  cell_is = refl;
+  literal = tt;
+  byte = 0x64;
+  byte_is = refl;
+  outside = inl (omega arith);
+  other = refl;
 }
 differs Ld bound LdLe reg h = record {
-  at = 0; cell = Is 0x48; cell_is = refl; literal = tt; byte = 0x66; byte_is = refl; outside = tt; other = refl;
+  at = 0;
+  cell = Is 0x48;
+  cell_is = refl;
+  literal = tt;
+  byte = 0x66;
+  byte_is = refl;
+  outside = tt;
+  other = refl;
 }
 differs LdInd bound LdLe reg h = record {
-  at = 0; cell = Is 0x48; cell_is = refl; literal = tt; byte = 0x66; byte_is = refl; outside = tt; other = refl;
+  at = 0;
+  cell = Is 0x48;
+  cell_is = refl;
+  literal = tt;
+  byte = 0x66;
+  byte_is = refl;
+  outside = tt;
+  other = refl;
 }
 differs IeMov (Here variable) IeLe reg h = record {
-  at = 1; cell = Is 0x8b; cell_is = refl; literal = tt; byte = 0xc7; byte_is = refl; outside = inl (omega arith); other = refl;
+  at = 1;
+  cell = Is 0x8b;
+  cell_is = refl;
+  literal = tt;
+  byte = 0xc7;
+  byte_is = refl;
+  outside = inl (omega arith);
+  other = refl;
 }
 differs IeAdd (Here variable) IeLe reg h = record {
   at = 1;
@@ -65,16 +114,44 @@ differs IeAdd (Here variable) IeLe reg h = record {
   other = add_other (reg % 8 == 4);
 }
 differs DescLea (Here variable) DescLe reg h = record {
-  at = 1; cell = Is 0x8d; cell_is = refl; literal = tt; byte = 0xc7; byte_is = refl; outside = inl (omega arith); other = refl;
+  at = 1;
+  cell = Is 0x8d;
+  cell_is = refl;
+  literal = tt;
+  byte = 0xc7;
+  byte_is = refl;
+  outside = inl (omega arith);
+  other = refl;
 }
 differs DescLea (Startup image) DescIe reg h = record {
-  at = 1; cell = Is 0x8d; cell_is = refl; literal = tt; byte = 0x8b; byte_is = refl; outside = inl (omega arith); other = refl;
+  at = 1;
+  cell = Is 0x8d;
+  cell_is = refl;
+  literal = tt;
+  byte = 0x8b;
+  byte_is = refl;
+  outside = inl (omega arith);
+  other = refl;
 }
 differs DescCall (Here variable) DescLe reg h = record {
-  at = 0; cell = Is 0xff; cell_is = refl; literal = tt; byte = 0x66; byte_is = refl; outside = tt; other = refl;
+  at = 0;
+  cell = Is 0xff;
+  cell_is = refl;
+  literal = tt;
+  byte = 0x66;
+  byte_is = refl;
+  outside = tt;
+  other = refl;
 }
 differs DescCall (Startup image) DescIe reg h = record {
-  at = 0; cell = Is 0xff; cell_is = refl; literal = tt; byte = 0x66; byte_is = refl; outside = tt; other = refl;
+  at = 0;
+  cell = Is 0xff;
+  cell_is = refl;
+  literal = tt;
+  byte = 0x66;
+  byte_is = refl;
+  outside = tt;
+  other = refl;
 }
 differs form bound c reg h = absurd h
 
@@ -101,32 +178,56 @@ module _ (reg : ℕ) where
   gd_le : (bound : Binding) (d : Choice) → IsInTable Gd bound d → SameOrApart Gd GdLe d reg
   gd_le (Here variable) GdLe h = inl refl
   gd_le (Startup image) GdIe h = inr (record {
-    at = 10; first = 0x8d; first_is = refl; first_outside = inl (omega arith); second = 0x03; second_is = refl;
-    second_outside = inl (omega arith); other = λ e. omega (arith, e);
+    at = 10;
+    first = 0x8d;
+    first_is = refl;
+    first_outside = inl (omega arith);
+    second = 0x03;
+    second_is = refl;
+    second_outside = inl (omega arith);
+    other = λ e. omega (arith, e);
   })
   gd_le bound d h = absurd h
 
   gd_ie : (bound : Binding) (d : Choice) → IsInTable Gd bound d → SameOrApart Gd GdIe d reg
   gd_ie (Startup image) GdIe h = inl refl
   gd_ie (Here variable) GdLe h = inr (record {
-    at = 10; first = 0x03; first_is = refl; first_outside = inl (omega arith); second = 0x8d; second_is = refl;
-    second_outside = inl (omega arith); other = λ e. omega (arith, e);
+    at = 10;
+    first = 0x03;
+    first_is = refl;
+    first_outside = inl (omega arith);
+    second = 0x8d;
+    second_is = refl;
+    second_outside = inl (omega arith);
+    other = λ e. omega (arith, e);
   })
   gd_ie bound d h = absurd h
 
   ind_le : (bound : Binding) (d : Choice) → IsInTable GdInd bound d → SameOrApart GdInd GdLe d reg
   ind_le (Here variable) GdLe h = inl refl
   ind_le (Startup image) GdIe h = inr (record {
-    at = 10; first = 0x8d; first_is = refl; first_outside = inl (omega arith); second = 0x03; second_is = refl;
-    second_outside = inl (omega arith); other = λ e. omega (arith, e);
+    at = 10;
+    first = 0x8d;
+    first_is = refl;
+    first_outside = inl (omega arith);
+    second = 0x03;
+    second_is = refl;
+    second_outside = inl (omega arith);
+    other = λ e. omega (arith, e);
   })
   ind_le bound d h = absurd h
 
   ind_ie : (bound : Binding) (d : Choice) → IsInTable GdInd bound d → SameOrApart GdInd GdIe d reg
   ind_ie (Startup image) GdIe h = inl refl
   ind_ie (Here variable) GdLe h = inr (record {
-    at = 10; first = 0x03; first_is = refl; first_outside = inl (omega arith); second = 0x8d; second_is = refl;
-    second_outside = inl (omega arith); other = λ e. omega (arith, e);
+    at = 10;
+    first = 0x03;
+    first_is = refl;
+    first_outside = inl (omega arith);
+    second = 0x8d;
+    second_is = refl;
+    second_outside = inl (omega arith);
+    other = λ e. omega (arith, e);
   })
   ind_ie bound d h = absurd h
 
@@ -149,16 +250,28 @@ module _ (reg : ℕ) where
   lea_le : (bound : Binding) (d : Choice) → IsInTable DescLea bound d → SameOrApart DescLea DescLe d reg
   lea_le (Here variable) DescLe h = inl refl
   lea_le (Startup image) DescIe h = inr (record {
-    at = 1; first = 0xc7; first_is = refl; first_outside = inl (omega arith); second = 0x8b; second_is = refl;
-    second_outside = inl (omega arith); other = λ e. omega (arith, e);
+    at = 1;
+    first = 0xc7;
+    first_is = refl;
+    first_outside = inl (omega arith);
+    second = 0x8b;
+    second_is = refl;
+    second_outside = inl (omega arith);
+    other = λ e. omega (arith, e);
   })
   lea_le bound d h = absurd h
 
   lea_ie : (bound : Binding) (d : Choice) → IsInTable DescLea bound d → SameOrApart DescLea DescIe d reg
   lea_ie (Startup image) DescIe h = inl refl
   lea_ie (Here variable) DescLe h = inr (record {
-    at = 1; first = 0x8b; first_is = refl; first_outside = inl (omega arith); second = 0xc7; second_is = refl;
-    second_outside = inl (omega arith); other = λ e. omega (arith, e);
+    at = 1;
+    first = 0x8b;
+    first_is = refl;
+    first_outside = inl (omega arith);
+    second = 0xc7;
+    second_is = refl;
+    second_outside = inl (omega arith);
+    other = λ e. omega (arith, e);
   })
   lea_ie bound d h = absurd h
 

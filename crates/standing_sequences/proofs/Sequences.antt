@@ -1,5 +1,5 @@
 -- At the place of a sequence stands a rewritten form exactly where the table gives it, and else the sequence.
-use Rattle.std.proofs.Common.{◌≡◌, ◌+◌, ◌<◌, ◌≤◌, ◌∙◌, ℕ, Bool, true, false, List, [], Option, Some, length, inl, inr, refl, sym}
+use Rattle.std.proofs.Common.{◌≡◌, ◌+◌, ◌<◌, ◌≤◌, ◌∙◌, ℕ, Bool, true, false, List, [], Some, inl, inr, refl, sym}
 use Rattle.std.proofs.Common.{ap, subst, arith}
 use Rattle.std.specs.Prelude.{slice_get, slice_index_or}
 use Rattle.std.specs.List.{Contains}
@@ -19,16 +19,15 @@ use Rattle.sequence_forms.specs.Forms.{fits, row}
 use Rattle.sequence_match.specs.Faults.{code_of}
 use Rattle.sequence_match.specs.Sites.{IsLiteral}
 use Rattle.standing_sequences.specs.Bytes.{HasForm, HasOwnForm, IsLinked, IsPlain, IsSectionAt, byte_at, own_byte}
-use Rattle.standing_sequences.specs.Laws.{SequencesStandByTheTable, StandsByTheTable}
+use Rattle.standing_sequences.specs.Laws.{SequencesStandByTheTable}
 use Rattle.standing_sequences.specs.Table.{IsDue, IsSequence, Matches, MayReplace}
 use Rattle.standing_sequences.proofs.Choosing.{listed_changes, matched, matches}
 use Rattle.standing_sequences.proofs.Covering.{one_sequence, own_site}
 use Rattle.standing_sequences.proofs.Kept.{limits, own_stands}
 use Rattle.standing_sequences.proofs.Rewritten.{has_form}
 use Rattle.standing_sequences.proofs.Rows.{rows_differ, same_or_apart}
-use Rattle.standing_sequences.specs.Laws.{Differs}
 
-code_is : (b : _) (s : ℕ) → section_class b s ≡ Some Executable → code_of b s ≡ section_bytes b s
+code_is : (b : List ℕ) (s : ℕ) → section_class b s ≡ Some Executable → code_of b s ≡ section_bytes b s
 unfolding code_of
 code_is b s e = rw e refl
 
@@ -53,13 +52,15 @@ module _ (l : Linking) (linked : IsLinked l) (o t address : ℕ) (at : IsSection
       let stands = is.spelled.1.spelled.stands k cell e in
       let long = is.spelled.1.spelled.inside in
       let some = form_some site.form in
-      let code = is_code (object l o) (linked.given.are_objects o [] at.there) site.section (omega (arith, long, some)) in (
+      let object_is = linked.given.are_objects o [] at.there in
+      let code = is_code (object l o) object_is site.section (omega (arith, long, some)) in (
         omega (arith, below, len),
         stands.1 literal,
         (
           slice_index_or (section_bytes (object l o) site.section) (site.start + k) 0,
           memory_byte (object l o) site.section (site.start + k) (omega (arith, below, len, inside)),
-          ap (λ xs. fits cell (slice_index_or xs (site.start + k) 0)) (sym (code_is (object l o) site.section code.class_is))
+          ap (λ xs. fits cell (slice_index_or xs (site.start + k) 0))
+              (sym (code_is (object l o) site.section code.class_is))
               ∙ stands.0,
         ),
       )

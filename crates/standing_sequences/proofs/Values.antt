@@ -1,7 +1,7 @@
 -- The values of fields: each that there is fits, and has as many bytes as its type says.
-use Rattle.std.proofs.Common.{◌≡◌, ◌+◌, ◌-◌, ◌<◌, ◌≤◌, ◌^◌, ◌==◌, ◌∙◌, ℕ, ℤ, pos, negsuc, Bool, true, false, List, []}
-use Rattle.std.proofs.Common.{Option, Some, None, length, refl, sym, ap, subst, arith, if◌then◌else◌}
-use Rattle.std.specs.Prelude.{◌+ℤ◌, ◌-ℤ◌, nat_lt, slice_get, unwrap_or}
+use Rattle.std.proofs.Common.{◌≡◌, ◌+◌, ◌<◌, ◌^◌, ◌==◌, ◌∙◌, ℕ, ℤ, pos, negsuc, Bool, true, false, List, []}
+use Rattle.std.proofs.Common.{Option, Some, None, length, refl, sym, ap, arith, if◌then◌else◌}
+use Rattle.std.specs.Prelude.{◌+ℤ◌, ◌-ℤ◌, nat_lt, slice_get}
 use Rattle.std.specs.List.{Contains}
 use Rattle.std.proofs.lemmas.Bool.{lt-ltb}
 use Rattle.std.proofs.lemmas.Bool.Decides.{nat_tests}
@@ -125,7 +125,8 @@ own_value l links o t r there some has stays = of_value (field l o t r) refl
     none e =
         let target = target_of_table (object l o) t table in
         let entry : slice_get (held_in (object l o) s) has.0 ≡ Some r =
-        ap (λ xs. slice_get xs has.0) (held_is (object l o) s t target some) ∙ entry_of (relocations (object l o) t) r has in
+        ap (λ xs. slice_get xs has.0) (held_is (object l o) s t target some)
+        ∙ entry_of (relocations (object l o) t) r has in
         links.fits o s has.0
         (there, table, (table_of_kept (object l o) t table).1.0.1, rw (entry, target, e) (stays, refl))
 

@@ -1,5 +1,5 @@
--- A program of one object, linked with rewriting and without, beside a module that starts with it and has y. The object,
--- as assembled:
+-- A program of one object, linked with rewriting and without, beside a module that starts with it and has y. The
+-- object, as assembled:
 --
 --   f: data16 lea x@tlsgd(%rip), %rdi                          .section .tdata
 --      data16 data16 rex64 call __tls_get_addr@PLT                  .long 7
@@ -10,7 +10,7 @@
 --
 -- x is the program's own and lies 4 below the thread pointer, so code of it finds the distance itself. y is not, so its
 -- distance stands in a word of the table, which the last sequence reads already.
-use Rattle.std.specs.Prelude.{◌≡◌, ◌+◌, ◌*◌, ◌-◌, ℕ, Bool, true, false, List, [], ◌∷◌, ◌++◌, Some, Option, codes, length}
+use Rattle.std.specs.Prelude.{◌≡◌, ◌+◌, ◌*◌, ◌-◌, ℕ, Bool, true, false, List, [], ◌∷◌, Some, codes, length}
 use Rattle.std.specs.Prelude.{map, nat_lt, if◌then◌else◌}
 use Rattle.std.specs.List.{flat_map, range_with_len}
 use Rattle.link_core.specs.Images.{image_of}
@@ -102,8 +102,8 @@ abbrev pub HasCode : Linking → List ℕ → Type 0
 HasCode l bytes =
     map (λ k. byte_at (image_of l) (0x400000 + k)) (range_with_len 0 (length bytes)) ≡ map Some bytes
 
--- the table gives two of the sequences another form, and these alone, where the program is linked with rewriting; and so
--- the image has them
+-- linked with rewriting, two of the sequences match the table, and the third does not; without, none does. The code is
+-- as the table says
 pub record ExampleStands : Type 0 where
   pub own : Matches (program true) 0 asks_for_x GdLe
   pub theirs : Matches (program true) 0 asks_for_y GdIe

@@ -1,12 +1,13 @@
 -- Where rewritten forms of sequences stand in an image, and what stands everywhere else.
-use Rattle.std.specs.Prelude.{◌≡◌, ◌+◌, ◌-◌, ◌<◌, ℕ, false, List, Some, length, slice_get}
+use Rattle.std.specs.Prelude.{◌≡◌, ◌≢◌, ◌+◌, ◌-◌, ◌<◌, ℕ, false, List, Some, length, slice_get}
 use Rattle.std.specs.List.{Contains}
 use Rattle.elf_object.specs.declared.relocation.Relocation.{Relocation}
 use Rattle.elf_object.specs.Lent.{relocations, section_size}
 use Rattle.link_core.specs.Images.{image_of}
-use Rattle.link_needs.specs.Linking.{Linking, object}
+use Rattle.link_needs.specs.Linking.{Linking, choice, object}
 use Rattle.link_needs.specs.Values.{field}
 use Rattle.relax_sites.specs.declared.choices.Choice.{Choice}
+use Rattle.relax_sites.specs.declared.choices.Choice.TheVariants.{Keep}
 use Rattle.relax_sites.specs.Rows.{new_bytes, new_field}
 use Rattle.sequence_forms.specs.declared.forms.Cell.{Cell}
 use Rattle.sequence_forms.specs.declared.forms.Form.{Form}
@@ -71,3 +72,10 @@ pub record StandsByTheTable (l : Linking) (o address : ℕ) (site : Site) : Type
 abbrev pub SequencesStandByTheTable : Type 0
 SequencesStandByTheTable = (l : Linking) (o t address : ℕ) (site : Site) → IsLinked l → IsSectionAt l o t address
     → IsSequence l o t site → StandsByTheTable l o (address + site.start) site
+
+-- ** the linker's choice
+
+-- what the linker chooses for a sequence, but to keep it, is what the table gives
+abbrev pub ChoicesAreTheTables : Type 0
+ChoicesAreTheTables = (l : Linking) (o : ℕ) (site : Site) (chosen : Choice) → chosen ≢ Keep
+    → (choice l o site ≡ chosen → Matches l o site chosen) × (Matches l o site chosen → choice l o site ≡ chosen)

@@ -1,6 +1,6 @@
 -- What a linker sees in code, and the table by which it puts another form in a sequence's place ("ELF Handling For
 -- Thread-Local Storage", section 5, "Linker Relaxations"; psABI, "Thread-Local Storage").
-use Rattle.std.specs.Prelude.{◌≡◌, ◌≢◌, ℕ, true, Some}
+use Rattle.std.specs.Prelude.{◌≡◌, ℕ, true, Some}
 use Rattle.link_faults.specs.declared.binding.Binding.{Binding}
 use Rattle.link_faults.specs.declared.binding.Binding.TheVariants.{Here, Startup}
 use Rattle.link_faults.specs.declared.image_kind.ImageKind.{ImageKind}
@@ -21,10 +21,10 @@ pub record IsSequence (l : Linking) (o t : ℕ) (site : Site) : Type 0 where
   pub section_is : site.section ≡ t
   pub spelled : IsSite (object l o) site
 
--- the table: of a form, where its symbol is bound so, the form that takes its place. `Here` is a variable of the program
--- itself, whose distance from the thread pointer is known (local exec); `Startup` is one of a module that is loaded with
--- the program, whose distance the loader writes into a word (initial exec). Local dynamic code asks for no variable, but
--- for the program's own storage.
+-- the table: of a form, where its symbol is bound so, the form that takes its place. `Here` is a variable of the
+-- program itself, whose distance from the thread pointer is known (local exec); `Startup` is one of a module that is
+-- loaded with the program, whose distance the loader writes into a word (initial exec). Local dynamic code asks for no
+-- variable, but for the program's own storage.
 abbrev pub IsInTable : Form → Binding → Choice → Type 0
 IsInTable Gd (Here variable) GdLe = Unit {0}
 IsInTable Gd (Startup image) GdIe = Unit {0}

@@ -1,8 +1,8 @@
 //! The laws. The functions do nothing: what they ensure is the law.
 
 ghost use Rattle.standing_sequences.specs.Example.{ExampleStands};
-ghost use Rattle.standing_sequences.specs.Laws.{FieldsStand, OwnBytesStand, RewrittenFormsStand, RowsDiffer};
-ghost use Rattle.standing_sequences.specs.Laws.{SequencesStandByTheTable};
+ghost use Rattle.standing_sequences.specs.Laws.{ChoicesAreTheTables, FieldsStand, OwnBytesStand};
+ghost use Rattle.standing_sequences.specs.Laws.{RewrittenFormsStand, RowsDiffer, SequencesStandByTheTable};
 
 /// Where the table gives a sequence another form, that form stands in its place, whole, and its field holds its value.
 pub fn rewritten_forms_stand()
@@ -29,7 +29,12 @@ pub fn sequences_stand_by_the_table()
     ensures { SequencesStandByTheTable }
 {}
 
-/// For example of a program with three sequences, linked with rewriting and without.
+/// What the linker chooses for a sequence is what the table gives.
+pub fn choices_are_the_tables()
+    ensures { ChoicesAreTheTables }
+{}
+
+/// So it is, for example, in a program with three sequences, linked with rewriting and without.
 pub fn example_stands()
     ensures { ExampleStands }
 {}
