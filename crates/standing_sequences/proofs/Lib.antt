@@ -1,0 +1,10 @@
+mod Choosing
+mod Covering
+mod Example
+mod Kept
+mod NewValues
+mod Parts
+mod Rewritten
+mod Rows
+mod Sequences
+mod Values

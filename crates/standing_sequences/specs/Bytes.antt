@@ -1,0 +1,103 @@
+-- Which bytes stand in an image, before a loader moves it, and which in the sections of its objects.
+use Rattle.std.specs.Prelude.{◌≡◌, ◌+◌, ◌-◌, ◌<◌, ◌≤◌, ◌⊎◌, ◌&&◌, ℕ, Bool, List, Option, Some, None, length}
+use Rattle.std.specs.Prelude.{nat_le, nat_lt, slice_get}
+use Rattle.std.specs.List.{find}
+use Rattle.elf_object.specs.Lent.{relocations}
+use Rattle.elf_records.specs.Fields.{splice}
+use Rattle.image_file.specs.Spelled.{Part, Spelled}
+use Rattle.link_core.specs.Images.{image_of}
+use Rattle.link_core.specs.Laws.{HasNoStray}
+use Rattle.link_needs.specs.Given.{IsGiven}
+use Rattle.link_needs.specs.Linking.{Linking, layout, object}
+use Rattle.link_needs.specs.Needs.{new_relocation}
+use Rattle.link_needs.specs.Values.{field}
+use Rattle.link_tables.specs.Faults.{Links}
+use Rattle.relax_sites.specs.declared.choices.Choice.{Choice}
+use Rattle.relax_sites.specs.declared.rows.NewField.{NewField}
+use Rattle.relax_sites.specs.Rows.{new_bytes, new_field}
+use Rattle.section_file.specs.Files.{memory_bytes}
+use Rattle.sequence_forms.specs.declared.places.Site.{Site}
+use Rattle.sequence_match.specs.Sites.{IsBare}
+use Rattle.tls_layout.specs.Places.{address_of}
+use Rattle.tls_relocs.specs.declared.fields.Field.{Field}
+use Rattle.tls_relocs.specs.Fields.{field_bytes}
+use Rattle.standing_sequences.specs.Table.{IsSequence, Matches}
+
+-- ** images
+
+-- a part has a byte at the address
+abbrev pub holds : ℕ → Part → Bool
+holds address part = nat_le part.address address && nat_lt address (part.address + length part.bytes)
+
+abbrev pub byte_of : ℕ → Option Part → Option ℕ
+byte_of address None = None
+byte_of address (Some part) = slice_get part.bytes (address - part.address)
+
+-- the byte at an address of an image: that of the part which holds the address, and none where no part does (gABI,
+-- "Program Loading")
+unfoldable pub byte_at : Spelled → ℕ → Option ℕ
+byte_at image address = byte_of address (find (holds address) image.parts)
+
+-- these bytes stand in the image from the address on, one behind the other
+abbrev pub Stand : Spelled → ℕ → List ℕ → Type 0
+Stand image address bytes = (k : ℕ) → k < length bytes → byte_at image (address + k) ≡ slice_get bytes k
+
+-- objects that link, whose accesses of thread-local storage are all sequences: of them `link` makes `image_of`, which
+-- `run` loads
+pub record IsLinked (l : Linking) : Type 0 where
+  pub given : IsGiven l
+  pub links : Links l
+  pub stray : HasNoStray l
+
+-- section t of object o begins at this address of their image
+pub record IsSectionAt (l : Linking) (o t address : ℕ) : Type 0 where
+  pub there : o < length l.objects
+  pub address_is : address_of (layout l) o t ≡ Some address
+
+-- ** bytes of a section
+
+-- byte k of a section as its object has it; zero where the object has room for it, and no byte
+abbrev pub own_byte : Linking → ℕ → ℕ → ℕ → Option ℕ
+own_byte l o t k = slice_get (memory_bytes (object l o) t) k
+
+-- no relocation has a field there
+abbrev pub IsPlain : Linking → ℕ → ℕ → ℕ → Type 0
+IsPlain l o t k = IsBare (relocations (object l o) t) k
+
+-- no sequence has the byte that the table gives another form
+abbrev pub IsKept : Linking → ℕ → ℕ → ℕ → Type 0
+IsKept l o t k =
+    (site : Site) (choice : Choice) → IsSequence l o t site → Matches l o site choice → site.start ≤ k
+    → k < site.start + site.len → ⊥
+
+-- ** what stands in a sequence's place
+
+-- a row without a field stands as it is, and in one with a field stands the value that the psABI gives the field's
+-- relocation, which fits
+abbrev pub IsFilled : Linking → ℕ → Site → List ℕ → Option NewField → List ℕ → Type 0
+IsFilled l o site row None bytes = bytes ≡ row
+IsFilled l o site row (Some new) bytes =
+    (value : Field) × (field l o site.section (new_relocation site new) ≡ Some value)
+    × (bytes ≡ splice new.at (field_bytes value) row)
+
+-- these are the bytes of a rewritten form, in the place of the sequence
+abbrev pub AreOfForm : Linking → ℕ → Site → Choice → List ℕ → Type 0
+AreOfForm l o site choice bytes =
+    IsFilled l o site (new_bytes site.form choice site.reg) (new_field site.form choice) bytes
+
+-- byte k of a row is not of its field
+abbrev pub IsOutside : Option NewField → ℕ → Type 0
+IsOutside None k = Unit {0}
+IsOutside (Some new) k = (k < new.at) ⊎ (new.at + 4 ≤ k)
+
+-- what stands at the address looks like a rewritten form: all bytes of its row, but the field's
+abbrev pub HasForm : Spelled → ℕ → Site → Choice → Type 0
+HasForm image address site choice =
+    (k byte : ℕ) → slice_get (new_bytes site.form choice site.reg) k ≡ Some byte
+    → IsOutside (new_field site.form choice) k → byte_at image (address + k) ≡ Some byte
+
+-- what stands there looks like the sequence itself: all bytes of the object's own, but those of its fields
+abbrev pub HasOwnForm : Linking → ℕ → ℕ → Site → Type 0
+HasOwnForm l o address site =
+    (k : ℕ) → k < site.len → IsPlain l o site.section (site.start + k)
+    → byte_at (image_of l) (address + k) ≡ own_byte l o site.section (site.start + k)

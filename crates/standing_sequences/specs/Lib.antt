@@ -1,0 +1,4 @@
+pub mod Bytes
+pub mod Example
+pub mod Laws
+pub mod Table

@@ -1,0 +1,60 @@
+//! Where rewritten forms of sequences stand in a linked image, and what stands everywhere else: laws, and no code.
+//!
+//! A compiler that does not know where a thread-local variable will lie writes the longest sequence that finds it, and
+//! marks it by relocations. A linker that knows more may put a shorter form in its place ("ELF Handling For
+//! Thread-Local Storage", section 5; psABI, "Thread-Local Storage"). Who reads the image wants to know two things: that
+//! it was done wherever it may be done, and that nothing else was. `link_core` tells the image as a linker makes it;
+//! this crate tells what stands in it, by the objects and the table alone.
+//!
+//! The rule of the crate: **a sequence's rewritten form stands exactly where its bytes, its relocations, its symbol's
+//! binding, the image's kind and the setting match the table; everywhere else the object's own bytes stand, fields
+//! aside.** The first two make it a sequence (`IsSequence`), and of the other three the table has these lines
+//! (`specs/Table`):
+//!
+//! ```text
+//! rewriting, in a program    the program's own variable    one of a module that starts with it
+//! gd, also by *call          mov %fs:0; lea tpoff          mov %fs:0; add gottpoff
+//! ld, also by *call          mov %fs:0                     mov %fs:0
+//! ie mov                     mov $tpoff                    kept
+//! ie add                     lea tpoff, or add $tpoff      kept
+//! desc lea                   mov $tpoff                    mov gottpoff
+//! desc call                  nop                           nop
+//!
+//! no rewriting, or a module: all are kept
+//! ```
+//!
+//! Byte by byte: where the table gives a form, it stands whole, and its field holds the value of its relocation, which
+//! fits ([`rewritten_forms_stand`]). At all other bytes of sections the object's own stand ([`own_bytes_stand`]), but
+//! in the fields of relocations, which hold their values ([`fields_stand`]). And sequence by sequence: outside of
+//! fields no rewritten form has the bytes of the sequence that it replaces ([`rows_differ`]), so what is seen in an
+//! image tells what the table said, and the other way round ([`sequences_stand_by_the_table`]). What the linker chose,
+//! which `tlsld sites` prints, is what the table gives ([`choices_are_the_tables`]).
+//!
+//! For example, a program has `x`, 4 below the thread pointer, and a module that starts with it has `y`
+//! ([`example_stands`] computes it from the bytes of the object):
+//!
+//! ```text
+//! in the object, and linked without rewriting       linked with rewriting, at 0x400000
+//! 66 48 8d 3d ....  lea x@tlsgd(%rip), %rdi         64 48 8b 04 25 00 00 00 00  mov %fs:0, %rax
+//! 66 66 48 e8 ....  call __tls_get_addr             48 8d 80 fc ff ff ff        lea -4(%rax), %rax
+//! 66 48 8d 3d ....  lea y@tlsgd(%rip), %rdi         64 48 8b 04 25 00 00 00 00  mov %fs:0, %rax
+//! 66 66 48 e8 ....  call __tls_get_addr             48 03 05 e0 1f 00 00        add 0x402000(%rip), %rax
+//! 48 8b 05 ....     mov y@gottpoff(%rip), %rax      48 8b 05 d9 1f 00 00        mov 0x402000(%rip), %rax
+//! c3                ret                             c3                          ret
+//! ```
+//!
+//! The image is `image_of` (`link_core`), of which `link` writes the bytes and which `run` reads back from them. What a
+//! loader makes of it `loaded_bytes` says, and `tied_sites` that each form does what its sequence means. What is asked
+//! of the objects a reader of them has seen to: they link, and each of their accesses of thread-local storage is a
+//! sequence (`IsLinked`).
+//!
+//! The proof is short. `link_core` says of each byte what it is meant to be, in words of the linker's choice; the
+//! table gives that choice, sequences share no byte, and a relocation's field goes with its sequence.
+#![tactic(auto)]
+
+mod laws;
+
+pub use laws::{
+    choices_are_the_tables, example_stands, fields_stand, own_bytes_stand, rewritten_forms_stand,
+    rows_differ, sequences_stand_by_the_table,
+};
