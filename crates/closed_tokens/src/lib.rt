@@ -3,8 +3,8 @@
 //!
 //! A base and a descriptor are numbers that a linker chose. A job's meaning has a token in the place of each, which
 //! may be carried anywhere, and used for one thing alone. `closed_jobs` says what it is that a job's meaning and its
-//! machine say the same (`BothSay`). Here are two clean jobs of which that is true. Beside each is one that uses a token
-//! otherwise, where the meaning says which step is unclean, and why:
+//! machine say the same (`BothSay`). Here are two clean jobs of which that is true. Beside each is one that uses a
+//! token otherwise, where the meaning says which step is unclean, and why:
 //!
 //! ```text
 //!                                           meaning        machine, rewritten    machine, kept
