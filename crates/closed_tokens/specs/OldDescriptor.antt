@@ -18,7 +18,7 @@
 --
 -- In a job with another last line thread 2 calls the old one. It is of v too, but the code is that of instance 3, and
 -- so the call is unclean. The machine finds nothing where the table of instance 2 was.
-use Rattle.std.specs.Prelude.{ℕ, Bool, true, false, List, [], ◌∷◌, codes}
+use Rattle.std.specs.Prelude.{ℕ, ◌+◌, Bool, true, false, List, [], ◌∷◌, codes}
 use Rattle.guest_arithmetic.specs.declared.cause.Cause.TheVariants.{Descriptor}
 use Rattle.guest_operands.specs.declared.stop.Stop.TheVariants.{Returned, Address, Unclean}
 use Rattle.job_text.specs.declared.thread_lines.Action.TheVariants.{Call, Open, Close, Peek}
