@@ -20,7 +20,7 @@
 -- wherever the two stand. The machine shows what its linker chose. Rewritten, the descriptor is the distance of v from
 -- the thread pointer, -16, and the base is that pointer; kept, the descriptor is an address in the table, and the base
 -- is where the block begins.
-use Rattle.std.specs.Prelude.{ℕ, Bool, true, false, List, [], ◌∷◌, codes, if◌then◌else◌}
+use Rattle.std.specs.Prelude.{ℕ, Bool, List, [], ◌∷◌, codes, if◌then◌else◌}
 use Rattle.guest_arithmetic.specs.declared.cause.Cause.TheVariants.{Base, Descriptor}
 use Rattle.guest_operands.specs.declared.stop.Stop.TheVariants.{Returned, Unclean}
 use Rattle.job_text.specs.declared.thread_lines.Action.TheVariants.{Call, Peek}
