@@ -1,0 +1,5 @@
+mod Unclean
+mod PeekedImages
+mod Peeked
+mod OldDescriptorImages
+mod OldDescriptor

@@ -1,0 +1,4 @@
+pub mod Unclean
+pub mod Peeked
+pub mod OldDescriptor
+pub mod Laws
