@@ -1,5 +1,5 @@
 -- The steps of `run`, joined.
-use Rattle.std.proofs.Common.{◌≡◌, ◌∙◌, ◌≤◌, ◌<◌, ◌^◌, ℕ, Bool, List, All, [], ◌∷◌, length, map, get_or, IfSome, Option, Result, Some, None, Err, inl, inr, refl, sym, ap, subst, arith}
+use Rattle.std.proofs.Common.{◌≡◌, ◌∙◌, ◌≤◌, ◌<◌, ◌^◌, ℕ, Bool, true, List, All, [], ◌∷◌, length, map, get_or, IfSome, Option, Result, Some, None, Err, inl, inr, refl, sym, ap, subst, arith}
 use Rattle.std.specs.List.{Contains}
 use Rattle.std.proofs.lemmas.List.{length-map}
 use Rattle.std.proofs.lemmas.List.Elements.{All-cons, All-map, All-nil, All-same, All-weaker}
@@ -24,8 +24,8 @@ use Rattle.loaded_words.specs.Laws.{ProgramFirst}
 use Rattle.ports.specs.Files.{Files}
 use Rattle.commands.specs.LinkSteps.{IsImageRefusalOf}
 use Rattle.commands.specs.Links.{IsUnlinked}
-use Rattle.commands.specs.RunJobs.{BytesRun, ImagesRun, ObjectsRun, links_of}
-use Rattle.commands.specs.Runs.{AreInOrder, AreLinks, IsOfFew}
+use Rattle.commands.specs.RunJobs.{BytesRun, CheckedLinksAreRun, ImagesRun, ObjectsRun, links_of}
+use Rattle.commands.specs.Runs.{AreInOrder, AreLinks, IsOfFew, as_checked}
 use Rattle.commands.specs.declared.told.Purpose.{Purpose}
 use Rattle.commands.proofs.ImagesSound.{none_stray}
 use Rattle.commands.proofs.Making.{fault_by, is_unlinked}
@@ -131,3 +131,13 @@ module _ (job : JobParts) (images : List Given) (relax : Bool) (bytes : List ℕ
 pub linked_all : (images : List Given) (relax : Bool) (gs : List Given) → map (λ g. linked_of (link_in images relax g)) gs ≡ map linked_of (map (link_in images relax) gs)
 linked_all images relax [] = refl
 linked_all images relax (g ∷ gs) = ap (λ more. linked_of (link_in images relax g) ∷ more) (linked_all images relax gs)
+
+-- with sequences rewritten they are those that `check` judges
+checked_from : (images : List Given) (relax : Bool) (gs : List Given)
+    → as_checked (map (link_in images relax) gs) ≡ map (link_in images true) gs
+unfolding link_in
+checked_from images relax [] = refl
+checked_from images relax (g ∷ gs) = ap (λ more. link_in images true g ∷ more) (checked_from images relax gs)
+
+pub checked_links : CheckedLinksAreRun
+checked_links images relax = checked_from images relax images

@@ -1,5 +1,5 @@
 -- Transcripts: the machine's, and where a job or a thread is clean what it means.
-use Rattle.std.proofs.Common.{◌≡◌, ◌∙◌, ◌≤◌, ℕ, Bool, List, All, [], ◌∷◌, length, map, Result, Ok, Err, IfOk, refl, sym, ap, subst}
+use Rattle.std.proofs.Common.{◌≡◌, ◌∙◌, ◌≤◌, ℕ, Bool, true, List, All, [], ◌∷◌, length, map, Result, Ok, Err, IfOk, refl, sym, ap, subst}
 use Rattle.image_file.specs.Spelled.{Spelled}
 use Rattle.job_text.specs.declared.images.Image.{Image}
 use Rattle.job_text.specs.Jobs.{JobParts}
@@ -11,6 +11,7 @@ use Rattle.linked_jobs.specs.Laws.{LinkedJobsPrint, TranscriptsTellTheirThreads}
 use Rattle.loaded_bytes.specs.Laws.{images_of}
 use Rattle.loaded_modules.specs.Given.{of_job}
 use Rattle.loaded_modules.specs.Images.{JobImages}
+use Rattle.meaning_laws.specs.Laws.{VerdictKnowsNoSetting}
 use Rattle.module_table.specs.declared.events.Event.{Event}
 use Rattle.thread_blocks.specs.JobLoads.{job_loads}
 use Rattle.thread_blocks.specs.JobWorlds.{Shared, job_world}
@@ -65,13 +66,14 @@ module _ (job : JobParts) (ls : List Linking) (links : AreLinks job ls) (few : l
       subst (λ (n : JobImages). IsTranscript (world_of job n) transcript)
       (m_is ∙ modules_linked job ls links all all_is images back) printed
 
-  has_run : LinkedJobsPrint → TranscriptsTellTheirThreads → HasRun job ls transcript
-  has_run jobs threads = record {
+  has_run : LinkedJobsPrint → TranscriptsTellTheirThreads → VerdictKnowsNoSetting → HasRun job ls transcript
+  has_run jobs threads settings = record {
     printed_is =
         subst (λ (n : JobImages). IsTranscript (world_of job n) transcript)
         (m_is ∙ modules_are job ls links all all_is images back) printed;
     meant_is = λ clean.
-        let same = jobs ls job.fuel job.lines job.order links.links few clean in
+        let own = sym (settings ls true job.fuel job.lines job.order) ∙ clean in
+        let same = jobs ls job.fuel job.lines job.order links.links few own in
         record {
           events = of_links.events ∙ same.0;
           lines =
@@ -84,10 +86,10 @@ module _ (job : JobParts) (ls : List Linking) (links : AreLinks job ls) (few : l
   }
 
 -- what a run answers
-pub ran : {E : Type 0} → LinkedJobsPrint → TranscriptsTellTheirThreads → (job : JobParts) → length job.lines ≤ 64
+pub ran : {E : Type 0} → LinkedJobsPrint → TranscriptsTellTheirThreads → VerdictKnowsNoSetting → (job : JobParts) → length job.lines ≤ 64
     → (all : List LinkedImage) (images : List Spelled) → AreBack job all images → (m : JobImages) → m ≡ of_job job images → (r : Result Shown E)
     → IfOk r (λ transcript. IsTranscript (world_of job m) transcript)
     → IfOk r (λ transcript. (ls : List Linking) → AreLinks job ls → all ≡ map linked_of ls → HasRun job ls transcript)
-ran jobs threads job few all images back m m_is (Ok transcript) printed =
-    λ ls links all_is. has_run job ls links few all all_is images back m m_is transcript printed jobs threads
-ran jobs threads job few all images back m m_is (Err e) printed = tt
+ran jobs threads settings job few all images back m m_is (Ok transcript) printed =
+    λ ls links all_is. has_run job ls links few all all_is images back m m_is transcript printed jobs threads settings
+ran jobs threads settings job few all images back m m_is (Err e) printed = tt

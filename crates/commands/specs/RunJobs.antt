@@ -21,7 +21,7 @@ use Rattle.commands.specs.Checks.{VerdictSays}
 use Rattle.commands.specs.declared.told.Purpose.{Purpose}
 use Rattle.commands.specs.declared.told.Purpose.TheVariants.{Run, Check}
 use Rattle.commands.specs.Links.{IsUnlinked, IsUnread}
-use Rattle.commands.specs.Runs.{HasRun}
+use Rattle.commands.specs.Runs.{HasRun, as_checked}
 
 -- ---- what is told
 
@@ -39,6 +39,10 @@ told_of telling job ls shown = told telling job.images (counts_of (map linked_of
 -- the links of its images, in image order
 abbrev pub links_of : List Given → Bool → List Linking
 links_of images relax = map (link_in images relax) images
+
+-- the links of a run, as `check` has them, are those that `check` judges, in either setting of the run
+abbrev pub CheckedLinksAreRun : Type 0
+CheckedLinksAreRun = (images : List Given) (relax : Bool) → as_checked (links_of images relax) ≡ links_of images true
 
 -- it ran, and this is told of its transcript
 pub record IsTold (telling : Telling) (job : JobParts) (ls : List Linking) (text : List ℕ) : Type 0 where

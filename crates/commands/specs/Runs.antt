@@ -1,5 +1,5 @@
 -- What `run` shows of a job whose images all link.
-use Rattle.std.specs.Prelude.{◌≡◌, ◌<◌, ◌^◌, ℕ, Bool, false, List, [], ◌∷◌, length, map, Some, None, Ok}
+use Rattle.std.specs.Prelude.{◌≡◌, ◌<◌, ◌^◌, ℕ, Bool, true, false, List, [], ◌∷◌, length, map, Some, None, Ok}
 use Rattle.std.specs.List.{All}
 use Rattle.image_file.specs.Spelled.{Spelled, spelled}
 use Rattle.image_writer.specs.Written.{written}
@@ -67,6 +67,10 @@ world_of job modules = job_world (job_loads modules) job.fuel job.lines job.orde
 
 -- ** what is meant
 
+-- the links as `check` has them, with sequences rewritten: no meaning knows of that
+abbrev pub as_checked : List Linking → List Linking
+as_checked ls = map (λ (l : Linking). record l { relax = true }) ls
+
 -- all turns of the job's threads, in the same order, by what its objects mean: no image, no table and no rewritten byte is
 -- in it
 abbrev pub meaning_of_job : JobParts → List Linking → Shared Word Flag Byte Line
@@ -94,8 +98,8 @@ IsMeant printed said = verdict_of (said ∷ []) ≡ None → map Some printed �
 pub record HasRun (job : JobParts) (ls : List Linking) (transcript : Shown) : Type 0 where
   -- whatever the job, the transcript is the machine's over the images that were written
   pub printed_is : IsTranscript (world_of job (modules_of job ls)) transcript
-  -- and it is that of the job's meaning, where the job is clean
-  pub meant_is : verdict job ls ≡ None → Tells (meaning_of_job job ls) transcript
+  -- and where the job is clean, which is what `check` prints of it, it is that of the job's meaning
+  pub meant_is : verdict job (as_checked ls) ≡ None → Tells (meaning_of_job job ls) transcript
   -- and where no image has data that threads write, so it is with each thread that is clean by itself
   pub thread_is : All (λ (l : Linking). has_data l ≡ false) ls
       → (thread : ℕ) (own : List ThreadLine) (printed : List ShownLine) → at_number job.lines thread ≡ Some own

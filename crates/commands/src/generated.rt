@@ -11,7 +11,7 @@ ghost use Rattle.commands.specs.Runs.{AreInOrder};
 ghost use Rattle.commands.specs.GeneratedRuns.{GenSays};
 ghost use Rattle.commands.specs.RunJobs.{BytesRun};
 
-use crate::order::images_are_in_order;
+use crate::laws::images_are_in_order;
 use crate::telling::Telling;
 use crate::told::{Purpose, told_of_files};
 use command_replies::{CommandFault, job_of};

@@ -36,9 +36,9 @@
 mod checks;
 mod command;
 mod generated;
+mod laws;
 mod links;
 mod made;
-mod order;
 mod runs;
 mod telling;
 mod told;
@@ -46,4 +46,5 @@ mod top;
 mod unlinked;
 mod wish;
 
+pub use laws::checked_links_are_run;
 pub use top::{tlsld, tlsld_plain};

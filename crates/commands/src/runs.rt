@@ -28,6 +28,7 @@ use link_core::laws::images_hold_tls;
 use linked_jobs::{linked_jobs_print, transcripts_tell_their_threads};
 use linked_modules::laws::linked_images_are_modules;
 use loaded_modules::Modules;
+use meaning_laws::laws::verdict_knows_no_setting;
 use run_summary::SiteCounts;
 use std::alloc::{AllocError, Global};
 use transcript_text::Transcript;
@@ -61,6 +62,7 @@ fn run_linked(alloc: Global, job: &Job, all: Vec<Linked>) -> Result<Transcript, 
     linked_images_are_modules();
     linked_jobs_print();
     transcripts_tell_their_threads();
+    verdict_knows_no_setting();
     let _threads = job.threads();
     let images = images_again(alloc, all)?;
     let modules = Modules::new(alloc, job, images)?;

@@ -14,7 +14,7 @@ ghost use Rattle.job_text.specs.Jobs.{job_of as job_of_text};
 ghost use Rattle.commands.specs.Runs.{AreInOrder};
 
 use crate::checks::verdict_line;
-use crate::order::images_are_in_order;
+use crate::laws::images_are_in_order;
 use crate::runs::{are_of_few, told_run};
 use crate::telling::Telling;
 use crate::unlinked::{unlinked, unread};

@@ -15,7 +15,8 @@ new-requires c =
 
 pub returns-clause-ran : goal.returns-clause-ran
 returns-clause-ran c =
-    ran c.linked_jobs_print.ensures c.transcripts_tell_their_threads.ensures c.args.job.now
+    ran c.linked_jobs_print.ensures c.transcripts_tell_their_threads.ensures c.verdict_knows_no_setting.ensures
+    c.args.job.now
     (subst (λ n. n ≤ 64) c.threads.ensures.value c.threads.ensures.few) c.args.all.items c.in_ok-images.images.items
     (record { read = c.in_ok-images.ensures.read; again = c.in_ok-images.ensures.again }) c.in_ok-modules.modules c.in_ok-modules.ensures c.run_job.result
     c.run_job.ensures.transcript

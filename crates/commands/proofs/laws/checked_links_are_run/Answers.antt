@@ -1,0 +1,5 @@
+use Rattle.commands.proofs.Running.{checked_links}
+use Rattle.commands.proofs.laws.checked_links_are_run.Goals as goal
+
+pub returns : goal.returns
+returns c = checked_links
