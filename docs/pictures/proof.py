@@ -11,7 +11,7 @@ import sys
 
 HERE = os.path.dirname(os.path.abspath(__file__))
 TOP = os.path.dirname(os.path.dirname(HERE))
-WIDE, HIGH = 1180, 540
+WIDE, HIGH = 1240, 500
 MONO = 'font-family="DejaVu Sans Mono, monospace"'
 
 # The boxes: place and size, colours, name, and what is in them.
@@ -20,36 +20,38 @@ BOXES = [
         ["sections, symbols, relocations, sequences", "of instructions that reach thread-local data"]),
     (620, 60, 250, 86, "#e3f4f1", "#20807a", "meaning",
         ["a sequence is one step, values are marked;", "no table, no stub, no rewritten byte"]),
-    (20, 420, 250, 86, "#def3e0", "#2e8540", "images",
+    (20, 380, 250, 86, "#def3e0", "#2e8540", "images",
         ["sections with their fields, table and stub;", "sequences rewritten, or kept"]),
-    (620, 420, 250, 86, "#ffe6d2", "#c0651a", "machine",
+    (620, 380, 250, 86, "#ffe6d2", "#c0651a", "machine",
         ["instances as a loader leaves them; threads", "take turns, with a run time to ask"]),
-    (1010, 240, 150, 86, "#fff3c4", "#b58900", "printed lines", ["thread by thread, with", "points, and all events"]),
+    (1060, 220, 160, 86, "#fff3c4", "#b58900", "printed lines", ["thread by thread, with", "points, and all events"]),
 ]
 
 # The arrows: where they lead, and whether both ways.
 ARROWS = [
-    ("M270 103 H612", False), ("M50 146 V412", False), ("M270 463 H612", False), ("M650 154 V412", True),
-    ("M870 463 H1085 V334", False), ("M870 103 H1085 V232", False),
+    ("M270 103 H612", False), ("M50 146 V372", False), ("M270 423 H612", False), ("M650 154 V372", True),
+    ("M870 423 H1190 V314", False), ("M870 103 H1190 V212", False),
 ]
 
 # What stands beside the arrows, from a place downwards: plain words, and the function whose clause says it.
 WORDS = [
-    (286, 62, [("what is meant: definitions (whole_meaning)", None), ("is it clean? that is what check prints", None)]),
+    (286, 78, [("what is meant: definitions, whole_meaning", None)]),
+    (286, 94, [("clean or not: just what check prints", None)]),
     (286, 122, [(None, "job_check::check_job")]),
     (66, 184, [
         ("the image of the objects, or the first fault", "link_core::link"),
-        ("each byte of a section as it is meant", "link_core::bytes_are_meant"),
-        ("a rewritten form exactly where the table says", "standing_sequences::rewritten_forms_stand")]),
-    (286, 406, [("the bytes that are written", None), ("are read as that very image", "image_writer::into_file")]),
-    (286, 482, [("linked together, loaded together", "linked_modules::linked_images_are_modules")]),
+        ("each byte of a section, as it is meant", "link_core::bytes_are_meant"),
+        ("a rewritten form exactly where the table says", "standing_sequences::sequences_stand_by_the_table")]),
+    (286, 382, [("the written bytes are read as that very image", None)]),
+    (286, 398, [(None, "image_writer::into_file")]),
+    (286, 442, [("linked together, they can be loaded together", "linked_modules::linked_images_are_modules")]),
     (666, 184, [
-        ("what is loaded is tied to what is meant", "linked_jobs::links_are_tied"),
+        ("all that is loaded is tied to all that is meant", "linked_jobs::links_are_tied"),
         ("steps, looks and calls stay alike", "call_alike::calls_stay_alike"),
         ("one meaning, rewritten or kept", "meaning_laws::meaning_knows_no_setting")]),
-    (886, 62, [("where the job is clean", "linked_jobs::linked_jobs_print")]),
-    (886, 122, [("where a thread is", "linked_jobs::transcripts_tell_their_threads")]),
-    (886, 482, [("whatever the job", "job_turns::run_job")]),
+    (886, 78, [("where the job is clean", "linked_jobs::linked_jobs_print")]),
+    (886, 122, [("where a thread is, and none share data", "linked_jobs::transcripts_tell_their_threads")]),
+    (886, 442, [("whatever the job", "job_turns::run_job")]),
 ]
 
 
@@ -103,6 +105,7 @@ def picture():
         "<title>How what a job prints is tied to what its objects mean</title>", head,
         f'<rect width="{WIDE}" height="{HIGH}" fill="#fff"/>',
         text(20, 28, "How what a job prints is tied to what its objects mean", 16, colour="#222", style='font-weight="bold"'),
+        text(20, 46, "Below each sentence stands the function whose clause says it, behind its crate's name.", colour="#666"),
         *[arrow(*it) for it in ARROWS], *[it for shape in BOXES for it in box(*shape)],
         *[it for said in WORDS for it in words(*said)], "</svg>", ""])
 
