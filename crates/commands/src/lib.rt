@@ -21,6 +21,9 @@
 //! and writes the transcript, and `check` (`checks`) says whether what they do is in the objects alone, or hangs on what a
 //! linker chooses. `gen` (`generated`) is `run` of a job that is made and not fetched.
 //!
+//! `run` and `check` are tied: where `check` says `clean`, what `run` prints is what the objects mean, event by event and
+//! line by line, whether sequences were rewritten or not (`specs/Runs`, `HasRun`, by the laws of `linked_jobs`).
+//!
 //!     link a.job app app.elf      linked app 12417          and the store's file app.elf has the image's 12,417 bytes
 //!     sites a.job app             main.o 1 0000000000000000 gd gd-le x
 //!     run a.job                   t1 l1 g0 = 000000000000002a
