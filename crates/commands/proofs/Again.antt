@@ -12,7 +12,7 @@ use Rattle.link_needs.specs.Linking.{Linking}
 use Rattle.linked_modules.specs.Together.{LinkedImagesAreModules}
 use Rattle.link_faults.specs.declared.image_kind.ImageKind.{ImageKind}
 use Rattle.loaded_modules.specs.Given.{AreModules, LateLast}
-use Rattle.commands.specs.Runs.{AreLinks}
+use Rattle.commands.specs.InOrder.{AreLinks}
 use Rattle.commands.proofs.Transcribed.{AreBack, images_are}
 
 module _ (job : JobParts) (ls : List Linking) (links : AreLinks job ls) (all : List LinkedImage) (all_is : all ≡ map linked_of ls) where

@@ -1,7 +1,8 @@
 -- What is told of a job whose images all link.
 use Rattle.std.proofs.Common.{◌≡◌, ◌∙◌, ℕ, Bool, List, map, IfOk, Result, Ok, Err, inl, ap, refl, sym, subst}
 use Rattle.commands.specs.RunJobs.{ImagesRun, IsTold, links_of, told}
-use Rattle.commands.specs.Runs.{AreLinks, HasRun}
+use Rattle.commands.specs.InOrder.{AreLinks}
+use Rattle.commands.specs.Runs.{HasRun}
 use Rattle.commands.specs.declared.telling.Telling.{Telling}
 use Rattle.commands.specs.declared.told.Purpose.{Purpose}
 use Rattle.commands.specs.declared.told.Purpose.TheVariants.{Run}

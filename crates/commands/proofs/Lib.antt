@@ -3,6 +3,7 @@ mod Answered
 mod Asked
 mod Completing
 mod ImagesSound
+mod InOrder
 mod Kept
 mod MadeFiles
 mod MadeImages
@@ -13,7 +14,6 @@ mod Mentioned
 mod NeverRefused
 mod NoFault
 mod Places
-mod ProgramFirst
 mod Running
 mod SameGiven
 mod Shown

@@ -20,12 +20,13 @@ use Rattle.link_faults.specs.declared.image_kind.ImageKind.{ImageKind}
 use Rattle.link_needs.specs.Given.{IsGiven}
 use Rattle.link_needs.specs.Linking.{Linking}
 use Rattle.loaded_bytes.specs.Small.{AreBytes}
-use Rattle.loaded_words.specs.Laws.{ProgramFirst}
+use Rattle.job_text.specs.ProgramFirst.{ProgramFirst}
 use Rattle.ports.specs.Files.{Files}
 use Rattle.commands.specs.LinkSteps.{IsImageRefusalOf}
 use Rattle.commands.specs.Links.{IsUnlinked}
 use Rattle.commands.specs.RunJobs.{BytesRun, CheckedLinksAreRun, ImagesRun, ObjectsRun, links_of}
-use Rattle.commands.specs.Runs.{AreInOrder, AreLinks, IsOfFew, as_checked}
+use Rattle.commands.specs.InOrder.{AreInOrder, AreLinks, IsOfFew}
+use Rattle.commands.specs.Runs.{as_checked}
 use Rattle.commands.specs.declared.told.Purpose.{Purpose}
 use Rattle.commands.proofs.ImagesSound.{none_stray}
 use Rattle.commands.proofs.Making.{fault_by, is_unlinked}

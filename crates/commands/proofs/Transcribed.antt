@@ -3,7 +3,6 @@ use Rattle.std.proofs.Common.{◌≡◌, ◌∙◌, ◌≤◌, ℕ, Bool, true, 
 use Rattle.image_file.specs.Spelled.{Spelled}
 use Rattle.job_text.specs.declared.images.Image.{Image}
 use Rattle.job_text.specs.Jobs.{JobParts}
-use Rattle.job_turns.specs.Transcripts.{IsTranscript}
 use Rattle.link_core.specs.Images.{LinkedImage, image_of, linked_of}
 use Rattle.link_faults.specs.declared.image_kind.ImageKind.{ImageKind}
 use Rattle.link_needs.specs.Linking.{Linking}
@@ -14,11 +13,12 @@ use Rattle.loaded_modules.specs.Images.{JobImages}
 use Rattle.meaning_laws.specs.Laws.{VerdictKnowsNoSetting}
 use Rattle.module_table.specs.declared.events.Event.{Event}
 use Rattle.thread_blocks.specs.JobLoads.{job_loads}
-use Rattle.thread_blocks.specs.JobWorlds.{Shared, job_world}
+use Rattle.thread_blocks.specs.JobWorlds.{Tells}
 use Rattle.thread_blocks.specs.MachineTurns.{shown}
 use Rattle.thread_blocks.specs.Turns.{Said, Thread}
 use Rattle.transcript_text.specs.Texts.{Shown}
-use Rattle.commands.specs.Runs.{AreLinks, HasRun, modules_of, read_back, world_of}
+use Rattle.commands.specs.InOrder.{AreLinks}
+use Rattle.commands.specs.Runs.{HasRun, modules_of, read_back, world_of}
 
 -- ** the images
 
@@ -59,17 +59,17 @@ shown_each (t ∷ threads) = ap (λ rest. map shown t.said ∷ rest) (shown_each
 
 module _ (job : JobParts) (ls : List Linking) (links : AreLinks job ls) (few : length job.lines ≤ 64)
     (all : List LinkedImage) (all_is : all ≡ map linked_of ls) (images : List Spelled) (back : AreBack job all images)
-    (m : JobImages) (m_is : m ≡ of_job job images) (transcript : Shown) (printed : IsTranscript (world_of job m) transcript) where
+    (m : JobImages) (m_is : m ≡ of_job job images) (transcript : Shown) (printed : Tells (world_of job m) transcript) where
   -- the transcript is that of the images of which the laws speak
-  of_links : IsTranscript (world_of job (images_of ls)) transcript
+  of_links : Tells (world_of job (images_of ls)) transcript
   of_links =
-      subst (λ (n : JobImages). IsTranscript (world_of job n) transcript)
+      subst (λ (n : JobImages). Tells (world_of job n) transcript)
       (m_is ∙ modules_linked job ls links all all_is images back) printed
 
   has_run : LinkedJobsPrint → TranscriptsTellTheirThreads → VerdictKnowsNoSetting → HasRun job ls transcript
   has_run jobs threads settings = record {
     printed_is =
-        subst (λ (n : JobImages). IsTranscript (world_of job n) transcript)
+        subst (λ (n : JobImages). Tells (world_of job n) transcript)
         (m_is ∙ modules_are job ls links all all_is images back) printed;
     meant_is = λ clean.
         let own = sym (settings ls true job.fuel job.lines job.order) ∙ clean in
@@ -88,7 +88,7 @@ module _ (job : JobParts) (ls : List Linking) (links : AreLinks job ls) (few : l
 -- what a run answers
 pub ran : {E : Type 0} → LinkedJobsPrint → TranscriptsTellTheirThreads → VerdictKnowsNoSetting → (job : JobParts) → length job.lines ≤ 64
     → (all : List LinkedImage) (images : List Spelled) → AreBack job all images → (m : JobImages) → m ≡ of_job job images → (r : Result Shown E)
-    → IfOk r (λ transcript. IsTranscript (world_of job m) transcript)
+    → IfOk r (λ transcript. Tells (world_of job m) transcript)
     → IfOk r (λ transcript. (ls : List Linking) → AreLinks job ls → all ≡ map linked_of ls → HasRun job ls transcript)
 ran jobs threads settings job few all images back m m_is (Ok transcript) printed =
     λ ls links all_is. has_run job ls links few all all_is images back m m_is transcript printed jobs threads settings

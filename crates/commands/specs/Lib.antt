@@ -1,6 +1,7 @@
 pub mod Checks
 pub mod Completes
 pub mod GeneratedRuns
+pub mod InOrder
 pub mod LinkSteps
 pub mod Links
 pub mod Listings

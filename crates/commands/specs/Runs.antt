@@ -1,5 +1,5 @@
 -- What `run` shows of a job whose images all link.
-use Rattle.std.specs.Prelude.{◌≡◌, ◌<◌, ◌^◌, ℕ, Bool, true, false, List, [], ◌∷◌, length, map, Some, None, Ok}
+use Rattle.std.specs.Prelude.{◌≡◌, ℕ, Bool, true, false, List, [], ◌∷◌, map, Some, None}
 use Rattle.std.specs.List.{All}
 use Rattle.image_file.specs.Spelled.{Spelled, spelled}
 use Rattle.image_writer.specs.Written.{written}
@@ -7,20 +7,15 @@ use Rattle.job_meaning.specs.declared.values.Byte.{Byte}
 use Rattle.job_meaning.specs.declared.values.Flag.{Flag}
 use Rattle.job_meaning.specs.declared.values.Word.{Word}
 use Rattle.job_text.specs.declared.thread_lines.ThreadLine.{ThreadLine}
-use Rattle.job_link.specs.Given.{Given}
-use Rattle.job_text.specs.Jobs.{JobParts, job_of}
-use Rattle.job_text.specs.LateImages.{LateLast}
-use Rattle.job_turns.specs.Transcripts.{IsTranscript}
-use Rattle.lawful_points.specs.Told.{printed_points}
+use Rattle.job_text.specs.Jobs.{JobParts}
+use Rattle.lawful_points.specs.Printed.{printed_points}
 use Rattle.link_core.specs.Images.{LinkedImage, linked_of}
 use Rattle.link_needs.specs.Linking.{Linking}
-use Rattle.linked_jobs.specs.Laws.{AreJob, thread_meaning}
-use Rattle.link_faults.specs.declared.image_kind.ImageKind.{ImageKind}
+use Rattle.linked_jobs.specs.Threads.{thread_meaning}
 use Rattle.loaded_modules.specs.Given.{of_job}
 use Rattle.loaded_modules.specs.Images.{JobImages}
-use Rattle.loaded_words.specs.Laws.{ProgramFirst}
 use Rattle.thread_blocks.specs.JobLoads.{job_loads}
-use Rattle.thread_blocks.specs.JobWorlds.{Shared, job_world}
+use Rattle.thread_blocks.specs.JobWorlds.{Shared, Tells, job_world}
 use Rattle.thread_blocks.specs.Lines.{Line}
 use Rattle.thread_blocks.specs.MachineTurns.{shown}
 use Rattle.thread_blocks.specs.Turns.{Said, at_number}
@@ -31,25 +26,6 @@ use Rattle.whole_meaning.specs.Loads.{has_data, meaning_of}
 use Rattle.commands.specs.Checks.{verdict}
 
 -- ** the images
-
--- the images of a job are in order: the program is the first of them and the only one, and those that an open loads come
--- last
-pub record AreInOrder (kinds : List ImageKind) : Type 0 where
-  pub late : LateLast kinds
-  pub program : ProgramFirst kinds
-
--- so they are in each job that a text spells
-abbrev pub IsInOrder : List ℕ → JobParts → Type 0
-IsInOrder text job = job_of text ≡ Ok job → AreInOrder (map (λ image. image.kind) job.images)
-
--- an image is linked of so few objects that each of their symbols has a number of its own
-abbrev pub IsOfFew : Given → Type 0
-IsOfFew g = length g.objects < 2 ^ 32
-
--- the links of a job's images, in image order: what they are made of is in order
-pub record AreLinks (job : JobParts) (ls : List Linking) : Type 0 where
-  pub links : AreJob ls
-  pub kinds : map (λ l. l.kind) ls ≡ map (λ image. image.kind) job.images
 
 -- an image as it is read back from the bytes that are written of it
 abbrev pub read_back : LinkedImage → Spelled
@@ -76,12 +52,6 @@ as_checked ls = map (λ (l : Linking). record l { relax = true }) ls
 abbrev pub meaning_of_job : JobParts → List Linking → Shared Word Flag Byte Line
 meaning_of_job job ls = meant_world (meaning_of ls) job.fuel job.lines job.order
 
--- the transcript tells these turns, and nothing else: the history of the images that were opened and closed, and of each
--- line of each thread how many events its looks saw and what came of it
-pub record Tells (w : Shared Word Flag Byte Line) (transcript : Shown) : Type 0 where
-  pub events : transcript.events ≡ w.events
-  pub lines : map (map Some) transcript.threads ≡ map (λ t. map shown t.said) w.threads
-
 -- what one thread's lines mean, whatever the others do, where its looks see as many events of the transcript's history as
 -- the thread's lines in the transcript say
 abbrev pub meant_lines : JobParts → List Linking → Shown → ℕ → List ThreadLine → List ShownLine → List Said
@@ -97,7 +67,7 @@ IsMeant printed said = verdict_of (said ∷ []) ≡ None → map Some printed �
 -- the job ran
 pub record HasRun (job : JobParts) (ls : List Linking) (transcript : Shown) : Type 0 where
   -- whatever the job, the transcript is the machine's over the images that were written
-  pub printed_is : IsTranscript (world_of job (modules_of job ls)) transcript
+  pub printed_is : Tells (world_of job (modules_of job ls)) transcript
   -- and where the job is clean, which is what `check` prints of it, it is that of the job's meaning
   pub meant_is : verdict job (as_checked ls) ≡ None → Tells (meaning_of_job job ls) transcript
   -- and where no image has data that threads write, so it is with each thread that is clean by itself

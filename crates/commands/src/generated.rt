@@ -7,7 +7,7 @@ ghost use Rattle.command_replies.specs.Faults.{NoStoreFault};
 ghost use Rattle.command_replies.specs.Steps.{Comes};
 ghost use Rattle.job_link.specs.Mentions.{bytes_in};
 ghost use Rattle.generated_job.specs.Generated.{generated_files};
-ghost use Rattle.commands.specs.Runs.{AreInOrder};
+ghost use Rattle.commands.specs.InOrder.{AreInOrder};
 ghost use Rattle.commands.specs.GeneratedRuns.{GenSays};
 ghost use Rattle.commands.specs.RunJobs.{BytesRun};
 

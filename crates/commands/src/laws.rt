@@ -1,11 +1,11 @@
 //! Laws of a job and of its links. The functions do nothing: what they ensure is the law.
 ghost use Rattle.std.specs.Prelude.{ℕ, List};
 ghost use Rattle.commands.specs.RunJobs.{CheckedLinksAreRun};
-ghost use Rattle.commands.specs.Runs.{IsInOrder};
+ghost use Rattle.commands.specs.InOrder.{IsInOrder};
 ghost use Rattle.job_text.specs.Jobs.{JobParts};
 
 /// Of each job that a text spells the program is the first image and the only one, and late images come last.
-#[tactic(auto, using(crate::proofs::ProgramFirst::in_order))]
+#[tactic(auto, using(crate::proofs::InOrder::in_order))]
 pub fn images_are_in_order()
     ensures { (text : List ℕ) (job : JobParts) → IsInOrder text job }
 {}

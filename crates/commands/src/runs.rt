@@ -8,7 +8,8 @@
 //! `linked_jobs` tie the one to the other.
 ghost use Rattle.std.specs.Prelude.{◌≡◌, List, All, IfOk, map, true};
 ghost use Rattle.commands.specs.RunJobs.{IsTold};
-ghost use Rattle.commands.specs.Runs.{AreLinks, HasRun, IsOfFew, read_back};
+ghost use Rattle.commands.specs.InOrder.{AreLinks, IsOfFew};
+ghost use Rattle.commands.specs.Runs.{HasRun, read_back};
 ghost use Rattle.image_file.specs.Spelled.{spelled};
 ghost use Rattle.image_writer.specs.Loadable.{HoldsTls};
 ghost use Rattle.image_writer.specs.Outlined.{outline_of};

@@ -11,7 +11,7 @@ ghost use Rattle.job_link.specs.Given.{AreGiven};
 ghost use Rattle.job_link.specs.Mentions.{bytes_in, object_names};
 ghost use Rattle.loaded_bytes.specs.Small.{AreBytes};
 ghost use Rattle.job_text.specs.Jobs.{job_of as job_of_text};
-ghost use Rattle.commands.specs.Runs.{AreInOrder};
+ghost use Rattle.commands.specs.InOrder.{AreInOrder};
 
 use crate::checks::verdict_line;
 use crate::laws::images_are_in_order;

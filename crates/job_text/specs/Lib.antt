@@ -11,5 +11,6 @@ pub mod LineEffects
 pub mod LineFaults
 pub mod Listings
 pub mod Numbers
+pub mod ProgramFirst
 pub mod Threads
 pub mod Words

@@ -14,7 +14,8 @@ use Rattle.lawful_points.specs.Laws.{RacersPrintTheirPoints}
 use Rattle.lawful_points.specs.Orders.{looks_of}
 use Rattle.lawful_points.specs.Points.{seen_by}
 use Rattle.lawful_points.specs.Raced.{IsRacer, first_of, raced_looks, raced_of}
-use Rattle.lawful_points.specs.Told.{Point, points_of, printed_points, told_by, told_line}
+use Rattle.lawful_points.specs.Told.{Point, points_of, told_by, told_line}
+use Rattle.lawful_points.specs.Printed.{printed_points}
 use Rattle.lawful_points.proofs.Alone.{acting, acting_turns, alone_told, seen_alone}
 use Rattle.lawful_points.proofs.Fronts.{found_by, look_by}
 use Rattle.lawful_points.proofs.Jobs.{turns_tell}

@@ -7,7 +7,8 @@ use Rattle.transcript_text.specs.Texts.{Shown}
 use Rattle.lawful_points.specs.Orders.{job_looks}
 use Rattle.lawful_points.specs.Points.{AreLawful}
 use Rattle.lawful_points.specs.Raced.{IsRaced, IsRacer, first_of}
-use Rattle.lawful_points.specs.Told.{AreLawfulPoints, points_of, printed_points, told_by}
+use Rattle.lawful_points.specs.Told.{AreLawfulPoints, points_of, told_by}
+use Rattle.lawful_points.specs.Printed.{printed_points}
 use Rattle.order_laws.specs.Alike.{AtHistory}
 use Rattle.thread_blocks.specs.Instances.{Loads}
 use Rattle.thread_blocks.specs.JobStatements.{HasNoData}

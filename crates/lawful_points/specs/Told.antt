@@ -52,10 +52,6 @@ told_by thread [] said = []
 told_by thread (line ∷ lines) [] = []
 told_by thread (line ∷ lines) (said ∷ more) = told_line thread line said ++ told_by thread lines more
 
--- the numbers of events that the looks of lines saw, whatever they added
-abbrev pub printed_points : List ShownLine → List ℕ
-printed_points said = flat_map (λ (line : ShownLine). line.points) said
-
 -- ** lawful in a history
 
 -- points from this number on never fall, and those behind an event's point are above it

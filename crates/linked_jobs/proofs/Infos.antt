@@ -13,7 +13,7 @@ use Rattle.link_needs.specs.Linking.{Linking, layout}
 use Rattle.loaded_bytes.specs.Laws.{images_of}
 use Rattle.loaded_modules.specs.Images.{infos}
 use Rattle.loaded_names.proofs.Infos.{infos_loaded}
-use Rattle.loaded_words.specs.Laws.{ProgramFirst}
+use Rattle.job_text.specs.ProgramFirst.{ProgramFirst}
 use Rattle.module_table.specs.declared.modules.ImageInfo.{ImageInfo}
 use Rattle.module_table.specs.Modules.{AreInfos, IsInfo}
 use Rattle.thread_blocks.specs.JobLoads.{job_loads}
@@ -22,7 +22,7 @@ use Rattle.tls_layout.specs.declared.sections.Section.{Section}
 use Rattle.tls_layout.specs.Places.{greatest_alignment, next_alignment, tls_alignment, tls_size}
 use Rattle.tls_layout.specs.Sections.{IsOrdinary}
 use Rattle.whole_meaning.specs.Loads.{info_of}
-use Rattle.linked_jobs.specs.Laws.{AreJob}
+use Rattle.linked_jobs.specs.Ready.{AreJob}
 
 -- ** alignments
 

@@ -10,7 +10,7 @@ use Rattle.lawful_points.proofs.Fronts.{in_history}
 use Rattle.lawful_points.proofs.Printed.{racers_print}
 use Rattle.lawful_points.proofs.Racing.{runs_raced}
 use Rattle.lawful_points.specs.Raced.{IsRacer, first_of, raced_of}
-use Rattle.lawful_points.specs.Told.{printed_points}
+use Rattle.lawful_points.specs.Printed.{printed_points}
 use Rattle.link_needs.specs.Linking.{Linking}
 use Rattle.loaded_bytes.specs.Laws.{images_of}
 use Rattle.module_table.specs.declared.events.Event.{Event}
@@ -29,7 +29,7 @@ use Rattle.whole_meaning.specs.Threads.{Meant}
 use Rattle.linked_jobs.proofs.Infos.{are_infos}
 use Rattle.linked_jobs.proofs.Printing.{linked_threads}
 use Rattle.linked_jobs.proofs.WithoutData.{shares_none}
-use Rattle.linked_jobs.specs.Laws.{TranscriptsTellTheirThreads, thread_meaning}
+use Rattle.linked_jobs.specs.Laws.{TranscriptsTellTheirThreads}
 
 -- threads are numbered from 1
 some_thread : {X : Type 0} (xs : List X) (n : ℕ) (x : X) → at_number xs n ≡ Some x → 1 ≤ n

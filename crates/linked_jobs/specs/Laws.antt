@@ -1,5 +1,5 @@
 -- What is loaded of a job's linked images, and what is printed of them, by what their objects mean.
-use Rattle.std.specs.Prelude.{◌≡◌, ◌≤◌, ℕ, false, List, [], ◌∷◌, length, map, take, Some, None}
+use Rattle.std.specs.Prelude.{◌≡◌, ◌≤◌, ℕ, false, List, [], ◌∷◌, length, map, Some, None}
 use Rattle.std.specs.List.{All}
 use Rattle.job_text.specs.declared.thread_lines.ThreadLine.{ThreadLine}
 use Rattle.link_needs.specs.Linking.{Linking}
@@ -7,20 +7,19 @@ use Rattle.loaded_bytes.specs.Laws.{images_of}
 use Rattle.module_table.specs.declared.events.Event.{Event}
 use Rattle.module_table.specs.History.{IsLegal}
 use Rattle.thread_blocks.specs.JobLoads.{job_loads}
-use Rattle.thread_blocks.specs.JobWorlds.{job_world}
+use Rattle.thread_blocks.specs.JobWorlds.{Tells, job_world}
 use Rattle.thread_blocks.specs.MachineTurns.{shown}
-use Rattle.thread_blocks.specs.Turns.{Said, at_number}
+use Rattle.thread_blocks.specs.Turns.{at_number}
 use Rattle.transcript_text.specs.declared.outcomes.Line.{Line as ShownLine}
 use Rattle.transcript_text.specs.Texts.{Shown}
 use Rattle.whole_meaning.specs.Jobs.{lines_of, meant_world, verdict_of}
 use Rattle.whole_meaning.specs.Loads.{has_data, meaning_of}
-use Rattle.whole_meaning.specs.Meanings.{Meaning}
-use Rattle.lawful_points.specs.Laws.{IsTold}
-use Rattle.lawful_points.specs.Told.{printed_points}
+use Rattle.lawful_points.specs.Printed.{printed_points}
 use Rattle.tied_fields.specs.Settings.{setting_of}
 use Rattle.tied_meaning.specs.Ties.{AreTied}
-use Rattle.begin_alike.specs.Laws.{ThreadPrints, all_said, meant_thread}
-use Rattle.linked_jobs.specs.Ready.{AreReady}
+use Rattle.begin_alike.specs.Laws.{ThreadPrints, all_said}
+use Rattle.linked_jobs.specs.Ready.{AreJob, AreReady}
+use Rattle.linked_jobs.specs.Threads.{thread_meaning}
 
 -- ** what is loaded
 
@@ -31,11 +30,6 @@ LinksAreTied = (ls : List Linking) (history : List Event) → AreReady ls
     → AreTied (setting_of ls history) (meaning_of ls) (job_loads (images_of ls)) history
 
 -- ** what is printed
-
--- links of a job that are ready, 64 images at most
-pub record AreJob (ls : List Linking) : Type 0 where
-  pub ready : AreReady ls
-  pub few : length ls ≤ 64
 
 -- a clean job prints what it means, in any order of its threads' turns: its events, and its lines, thread by thread
 abbrev pub LinkedJobsPrint : Type 0
@@ -52,18 +46,12 @@ LinkedThreadsPrint = (ls : List Linking) (history : List Event) → AreReady ls
     → IsLegal (job_loads (images_of ls)).infos (job_loads (images_of ls)).last_offset history
     → ThreadPrints (meaning_of ls) (job_loads (images_of ls)) history
 
--- what the lines of one thread mean, whatever other threads do, where its turns see so many events of a history, one turn
--- after another
-abbrev pub thread_meaning : Meaning → ℕ → ℕ → List ThreadLine → List Event → List ℕ → List Said
-thread_meaning m fuel thread lines history points =
-    (meant_thread m fuel thread lines (map (λ (number : ℕ). take number history) points)).said
-
 -- so where no image has data that threads write, each thread of a transcript has what its lines mean at the points that
 -- they print, if that is clean, whatever the other threads did
 abbrev pub TranscriptsTellTheirThreads : Type 0
 TranscriptsTellTheirThreads = (ls : List Linking) (fuel : ℕ) (lines : List (List ThreadLine)) (order : List ℕ)
     (transcript : Shown) → AreJob ls → length lines ≤ 64 → All (λ (l : Linking). has_data l ≡ false) ls
-    → IsTold (job_world (job_loads (images_of ls)) fuel lines order) transcript
+    → Tells (job_world (job_loads (images_of ls)) fuel lines order) transcript
     → (thread : ℕ) (own : List ThreadLine) (said : List ShownLine) → at_number lines thread ≡ Some own
     → at_number transcript.threads thread ≡ Some said
     → verdict_of (thread_meaning (meaning_of ls) fuel thread own transcript.events (printed_points said) ∷ []) ≡ None

@@ -1,12 +1,12 @@
 -- What is asked of the links of a job.
-use Rattle.std.specs.Prelude.{◌<◌, ◌^◌, List, length, map}
+use Rattle.std.specs.Prelude.{◌<◌, ◌≤◌, ◌^◌, List, length, map}
 use Rattle.std.specs.List.{All}
 use Rattle.job_text.specs.LateImages.{LateLast}
 use Rattle.link_core.specs.Laws.{HasNoStray}
 use Rattle.link_needs.specs.Linking.{Linking}
 use Rattle.linked_modules.specs.Together.{AreTogether}
 use Rattle.loaded_bytes.specs.Small.{AreBytes}
-use Rattle.loaded_words.specs.Laws.{ProgramFirst}
+use Rattle.job_text.specs.ProgramFirst.{ProgramFirst}
 
 -- each image links, beside the startup images; files are bytes, and no object has a loose relocation or a stray call; of
 -- an image there are so few objects that a symbol's number is its own; the program comes first, and what an open loads
@@ -18,3 +18,8 @@ pub record AreReady (ls : List Linking) : Type 0 where
   pub few : All (λ (l : Linking). length l.objects < 2 ^ 32) ls
   pub program : ProgramFirst (map (λ l. l.kind) ls)
   pub late : LateLast (map (λ l. l.kind) ls)
+
+-- links of a job that are ready, 64 images at most
+pub record AreJob (ls : List Linking) : Type 0 where
+  pub ready : AreReady ls
+  pub few : length ls ≤ 64

@@ -34,7 +34,8 @@ use Rattle.thread_blocks.specs.JobLoads.{job_loads}
 use Rattle.thread_blocks.specs.Turns.{at_number}
 use Rattle.tls_layout.specs.Rounding.{round_up}
 use Rattle.whole_meaning.specs.Loads.{info_of, wants_surplus}
-use Rattle.loaded_words.specs.Laws.{InstancesArePlaced, IsKnown, ProgramFirst}
+use Rattle.loaded_words.specs.Laws.{InstancesArePlaced, IsKnown}
+use Rattle.job_text.specs.ProgramFirst.{ProgramFirst}
 
 -- ** which image it is
 

@@ -20,6 +20,7 @@ use Rattle.link_needs.specs.Needs.{entries, got_start, has_stub, stub_start}
 use Rattle.loaded_bytes.specs.Laws.{IsInstanceOf, images_of}
 use Rattle.loaded_modules.specs.declared.instance.Instance.{Instance}
 use Rattle.loaded_modules.specs.Images.{is_late, static_offset}
+use Rattle.job_text.specs.ProgramFirst.{ProgramFirst}
 use Rattle.module_table.specs.declared.events.Event.{Event}
 use Rattle.module_table.specs.History.{IsLegal}
 use Rattle.module_table.specs.Past.{startup_count}
@@ -32,11 +33,6 @@ use Rattle.whole_meaning.specs.Spots.{bias_of}
 use Rattle.loaded_words.specs.Words.{loaded_words}
 
 -- ** instances
-
--- the program is image 1, and no other image is one
-abbrev pub ProgramFirst : List ImageKind → Type 0
-ProgramFirst [] = ⊥
-ProgramFirst (kind ∷ kinds) = (is_module kind ≡ false) × All (λ other. is_module other ≡ true) kinds
 
 -- an instance to which a number was given in a history of the images' opens and closes, each of which was accepted
 pub record IsKnown (ls : List Linking) (history : List Event) (x : Instance) : Type 0 where

@@ -16,7 +16,8 @@ use Rattle.loaded_modules.specs.declared.instance.Instance.{Instance}
 use Rattle.loaded_modules.specs.Images.{is_late}
 use Rattle.loaded_names.proofs.Infos.{infos_loaded}
 use Rattle.loaded_words.proofs.Placed.{placed}
-use Rattle.loaded_words.specs.Laws.{IsKnown, IsPlaced, ProgramFirst}
+use Rattle.loaded_words.specs.Laws.{IsKnown, IsPlaced}
+use Rattle.job_text.specs.ProgramFirst.{ProgramFirst}
 use Rattle.module_table.specs.declared.events.Event.{Event}
 use Rattle.module_table.specs.declared.modules.ImageInfo.{ImageInfo}
 use Rattle.module_table.specs.Modules.{no_module}

@@ -7,7 +7,8 @@ use Rattle.linked_modules.specs.Together.{AreTogether}
 use Rattle.loaded_bytes.specs.Laws.{IsInstanceOf, images_of}
 use Rattle.loaded_bytes.specs.Small.{AreBytes}
 use Rattle.loaded_modules.specs.declared.instance.Instance.{Instance}
-use Rattle.loaded_words.specs.Laws.{IsKnown, ProgramFirst}
+use Rattle.loaded_words.specs.Laws.{IsKnown}
+use Rattle.job_text.specs.ProgramFirst.{ProgramFirst}
 use Rattle.module_table.specs.declared.events.Event.{Event}
 use Rattle.module_table.specs.History.{IsLegal}
 use Rattle.thread_blocks.specs.JobLoads.{job_loads}

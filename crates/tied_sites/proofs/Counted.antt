@@ -23,7 +23,8 @@ use Rattle.loaded_modules.specs.declared.instance.Instance.{Instance}
 use Rattle.loaded_modules.specs.Images.{static_offset}
 use Rattle.loaded_names.proofs.Infos.{infos_loaded}
 use Rattle.loaded_words.proofs.Placed.{placed as instances_placed}
-use Rattle.loaded_words.specs.Laws.{IsKnown, ProgramFirst}
+use Rattle.loaded_words.specs.Laws.{IsKnown}
+use Rattle.job_text.specs.ProgramFirst.{ProgramFirst}
 use Rattle.module_table.proofs.Along.{past_legal}
 use Rattle.module_table.proofs.Steps.{numbered_at}
 use Rattle.module_table.specs.declared.events.Event.{Event}

@@ -2,7 +2,7 @@ use Rattle.std.proofs.Common.{◌<◌, ◌^◌, All, List, ℕ, length, subst}
 use Rattle.std.proofs.lemmas.List.{take_all}
 use Rattle.std.proofs.lemmas.List.Elements.{All-more}
 use Rattle.job_link.specs.Given.{Given}
-use Rattle.commands.specs.Runs.{IsOfFew}
+use Rattle.commands.specs.InOrder.{IsOfFew}
 use Rattle.commands.proofs.runs.are_of_few.Goals as goal
 
 pub loop-image-preserved : goal.loop-image-preserved

@@ -1,6 +1,6 @@
 use Rattle.std.proofs.Common.{take}
 use Rattle.std.specs.List.{All}
-use Rattle.commands.specs.Runs.{IsOfFew}
+use Rattle.commands.specs.InOrder.{IsOfFew}
 use Rattle.commands.proofs.runs.are_of_few.Given as goal
 
 abbrev pub invariant-loop-image : goal.invariant-loop-image

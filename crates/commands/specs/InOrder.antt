@@ -1,0 +1,28 @@
+-- What is in order before a job runs: its images, and the links that are made of them.
+use Rattle.std.specs.Prelude.{◌≡◌, ◌<◌, ◌^◌, ℕ, List, length, map, Ok}
+use Rattle.job_link.specs.Given.{Given}
+use Rattle.job_text.specs.Jobs.{JobParts, job_of}
+use Rattle.job_text.specs.LateImages.{LateLast}
+use Rattle.job_text.specs.ProgramFirst.{ProgramFirst}
+use Rattle.link_faults.specs.declared.image_kind.ImageKind.{ImageKind}
+use Rattle.link_needs.specs.Linking.{Linking}
+use Rattle.linked_jobs.specs.Ready.{AreJob}
+
+-- the images of a job are in order: the program is the first of them and the only one, and those that an open loads come
+-- last
+pub record AreInOrder (kinds : List ImageKind) : Type 0 where
+  pub late : LateLast kinds
+  pub program : ProgramFirst kinds
+
+-- so they are in each job that a text spells
+abbrev pub IsInOrder : List ℕ → JobParts → Type 0
+IsInOrder text job = job_of text ≡ Ok job → AreInOrder (map (λ image. image.kind) job.images)
+
+-- an image is linked of so few objects that each of their symbols has a number of its own
+abbrev pub IsOfFew : Given → Type 0
+IsOfFew g = length g.objects < 2 ^ 32
+
+-- the links of a job's images, in image order: what they are made of is in order
+pub record AreLinks (job : JobParts) (ls : List Linking) : Type 0 where
+  pub links : AreJob ls
+  pub kinds : map (λ l. l.kind) ls ≡ map (λ image. image.kind) job.images
