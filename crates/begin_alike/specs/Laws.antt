@@ -84,8 +84,8 @@ module _ (m : Meaning) (q : Loads ℕ) (history : List Event) where
       → ((job_world q fuel lines order).events ≡ (meant_world m fuel lines order).events)
       × (all_said (job_world q fuel lines order) ≡ lines_of (meant_world m fuel lines order))
 
-  -- a clean thread prints what it means by itself, where each point, and so with the event that the thread adds there, is
-  -- a front of the history
+  -- a clean thread prints what it means by itself, where each point, and so with the event that the thread adds there,
+  -- is a front of the history
   abbrev pub ThreadPrints : Type 0
   ThreadPrints = (fuel thread : ℕ) → 1 ≤ thread → thread ≤ 64 → (lines : List ThreadLine) (points : List (List Event))
       → AtFronts (thread_turns q thread fuel) (event_by q thread) history (first_of q thread lines) points

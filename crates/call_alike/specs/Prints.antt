@@ -1,5 +1,5 @@
--- What is printed, wherever what is loaded is tied to what is meant: the laws of jobs and of threads (`begin_alike`), of
--- which nothing is owed any more.
+-- What is printed, wherever what is loaded is tied to what is meant: the laws of jobs and of threads (`begin_alike`),
+-- of which nothing is owed any more.
 use Rattle.std.specs.Prelude.{ℕ, List}
 use Rattle.module_table.specs.declared.events.Event.{Event}
 use Rattle.thread_blocks.specs.Instances.{Loads}

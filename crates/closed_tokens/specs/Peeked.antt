@@ -12,8 +12,8 @@
 --      mov $1, %eax
 --      ret
 --
--- Thread 1 counts in v by f, and looks at v, whose lowest byte comes first. Thread 2 looks at its own v, in which none
--- counted; a look at one byte more than its block has is refused.
+-- Thread 1 counts in v by f, and its next line shows v, the lowest byte first. Thread 2 shows its own v, in which none
+-- counted; a line for one byte more than its block has is refused.
 --
 -- In a job of its own thread 1 calls g, which puts a descriptor into v and the base of the thread's block into w. What
 -- a line shows of v is unclean then, and what one shows of both is unclean at w: a base is told before a descriptor,

@@ -27,8 +27,8 @@ pub record IsLiveAt (q : Loads ℕ) (history : List Event) (number : ℕ) (x : I
 
 -- the instance that a number was given to was live at some time, and has this number
 abbrev pub KnownInstancesLived : Type 0
-KnownInstancesLived = (q : Loads ℕ) (history : List Event) (number : ℕ) (x : Instance) → known_in q history number ≡ Some x
-    → IsLiveAt q history number x × (x.number ≡ number)
+KnownInstancesLived = (q : Loads ℕ) (history : List Event) (number : ℕ) (x : Instance)
+    → known_in q history number ≡ Some x → IsLiveAt q history number x × (x.number ≡ number)
 
 -- ** ids
 

@@ -77,8 +77,8 @@ TablesHold = (ls : List Linking) (l : Linking) (x : Instance) (need : Need) (at 
 
 -- ** the stub
 
--- where it is run it is one instruction, jmp *far(%rip), which jumps through the run time's word: the place of that word
--- is so far behind the instruction's end
+-- where it is run it is one instruction, jmp *far(%rip), which jumps through the run time's word: the place of that
+-- word is so far behind the instruction's end
 pub record IsStub (l : Linking) (bias : ℕ) (fixed : List (Range ℕ)) : Type 0 where
   pub bytes : List ℕ
   pub far : ℕ

@@ -60,8 +60,9 @@ StaticBlocksAreOwn = (m : JobImages) (fuel thread : ℕ) (own : List ThreadLine)
     → steps_of all t.todo t.phase seen ≡ Some from
     → HasOwnBlocks l thread (state_after (run all.steps n from.1)))
 
--- in any order of turns of a job's threads, each of which begins with the data that the turn before left, each thread has
--- its own blocks between its turns; and so it has after any number of steps of its next one, with the data in its hands
+-- in any order of turns of a job's threads, each of which begins with the data that the turn before left, each thread
+-- has its own blocks between its turns; and so it has after any number of steps of its next one, with the data in its
+-- hands
 abbrev pub JobBlocksAreOwn : Type 0
 JobBlocksAreOwn = (m : JobImages) (fuel : ℕ) (lines : List (List ThreadLine)) (order : List ℕ) → AreInfos (infos m)
     → InitialsFit m

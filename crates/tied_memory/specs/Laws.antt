@@ -17,8 +17,8 @@ use Rattle.tied_meaning.specs.Sites.{HasInstruction, HasWord}
 use Rattle.tied_meaning.specs.Ties.{AreTied}
 use Rattle.tied_memory.specs.Places.{AreInPlace}
 
--- so it is of each thread, in any memory of its in which what it writes is in its place. Which owners its ranges have, and
--- which history the job ends with, is any
+-- so it is of each thread, in any memory of its in which what it writes is in its place. Which owners its ranges have,
+-- and which history the job ends with, is any
 abbrev pub OfThreads : (Loads ℕ → ℕ → Space Event ℕ → Type 0) → Type 0
 OfThreads Reads = (g : Setting) (m : Meaning) (q : Loads ℕ) (history : List Event) (thread : ℕ)
     → AreTied g m q history → 1 ≤ thread
