@@ -1,3 +1,7 @@
+mod Answers
 mod Infos
+mod Orders
 pub mod Printing
+mod Runs
+mod Standing
 mod Tied

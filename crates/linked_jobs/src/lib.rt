@@ -34,4 +34,5 @@
 
 mod laws;
 
-pub use laws::{linked_jobs_print, linked_threads_print, links_are_tied};
+pub use laws::{linked_answers_agree, linked_jobs_print, linked_jobs_stand_alike, linked_threads_print};
+pub use laws::{linked_threads_stand_alike, links_are_tied};
