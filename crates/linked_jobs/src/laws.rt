@@ -1,5 +1,6 @@
 //! The laws. The functions do nothing: what they ensure is the law.
 
+ghost use Rattle.linked_jobs.specs.Answers.{LinkedAnswersAgree, LinkedJobsStandAlike, LinkedThreadsStandAlike};
 ghost use Rattle.linked_jobs.specs.Laws.{LinkedJobsPrint, LinkedThreadsPrint, LinksAreTied};
 ghost use Rattle.linked_jobs.specs.Laws.{TranscriptsTellTheirThreads};
 
@@ -22,4 +23,21 @@ pub fn linked_threads_print()
 /// has what its lines mean there.
 pub fn transcripts_tell_their_threads()
     ensures { TranscriptsTellTheirThreads }
+{}
+
+/// Wherever the meaning of a clean thread stands in a turn, the machine's thread stands in the same turn, and both are in
+/// one call.
+pub fn linked_threads_stand_alike()
+    ensures { LinkedThreadsStandAlike }
+{}
+
+/// And so it does in any order of turns of a clean job, with the data of its images in its hands.
+pub fn linked_jobs_stand_alike()
+    ensures { LinkedJobsStandAlike }
+{}
+
+/// There a general dynamic sequence finds what the call of a descriptor finds for the same variable, and the thread pointer,
+/// whatever a linker left of either.
+pub fn linked_answers_agree()
+    ensures { LinkedAnswersAgree }
 {}

@@ -36,5 +36,6 @@
 mod laws;
 
 pub use laws::{
-    linked_jobs_print, linked_threads_print, links_are_tied, transcripts_tell_their_threads,
+    linked_answers_agree, linked_jobs_print, linked_jobs_stand_alike, linked_threads_print,
+    linked_threads_stand_alike, links_are_tied, transcripts_tell_their_threads,
 };

@@ -1,0 +1,131 @@
+-- What a thread of linked images does where its meaning stands in a call, and what it finds there by the sequences of
+-- thread-local storage.
+use Rattle.std.specs.Prelude.{◌≡◌, ◌⊎◌, ◌+◌, ◌*◌, ◌≤◌, ℕ, Bool, List, Option, Some, None, length}
+use Rattle.guest_machine.specs.Run.{Stepping, Goes, Looks}
+use Rattle.guest_machine.specs.Simulate.{Moves}
+use Rattle.guest_machine.specs.Use.{plus}
+use Rattle.job_meaning.specs.declared.values.Byte.{Byte}
+use Rattle.job_meaning.specs.declared.values.Flag.{Flag}
+use Rattle.job_meaning.specs.declared.values.Word.{Word}
+use Rattle.job_text.specs.declared.thread_lines.ThreadLine.{ThreadLine}
+use Rattle.link_needs.specs.Linking.{Linking}
+use Rattle.loaded_bytes.specs.Laws.{images_of}
+use Rattle.module_table.specs.declared.events.Event.{Event}
+use Rattle.module_table.specs.History.{IsLegal}
+use Rattle.sequence_forms.specs.declared.forms.Form.TheVariants.{DescCall}
+use Rattle.shared_data.specs.Told.{steps_of}
+use Rattle.thread_blocks.specs.Instances.{Loads}
+use Rattle.thread_blocks.specs.JobLoads.{job_loads}
+use Rattle.thread_blocks.specs.JobWorlds.{Shared, job_start as runs_start, shared_order, with_data}
+use Rattle.thread_blocks.specs.Lines.{Line, event_by}
+use Rattle.thread_blocks.specs.MachineTurns.{pointer_of}
+use Rattle.thread_blocks.specs.RunTime.{Runs, resume_line, thread_steps, thread_turns}
+use Rattle.thread_blocks.specs.Turns.{Begun, Calls, Thread, Turns, at_number, with_last}
+use Rattle.thread_blocks.specs.TurnsAlike.{HasUnclean, IsFront}
+use Rattle.whole_meaning.specs.declared.sequences.Sequence.{Sequence}
+use Rattle.whole_meaning.specs.Jobs.{job_start as meant_start}
+use Rattle.whole_meaning.specs.Laws.{IsGeneral}
+use Rattle.whole_meaning.specs.Loads.{meaning_of}
+use Rattle.whole_meaning.specs.Meanings.{Meaning}
+use Rattle.whole_meaning.specs.Threads.{Meant, meant_steps, meant_turns, resume_meant, sequence_at}
+use Rattle.lawful_points.specs.Laws.{AtFronts}
+use Rattle.lawful_points.specs.Raced.{first_of, raced_of}
+use Rattle.order_laws.specs.Worlds.{IsSomeUnclean}
+use Rattle.tied_fields.specs.Settings.{setting_of}
+use Rattle.tied_meaning.specs.Threads.{InCall}
+use Rattle.begin_alike.specs.Laws.{meant_thread}
+use Rattle.linked_jobs.specs.Ready.{AreReady}
+
+-- ** where a thread stands in a turn
+
+-- in a thread's next turn, which sees these events: some steps behind the turn's look, with so many more that it may take
+pub record StandsIn {S : Type 0} (x : Turns S Line Event) (t : Thread S Line Event) (seen : List Event) (left : ℕ)
+    (s : S) : Type 0 where
+  pub begun : ℕ × S
+  pub begins : steps_of x t.todo t.phase seen ≡ Some begun
+  pub count : ℕ
+  pub moves : Moves x.steps count begun.1 s
+  pub enough : count + left ≤ begun.0
+
+-- wherever the meaning of a thread stands in a turn, the machine's thread stands after the same turns, and both are in one
+-- call; the points are any at which the thread could look in the history, and what its meaning said up to there is clean
+abbrev pub LinkedThreadsStandAlike : Type 0
+LinkedThreadsStandAlike = (ls : List Linking) (history : List Event) → AreReady ls
+    → IsLegal (job_loads (images_of ls)).infos (job_loads (images_of ls)).last_offset history
+    → let m = meaning_of ls in
+    let q = job_loads (images_of ls) in
+    (fuel thread : ℕ) → 1 ≤ thread → thread ≤ 64 → (own : List ThreadLine) (points : List (List Event)) (seen : List Event)
+    → AtFronts (thread_turns q thread fuel) (event_by q thread) history (first_of q thread own) (with_last points seen)
+    → (HasUnclean (meant_thread m fuel thread own points).said → ⊥)
+    → (left : ℕ) (h : Meant)
+    → StandsIn (meant_turns m thread fuel) (meant_thread m fuel thread own points) seen left h
+    → (h' : Runs) × (StandsIn (thread_turns q thread fuel) (raced_of q fuel thread own points) seen (4 * left) h'
+    × InCall (setting_of ls history) m q history thread h h')
+
+-- threads of a job after turns in some order, by meaning and by machine
+abbrev pub meant_after : Meaning → ℕ → List (List ThreadLine) → List ℕ → Shared Word Flag Byte Line
+meant_after m fuel lines order = shared_order (λ (i : ℕ). meant_turns m i fuel) (λ (i : ℕ). event_by m.loads i) order
+    (meant_start m lines)
+
+abbrev pub ran_after : Loads ℕ → ℕ → List (List ThreadLine) → List ℕ → Shared ℕ Bool ℕ Line
+ran_after q fuel lines order = shared_order (λ (i : ℕ). thread_turns q i fuel) (λ (i : ℕ). event_by q i) order
+    (runs_start q lines)
+
+-- so it is in any order of turns of a job, in which a turn of the thread is next, with the data in its hands that the turn
+-- before left; the history is any that begins with the events after that turn
+abbrev pub LinkedJobsStandAlike : Type 0
+LinkedJobsStandAlike = (ls : List Linking) (history : List Event) → AreReady ls
+    → IsLegal (job_loads (images_of ls)).infos (job_loads (images_of ls)).last_offset history
+    → let m = meaning_of ls in
+    let q = job_loads (images_of ls) in
+    (fuel : ℕ) (lines : List (List ThreadLine)) (order : List ℕ) (thread : ℕ) → length lines ≤ 64
+    → IsFront (ran_after q fuel lines (with_last order thread)).events history
+    → (IsSomeUnclean (meant_after m fuel lines order) → ⊥)
+    → let w = meant_after m fuel lines order in
+    let w' = ran_after q fuel lines order in
+    (t : Thread Meant Line Event) → at_number w.threads thread ≡ Some t
+    → (left : ℕ) (h : Meant) → StandsIn (meant_turns m thread fuel) (with_data w.shared t) w.events left h
+    → (t' : Thread Runs Line Event) × ((h' : Runs) × ((at_number w'.threads thread ≡ Some t')
+    × StandsIn (thread_turns q thread fuel) (with_data w'.shared t') w'.events (4 * left) h'
+    × InCall (setting_of ls history) m q history thread h h'))
+
+-- ** one sequence
+
+-- x: steps, resume: a look in the middle of a call. A step; where that is a look, it sees these events and the call goes on
+abbrev pub TakesStep : {S : Type 0} → Stepping S → (List Event → S → Begun S) → List Event → S → S → Type 0
+TakesStep {S} x resume seen s t = (x.over s ≡ None)
+    × ((x.step s ≡ Goes t) ⊎ ((u : S) × ((x.step s ≡ Looks u) × (resume seen u ≡ Calls t))))
+
+-- one to four such steps, of which the last alone may be a look
+abbrev pub TakesFew : {S : Type 0} → Stepping S → (List Event → S → Begun S) → List Event → S → S → Type 0
+TakesFew {S} x resume seen s t = (k : ℕ) × ((u : S) × ((k ≤ 3) × Moves x k s u × TakesStep x resume seen u t))
+
+-- two threads in one call, at a sequence that the meaning comes through; where it looks, it sees these events
+pub record AreAt (ls : List Linking) (history : List Event) (thread : ℕ) (s : Sequence) (seen : List Event) (h : Meant)
+    (h' : Runs) : Type 0 where
+  pub call : InCall (setting_of ls history) (meaning_of ls) (job_loads (images_of ls)) history thread h h'
+  pub here : sequence_at (meaning_of ls) thread h.after.memory.seen h.after.state.place ≡ Some s
+  pub front : IsFront seen history
+  pub after : Meant
+  pub takes : TakesStep (meant_steps (meaning_of ls) thread) (resume_meant (meaning_of ls) thread) seen h after
+
+-- the machine's thread comes behind the sequence in one to four steps, and has this number in %rax there
+pub record Finds (q : Loads ℕ) (thread : ℕ) (s : Sequence) (seen : List Event) (h : Runs) (number : ℕ) : Type 0 where
+  pub after : Runs
+  pub takes : TakesFew (thread_steps q thread) (resume_line q thread) seen h after
+  pub place : after.after.state.place ≡ s.next
+  pub rax : after.after.state.registers.rax ≡ number
+
+-- what a general dynamic sequence finds is what the call of a descriptor finds for the same variable, and the thread
+-- pointer, wherever a thread runs them, and whatever a linker left of either: kept, or rewritten as initial or local exec
+abbrev pub LinkedAnswersAgree : Type 0
+LinkedAnswersAgree = (ls : List Linking) (history : List Event) → AreReady ls
+    → IsLegal (job_loads (images_of ls)).infos (job_loads (images_of ls)).last_offset history
+    → (thread : ℕ) → 1 ≤ thread → thread ≤ 64
+    → (general descriptor : Sequence) → IsGeneral general.form → descriptor.form ≡ DescCall
+    → general.target ≡ descriptor.target → general.offset ≡ descriptor.offset
+    → (seen : List Event) (h : Meant) (h' : Runs) → AreAt ls history thread general seen h h'
+    → (seen' : List Event) (k : Meant) (k' : Runs) → AreAt ls history thread descriptor seen' k k'
+    → let q = job_loads (images_of ls) in
+    (distance : ℕ) × (Finds q thread descriptor seen' k' distance
+    × Finds q thread general seen h' (plus distance (pointer_of thread)))
