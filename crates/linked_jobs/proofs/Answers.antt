@@ -314,7 +314,9 @@ module _ {g : Setting} {m : Meaning} {q : Loads ℕ} {history : List Event} {thr
       let address : variable_address s (block_start thread one.y) ≡ plus distance (pointer_of thread) =
       ap (λ (y : Instance). variable_address s (block_start thread y)) same ∙ apart s.offset d.offset start offset in (
         distance,
-        (found d seen' k' u distance (follows seen' front' k k' call' u steps') (descriptor_leaves d u two is),
-        found s seen h' t (plus distance (pointer_of thread)) (follows seen front h h' call t steps)
-        (subst (λ (number : ℕ). Leaves s t number) address (general_leaves s t one s.form general one.ok))),
+        (
+          found d seen' k' u distance (follows seen' front' k k' call' u steps') (descriptor_leaves d u two is),
+          found s seen h' t (plus distance (pointer_of thread)) (follows seen front h h' call t steps)
+              (subst (λ (number : ℕ). Leaves s t number) address (general_leaves s t one s.form general one.ok)),
+        ),
       )
