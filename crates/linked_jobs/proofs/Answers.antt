@@ -1,13 +1,13 @@
 -- What general dynamic sequences and calls of descriptors leave in %rax, by meaning and by machine.
-use Rattle.std.proofs.Common.{◌≡◌, ◌∙◌, ◌⊎◌, ◌+◌, ◌-◌, ◌*◌, ◌^◌, ◌<◌, ◌≤◌, ℕ, zero, suc, Bool, true, false, List, Option, Some, None, Result, Ok, Err, refl, sym, ap, subst, inl, inr, arith}
-use Rattle.std.specs.Prelude.{◌&&◌, option_and_then, option_map}
+use Rattle.std.proofs.Common.{◌≡◌, ◌∙◌, ◌⊎◌, ◌-◌, ◌^◌, ◌<◌, ◌≤◌, ℕ, zero, suc, Bool, true, false, List, Option, Some, None, Result, Ok, Err, refl, sym, ap, subst, inl, inr, arith}
+use Rattle.std.specs.Prelude.{◌&&◌, option_and_then}
 use Rattle.guest_arithmetic.specs.declared.cause.Cause.{Cause}
 use Rattle.guest_operands.specs.declared.state.State.{State}
 use Rattle.guest_operands.specs.declared.stop.Stop.{Stop}
 use Rattle.guest_operands.specs.State.{at_place}
 use Rattle.guest_operands.specs.Use.{◌>>=◌, After, clean, left, plus}
-use Rattle.guest_machine.specs.Run.{Ends, Goes, Looks, Next, Stepping, next_of}
-use Rattle.guest_machine.specs.Simulate.{Advances, IsSimulated, Moves}
+use Rattle.guest_machine.specs.Run.{Goes, Looks, Stepping}
+use Rattle.guest_machine.specs.Simulate.{Advances, Moves}
 use Rattle.job_meaning.specs.declared.values.Flag.{Flag}
 use Rattle.job_meaning.specs.declared.values.Word.{Word}
 use Rattle.job_meaning.specs.declared.values.Word.TheVariants.{Number}
@@ -28,7 +28,7 @@ use Rattle.transcript_text.specs.declared.outcomes.Outcome.TheVariants.{Fault}
 use Rattle.whole_meaning.specs.declared.sequences.Sequence.{Sequence}
 use Rattle.whole_meaning.specs.Laws.{IsGeneral}
 use Rattle.whole_meaning.specs.Meanings.{Meaning}
-use Rattle.whole_meaning.specs.Running.{meaning, sequence_or}
+use Rattle.whole_meaning.specs.Running.{meaning}
 use Rattle.whole_meaning.specs.Sequences.{after_call, asks, descriptor_calls, does, looks_first, sequence_result, stack_use, variable_address, variable_distance, with_answer, without_flags}
 use Rattle.whole_meaning.specs.Threads.{Meant, Memory, came_late, code_owner, held_next, meant_stack, meant_steps, resume_meant, resumed, resumed_at, resumed_by, resumed_for, sequence_at, sequence_does, sequence_next, start_in}
 use Rattle.tied_meaning.specs.Numbers.{Setting, SameWord, alike}

@@ -1,5 +1,5 @@
 -- In any order of turns of a job, where the meaning of a thread stands the machine's thread stands too.
-use Rattle.std.proofs.Common.{◌≡◌, ◌∙◌, ◌⊎◌, ◌++◌, ◌*◌, ◌≤◌, ℕ, Bool, zero, suc, List, [], ◌∷◌, length, Option, Some, None, refl, sym, ap, subst, inl, inr, arith}
+use Rattle.std.proofs.Common.{◌≡◌, ◌⊎◌, ◌++◌, ◌*◌, ◌≤◌, ℕ, Bool, zero, suc, List, [], ◌∷◌, length, Option, Some, None, refl, sym, subst, inl, inr, arith}
 use Rattle.std.specs.Prelude.{option_and_then, slice_get}
 use Rattle.job_meaning.specs.declared.values.Byte.{Byte}
 use Rattle.job_meaning.specs.declared.values.Flag.{Flag}
@@ -13,13 +13,13 @@ use Rattle.thread_blocks.specs.Lines.{Line, event_by}
 use Rattle.thread_blocks.specs.RunTime.{Runs, thread_turns}
 use Rattle.thread_blocks.specs.Spaces.{FoundAlike}
 use Rattle.thread_blocks.specs.Turns.{Idle, Mid, Phase, Thread, Turns, at_number, event_of, next_line, with_event, with_last}
-use Rattle.thread_blocks.specs.TurnsAlike.{IsFront, Level, SamePhase}
+use Rattle.thread_blocks.specs.TurnsAlike.{IsFront, SamePhase}
 use Rattle.thread_blocks.proofs.Orders.{front-trans, turn-front}
 use Rattle.whole_meaning.specs.Jobs.{job_start as meant_start}
 use Rattle.whole_meaning.specs.Meanings.{Meaning}
 use Rattle.whole_meaning.specs.Threads.{Meant, meant_turns}
 use Rattle.order_laws.specs.Alike.{AreAlike, SameOne}
-use Rattle.order_laws.specs.Worlds.{AreLent, IsSomeUnclean, SameWorld}
+use Rattle.order_laws.specs.Worlds.{AreLent, IsSomeUnclean}
 use Rattle.order_laws.proofs.Worlds.{order_alike}
 use Rattle.tied_meaning.specs.Numbers.{Setting}
 use Rattle.tied_meaning.specs.Ties.{AreTied}

@@ -1,7 +1,7 @@
 -- Where the meaning of a thread stands in a turn, the machine's thread stands too.
-use Rattle.std.proofs.Common.{◌≡◌, ◌+◌, ◌-◌, ◌*◌, ◌≤◌, ◌++◌, ℕ, zero, suc, List, [], ◌∷◌, Option, Some, None, refl, sym, ap, subst, inl, inr, arith}
+use Rattle.std.proofs.Common.{◌≡◌, ◌+◌, ◌-◌, ◌*◌, ◌≤◌, ℕ, zero, suc, List, [], ◌∷◌, Option, Some, refl, sym, subst, inl, inr, arith}
 use Rattle.std.specs.Prelude.{option_and_then}
-use Rattle.guest_machine.specs.Run.{Stepping, Next, Goes, Ends, Looks}
+use Rattle.guest_machine.specs.Run.{Stepping, Goes}
 use Rattle.guest_machine.specs.Simulate.{Advances, IsSimulated, Moves}
 use Rattle.job_text.specs.declared.thread_lines.ThreadLine.{ThreadLine}
 use Rattle.module_table.specs.declared.events.Event.{Event}
@@ -11,7 +11,7 @@ use Rattle.thread_blocks.specs.JobWorlds.{numbered_lines}
 use Rattle.thread_blocks.specs.Lines.{Line, event_by}
 use Rattle.thread_blocks.specs.RunTime.{Runs, thread_turns}
 use Rattle.thread_blocks.specs.Turns.{Begun, Calls, Idle, Mid, Phase, Says, Thread, Turns, event_of, next_line, ready, turn, turns, with_event, with_last}
-use Rattle.thread_blocks.specs.TurnsAlike.{HasUnclean, IsFront, Level, SameBegun, SamePhase}
+use Rattle.thread_blocks.specs.TurnsAlike.{HasUnclean, IsFront, SameBegun, SamePhase}
 use Rattle.whole_meaning.specs.Meanings.{Meaning}
 use Rattle.whole_meaning.specs.Threads.{Meant, meant_ready, meant_turns}
 use Rattle.lawful_points.specs.Laws.{AtFronts}

@@ -1,17 +1,15 @@
 -- What a transcript's lines tell of each thread by itself.
-use Rattle.std.proofs.Common.{◌≡◌, ◌∙◌, ◌≤◌, ◌<◌, ℕ, zero, suc, List, [], ◌∷◌, length, map, Option, Some, None, inl, inr, refl, sym, ap, subst, arith}
+use Rattle.std.proofs.Common.{◌≡◌, ◌∙◌, ◌≤◌, ℕ, zero, suc, List, [], ◌∷◌, length, map, Some, None, inl, inr, refl, sym, ap, subst, arith}
 use Rattle.std.specs.Prelude.{◌⊎◌, take}
 use Rattle.std.proofs.lemmas.Option.{slice_get_within}
 use Rattle.begin_alike.proofs.Printed.{verdict_clean}
 use Rattle.begin_alike.specs.Laws.{meant_thread}
-use Rattle.job_text.specs.declared.thread_lines.ThreadLine.{ThreadLine}
 use Rattle.known_instances.proofs.Legal.{job_legal}
 use Rattle.lawful_points.proofs.Fronts.{in_history}
 use Rattle.lawful_points.proofs.Printed.{racers_print}
 use Rattle.lawful_points.proofs.Racing.{runs_raced}
 use Rattle.lawful_points.specs.Raced.{IsRacer, first_of, raced_of}
 use Rattle.lawful_points.specs.Printed.{printed_points}
-use Rattle.link_needs.specs.Linking.{Linking}
 use Rattle.loaded_bytes.specs.Laws.{images_of}
 use Rattle.module_table.specs.declared.events.Event.{Event}
 use Rattle.module_table.specs.History.{IsLegal}
@@ -20,9 +18,8 @@ use Rattle.thread_blocks.specs.JobLoads.{job_loads}
 use Rattle.thread_blocks.specs.Lines.{Line, event_by}
 use Rattle.thread_blocks.specs.MachineTurns.{shown}
 use Rattle.thread_blocks.specs.RunTime.{thread_turns}
-use Rattle.thread_blocks.specs.Turns.{Said, Thread, at_number}
+use Rattle.thread_blocks.specs.Turns.{Thread, at_number}
 use Rattle.thread_blocks.specs.TurnsAlike.{HasUnclean}
-use Rattle.transcript_text.specs.declared.outcomes.Line.{Line as ShownLine}
 use Rattle.whole_meaning.specs.Jobs.{verdict_of}
 use Rattle.whole_meaning.specs.Loads.{meaning_of}
 use Rattle.whole_meaning.specs.Threads.{Meant}

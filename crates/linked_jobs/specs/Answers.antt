@@ -1,6 +1,6 @@
 -- What a thread of linked images does where its meaning stands in a call, and what it finds there by the sequences of
 -- thread-local storage.
-use Rattle.std.specs.Prelude.{◌≡◌, ◌⊎◌, ◌+◌, ◌*◌, ◌≤◌, ℕ, Bool, List, Option, Some, None, length}
+use Rattle.std.specs.Prelude.{◌≡◌, ◌⊎◌, ◌+◌, ◌*◌, ◌≤◌, ℕ, Bool, List, Some, None, length}
 use Rattle.guest_machine.specs.Run.{Stepping, Goes, Looks}
 use Rattle.guest_machine.specs.Simulate.{Moves}
 use Rattle.guest_machine.specs.Use.{plus}
