@@ -1,7 +1,6 @@
 -- Transcripts: the machine's, and where a job or a thread is clean what it means.
-use Rattle.std.proofs.Common.{◌≡◌, ◌∙◌, ◌≤◌, ℕ, Bool, true, List, All, [], ◌∷◌, length, map, Result, Ok, Err, IfOk, refl, sym, ap, subst}
+use Rattle.std.proofs.Common.{◌≡◌, ◌∙◌, ◌≤◌, true, List, [], ◌∷◌, length, map, Result, Ok, Err, IfOk, refl, sym, ap, subst}
 use Rattle.image_file.specs.Spelled.{Spelled}
-use Rattle.job_text.specs.declared.images.Image.{Image}
 use Rattle.job_text.specs.Jobs.{JobParts}
 use Rattle.link_core.specs.Images.{LinkedImage, image_of, linked_of}
 use Rattle.link_faults.specs.declared.image_kind.ImageKind.{ImageKind}
@@ -12,10 +11,9 @@ use Rattle.loaded_modules.specs.Given.{of_job}
 use Rattle.loaded_modules.specs.Images.{JobImages}
 use Rattle.meaning_laws.specs.Laws.{VerdictKnowsNoSetting}
 use Rattle.module_table.specs.declared.events.Event.{Event}
-use Rattle.thread_blocks.specs.JobLoads.{job_loads}
 use Rattle.thread_blocks.specs.JobWorlds.{Tells}
 use Rattle.thread_blocks.specs.MachineTurns.{shown}
-use Rattle.thread_blocks.specs.Turns.{Said, Thread}
+use Rattle.thread_blocks.specs.Turns.{Thread}
 use Rattle.transcript_text.specs.Texts.{Shown}
 use Rattle.commands.specs.InOrder.{AreLinks}
 use Rattle.commands.specs.Runs.{HasRun, modules_of, read_back, world_of}
