@@ -282,17 +282,39 @@ module _ {g : Setting} {m : Meaning} {q : Loads ℕ} {history : List Event} {thr
   same_number : (w : Word) (number word : ℕ) → w ≡ Number number → SameWord g w word → word ≡ number
   same_number w number word e same = (subst (λ (v : Word). SameWord g v word) e same).0
 
-  found : (s : Sequence) (seen : List Event) (h' : Runs) (t : Meant) (number : ℕ) → Follows seen t h' → Leaves s t number
+  found : (s : Sequence) (seen : List Event) (h' : Runs) (t : Meant) (number : ℕ) → Follows seen t h'
+      → Leaves s t number
       → Finds q thread s seen h' number
   unfolding alike
   found s seen h' t number f leaves = record {
     after = f.0;
     takes = f.1.0;
     place = sym f.1.1.state.place ∙ leaves.place;
-    rax = same_number t.after.state.registers.rax number f.0.after.state.registers.rax leaves.rax f.1.1.state.registers.rax;
+    rax = same_number t.after.state.registers.rax number f.0.after.state.registers.rax leaves.rax
+        f.1.1.state.registers.rax;
   }
 
-  -- the address is the distance and the thread pointer
+  -- of any sequence
+  pub finds : (s : Sequence) (seen : List Event) → IsFront seen history → (h : Meant) (h' : Runs) → Call h h'
+      → sequence_at m thread h.after.memory.seen h.after.state.place ≡ Some s → (t : Meant) → Steps seen h t
+      → (y : Instance) × ((g.known s.target ≡ Some y)
+      × (IsGeneral s.form → Finds q thread s seen h' (variable_address s (block_start thread y)))
+      × (s.form ≡ DescCall → Finds q thread s seen h' (variable_distance s (block_start thread y) (pointer_of thread))))
+  finds s seen front h h' call here t steps =
+      let one = done seen front h h' call s here t steps in
+      let on = follows seen front h h' call t steps in (
+        one.y,
+        (
+          one.known,
+          λ is. found s seen h' t (variable_address s (block_start thread one.y)) on
+              (general_leaves s t one s.form is one.ok),
+          λ is. found s seen h' t (variable_distance s (block_start thread one.y) (pointer_of thread)) on
+              (descriptor_leaves s t one is),
+        ),
+      )
+
+  -- ** two of one variable: the address is the distance and the thread pointer
+
   apart : (offset offset' start : ℕ) → offset ≡ offset'
       → plus start offset ≡ plus (plus (plus start offset') (2 ^ 64 - pointer_of thread)) (pointer_of thread)
   apart offset offset' start same = omega (arith, same, high)
@@ -305,18 +327,14 @@ module _ {g : Setting} {m : Meaning} {q : Loads ℕ} {history : List Event} {thr
       → (distance : ℕ) × (Finds q thread d seen' k' distance
       × Finds q thread s seen h' (plus distance (pointer_of thread)))
   agree s d general is target offset seen front h h' call here t steps seen' front' k k' call' here' u steps' =
-      let one = done seen front h h' call s here t steps in
-      let two = done seen' front' k k' call' d here' u steps' in
-      let same : one.y ≡ two.y =
-      let a = one.known in let b = two.known in let c : g.known s.target ≡ g.known d.target = ap g.known target in cc in
-      let start = block_start thread two.y in
+      let one = finds s seen front h h' call here t steps in
+      let two = finds d seen' front' k k' call' here' u steps' in
+      let same : one.0 ≡ two.0 =
+      let a = one.1.0 in let b = two.1.0 in let c : g.known s.target ≡ g.known d.target = ap g.known target in cc in
+      let start = block_start thread two.0 in
       let distance = variable_distance d start (pointer_of thread) in
-      let address : variable_address s (block_start thread one.y) ≡ plus distance (pointer_of thread) =
+      let address : variable_address s (block_start thread one.0) ≡ plus distance (pointer_of thread) =
       ap (λ (y : Instance). variable_address s (block_start thread y)) same ∙ apart s.offset d.offset start offset in (
         distance,
-        (
-          found d seen' k' u distance (follows seen' front' k k' call' u steps') (descriptor_leaves d u two is),
-          found s seen h' t (plus distance (pointer_of thread)) (follows seen front h h' call t steps)
-              (subst (λ (number : ℕ). Leaves s t number) address (general_leaves s t one s.form general one.ok)),
-        ),
+        (two.1.2 is, subst (λ (number : ℕ). Finds q thread s seen h' number) address (one.1.1 general)),
       )

@@ -149,7 +149,8 @@ module _ (g : Setting) (m : Meaning) (q : Loads ℕ) (history : List Event) (tie
         × StandsIn (by_machine (suc i)) (with_data w'.shared t') w'.events (4 * left) h' × Call (suc i) h h'))
 
     stands_there : (t : Thread Meant Line Event) → slice_get w.threads i ≡ Some t → (left : ℕ) (h : Meant)
-        → StandsIn (by_meaning (suc i)) (with_data w.shared t) w.events left h → IsSomeUnclean w ⊎ SameJob g m q history w w'
+        → StandsIn (by_meaning (suc i)) (with_data w.shared t) w.events left h
+        → IsSomeUnclean w ⊎ SameJob g m q history w w'
         → Found left h
     stands_there t at left h stands (inl unclean) = absurd (clean unclean)
     stands_there t at left h stands (inr same) =
@@ -157,17 +158,20 @@ module _ (g : Setting) (m : Meaning) (q : Loads ℕ) (history : List Event) (tie
         (same.each i) at in
         let t' = other.0 in
         let own : IsFront (with_event w'.events (event_of (adds (suc i)) t' w'.events)) history =
-        subst (λ (o : Option (Thread Runs Line Event)). IsFront (shared_turn by_machine adds w' (suc i) o).events history)
-        other.1.0 turned in
+        subst (λ (o : Option (Thread Runs Line Event)).
+        IsFront (shared_turn by_machine adds w' (suc i) o).events history) other.1.0 turned in
         let line = next_changed (λ (h : Runs). with_owned h (owned_by h ++ w'.shared)) t'.todo t'.phase in
         let mine = subst (λ (o : Option Line). IsFront
-        (with_event w'.events (option_and_then (λ (line : Line). adds (suc i) line w'.events) o)) history) (sym line) own in
-        let on = stands_alike (Call (suc i)) (Wait (suc i)) (Rest (suc i)) Fine (by_meaning (suc i)) (by_machine (suc i))
+        (with_event w'.events (option_and_then (λ (line : Line). adds (suc i) line w'.events) o)) history)
+        (sym line) own in
+        let on =
+        stands_alike (Call (suc i)) (Wait (suc i)) (Rest (suc i)) Fine (by_meaning (suc i)) (by_machine (suc i))
         (adds (suc i)) (threads_alike (suc i) (omega arith) (same.within i t at)) (with_data w.shared t)
         (with_data w'.shared t') w'.events now mine
         (lend (suc i) w.shared w'.shared same.shared t t' other.1.1)
         (λ unclean. clean (record { number = i; thread = t; there = at; unclean = unclean })) left h
-        (subst (λ (e : List Event). StandsIn (by_meaning (suc i)) (with_data w.shared t) e left h) (sym same.events) stands) in
+        (subst (λ (e : List Event). StandsIn (by_meaning (suc i)) (with_data w.shared t) e left h)
+        (sym same.events) stands) in
         (t', (on.0, (other.1.0, on.1.0, on.1.1)))
 
   pub stands_among : (fuel : ℕ) (lines : List (List ThreadLine)) (order : List ℕ) (thread : ℕ) → length lines ≤ 64

@@ -117,7 +117,8 @@ module _ {S S' : Type 0} (Rel Wait Rest : S → S' → Type 0) (Fine : List Even
           (
             record {
               begun = first.0;
-              begins = subst (λ (ls : List Line). steps_of y ls t'.phase seen ≡ Some first.0) (sym level.todo) first.1.0;
+              begins = subst (λ (ls : List Line). steps_of y ls t'.phase seen ≡ Some first.0) (sym level.todo)
+                  first.1.0;
               count = more.0;
               moves = more.1.1.1;
               enough = omega (arith, below, enough, fuel);
@@ -140,15 +141,18 @@ last_of x event Fine (first ∷ points) seen t at =
 module _ (g : Setting) (m : Meaning) (q : Loads ℕ) (history : List Event) (tied : AreTied g m q history) where
   pub stands : (fuel thread : ℕ) → 1 ≤ thread → thread ≤ 64 → (own : List ThreadLine) (points : List (List Event))
       (seen : List Event)
-      → AtFronts (thread_turns q thread fuel) (event_by q thread) history (first_of q thread own) (with_last points seen)
+      → AtFronts (thread_turns q thread fuel) (event_by q thread) history (first_of q thread own)
+      (with_last points seen)
       → (HasUnclean (meant_thread m fuel thread own points).said → ⊥)
-      → (left : ℕ) (h : Meant) → StandsIn (meant_turns m thread fuel) (meant_thread m fuel thread own points) seen left h
+      → (left : ℕ) (h : Meant)
+      → StandsIn (meant_turns m thread fuel) (meant_thread m fuel thread own points) seen left h
       → (h' : Runs) × (StandsIn (thread_turns q thread fuel) (raced_of q fuel thread own points) seen (4 * left) h'
       × InCall g m q history thread h h')
   stands fuel thread low high own points seen at clean left h =
       let Fine : List Event → Type 0 = λ seen. IsFront seen history in
       let alike = threads_do g m q history tied (calls_alike g m q history tied) fuel thread low high in
-      let parts = last_of (thread_turns q thread fuel) (event_by q thread) Fine points seen (first_of q thread own) at in
+      let parts =
+      last_of (thread_turns q thread fuel) (event_by q thread) Fine points seen (first_of q thread own) at in
       stands_alike (InCall g m q history thread) (Waiting g m q history thread) (AtRest g m q history thread) Fine
       (meant_turns m thread fuel) (thread_turns q thread fuel) (event_by q thread) alike
       (meant_thread m fuel thread own points) (raced_of q fuel thread own points) seen parts.1.0 parts.1.1

@@ -9,12 +9,14 @@ use Rattle.job_meaning.specs.declared.values.Flag.{Flag}
 use Rattle.job_meaning.specs.declared.values.Word.{Word}
 use Rattle.job_text.specs.declared.thread_lines.ThreadLine.{ThreadLine}
 use Rattle.link_needs.specs.Linking.{Linking}
+use Rattle.known_instances.specs.Known.{known_in}
 use Rattle.loaded_bytes.specs.Laws.{images_of}
+use Rattle.loaded_modules.specs.declared.instance.Instance.{Instance}
 use Rattle.module_table.specs.declared.events.Event.{Event}
 use Rattle.module_table.specs.History.{IsLegal}
 use Rattle.sequence_forms.specs.declared.forms.Form.TheVariants.{DescCall}
 use Rattle.shared_data.specs.Told.{steps_of}
-use Rattle.thread_blocks.specs.Instances.{Loads}
+use Rattle.thread_blocks.specs.Instances.{Loads, block_start}
 use Rattle.thread_blocks.specs.JobLoads.{job_loads}
 use Rattle.thread_blocks.specs.JobWorlds.{Shared, job_start as runs_start, shared_order, with_data}
 use Rattle.thread_blocks.specs.Lines.{Line, event_by}
@@ -27,6 +29,7 @@ use Rattle.whole_meaning.specs.Jobs.{job_start as meant_start}
 use Rattle.whole_meaning.specs.Laws.{IsGeneral}
 use Rattle.whole_meaning.specs.Loads.{meaning_of}
 use Rattle.whole_meaning.specs.Meanings.{Meaning}
+use Rattle.whole_meaning.specs.Sequences.{variable_address, variable_distance}
 use Rattle.whole_meaning.specs.Threads.{Meant, meant_steps, meant_turns, resume_meant, sequence_at}
 use Rattle.lawful_points.specs.Laws.{AtFronts}
 use Rattle.lawful_points.specs.Raced.{first_of, raced_of}
@@ -38,7 +41,8 @@ use Rattle.linked_jobs.specs.Ready.{AreReady}
 
 -- ** where a thread stands in a turn
 
--- in a thread's next turn, which sees these events: some steps behind the turn's look, with so many more that it may take
+-- in a thread's next turn, which sees these events: some steps behind the turn's look, with so many more that it may
+-- take
 pub record StandsIn {S : Type 0} (x : Turns S Line Event) (t : Thread S Line Event) (seen : List Event) (left : ℕ)
     (s : S) : Type 0 where
   pub begun : ℕ × S
@@ -47,14 +51,16 @@ pub record StandsIn {S : Type 0} (x : Turns S Line Event) (t : Thread S Line Eve
   pub moves : Moves x.steps count begun.1 s
   pub enough : count + left ≤ begun.0
 
--- wherever the meaning of a thread stands in a turn, the machine's thread stands after the same turns, and both are in one
--- call; the points are any at which the thread could look in the history, and what its meaning said up to there is clean
+-- wherever the meaning of a thread stands in a turn, the machine's thread stands after the same turns, and both are
+-- in one call; the points are any at which the thread could look in the history, and what its meaning said up to
+-- there is clean
 abbrev pub LinkedThreadsStandAlike : Type 0
 LinkedThreadsStandAlike = (ls : List Linking) (history : List Event) → AreReady ls
     → IsLegal (job_loads (images_of ls)).infos (job_loads (images_of ls)).last_offset history
     → let m = meaning_of ls in
     let q = job_loads (images_of ls) in
-    (fuel thread : ℕ) → 1 ≤ thread → thread ≤ 64 → (own : List ThreadLine) (points : List (List Event)) (seen : List Event)
+    (fuel thread : ℕ) → 1 ≤ thread → thread ≤ 64
+    → (own : List ThreadLine) (points : List (List Event)) (seen : List Event)
     → AtFronts (thread_turns q thread fuel) (event_by q thread) history (first_of q thread own) (with_last points seen)
     → (HasUnclean (meant_thread m fuel thread own points).said → ⊥)
     → (left : ℕ) (h : Meant)
@@ -71,8 +77,8 @@ abbrev pub ran_after : Loads ℕ → ℕ → List (List ThreadLine) → List ℕ
 ran_after q fuel lines order = shared_order (λ (i : ℕ). thread_turns q i fuel) (λ (i : ℕ). event_by q i) order
     (runs_start q lines)
 
--- so it is in any order of turns of a job, in which a turn of the thread is next, with the data in its hands that the turn
--- before left; the history is any that begins with the events after that turn
+-- so it is in any order of turns of a job, in which a turn of the thread is next, with the data in its hands that the
+-- turn before left; the history is any that begins with the events after that turn
 abbrev pub LinkedJobsStandAlike : Type 0
 LinkedJobsStandAlike = (ls : List Linking) (history : List Event) → AreReady ls
     → IsLegal (job_loads (images_of ls)).infos (job_loads (images_of ls)).last_offset history
@@ -91,7 +97,8 @@ LinkedJobsStandAlike = (ls : List Linking) (history : List Event) → AreReady l
 
 -- ** one sequence
 
--- x: steps, resume: a look in the middle of a call. A step; where that is a look, it sees these events and the call goes on
+-- x: steps, resume: a look in the middle of a call. A step; where that is a look, it sees these events and the call
+-- goes on
 abbrev pub TakesStep : {S : Type 0} → Stepping S → (List Event → S → Begun S) → List Event → S → S → Type 0
 TakesStep {S} x resume seen s t = (x.over s ≡ None)
     × ((x.step s ≡ Goes t) ⊎ ((u : S) × ((x.step s ≡ Looks u) × (resume seen u ≡ Calls t))))
@@ -116,8 +123,21 @@ pub record Finds (q : Loads ℕ) (thread : ℕ) (s : Sequence) (seen : List Even
   pub place : after.after.state.place ≡ s.next
   pub rax : after.after.state.registers.rax ≡ number
 
--- what a general dynamic sequence finds is what the call of a descriptor finds for the same variable, and the thread
--- pointer, wherever a thread runs them, and whatever a linker left of either: kept, or rewritten as initial or local exec
+-- what a sequence finds that asks for a variable: its address in the thread's own block, or how far that is from the
+-- thread pointer. y is the instance that has the number in the history, whose blocks the variable lies in
+abbrev pub LinkedSequencesFind : Type 0
+LinkedSequencesFind = (ls : List Linking) (history : List Event) → AreReady ls
+    → IsLegal (job_loads (images_of ls)).infos (job_loads (images_of ls)).last_offset history
+    → (thread : ℕ) → 1 ≤ thread → thread ≤ 64
+    → (s : Sequence) (seen : List Event) (h : Meant) (h' : Runs) → AreAt ls history thread s seen h h'
+    → let q = job_loads (images_of ls) in
+    (y : Instance) × ((known_in q history s.target ≡ Some y)
+    × (IsGeneral s.form → Finds q thread s seen h' (variable_address s (block_start thread y)))
+    × (s.form ≡ DescCall → Finds q thread s seen h' (variable_distance s (block_start thread y) (pointer_of thread))))
+
+-- so what a general dynamic sequence finds is what the call of a descriptor finds for the same variable, and the
+-- thread pointer, wherever a thread runs them, and whatever a linker left of either: kept, or rewritten as initial or
+-- local exec
 abbrev pub LinkedAnswersAgree : Type 0
 LinkedAnswersAgree = (ls : List Linking) (history : List Event) → AreReady ls
     → IsLegal (job_loads (images_of ls)).infos (job_loads (images_of ls)).last_offset history

@@ -1,6 +1,7 @@
 //! The laws. The functions do nothing: what they ensure is the law.
 
-ghost use Rattle.linked_jobs.specs.Answers.{LinkedAnswersAgree, LinkedJobsStandAlike, LinkedThreadsStandAlike};
+ghost use Rattle.linked_jobs.specs.Answers.{LinkedAnswersAgree, LinkedJobsStandAlike, LinkedSequencesFind};
+ghost use Rattle.linked_jobs.specs.Answers.{LinkedThreadsStandAlike};
 ghost use Rattle.linked_jobs.specs.Laws.{LinkedJobsPrint, LinkedThreadsPrint, LinksAreTied};
 ghost use Rattle.linked_jobs.specs.Laws.{TranscriptsTellTheirThreads};
 
@@ -25,8 +26,8 @@ pub fn transcripts_tell_their_threads()
     ensures { TranscriptsTellTheirThreads }
 {}
 
-/// Wherever the meaning of a clean thread stands in a turn, the machine's thread stands in the same turn, and both are in
-/// one call.
+/// Wherever the meaning of a clean thread stands in a turn, the machine's thread stands in the same turn, and both
+/// are in one call.
 pub fn linked_threads_stand_alike()
     ensures { LinkedThreadsStandAlike }
 {}
@@ -36,8 +37,13 @@ pub fn linked_jobs_stand_alike()
     ensures { LinkedJobsStandAlike }
 {}
 
-/// There a general dynamic sequence finds what the call of a descriptor finds for the same variable, and the thread pointer,
-/// whatever a linker left of either.
+/// There a general dynamic sequence finds its variable's address in the thread's own block, and the call of a
+/// descriptor how far that is from the thread pointer.
+pub fn linked_sequences_find()
+    ensures { LinkedSequencesFind }
+{}
+
+/// So the two agree on one variable, up to the thread pointer, whatever a linker left of either.
 pub fn linked_answers_agree()
     ensures { LinkedAnswersAgree }
 {}

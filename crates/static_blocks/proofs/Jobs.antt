@@ -8,7 +8,7 @@ use Rattle.module_table.specs.declared.events.Event.{Event}
 use Rattle.module_table.specs.History.{IsLegal}
 use Rattle.module_table.specs.Modules.{AreInfos}
 use Rattle.module_table.specs.Past.{is_legal, start}
-use Rattle.thread_blocks.specs.Held.{Owned, owned_by, with_owned}
+use Rattle.thread_blocks.specs.Held.{Owned, looked, owned_by, with_owned}
 use Rattle.thread_blocks.specs.Instances.{Loads, instances}
 use Rattle.thread_blocks.specs.JobLoads.{job_loads}
 use Rattle.thread_blocks.specs.JobWorlds.{Shared, blocks_in, held_in, job_start, ready_from, shared_order, shared_turn, thread_ready, with_data, without_data}
@@ -24,7 +24,8 @@ use Rattle.shared_data.proofs.Legal.{legal_turn}
 use Rattle.shared_data.proofs.Machine.{machine_tells}
 use Rattle.shared_data.proofs.Orders.{held_changed, same_event}
 use Rattle.static_blocks.specs.Blocks.{HasOwnBlocks}
-use Rattle.static_blocks.specs.Laws.{InitialsFit, JobBlocksAreOwn}
+use Rattle.static_blocks.specs.Laws.{InitialsFit, JobBlocksAreOwn, MakesFresh, NewJobBlocksAreFresh}
+use Rattle.static_blocks.proofs.Fresh.{both_make}
 use Rattle.static_blocks.proofs.Keeping.{ready_fits, turn_at_fits, within_fits}
 use Rattle.static_blocks.proofs.Lent.{DataAlone, data_left, shape_kept, shape_lent}
 use Rattle.static_blocks.proofs.Looking.{data_made}
@@ -195,6 +196,24 @@ module _ (m : JobImages) (fuel : ℕ) (are : AreInfos (infos m)) (fits : Initial
         (onward w.events (event_of (event (suc i)) t w.events) w.events (itself w.events)) (own_front w (suc i) t)
         (lent_to w fit i t at) begun),
   )
+
+  -- ** and of its looks
+
+  looks_of : (w : Shared ℕ Bool ℕ Line) → Fit w → (thread : ℕ) (t : Thread Runs Line Event)
+      → at_number w.threads thread ≡ Some t
+      → let h = held_in (with_data w.shared t).phase in
+      MakesFresh l thread h w.events × ((more : List Event) → MakesFresh l thread (looked l thread w.events h) more)
+  looks_of w fit zero t at = cc
+  looks_of w fit (suc i) t at =
+      let accepted = (legal_next w fit (suc i) t).each in
+      both_make l (suc i) (next w (suc i) t) (known m (suc i) (next w (suc i) t) are fits accepted)
+      (each m (suc i) (next w (suc i) t) are fits accepted) (held_in (with_data w.shared t).phase) (lent_to w fit i t at)
+      w.events (onward w.events (event_of (event (suc i)) t w.events) w.events (itself w.events))
+
+pub jobs_fresh : NewJobBlocksAreFresh
+jobs_fresh m fuel lines order are fits thread t at =
+    looks_of m fuel are fits _ (order_fit m fuel are fits order (job_start (job_loads m) lines)
+    (start_fit m fuel are fits lines)) thread t at
 
 -- the law
 pub jobs_own : JobBlocksAreOwn

@@ -89,6 +89,9 @@ module _ (l : Loads ℕ) (thread : ℕ) (history : List Event) (known : ℕ → 
         (λ k d less. ((each seen front k d less).0, λ none wanted. none_of _ wanted)),
   )
 
+  pub look_keeps : (seen : List Event) (h : Runs) → IsFront seen history → Fits h → Fits (looked l thread seen h)
+  look_keeps seen h front fits = look_fits seen h front (had h fits)
+
   -- a block that was not there is not at a fixed distance
   no_block : (h : Runs) (y : Instance) → Fits h → numbered_instance l h.after.memory.seen y.number ≡ Some y
       → block_bytes y.number (owned_by h) ≡ None → (o : Option ℕ) → y.offset ≡ o → o ≡ None

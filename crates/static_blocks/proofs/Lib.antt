@@ -9,3 +9,4 @@ pub mod Filling
 pub mod Own
 pub mod Lent
 pub mod Jobs
+pub mod Fresh

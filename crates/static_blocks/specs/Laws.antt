@@ -1,5 +1,5 @@
 -- Static accesses reach the thread's own block.
-use Rattle.std.specs.Prelude.{◌≡◌, ◌≤◌, ◌-◌, ◌++◌, ℕ, true, List, length, replicate, Some, All, IfSome, unwrap_or}
+use Rattle.std.specs.Prelude.{◌≡◌, ◌≤◌, ◌-◌, ◌++◌, ℕ, true, List, length, replicate, Some, None, All, IfSome, unwrap_or}
 use Rattle.std.specs.List.{find}
 use Rattle.guest_machine.specs.Run.{run, state_after}
 use Rattle.image_file.specs.declared.part.TlsPart.{TlsPart}
@@ -43,6 +43,37 @@ LooksFillBlocks = (l : Loads ℕ) (thread : ℕ) (seen : List Event) (h : Runs) 
     → numbered_instance l seen x.number ≡ Some x → x.offset ≡ Some offset
     → block_bytes x.number (owned_by (looked l thread seen h))
     ≡ Some (unwrap_or (block_bytes x.number (owned_by h)) (l.block x))
+
+-- of an instance at a fixed distance that is live now, and was not where a thread looked last, a look makes a fresh
+-- block
+abbrev pub MakesFresh : Loads ℕ → ℕ → Runs → List Event → Type 0
+MakesFresh l thread h seen = (x : Instance) (offset : ℕ)
+    → numbered_instance l h.after.memory.seen x.number ≡ None
+    → numbered_instance l seen x.number ≡ Some x → x.offset ≡ Some offset
+    → block_bytes x.number (owned_by (looked l thread seen h)) ≡ Some (l.block x)
+
+-- so does the look of each turn of a thread by itself, at points of a legal history; and the one that follows at once,
+-- where the turn adds an event
+abbrev pub NewBlocksAreFresh : Type 0
+NewBlocksAreFresh = (m : JobImages) (fuel thread : ℕ) (own : List ThreadLine) (history : List Event)
+    (points : List (List Event)) → AreInfos (infos m) → InitialsFit m
+    → is_legal (start (job_loads m).infos (job_loads m).last_offset) history ≡ true
+    → let l = job_loads m in
+    let all = thread_turns l thread fuel in
+    AtFronts all (event_by l thread) history (first_of l thread own) points
+    → let h = held_in (turns all (first_of l thread own) points).phase in
+    (seen : List Event) → IsFront seen history
+    → MakesFresh l thread h seen × ((next : List Event) → MakesFresh l thread (looked l thread seen h) next)
+
+-- so do those looks in any order of turns of a job's threads, with the data in hand that the turn before left
+abbrev pub NewJobBlocksAreFresh : Type 0
+NewJobBlocksAreFresh = (m : JobImages) (fuel : ℕ) (lines : List (List ThreadLine)) (order : List ℕ)
+    → AreInfos (infos m) → InitialsFit m
+    → let l = job_loads m in
+    let w = shared_order (λ i. thread_turns l i fuel) (λ i. event_by l i) order (job_start l lines) in
+    (thread : ℕ) (t : Thread Runs Line Event) → at_number w.threads thread ≡ Some t
+    → let h = held_in (with_data w.shared t).phase in
+    MakesFresh l thread h w.events × ((next : List Event) → MakesFresh l thread (looked l thread w.events h) next)
 
 -- after any turns of a thread by itself, at points of a legal history, it has its own block of each such instance; and
 -- so it has after any number of steps in the midst of the next turn

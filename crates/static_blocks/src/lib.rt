@@ -17,7 +17,9 @@
 //! ([`laws::job_blocks_are_own`]; `specs/Blocks`, `HasBlock`). It is found under its instance's number and begins where the
 //! instance's offset says; it is as long as a fresh one; what is read at its place are its bytes; a store there is allowed,
 //! and goes into them. A look leaves a block with what stands in it, and where there was none makes a fresh one
-//! ([`laws::looks_fill_blocks`]), which is the initial image and zeros ([`laws::fresh_blocks_are_filled`]).
+//! ([`laws::looks_fill_blocks`]), which is the initial image and zeros ([`laws::fresh_blocks_are_filled`]). A thread holds
+//! no block of what was not live where it looked last, so its first look at an instance makes a fresh one, in any order of
+//! turns ([`laws::new_job_blocks_are_fresh`]) and by itself ([`laws::new_blocks_are_fresh`]).
 //!
 //! Code makes its accesses within turns. So the law speaks of the state between two turns, and of each that comes after a
 //! turn's look and any number of steps (`steps_of`, of `shared_data`, says where these begin), with the data in hand that the
