@@ -6,7 +6,8 @@
 //! loader chose, the linked images must compute the same. [`linked_jobs_print`] says that they do, of every job whose
 //! images link, in every order of turns: the machine's events and lines, thread by thread, are the meaning's.
 //! [`linked_threads_print`] says it of one thread by itself, whatever the others do, at any points of a legal history at
-//! which its turns look.
+//! which its turns look; and [`transcripts_tell_their_threads`] of a transcript's lines: where threads share no data, what
+//! a thread printed is what its lines mean at the points that it printed, if that is clean.
 //!
 //! Between the two lies [`links_are_tied`]: what a loader leaves of linked images is tied to what their objects mean
 //! (`tied_meaning`, `AreTied`), at each time of a job.
