@@ -4,6 +4,8 @@ pub mod Clashes
 pub mod Entries
 pub mod Found
 pub mod Indexed
+pub mod Literals
+pub mod Nearby
 pub mod OneForm
 pub mod Opened
 pub mod OwnSites

@@ -51,24 +51,25 @@ module _ (reach : Reach) (xs : List Relocation) (n : ℕ) (spans : List Span) (a
 
 -- ** how they are put in order
 
--- the first n are
-abbrev pub RiseTo : List Span → ℕ → Type 0
-RiseTo spans n = (i j : ℕ) (d : Span) → i ≤ j → j < n → j < length spans → order_of (get_or spans i d) ≤ order_of (get_or spans j d)
+-- the first n are, by a key
+abbrev pub RiseTo : (X : Type 0) → (X → ℕ) → List X → ℕ → Type 0
+RiseTo X key xs n = (i j : ℕ) (d : X) → i ≤ j → j < n → j < length xs → key (get_or xs i d) ≤ key (get_or xs j d)
 
 before_or_at : (i n : ℕ) → i ≤ n → (i ≡ n) ⊎ (i + 1 ≤ n)
 before_or_at i n h = grind arith
 
-pub rise_more : (spans : List Span) (n : ℕ) (d : Span) → RiseTo spans n → 1 ≤ n → order_of (get_or spans (n - 1) d) ≤ order_of (get_or spans n d) → RiseTo spans (n + 1)
-rise_more spans n d rise some next i j e less below inside =
+pub rise_more : {X : Type 0} (key : X → ℕ) (xs : List X) (n : ℕ) (d : X) → RiseTo X key xs n → 1 ≤ n
+    → key (get_or xs (n - 1) d) ≤ key (get_or xs n d) → RiseTo X key xs (n + 1)
+rise_more key xs n d rise some next i j e less below inside =
     elim (below_or_at j n below) [
       | inl earlier ↦ rise i j e less earlier inside
       | inr at ↦ elim (before_or_at i j less) [
-        | inl same ↦ let P : ℕ → Type 0 = λ m. order_of (get_or spans i e) ≤ order_of (get_or spans m e) in subst P same (omega arith)
+        | inl same ↦ let P : ℕ → Type 0 = λ m. key (get_or xs i e) ≤ key (get_or xs m e) in subst P same (omega arith)
         | inr lower ↦
-            let P : ℕ → Type 0 = λ m. order_of (get_or spans i e) ≤ order_of (get_or spans m e) in
+            let P : ℕ → Type 0 = λ m. key (get_or xs i e) ≤ key (get_or xs m e) in
             let before = rise i (n - 1) e (omega arith) (omega arith) (omega arith) in
-            let here = ap order_of (get_or_default spans n d e (omega arith)) in
-            let there = ap order_of (get_or_default spans (n - 1) d e (omega arith)) in
+            let here = ap key (get_or_default xs n d e (omega arith)) in
+            let there = ap key (get_or_default xs (n - 1) d e (omega arith)) in
             subst P (sym at) (omega (arith, before, next, here, there))
       ]
     ]

@@ -1,8 +1,8 @@
 -- What matching keeps of the code of one section: its relocations by their places, and which symbols are
 -- `__tls_get_addr`.
 use Rattle.std.specs.Prelude.{◌≡◌, ◌+◌, ◌*◌, ◌<◌, ◌≤◌, ◌^◌, ℕ, Bool, false, List, length, Option, Some, None}
-use Rattle.std.specs.Prelude.{IsTrue, IfSome, slice_index_or}
-use Rattle.std.specs.List.{All, AllWithin, Contains}
+use Rattle.std.specs.Prelude.{IsTrue, IfSome, slice_index, slice_index_or}
+use Rattle.std.specs.List.{All, AllPairs, AllWithin, Contains, slice_get}
 use Rattle.std.specs.List.Sorted.{IsNonDecreasingBy}
 use Rattle.elf_records.specs.declared.relocation.RelocationKind.{RelocationKind}
 use Rattle.elf_records.specs.declared.relocation.RelocationKind.TheVariants.{TlsDescCall}
@@ -12,10 +12,14 @@ use Rattle.sequence_match.specs.declared.index.Span.{Span}
 use Rattle.sequence_match.specs.declared.index.Reach.{Reach}
 use Rattle.sequence_match.specs.declared.index.Reach.TheVariants.{OfField, OfCall}
 use Rattle.sequence_match.specs.declared.matching.Code.{Code}
+use Rattle.sequence_match.specs.declared.matching.Indexes.{Indexes}
+use Rattle.sequence_match.specs.declared.matching.Opening.{Opening}
+use Rattle.sequence_forms.specs.declared.forms.Cell.{Cell}
 use Rattle.sequence_forms.specs.declared.forms.Form.{Form}
+use Rattle.sequence_forms.specs.declared.forms.Second.{Second}
 use Rattle.sequence_forms.specs.declared.places.Site.{Site}
-use Rattle.sequence_forms.specs.Forms.{row}
-use Rattle.sequence_match.specs.Sites.{Covers, HasSecond, IsEntry, IsSecond, IsSiteOf, IsSpelled}
+use Rattle.sequence_forms.specs.Forms.{Sequence, fits, row}
+use Rattle.sequence_match.specs.Sites.{Covers, HasSecond, IsBare, IsEntry, IsSecond, IsSiteOf, IsSpelled}
 
 -- how many bytes a relocation of this type reaches: those of its field, or the place of a descriptor's call
 abbrev pub call_width : RelocationKind → ℕ
@@ -88,16 +92,48 @@ abbrev pub AreApart : List Relocation → Type 0
 AreApart xs =
     (e f k : ℕ) (x y : Relocation) → IsEntry xs e x → IsEntry xs f y → e < f → Covers x k → Covers y k → ⊥
 
+-- the relocations rise by offset, no two at one place
+abbrev pub Rise : List Relocation → Type 0
+Rise xs = AllPairs (λ x y. x.offset < y.offset) xs
+
+-- the relocations rise as they stand, or they have indexes by place
+abbrev pub AreOrdered : List Relocation → Option Indexes → Type 0
+AreOrdered xs None = Rise xs
+AreOrdered xs (Some indexes) = IsIndex OfField xs indexes.fields.now × IsIndex OfCall xs indexes.calls.now
+
 -- symbol n is told to be `__tls_get_addr`
 abbrev pub Names : List Bool → ℕ → Type 0
 Names getters n = IsTrue (slice_index_or getters n false)
 
--- the spans are those of the code's relocations
+-- the code's relocations can be found by their places
 pub record IsReady (code : Code) : Type 0 where
-  pub fields_are : IsIndex OfField code.relocations.now code.fields.now
-  pub calls_are : IsIndex OfCall code.relocations.now code.calls.now
+  pub ordered : AreOrdered code.relocations.now code.indexes
   pub apart : AreApart code.relocations.now
   pub few : length code.relocations.now ≤ 2 ^ 20
+
+-- no relocation changes a byte from one place to another
+abbrev pub AreBare : List Relocation → ℕ → ℕ → Type 0
+AreBare xs from to = (k : ℕ) → from ≤ k → k < to → IsBare xs k
+
+-- the relocation changes a byte from one place to another
+abbrev pub CoversIn : Relocation → ℕ → ℕ → Type 0
+CoversIn x from to = (k : ℕ) × (from ≤ k) × (k < to) × Covers x k
+
+-- the bytes from start on are such as the cells allow
+abbrev pub AreBytes : List ℕ → List Cell → ℕ → Type 0
+AreBytes code cells start =
+    (k : ℕ) (cell : Cell) → slice_get cells k ≡ Some cell → IsTrue (fits cell (slice_index code (start + k)))
+
+-- the bytes that a row spells behind its first field: up to its second one, if it has one
+abbrev pub behind_at : Sequence → ℕ
+behind_at sequence = sequence.first_at + field_width sequence.first
+
+abbrev pub second_or : Option Second → ℕ → ℕ
+second_or None n = n
+second_or (Some second) n = second.at
+
+abbrev pub behind_end : Sequence → ℕ
+behind_end sequence = second_or sequence.second (length sequence.cells)
 
 -- x, relocation number e, is the first of its type at its place
 abbrev pub IsEarliest : List Relocation → ℕ → Relocation → Type 0
@@ -111,6 +147,10 @@ IsSiteIn code e site = IsSiteOf code.bytes.now code.relocations.now (Names code.
 -- it is of this form, and says where it is
 abbrev pub IsFound : Code → Form → ℕ → Site → Type 0
 IsFound code form e site = (site.form ≡ form) × (site.section ≡ code.section) × IsSiteIn code e site
+
+-- a relocation opens a sequence, which says where it is
+abbrev pub IsOpening : Code → Opening → Type 0
+IsOpening code opening = IsFound code opening.site.form opening.entry opening.site
 
 -- relocation number e is the first of no sequence of this form
 abbrev pub HasNoSiteOf : Code → Form → ℕ → Type 0

@@ -51,6 +51,10 @@ IsOf code site = (site.section ≡ code.section) × ((e : ℕ) × IsSiteIn code 
 abbrev pub IsLooseIn : Code → ℕ → Type 0
 IsLooseIn code e = IsLoose code.bytes.now code.relocations.now (Names code.getters.now) e
 
+-- it names `__tls_get_addr` outside a sequence
+abbrev pub IsStrayIn : Code → ℕ → Type 0
+IsStrayIn code e = IsStray code.bytes.now code.relocations.now (Names code.getters.now) e
+
 -- the least number at which P holds, where n is above one, or that there is none below n
 abbrev pub IsLeastBelow : (ℕ → Type 0) → ℕ → Option ℕ → Type 0
 IsLeastBelow P n None = (e : ℕ) → e < n → P e → ⊥

@@ -1,21 +1,24 @@
 //! Finding the sites of an object, or its first fault, in one walk over its sections. One whose relocations have nothing
 //! to do with sequences is passed over.
 
-ghost use Rattle.std.specs.Prelude.{◌≡◌, ◌↔◌, ◌+◌, ◌<◌, ◌≤◌, ◌^◌, ℕ, IsTrue, IfOk, IfErr, OnOk, length};
+ghost use Rattle.std.specs.Prelude.{◌≡◌, ◌↔◌, ◌+◌, ◌++◌, ◌<◌, ◌≤◌, ◌^◌, ℕ, IsTrue, IfOk, IfErr, IfSome, OnOk, length};
 ghost use Rattle.std.specs.List.{list_any};
 ghost use Rattle.std.specs.List.Sorted.{IsNonDecreasingBy, IsPermutation};
 ghost use Rattle.object_rules.specs.declared.fault.FaultKind.TheVariants.{Sequence, StrayCall};
 ghost use Rattle.object_rules.specs.declared.fault.ObjectFault.TheVariants.{At};
 ghost use Rattle.elf_object.specs.Faults.{Earlier, IsFirstAt, IsObject};
 ghost use Rattle.elf_object.specs.Lent.{relocations as relocations_in_file};
-ghost use Rattle.sequence_match.specs.Code.{IsReady, Names};
-ghost use Rattle.sequence_match.specs.Faults.{AreSites, IsFault, IsGetter, IsStray, Nowhere, StandsOf};
+ghost use Rattle.sequence_match.specs.Code.{AreOrdered, IsOpening, IsReady};
+ghost use Rattle.sequence_match.specs.Faults.{AreSites, IsFault, IsGetter, Nowhere, StandsOf};
 ghost use Rattle.sequence_match.specs.Faults.{code_of as bytes_of};
 ghost use Rattle.sequence_match.specs.Finding.{AreFindings, AreFindingsIn, AreGetters, AreSitesIn, IsFirstBelow, IsLeastBelow};
-ghost use Rattle.sequence_match.specs.Finding.{IsLooseIn, IsLower, IsSurvey, is_use, kind_of};
+ghost use Rattle.sequence_match.specs.Finding.{IsLooseIn, IsLower, IsStrayIn, IsSurvey, is_use, kind_of};
 
 use crate::index::{Reach, index};
-use crate::matching::{Code, is_loose, is_of_sequence, is_stray, names_getter, site_of};
+use crate::matching::{
+    Code, Indexes, Opening, is_loose, is_of_sequence, is_stray, names_getter, site_of,
+};
+use crate::near::rise;
 use elf_object::{FaultKind, Object, ObjectFault, Relocation, SectionClass, SymbolPlace};
 use sequence_forms::Site;
 use std::alloc::{AllocError, Global};
@@ -37,15 +40,6 @@ enum Asked {
 struct Spot {
     table: u32,
     entry: u32,
-}
-
-/// What the relocations of a section's code open.
-#[derive(Drop)]
-struct Openings {
-    /// The sequences, in the order of their first relocations.
-    sites: Vec<Site>,
-    /// The first relocation at which there is a `Loose`.
-    loose: Option<u32>,
 }
 
 /// What is found in a section.
@@ -140,7 +134,9 @@ fn relocations_of(
     ensures relocations { IfOk result (λ found. found.items ≡ relocations_in_file object.now section) }
     ensures few { IfOk result (λ found. length found.items ≤ 2 ^ 20) }
 {
-    object.relocs(section).collect(alloc)
+    let mut relocations = Vec::with_capacity(alloc, object.relocation_count(section) as usize)?;
+    relocations.extend(object.relocs(section))?;
+    Ok(relocations)
 }
 
 impl Asked {
@@ -152,19 +148,6 @@ impl Asked {
             Asked::Stray => FaultKind::StrayCall,
         }
     }
-}
-
-/// The first relocation at which there is a `Stray`.
-fn first_stray(code: &Code) -> Option<u32>
-    requires { IsReady code.now }
-    ensures { IsFirstAt (IsStray code.now.bytes.now code.now.relocations.now (Names code.now.getters.now)) result }
-{
-    for entry in 0..code.relocations.len() as u32 {
-        if is_stray(code, entry) {
-            return Some(entry);
-        }
-    }
-    None
 }
 
 /// The first relocation up to this one at which there is a `Loose`. `loose` is that of the relocations before it.
@@ -181,29 +164,71 @@ fn loose_up_to(code: &Code, entry: u32, loose: Option<u32>) -> Option<u32>
     }
 }
 
-/// What the relocations of a section's code open, in their order. Each is matched once: none that opens a sequence is
-/// loose.
-fn openings_in(alloc: Global, code: &Code) -> Result<Openings, AllocError>
+/// The first relocation up to this one at which there is a `Stray`. `stray` is that of the relocations before it, and
+/// `known` the last of them that opens a sequence.
+fn stray_up_to(code: &Code, entry: u32, known: Option<Opening>, stray: Option<u32>) -> Option<u32>
+    requires ready { IsReady code.now }
+    requires entry { entry < length code.now.relocations.now }
+    requires known { IfSome known (IsOpening code.now) }
+    requires before { IsLeastBelow (IsStrayIn code.now) entry stray }
+    ensures { IsLeastBelow (IsStrayIn code.now) (entry + 1) result }
+{
+    match stray {
+        Some(first) => Some(first),
+        None if is_stray(code, entry, known) => Some(entry),
+        None => None,
+    }
+}
+
+/// What is found in code, its sequences in the order of their first relocations. Each relocation is matched once: none
+/// that opens a sequence is loose, and the second one of a sequence mostly stands next to the first.
+fn openings_in(alloc: Global, code: &Code) -> Result<Findings, AllocError>
     requires { IsReady code.now }
     ensures sites { IfOk result (λ openings. AreSitesIn code.now openings.sites.items) }
     ensures loose { IfOk result (λ openings. IsFirstAt (IsLooseIn code.now) openings.loose) }
+    ensures stray { IfOk result (λ openings. IsFirstAt (IsStrayIn code.now) openings.stray) }
 {
-    let mut sites = Vec::new(alloc);
+    let mut sites = Vec::with_capacity(alloc, code.relocations.len())?;
     let mut loose = None;
+    let mut stray = None;
+    let mut known = None;
     for entry in 0..code.relocations.len() as u32 {
+        stray = stray_up_to(code, entry, known, stray);
         match site_of(code, entry) {
-            Some(site) => sites.push(site)?,
+            Some(site) => {
+                sites.push(site)?;
+                known = Some(Opening { entry, site });
+            }
             None => loose = loose_up_to(code, entry, loose),
         }
     }
-    Ok(Openings { sites, loose })
+    Ok(Findings {
+        sites,
+        loose,
+        stray,
+    })
 }
 
-/// Sites, rising by their starts.
+/// Whether sites rise by their starts.
+fn are_rising(sites: &[Site]) -> bool
+    ensures { IsTrue result ↔ IsNonDecreasingBy (λ site. site.start) sites.now }
+{
+    for index in 1..sites.len() {
+        if sites[index].start < sites[index - 1].start {
+            return false;
+        }
+    }
+    true
+}
+
+/// Sites, rising by their starts. Those of a compiler's relocations do already.
 fn rising(mut sites: Vec<Site>) -> Result<Vec<Site>, AllocError>
     ensures permutation { IfOk result (λ sorted. IsPermutation sites.items sorted.items) }
     ensures rising { IfOk result (λ sorted. IsNonDecreasingBy (λ site. site.start) sorted.items) }
 {
+    if are_rising(&sites) {
+        return Ok(sites);
+    }
     sites.sort_by_key(|site| site.start)?;
     Ok(sites)
 }
@@ -213,19 +238,46 @@ fn find_in_code(alloc: Global, code: &Code) -> Result<Findings, AllocError>
     requires { IsReady code.now }
     ensures { IfOk result (AreFindingsIn code.now) }
 {
-    let Openings {
+    let Findings {
         sites: unsorted,
         loose,
+        stray,
     } = openings_in(alloc, code)?;
     let sites = rising(unsorted)?;
     Ok(Findings {
         sites,
         loose,
-        stray: first_stray(code),
+        stray,
     })
 }
 
-/// What is found in a section, by all of its relocations.
+/// What is found in a section, by all of its relocations, which rise as they stand or have indexes.
+fn search_with(
+    alloc: Global,
+    object: &Object,
+    getters: &[bool],
+    section: u32,
+    relocations: &[Relocation],
+    indexes: Option<Indexes>,
+) -> Result<Findings, AllocError>
+    requires getters { AreGetters object.now getters.now }
+    requires relocations { relocations.now ≡ relocations_in_file object.now section }
+    requires few { length relocations.now ≤ 2 ^ 20 }
+    requires ordered { AreOrdered relocations.now indexes }
+    ensures { IfOk result (AreFindings object.now section) }
+{
+    let code = Code {
+        section,
+        bytes: code_of(object, section),
+        relocations,
+        getters,
+        indexes,
+    };
+    let findings = find_in_code(alloc, &code)?;
+    Ok(findings)
+}
+
+/// What is found in a section, by all of its relocations. They are put in order only where they do not rise as they stand.
 fn search_section(
     alloc: Global,
     object: &Object,
@@ -237,18 +289,16 @@ fn search_section(
 {
     let found = relocations_of(alloc, object, section)?;
     let relocations = found.as_slice();
+    if rise(relocations) {
+        return search_with(alloc, object, getters, section, relocations, None);
+    }
     let fields = index(alloc, Reach::OfField, relocations)?;
     let calls = index(alloc, Reach::OfCall, relocations)?;
-    let code = Code {
-        section,
-        bytes: code_of(object, section),
-        relocations,
-        getters,
+    let indexes = Indexes {
         fields: fields.as_slice(),
         calls: calls.as_slice(),
     };
-    let findings = find_in_code(alloc, &code)?;
-    Ok(findings)
+    search_with(alloc, object, getters, section, relocations, Some(indexes))
 }
 
 /// What is found in a section. Only one with a use is searched.
@@ -323,6 +373,17 @@ fn first_with(
     }
 }
 
+/// Sites, and others behind them.
+fn joined(mut sites: Vec<Site>, others: Vec<Site>) -> Result<Vec<Site>, AllocError>
+    ensures { IfOk result (λ all. all.items ≡ sites.items ++ others.items) }
+{
+    if sites.len() == 0 {
+        return Ok(others);
+    }
+    sites.extend_from_slice(&others)?;
+    Ok(sites)
+}
+
 /// Goes through the sections.
 fn find_all(alloc: Global, object: &Object, getters: &[bool]) -> Result<Survey, AllocError>
     requires { AreGetters object.now getters.now }
@@ -333,7 +394,7 @@ fn find_all(alloc: Global, object: &Object, getters: &[bool]) -> Result<Survey, 
     let mut stray = None;
     for section in 1..object.section_count() {
         let found = find_in_section(alloc, object, getters, section)?;
-        sites.extend_from_slice(&found.sites)?;
+        sites = joined(sites, found.sites)?;
         loose = first_with(object, section, Asked::Loose, loose, found.loose);
         stray = first_with(object, section, Asked::Stray, stray, found.stray);
     }

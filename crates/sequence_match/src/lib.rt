@@ -22,13 +22,15 @@
 //! `lea` before it, is `StrayCall`.
 //!
 //! Most sections have nothing to do with it, so the search asks first whether a relocation of a section has a type of
-//! sequences or names `__tls_get_addr`; a section with none has no site and no fault. In one with such a use each
-//! relocation of those types is matched with the one or two rows that it can open, and each call of `__tls_get_addr` is
-//! looked for in the sequence that it would end. Which field covers a byte is asked of an index: the fields by their
-//! places, in which they share no byte, so that the last one that begins at the byte or before decides. In the example
-//! the fields are `4: 4 bytes` and `12: 4 bytes`; byte 8 is bare since the last field that begins there or before, that
-//! at 4, ends at 8. Where the file has the relocations in the order of their places, as compilers write them, nothing is
-//! sorted, and a guess finds most fields without a search.
+//! sequences or names `__tls_get_addr`; a section with none has no site and no fault. The relocations of one with such a
+//! use are gone through once: each of those types is matched with the one or two rows that it can open, and each call of
+//! `__tls_get_addr` is looked for at the end of the sequence that was found last, then in every one that it would end.
+//!
+//! A relocation that opens a sequence is matched with the bytes around it, and then with its neighbours. Fields share no
+//! byte, so where relocations rise by offset, as compilers write them, those next to it tell which bytes are bare and
+//! which relocation is the second: in the example the one before the first has to end at 0 or before, and the next one
+//! with a field has to stand at 12. Relocations that do not rise get two indexes by place, of fields and of calls without
+//! a field, in which each of them stands at most once.
 //!
 //! The forms are those of "ELF Handling For Thread-Local Storage" (Drepper) and of the psABI ("Thread-Local Storage").
 #![tactic(auto)]
@@ -38,6 +40,7 @@ mod first;
 mod index;
 pub mod laws;
 mod matching;
+mod near;
 
 pub use finding::sites;
 pub use first::first_of;

@@ -1,18 +1,28 @@
 //! Matching one relocation, and the bytes around it, with the table.
 
 ghost use Rattle.std.specs.Prelude.{◌≡◌, ◌↔◌, ◌+◌, ◌<◌, ◌≤◌, ◌^◌, ℕ, IsTrue, IfSome, MatchOption, length, Some};
-ghost use Rattle.sequence_match.specs.Code.{HasNoSiteOf, IsAt, IsEarliest, IsFound, IsNoFirst, IsReady, IsSecondIn};
-ghost use Rattle.sequence_match.specs.Code.{Names, ReachesAt};
+ghost use Rattle.sequence_match.specs.Code.{AreBare, AreBytes, HasNoSiteOf, IsAt, IsEarliest, IsFound, IsIndex, IsNoFirst};
+ghost use Rattle.sequence_match.specs.Code.{IsOpening, IsReady, IsSecondIn, Names, ReachesAt, behind_at, behind_end};
 ghost use Rattle.elf_object.specs.Faults.{IsFirstAt};
 ghost use Rattle.sequence_match.specs.declared.index.Reach.TheVariants.{OfField, OfCall};
 ghost use Rattle.sequence_forms.specs.declared.forms.Form.{Form};
-ghost use Rattle.sequence_forms.specs.Forms.{IsCallKind, register, row};
-ghost use Rattle.sequence_match.specs.Sites.{Calls, HasSecond, IsEntry, IsSecond, IsSpelled, StandsIn};
+ghost use Rattle.sequence_forms.specs.Forms.{IsCallKind, IsRow, register, row};
+ghost use Rattle.sequence_match.specs.Sites.{Calls, HasSecond, IsEntry, IsSecond, IsSpelled};
 ghost use Rattle.sequence_match.specs.Faults.{IsLoose, IsOfSequence, IsStray};
 
-use crate::index::{Span, count_below, first_from, last_below};
+use crate::index::{Span, first_from, last_below};
+use crate::near::{field_near, is_bare_near};
 use elf_object::{Relocation, RelocationKind};
-use sequence_forms::{Call, Cell, Form, Second, Site, TO_END};
+use sequence_forms::{Call, Cell, Form, Row, Second, Site, TO_END};
+
+/// The relocations of a section by their places, where the file has them in another order.
+#[derive(Clone, Copy)]
+pub struct Indexes<'a> {
+    /// Their fields, rising.
+    pub fields: &'a [Span],
+    /// The calls through descriptors, likewise.
+    pub calls: &'a [Span],
+}
 
 /// The code of one section, and its relocations.
 #[derive(Clone, Copy)]
@@ -23,77 +33,139 @@ pub struct Code<'a> {
     pub relocations: &'a [Relocation],
     /// Of each symbol whether it is the undefined `__tls_get_addr`.
     pub getters: &'a [bool],
-    /// The fields of the relocations, rising.
-    pub fields: &'a [Span],
-    /// The calls through descriptors, likewise.
-    pub calls: &'a [Span],
+    /// None where the relocations rise by offset as they stand, so that neighbours tell what an index would.
+    pub indexes: Option<Indexes<'a>>,
+}
+
+/// A relocation, and the sequence that it opens.
+#[derive(Clone, Copy)]
+pub struct Opening {
+    pub entry: u32,
+    pub site: Site,
 }
 
 impl Code<'_> {
-    /// The relocation whose field covers a byte. `guess` is a guess of how many fields begin at the byte or before.
-    fn field_over(&self, place: usize, guess: usize) -> Option<u32>
+    /// The relocation whose field covers a byte, by the index of fields. `guess` is a guess of how many fields begin at
+    /// the byte or before.
+    fn field_indexed(&self, fields: &[Span], place: u64, guess: u32) -> Option<u32>
         requires ready { IsReady self.now }
+        requires index { IsIndex OfField self.now.relocations.now fields.now }
         requires inside { place < length self.now.bytes.now }
         ensures { IsFirstAt (ReachesAt OfField self.now.relocations.now place) result }
     {
         let _length = self.bytes.len();
-        let Some(last) = last_below(self.fields, place as u64 + 1, guess) else {
+        let Some(last) = last_below(fields, place + 1, guess as usize) else {
             return None;
         };
-        if place as u64 - last.offset < u64::from(last.width) {
+        if place - last.offset < u64::from(last.width) {
             Some(last.entry)
         } else {
             None
         }
     }
 
-    /// The first call through a descriptor that stands at a place.
-    fn call_at(&self, place: u64) -> Option<u32>
+    /// The relocation whose field covers a byte. It is looked for near relocation number `near`.
+    fn field_over(&self, place: u64, near: u32) -> Option<u32>
         requires ready { IsReady self.now }
+        requires inside { place < length self.now.bytes.now }
+        ensures { IsFirstAt (ReachesAt OfField self.now.relocations.now place) result }
+    {
+        match self.indexes {
+            Some(indexes) => self.field_indexed(indexes.fields, place, near),
+            None => field_near(self.relocations, place, near),
+        }
+    }
+
+    /// The first call through a descriptor that stands at a place, by the index of calls.
+    fn call_at(&self, calls: &[Span], place: u64) -> Option<u32>
+        requires ready { IsReady self.now }
+        requires index { IsIndex OfCall self.now.relocations.now calls.now }
         ensures { IsFirstAt (ReachesAt OfCall self.now.relocations.now place) result }
     {
-        match first_from(self.calls, place) {
+        match first_from(calls, place) {
             Some(first) if first.offset == place => Some(first.entry),
             _ => None,
         }
     }
 }
 
-/// Whether a byte of the code is one that a cell allows, and no relocation changes it where the cell is literal.
-/// `guess` is as for `field_over`.
-fn stands_in(code: &Code, cell: Cell, place: usize, guess: usize) -> bool
+/// Whether no field covers a byte from one place to another, a few bytes on, by an index. A field has four bytes or more, so
+/// the last byte and the first one tell.
+fn are_ends_bare(code: &Code, from: u64, to: u64, near: u32) -> bool
     requires ready { IsReady code.now }
-    requires inside { place < length code.now.bytes.now }
-    ensures { IsTrue result ↔ StandsIn code.now.bytes.now code.now.relocations.now cell place }
+    requires inside { to ≤ length code.now.bytes.now }
+    requires few { to ≤ from + 5 }
+    requires some { from < to }
+    ensures { IsTrue result ↔ AreBare code.now.relocations.now from to }
 {
-    if !cell.fits(code.bytes[place]) {
-        return false;
+    code.field_over(to - 1, near).is_none() && code.field_over(from, near).is_none()
+}
+
+/// Whether no field covers a byte from one place to another, a few bytes on. `near` is as for `field_over`.
+fn is_bare(code: &Code, from: u64, to: u64, near: u32) -> bool
+    requires ready { IsReady code.now }
+    requires inside { to ≤ length code.now.bytes.now }
+    requires few { to ≤ from + 5 }
+    ensures { IsTrue result ↔ AreBare code.now.relocations.now from to }
+{
+    if to <= from {
+        return true;
     }
-    match cell {
-        Cell::Field => true,
-        _ => match code.field_over(place, guess) {
-            Some(_) => false,
-            None => true,
-        },
+    match code.indexes {
+        Some(_) => are_ends_bare(code, from, to, near),
+        None => is_bare_near(code.relocations, from, to, near),
     }
 }
 
-/// Whether the cells stand in the code from `start` on. `guess` is as for `field_over`.
-fn is_spelled(code: &Code, cells: &[Cell], start: u64, guess: usize) -> bool
-    requires ready { IsReady code.now }
-    requires few { length cells.now ≤ 16 }
-    ensures { IsTrue result ↔ IsSpelled code.now.bytes.now code.now.relocations.now cells.now start }
+/// Whether the bytes from `start` on are such as cells allow.
+fn are_bytes(bytes: &[u8], cells: &[Cell], start: usize) -> bool
+    requires inside { start + length cells.now ≤ length bytes.now }
+    ensures { IsTrue result ↔ AreBytes bytes.now cells.now start }
 {
-    let len = code.bytes.len() as u64;
-    if len < start || len - start < cells.len() as u64 {
-        return false;
-    }
     for (index, cell) in cells.iter().enumerate() {
-        if !stands_in(code, *cell, start as usize + index, guess) {
+        if !cell.fits(bytes[start + index]) {
             return false;
         }
     }
     true
+}
+
+/// Where the bytes behind the first field of a row end: at its second field, if it has one.
+fn end_behind(form: Form, row: &Row) -> u64
+    requires { IsRow (row form) row.now }
+    ensures { result ≡ behind_end (row form) }
+{
+    match row.second {
+        Some(second) => second.at,
+        None => row.cells.len() as u64,
+    }
+}
+
+/// Whether no field covers a byte that a row spells before its first field, nor one behind it.
+#[tactic(auto, using(crate::proofs::Literals::ranges_short))]
+fn is_uncovered(code: &Code, form: Form, row: &Row, start: u64, near: u32) -> bool
+    requires ready { IsReady code.now }
+    requires row { IsRow (row form) row.now }
+    requires inside { start + length (row form).cells ≤ length code.now.bytes.now }
+    ensures { IsTrue result ↔ (AreBare code.now.relocations.now start (start + (row form).first_at)
+        × AreBare code.now.relocations.now (start + behind_at (row form)) (start + behind_end (row form))) }
+{
+    let first = start + row.first_at;
+    let end = start + end_behind(form, row);
+    is_bare(code, start, first, near) && is_bare(code, first + row.first.width(), end, near)
+}
+
+/// Whether the cells of a form's row stand in the code from `start` on. Its relocations are near number `near`.
+fn is_spelled(code: &Code, form: Form, row: &Row, start: u64, near: u32) -> bool
+    requires ready { IsReady code.now }
+    requires row { IsRow (row form) row.now }
+    ensures { IsTrue result ↔ IsSpelled code.now.bytes.now code.now.relocations.now (row form).cells start }
+{
+    let len = code.bytes.len() as u64;
+    if len < start || len - start < row.cells.len() as u64 {
+        return false;
+    }
+    are_bytes(code.bytes, row.cells, start as usize) && is_uncovered(code, form, row, start, near)
 }
 
 /// Whether a symbol is the undefined `__tls_get_addr`.
@@ -134,29 +206,28 @@ fn calls(second: Second, getters: &[bool], start: u64, relocation: &Relocation) 
         && names_getter(getters, relocation.symbol)
 }
 
-/// Whether a relocation stands at the place of a second one, and is as it is to be. `guess` is as for `field_over`.
-fn has_call(code: &Code, second: Second, start: u64, guess: usize) -> bool
+/// Whether a relocation stands at the place of a second one, and is as it is to be. `near` is as for `field_over`.
+fn has_call(code: &Code, second: Second, start: u64, near: u32) -> bool
     requires ready { IsReady code.now }
     requires inside { start + second.at < length code.now.bytes.now }
     ensures { IsTrue result
         ↔ ((f : ℕ) × IsSecond (Some second) (Names code.now.getters.now) code.now.relocations.now start f) }
 {
-    let place = (start + second.at) as usize;
-    match code.field_over(place, guess) {
+    match code.field_over(start + second.at, near) {
         Some(entry) => calls(second, code.getters, start, relocation_at(code, entry)),
         None => false,
     }
 }
 
-/// Whether the second relocation of a sequence stands at its place, where the sequence has two. `guess` is as for
+/// Whether the second relocation of a sequence stands at its place, where the sequence has two. `near` is as for
 /// `field_over`.
-fn has_second(code: &Code, second: Option<Second>, start: u64, guess: usize) -> bool
+fn has_second(code: &Code, second: Option<Second>, start: u64, near: u32) -> bool
     requires ready { IsReady code.now }
     requires inside { IfSome second (λ second. start + second.at < length code.now.bytes.now) }
     ensures { IsTrue result ↔ HasSecond second (Names code.now.getters.now) code.now.relocations.now start }
 {
     match second {
-        Some(second) => has_call(code, second, start, guess),
+        Some(second) => has_call(code, second, start, near),
         None => true,
     }
 }
@@ -169,9 +240,12 @@ fn is_earliest(code: &Code, entry: u32, relocation: &Relocation) -> bool
     requires kind { IsOfSequence relocation.now.kind }
     ensures { IsTrue result ↔ IsEarliest code.now.relocations.now entry relocation.now }
 {
+    let Some(indexes) = code.indexes else {
+        return true;
+    };
     match relocation.kind {
         RelocationKind::TlsDescCall => {
-            match code.call_at(relocation.offset) {
+            match code.call_at(indexes.calls, relocation.offset) {
                 Some(first) => first == entry,
                 None => false,
             }
@@ -207,7 +281,6 @@ fn takes(wanted: Option<i64>, addend: i64) -> bool
 
 /// Whether a sequence of this form starts here, with relocation number `entry`, which stands at the place and has the
 /// form's type, as its first.
-#[tactic(auto, using(crate::proofs::Rows::row_short))]
 fn is_site_at(code: &Code, form: Form, entry: u32, first: &Relocation, start: u64) -> bool
     requires ready { IsReady code.now }
     requires entry { IsEntry code.now.relocations.now entry first.now }
@@ -216,12 +289,11 @@ fn is_site_at(code: &Code, form: Form, entry: u32, first: &Relocation, start: u6
     ensures { IsTrue result ↔ IsAt code.now form entry first.now start }
 {
     let row = form.row();
-    let before = count_below(code.fields, start, entry as usize);
-    if !is_spelled(code, row.cells, start, before) {
+    if !is_spelled(code, form, &row, start, entry) {
         return false;
     }
     takes(row.addend, first.addend)
-        && has_second(code, row.second, start, before.saturating_add(1))
+        && has_second(code, row.second, start, entry)
         && is_earliest(code, entry, first)
 }
 
@@ -346,7 +418,7 @@ fn is_second_at(code: &Code, form: Form, entry: u32, start: u64, place: u64) -> 
     requires inside { place < length code.now.bytes.now }
     ensures { IsTrue result ↔ IsSecondIn code.now form entry }
 {
-    let Some(first) = code.field_over(place as usize, entry as usize) else {
+    let Some(first) = code.field_over(place, entry) else {
         return false;
     };
     match site_of(code, first) {
@@ -405,9 +477,44 @@ fn is_second(code: &Code, entry: u32) -> bool
     is_second_of_form(code, Form::LdInd, entry)
 }
 
-/// Whether a relocation names the undefined `__tls_get_addr`, and is the second one of no sequence.
-pub fn is_stray(code: &Code, entry: u32) -> bool
+/// Whether a relocation is the second one of a sequence that is known.
+fn is_second_of(code: &Code, entry: u32, opening: &Opening) -> bool
     requires ready { IsReady code.now }
+    requires entry { entry < length code.now.relocations.now }
+    requires opening { IsOpening code.now opening.now }
+    ensures { IsTrue result
+        ↔ IsSecond (row opening.now.site.form).second (Names code.now.getters.now) code.now.relocations.now
+        opening.now.site.start entry }
+{
+    let Some(second) = opening.site.form.row().second else {
+        return false;
+    };
+    calls(
+        second,
+        code.getters,
+        opening.site.start,
+        relocation_at(code, entry),
+    )
+}
+
+/// Whether a relocation is the second one of a sequence. `known` is a sequence, which is asked first.
+fn is_second_by(code: &Code, entry: u32, known: Option<Opening>) -> bool
+    requires ready { IsReady code.now }
+    requires entry { entry < length code.now.relocations.now }
+    requires known { IfSome known (IsOpening code.now) }
+    ensures { IsTrue result ↔ ((form : Form) × IsSecondIn code.now form entry) }
+{
+    match known {
+        Some(opening) if is_second_of(code, entry, &opening) => true,
+        _ => is_second(code, entry),
+    }
+}
+
+/// Whether a relocation names the undefined `__tls_get_addr`, and is the second one of no sequence. `known` is a sequence
+/// that was found already, best the one that opens before it.
+pub fn is_stray(code: &Code, entry: u32, known: Option<Opening>) -> bool
+    requires ready { IsReady code.now }
+    requires known { IfSome known (IsOpening code.now) }
     requires entry { entry < length code.now.relocations.now }
     ensures { IsTrue result
         ↔ IsStray code.now.bytes.now code.now.relocations.now (Names code.now.getters.now) entry }
@@ -419,7 +526,7 @@ pub fn is_stray(code: &Code, entry: u32) -> bool
             if !names_getter(code.getters, relocation.symbol) {
                 return false;
             }
-            !is_second(code, entry)
+            !is_second_by(code, entry, known)
         }
     }
 }

@@ -1,8 +1,9 @@
-use Rattle.std.proofs.Common.{◌+◌, ◌≡◌, ◌<◌, ◌∙◌, ℕ, List, Option, length, sym, ap, subst, arith}
-use Rattle.object_rules.specs.declared.fault.FaultKind.TheVariants.{Sequence}
+use Rattle.std.proofs.Common.{◌+◌, ◌≡◌, ◌<◌, ◌∙◌, ℕ, List, Option, IfSome, length, sym, ap, subst, arith}
+use Rattle.object_rules.specs.declared.fault.FaultKind.TheVariants.{Sequence, StrayCall}
+use Rattle.sequence_match.specs.declared.matching.Opening.{Opening}
 use Rattle.sequence_forms.specs.declared.places.Site.{Site}
-use Rattle.sequence_match.specs.Code.{Names}
-use Rattle.sequence_match.specs.Finding.{IsLeastBelow, IsLooseIn}
+use Rattle.sequence_match.specs.Code.{IsOpening, Names}
+use Rattle.sequence_match.specs.Finding.{IsLeastBelow, IsLooseIn, IsStrayIn}
 use Rattle.sequence_match.proofs.Found.{SitesBelow, found_not_loose, least_all, least_more, sites_all, sites_more, sites_same, stands_within}
 use Rattle.sequence_match.proofs.finding.openings_in.Goals as goal
 use Rattle.sequence_match.proofs.finding.openings_in.Goals.{in-Some+in_ok-push-in-Some, in-None}
@@ -13,22 +14,27 @@ loop-entry-preserved c =
     let n = c.loop-entry.entry in
     let P : List Site → Type 0 = λ sites. SitesBelow code (n + 1) sites in
     let Q : Option ℕ → Type 0 = λ loose. IsLeastBelow (IsLooseIn code) (n + 1) loose in
+    let K : Option Opening → Type 0 = λ known. IfSome known (IsOpening code) in
     elim c.match-site_of.branch [
-      | in-Some+in_ok-push-in-Some w ↦ (
-        subst P (sym (ap (λ v. v.items) w.sites-is ∙ w.in_ok-push-in-Some.ensures.items))
-            (sites_more code n c.loop-entry.sites.items c.loop-entry.invariant.0 w.in-Some.site w.in-Some.ensures),
-        subst Q (sym w.loose-is) (least_more (IsLooseIn code) n c.loop-entry.loose c.loop-entry.invariant.1
-            (found_not_loose code n w.in-Some.site w.in-Some.ensures)),
-      )
-      | in-None w ↦ (
-        subst P (sym (ap (λ v. v.items) w.sites-is))
-            (sites_same code n c.loop-entry.sites.items c.loop-entry.invariant.0 w.in-None.ensures),
-        subst Q (sym w.loose-is) w.loose_up_to-loose.ensures,
-      )
+      | in-Some+in_ok-push-in-Some w ↦ record {
+        sites = subst P (sym (ap (λ v. v.items) w.sites-is ∙ w.in_ok-push-in-Some.ensures.items))
+            (sites_more code n c.loop-entry.sites.items c.loop-entry.invariant.sites w.in-Some.site w.in-Some.ensures);
+        loose = subst Q (sym w.loose-is) (least_more (IsLooseIn code) n c.loop-entry.loose c.loop-entry.invariant.loose
+            (found_not_loose code n w.in-Some.site w.in-Some.ensures));
+        stray = c.stray_up_to-stray.ensures;
+        known = subst K (sym w.known-is) w.in-Some.ensures;
+      }
+      | in-None w ↦ record {
+        sites = subst P (sym (ap (λ v. v.items) w.sites-is))
+            (sites_same code n c.loop-entry.sites.items c.loop-entry.invariant.sites w.in-None.ensures);
+        loose = subst Q (sym w.loose-is) w.loose_up_to-loose.ensures;
+        stray = c.stray_up_to-stray.ensures;
+        known = subst K (sym w.known-is) c.loop-entry.invariant.known;
+      }
     ]
 
 pub returns-clause-sites : goal.returns-clause-sites
-returns-clause-sites c = sites_all c.args.code.now c.loop-entry.entry c.loop-entry.sites.items (omega arith) c.loop-entry.invariant.0
+returns-clause-sites c = sites_all c.args.code.now c.loop-entry.entry c.loop-entry.sites.items (omega arith) c.loop-entry.invariant.sites
 
 pub returns-clause-loose : goal.returns-clause-loose
 returns-clause-loose c =
@@ -37,4 +43,13 @@ returns-clause-loose c =
     let all : n ≡ length code.relocations.now = omega arith in
     let within : (e : ℕ) → IsLooseIn code e → e < n = λ e h.
     omega (arith, all, stands_within Sequence code.bytes.now code.relocations.now (Names code.getters.now) e h) in
-    least_all (IsLooseIn code) n c.loop-entry.loose within c.loop-entry.invariant.1
+    least_all (IsLooseIn code) n c.loop-entry.loose within c.loop-entry.invariant.loose
+
+pub returns-clause-stray : goal.returns-clause-stray
+returns-clause-stray c =
+    let code = c.args.code.now in
+    let n = c.loop-entry.entry in
+    let all : n ≡ length code.relocations.now = omega arith in
+    let within : (e : ℕ) → IsStrayIn code e → e < n = λ e h.
+    omega (arith, all, stands_within StrayCall code.bytes.now code.relocations.now (Names code.getters.now) e h) in
+    least_all (IsStrayIn code) n c.loop-entry.stray within c.loop-entry.invariant.stray

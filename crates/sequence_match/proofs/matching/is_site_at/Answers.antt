@@ -8,14 +8,14 @@ use Rattle.sequence_match.proofs.matching.is_site_at.Goals as goal
 pub has_second-requires-clause-inside : goal.has_second-requires-clause-inside
 has_second-requires-clause-inside c =
     let spelled = c.is_spelled.ensures.0 (search rules) in
-    let inside : c.args.start + length (row c.args.form).cells ≤ length c.args.code.now.bytes.now = omega (arith, ap length c.row-row.ensures.cells_are, spelled.inside) in
+    let inside : c.args.start + length (row c.args.form).cells ≤ length c.args.code.now.bytes.now = spelled.inside in
     rw c.row-row.ensures.second_is
     (second_within (row c.args.form).second (length (row c.args.form).cells) c.args.start (length c.args.code.now.bytes.now) (second_inside c.args.form) inside)
 
 pub is_earliest-requires-clause-inside : goal.is_earliest-requires-clause-inside
 is_earliest-requires-clause-inside c =
     let spelled = c.is_spelled.ensures.0 (search rules) in
-    omega (arith, ap length c.row-row.ensures.cells_are, spelled.inside, first_inside c.args.form, c.requires.offset)
+    omega (arith, spelled.inside, first_inside c.args.form, c.requires.offset)
 
 pub is_earliest-requires-clause-kind : goal.is_earliest-requires-clause-kind
 is_earliest-requires-clause-kind c =

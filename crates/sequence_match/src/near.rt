@@ -1,0 +1,134 @@
+//! Relocations that rise by offset, as compilers write them: the one whose field covers a byte is a neighbour of those
+//! that stand near it.
+
+ghost use Rattle.std.specs.Prelude.{◌↔◌, ◌+◌, ◌<◌, ◌≤◌, ◌^◌, IsTrue, length};
+ghost use Rattle.std.specs.List.{AllWithin};
+ghost use Rattle.elf_object.specs.Faults.{IsFirstAt};
+ghost use Rattle.sequence_match.specs.Code.{AreApart, AreBare, CoversIn, ReachesAt, Rise};
+ghost use Rattle.sequence_match.specs.Sites.{Covers};
+ghost use Rattle.sequence_match.specs.declared.index.Reach.TheVariants.{OfField};
+
+use elf_object::Relocation;
+
+/// Bytes of the widest field.
+const WIDEST: u64 = 8;
+
+/// Whether each relocation stands above the one before it.
+pub fn rise(relocations: &[Relocation]) -> bool
+    ensures { IsTrue result ↔ Rise relocations.now }
+{
+    for index in 1..relocations.len() {
+        if relocations[index].offset <= relocations[index - 1].offset {
+            return false;
+        }
+    }
+    true
+}
+
+/// A number from which on all relocations stand above a place: the first such from `near` on.
+fn first_above(relocations: &[Relocation], place: u64, near: u32) -> u32
+    requires rise { Rise relocations.now }
+    requires few { length relocations.now ≤ 2 ^ 20 }
+    ensures end { result ≤ length relocations.now }
+    ensures above { AllWithin (λ x. place < x.offset) relocations.now result (length relocations.now) }
+{
+    let count = relocations.len() as u32;
+    for entry in near..count {
+        if place < relocations[entry as usize].offset {
+            return entry;
+        }
+    }
+    count
+}
+
+/// Whether the field of a relocation covers a place.
+fn covers(relocation: &Relocation, place: u64) -> bool
+    ensures { IsTrue result ↔ Covers relocation.now place }
+{
+    relocation.offset <= place && place - relocation.offset < relocation.kind.width()
+}
+
+/// Whether a relocation stands so far below a place that no field from there on reaches it.
+fn is_far(relocation: &Relocation, place: u64) -> bool
+    ensures { IsTrue result ↔ (relocation.now.offset + 8 ≤ place) }
+{
+    WIDEST <= place.saturating_sub(relocation.offset)
+}
+
+/// The relocation whose field covers a place. All from number `end` on stand above it. No more are looked at than stand
+/// above the place, or as many bytes before it as the widest field has.
+fn field_below(relocations: &[Relocation], place: u64, end: u32) -> Option<u32>
+    requires rise { Rise relocations.now }
+    requires apart { AreApart relocations.now }
+    requires end { end ≤ length relocations.now }
+    requires above { AllWithin (λ x. place < x.offset) relocations.now end (length relocations.now) }
+    ensures { IsFirstAt (ReachesAt OfField relocations.now place) result }
+{
+    for step in 0..end {
+        let entry = end - 1 - step;
+        let relocation = &relocations[entry as usize];
+        if covers(relocation, place) {
+            return Some(entry);
+        }
+        if is_far(relocation, place) {
+            return None;
+        }
+    }
+    None
+}
+
+/// The relocation whose field covers a place. It is looked for near number `near`.
+pub fn field_near(relocations: &[Relocation], place: u64, near: u32) -> Option<u32>
+    requires rise { Rise relocations.now }
+    requires apart { AreApart relocations.now }
+    requires few { length relocations.now ≤ 2 ^ 20 }
+    ensures { IsFirstAt (ReachesAt OfField relocations.now place) result }
+{
+    field_below(relocations, place, first_above(relocations, place, near))
+}
+
+/// Whether the field of a relocation covers a byte from one place to another.
+fn covers_any(relocation: &Relocation, from: u64, to: u64) -> bool
+    requires { from < to }
+    ensures { IsTrue result ↔ CoversIn relocation.now from to }
+{
+    if relocation.offset < from {
+        return covers(relocation, from);
+    }
+    relocation.offset < to && covers(relocation, relocation.offset)
+}
+
+/// Whether no field covers a byte from one place to another. All relocations from number `end` on stand at `to` or above.
+fn is_bare_below(relocations: &[Relocation], from: u64, to: u64, end: u32) -> bool
+    requires rise { Rise relocations.now }
+    requires some { from < to }
+    requires end { end ≤ length relocations.now }
+    requires above { AllWithin (λ x. to ≤ x.offset) relocations.now end (length relocations.now) }
+    ensures { IsTrue result ↔ AreBare relocations.now from to }
+{
+    for step in 0..end {
+        let relocation = &relocations[(end - 1 - step) as usize];
+        if covers_any(relocation, from, to) {
+            return false;
+        }
+        if is_far(relocation, from) {
+            return true;
+        }
+    }
+    true
+}
+
+/// Whether no field covers a byte from one place to another. Those that may are looked for near number `near`.
+pub fn is_bare_near(relocations: &[Relocation], from: u64, to: u64, near: u32) -> bool
+    requires rise { Rise relocations.now }
+    requires few { length relocations.now ≤ 2 ^ 20 }
+    requires some { from < to }
+    ensures { IsTrue result ↔ AreBare relocations.now from to }
+{
+    is_bare_below(
+        relocations,
+        from,
+        to,
+        first_above(relocations, to - 1, near),
+    )
+}
