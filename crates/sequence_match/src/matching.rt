@@ -13,6 +13,7 @@ ghost use Rattle.sequence_match.specs.Faults.{IsLoose, IsOfSequence, IsStray};
 use crate::index::{Span, first_from, last_below};
 use crate::near::{field_near, is_bare_near};
 use elf_object::{Relocation, RelocationKind};
+use elf_records::relocation_row::{FieldValue, SequencePart, TableEntry};
 use sequence_forms::{Call, Cell, Form, Row, Second, Site, TO_END};
 
 /// The relocations of a section by their places, where the file has them in another order.
@@ -180,18 +181,10 @@ pub fn names_getter(getters: &[bool], symbol: u32) -> bool
 fn is_call_kind(call: Call, kind: RelocationKind) -> bool
     ensures { IsTrue result ↔ IsCallKind call kind }
 {
-    match kind {
-        RelocationKind::Plt32 | RelocationKind::Pc32 => match call {
-            Call::Direct => true,
-            Call::Indirect => false,
-        },
-        RelocationKind::GotPcRel | RelocationKind::GotPcRelX | RelocationKind::RexGotPcRelX => {
-            match call {
-                Call::Direct => false,
-                Call::Indirect => true,
-            }
-        }
-        _ => false,
+    let row = kind.row();
+    match call {
+        Call::Direct => matches!(row.value, FieldValue::Distance),
+        Call::Indirect => matches!(row.entry, TableEntry::AddressWord),
     }
 }
 
@@ -382,14 +375,7 @@ pub fn site_of(code: &Code, entry: u32) -> Option<Site>
 pub fn is_of_sequence(kind: RelocationKind) -> bool
     ensures { IsTrue result ↔ IsOfSequence kind }
 {
-    match kind {
-        RelocationKind::TlsGd
-        | RelocationKind::TlsLd
-        | RelocationKind::GotTpOff
-        | RelocationKind::GotPc32TlsDesc
-        | RelocationKind::TlsDescCall => true,
-        _ => false,
-    }
+    matches!(kind.row().part, SequencePart::First)
 }
 
 /// Whether a relocation is of such a type, and the first one of no sequence.
