@@ -63,6 +63,13 @@ agree_at (c ∷ cs) i first at end (suc k) cell h is =
     let moved : (i + 1) + k ≡ i + suc k = omega arith in
     agree_at cs (i + 1) first at end k cell (both_of _ _ h).1 is ∙ ap (lies first at end) moved
 
+row_agrees : (form : Form) (k : ℕ) (cell : Cell) → slice_get (row form).cells k ≡ Some cell
+    → not (is_field cell) ≡ lies (row form).first_at (behind_at (row form)) (behind_end (row form)) k
+row_agrees form k cell is =
+    let none : 0 + k ≡ k = omega arith in
+    agree_at (row form).cells 0 (row form).first_at (behind_at (row form)) (behind_end (row form)) k cell (rows_agree form) is
+    ∙ ap (lies (row form).first_at (behind_at (row form)) (behind_end (row form))) none
+
 -- a row spells few bytes before its first field, and few behind it
 pub ranges_short : (form : Form) → ((row form).first_at ≤ 5) × (behind_end (row form) ≤ behind_at (row form) + 5) × ((row form).first_at ≤ length (row form).cells) × (behind_end (row form) ≤ length (row form).cells)
 unfolding row
@@ -105,9 +112,15 @@ none_or_wide Nothing = inl refl
 none_or_wide TlsDescCall = inl refl
 none_or_wide _ = inr (omega arith)
 
+most_or_above : (m n : ℕ) → (m ≤ n) ⊎ (n < m)
+most_or_above m n = grind arith
+
 touches : (o w k from to : ℕ) → 4 ≤ w → from ≤ k → k < to → to ≤ from + 5 → o ≤ k → k < o + w
     → ((o ≤ from) × (from < o + w)) ⊎ ((o ≤ to - 1) × (to - 1 < o + w))
-touches o w k from to wide low high short a b = grind arith
+touches o w k from to wide low high short a b = elim (most_or_above o from) [
+  | inl most ↦ inl (most, omega (arith, low, b))
+  | inr above ↦ inr (omega (arith, a, high), omega (arith, above, wide, short))
+]
 
 -- where the last byte and the first are bare, all are
 pub ends_bare : (xs : List Relocation) (from to : ℕ) → to ≤ from + 5 → IsBare xs (to - 1) → IsBare xs from → AreBare xs from to
@@ -132,7 +145,7 @@ module _ (code : List ℕ) (xs : List Relocation) (form : Form) (start : ℕ) wh
   lies_bare spelled k inside h =
       let cell = get_or (row form).cells k Field in
       let at = slice_get-get_or (row form).cells k Field inside in
-      let same = agree_at (row form).cells 0 (row form).first_at (behind_at (row form)) (behind_end (row form)) k cell (rows_agree form) at in
+      let same = row_agrees form k cell at in
       (spelled.stands k cell at).1 (of_literal cell (same ∙ h))
 
   pub spelled_by : (r : Bool) → start + length (row form).cells ≤ length code
@@ -147,7 +160,7 @@ module _ (code : List ℕ) (xs : List Relocation) (form : Form) (start : ℕ) wh
           stands = λ k cell at. (
             h.0 k cell at,
             λ literal.
-                let same = agree_at (row form).cells 0 (row form).first_at (behind_at (row form)) (behind_end (row form)) k cell (rows_agree form) at in
+                let same = row_agrees form k cell at in
                 elim (lies_where (row form).first_at (behind_at (row form)) (behind_end (row form)) k (sym same ∙ literal_of cell literal)) [
                   | inl before ↦ h.1 (start + k) (omega arith) (omega (arith, before))
                   | inr behind ↦ h.2 (start + k) (omega (arith, behind.0)) (omega (arith, behind.1))

@@ -11,19 +11,7 @@ use Rattle.sequence_forms.specs.declared.forms.Second.{Second}
 use Rattle.sequence_forms.specs.Forms.{row, IsCallKind}
 use Rattle.sequence_match.specs.Faults.{IsOfSequence}
 
--- a row has at most sixteen bytes
-pub row_short : (form : Form) → length (row form).cells ≤ 16
-unfolding row
-row_short Gd = omega arith
-row_short Ld = omega arith
-row_short IeMov = omega arith
-row_short IeAdd = omega arith
-row_short GdInd = omega arith
-row_short LdInd = omega arith
-row_short DescLea = omega arith
-row_short DescCall = omega arith
-
--- its relocations stand in it
+-- the relocations of a row stand in it
 pub first_inside : (form : Form) → (row form).first_at < length (row form).cells
 unfolding row
 first_inside Gd = omega arith
