@@ -17,4 +17,5 @@ pub mod SitesSymbols
 pub mod Spans
 pub mod Surveys
 pub mod Tables
+pub mod Taken
 pub mod Unused

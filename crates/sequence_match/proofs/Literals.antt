@@ -133,6 +133,9 @@ ends_bare xs from to short last first k low high f x entry covers =
       ]
     ]
 
+pub bare_moved : (xs : List Relocation) (a b c d : ℕ) → a ≡ c → b ≡ d → AreBare xs a b → AreBare xs c d
+bare_moved xs a b c d e f bare k low high = bare k (omega (arith, low, e)) (omega (arith, high, f))
+
 -- ** so a row is spelled where its bytes stand, and no field covers a byte before its first field or behind it
 
 module _ (code : List ℕ) (xs : List Relocation) (form : Form) (start : ℕ) where

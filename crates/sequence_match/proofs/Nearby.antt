@@ -92,43 +92,46 @@ module _ (xs : List Relocation) (P : Relocation → Type 0) (end : ℕ) where
   -- of those that stand above a place
   pub none_seen : (place : ℕ) → AllWithin (λ x. place < x.offset) xs end (length xs) → ((x : Relocation) → place < x.offset → P x → ⊥)
       → (f : ℕ) (y : Relocation) → end ≤ f + 0 → IsEntry xs f y → P y → ⊥
-  none_seen place above no f y from at p =
+  none_seen place above never f y from at p =
       let inside = slice_get_within xs f y at in
       let same = ap (λ x. x.offset) (get_or_from_slice_get xs f y y at) in
-      no y (omega (arith, above f y (omega arith) inside, same)) p
+      never y (omega (arith, above f y (omega arith) inside, same)) p
 
   -- one more
   pub one_seen : (step : ℕ) (x : Relocation) → step < end → IsEntry xs (end - 1 - step) x
       → ((f : ℕ) (y : Relocation) → end ≤ f + step → IsEntry xs f y → P y → ⊥) → (P x → ⊥)
       → (f : ℕ) (y : Relocation) → end ≤ f + (step + 1) → IsEntry xs f y → P y → ⊥
-  one_seen step x less entry seen no f y from at p =
+  one_seen step x less entry seen never f y from at p =
       elim (seen_or_here end f step from) [
         | inl before ↦ seen f y before at p
         | inr here ↦
             let I : ℕ → Type 0 = λ n. IsEntry xs n y in
             let same : f ≡ end - 1 - step = omega (arith, here, less) in
-            no (subst P (same_entry xs (end - 1 - step) y x (subst I same at) entry) p)
+            never (subst P (same_entry xs (end - 1 - step) y x (subst I same at) entry) p)
       ]
 
   -- and of none below one that stands far below
   pub none_left : (step place : ℕ) (x : Relocation) → Rise xs → step < end → IsEntry xs (end - 1 - step) x
       → ((f : ℕ) (y : Relocation) → end ≤ f + step → IsEntry xs f y → P y → ⊥)
       → x.offset + 8 ≤ place → ((y : Relocation) → y.offset + 8 ≤ place → P y → ⊥) → (f : ℕ) (y : Relocation) → IsEntry xs f y → P y → ⊥
-  none_left step place x rise less entry seen far no f y at p =
+  none_left step place x rise less entry seen far never f y at p =
       elim (here_or_below (end - 1 - step) f) [
         | inl above ↦ seen f y (omega (arith, above, less)) at p
         | inr (inl same) ↦
             let I : ℕ → Type 0 = λ n. IsEntry xs n y in
             let eq = ap (λ z. z.offset) (same_entry xs (end - 1 - step) y x (subst I same at) entry) in
-            no y (omega (arith, eq, far)) p
-        | inr (inr below) ↦ no y (omega (arith, later_above xs rise f (end - 1 - step) y x below at entry, far)) p
+            never y (omega (arith, eq, far)) p
+        | inr (inr below) ↦ never y (omega (arith, later_above xs rise f (end - 1 - step) y x below at entry, far)) p
       ]
 
-above_not : (place : ℕ) (x : Relocation) → place < x.offset → Covers x place → ⊥
+pub above_not : (place : ℕ) (x : Relocation) → place < x.offset → Covers x place → ⊥
 above_not place x above covers = omega (arith, above, covers.0)
 
 pub far_not : (place : ℕ) (x : Relocation) → x.offset + 8 ≤ place → Covers x place → ⊥
 far_not place x far covers = omega (arith, far, covers.1, width_most x.kind)
+
+pub above_not_any : (from to : ℕ) (x : Relocation) → to - 1 < x.offset → CoversIn x from to → ⊥
+above_not_any from to x above h = omega (arith, above, h.3.0, h.2)
 
 pub far_not_any : (from to : ℕ) (x : Relocation) → x.offset + 8 ≤ from → CoversIn x from to → ⊥
 far_not_any from to x far h = omega (arith, far, h.3.1, h.1, width_most x.kind)

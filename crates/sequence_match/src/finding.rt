@@ -135,7 +135,9 @@ fn relocations_of(
     ensures few { IfOk result (λ found. length found.items ≤ 2 ^ 20) }
 {
     let mut relocations = Vec::with_capacity(alloc, object.relocation_count(section) as usize)?;
-    relocations.extend(object.relocs(section))?;
+    for relocation in object.relocs(section) {
+        relocations.push(relocation)?;
+    }
     Ok(relocations)
 }
 

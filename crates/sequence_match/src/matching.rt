@@ -7,7 +7,7 @@ ghost use Rattle.elf_object.specs.Faults.{IsFirstAt};
 ghost use Rattle.sequence_match.specs.declared.index.Reach.TheVariants.{OfField, OfCall};
 ghost use Rattle.sequence_forms.specs.declared.forms.Form.{Form};
 ghost use Rattle.sequence_forms.specs.Forms.{IsCallKind, IsRow, register, row};
-ghost use Rattle.sequence_match.specs.Sites.{Calls, HasSecond, IsEntry, IsSecond, IsSpelled};
+ghost use Rattle.sequence_match.specs.Sites.{Calls, HasSecond, IsBare, IsEntry, IsSecond, IsSpelled};
 ghost use Rattle.sequence_match.specs.Faults.{IsLoose, IsOfSequence, IsStray};
 
 use crate::index::{Span, first_from, last_below};
@@ -90,6 +90,18 @@ impl Code<'_> {
     }
 }
 
+/// Whether no field covers a byte. `near` is as for `field_over`.
+fn is_byte_bare(code: &Code, place: u64, near: u32) -> bool
+    requires ready { IsReady code.now }
+    requires inside { place < length code.now.bytes.now }
+    ensures { IsTrue result ↔ IsBare code.now.relocations.now place }
+{
+    match code.field_over(place, near) {
+        Some(_) => false,
+        None => true,
+    }
+}
+
 /// Whether no field covers a byte from one place to another, a few bytes on, by an index. A field has four bytes or more, so
 /// the last byte and the first one tell.
 fn are_ends_bare(code: &Code, from: u64, to: u64, near: u32) -> bool
@@ -99,7 +111,7 @@ fn are_ends_bare(code: &Code, from: u64, to: u64, near: u32) -> bool
     requires some { from < to }
     ensures { IsTrue result ↔ AreBare code.now.relocations.now from to }
 {
-    code.field_over(to - 1, near).is_none() && code.field_over(from, near).is_none()
+    is_byte_bare(code, to - 1, near) && is_byte_bare(code, from, near)
 }
 
 /// Whether no field covers a byte from one place to another, a few bytes on. `near` is as for `field_over`.
@@ -132,41 +144,42 @@ fn are_bytes(bytes: &[u8], cells: &[Cell], start: usize) -> bool
 }
 
 /// Where the bytes behind the first field of a row end: at its second field, if it has one.
-fn end_behind(form: Form, row: &Row) -> u64
-    requires { IsRow (row form) row.now }
+fn end_behind(form: Form, spelling: &Row) -> u64
+    requires { IsRow (row form) spelling.now }
     ensures { result ≡ behind_end (row form) }
 {
-    match row.second {
+    match spelling.second {
         Some(second) => second.at,
-        None => row.cells.len() as u64,
+        None => spelling.cells.len() as u64,
     }
 }
 
 /// Whether no field covers a byte that a row spells before its first field, nor one behind it.
 #[tactic(auto, using(crate::proofs::Literals::ranges_short))]
-fn is_uncovered(code: &Code, form: Form, row: &Row, start: u64, near: u32) -> bool
+fn is_uncovered(code: &Code, form: Form, spelling: &Row, start: u64, near: u32) -> bool
     requires ready { IsReady code.now }
-    requires row { IsRow (row form) row.now }
+    requires spelling { IsRow (row form) spelling.now }
     requires inside { start + length (row form).cells ≤ length code.now.bytes.now }
     ensures { IsTrue result ↔ (AreBare code.now.relocations.now start (start + (row form).first_at)
         × AreBare code.now.relocations.now (start + behind_at (row form)) (start + behind_end (row form))) }
 {
-    let first = start + row.first_at;
-    let end = start + end_behind(form, row);
-    is_bare(code, start, first, near) && is_bare(code, first + row.first.width(), end, near)
+    let first = start + spelling.first_at;
+    let end = start + end_behind(form, spelling);
+    is_bare(code, start, first, near) && is_bare(code, first + spelling.first.width(), end, near)
 }
 
 /// Whether the cells of a form's row stand in the code from `start` on. Its relocations are near number `near`.
-fn is_spelled(code: &Code, form: Form, row: &Row, start: u64, near: u32) -> bool
+fn is_spelled(code: &Code, form: Form, spelling: &Row, start: u64, near: u32) -> bool
     requires ready { IsReady code.now }
-    requires row { IsRow (row form) row.now }
+    requires spelling { IsRow (row form) spelling.now }
     ensures { IsTrue result ↔ IsSpelled code.now.bytes.now code.now.relocations.now (row form).cells start }
 {
     let len = code.bytes.len() as u64;
-    if len < start || len - start < row.cells.len() as u64 {
+    if len < start || len - start < spelling.cells.len() as u64 {
         return false;
     }
-    are_bytes(code.bytes, row.cells, start as usize) && is_uncovered(code, form, row, start, near)
+    are_bytes(code.bytes, spelling.cells, start as usize)
+        && is_uncovered(code, form, spelling, start, near)
 }
 
 /// Whether a symbol is the undefined `__tls_get_addr`.
@@ -472,6 +485,7 @@ fn is_second_of(code: &Code, entry: u32, opening: &Opening) -> bool
         ↔ IsSecond (row opening.now.site.form).second (Names code.now.getters.now) code.now.relocations.now
         opening.now.site.start entry }
 {
+    let _length = code.bytes.len();
     let Some(second) = opening.site.form.row().second else {
         return false;
     };

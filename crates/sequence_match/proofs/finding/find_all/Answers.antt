@@ -20,7 +20,7 @@ pub loop-section-preserved : goal.loop-section-preserved
 loop-section-preserved c =
     let P : List Site → Type 0 = λ sites. AreSitesFrom c.args.object.now 1 (c.loop-section.section + 1) sites in
     record {
-      sites = subst P (sym (c.in_ok-extend_from_slice.ensures.items ∙ ap (λ ys. c.loop-section.sites.items ++ ys) c.deref.ensures.value))
+      sites = subst P (sym c.in_ok-sites.ensures)
           (sites_append c.args.object.now c.loop-section.section c.loop-section.sites.items c.in_ok-found.found.sites.items c.loop-section.auto.section c.loop-section.invariant.sites
           c.in_ok-found.ensures.sites);
       loose = c.first_with-loose.ensures;

@@ -2,6 +2,7 @@ use Rattle.std.proofs.Common.{◌≡◌, ◌+◌, ℕ, Some, IsTrue, slice_index
 use Rattle.std.specs.List.{slice_get}
 use Rattle.std.proofs.lemmas.Option.{slice_get_within, get_or_from_slice_get}
 use Rattle.sequence_forms.specs.declared.forms.Cell.{Cell}
+use Rattle.sequence_forms.specs.declared.forms.Cell.TheVariants.{Is}
 use Rattle.sequence_forms.specs.Forms.{fits}
 use Rattle.sequence_match.proofs.matching.are_bytes.Goals as goal
 
@@ -11,7 +12,7 @@ loop-index-preserved c =
     below_more P c.loop-index.index c.loop-index.invariant
     (λ cell at.
     let C : Cell → Type 0 = λ x. IsTrue (fits x (slice_index c.args.bytes.now (c.args.start + c.loop-index.index))) in
-    subst C (get_or_from_slice_get c.args.cells.now c.loop-index.index cell _ at) (search rules))
+    subst C (get_or_from_slice_get c.args.cells.now c.loop-index.index cell (Is 0) at) (search rules))
 
 pub returns : goal.returns
 returns c = (
