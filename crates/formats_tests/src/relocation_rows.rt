@@ -128,19 +128,19 @@ fn row_of(number: u32) -> Option<RelocationRow> {
 }
 
 #[test]
-fn each_row_is_that_of_the_standards() {
+fn each_row_is_that_of_the_standards(rt: HostRuntime) {
     for (number, row) in LINES {
-        assert!(row_of(number) == Some(row));
+        assert!(rt; row_of(number) == Some(row));
     }
 }
 
 #[test]
-fn there_are_sixteen_rows() {
+fn there_are_sixteen_rows(rt: HostRuntime) {
     let mut count = 0u32;
     for number in 0..256 {
         if row_of(number).is_some() {
             count = count.saturating_add(1);
         }
     }
-    assert!(count == 16);
+    assert!(rt; count == 16);
 }
