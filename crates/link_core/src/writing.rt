@@ -23,6 +23,7 @@ ghost use Rattle.link_core.specs.Room.{HasRoom};
 ghost use Rattle.relax_sites.specs.Rows.{new_field as new_field_of};
 
 use elf_object::{Relocation, RelocationKind};
+use elf_records::relocation_row::FieldValue;
 use link_faults::{LinkFault, LinkFaultKind};
 use link_needs::{Plan, new_relocation};
 use relax_sites::{NewField, new_field, rewrite};
@@ -100,8 +101,8 @@ fn fill_field(
     }
 }
 
-/// Fills the field of a relocation. What depends on its type is decided here, once for each of the types that objects
-/// have most of: `fill_field` is compiled for each of them.
+/// Fills the field of a relocation. What depends on its type is decided here, once for each of the numbers that most
+/// fields hold: `fill_field` is compiled for each of them.
 #[inline(always)]
 fn write_field(
     plan: &Plan,
@@ -121,15 +122,14 @@ fn write_field(
     ensures fits { OnOk result (IsFilled plan.now object section relocation.now) }
     ensures overflow { OnErr result (IsOverflow plan.now object section relocation.now) }
 {
-    match relocation.kind {
-        RelocationKind::Pc32 => fill_field(plan, from, object, section, address, relocation, part),
-        RelocationKind::Plt32 => fill_field(plan, from, object, section, address, relocation, part),
-        RelocationKind::TpOff32 => fill_field(
-            plan, from, object, section, address, relocation, part,
-        ),
-        RelocationKind::Absolute64 => fill_field(
-            plan, from, object, section, address, relocation, part,
-        ),
+    match relocation.kind.row().value {
+        FieldValue::Distance => {
+            fill_field(plan, from, object, section, address, relocation, part)
+        }
+        FieldValue::ThreadOffset => {
+            fill_field(plan, from, object, section, address, relocation, part)
+        }
+        FieldValue::Address => fill_field(plan, from, object, section, address, relocation, part),
         _ => fill_field(plan, from, object, section, address, relocation, part),
     }
 }
