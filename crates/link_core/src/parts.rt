@@ -31,7 +31,7 @@ fn later(plan: &Plan, number: usize, section: u32, limit: u64, cut: u64) -> u64
     ensures cut { IsCut plan.now result }
     ensures near { result ≤ limit }
 {
-    let inputs = plan.inputs;
+    let inputs = &plan.inputs;
     match inputs.placement.address(number, section) {
         Some(address) => {
             let place = place_in_file(plan, address);
@@ -65,7 +65,7 @@ fn cut_before(plan: &Plan, limit: u64) -> u64
     ensures cut { IsCut plan.now result }
     ensures near { result ≤ limit }
 {
-    let inputs = plan.inputs;
+    let inputs = &plan.inputs;
     let mut cut = 0;
     for number in 0..inputs.objects.len() {
         cut = last_of(plan, number, limit, cut);
@@ -89,7 +89,7 @@ fn write_halves<R: Threads + Sync>(
     ensures { IsWritten plan.now from to part.old part.new result }
 {
     // What is known of a plan is known where a part of it is read.
-    let _inputs = plan.inputs;
+    let _inputs = &plan.inputs;
     if halvings == 0 || part.len() < WORTH_TWO_THREADS {
         return write_part(plan, from, to, part);
     }
@@ -151,7 +151,7 @@ pub fn write_fields<R: Threads + Sync>(
     ensures overflow { IfErr result (IsFirstOverflow plan.now) }
 {
     // What is known of a plan is known where a part of it is read.
-    let _inputs = plan.inputs;
+    let _inputs = &plan.inputs;
     match write_halves(rt, plan, 0, BEHIND_ALL, HALVINGS, file) {
         Ok(()) => Ok(()),
         Err(_) => write_part(plan, 0, BEHIND_ALL, file),

@@ -44,7 +44,7 @@ pub fn place_in_file(plan: &Plan, address: u64) -> u64
     requires fits { address + 4096 < 2 ^ 64 }
     ensures { result ≡ file_offset (layout plan.now) address }
 {
-    let inputs = plan.inputs;
+    let inputs = &plan.inputs;
     offset_of(inputs.kind, address)
 }
 
@@ -85,7 +85,7 @@ fn fill_field(
         return Ok(());
     }
     // What is known of a plan is known where a part of it is read.
-    let _inputs = plan.inputs;
+    let _inputs = &plan.inputs;
     let symbol = plan.symbol_value(object, relocation.symbol);
     if plan.is_replaced(symbol, relocation.kind) {
         return Ok(());
@@ -135,7 +135,7 @@ fn write_field(
 }
 
 /// A field of this object, section and entry does not hold its value.
-fn overflow(object: usize, section: u32, entry: u64) -> LinkFault
+pub fn overflow(object: usize, section: u32, entry: u64) -> LinkFault
     ensures { result ≡ LinkFault.At LinkFaultKind.Overflow (Some object) section entry }
 {
     LinkFault::At {
@@ -181,7 +181,7 @@ fn write_held(
 fn start_in(plan: &Plan, from: u64, to: u64, number: usize, section: u32) -> Option<u64>
     ensures { result ≡ start_in plan.now from to number section }
 {
-    let inputs = plan.inputs;
+    let inputs = &plan.inputs;
     match inputs.placement.address(number, section) {
         Some(address) if is_between(from, place_in_file(plan, address), to) => Some(address),
         _ => None,
@@ -271,7 +271,7 @@ pub fn write_part(plan: &Plan, from: u64, to: u64, part: &mut [u8]) -> Result<()
     ensures fits { OnOk result (NoneAtAll (OverflowsIn plan.now from to)) }
     ensures overflow { IfErr result (IsFirstAtAll (OverflowsIn plan.now from to)) }
 {
-    let inputs = plan.inputs;
+    let inputs = &plan.inputs;
     for number in 0..inputs.objects.len() {
         if let Err(fault) = write_object(plan, from, to, number, part) {
             return Err(fault);
@@ -298,7 +298,7 @@ fn write_new_field(
     ensures filled { length file.new ≡ length (raw_file plan.now) }
 {
     // What is known of a plan is known where a part of it is read.
-    let _inputs = plan.inputs;
+    let _inputs = &plan.inputs;
     let relocation = new_relocation(site, field);
     let place = address + relocation.offset;
     let symbol = plan.symbol_value(object, relocation.symbol);
@@ -347,7 +347,7 @@ pub fn write_sites(plan: &Plan, file: &mut [u8])
     ensures written { file.new ≡ with_sites_from plan.now 0 plan.now.sites file.old }
     ensures filled { length file.new ≡ length (raw_file plan.now) }
 {
-    let inputs = plan.inputs;
+    let inputs = &plan.inputs;
     for (object, own) in inputs.sites.iter().enumerate() {
         write_own_sites(plan, object, own.as_slice(), file);
     }
