@@ -85,7 +85,7 @@ fn write_halves<R: Threads + Sync>(
     requires part { IsPart plan.now part.from part.to (length bytes.old) }
     requires ends { EndsBehind (part.from + length bytes.old) part.to }
     requires far { part.from + length bytes.old ≤ 2 ^ 30 }
-    ensures { IsWritten plan.now part.entry.from part.entry.to bytes.old bytes.new result }
+    ensures { IsWritten plan.now part.from part.to bytes.old bytes.new result }
 {
     // What is known of a plan is known where a part of it is read.
     let _inputs = &plan.inputs;
@@ -116,7 +116,7 @@ fn write_both<R: Threads + Sync>(
     requires back { IsPart plan.now cut part.to (length back.old) }
     requires ends { EndsBehind (cut + length back.old) part.to }
     requires far { cut + length back.old ≤ 2 ^ 30 }
-    ensures { AreWritten plan.now part.entry.from cut part.entry.to front.old front.new back.old back.new result }
+    ensures { AreWritten plan.now part.from cut part.to front.old front.new back.old back.new result }
 {
     let before = FilePart {
         from: part.from,
@@ -129,12 +129,12 @@ fn write_both<R: Threads + Sync>(
     let mut first = || -> Result<(), LinkFault>
         requires { IsSync R.row × IsPart plan.now before.from before.to (length front.now)
             × EndsBehind (before.from + length front.now) before.to × (before.from + length front.now ≤ 2 ^ 30) }
-        ensures { IsWritten plan.entry.now before.entry.from before.entry.to front.entry.now front.exit.now result }
+        ensures { IsWritten plan.entry.now before.from before.to front.entry.now front.exit.now result }
     { write_halves(rt, plan, before, halvings, front) };
     let mut second = || -> Result<(), LinkFault>
         requires { IsSync R.row × IsPart plan.now behind.from behind.to (length back.now)
             × EndsBehind (behind.from + length back.now) behind.to × (behind.from + length back.now ≤ 2 ^ 30) }
-        ensures { IsWritten plan.entry.now behind.entry.from behind.entry.to back.entry.now back.exit.now result }
+        ensures { IsWritten plan.entry.now behind.from behind.to back.entry.now back.exit.now result }
     { write_halves(rt, plan, behind, halvings, back) };
     let (in_front, in_back) = join_mut(rt, &mut first, &mut second);
     match in_front {

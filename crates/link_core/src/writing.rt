@@ -41,7 +41,7 @@ pub struct FilePart {
 impl FilePart {
     /// Whether a section that begins at this offset of the file is the part's own.
     fn has(self, offset: u64) -> bool
-        ensures { result ≡ (nat_le self.entry.from offset && is_before offset self.entry.to) }
+        ensures { result ≡ (nat_le self.from offset && is_before offset self.to) }
     {
         match self.to {
             Some(end) => self.from <= offset && offset < end,
@@ -96,10 +96,10 @@ fn fill_field(
     requires address { address_of (layout plan.now) own.object own.section ≡ Some own.address }
     requires inside { IsInside plan.now from (length bytes.old) own.object own.section own.address }
     ensures written { OnOk result (bytes.new
-        ≡ part_with_field plan.now from own.entry.object own.entry.section bytes.old relocation.now) }
+        ≡ part_with_field plan.now from own.object own.section bytes.old relocation.now) }
     ensures filled { length bytes.new ≡ length bytes.old }
-    ensures fits { OnOk result (IsFilled plan.now own.entry.object own.entry.section relocation.now) }
-    ensures overflow { OnErr result (IsOverflow plan.now own.entry.object own.entry.section relocation.now) }
+    ensures fits { OnOk result (IsFilled plan.now own.object own.section relocation.now) }
+    ensures overflow { OnErr result (IsOverflow plan.now own.object own.section relocation.now) }
 {
     if let RelocationKind::Nothing = relocation.kind {
         return Ok(());
@@ -135,10 +135,10 @@ fn write_field(
     requires address { address_of (layout plan.now) own.object own.section ≡ Some own.address }
     requires inside { IsInside plan.now from (length bytes.old) own.object own.section own.address }
     ensures written { OnOk result (bytes.new
-        ≡ part_with_field plan.now from own.entry.object own.entry.section bytes.old relocation.now) }
+        ≡ part_with_field plan.now from own.object own.section bytes.old relocation.now) }
     ensures filled { length bytes.new ≡ length bytes.old }
-    ensures fits { OnOk result (IsFilled plan.now own.entry.object own.entry.section relocation.now) }
-    ensures overflow { OnErr result (IsOverflow plan.now own.entry.object own.entry.section relocation.now) }
+    ensures fits { OnOk result (IsFilled plan.now own.object own.section relocation.now) }
+    ensures overflow { OnErr result (IsOverflow plan.now own.object own.section relocation.now) }
 {
     match relocation.kind {
         RelocationKind::Pc32 => fill_field(plan, from, own, relocation, bytes),
@@ -174,11 +174,11 @@ fn write_held(
     requires target { nonzero (relocation_target (object_at plan.now.objects own.object) table) ≡ Some own.section }
     requires address { address_of (layout plan.now) own.object own.section ≡ Some own.address }
     requires inside { IsInside plan.now from (length bytes.old) own.object own.section own.address }
-    ensures written { OnOk result (bytes.new ≡ part_with_held plan.now from own.entry.object
-        (object_at plan.now.objects own.entry.object) bytes.old table (Some own.entry.address)) }
+    ensures written { OnOk result (bytes.new ≡ part_with_held plan.now from own.object
+        (object_at plan.now.objects own.object) bytes.old table (Some own.address)) }
     ensures filled { length bytes.new ≡ length bytes.old }
-    ensures fits { OnOk result (NoneIn (Overflows plan.now) own.entry.object table) }
-    ensures overflow { IfErr result (IsFirstIn (Overflows plan.now) own.entry.object table) }
+    ensures fits { OnOk result (NoneIn (Overflows plan.now) own.object table) }
+    ensures overflow { IfErr result (IsFirstIn (Overflows plan.now) own.object table) }
 {
     let mut entry = 0;
     for relocation in plan.inputs.object(own.object).relocs(own.section) {
@@ -192,7 +192,7 @@ fn write_held(
 
 /// Where a section begins, if that is in the part of the file.
 fn start_in(plan: &Plan, part: FilePart, number: usize, section: u32) -> Option<u64>
-    ensures { result ≡ start_in plan.now part.entry.from part.entry.to number section }
+    ensures { result ≡ start_in plan.now part.from part.to number section }
 {
     let inputs = &plan.inputs;
     match inputs.placement.address(number, section) {
@@ -215,10 +215,10 @@ fn write_section(
     requires target { nonzero (relocation_target (object_at plan.now.objects number) table) ≡ Some section }
     requires part { IsPart plan.now part.from part.to (length bytes.old) }
     ensures written { OnOk result (bytes.new ≡ part_with_table
-        plan.now part.entry.from part.entry.to number (object_at plan.now.objects number) bytes.old table) }
+        plan.now part.from part.to number (object_at plan.now.objects number) bytes.old table) }
     ensures filled { length bytes.new ≡ length bytes.old }
-    ensures fits { OnOk result (NoneIn (OverflowsIn plan.now part.entry.from part.entry.to) number table) }
-    ensures overflow { IfErr result (IsFirstIn (OverflowsIn plan.now part.entry.from part.entry.to) number table) }
+    ensures fits { OnOk result (NoneIn (OverflowsIn plan.now part.from part.to) number table) }
+    ensures overflow { IfErr result (IsFirstIn (OverflowsIn plan.now part.from part.to) number table) }
 {
     match start_in(plan, part, number, section) {
         Some(address) => {
@@ -245,10 +245,10 @@ fn write_table(
     requires table { (0 < table) × (table < section_count (object_at plan.now.objects number)) }
     requires part { IsPart plan.now part.from part.to (length bytes.old) }
     ensures written { OnOk result (bytes.new ≡ part_with_table
-        plan.now part.entry.from part.entry.to number (object_at plan.now.objects number) bytes.old table) }
+        plan.now part.from part.to number (object_at plan.now.objects number) bytes.old table) }
     ensures filled { length bytes.new ≡ length bytes.old }
-    ensures fits { OnOk result (NoneIn (OverflowsIn plan.now part.entry.from part.entry.to) number table) }
-    ensures overflow { IfErr result (IsFirstIn (OverflowsIn plan.now part.entry.from part.entry.to) number table) }
+    ensures fits { OnOk result (NoneIn (OverflowsIn plan.now part.from part.to) number table) }
+    ensures overflow { IfErr result (IsFirstIn (OverflowsIn plan.now part.from part.to) number table) }
 {
     match plan.inputs.object(number).relocation_target(table) {
         Some(section) => write_section(plan, part, number, table, section, bytes),
@@ -266,10 +266,10 @@ fn write_object(
     requires object { number < length plan.now.objects }
     requires part { IsPart plan.now part.from part.to (length bytes.old) }
     ensures written { OnOk result (bytes.new ≡ part_with_fields
-        plan.now part.entry.from part.entry.to number (object_at plan.now.objects number) bytes.old) }
+        plan.now part.from part.to number (object_at plan.now.objects number) bytes.old) }
     ensures filled { length bytes.new ≡ length bytes.old }
-    ensures fits { OnOk result (NoneOf (OverflowsIn plan.now part.entry.from part.entry.to) number) }
-    ensures overflow { IfErr result (IsFirstOf (OverflowsIn plan.now part.entry.from part.entry.to) number) }
+    ensures fits { OnOk result (NoneOf (OverflowsIn plan.now part.from part.to) number) }
+    ensures overflow { IfErr result (IsFirstOf (OverflowsIn plan.now part.from part.to) number) }
 {
     for table in 1..plan.inputs.object(number).section_count() {
         if let Err(fault) = write_table(plan, part, number, table, bytes) {
@@ -284,10 +284,10 @@ fn write_object(
 pub fn write_part(plan: &Plan, part: FilePart, bytes: &mut [u8]) -> Result<(), LinkFault>
     requires { IsPart plan.now part.from part.to (length bytes.old) }
     ensures written { OnOk result (bytes.new
-        ≡ part_with_fields_from plan.now part.entry.from part.entry.to 0 plan.now.objects bytes.old) }
+        ≡ part_with_fields_from plan.now part.from part.to 0 plan.now.objects bytes.old) }
     ensures filled { length bytes.new ≡ length bytes.old }
-    ensures fits { OnOk result (NoneAtAll (OverflowsIn plan.now part.entry.from part.entry.to)) }
-    ensures overflow { IfErr result (IsFirstAtAll (OverflowsIn plan.now part.entry.from part.entry.to)) }
+    ensures fits { OnOk result (NoneAtAll (OverflowsIn plan.now part.from part.to)) }
+    ensures overflow { IfErr result (IsFirstAtAll (OverflowsIn plan.now part.from part.to)) }
 {
     let inputs = &plan.inputs;
     for number in 0..inputs.objects.len() {
