@@ -1,7 +1,7 @@
 //! The fields of relocations, and the sequences in the place of rewritten ones, written in the file.
 
 ghost use Rattle.std.specs.Prelude.{◌≡◌, ◌+◌, ◌-◌, ◌^◌, ◌<◌, ◌≤◌, ◌&&◌, [], ◌∷◌, IfErr, OnErr, OnOk, Some};
-ghost use Rattle.std.specs.Prelude.{fold, length, nat_le, nat_lt, slice_index_or, unwrap_or};
+ghost use Rattle.std.specs.Prelude.{fold, length, nat_le, slice_index_or, unwrap_or};
 ghost use Rattle.std.specs.List.{Contains};
 ghost use Rattle.elf_object.specs.Lent.{relocation_target, relocations};
 ghost use Rattle.elf_object.specs.Object.{section_count};
@@ -18,7 +18,7 @@ ghost use Rattle.link_needs.specs.Linking.{choice, layout, sites_at};
 ghost use Rattle.link_core.specs.Overflows.{IsFilled, IsFirstAtAll, IsFirstIn, IsFirstOf, IsOverflow};
 ghost use Rattle.link_core.specs.Overflows.{NoneAtAll, NoneIn, NoneOf};
 ghost use Rattle.link_core.specs.Parts.{part_with_field, part_with_fields, part_with_fields_from, part_with_held};
-ghost use Rattle.link_core.specs.Parts.{part_with_table, start_in, IsInside, IsPart, OverflowsIn};
+ghost use Rattle.link_core.specs.Parts.{is_before, part_with_table, start_in, IsInside, IsPart, OverflowsIn};
 ghost use Rattle.link_core.specs.Room.{HasRoom};
 ghost use Rattle.relax_sites.specs.Rows.{new_field as new_field_of};
 
@@ -38,15 +38,22 @@ pub struct FilePart {
     pub to: Option<u64>,
 }
 
+/// Whether an offset lies before the end, if there is one.
+fn is_before(offset: u64, end: Option<u64>) -> bool
+    ensures { result ≡ is_before offset end }
+{
+    match end {
+        Some(end) => offset < end,
+        None => true,
+    }
+}
+
 impl FilePart {
     /// Whether a section that begins at this offset of the file is the part's own.
     fn has(self, offset: u64) -> bool
         ensures { result ≡ (nat_le self.from offset && is_before offset self.to) }
     {
-        match self.to {
-            Some(end) => self.from <= offset && offset < end,
-            None => self.from <= offset,
-        }
+        self.from <= offset && is_before(offset, self.to)
     }
 }
 
