@@ -220,8 +220,9 @@ module _ (l : Linking) (given : IsGiven l) (limits : FitsTable l) where
     unfolding part_with_fields
     object_splits o there =
         let b = object l o in
-        splits_fold n m (part_with_table l from to o b) (part_with_table l from (Some cut) o b) (part_with_table l cut to o b)
-        (range_with_len 1 (section_count b - 1)) (λ s has. table_splits o s there)
+        splits_fold n m (part_with_table l from to o b) (part_with_table l from (Some cut) o b)
+        (part_with_table l cut to o b) (range_with_len 1 (section_count b - 1))
+        (λ s has. table_splits o s there)
 
     -- those from one number on
     abbrev One : ℕ → List ℕ → Type 0
@@ -252,8 +253,8 @@ module _ (l : Linking) (given : IsGiven l) (limits : FitsTable l) where
         subst (λ i. One i (object l k)) (from_zero k) (object_splits k below))
 
   -- the law of a cut
-  pub parts_join : (from cut : ℕ) (to : Option ℕ) (xs ys : List ℕ) → from ≤ cut → EndsBehind cut to → length xs ≡ cut - from → IsCut l cut
-      → IsPart l cut to (length ys)
+  pub parts_join : (from cut : ℕ) (to : Option ℕ) (xs ys : List ℕ) → from ≤ cut → EndsBehind cut to
+      → length xs ≡ cut - from → IsCut l cut → IsPart l cut to (length ys)
       → part_with_fields_from l from to 0 l.objects (xs ++ ys)
       ≡ part_with_fields_from l from (Some cut) 0 l.objects xs ++ part_with_fields_from l cut to 0 l.objects ys
   parts_join from cut to xs ys low high long is_cut part =

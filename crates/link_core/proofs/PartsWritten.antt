@@ -34,7 +34,8 @@ same_length xs xs' ys ys' first second =
 
 module _ (l : Linking) where
   -- where one is told, one overflows
-  told_overflows : (from : ℕ) (to : Option ℕ) (told : LinkFault) → IsFirstAtAll (OverflowsIn l from to) told → NoOverflow l → ⊥
+  told_overflows : (from : ℕ) (to : Option ℕ) (told : LinkFault) → IsFirstAtAll (OverflowsIn l from to) told
+      → NoOverflow l → ⊥
   told_overflows from to OutOfMemory is none = is
   told_overflows from to (At fault.Overflow (Some o) s e) is none = none o s e is.0.0
   told_overflows from to (At fault.Overflow None s e) is none = is
@@ -58,9 +59,9 @@ module _ (l : Linking) where
       record { written = tt; filled = filled; fits = tt; overflow = told_overflows from to told first }
 
   -- a section that begins in a part begins in one of the two that it is cut into
-  none_in_both : (from cut : ℕ) (to : Option ℕ) → EndsBehind cut to → NoneAtAll (OverflowsIn l from (Some cut)) → NoneAtAll (OverflowsIn l cut to)
-      → NoneAtAll (OverflowsIn l from to)
-  none_in_both from cut to ends in_front behind o s e over =
+  none_in_both : (from cut : ℕ) (to : Option ℕ) → NoneAtAll (OverflowsIn l from (Some cut))
+      → NoneAtAll (OverflowsIn l cut to) → NoneAtAll (OverflowsIn l from to)
+  none_in_both from cut to in_front behind o s e over =
       of_start (start_in l from to o (relocation_target (object l o) s)) refl over.1
     where
       t : ℕ
@@ -83,8 +84,8 @@ module _ (l : Linking) where
 
   module _ (given : IsGiven l) (limits : FitsTable l) where
     -- two parts together
-    pub joined : {V : Type 0} (from cut : ℕ) (to : Option ℕ) (front front' back back' : List ℕ) (result : Result V LinkFault)
-        → from ≤ cut → EndsBehind cut to → length front ≡ cut - from → IsCut l cut → IsPart l cut to (length back)
+    pub joined : {V : Type 0} (from cut : ℕ) (to : Option ℕ) (front front' back back' : List ℕ)
+        (result : Result V LinkFault) → from ≤ cut → EndsBehind cut to → length front ≡ cut - from → IsCut l cut → IsPart l cut to (length back)
         → AreWritten l from cut to front front' back back' result
         → IsWritten l from to (front ++ back) (front' ++ back') result
     joined from cut to front front' back back' (Ok v) low high long is_cut part both = record {
@@ -93,7 +94,7 @@ module _ (l : Linking) where
           ∙ ap (λ ys. part_with_fields_from l from (Some cut) 0 l.objects front ++ ys) both.behind
           ∙ sym (parts_join l given limits from cut to front back low high long is_cut part);
       filled = same_length front front' back back' both.front_filled both.back_filled;
-      fits = none_in_both from cut to high both.front_fits both.back_fits;
+      fits = none_in_both from cut to both.front_fits both.back_fits;
       overflow = tt;
     }
     joined from cut to front front' back back' (Err told) low high long is_cut part both = record {

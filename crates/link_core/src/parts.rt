@@ -20,9 +20,6 @@ const WORTH_TWO_THREADS: usize = 1 << 20;
 /// How often the file is halved at most.
 const HALVINGS: u32 = 3;
 
-/// The whole file.
-const WHOLE: FilePart = FilePart { from: 0, to: None };
-
 /// The later of two places where the file may be cut: one so far, and where a section begins, if that is not too far.
 fn later(plan: &Plan, number: usize, section: u32, limit: u64, cut: u64) -> u64
     requires object { number < length plan.now.objects }
@@ -158,8 +155,9 @@ pub fn write_fields<R: Threads + Sync>(
 {
     // What is known of a plan is known where a part of it is read.
     let _inputs = &plan.inputs;
-    match write_halves(rt, plan, WHOLE, HALVINGS, file) {
+    let whole = FilePart { from: 0, to: None };
+    match write_halves(rt, plan, whole, HALVINGS, file) {
         Ok(()) => Ok(()),
-        Err(_) => write_part(plan, WHOLE, file),
+        Err(_) => write_part(plan, whole, file),
     }
 }
