@@ -23,6 +23,7 @@ ghost use Rattle.link_core.specs.Room.{HasRoom};
 ghost use Rattle.relax_sites.specs.Rows.{new_field as new_field_of};
 
 use elf_object::{Relocation, RelocationKind};
+use elf_records::relocation_row::FieldValue;
 use link_faults::{LinkFault, LinkFaultKind};
 use link_needs::{Plan, new_relocation};
 use relax_sites::{NewField, new_field, rewrite};
@@ -127,8 +128,8 @@ fn fill_field(
     }
 }
 
-/// Fills the field of a relocation. What depends on its type is decided here, once for each of the types that objects
-/// have most of: `fill_field` is compiled for each of them.
+/// Fills the field of a relocation. What depends on its type is decided here, once for each of the numbers that most
+/// fields hold: `fill_field` is compiled for each of them.
 #[inline(always)]
 fn write_field(
     plan: &Plan,
@@ -147,11 +148,10 @@ fn write_field(
     ensures fits { OnOk result (IsFilled plan.now own.object own.section relocation.now) }
     ensures overflow { OnErr result (IsOverflow plan.now own.object own.section relocation.now) }
 {
-    match relocation.kind {
-        RelocationKind::Pc32 => fill_field(plan, from, own, relocation, bytes),
-        RelocationKind::Plt32 => fill_field(plan, from, own, relocation, bytes),
-        RelocationKind::TpOff32 => fill_field(plan, from, own, relocation, bytes),
-        RelocationKind::Absolute64 => fill_field(plan, from, own, relocation, bytes),
+    match relocation.kind.row().value {
+        FieldValue::Distance => fill_field(plan, from, own, relocation, bytes),
+        FieldValue::ThreadOffset => fill_field(plan, from, own, relocation, bytes),
+        FieldValue::Address => fill_field(plan, from, own, relocation, bytes),
         _ => fill_field(plan, from, own, relocation, bytes),
     }
 }
