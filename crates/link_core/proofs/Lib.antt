@@ -24,6 +24,7 @@ pub mod LoadsParts
 pub mod LoadsPlaces
 pub mod LoadsTables
 pub mod LoadsTls
+pub mod NamesHeld
 pub mod PartFields
 pub mod PartSplit
 pub mod PartSteps
@@ -32,6 +33,7 @@ pub mod Relatives
 pub mod RelativesApart
 pub mod RelativesFields
 pub mod RelativesParts
+pub mod SearchedFields
 pub mod Standing
 pub mod StandingAway
 pub mod StandingFields
@@ -39,6 +41,7 @@ pub mod StandingPlaces
 pub mod StandingSites
 pub mod StandingSteps
 pub mod StandingTable
+pub mod StepFaults
 pub mod Symbols
 pub mod SymbolsInside
 pub mod SymbolsNames

@@ -1,4 +1,5 @@
-//! What a linker knows of an image before it looks at what code needs, or the first fault.
+//! A link that is ready to be written: all that may refuse it has been asked but whether its fields hold their values,
+//! and its table is laid out. No byte of the image is.
 
 ghost use Rattle.std.specs.Prelude.{◌≡◌, ◌-◌, ◌<◌, ◌^◌, ℕ, [], None, IfErr, IfOk, OnOk, length, map, slice_index_or};
 ghost use Rattle.sequence_match.specs.Faults.{AreSites};
@@ -8,42 +9,38 @@ ghost use Rattle.tls_layout.specs.Rounding.{round_up};
 ghost use Rattle.tls_layout.specs.Sections.{layout_of};
 ghost use Rattle.tls_symbols.specs.Bindings.{object_at};
 ghost use Rattle.tls_symbols.specs.Faults.{AreResolved};
-ghost use Rattle.link_needs.specs.Linking.{link_of};
+ghost use Rattle.link_needs.specs.Linking.{choices_from, link_of};
 ghost use Rattle.link_tables.specs.Faults.{ArePrepared, IsLinkFault, IsSound, LacksStorage};
 
 use dynamic_symbols::{defined_symbols, imports, names_fit};
 use elf_object::Object;
 use indexmap::IndexSet;
 use link_faults::{ImageKind, LinkFault, LinkFaultKind, SymbolRef};
-use link_needs::Inputs;
+use link_needs::{Inputs, Plan, plan_of};
 use link_refusals::{ask_kind, ask_tls, has_few_relocations};
+use link_tables::Tables;
+use relax_sites::Choice;
 use sequence_match::Site;
 use std::alloc::{AllocError, Global};
 use std::marker::Model;
 use tls_layout::{Placement, TlsSize, place, static_offsets};
 use tls_symbols::{Bindings, Exports, resolve};
 
-/// What is known of an image within the limits. Contracts see what decides it.
+/// A link that no fault stands in but an `Overflow`, with its table laid out. Contracts see what decides it.
 #[derive(Drop)]
-pub struct Prepared<'l, 's, 'a> {
-    pub inputs: Inputs<'l, 's, 'a>,
-    /// The symbols that the image defines for others.
-    pub own: Vec<SymbolRef>,
-    /// The names that it imports.
-    pub imports: IndexSet<&'a [u8]>,
+pub struct ReadyLink<'l, 's, 'a> {
+    pub(crate) tables: Tables<'l, 's, 'a>,
 }
 
-impl<'l, 's, 'a> Model for Prepared<'l, 's, 'a> {
-    ghost use Rattle.std.specs.Prelude.{map};
+impl<'l, 's, 'a> Model for ReadyLink<'l, 's, 'a> {
     ghost use Rattle.link_needs.specs.Linking.{Linking};
-    ghost use Rattle.link_tables.specs.Faults.{ArePrepared};
+    ghost use Rattle.link_tables.specs.Faults.{IsSound};
 
     ghost Value = { Linking };
 
-    ghost view = { λ prepared. prepared.inputs };
+    ghost view = { λ ready. ready.tables };
 
-    ghost invariant = { λ prepared. ArePrepared
-        prepared.inputs prepared.own.items (map (λ name. name.now) prepared.imports.keys) };
+    ghost invariant = { λ ready. IsSound ready.tables };
 }
 
 /// The names of an image: the symbols that it defines for others, and those that it imports.
@@ -129,9 +126,28 @@ fn storage(
     Ok(block_offset(alloc, placement)?)
 }
 
-/// What the linker knows of an image whose names are bound so and whose sections go there, or the first fault that is
-/// left, of another kind than `Overflow`.
-pub fn within_limits<'l, 's, 'a>(
+/// A link of these inputs, with its table laid out. The only error is want of memory.
+fn planned<'l, 's, 'a>(
+    alloc: Global,
+    inputs: Inputs<'l, 's, 'a>,
+    names: Names<'a>,
+) -> Result<ReadyLink<'l, 's, 'a>, AllocError>
+    requires prepared { ArePrepared inputs names.own.items (map (λ name. name.now) names.imports.keys) }
+    requires sound { IsSound inputs }
+    ensures { IfOk result (λ ready. ready ≡ inputs.entry) }
+{
+    let plan = plan_of(alloc, inputs)?;
+    let tables = Tables {
+        plan,
+        own: names.own,
+        imports: names.imports,
+    };
+    Ok(ReadyLink { tables })
+}
+
+/// The link of objects whose names are bound so and whose sections go there, or the first fault that is left, of another
+/// kind than `Overflow`.
+fn within_limits<'l, 's, 'a>(
     alloc: Global,
     objects: &'l [Object<'a>],
     sites: &'l [Vec<Site>],
@@ -139,7 +155,7 @@ pub fn within_limits<'l, 's, 'a>(
     relax: bool,
     bindings: Bindings<'l, 's, 'a>,
     placement: Placement,
-) -> Result<Prepared<'l, 's, 'a>, LinkFault>
+) -> Result<ReadyLink<'l, 's, 'a>, LinkFault>
     requires few { length bindings.startup < 2 ^ 32 - 1 }
     requires each { length sites.now ≡ length objects.now }
     requires sites { (o : ℕ) → o < length objects.now
@@ -149,7 +165,7 @@ pub fn within_limits<'l, 's, 'a>(
     requires kind { FitsKind objects.now kind }
     requires places { placement ≡ layout_of kind objects.now }
     requires lawful { IsLawful placement }
-    ensures inputs { IfOk result (λ prepared. prepared ≡ link_of objects.now sites.now kind bindings.entry.startup relax) }
+    ensures ready { IfOk result (λ ready. ready ≡ link_of objects.now sites.now kind bindings.entry.startup relax) }
     ensures sound { OnOk result (IsSound (link_of objects.now sites.now kind bindings.entry.startup relax)) }
     ensures fault { IfErr result (IsLinkFault (link_of objects.now sites.now kind bindings.entry.startup relax)) }
 {
@@ -164,14 +180,12 @@ pub fn within_limits<'l, 's, 'a>(
         placement,
         block_offset,
     };
-    Ok(Prepared {
-        inputs,
-        own: names.own,
-        imports: names.imports,
-    })
+    let ready = planned(alloc, inputs, names)?;
+    Ok(ready)
 }
 
-/// What the linker knows of an image before it fills in fields, or the first fault of another kind than `Overflow`.
+/// Makes a link of objects ready, beside startup images that export these names, or answers the first fault of another
+/// kind than `Overflow`. No byte of the image is laid.
 pub fn prepare<'l, 's, 'a>(
     alloc: Global,
     objects: &'l [Object<'a>],
@@ -179,12 +193,12 @@ pub fn prepare<'l, 's, 'a>(
     kind: ImageKind,
     startup: &'s [Exports<'a>],
     relax: bool,
-) -> Result<Prepared<'l, 's, 'a>, LinkFault>
+) -> Result<ReadyLink<'l, 's, 'a>, LinkFault>
     requires few { length startup.now < 2 ^ 32 - 1 }
     requires each { length sites.now ≡ length objects.now }
     requires sites { (o : ℕ) → o < length objects.now
         → AreSites (object_at objects.now o) (slice_index_or (map (λ own. own.items) sites.now) o []) }
-    ensures inputs { IfOk result (λ prepared. prepared ≡ link_of objects.now sites.now kind startup.now relax) }
+    ensures ready { IfOk result (λ ready. ready ≡ link_of objects.now sites.now kind startup.now relax) }
     ensures sound { OnOk result (IsSound (link_of objects.now sites.now kind startup.now relax)) }
     ensures fault { IfErr result (IsLinkFault (link_of objects.now sites.now kind startup.now relax)) }
 {
@@ -192,4 +206,34 @@ pub fn prepare<'l, 's, 'a>(
     ask_kind(objects, kind)?;
     let placement = place(alloc, objects, kind)?;
     within_limits(alloc, objects, sites, kind, relax, bindings, placement)
+}
+
+/// A link without the names of its tables.
+fn plan_in<'l, 's, 'a>(tables: Tables<'l, 's, 'a>) -> Plan<'l, 's, 'a>
+    ensures { result ≡ tables.entry }
+{
+    let Tables {
+        plan,
+        own: _,
+        imports: _,
+    } = tables;
+    plan
+}
+
+impl<'l, 's, 'a> ReadyLink<'l, 's, 'a> {
+    /// What is known of the link, where no byte of it is asked for.
+    pub fn into_inputs(self) -> Inputs<'l, 's, 'a>
+        ensures { result ≡ self.entry }
+    {
+        let ReadyLink { tables } = self;
+        plan_in(tables).into_inputs()
+    }
+
+    /// Which sequence stands in the place of each site, where no byte of the image is asked for.
+    pub fn into_choices(self) -> Vec<Vec<Choice>>
+        ensures { map (λ own. own.items) result.items ≡ choices_from self.entry 0 self.entry.sites }
+    {
+        let ReadyLink { tables } = self;
+        plan_in(tables).into_choices()
+    }
 }

@@ -6,11 +6,11 @@ use Rattle.link_refusals.specs.Counts.{relocation_count}
 use Rattle.sequence_forms.specs.declared.places.Site.{Site}
 use Rattle.link_needs.specs.Linking.{link_of}
 use Rattle.link_tables.specs.Faults.{IsCrowded, IsLinkFault, IsWordy}
-use Rattle.link_tables.proofs.LinkFaults.{exceeds, limit_fault}
-use Rattle.link_tables.proofs.LinkLists.{names_are, size_is}
-use Rattle.link_tables.proofs.prepared.named.Goals as goal
-use Rattle.link_tables.proofs.prepared.named.Goals.{then-not-few-via-then-not-few}
-use Rattle.link_tables.proofs.prepared.named.Goals.{then-not-few-via-else-not-few+then-not-names_fit}
+use Rattle.link_core.proofs.StepFaults.{exceeds, limit_fault}
+use Rattle.link_core.proofs.NamesHeld.{names_are, size_is}
+use Rattle.link_core.proofs.ready.named.Goals as goal
+use Rattle.link_core.proofs.ready.named.Goals.{then-not-few-via-then-not-few}
+use Rattle.link_core.proofs.ready.named.Goals.{then-not-few-via-else-not-few+then-not-names_fit}
 
 pub imports-requires-clause-symbols : goal.imports-requires-clause-symbols
 imports-requires-clause-symbols c = λ o there.

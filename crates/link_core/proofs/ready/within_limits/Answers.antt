@@ -5,8 +5,8 @@ use Rattle.tls_layout.specs.Places.{tls_alignment, tls_size, IsLawful}
 use Rattle.tls_layout.specs.Rounding.{round_up}
 use Rattle.tls_layout.specs.Sections.{Layout}
 use Rattle.link_needs.specs.Linking.{link_of, block_offset, layout}
-use Rattle.link_tables.proofs.LinkFaults.{same_storage, storage_fault}
-use Rattle.link_tables.proofs.prepared.within_limits.Goals as goal
+use Rattle.link_core.proofs.StepFaults.{same_storage, storage_fault}
+use Rattle.link_core.proofs.ready.within_limits.Goals as goal
 
 pub named-requires-clause-lawful : goal.named-requires-clause-lawful
 named-requires-clause-lawful c = subst IsLawful c.requires.places c.requires.lawful
@@ -46,5 +46,18 @@ returns-clause-sound c = record {
       (ap (λ (p : Layout). tls_size p.sections) c.requires.places) c.in_ok-block_offset.ensures.fits);
 }
 
-pub invariant_of-result : goal.invariant_of-result
-invariant_of-result c = c.in_ok-names.ensures.prepared
+pub planned-requires-clause-sound : goal.planned-requires-clause-sound
+planned-requires-clause-sound c = record {
+  resolved = c.requires.resolved;
+  kind = c.requires.kind;
+  limits = c.in_ok-names.ensures.prepared.limits;
+  storage =
+      subst (λ xs. FitsStorage xs c.args.bindings.startup c.args.kind (tls_size
+      (layout (link_of c.args.objects.now c.args.sites.now c.args.kind c.args.bindings.startup c.args.relax)).sections))
+      c.requires.objects
+      (subst (λ n. FitsStorage c.args.bindings.objects c.args.bindings.startup c.args.kind n)
+      (ap (λ (p : Layout). tls_size p.sections) c.requires.places) c.in_ok-block_offset.ensures.fits);
+}
+
+pub planned-requires-clause-prepared : goal.planned-requires-clause-prepared
+planned-requires-clause-prepared c = c.in_ok-names.ensures.prepared

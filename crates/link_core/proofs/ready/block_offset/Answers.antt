@@ -3,7 +3,7 @@ use Rattle.std.proofs.lemmas.List.{get_or_default}
 use Rattle.tls_layout.specs.Rounding.{round_up}
 use Rattle.tls_layout.specs.Statics.{tls_offset}
 use Rattle.tls_layout.proofs.Rounds.{tls_offset-next}
-use Rattle.link_tables.proofs.prepared.block_offset.Goals as goal
+use Rattle.link_core.proofs.ready.block_offset.Goals as goal
 
 pub returns : goal.returns
 unfolding tls_offset
