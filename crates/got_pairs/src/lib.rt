@@ -34,6 +34,7 @@
 
 mod entry;
 mod got_plan;
+pub mod laws;
 mod name;
 mod need;
 
