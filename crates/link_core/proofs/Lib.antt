@@ -24,6 +24,7 @@ pub mod LoadsParts
 pub mod LoadsPlaces
 pub mod LoadsTables
 pub mod LoadsTls
+pub mod NewFields
 pub mod PartFields
 pub mod PartSplit
 pub mod PartSteps
@@ -35,6 +36,7 @@ pub mod RelativesParts
 pub mod Standing
 pub mod StandingAway
 pub mod StandingFields
+pub mod StandingParts
 pub mod StandingPlaces
 pub mod StandingSites
 pub mod StandingSteps
@@ -45,6 +47,7 @@ pub mod SymbolsNames
 pub mod Together
 pub mod TogetherFound
 pub mod TogetherNames
+pub mod TogetherPlaces
 pub mod TogetherRows
 pub mod TogetherSites
 pub mod WritingFields
