@@ -23,7 +23,10 @@ use Rattle.relax_sites.specs.declared.choices.Choice.TheVariants.{Keep}
 use Rattle.relax_sites.specs.declared.rows.NewField.{NewField}
 use Rattle.relax_sites.specs.Rows.{new_field}
 use Rattle.sequence_forms.specs.declared.forms.Form.{Form}
-use Rattle.sequence_forms.specs.declared.forms.Form.TheVariants.{Gd, Ld}
+use Rattle.sequence_forms.specs.declared.forms.Form.TheVariants.{Gd, Ld, GdInd, LdInd}
+use Rattle.sequence_forms.specs.declared.forms.Call.TheVariants.{Direct}
+use Rattle.sequence_forms.specs.declared.forms.Second.{Second}
+use Rattle.sequence_forms.specs.Forms.{row}
 use Rattle.sequence_forms.specs.declared.places.Site.{Site}
 use Rattle.sequence_match.specs.Sites.{first_of}
 use Rattle.link_needs.specs.Given.{IsGiven}
@@ -211,9 +214,12 @@ module _ (l : Linking) where
         (Contains-append_left (site_needs_from l 0 l.sites) (object_needs_from l 0 l.objects) need
         (from_site 0 l.sites o o site need (omega arith) (omega (arith, given.each, there)) own has))
 
-    stub_there : is_stub_call l o site ≡ true → has_stub l ≡ true
+    pub stub_there : is_stub_call l o site ≡ true → has_stub l ≡ true
     unfolding has_stub
     stub_there e = calls_from 0 l.sites o o site (omega arith) (omega (arith, given.each, there)) own e
+
+    pub called_entry : is_kept (choice l o site) ≡ true → calls site.form ≡ true → HasEntry l RuntimeWord
+    called_entry kept call = of_site RuntimeWord (called l o site kept call)
 
     -- what holds of a site holds of one of all sites
     pub any_site : (test : Site → Bool) → test site ≡ true → list_any (λ own. list_any test own) l.sites ≡ true
@@ -225,6 +231,23 @@ module _ (l : Linking) where
           same_Some _ _ (sym (slice_get-get_or l.sites o (sites_at l o) below) ∙ slice_get-get_or l.sites o [] below),
         ) in
         any_among (λ own. list_any test own) l.sites (sites_at l o) among (any_among test (sites_at l o) site own e)
+
+-- a form with a call is one that calls, and with a direct one calls the stub
+calls_of : (form : Form) (call : Second) → (row form).second ≡ Some call → calls form ≡ true
+unfolding row
+calls_of Gd call e = refl
+calls_of Ld call e = refl
+calls_of GdInd call e = refl
+calls_of LdInd call e = refl
+calls_of form call e = absurd (cc)
+
+stub_of : (form : Form) (call : Second) → (row form).second ≡ Some call → call.call ≡ Direct → calls_stub form ≡ true
+unfolding row
+stub_of Gd call e direct = refl
+stub_of Ld call e direct = refl
+stub_of GdInd call e direct = absurd (let far = ap (λ (c : Second). c.call) (same_Some _ call e) in cc)
+stub_of LdInd call e direct = absurd (let far = ap (λ (c : Second). c.call) (same_Some _ call e) in cc)
+stub_of form call e direct = absurd (cc)
 
 by_first : (site : Site) (c : Choice) → is_kept c ≡ true → reaching site c ≡ Some (first_of site)
 by_first site Keep e = refl
@@ -244,8 +267,9 @@ sites_reach_entries l o site given there own =
       new = λ off f is need e.
           among need (reached l o site (Some (new_relocation site f)) need
           (by_new site c off ∙ ap (option_map (new_relocation site)) is) e);
-      word = λ kept call. among RuntimeWord (called l o site kept call);
-      stub = λ kept call. stub_there l given o site there own (rw (kept, call) refl);
+      word = λ kept call e. among RuntimeWord (called l o site kept (calls_of site.form call e));
+      stub = λ kept call e direct.
+          stub_there l given o site there own (rw (kept, stub_of site.form call e direct) refl);
     }
 
 -- ** the stub

@@ -11,11 +11,14 @@ use Rattle.link_faults.specs.declared.binding.Binding.TheVariants.{Here}
 use Rattle.link_faults.specs.declared.symbol_ref.SymbolRef.{SymbolRef}
 use Rattle.relax_sites.specs.declared.rows.NewField.{NewField}
 use Rattle.relax_sites.specs.Rows.{new_field}
+use Rattle.sequence_forms.specs.declared.forms.Call.TheVariants.{Direct}
+use Rattle.sequence_forms.specs.declared.forms.Second.{Second}
 use Rattle.sequence_forms.specs.declared.places.Site.{Site}
+use Rattle.sequence_forms.specs.Forms.{row}
 use Rattle.sequence_match.specs.Sites.{first_of}
 use Rattle.link_needs.specs.Given.{IsGiven}
 use Rattle.link_needs.specs.Linking.{Linking, address, binding, choice, object, sites_at}
-use Rattle.link_needs.specs.Needs.{calls, calls_stub, entries, has_stub, is_address_kind, is_kept, needs, new_relocation}
+use Rattle.link_needs.specs.Needs.{entries, has_stub, is_address_kind, is_kept, needs, new_relocation}
 use Rattle.link_needs.specs.Needs.{relocation_need}
 
 -- an entry of the table serves the need, and begins so many bytes behind its start
@@ -33,8 +36,10 @@ pub record ReachesEntries (l : Linking) (o : ℕ) (site : Site) : Type 0 where
       → HasEntry l need
   pub new : is_kept (choice l o site) ≡ false → (f : NewField) → new_field site.form (choice l o site) ≡ Some f
       → (need : Need) → relocation_need l o (new_relocation site f) ≡ Some need → HasEntry l need
-  pub word : is_kept (choice l o site) ≡ true → calls site.form ≡ true → HasEntry l RuntimeWord
-  pub stub : is_kept (choice l o site) ≡ true → calls_stub site.form ≡ true → has_stub l ≡ true
+  pub word : is_kept (choice l o site) ≡ true → (call : Second) → (row site.form).second ≡ Some call
+      → HasEntry l RuntimeWord
+  pub stub : is_kept (choice l o site) ≡ true → (call : Second) → (row site.form).second ≡ Some call
+      → call.call ≡ Direct → has_stub l ≡ true
 
 abbrev pub SitesReachEntries : Type 0
 SitesReachEntries = (l : Linking) (o : ℕ) (site : Site) → IsGiven l → o < length l.objects

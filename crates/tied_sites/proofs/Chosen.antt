@@ -14,7 +14,7 @@ use Rattle.got_pairs.specs.declared.need.Target.{Target}
 use Rattle.link_core.proofs.TogetherRows.{chosen_kept, chosen_taken, taken}
 use Rattle.link_faults.specs.declared.binding.Binding.{Binding}
 use Rattle.link_faults.specs.ImageKinds.{is_module}
-use Rattle.link_needs.proofs.Reached.{sites_reach_entries}
+use Rattle.link_needs.proofs.Reached.{called_entry, sites_reach_entries}
 use Rattle.link_needs.specs.Laws.{HasEntry, ReachesEntries}
 use Rattle.link_needs.specs.Given.{IsGiven}
 use Rattle.link_needs.specs.Linking.{Linking, binding, choice, sites_at}
@@ -77,7 +77,7 @@ module _ (l : Linking) (o : ℕ) (site : Site) where
     kept_entry = reaches.first
 
     pub runtime_entry : is_kept (choice l o site) ≡ true → calls site.form ≡ true → HasEntry l RuntimeWord
-    runtime_entry = reaches.word
+    runtime_entry = called_entry l given o site there own
 
     -- of one that is rewritten
     pub new_entry : is_kept (choice l o site) ≡ false → (f : NewField) → new_field site.form (choice l o site) ≡ Some f

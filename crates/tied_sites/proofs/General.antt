@@ -9,7 +9,7 @@ use Rattle.link_core.proofs.TogetherRows.{IsVariable}
 use Rattle.link_faults.specs.declared.binding.Binding.{Binding}
 use Rattle.link_faults.specs.declared.binding.Binding.TheVariants.{Here, Startup, Runtime}
 use Rattle.link_faults.specs.declared.symbol_ref.SymbolRef.{SymbolRef}
-use Rattle.link_needs.proofs.Reached.{sites_reach_entries}
+use Rattle.link_needs.proofs.Reached.{stub_there}
 use Rattle.link_needs.specs.Laws.{HasEntry}
 use Rattle.link_needs.specs.Linking.{Linking, binding, choice}
 use Rattle.link_needs.specs.Needs.{calls, calls_stub, is_kept, is_stub_call}
@@ -76,7 +76,7 @@ module _ (g : Setting) (ls : List Linking) (l : Linking) (x : Instance) (is : Is
         (stub_called g ls l x is.of is.words is.counted.few o address site place here kept
         (subst HasField (sym form) tt) (SymbolPair n.t) e (needs_pair l o site n.t n.target_is first) n.v
         (pair_is g ls l x is.of is.words (sequence_with ls x.image x.number place site n.v) n.v refl refl n.t n.of e)
-        call (is.stub ((sites_reach_entries l o site is.of.given here.at.there here.own).stub kept call)))
+        call (is.stub (stub_there l is.of.given o site here.at.there here.own (rw (kept, call) refl))))
 
     gd_ind_kept : site.form ≡ GdInd
         → Stands g (job_loads (images_of ls)) x place (sequence_with ls x.image x.number place site n.v)

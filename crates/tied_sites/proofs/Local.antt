@@ -10,7 +10,7 @@ use Rattle.link_core.proofs.TogetherRows.{IsVariable, chosen_taken, taken}
 use Rattle.link_faults.specs.declared.binding.Binding.{Binding}
 use Rattle.link_faults.specs.declared.binding.Binding.TheVariants.{Here, Startup, Runtime}
 use Rattle.link_faults.specs.ImageKinds.{is_module}
-use Rattle.link_needs.proofs.Reached.{any_site, sites_reach_entries}
+use Rattle.link_needs.proofs.Reached.{any_site, stub_there}
 use Rattle.link_needs.specs.Laws.{HasEntry}
 use Rattle.link_needs.specs.Linking.{Linking, binding, choice}
 use Rattle.link_needs.specs.Needs.{calls, calls_stub, is_kept, is_stub_call}
@@ -117,7 +117,7 @@ module _ (g : Setting) (ls : List Linking) (l : Linking) (x : Instance) (is : Is
           stub_called g ls l x is.of is.words is.counted.few o address site place here kept
               (subst HasField (sym form) tt) ModulePair e (needs_module l o site first) own
               (module_pair_is g ls l x is.of is.words s own refl refl is.counted refl refl e) call
-              (is.stub ((sites_reach_entries l o site is.of.given here.at.there here.own).stub kept call)),
+              (is.stub (stub_there l is.of.given o site here.at.there here.own (rw (kept, call) refl))),
         )
 
     ld_ind_kept : site.form ≡ LdInd → Stands g (job_loads (images_of ls)) x place s
