@@ -5,7 +5,7 @@ ghost use Rattle.std.specs.Str.{bytes_eq};
 ghost use Rattle.elf_object.specs.Lent.{symbol_binding, symbol_name};
 ghost use Rattle.elf_object.specs.declared.symbol.SymbolBinding.TheVariants.{Local};
 ghost use Rattle.elf_object.specs.Parts.{symbol_count};
-ghost use Rattle.tls_symbols.specs.Bindings.{binding_of, get_address, is_tls_symbol, may_import, object_at, IsBindingWithin};
+ghost use Rattle.tls_symbols.specs.Bindings.{binding_of, get_address, is_tls_symbol, object_at, IsBindingWithin};
 ghost use Rattle.tls_symbols.specs.Definitions.{definition_of, same_binding, IsWithin};
 ghost use Rattle.tls_symbols.specs.Known.{IsKnown, binding_at, definition_at, imported_at};
 ghost use Rattle.tls_symbols.specs.Numbers.{IsNumbered};
@@ -128,19 +128,6 @@ pub fn is_run_time(names: &ImageNames, object: usize, symbol: u32) -> bool
     }
 }
 
-/// Whether a relocation of this type may name what another image exports.
-pub fn may_import(kind: RelocationKind) -> bool
-    ensures { result ≡ may_import kind }
-{
-    matches!(
-        kind,
-        RelocationKind::TlsGd
-            | RelocationKind::GotTpOff
-            | RelocationKind::GotPc32TlsDesc
-            | RelocationKind::TlsDescCall
-    )
-}
-
 /// The first startup image that exports the name of this number.
 fn imported_at(names: &ImageNames, number: usize) -> Option<Binding>
     ensures { result ≡ imported_at names.now number }
@@ -160,7 +147,7 @@ fn binding_at(names: &ImageNames, number: usize, kind: RelocationKind) -> Option
     }
     match definition_at(names, number) {
         Some(found) => Some(Binding::Here(found)),
-        None if may_import(kind) => imported_at(names, number),
+        None if kind.may_import() => imported_at(names, number),
         None => None,
     }
 }

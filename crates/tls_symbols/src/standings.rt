@@ -6,7 +6,7 @@ ghost use Rattle.tls_symbols.specs.Bindings.{is_tls_binding, object_at, IsBindin
 ghost use Rattle.tls_symbols.specs.Known.{IsKnown};
 ghost use Rattle.tls_symbols.specs.Standings.{bound_as, bound_in, AreStandings, IsBound, IsStanding};
 
-use crate::image_names::{ImageNames, binding, is_tls, may_import};
+use crate::image_names::{ImageNames, binding, is_tls};
 use elf_object::{Object, Relocation, RelocationKind};
 use link_faults::Binding;
 use std::alloc::{AllocError, Global};
@@ -33,7 +33,7 @@ impl Standing {
     pub fn bound(self, kind: RelocationKind) -> Bound
         ensures { result ≡ bound_in self kind }
     {
-        if may_import(kind) {
+        if kind.may_import() {
             self.importing
         } else {
             self.usual

@@ -6,7 +6,6 @@ ghost use Rattle.elf_object.specs.Lent.{relocations};
 ghost use Rattle.elf_object.specs.Parts.{symbol_count};
 ghost use Rattle.tls_symbols.specs.declared.uses.Charge.TheVariants.{Either};
 ghost use Rattle.tls_symbols.specs.Bindings.{object_at};
-ghost use Rattle.tls_symbols.specs.Faults.{is_tls_kind};
 ghost use Rattle.tls_symbols.specs.Known.{IsKnown};
 ghost use Rattle.tls_symbols.specs.Searches.{first_entry, first_use_from, first_use_in, test_of};
 ghost use Rattle.tls_symbols.specs.Standings.{is_unbound, is_unsuited, AreStandings};
@@ -28,22 +27,6 @@ pub enum Charge {
     Either,
 }
 
-/// Whether a relocation of this type belongs to thread-local storage.
-fn is_tls_kind(kind: RelocationKind) -> bool
-    ensures { result ≡ is_tls_kind kind }
-{
-    matches!(
-        kind,
-        RelocationKind::TlsGd
-            | RelocationKind::TlsLd
-            | RelocationKind::DtpOff32
-            | RelocationKind::GotTpOff
-            | RelocationKind::TpOff32
-            | RelocationKind::GotPc32TlsDesc
-            | RelocationKind::TlsDescCall
-    )
-}
-
 /// Whether there is nothing that a symbol is bound to.
 fn is_nothing(bound: Bound) -> bool
     ensures { result ≡ is_unbound bound }
@@ -57,8 +40,8 @@ fn is_mismatched(bound: Bound, kind: RelocationKind) -> bool
 {
     match bound {
         Bound::Nothing => false,
-        Bound::ThreadLocal => !is_tls_kind(kind),
-        Bound::Ordinary => is_tls_kind(kind),
+        Bound::ThreadLocal => !kind.is_tls(),
+        Bound::Ordinary => kind.is_tls(),
     }
 }
 
@@ -76,7 +59,7 @@ fn is_charged(
         → relocation.now.symbol < symbol_count (object_at names.now.objects.now index) }
     ensures { result ≡ test_of charge names.now.objects.now names.now.startup.now index relocation.now }
 {
-    if relocation.kind == RelocationKind::Nothing {
+    if !relocation.kind.names_symbol() {
         return false;
     }
     let bound = standings[relocation.symbol as usize].bound(relocation.kind);
