@@ -257,8 +257,8 @@ word_fits g p a e small low =
     (difference_fits ((pos g +ℤ negsuc 3) -ℤ pos p) g (p + 4) sum small low)
 
 module _ (l : Linking) (given : IsGiven l) (links : Links l) (o : ℕ) (there : o < length l.objects) (site : Site)
-    (has : Contains (sites_at l o) site) (new : NewField) (is_new : new_field site.form (choice l o site) ≡ Some new)
-    where
+    (has : Contains (sites_at l o) site) (new : NewField)
+    (is_new : new_field site.form (choice l o site) ≡ Some new) where
   limits : FitsTable l
   limits = table_fits l given links.sound.limits
 

@@ -1,5 +1,5 @@
 -- The parts of an image: those of sections are zero where no section has a byte, and the table and the stub are parts.
-use Rattle.std.proofs.Common.{◌≡◌, ◌+◌, ◌-◌, ◌<◌, ◌≤◌, ◌⊎◌, ◌==◌, ◌∙◌, ◌++◌, ℕ, true, false, List, [], ◌∷◌, Some, length, map}
+use Rattle.std.proofs.Common.{◌≡◌, ◌+◌, ◌-◌, ◌<◌, ◌≤◌, ◌⊎◌, ◌==◌, ◌∙◌, ◌++◌, ℕ, true, false, List, [], ◌∷◌, Option, Some, length, map}
 use Rattle.std.proofs.Common.{drop, take, inl, inr, refl, sym, ap, subst, arith}
 use Rattle.std.specs.Prelude.{option_map, slice_get, slice_index_or}
 use Rattle.std.proofs.lemmas.Bool.Decides.{nat_tests}
@@ -154,11 +154,13 @@ module _ (l : Linking) (some : 0 < got_size l) where
 
   pub got_is_part : IsGiven l → FitsTable l → slice_get (image_of l).parts (got_index l) ≡ Some (got_part l)
   got_is_part given limits =
+      let made : List ℕ → Option Part = λ bytes.
+      Some (record { class = Writable; address = got_start l; bytes = bytes }) in
       let place : file_offset (file_kind l.kind) (got_start l) ≡ offset_of (layout l) (got_start l) =
       omega (arith, same_base l.kind, base_before l) in
       part_at_index l (got_index l) (got_place l) got_placed
-      ∙ ap (λ n. Some (record { class = Writable; address = got_start l; bytes = part_at (got_size l) n (file l) })) place
-      ∙ ap (λ bytes. Some (record { class = Writable; address = got_start l; bytes = bytes }))
+      ∙ ap (λ n. made (part_at (got_size l) n (file l))) place
+      ∙ ap made
       (table_at l given limits some)
 
 pub tables_are_parts : TablesAreParts
@@ -194,12 +196,14 @@ module _ (l : Linking) (has : has_stub l ≡ true) where
 
   pub stub_is_part : IsGiven l → FitsTable l → slice_get (image_of l).parts (stub_index l) ≡ Some (stub_part l)
   stub_is_part given limits =
+      let made : List ℕ → Option Part = λ bytes.
+      Some (record { class = Executable; address = stub_start l; bytes = bytes }) in
       let up = page_up-above (got_start l + got_size l) in
       let place : file_offset (file_kind l.kind) (stub_start l) ≡ offset_of (layout l) (stub_start l) =
       omega (arith, same_base l.kind, base_before l, up) in
       part_at_index l (stub_index l) (stub_place l) stub_placed
-      ∙ ap (λ n. Some (record { class = Executable; address = stub_start l; bytes = part_at 6 n (file l) })) place
-      ∙ ap (λ bytes. Some (record { class = Executable; address = stub_start l; bytes = bytes }))
+      ∙ ap (λ n. made (part_at 6 n (file l))) place
+      ∙ ap made
       (stub_at l given limits has)
 
 pub stubs_are_parts : StubsAreParts

@@ -152,20 +152,18 @@ pub table_at : (l : Linking) → IsGiven l → FitsTable l → 0 < got_size l
     → part_at (got_size l) (offset_of (layout l) (got_start l)) (file l) ≡ got_bytes l
 unfolding raw_file
 table_at l given limits some =
-    let n = got_size l in
-    let at = offset_of (layout l) (got_start l) in
     let sections = sections_file (layout l) l.objects in
     let there = got_there l sections some in
     let above = base_before l in
     let low = files_end l.kind l.objects (are_laid l given limits) in
     let long = with_got_length l sections low in
-    let whole : at ≡ at + 0 = omega arith in
-    table_stays l given limits n at (omega arith)
-    ∙ stub_behind l n at (with_got l sections) (omega (arith, there.1, long, above))
-    ∙ ap (part_at n at) there.0
-    ∙ ap (λ i. part_at n i (with_part l (got_start l) (got_bytes l) sections)) whole
-    ∙ part_in l n 0 (got_start l) (got_bytes l) sections (omega (arith, low, got_start-after l))
-    ∙ whole_part n (got_bytes l) (got_length l)
+    let whole : offset_of (layout l) (got_start l) ≡ offset_of (layout l) (got_start l) + 0 = omega arith in
+    table_stays l given limits (got_size l) (offset_of (layout l) (got_start l)) (omega arith)
+    ∙ stub_behind l (got_size l) (offset_of (layout l) (got_start l)) (with_got l sections) (omega (arith, there.1, long, above))
+    ∙ ap (part_at (got_size l) (offset_of (layout l) (got_start l))) there.0
+    ∙ ap (λ i. part_at (got_size l) i (with_part l (got_start l) (got_bytes l) sections)) whole
+    ∙ part_in l (got_size l) 0 (got_start l) (got_bytes l) sections (omega (arith, low, got_start-after l))
+    ∙ whole_part (got_size l) (got_bytes l) (got_length l)
 
 -- ** the stub
 

@@ -25,11 +25,11 @@ use Rattle.link_core.proofs.Together.{together}
 
 -- ** tests
 
-covers_is : (m n a k e : ℕ) (kept : Bool) → ((m == n) && (nat_le a k && nat_lt k e) && not kept) ≡ true
+pub covers_is : (m n a k e : ℕ) (kept : Bool) → ((m == n) && (nat_le a k && nat_lt k e) && not kept) ≡ true
     → (m ≡ n) × (a ≤ k) × (k < e) × (kept ≡ false)
 covers_is m n a k e kept h = grind (arith, nat_tests)
 
-covers_so : (m n a k e : ℕ) (kept : Bool) → m ≡ n → a ≤ k → k < e → kept ≡ false
+pub covers_so : (m n a k e : ℕ) (kept : Bool) → m ≡ n → a ≤ k → k < e → kept ≡ false
     → ((m == n) && (nat_le a k && nat_lt k e) && not kept) ≡ true
 covers_so m n a k e kept same low high off = grind (arith, nat_tests)
 
