@@ -25,6 +25,7 @@ pub mod LoadsPlaces
 pub mod LoadsTables
 pub mod LoadsTls
 pub mod NamesHeld
+pub mod NewFields
 pub mod PartFields
 pub mod PartSplit
 pub mod PartSteps
@@ -37,6 +38,7 @@ pub mod SearchedFields
 pub mod Standing
 pub mod StandingAway
 pub mod StandingFields
+pub mod StandingParts
 pub mod StandingPlaces
 pub mod StandingSites
 pub mod StandingSteps
@@ -48,6 +50,7 @@ pub mod SymbolsNames
 pub mod Together
 pub mod TogetherFound
 pub mod TogetherNames
+pub mod TogetherPlaces
 pub mod TogetherRows
 pub mod TogetherSites
 pub mod WritingFields

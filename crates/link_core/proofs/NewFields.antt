@@ -1,10 +1,11 @@
--- The value of the field in a rewritten form fits: a variable's distance from the thread pointer, and how far an entry
+-- The field of a rewritten sequence fits its value: a variable's distance from the thread pointer, and how far an entry
 -- of the table is from the field's end, are small.
 use Rattle.std.proofs.Common.{◌≡◌, ◌+◌, ◌<◌, ◌≤◌, ◌⊎◌, ◌^◌, ◌==◌, ◌∙◌, ℕ, ℤ, pos, negsuc, Bool, true, false, List}
 use Rattle.std.proofs.Common.{[], ◌∷◌, Option, Some, None, length, inl, inr, refl, sym, ap, subst, arith}
 use Rattle.std.specs.Prelude.{◌+ℤ◌, ◌-ℤ◌, fold, unwrap_or, if◌then◌else◌}
 use Rattle.std.specs.List.{All, Contains}
 use Rattle.std.specs.Str.{bytes_eq}
+use Rattle.std.proofs.lemmas.Bool.{lt-ltb}
 use Rattle.std.proofs.lemmas.Int.{ints}
 use Rattle.std.proofs.lemmas.List.Elements.{All-contains, All-head, All-tail}
 use Rattle.elf_object.specs.declared.relocation.Relocation.{Relocation}
@@ -16,27 +17,30 @@ use Rattle.elf_records.specs.declared.relocation.RelocationKind.TheVariants.{Got
 use Rattle.got_pairs.proofs.Served.{within}
 use Rattle.got_pairs.specs.declared.need.Need.{Need}
 use Rattle.got_pairs.specs.Needs.{start_of, total_size}
-use Rattle.link_core.proofs.GotRelocationsSites.{known}
-use Rattle.link_core.proofs.StandingPlaces.{site_in}
 use Rattle.link_faults.specs.declared.binding.Binding.{Binding}
 use Rattle.link_faults.specs.declared.binding.Binding.TheVariants.{Here, Startup, Runtime}
+use Rattle.link_faults.specs.declared.image_kind.ImageKind.{ImageKind}
+use Rattle.link_faults.specs.declared.image_kind.ImageKind.TheVariants.{Exe, Pie, Start, Late}
 use Rattle.link_faults.specs.declared.symbol_ref.SymbolRef.{SymbolRef}
 use Rattle.link_needs.proofs.InputsLemmas.{address_small}
 use Rattle.link_needs.proofs.PlanLemmas.{table_small}
 use Rattle.link_needs.proofs.UsableSites.{usable}
-use Rattle.link_needs.specs.Given.{FitsTable}
-use Rattle.link_needs.specs.Linking.{Linking, binding, block_offset, layout, object, offset, place, sites_at}
+use Rattle.link_needs.specs.Given.{FitsTable, IsGiven}
+use Rattle.link_needs.specs.Linking.{Linking, binding, block_offset, choice, chosen, layout, object, offset, place}
+use Rattle.link_needs.specs.Linking.{sites_at}
 use Rattle.link_needs.specs.Needs.{entries, entry_by, got_start, need_address, new_relocation, relocation_need}
 use Rattle.link_needs.specs.Usable.{IsUsable}
 use Rattle.link_needs.specs.Values.{field, other_number, own_number}
+use Rattle.link_tables.specs.Faults.{Links}
 use Rattle.relax_sites.proofs.Tables.{field_end}
-use Rattle.relax_sites.specs.declared.choices.Choice.{Choice}
-use Rattle.relax_sites.specs.declared.choices.Choice.TheVariants.{GdLe, GdIe, LdLe, IeLe, DescLe, DescIe}
+use Rattle.relax_sites.specs.Choices.{choice_of, program_choice}
+use Rattle.relax_sites.specs.declared.choices.Choice.TheVariants.{Keep}
 use Rattle.relax_sites.specs.declared.rows.NewField.{NewField}
 use Rattle.relax_sites.specs.Rows.{new_field}
 use Rattle.sequence_forms.specs.declared.forms.Form.{Form}
 use Rattle.sequence_forms.specs.declared.forms.Form.TheVariants.{Gd, Ld, IeMov, IeAdd, GdInd, LdInd, DescLea, DescCall}
 use Rattle.sequence_forms.specs.declared.places.Site.{Site}
+use Rattle.sequence_match.specs.Faults.{IsSite}
 use Rattle.sequence_match.specs.Sites.{first_of}
 use Rattle.tls_layout.proofs.Rounds.{power_bounds, round_up-near}
 use Rattle.tls_layout.proofs.Together.{power_more}
@@ -44,52 +48,85 @@ use Rattle.tls_layout.specs.declared.sections.Section.{Section}
 use Rattle.tls_layout.specs.Places.{greatest_alignment, next_alignment, tls_alignment, tls_size}
 use Rattle.tls_layout.specs.Sections.{IsOrdinary}
 use Rattle.tls_relocs.specs.declared.fields.Field.{Field}
-use Rattle.tls_relocs.specs.Values.{signed_field, stored_field}
+use Rattle.tls_relocs.specs.declared.fields.Field.TheVariants.{Word32}
+use Rattle.tls_relocs.specs.Values.{modulo, signed_field, stored_field}
 use Rattle.tls_symbols.specs.Bindings.{binding_of, first_export, get_address, here_or, may_import, name_binding}
 use Rattle.tls_symbols.specs.Bindings.{object_at, of_startup}
 use Rattle.tls_symbols.specs.Definitions.{definition_of, same_binding}
-use Rattle.standing_sequences.specs.Bytes.{IsLinked}
-use Rattle.standing_sequences.specs.Table.{IsInTable, IsSequence, Matches}
-use Rattle.standing_sequences.proofs.Covering.{own_site}
-use Rattle.standing_sequences.proofs.Kept.{limits}
-use Rattle.standing_sequences.proofs.Values.{difference_fits}
+use Rattle.link_core.proofs.Few.{table_fits}
+use Rattle.link_core.proofs.GotRelocationsSites.{known}
+use Rattle.link_core.proofs.StandingPlaces.{site_in}
+use Rattle.link_core.specs.Laws.{NewFieldsFit}
 
 -- ** which of the two it is
 
 -- the distance of a variable of the program, or the word of any
-record IsTpOff (bound : Binding) (new : NewField) : Type 0 where
+record IsTpOff (bound : Option Binding) (new : NewField) : Type 0 where
   kind_is : new.kind ≡ TpOff32
   addend_is : new.addend ≡ pos 0
   variable : SymbolRef
-  here : bound ≡ Here variable
+  here : bound ≡ Some (Here variable)
 
 record IsGotTpOff (new : NewField) : Type 0 where
   kind_is : new.kind ≡ GotTpOff
   addend_is : new.addend ≡ negsuc 3
 
-tp_off : (variable : SymbolRef) (at : ℕ) (new : NewField)
-    → Some (record { at = at; kind = TpOff32; addend = pos 0 }) ≡ Some new → IsTpOff (Here variable) new
-tp_off variable at new e = record { kind_is = cc; addend_is = cc; variable = variable; here = refl }
+abbrev IsNew : Option Binding → NewField → Type 0
+IsNew bound new = IsTpOff bound new ⊎ IsGotTpOff new
 
-got_tp_off : (at : ℕ) (new : NewField) → Some (record { at = at; kind = GotTpOff; addend = negsuc 3 }) ≡ Some new
-    → IsGotTpOff new
-got_tp_off at new e = record { kind_is = cc; addend_is = cc }
+distance : (variable : SymbolRef) (at : ℕ) (new : NewField)
+    → Some (record { at = at; kind = TpOff32; addend = pos 0 }) ≡ Some new → IsNew (Some (Here variable)) new
+distance variable at new e = inl (record { kind_is = cc; addend_is = cc; variable = variable; here = refl })
 
-which : (form : Form) (bound : Binding) (c : Choice) (new : NewField) → IsInTable form bound c
-    → new_field form c ≡ Some new → IsTpOff bound new ⊎ IsGotTpOff new
-which Gd (Here variable) GdLe new h e = inl (tp_off variable 12 new e)
-which Gd (Startup image) GdIe new h e = inr (got_tp_off 12 new e)
-which GdInd (Here variable) GdLe new h e = inl (tp_off variable 12 new e)
-which GdInd (Startup image) GdIe new h e = inr (got_tp_off 12 new e)
-which Ld bound LdLe new h e = absurd (cc)
-which LdInd bound LdLe new h e = absurd (cc)
-which IeMov (Here variable) IeLe new h e = inl (tp_off variable 3 new e)
-which IeAdd (Here variable) IeLe new h e = inl (tp_off variable 3 new e)
-which DescLea (Here variable) DescLe new h e = inl (tp_off variable 3 new e)
-which DescLea (Startup image) DescIe new h e = inr (got_tp_off 3 new e)
-which DescCall (Here variable) DescLe new h e = absurd (cc)
-which DescCall (Startup image) DescIe new h e = absurd (cc)
-which form bound c new h e = absurd h
+word : (bound : Option Binding) (at : ℕ) (new : NewField)
+    → Some (record { at = at; kind = GotTpOff; addend = negsuc 3 }) ≡ Some new → IsNew bound new
+word bound at new e = inr (record { kind_is = cc; addend_is = cc })
+
+of_program : (form : Form) (bound : Binding) (new : NewField) → new_field form (program_choice form bound) ≡ Some new
+    → IsNew (Some bound) new
+of_program Gd (Here variable) new e = distance variable 12 new e
+of_program Gd (Startup image) new e = word _ 12 new e
+of_program Gd Runtime new e = absurd (cc)
+of_program GdInd (Here variable) new e = distance variable 12 new e
+of_program GdInd (Startup image) new e = word _ 12 new e
+of_program GdInd Runtime new e = absurd (cc)
+of_program IeMov (Here variable) new e = distance variable 3 new e
+of_program IeMov (Startup image) new e = absurd (cc)
+of_program IeMov Runtime new e = absurd (cc)
+of_program IeAdd (Here variable) new e = distance variable 3 new e
+of_program IeAdd (Startup image) new e = absurd (cc)
+of_program IeAdd Runtime new e = absurd (cc)
+of_program DescLea (Here variable) new e = distance variable 3 new e
+of_program DescLea (Startup image) new e = word _ 3 new e
+of_program DescLea Runtime new e = absurd (cc)
+of_program DescCall (Here variable) new e = absurd (cc)
+of_program DescCall (Startup image) new e = absurd (cc)
+of_program DescCall Runtime new e = absurd (cc)
+of_program Ld bound new e = absurd (cc)
+of_program LdInd bound new e = absurd (cc)
+
+kept_has_none : (form : Form) (new : NewField) → new_field form Keep ≡ Some new → ⊥
+kept_has_none Gd new e = cc
+kept_has_none Ld new e = cc
+kept_has_none IeMov new e = cc
+kept_has_none IeAdd new e = cc
+kept_has_none GdInd new e = cc
+kept_has_none LdInd new e = cc
+kept_has_none DescLea new e = cc
+kept_has_none DescCall new e = cc
+
+of_kind : (form : Form) (bound : Binding) (kind : ImageKind) (relax : Bool) (new : NewField)
+    → new_field form (choice_of form bound kind relax) ≡ Some new → IsNew (Some bound) new
+of_kind form bound kind false new e = absurd (kept_has_none form new e)
+of_kind form bound Exe true new e = of_program form bound new e
+of_kind form bound Pie true new e = of_program form bound new e
+of_kind form bound Start true new e = absurd (kept_has_none form new e)
+of_kind form bound Late true new e = absurd (kept_has_none form new e)
+
+which : (l : Linking) (form : Form) (bound : Option Binding) (new : NewField)
+    → new_field form (chosen l form bound) ≡ Some new → IsNew bound new
+which l form None new e = absurd (kept_has_none form new e)
+which l form (Some bound) new e = of_kind form bound l.kind l.relax new e
 
 -- ** bindings
 
@@ -190,6 +227,18 @@ word_field l o r kind s p is = absurd (cc)
 
 -- ** the value
 
+-- the difference of two small numbers
+difference_fits : (z : ℤ) (a b : ℕ) → z +ℤ pos b ≡ pos a → a < 2 ^ 31 → b < 2 ^ 31
+    → (value : Field) × (signed_field z ≡ Some value)
+difference_fits (pos n) a b e small low =
+    let sum : n + b ≡ a = omega (arith, ints, e) in
+    let yes = lt-ltb n (2 ^ 31) (omega (arith, sum, small)) in
+    (Word32 (modulo (2 ^ 32) (pos n)), rw yes refl)
+difference_fits (negsuc n) a b e small low =
+    let sum : n + 1 + a ≡ b = omega (arith, ints, e) in
+    let yes = lt-ltb n (2 ^ 31) (omega (arith, sum, low)) in
+    (Word32 (modulo (2 ^ 32) (negsuc n)), rw yes refl)
+
 abbrev HasValue : Option Field → Type 0
 HasValue found = (value : Field) × (found ≡ Some value)
 
@@ -207,48 +256,53 @@ word_fits g p a e small low =
     subst (λ n. HasValue (signed_field ((pos g +ℤ n) -ℤ pos p))) (sym e)
     (difference_fits ((pos g +ℤ negsuc 3) -ℤ pos p) g (p + 4) sum small low)
 
-module _ (l : Linking) (linked : IsLinked l) (o : ℕ) (there : o < length l.objects) (site : Site)
-    (is : IsSequence l o site.section site) (c : Choice) (m : Matches l o site c) (limits : FitsTable l) where
-  has : Contains (sites_at l o) site
-  has = own_site l linked.given o site.section there site is
+module _ (l : Linking) (given : IsGiven l) (links : Links l) (o : ℕ) (there : o < length l.objects) (site : Site)
+    (has : Contains (sites_at l o) site) (new : NewField)
+    (is_new : new_field site.form (choice l o site) ≡ Some new) where
+  limits : FitsTable l
+  limits = table_fits l given links.sound.limits
 
   fits : IsUsable (object l o) site
-  fits = All-contains (IsUsable (object l o)) (sites_at l o) site (usable l o linked.given there) has
+  fits = All-contains (IsUsable (object l o)) (sites_at l o) site (usable l o given there) has
 
-  module _ (new : NewField) (is_new : new_field site.form c ≡ Some new) where
-    abbrev r : Relocation
-    r = new_relocation site new
+  spelled : IsSite (object l o) site
+  spelled = All-contains (IsSite (object l o)) (sites_at l o) site (given.are_sites o there).only has
 
-    of_distance : IsTpOff m.bound new → HasValue (field l o site.section (new_relocation site new))
-    unfolding field
-    of_distance h =
-        let bound = m.bound_is ∙ ap Some h.here in
-        let inside = (known l linked.given linked.links.sound o site there has is.spelled fits.symbol).inside
-        h.variable bound in
-        subst HasValue
-        (sym (distance_field l o r new.kind (binding l o r) h.variable (place l o site.section r.offset) h.kind_is
-        (here_alike l.objects l.startup o (first_of site) r h.variable refl bound)))
-        (distance_fits (offset l h.variable) (block_offset l) new.addend h.addend_is
-        (omega (arith, inside, limits.lawful.small_tls)) (omega (arith, block_near l limits)))
+  abbrev r : Relocation
+  r = new_relocation site new
 
-    of_word : IsGotTpOff new → HasValue (field l o site.section (new_relocation site new))
-    unfolding field
-    of_word h =
-        let at = site_in l linked.given limits o site there has in
-        let low = address_small (layout l) o site.section at.address limits.lawful at.lies.address_is in
-        let end = (field_end site.form c site.reg new is_new).end in
-        let begins : place l o site.section (site.start + new.at) ≡ at.address + (site.start + new.at) =
-        ap (λ a. unwrap_or a 0 + (site.start + new.at)) at.lies.address_is in
-        subst HasValue
-        (sym (word_field l o r new.kind (own_number l new.kind (binding l o r)) (place l o site.section r.offset)
-        h.kind_is))
-        (word_fits (need_address l (relocation_need l o r)) (place l o site.section (site.start + new.at)) new.addend
-        h.addend_is
-        (omega (arith, entry_low l (relocation_need l o r) (table_small l linked.given limits)))
-        (omega (arith, begins, low, end, fits.small, fits.whole)))
+  of_distance : IsTpOff (binding l o (first_of site)) new → HasValue (field l o site.section (new_relocation site new))
+  unfolding field
+  of_distance h =
+      let inside = (known l given links.sound o site there has spelled fits.symbol).inside h.variable h.here in
+      subst HasValue
+      (sym (distance_field l o r new.kind (binding l o r) h.variable (place l o site.section r.offset) h.kind_is
+      (here_alike l.objects l.startup o (first_of site) r h.variable refl h.here)))
+      (distance_fits (offset l h.variable) (block_offset l) new.addend h.addend_is
+      (omega (arith, inside, limits.lawful.small_tls)) (omega (arith, block_near l limits)))
 
-    pub new_value : (value : Field) × (field l o site.section (new_relocation site new) ≡ Some value)
-    new_value = elim (which site.form m.bound c new m.listed is_new) [
-      | inl h ↦ of_distance h
-      | inr h ↦ of_word h
-    ]
+  of_word : IsGotTpOff new → HasValue (field l o site.section (new_relocation site new))
+  unfolding field
+  of_word h =
+      let at = site_in l given limits o site there has in
+      let low = address_small (layout l) o site.section at.address limits.lawful at.lies.address_is in
+      let end = (field_end site.form (choice l o site) site.reg new is_new).end in
+      let begins : place l o site.section (site.start + new.at) ≡ at.address + (site.start + new.at) =
+      ap (λ a. unwrap_or a 0 + (site.start + new.at)) at.lies.address_is in
+      subst HasValue
+      (sym (word_field l o r new.kind (own_number l new.kind (binding l o r)) (place l o site.section r.offset)
+      h.kind_is))
+      (word_fits (need_address l (relocation_need l o r)) (place l o site.section (site.start + new.at)) new.addend
+      h.addend_is
+      (omega (arith, entry_low l (relocation_need l o r) (table_small l given limits)))
+      (omega (arith, begins, low, end, fits.small, fits.whole)))
+
+  new_value : HasValue (field l o site.section (new_relocation site new))
+  unfolding choice
+  new_value = elim (which l site.form (binding l o (first_of site)) new is_new) [
+    | inl h ↦ of_distance h
+    | inr h ↦ of_word h
+  ]
+
+pub new_fields_fit : NewFieldsFit
+new_fields_fit l o site new given links there has is = new_value l given links o there site has new is
