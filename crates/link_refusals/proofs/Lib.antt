@@ -1,5 +1,6 @@
 pub mod Asked
 pub mod FirstCharged
+pub mod Named
 pub mod Objects
 pub mod Places
 pub mod Positions
