@@ -219,7 +219,7 @@ module _ (l : Linking) where
     stub_there e = calls_from 0 l.sites o o site (omega arith) (omega (arith, given.each, there)) own e
 
     pub called_entry : is_kept (choice l o site) ≡ true → calls site.form ≡ true → HasEntry l RuntimeWord
-    called_entry kept call = of_site RuntimeWord (called l o site kept call)
+    called_entry kept call = of_site RuntimeWord (called o site kept call)
 
     -- what holds of a site holds of one of all sites
     pub any_site : (test : Site → Bool) → test site ≡ true → list_any (λ own. list_any test own) l.sites ≡ true
