@@ -1,8 +1,8 @@
 -- Which bytes of a row are spelled: those before its first field, and those behind it up to its second one.
-use Rattle.std.proofs.Common.{◌≡◌, ◌+◌, ◌-◌, ◌<◌, ◌≤◌, ◌⊎◌, ◌&&◌, ◌||◌, ◌↔◌, ◌∙◌, ℕ, zero, suc, Bool, true, false, not, List, [], ◌∷◌, Some, IsTrue, length, nat_lt, get_or, refl, sym, ap, subst, inl, inr, arith, rules}
+use Rattle.std.proofs.Common.{◌≡◌, ◌+◌, ◌-◌, ◌<◌, ◌≤◌, ◌⊎◌, ◌&&◌, ◌||◌, ◌↔◌, ◌∙◌, ℕ, zero, suc, Bool, true, false, not, List, [], ◌∷◌, Some, IsTrue, length, nat_lt, get_or, refl, sym, ap, subst, inl, inr, arith}
 use Rattle.std.specs.List.{slice_get}
 use Rattle.std.proofs.lemmas.Bool.Decides.{nat_tests}
-use Rattle.std.proofs.lemmas.Option.{slice_get_within, slice_get-get_or}
+use Rattle.std.proofs.lemmas.Option.{slice_get-get_or}
 use Rattle.elf_records.specs.declared.relocation.RelocationKind.{RelocationKind}
 use Rattle.elf_records.specs.declared.relocation.RelocationKind.TheVariants.{Nothing, TlsDescCall}
 use Rattle.elf_object.specs.declared.relocation.Relocation.{Relocation}
@@ -13,7 +13,7 @@ use Rattle.sequence_forms.specs.declared.forms.Form.{Form}
 use Rattle.sequence_forms.specs.declared.forms.Form.TheVariants.{Gd, Ld, IeMov, IeAdd, GdInd, LdInd, DescLea, DescCall}
 use Rattle.sequence_forms.specs.Forms.{row}
 use Rattle.sequence_match.specs.Code.{AreBare, AreBytes, behind_at, behind_end}
-use Rattle.sequence_match.specs.Sites.{Covers, IsBare, IsEntry, IsLiteral, IsSpelled}
+use Rattle.sequence_match.specs.Sites.{IsBare, IsLiteral, IsSpelled}
 use Rattle.sequence_match.proofs.Clashes.{is_field}
 
 -- ** the rows

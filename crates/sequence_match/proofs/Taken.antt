@@ -1,6 +1,6 @@
 -- A list that is taken one element after another.
-use Rattle.std.proofs.Common.{◌≡◌, ◌++◌, ◌∷◌, ◌∙◌, List, [], length, sym, ap}
-use Rattle.std.proofs.lemmas.List.{append_assoc, append-nil}
+use Rattle.std.proofs.Common.{◌≡◌, ◌++◌, ◌∷◌, ◌∙◌, List, [], sym, ap}
+use Rattle.std.proofs.lemmas.List.{append_assoc}
 
 -- at first all is left
 pub none_taken : {X : Type 0} (taken left all : List X) → taken ≡ [] → left ≡ all → taken ++ left ≡ all
@@ -11,7 +11,3 @@ pub one_taken : {X : Type 0} (taken more left rest all : List X) (x : X) → mor
     → taken ++ left ≡ all → more ++ rest ≡ all
 one_taken taken more left rest all x pushed first so =
     ap (λ xs. xs ++ rest) pushed ∙ append_assoc taken (x ∷ []) rest ∙ ap (λ xs. taken ++ xs) (sym first) ∙ so
-
--- at last none is left
-pub all_taken : {X : Type 0} (taken left all : List X) → left ≡ [] → taken ++ left ≡ all → taken ≡ all
-all_taken taken left all none so = sym (append-nil taken) ∙ ap (λ xs. taken ++ xs) (sym none) ∙ so

@@ -1,4 +1,4 @@
-use Rattle.std.proofs.Common.{◌+◌, ◌≤◌, ◌++◌, ◌∙◌, List, sym, ap, subst, arith}
+use Rattle.std.proofs.Common.{◌+◌, ◌≤◌, List, sym, subst, arith}
 use Rattle.object_rules.specs.declared.fault.FaultKind.TheVariants.{Sequence, StrayCall}
 use Rattle.elf_object.specs.Parts.{header}
 use Rattle.sequence_forms.specs.declared.places.Site.{Site}

@@ -1,7 +1,6 @@
-use Rattle.std.proofs.Common.{◌≡◌, List}
-use Rattle.elf_object.specs.declared.relocation.Relocation.{Relocation}
+use Rattle.std.proofs.Common.{◌≡◌}
 use Rattle.elf_object.specs.Lent.{relocations}
-use Rattle.sequence_match.proofs.Taken.{all_taken, none_taken, one_taken}
+use Rattle.sequence_match.proofs.Taken.{none_taken, one_taken}
 use Rattle.sequence_match.proofs.finding.relocations_of.Goals as goal
 
 pub loop-relocation-init : goal.loop-relocation-init

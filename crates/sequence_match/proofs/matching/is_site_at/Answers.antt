@@ -1,4 +1,4 @@
-use Rattle.std.proofs.Common.{◌+◌, ◌≤◌, length, ap, sym, subst, arith, rules}
+use Rattle.std.proofs.Common.{◌+◌, ◌≤◌, length, sym, subst, arith, rules}
 use Rattle.elf_records.specs.declared.relocation.RelocationKind.{RelocationKind}
 use Rattle.sequence_match.specs.Faults.{IsOfSequence}
 use Rattle.sequence_forms.specs.Forms.{row}

@@ -1,4 +1,4 @@
-use Rattle.std.proofs.Common.{◌≤◌, ◌+◌, List, length, sym, ap, subst, arith, rules}
+use Rattle.std.proofs.Common.{◌≤◌, ◌+◌, List, length, ap, subst, arith, rules}
 use Rattle.sequence_forms.specs.declared.forms.Cell.{Cell}
 use Rattle.sequence_forms.specs.Forms.{row}
 use Rattle.sequence_match.specs.Code.{AreBytes}

@@ -1,4 +1,4 @@
-use Rattle.std.proofs.Common.{◌+◌, ◌<◌, ◌≤◌, ℕ}
+use Rattle.std.proofs.Common.{◌+◌, ◌≤◌, ℕ}
 use Rattle.elf_object.specs.declared.relocation.Relocation.{Relocation}
 use Rattle.sequence_match.specs.Code.{CoversIn}
 use Rattle.sequence_match.specs.Sites.{IsEntry}
