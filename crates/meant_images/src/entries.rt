@@ -14,8 +14,7 @@ ghost use Rattle.whole_meaning.specs.Code.{offset_number};
 
 use crate::targets::{Target, target_of};
 use amd64_words::Register;
-use elf_object::Relocation;
-use elf_records::relocation_row::{FieldValue, TableEntry};
+use elf_object::{Relocation, RelocationKind};
 use link_faults::Binding;
 use link_needs::Inputs;
 use sequence_match::{Form, Site};
@@ -138,13 +137,12 @@ pub fn field_entry(inputs: &Inputs, number: usize, relocation: &Relocation) -> E
     ensures entry { IsFieldEntry inputs.now number relocation.now result }
     ensures numbered { IsNumberedEntry result }
 {
-    let row = relocation.kind.row();
-    match (row.value, row.entry) {
-        (FieldValue::SegmentOffset, _) => {
+    match relocation.kind {
+        RelocationKind::DtpOff32 => {
             let bound = inputs.bindings.binding(number, relocation);
             offset_entry(inputs, relocation, bound)
         }
-        (_, TableEntry::AddressWord) => {
+        RelocationKind::GotPcRel | RelocationKind::GotPcRelX | RelocationKind::RexGotPcRelX => {
             let bound = inputs.bindings.binding(number, relocation);
             address_entry(inputs, relocation, bound)
         }
