@@ -1,6 +1,2 @@
 pub mod Asked
-pub mod FirstCharged
-pub mod Objects
-pub mod Places
-pub mod Positions
 pub mod Sums

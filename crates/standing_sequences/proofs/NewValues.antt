@@ -45,7 +45,7 @@ use Rattle.tls_layout.specs.Places.{greatest_alignment, next_alignment, tls_alig
 use Rattle.tls_layout.specs.Sections.{IsOrdinary}
 use Rattle.tls_relocs.specs.declared.fields.Field.{Field}
 use Rattle.tls_relocs.specs.Values.{signed_field, stored_field}
-use Rattle.tls_symbols.specs.Bindings.{binding_of, first_export, get_address, here_or, may_import, name_binding}
+use Rattle.tls_symbols.specs.Bindings.{binding_of, bound_to, first_export, get_address, here_or, may_import, name_binding}
 use Rattle.tls_symbols.specs.Bindings.{object_at, of_startup}
 use Rattle.tls_symbols.specs.Definitions.{definition_of, same_binding}
 use Rattle.standing_sequences.specs.Bytes.{IsLinked}
@@ -97,7 +97,7 @@ which form bound c new h e = absurd h
 here_alike : (objects : List (List ℕ)) (startup : List (List (List ℕ))) (o : ℕ) (x y : Relocation)
     (found : SymbolRef) → x.symbol ≡ y.symbol → binding_of objects startup o x ≡ Some (Here found)
     → binding_of objects startup o y ≡ Some (Here found)
-unfolding binding_of
+unfolding bound_to
 here_alike objects startup o x y found same e =
     let b = object_at objects o in
     subst (λ n. (if same_binding Local (symbol_binding (object_at objects o) n)

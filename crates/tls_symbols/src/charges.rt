@@ -1,0 +1,91 @@
+//! The faults that a relocation may have by what its symbol is bound to.
+
+ghost use Rattle.std.specs.Prelude.{◌≡◌};
+ghost use Rattle.tls_symbols.specs.Charges.{asked_by, is_charged, IsAsked};
+ghost use Rattle.tls_symbols.specs.Faults.{is_tls_kind};
+ghost use Rattle.tls_symbols.specs.Standings.{is_unbound, is_unsuited};
+
+use crate::image_names::ImageNames;
+use crate::imports::imports_of;
+use crate::standings::{Bound, Standing};
+use crate::uses::Question;
+use elf_object::{Relocation, RelocationKind};
+
+/// A fault that a relocation may have by what its symbol is bound to.
+#[derive(Clone, Copy)]
+pub enum Charge {
+    /// It is bound to nothing.
+    Unbound,
+    /// One of the two is thread-local, the relocation's type or what its symbol is bound to, and the other isn't.
+    Unsuited,
+    /// Either of these.
+    Either,
+}
+
+/// Whether a relocation of this type belongs to thread-local storage.
+fn is_tls_kind(kind: RelocationKind) -> bool
+    ensures { result ≡ is_tls_kind kind }
+{
+    matches!(
+        kind,
+        RelocationKind::TlsGd
+            | RelocationKind::TlsLd
+            | RelocationKind::DtpOff32
+            | RelocationKind::GotTpOff
+            | RelocationKind::TpOff32
+            | RelocationKind::GotPc32TlsDesc
+            | RelocationKind::TlsDescCall
+    )
+}
+
+/// Whether there is nothing that a symbol is bound to.
+fn is_nothing(bound: Bound) -> bool
+    ensures { result ≡ is_unbound bound }
+{
+    matches!(bound, Bound::Nothing)
+}
+
+/// Whether a relocation of this type may not name what is bound so.
+fn is_mismatched(bound: Bound, kind: RelocationKind) -> bool
+    ensures { result ≡ is_unsuited kind bound }
+{
+    match bound {
+        Bound::Nothing => false,
+        Bound::ThreadLocal => !is_tls_kind(kind),
+        Bound::Ordinary => is_tls_kind(kind),
+    }
+}
+
+/// Whether a relocation of this type has this fault, whose symbol is bound so.
+fn is_charged(charge: Charge, bound: Bound, kind: RelocationKind) -> bool
+    ensures { result ≡ is_charged charge kind bound }
+{
+    match charge {
+        Charge::Unbound => is_nothing(bound),
+        Charge::Unsuited => is_mismatched(bound, kind),
+        Charge::Either => is_nothing(bound) || is_mismatched(bound, kind),
+    }
+}
+
+/// Which relocations have this fault? `standings` has what each symbol of each object stands for.
+#[derive(Clone, Copy)]
+pub struct NameQuestion<'n, 'l, 's, 'a> {
+    pub names: &'n ImageNames<'l, 's, 'a>,
+    pub standings: &'n [Vec<Standing>],
+    pub charge: Charge,
+}
+
+impl Question for NameQuestion<'_, '_, '_, '_> {
+    ghost test = { asked_by };
+
+    ghost may_ask = { IsAsked };
+
+    fn is_about(&self, object: usize, relocation: &Relocation) -> bool {
+        if relocation.kind == RelocationKind::Nothing {
+            return false;
+        }
+        let own = &self.standings[object];
+        let bound = own[relocation.symbol as usize].bound(imports_of(relocation.kind));
+        is_charged(self.charge, bound, relocation.kind)
+    }
+}
