@@ -4,7 +4,9 @@ use Rattle.std.specs.Prelude.{◌+ℤ◌, ◌-ℤ◌, ◌<ℤ◌, unwrap_or}
 use Rattle.std.proofs.lemmas.Bool.{le-ltb}
 use Rattle.std.proofs.lemmas.Int.{ints}
 use Rattle.elf_records.specs.declared.relocation.RelocationKind.{RelocationKind}
-use Rattle.elf_records.specs.declared.relocation.RelocationKind.TheVariants.{Absolute64, Pc32, Plt32, Absolute32, Absolute32Signed, TpOff32}
+use Rattle.elf_records.specs.declared.relocation.RelocationKind.TheVariants.{Absolute64, Pc32, Plt32, Absolute32, Absolute32Signed, DtpOff32, TpOff32}
+use Rattle.elf_records.specs.declared.relocation_row.Refused.TheVariants.{WhereMoved}
+use Rattle.elf_records.specs.RelocationRows.{row as kind_row}
 use Rattle.link_faults.specs.declared.binding.Binding.{Binding}
 use Rattle.link_faults.specs.declared.binding.Binding.TheVariants.{Here}
 use Rattle.link_faults.specs.declared.image_kind.ImageKind.{ImageKind}
@@ -19,13 +21,13 @@ use Rattle.class_bytes.specs.Tables.{IsMovable, Keeps, is_distance, is_elsewhere
 use Rattle.class_bytes.proofs.Words.{moved_distance}
 
 same_subtracted : (l : Linking) (bias : ℕ) (kind : RelocationKind) → subtracted l bias kind ≡ own_subtracted l kind
-same_subtracted l bias TpOff32 = refl
 same_subtracted l bias kind = refl
 
 -- ** not moved
 
 same_number : (l : Linking) (kind : RelocationKind) (bound : Option Binding) → symbol_number l 0 kind bound ≡ own_number l kind bound
 same_number l TpOff32 (Some (Here found)) = refl
+same_number l DtpOff32 (Some (Here found)) = refl
 same_number l kind (Some (Here found)) = add-zero (address l found)
 same_number l kind bound = refl
 
@@ -75,15 +77,15 @@ module _ (l : Linking) (bias : ℕ) (moved : is_moved l.kind ≡ true) (high : 2
       far_field a (at + bias) small (omega arith) ∙ sym (far_field a (at + least) small (omega (arith, low)))
 
   keeps_kind : (kind : RelocationKind) (bound : Option Binding) → has_value kind ≡ true → is_moving kind bound ≡ false
-      → (kind ≢ Absolute32) × (kind ≢ Absolute32Signed) → (is_distance kind ≡ true → is_elsewhere bound ≡ true → a <ℤ pos (2 ^ 31)) → now kind bound
+      → (kind_row kind).refused ≢ WhereMoved → (is_distance kind ≡ true → is_elsewhere bound ≡ true → a <ℤ pos (2 ^ 31)) → now kind bound
   keeps_kind Absolute64 (Some (Here found)) h stays wide near = absurd (impossible (sym stays))
   keeps_kind Absolute64 bound h stays wide near = refl
   keeps_kind Pc32 (Some (Here found)) h stays wide near = distance (address l found)
   keeps_kind Pc32 bound h stays wide near = away (near refl refl)
   keeps_kind Plt32 (Some (Here found)) h stays wide near = distance (address l found)
   keeps_kind Plt32 bound h stays wide near = away (near refl refl)
-  keeps_kind Absolute32 bound h stays wide near = absurd (wide.0 refl)
-  keeps_kind Absolute32Signed bound h stays wide near = absurd (wide.1 refl)
+  keeps_kind Absolute32 bound h stays wide near = absurd (wide refl)
+  keeps_kind Absolute32Signed bound h stays wide near = absurd (wide refl)
   keeps_kind TpOff32 (Some (Here found)) h stays wide near = refl
   keeps_kind TpOff32 bound h stays wide near = refl
   keeps_kind kind bound h stays wide near = absurd (impossible h)

@@ -22,7 +22,7 @@ use Rattle.link_faults.specs.ImageKinds.{is_moved}
 use Rattle.link_needs.specs.Given.{IsGiven}
 use Rattle.link_needs.specs.Linking.{Linking, binding, object}
 use Rattle.link_refusals.specs.Faults.{FitsKind, by_type}
-use Rattle.link_refusals.specs.Refused.{is_refused}
+use Rattle.link_refusals.specs.Refused.{is_refused, is_refused_by}
 use Rattle.sequence_forms.specs.declared.forms.Second.{Second}
 use Rattle.sequence_forms.specs.Forms.{row}
 use Rattle.sequence_match.proofs.Entries.{same_entry}
@@ -122,10 +122,8 @@ module _ (l : Linking) (given : IsGiven l) (fits : FitsKind l.objects l.kind) (r
 
 pub movable : (l : Linking) → IsGiven l → FitsKind l.objects l.kind → AreResolved l.objects l.startup → HasNoStray l → is_moved l.kind ≡ true → IsMovable l
 movable l given fits resolved stray moved = record {
-  wide = λ o s r there has. (
-    λ e. not_refused l given fits resolved stray o s r there has (ap (is_refused NarrowInModule l.kind) e ∙ moved),
-    λ e. not_refused l given fits resolved stray o s r there has (ap (is_refused NarrowInModule l.kind) e ∙ moved),
-  );
+  wide = λ o s r there has e.
+      not_refused l given fits resolved stray o s r there has (ap (is_refused_by NarrowInModule l.kind) e ∙ moved);
   near = λ o s r there has. near l given fits resolved stray o s r there has;
 }
 

@@ -6,17 +6,19 @@ use Rattle.std.specs.List.{find, range_with_len}
 use Rattle.elf_object.specs.declared.relocation.Relocation.{Relocation}
 use Rattle.elf_object.specs.Lent.{relocations, section_bytes, section_size}
 use Rattle.elf_records.specs.declared.relocation.RelocationKind.{RelocationKind}
-use Rattle.elf_records.specs.declared.relocation.RelocationKind.TheVariants.{Absolute64, TpOff32}
+use Rattle.elf_records.specs.declared.relocation_row.FieldForm.{FieldForm}
+use Rattle.elf_records.specs.declared.relocation_row.FieldForm.TheVariants.{Wrapped64}
+use Rattle.elf_records.specs.RelocationRows.{row, is_absolute, is_offset}
 use Rattle.link_faults.specs.declared.binding.Binding.{Binding}
 use Rattle.link_faults.specs.declared.binding.Binding.TheVariants.{Here}
 use Rattle.link_faults.specs.declared.image_kind.ImageKind.{ImageKind}
-use Rattle.link_needs.specs.Linking.{Linking, address, binding, block_offset, object, offset, place}
+use Rattle.link_needs.specs.Linking.{Linking, address, binding, object, offset, place}
 use Rattle.tls_relocs.specs.declared.fields.Field.{Field}
 use Rattle.tls_relocs.specs.declared.fields.Field.TheVariants.{Empty, Word32, Word64}
 use Rattle.tls_relocs.specs.Fields.{field_bytes, field_patch}
 use Rattle.tls_relocs.specs.Patches.{patched}
 use Rattle.tls_relocs.specs.Values.{stored_field}
-use Rattle.whole_meaning.specs.Bytes.{covers, has_value}
+use Rattle.whole_meaning.specs.Bytes.{covers, has_value, subtracted}
 use Rattle.whole_meaning.specs.Spots.{bias_of}
 use Rattle.class_bytes.specs.declared.fields.Table.{Table}
 use Rattle.class_bytes.specs.declared.fields.Table.TheVariants.{Bytes, Marks}
@@ -25,8 +27,7 @@ use Rattle.class_bytes.specs.declared.fields.Table.TheVariants.{Bytes, Marks}
 
 -- S or O, where the image is not moved
 abbrev pub own_number : Linking → RelocationKind → Option Binding → ℕ
-own_number l TpOff32 (Some (Here found)) = offset l found
-own_number l kind (Some (Here found)) = address l found
+own_number l kind (Some (Here found)) = if is_offset kind then offset l found else address l found
 own_number l kind bound = 0
 
 -- how far P counts as moved: a field moves as far as a symbol of the image does; from any other it moves away, and a
@@ -36,8 +37,7 @@ moved_place kind (Some (Here found)) = 0
 moved_place kind bound = bias_of kind 0
 
 abbrev pub own_subtracted : Linking → RelocationKind → ℕ
-own_subtracted l TpOff32 = block_offset l
-own_subtracted l kind = 0
+own_subtracted l kind = subtracted l 0 kind
 
 -- what a field holds; zeros where its value does not fit it
 unfoldable pub own_field : Linking → ℕ → ℕ → Relocation → Field
@@ -49,14 +49,17 @@ own_field l o s r =
 
 -- it holds an address, which moves with the image
 abbrev pub is_moving : RelocationKind → Option Binding → Bool
-is_moving Absolute64 (Some (Here found)) = true
+is_moving kind (Some (Here found)) = is_absolute kind
 is_moving kind bound = false
 
 -- the marks of its bytes: 1 to 8 where it moves, else 0
+abbrev pub marks_in_form : FieldForm → Option Binding → Field
+marks_in_form Wrapped64 (Some (Here found)) = Word64 0x0807060504030201
+marks_in_form Wrapped64 bound = Word64 0
+marks_in_form form bound = Word32 0
+
 abbrev pub marks_of : RelocationKind → Option Binding → Field
-marks_of Absolute64 (Some (Here found)) = Word64 0x0807060504030201
-marks_of Absolute64 bound = Word64 0
-marks_of kind bound = Word32 0
+marks_of kind bound = marks_in_form (row kind).form bound
 
 abbrev pub field_in : Table → Linking → ℕ → ℕ → Relocation → Field
 field_in Bytes l o s r = own_field l o s r

@@ -5,8 +5,9 @@ use Rattle.std.specs.Prelude.{if◌then◌else◌}
 use Rattle.std.specs.List.{Contains, range_with_len}
 use Rattle.elf_object.specs.declared.relocation.Relocation.{Relocation}
 use Rattle.elf_object.specs.Lent.{relocations}
-use Rattle.elf_records.specs.declared.relocation.RelocationKind.{RelocationKind}
-use Rattle.elf_records.specs.declared.relocation.RelocationKind.TheVariants.{Pc32, Plt32, Absolute32, Absolute32Signed}
+use Rattle.elf_records.specs.declared.relocation_row.Refused.TheVariants.{WhereMoved}
+use Rattle.elf_records.specs.RelocationRows.{row}
+pub use Rattle.elf_records.specs.RelocationRows.{is_distance}
 use Rattle.elf_records.specs.Fields.{bytes_of, number_at}
 use Rattle.link_faults.specs.declared.binding.Binding.{Binding}
 use Rattle.link_faults.specs.declared.binding.Binding.TheVariants.{Here}
@@ -70,16 +71,10 @@ abbrev pub is_elsewhere : Option Binding → Bool
 is_elsewhere (Some (Here found)) = false
 is_elsewhere bound = true
 
--- the types whose field holds how far a symbol is from it
-abbrev pub is_distance : RelocationKind → Bool
-is_distance Pc32 = true
-is_distance Plt32 = true
-is_distance kind = false
-
 -- an image that may be moved: no field of 4 bytes holds an address, and one that holds the distance of what lies
 -- elsewhere adds less than 2^31 (a call of the run time's function adds -4)
 pub record IsMovable (l : Linking) : Type 0 where
   pub wide : (o s : ℕ) (r : Relocation) → o < length l.objects → Contains (relocations (object l o) s) r
-      → (r.kind ≢ Absolute32) × (r.kind ≢ Absolute32Signed)
+      → (row r.kind).refused ≢ WhereMoved
   pub near : (o s : ℕ) (r : Relocation) → o < length l.objects → Contains (relocations (object l o) s) r
       → is_distance r.kind ≡ true → is_elsewhere (binding l o r) ≡ true → r.addend <ℤ pos (2 ^ 31)

@@ -12,11 +12,11 @@ ghost use Rattle.class_bytes.specs.Filling.{own_number, raw_bytes as raw_in};
 ghost use Rattle.class_bytes.specs.Filling.{own_subtracted, with_fields};
 ghost use Rattle.class_bytes.specs.Laying.{section_cells};
 ghost use Rattle.tls_symbols.specs.Bindings.{IsBindingWithin};
-ghost use Rattle.whole_meaning.specs.Bytes.{has_value as holds_value};
 ghost use Rattle.whole_meaning.specs.Spots.{bias_of};
 
 use crate::laying::Cells;
 use elf_object::{Relocation, RelocationKind, SectionClass, SectionPart};
+use elf_records::relocation_row::{FieldForm, FieldValue};
 use link_faults::{Binding, ImageKind};
 use link_needs::Inputs;
 use std::alloc::{AllocError, Global};
@@ -42,18 +42,6 @@ pub fn least_bias(kind: ImageKind) -> u64
     }
 }
 
-/// Whether a field holds a number of the program's own.
-fn has_value(kind: RelocationKind) -> bool
-    ensures { result ≡ holds_value kind }
-{
-    match kind {
-        RelocationKind::Absolute64 | RelocationKind::Pc32 | RelocationKind::Plt32 => true,
-        RelocationKind::Absolute32 | RelocationKind::Absolute32Signed => true,
-        RelocationKind::TpOff32 => true,
-        _ => false,
-    }
-}
-
 /// What the symbol is bound to that a relocation of an object names.
 fn binding(inputs: &Inputs, object: usize, relocation: &Relocation) -> Option<Binding>
     requires object { object < length inputs.now.objects }
@@ -69,9 +57,9 @@ fn symbol_number(inputs: &Inputs, kind: RelocationKind, bound: Option<Binding>) 
     requires { IfSome bound (IsBindingWithin inputs.now.objects) }
     ensures { result ≡ own_number inputs.now kind bound }
 {
-    match (kind, bound) {
-        (RelocationKind::TpOff32, Some(Binding::Here(found))) => inputs.offset(found),
-        (_, Some(Binding::Here(found))) => inputs.address(found),
+    match bound {
+        Some(Binding::Here(found)) if kind.is_offset() => inputs.offset(found),
+        Some(Binding::Here(found)) => inputs.address(found),
         _ => 0,
     }
 }
@@ -91,8 +79,8 @@ fn moved_place(kind: ImageKind, bound: Option<Binding>) -> u64
 fn subtracted(inputs: &Inputs, kind: RelocationKind) -> u64
     ensures { result ≡ own_subtracted inputs.now kind }
 {
-    match kind {
-        RelocationKind::TpOff32 => inputs.block_offset,
+    match kind.row().value {
+        FieldValue::ThreadOffset => inputs.block_offset,
         _ => 0,
     }
 }
@@ -126,9 +114,9 @@ fn own_field(inputs: &Inputs, object: usize, section: u32, relocation: &Relocati
 fn marks_of(kind: RelocationKind, bound: Option<Binding>) -> Field
     ensures { result ≡ marks_in kind bound }
 {
-    match (kind, bound) {
-        (RelocationKind::Absolute64, Some(Binding::Here(_))) => Field::Word64(0x0807060504030201),
-        (RelocationKind::Absolute64, _) => Field::Word64(0),
+    match (kind.row().form, bound) {
+        (FieldForm::Wrapped64, Some(Binding::Here(_))) => Field::Word64(0x0807060504030201),
+        (FieldForm::Wrapped64, _) => Field::Word64(0),
         _ => Field::Word32(0),
     }
 }
@@ -160,7 +148,7 @@ impl<'i, 'l, 's, 'a> Fields<'i, 'l, 's, 'a> {
         requires near { relocation.now.offset ≤ 2 ^ 20 }
         ensures { result ≡ filled_field self.now.table self.now.inputs.now object section relocation.now }
     {
-        if !has_value(relocation.kind) {
+        if !relocation.kind.has_value() {
             return Field::Empty;
         }
         match self.table {

@@ -3,6 +3,7 @@ pub mod Fields
 pub mod Laws
 pub mod RecordLaws
 pub mod Records
+pub mod RelocationRows
 pub mod Relocations
 pub mod StringLaws
 pub mod Strings

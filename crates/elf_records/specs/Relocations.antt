@@ -12,6 +12,7 @@ use Rattle.elf_records.specs.declared.relocation.RelocationKind.TheVariants.{Got
 use Rattle.elf_records.specs.declared.relocation.RelocationKind.TheVariants.{TlsGd, TlsLd, DtpOff32, GotTpOff}
 use Rattle.elf_records.specs.declared.relocation.RelocationKind.TheVariants.{TpOff32, GotPc32TlsDesc, TlsDescCall}
 use Rattle.elf_records.specs.declared.relocation.RelocationKind.TheVariants.{GotPcRelX, RexGotPcRelX}
+use Rattle.elf_records.specs.RelocationRows.{row, form_width, IsInCode}
 
 -- the type of a number
 abbrev pub relocation_kind : ℕ → Option RelocationKind
@@ -36,20 +37,11 @@ relocation_kind n =
 
 -- how many bytes the field has
 abbrev pub field_width : RelocationKind → ℕ
-field_width Nothing = 0
-field_width Absolute64 = 8
-field_width TlsDescCall = 0
-field_width _ = 4
+field_width kind = form_width (row kind).form
 
 -- the type belongs to an instruction, so it stands in executable sections alone
 abbrev pub IsOfCode : RelocationKind → Type 0
-IsOfCode Nothing = ⊥
-IsOfCode Absolute64 = ⊥
-IsOfCode Pc32 = ⊥
-IsOfCode Absolute32 = ⊥
-IsOfCode Absolute32Signed = ⊥
-IsOfCode TpOff32 = ⊥
-IsOfCode _ = Unit {0}
+IsOfCode kind = IsInCode (row kind).place
 
 -- the field's width, 0 for a number that is no type of the list
 abbrev pub width_of : Option RelocationKind → ℕ

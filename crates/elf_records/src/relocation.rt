@@ -3,7 +3,7 @@
 ghost use Rattle.std.specs.Prelude.{◌≡◌, ◌+◌, ◌*◌, ◌^◌, ◌≤◌, ◌↔◌, IsTrue, length, take, drop};
 ghost use Rattle.elf_records.specs.Fields.{IsReadAt, splice};
 ghost use Rattle.elf_records.specs.Records.{rela_at, rela_bytes, rela_kind, rela_symbol};
-ghost use Rattle.elf_records.specs.Relocations.{relocation_kind, field_width, width_of, IsOfCode};
+ghost use Rattle.elf_records.specs.Relocations.{relocation_kind, width_of};
 
 use crate::field::{fits, i64_at, put_i64, put_u64, u64_at};
 
@@ -100,34 +100,6 @@ impl RelocationKind {
             R_X86_64_GOTPCRELX => Some(RelocationKind::GotPcRelX),
             R_X86_64_REX_GOTPCRELX => Some(RelocationKind::RexGotPcRelX),
             _ => None,
-        }
-    }
-
-    /// How many bytes the field has.
-    #[inline]
-    pub fn width(self) -> u64
-        ensures { result ≡ field_width self }
-    {
-        match self {
-            RelocationKind::Nothing | RelocationKind::TlsDescCall => 0,
-            RelocationKind::Absolute64 => 8,
-            _ => 4,
-        }
-    }
-
-    /// Whether it belongs to an instruction, so that it stands in executable sections alone.
-    #[inline]
-    pub fn is_of_code(self) -> bool
-        ensures { IsTrue result ↔ IsOfCode self }
-    {
-        match self {
-            RelocationKind::Nothing
-            | RelocationKind::Absolute64
-            | RelocationKind::Pc32
-            | RelocationKind::Absolute32
-            | RelocationKind::Absolute32Signed
-            | RelocationKind::TpOff32 => false,
-            _ => true,
         }
     }
 }

@@ -4,8 +4,10 @@ use Rattle.std.specs.Prelude.{◌+◌, ◌&&◌, ◌++◌, ℕ, Bool, true, fals
 use Rattle.std.specs.Prelude.{option_and_then, option_map, is_some, if◌then◌else◌}
 use Rattle.std.specs.List.{flat_map, list_any, range_with_len}
 use Rattle.elf_records.specs.declared.relocation.RelocationKind.{RelocationKind}
-use Rattle.elf_records.specs.declared.relocation.RelocationKind.TheVariants.{GotPcRel, TlsGd, TlsLd, GotTpOff}
-use Rattle.elf_records.specs.declared.relocation.RelocationKind.TheVariants.{GotPc32TlsDesc, GotPcRelX, RexGotPcRelX}
+use Rattle.elf_records.specs.declared.relocation_row.TableEntry.{TableEntry}
+use Rattle.elf_records.specs.declared.relocation_row.TableEntry.TheVariants as entry
+use Rattle.elf_records.specs.RelocationRows.{row}
+pub use Rattle.elf_records.specs.RelocationRows.{is_address_kind}
 use Rattle.elf_object.specs.declared.relocation.Relocation.{Relocation}
 use Rattle.elf_object.specs.Lent.{relocations, symbol_name}
 use Rattle.elf_object.specs.Object.{section_count}
@@ -46,15 +48,16 @@ address_need l (Some Runtime) = Some RuntimeWord
 address_need l bound = None
 
 -- the entry that a relocation's field reaches, by its type; its symbol has number e in object o, and is bound so
+abbrev pub entry_need : Linking → ℕ → ℕ → Option Binding → TableEntry → Option Need
+entry_need l o e bound entry.NoEntry = None
+entry_need l o e bound entry.ModulePair = Some ModulePair
+entry_need l o e bound entry.SymbolPair = option_map SymbolPair (target_by l o e bound)
+entry_need l o e bound entry.Descriptor = option_map Descriptor (target_by l o e bound)
+entry_need l o e bound entry.SymbolWord = option_map SymbolWord (target_by l o e bound)
+entry_need l o e bound entry.AddressWord = address_need l bound
+
 abbrev pub need_by : Linking → ℕ → ℕ → Option Binding → RelocationKind → Option Need
-need_by l o e bound TlsGd = option_map SymbolPair (target_by l o e bound)
-need_by l o e bound TlsLd = Some ModulePair
-need_by l o e bound GotTpOff = option_map SymbolWord (target_by l o e bound)
-need_by l o e bound GotPc32TlsDesc = option_map Descriptor (target_by l o e bound)
-need_by l o e bound GotPcRel = address_need l bound
-need_by l o e bound GotPcRelX = address_need l bound
-need_by l o e bound RexGotPcRelX = address_need l bound
-need_by l o e bound kind = None
+need_by l o e bound kind = entry_need l o e bound (row kind).entry
 
 unfoldable pub relocation_need : Linking → ℕ → Relocation → Option Need
 relocation_need l o r = need_by l o r.symbol (binding l o r) r.kind
@@ -105,13 +108,6 @@ site_needs_from l o [] = []
 site_needs_from l o (own ∷ more) = flat_map (site_needs l o) own ++ site_needs_from l (o + 1) more
 
 -- ** what other code needs: the addresses of symbols of the image
-
--- the types whose field reaches a word with an address
-abbrev pub is_address_kind : RelocationKind → Bool
-is_address_kind GotPcRel = true
-is_address_kind GotPcRelX = true
-is_address_kind RexGotPcRelX = true
-is_address_kind kind = false
 
 -- of the image's own symbols alone: a call of the run time belongs to a site
 abbrev pub own_word : Linking → Option Binding → List Need

@@ -1,10 +1,9 @@
 -- What each symbol that relocations name stands for, and what a relocation's field takes from it.
-use Rattle.std.specs.Prelude.{ℕ, Bool, true, false, List, Option, Some, length, map}
+use Rattle.std.specs.Prelude.{ℕ, Bool, true, false, List, Option, Some, length, map, if◌then◌else◌}
 use Rattle.std.specs.List.{range_with_len}
 use Rattle.elf_records.specs.declared.relocation.RelocationKind.{RelocationKind}
-use Rattle.elf_records.specs.declared.relocation.RelocationKind.TheVariants.{Pc32, Plt32, GotPcRel, TlsGd, TlsLd}
-use Rattle.elf_records.specs.declared.relocation.RelocationKind.TheVariants.{DtpOff32, GotTpOff, TpOff32}
-use Rattle.elf_records.specs.declared.relocation.RelocationKind.TheVariants.{GotPc32TlsDesc, GotPcRelX, RexGotPcRelX}
+use Rattle.elf_records.specs.RelocationRows.{row, is_offset}
+pub use Rattle.elf_records.specs.RelocationRows.{reaches_entry}
 use Rattle.elf_object.specs.Parts.{symbol_count}
 use Rattle.link_faults.specs.declared.binding.Binding.{Binding}
 use Rattle.link_faults.specs.declared.binding.Binding.TheVariants as bound
@@ -13,6 +12,7 @@ use Rattle.link_needs.specs.declared.symbol_values.SymbolValue.{SymbolValue}
 use Rattle.link_needs.specs.declared.symbol_values.SymbolValue.TheVariants.{Here, Runtime, Elsewhere}
 use Rattle.link_needs.specs.Linking.{Linking, address, object, offset}
 use Rattle.link_needs.specs.Needs.{stub_start}
+use Rattle.link_needs.specs.Values.{goes_where}
 
 -- ** what a symbol stands for
 
@@ -36,9 +36,7 @@ all_values l = map (values_of l) (range_with_len 0 (length l.objects))
 
 -- S, its place, or O, its offset in the TLS segment
 abbrev pub number_by : Linking → RelocationKind → SymbolValue → ℕ
-number_by l DtpOff32 (Here place within) = within
-number_by l TpOff32 (Here place within) = within
-number_by l kind (Here place within) = place
+number_by l kind (Here place within) = if is_offset kind then within else place
 number_by l kind Runtime = stub_start l
 number_by l kind Elsewhere = 0
 
@@ -52,24 +50,4 @@ is_run_time value = false
 
 -- whether a type of relocation goes with its sequence, where its symbol stands for this
 abbrev pub goes_by : SymbolValue → RelocationKind → Bool
-goes_by value TlsGd = true
-goes_by value TlsLd = true
-goes_by value GotPc32TlsDesc = true
-goes_by value GotTpOff = is_own value
-goes_by value Pc32 = is_run_time value
-goes_by value Plt32 = is_run_time value
-goes_by value GotPcRel = is_run_time value
-goes_by value GotPcRelX = is_run_time value
-goes_by value RexGotPcRelX = is_run_time value
-goes_by value kind = false
-
--- the types whose field reaches an entry of the table
-abbrev pub reaches_entry : RelocationKind → Bool
-reaches_entry TlsGd = true
-reaches_entry TlsLd = true
-reaches_entry GotTpOff = true
-reaches_entry GotPc32TlsDesc = true
-reaches_entry GotPcRel = true
-reaches_entry GotPcRelX = true
-reaches_entry RexGotPcRelX = true
-reaches_entry kind = false
+goes_by value kind = goes_where (is_own value) (is_run_time value) (row kind).replaced

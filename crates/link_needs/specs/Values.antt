@@ -3,9 +3,11 @@
 use Rattle.std.specs.Prelude.{◌&&◌, ℕ, Bool, true, false, Option, Some, if◌then◌else◌}
 use Rattle.std.specs.List.{list_any}
 use Rattle.elf_records.specs.declared.relocation.RelocationKind.{RelocationKind}
-use Rattle.elf_records.specs.declared.relocation.RelocationKind.TheVariants.{Pc32, Plt32, GotPcRel, TlsGd, TlsLd}
-use Rattle.elf_records.specs.declared.relocation.RelocationKind.TheVariants.{DtpOff32, GotTpOff, TpOff32}
-use Rattle.elf_records.specs.declared.relocation.RelocationKind.TheVariants.{GotPc32TlsDesc, GotPcRelX, RexGotPcRelX}
+use Rattle.elf_records.specs.declared.relocation_row.FieldValue.{FieldValue}
+use Rattle.elf_records.specs.declared.relocation_row.FieldValue.TheVariants.{SegmentOffset, ThreadOffset}
+use Rattle.elf_records.specs.declared.relocation_row.Replaced.{Replaced}
+use Rattle.elf_records.specs.declared.relocation_row.Replaced.TheVariants.{Never, Always, WhereOwn, WhereRuntime}
+use Rattle.elf_records.specs.RelocationRows.{row, is_offset}
 use Rattle.elf_object.specs.declared.relocation.Relocation.{Relocation}
 use Rattle.link_faults.specs.Bindings.{is_here}
 use Rattle.link_faults.specs.ImageKinds.{is_module}
@@ -29,19 +31,17 @@ abbrev pub is_runtime : Option Binding → Bool
 is_runtime (Some Runtime) = true
 is_runtime bound = false
 
+-- whether a field goes with its sequence, where its symbol is one of the image itself, or the run time's function
+abbrev pub goes_where : Bool → Bool → Replaced → Bool
+goes_where own runtime Never = false
+goes_where own runtime Always = true
+goes_where own runtime WhereOwn = own
+goes_where own runtime WhereRuntime = runtime
+
 -- whether a type of relocation goes with the sequence that it belongs to, where programs are rewritten and its symbol
 -- is bound so
 abbrev pub goes : Option Binding → RelocationKind → Bool
-goes bound TlsGd = true
-goes bound TlsLd = true
-goes bound GotPc32TlsDesc = true
-goes bound GotTpOff = is_here bound
-goes bound Pc32 = is_runtime bound
-goes bound Plt32 = is_runtime bound
-goes bound GotPcRel = is_runtime bound
-goes bound GotPcRelX = is_runtime bound
-goes bound RexGotPcRelX = is_runtime bound
-goes bound kind = false
+goes bound kind = goes_where (is_here bound) (is_runtime bound) (row kind).replaced
 
 -- whether a relocation has no field, since its sequence is rewritten
 unfoldable pub is_replaced : Linking → ℕ → Relocation → Bool
@@ -62,17 +62,18 @@ counts_from_thread_pointer l =
 
 -- S, the symbol's place, or O, its offset in the TLS segment
 abbrev pub own_number : Linking → RelocationKind → Option Binding → ℕ
-own_number l DtpOff32 (Some (Here found)) = offset l found
-own_number l TpOff32 (Some (Here found)) = offset l found
-own_number l kind (Some (Here found)) = address l found
+own_number l kind (Some (Here found)) = if is_offset kind then offset l found else address l found
 own_number l kind (Some Runtime) = stub_start l
 own_number l kind bound = 0
 
 -- G, the place of the entry in the GOT, or what is subtracted from an offset
+abbrev pub number_beside : Linking → ℕ → Relocation → FieldValue → ℕ
+number_beside l o r SegmentOffset = if counts_from_thread_pointer l then block_offset l else 0
+number_beside l o r ThreadOffset = block_offset l
+number_beside l o r value = need_address l (relocation_need l o r)
+
 abbrev pub other_number : Linking → ℕ → Relocation → RelocationKind → ℕ
-other_number l o r DtpOff32 = if counts_from_thread_pointer l then block_offset l else 0
-other_number l o r TpOff32 = block_offset l
-other_number l o r kind = need_address l (relocation_need l o r)
+other_number l o r kind = number_beside l o r (row kind).value
 
 -- what the field of a relocation of section t of object o holds, None where the value does not fit it
 unfoldable pub field : Linking → ℕ → ℕ → Relocation → Option Field

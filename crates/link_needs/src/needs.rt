@@ -17,6 +17,7 @@ ghost use Rattle.link_needs.specs.Usable.{IsUsable};
 
 use crate::inputs::Inputs;
 use elf_object::{Object, Relocation, RelocationKind};
+use elf_records::relocation_row::TableEntry;
 use got_pairs::{Name, Need, Target};
 use link_faults::Binding;
 use relax_sites::{Choice, NewField, new_field};
@@ -71,16 +72,6 @@ fn push_some<'a>(need: Option<Need<'a>>, needs: &mut Vec<Need<'a>>) -> Result<()
         needs.push(need)?;
     }
     Ok(())
-}
-
-/// Whether the field of a relocation of this type reaches a word with an address.
-fn is_address_kind(kind: RelocationKind) -> bool
-    ensures { result ≡ is_address_kind kind }
-{
-    matches!(
-        kind,
-        RelocationKind::GotPcRel | RelocationKind::GotPcRelX | RelocationKind::RexGotPcRelX
-    )
 }
 
 /// The relocation of a field that stands in a site's place; it names the site's symbol.
@@ -158,23 +149,22 @@ impl<'l, 's, 'a> Inputs<'l, 's, 'a> {
         requires within { IfSome bound (IsBindingWithin self.now.objects) }
         ensures { result ≡ need_by self.now object symbol bound kind }
     {
-        match kind {
-            RelocationKind::TlsLd => Some(Need::ModulePair),
-            RelocationKind::TlsGd => match self.target(object, symbol, bound) {
+        match kind.row().entry {
+            TableEntry::NoEntry => None,
+            TableEntry::ModulePair => Some(Need::ModulePair),
+            TableEntry::SymbolPair => match self.target(object, symbol, bound) {
                 Some(target) => Some(Need::SymbolPair(target)),
                 None => None,
             },
-            RelocationKind::GotTpOff => match self.target(object, symbol, bound) {
+            TableEntry::SymbolWord => match self.target(object, symbol, bound) {
                 Some(target) => Some(Need::SymbolWord(target)),
                 None => None,
             },
-            RelocationKind::GotPc32TlsDesc => match self.target(object, symbol, bound) {
+            TableEntry::Descriptor => match self.target(object, symbol, bound) {
                 Some(target) => Some(Need::Descriptor(target)),
                 None => None,
             },
-            RelocationKind::GotPcRel | RelocationKind::GotPcRelX | RelocationKind::RexGotPcRelX =>
-                self.address_need(bound),
-            _ => None,
+            TableEntry::AddressWord => self.address_need(bound),
         }
     }
 
@@ -352,7 +342,7 @@ fn found_fields(alloc: Global, object: &Object, section: u32) -> Result<Vec<Relo
 {
     object
         .relocs(section)
-        .filter(|relocation| is_address_kind(relocation.kind))
+        .filter(|relocation| relocation.kind.reaches_address())
         .collect(alloc)
 }
 

@@ -12,7 +12,7 @@ ghost use Rattle.tls_symbols.specs.Bindings.{object_at};
 ghost use Rattle.link_needs.specs.Given.{FitsTable};
 ghost use Rattle.link_needs.specs.Linking.{choice, choices_from, choices_in, place as place_of, sites_at};
 ghost use Rattle.link_needs.specs.Needs.{calls_stub, has_stub, is_kept, is_stub_call, need_address, relocation_need};
-ghost use Rattle.link_needs.specs.SymbolNumbers.{goes_by, number_by, reaches_entry, value_of};
+ghost use Rattle.link_needs.specs.SymbolNumbers.{goes_by, number_by, value_of};
 ghost use Rattle.link_needs.specs.Values.{counts_from_thread_pointer, field, is_local, is_rewriting};
 ghost use Rattle.link_needs.specs.Values.{other_number};
 
@@ -20,6 +20,7 @@ use crate::inputs::Inputs;
 use crate::needs::{Wanted, calls_stub, is_kept};
 use crate::symbol_values::SymbolValue;
 use elf_object::{Relocation, RelocationKind};
+use elf_records::relocation_row::{FieldValue, Replaced};
 use got_pairs::{GotPlan, Need, plan};
 use relax_sites::Choice;
 use sequence_match::{Form, Site};
@@ -165,32 +166,12 @@ pub fn plan_of<'i, 'l, 's, 'a>(
 fn goes(symbol: SymbolValue, kind: RelocationKind) -> bool
     ensures { result ≡ goes_by symbol kind }
 {
-    match kind {
-        RelocationKind::TlsGd | RelocationKind::TlsLd | RelocationKind::GotPc32TlsDesc => true,
-        RelocationKind::GotTpOff => matches!(symbol, SymbolValue::Here { .. }),
-        RelocationKind::Pc32
-        | RelocationKind::Plt32
-        | RelocationKind::GotPcRel
-        | RelocationKind::GotPcRelX
-        | RelocationKind::RexGotPcRelX => matches!(symbol, SymbolValue::Runtime),
-        _ => false,
+    match kind.row().replaced {
+        Replaced::Never => false,
+        Replaced::Always => true,
+        Replaced::WhereOwn => matches!(symbol, SymbolValue::Here { .. }),
+        Replaced::WhereRuntime => matches!(symbol, SymbolValue::Runtime),
     }
-}
-
-/// Whether the field of a relocation of this type reaches an entry of the table.
-fn reaches_entry(kind: RelocationKind) -> bool
-    ensures { result ≡ reaches_entry kind }
-{
-    matches!(
-        kind,
-        RelocationKind::TlsGd
-            | RelocationKind::TlsLd
-            | RelocationKind::GotTpOff
-            | RelocationKind::GotPc32TlsDesc
-            | RelocationKind::GotPcRel
-            | RelocationKind::GotPcRelX
-            | RelocationKind::RexGotPcRelX
-    )
 }
 
 impl<'i, 'l, 's, 'a> Plan<'i, 'l, 's, 'a> {
@@ -253,10 +234,8 @@ impl<'i, 'l, 's, 'a> Plan<'i, 'l, 's, 'a> {
         ensures { result ≡ number_by self.now kind symbol }
     {
         match symbol {
-            SymbolValue::Here { address, offset } => match kind {
-                RelocationKind::DtpOff32 | RelocationKind::TpOff32 => offset,
-                _ => address,
-            },
+            SymbolValue::Here { offset, .. } if kind.is_offset() => offset,
+            SymbolValue::Here { address, .. } => address,
             SymbolValue::Runtime => self.stub_start,
             SymbolValue::Elsewhere => 0,
         }
@@ -281,10 +260,11 @@ impl<'i, 'l, 's, 'a> Plan<'i, 'l, 's, 'a> {
         ensures { result ≡ other_number self.now object relocation.now relocation.now.kind }
     {
         let inputs = self.inputs;
-        match relocation.kind {
-            RelocationKind::DtpOff32 if !self.counts_from_thread_pointer => 0,
-            RelocationKind::DtpOff32 | RelocationKind::TpOff32 => inputs.block_offset,
-            kind if reaches_entry(kind) => self.entry_place(object, relocation),
+        let kind = relocation.kind;
+        match kind.row().value {
+            FieldValue::SegmentOffset if !self.counts_from_thread_pointer => 0,
+            FieldValue::SegmentOffset | FieldValue::ThreadOffset => inputs.block_offset,
+            _ if kind.reaches_entry() => self.entry_place(object, relocation),
             _ => 0,
         }
     }

@@ -9,6 +9,7 @@ ghost use Rattle.link_faults.specs.Bindings.{is_here};
 ghost use Rattle.link_faults.specs.ImageKinds.{is_moved};
 
 use elf_object::{Relocation, RelocationKind};
+use elf_records::relocation_row::{Refused, TableEntry};
 use link_faults::{Binding, ImageKind, LinkFaultKind};
 use tls_symbols::{Bindings, Question};
 
@@ -34,12 +35,9 @@ fn is_moved(image: ImageKind) -> bool
 fn is_refused(fault: LinkFaultKind, image: ImageKind, kind: RelocationKind) -> bool
     ensures { result ≡ is_refused fault image kind }
 {
-    match (fault, kind) {
-        (LinkFaultKind::LocalExecInModule, RelocationKind::TpOff32) => image.is_module(),
-        (
-            LinkFaultKind::NarrowInModule,
-            RelocationKind::Absolute32 | RelocationKind::Absolute32Signed,
-        ) => is_moved(image),
+    match (fault, kind.row().refused) {
+        (LinkFaultKind::LocalExecInModule, Refused::InModule) => image.is_module(),
+        (LinkFaultKind::NarrowInModule, Refused::WhereMoved) => is_moved(image),
         _ => false,
     }
 }
@@ -77,13 +75,13 @@ fn asks_storage(
     ensures { result ≡ asks_storage image relocation.now.kind
         (binding_of bindings.now.objects bindings.now.startup index relocation.now) }
 {
-    match relocation.kind {
-        RelocationKind::TlsLd => true,
-        RelocationKind::TlsGd | RelocationKind::GotTpOff => {
+    match relocation.kind.row().entry {
+        TableEntry::ModulePair => true,
+        TableEntry::SymbolPair | TableEntry::SymbolWord => {
             image.is_module() && is_here(bindings, index, relocation)
         }
-        RelocationKind::GotPc32TlsDesc => is_here(bindings, index, relocation),
-        _ => false,
+        TableEntry::Descriptor => is_here(bindings, index, relocation),
+        TableEntry::NoEntry | TableEntry::AddressWord => false,
     }
 }
 

@@ -5,8 +5,7 @@ use Rattle.std.specs.Prelude.{Option, Some, None, map, unwrap_or, if◌then◌el
 use Rattle.std.specs.Int.{w64, cast_signed}
 use Rattle.std.specs.List.{flat_map, list_any, position_from, range_with_len}
 use Rattle.std.specs.Str.{bytes_eq}
-use Rattle.elf_records.specs.declared.relocation.RelocationKind.{RelocationKind}
-use Rattle.elf_records.specs.declared.relocation.RelocationKind.TheVariants.{Absolute64}
+pub use Rattle.elf_records.specs.RelocationRows.{is_absolute}
 use Rattle.elf_object.specs.declared.relocation.Relocation.{Relocation}
 use Rattle.elf_object.specs.declared.symbol.SymbolBinding.{SymbolBinding}
 use Rattle.elf_object.specs.declared.symbol.SymbolBinding.TheVariants as of_object
@@ -159,10 +158,6 @@ unfoldable pub got_relocations : Linking → List ImageRelocation
 got_relocations l = flat_map (need_relocations l) (starts_from (got_start l) (entries l))
 
 -- ** relocations of fields: addresses of 8 bytes, in an image that may lie anywhere
-
-abbrev pub is_absolute : RelocationKind → Bool
-is_absolute Absolute64 = true
-is_absolute kind = false
 
 abbrev pub relative : ℕ → ℤ → ImageRelocation
 relative place addend = record { place = place; kind = loader.Relative; symbol = 0; addend = addend }

@@ -11,14 +11,14 @@ ghost use Rattle.tls_layout.specs.Places.{address_of};
 ghost use Rattle.tls_symbols.specs.Bindings.{object_at};
 ghost use Rattle.link_tables.specs.Dynamic.{entry_relocations, field_relocations, got_relocations, image_relocations};
 ghost use Rattle.link_tables.specs.Dynamic.{imports, loader_kind};
-ghost use Rattle.link_tables.specs.Dynamic.{is_absolute, number_of, own_symbols};
+ghost use Rattle.link_tables.specs.Dynamic.{number_of, own_symbols};
 ghost use Rattle.link_tables.specs.Dynamic.{object_relocations, object_relocations_from, relatives, relocation_of};
 ghost use Rattle.link_tables.specs.Dynamic.{section_relocations, word_relocations};
 ghost use Rattle.link_needs.specs.Linking.{block_offset, layout};
 ghost use Rattle.link_needs.specs.Needs.{entries, got_size, got_start};
 
 use crate::prepared::Prepared;
-use elf_object::{Relocation, RelocationKind};
+use elf_object::Relocation;
 use got_pairs::{DynamicKind, DynamicRelocation, DynamicSymbol, Entry, Word};
 use image_file::{ImageRelocation, LoaderKind};
 use link_faults::ImageKind;
@@ -180,13 +180,6 @@ fn push_got(
     Ok(())
 }
 
-/// Whether a field of this type has an address of 8 bytes.
-fn is_absolute(kind: RelocationKind) -> bool
-    ensures { result ≡ is_absolute kind }
-{
-    matches!(kind, RelocationKind::Absolute64)
-}
-
 /// Adds that of a field of 8 bytes with an address, of a section that begins at this address.
 fn push_field(
     plan: &Plan,
@@ -203,7 +196,7 @@ fn push_field(
     ensures { OnOk result
         (all.new.items ≡ all.old.items ++ field_relocations plan.now object section relocation.now) }
 {
-    if !is_absolute(relocation.kind) {
+    if !relocation.kind.is_absolute() {
         return Ok(());
     }
     // What is known of a plan is known where a part of it is read.

@@ -4,8 +4,12 @@ use Rattle.std.specs.Prelude.{◌≡◌, ◌+◌, ◌/◌, ◌%◌, ◌==◌, �
 use Rattle.std.specs.Prelude.{Option, Some, None, nat_lt, slice_index, if◌then◌else◌}
 use Rattle.elf_records.specs.declared.relocation.RelocationKind.{RelocationKind}
 use Rattle.elf_records.specs.declared.relocation.RelocationKind.TheVariants.{TlsGd, TlsLd, GotTpOff, GotPc32TlsDesc}
-use Rattle.elf_records.specs.declared.relocation.RelocationKind.TheVariants.{TlsDescCall, Plt32, Pc32, GotPcRel}
-use Rattle.elf_records.specs.declared.relocation.RelocationKind.TheVariants.{GotPcRelX, RexGotPcRelX}
+use Rattle.elf_records.specs.declared.relocation.RelocationKind.TheVariants.{TlsDescCall}
+use Rattle.elf_records.specs.declared.relocation_row.FieldValue.{FieldValue}
+use Rattle.elf_records.specs.declared.relocation_row.FieldValue.TheVariants.{Distance}
+use Rattle.elf_records.specs.declared.relocation_row.TableEntry.{TableEntry}
+use Rattle.elf_records.specs.declared.relocation_row.TableEntry.TheVariants.{AddressWord}
+use Rattle.elf_records.specs.RelocationRows.{row as kind_row}
 use Rattle.sequence_forms.specs.declared.forms.Form.{Form}
 use Rattle.sequence_forms.specs.declared.forms.Form.TheVariants.{Gd, Ld, IeMov, IeAdd, GdInd, LdInd, DescLea, DescCall}
 use Rattle.sequence_forms.specs.declared.forms.Cell.{Cell}
@@ -85,14 +89,18 @@ register IeMov code start = register_of (slice_index code start) (slice_index co
 register IeAdd code start = register_of (slice_index code start) (slice_index code (start + 2))
 register _ code start = 0
 
--- the types of the second relocation
+-- the types of the second relocation: its field holds the distance of the function, or of the word with its address
+abbrev pub IsDistance : FieldValue → Type 0
+IsDistance Distance = Unit {0}
+IsDistance _ = ⊥
+
+abbrev pub IsAddressWord : TableEntry → Type 0
+IsAddressWord AddressWord = Unit {0}
+IsAddressWord _ = ⊥
+
 abbrev pub IsCallKind : Call → RelocationKind → Type 0
-IsCallKind Direct Plt32 = Unit {0}
-IsCallKind Direct Pc32 = Unit {0}
-IsCallKind Indirect GotPcRel = Unit {0}
-IsCallKind Indirect GotPcRelX = Unit {0}
-IsCallKind Indirect RexGotPcRelX = Unit {0}
-IsCallKind _ _ = ⊥
+IsCallKind Direct kind = IsDistance (kind_row kind).value
+IsCallKind Indirect kind = IsAddressWord (kind_row kind).entry
 
 -- a row of the code says what the definition does
 pub record IsRow (sequence : Sequence) (given : Row) : Type 0 where

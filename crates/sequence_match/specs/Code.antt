@@ -5,7 +5,11 @@ use Rattle.std.specs.Prelude.{IsTrue, IfSome, slice_index_or}
 use Rattle.std.specs.List.{All, AllWithin, Contains}
 use Rattle.std.specs.List.Sorted.{IsNonDecreasingBy}
 use Rattle.elf_records.specs.declared.relocation.RelocationKind.{RelocationKind}
-use Rattle.elf_records.specs.declared.relocation.RelocationKind.TheVariants.{TlsDescCall}
+use Rattle.elf_records.specs.declared.relocation_row.FieldForm.{FieldForm}
+use Rattle.elf_records.specs.declared.relocation_row.FieldForm.TheVariants.{NoField}
+use Rattle.elf_records.specs.declared.relocation_row.SequencePart.{SequencePart}
+use Rattle.elf_records.specs.declared.relocation_row.SequencePart.TheVariants.{First}
+use Rattle.elf_records.specs.RelocationRows.{row as kind_row}
 use Rattle.elf_object.specs.declared.relocation.Relocation.{Relocation}
 use Rattle.elf_object.specs.Relocations.{field_width}
 use Rattle.sequence_match.specs.declared.index.Span.{Span}
@@ -17,10 +21,14 @@ use Rattle.sequence_forms.specs.declared.places.Site.{Site}
 use Rattle.sequence_forms.specs.Forms.{row}
 use Rattle.sequence_match.specs.Sites.{Covers, HasSecond, IsEntry, IsSecond, IsSiteOf, IsSpelled}
 
--- how many bytes a relocation of this type reaches: those of its field, or the place of a descriptor's call
+-- how many bytes a relocation of this type reaches: those of its field, or the place of a descriptor's call, which is
+-- of a sequence and has no field
+abbrev pub call_byte : SequencePart → FieldForm → ℕ
+call_byte First NoField = 1
+call_byte _ _ = 0
+
 abbrev pub call_width : RelocationKind → ℕ
-call_width TlsDescCall = 1
-call_width _ = 0
+call_width kind = call_byte (kind_row kind).part (kind_row kind).form
 
 abbrev pub reach_width : Reach → RelocationKind → ℕ
 reach_width OfField kind = field_width kind

@@ -8,8 +8,10 @@ use Rattle.object_rules.specs.declared.fault.FaultKind.TheVariants.{Sequence, St
 use Rattle.object_rules.specs.declared.fault.ObjectFault.{ObjectFault}
 use Rattle.object_rules.specs.declared.fault.ObjectFault.TheVariants.{OutOfMemory, At}
 use Rattle.elf_records.specs.declared.relocation.RelocationKind.{RelocationKind}
-use Rattle.elf_records.specs.declared.relocation.RelocationKind.TheVariants.{Nothing, TlsGd, TlsLd, GotTpOff}
-use Rattle.elf_records.specs.declared.relocation.RelocationKind.TheVariants.{GotPc32TlsDesc, TlsDescCall}
+use Rattle.elf_records.specs.declared.relocation.RelocationKind.TheVariants.{Nothing}
+use Rattle.elf_records.specs.declared.relocation_row.SequencePart.{SequencePart}
+use Rattle.elf_records.specs.declared.relocation_row.SequencePart.TheVariants.{First}
+use Rattle.elf_records.specs.RelocationRows.{row as kind_row}
 use Rattle.elf_object.specs.declared.relocation.Relocation.{Relocation}
 use Rattle.elf_object.specs.declared.symbol.SymbolPlace.TheVariants.{Undefined}
 use Rattle.elf_object.specs.Parts.{symbol_count}
@@ -40,13 +42,12 @@ IsSite b site =
     (e : ℕ) × IsSiteOf (code_of b site.section) (relocations b site.section) (IsGetter b) e site
 
 -- the types that stand only in sequences, as the first relocation
+abbrev pub IsFirstPart : SequencePart → Type 0
+IsFirstPart First = Unit {0}
+IsFirstPart _ = ⊥
+
 abbrev pub IsOfSequence : RelocationKind → Type 0
-IsOfSequence TlsGd = Unit {0}
-IsOfSequence TlsLd = Unit {0}
-IsOfSequence GotTpOff = Unit {0}
-IsOfSequence GotPc32TlsDesc = Unit {0}
-IsOfSequence TlsDescCall = Unit {0}
-IsOfSequence _ = ⊥
+IsOfSequence kind = IsFirstPart (kind_row kind).part
 
 -- relocation number e is of such a type, and it is the first one of no sequence
 abbrev pub IsLoose : List ℕ → List Relocation → (ℕ → Type 0) → ℕ → Type 0

@@ -5,9 +5,7 @@ use Rattle.std.specs.List.{All, AllPairs, Contains}
 use Rattle.std.specs.List.Sorted.{IsNonDecreasingBy, IsPermutation}
 use Rattle.object_rules.specs.declared.fault.FaultKind.{FaultKind}
 use Rattle.object_rules.specs.declared.fault.FaultKind.TheVariants.{Sequence, StrayCall}
-use Rattle.elf_records.specs.declared.relocation.RelocationKind.{RelocationKind}
-use Rattle.elf_records.specs.declared.relocation.RelocationKind.TheVariants.{TlsGd, TlsLd, GotTpOff, GotPc32TlsDesc}
-use Rattle.elf_records.specs.declared.relocation.RelocationKind.TheVariants.{TlsDescCall}
+pub use Rattle.elf_records.specs.RelocationRows.{is_of_sequence}
 use Rattle.elf_object.specs.declared.relocation.Relocation.{Relocation}
 use Rattle.elf_object.specs.Faults.{Earlier, IsFirstAt}
 use Rattle.elf_object.specs.Lent.{kept_relocation_table}
@@ -29,15 +27,6 @@ kind_of Stray = StrayCall
 -- exactly the undefined symbols `__tls_get_addr` are marked
 abbrev pub AreGetters : List ℕ → List Bool → Type 0
 AreGetters b getters = (n : ℕ) → Names getters n ↔ IsGetter b n
-
--- a type that stands only in sequences
-abbrev pub is_of_sequence : RelocationKind → Bool
-is_of_sequence TlsGd = true
-is_of_sequence TlsLd = true
-is_of_sequence GotTpOff = true
-is_of_sequence GotPc32TlsDesc = true
-is_of_sequence TlsDescCall = true
-is_of_sequence _ = false
 
 -- a relocation of such a type, or one that names `__tls_get_addr`
 abbrev pub is_use : List Bool → Relocation → Bool

@@ -7,6 +7,7 @@ ghost use Rattle.std.specs.List.Sorted.{IsNonDecreasingBy, IsPermutation};
 ghost use Rattle.sequence_match.specs.Code.{AreSpans, IsFirstFrom, IsIndex, IsLastBelow, IsRising, IsSplit, order_of, reach_width};
 
 use elf_object::{Relocation, RelocationKind};
+use elf_records::relocation_row::{FieldForm, SequencePart};
 use std::alloc::{AllocError, Global};
 
 /// One more than the greatest number of a relocation.
@@ -40,10 +41,13 @@ impl Reach {
     {
         match self {
             Reach::OfField => kind.width(),
-            Reach::OfCall => match kind {
-                RelocationKind::TlsDescCall => 1,
-                _ => 0,
-            },
+            Reach::OfCall => {
+                let row = kind.row();
+                match (row.part, row.form) {
+                    (SequencePart::First, FieldForm::NoField) => 1,
+                    _ => 0,
+                }
+            }
         }
     }
 }

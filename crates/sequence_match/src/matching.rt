@@ -12,6 +12,7 @@ ghost use Rattle.sequence_match.specs.Faults.{IsLoose, IsOfSequence, IsStray};
 
 use crate::index::{Span, count_below, first_from, last_below};
 use elf_object::{Relocation, RelocationKind};
+use elf_records::relocation_row::{FieldValue, SequencePart, TableEntry};
 use sequence_forms::{Call, Cell, Form, Second, Site, TO_END};
 
 /// The code of one section, and its relocations.
@@ -108,18 +109,10 @@ pub fn names_getter(getters: &[bool], symbol: u32) -> bool
 fn is_call_kind(call: Call, kind: RelocationKind) -> bool
     ensures { IsTrue result ↔ IsCallKind call kind }
 {
-    match kind {
-        RelocationKind::Plt32 | RelocationKind::Pc32 => match call {
-            Call::Direct => true,
-            Call::Indirect => false,
-        },
-        RelocationKind::GotPcRel | RelocationKind::GotPcRelX | RelocationKind::RexGotPcRelX => {
-            match call {
-                Call::Direct => false,
-                Call::Indirect => true,
-            }
-        }
-        _ => false,
+    let row = kind.row();
+    match call {
+        Call::Direct => matches!(row.value, FieldValue::Distance),
+        Call::Indirect => matches!(row.entry, TableEntry::AddressWord),
     }
 }
 
@@ -310,14 +303,7 @@ pub fn site_of(code: &Code, entry: u32) -> Option<Site>
 pub fn is_of_sequence(kind: RelocationKind) -> bool
     ensures { IsTrue result ↔ IsOfSequence kind }
 {
-    match kind {
-        RelocationKind::TlsGd
-        | RelocationKind::TlsLd
-        | RelocationKind::GotTpOff
-        | RelocationKind::GotPc32TlsDesc
-        | RelocationKind::TlsDescCall => true,
-        _ => false,
-    }
+    matches!(kind.row().part, SequencePart::First)
 }
 
 /// Whether a relocation is of such a type, and the first one of no sequence.

@@ -3,11 +3,13 @@
 use Rattle.std.specs.Prelude.{◌-◌, ◌%◌, ◌^◌, ℕ, ℤ, pos, negsuc, ◌+ℤ◌, ◌-ℤ◌, Bool, false, nat_lt, Option, Some, None}
 use Rattle.std.specs.Prelude.{if◌then◌else◌}
 use Rattle.elf_records.specs.declared.relocation.RelocationKind.{RelocationKind}
-use Rattle.elf_records.specs.declared.relocation.RelocationKind.TheVariants.{Nothing, Absolute64, Pc32, Plt32}
-use Rattle.elf_records.specs.declared.relocation.RelocationKind.TheVariants.{GotPcRel, Absolute32, Absolute32Signed}
-use Rattle.elf_records.specs.declared.relocation.RelocationKind.TheVariants.{TlsGd, TlsLd, DtpOff32, GotTpOff, TpOff32}
-use Rattle.elf_records.specs.declared.relocation.RelocationKind.TheVariants.{GotPc32TlsDesc, TlsDescCall, GotPcRelX}
-use Rattle.elf_records.specs.declared.relocation.RelocationKind.TheVariants.{RexGotPcRelX}
+use Rattle.elf_records.specs.declared.relocation_row.FieldForm.{FieldForm}
+use Rattle.elf_records.specs.declared.relocation_row.FieldForm.TheVariants.{NoField, Signed32, Unsigned32, Wrapped64}
+use Rattle.elf_records.specs.declared.relocation_row.FieldValue.{FieldValue}
+use Rattle.elf_records.specs.declared.relocation_row.FieldValue.TheVariants.{NoValue, Address, Distance, EntryDistance}
+use Rattle.elf_records.specs.declared.relocation_row.FieldValue.TheVariants.{SegmentOffset, ThreadOffset}
+use Rattle.elf_records.specs.declared.relocation_row.FieldValue.TheVariants.{DescriptorDistance}
+use Rattle.elf_records.specs.RelocationRows.{row}
 use Rattle.tls_relocs.specs.declared.fields.Field.{Field}
 use Rattle.tls_relocs.specs.declared.fields.Field.TheVariants.{Empty, Word32, Word64}
 
@@ -40,23 +42,25 @@ unsigned_field z = word32 (fits_unsigned z) z
 abbrev pub wrapped_field : ℤ → Option Field
 wrapped_field z = Some (Word64 (modulo (2 ^ 64) z))
 
--- the field that a relocation stores, None where the value does not fit it. By the psABI's letters: s is S, the
--- symbol's place; a is A, the addend; p is P, the place of the field; g is G, the place of the entry in the GOT. In
--- the two rows of offsets in a TLS segment s is the symbol's offset there, o, and g the number b that is subtracted.
+-- the number in a field of this form, None where it does not fit
+abbrev pub formed : FieldForm → ℤ → Option Field
+formed NoField z = Some Empty
+formed Signed32 z = signed_field z
+formed Unsigned32 z = unsigned_field z
+formed Wrapped64 z = wrapped_field z
+
+-- the number that a field holds. By the psABI's letters: s is S, the symbol's place; a is A, the addend; p is P, the
+-- place of the field; g is G, the place of the entry in the GOT. For offsets in a TLS segment s is the symbol's offset
+-- there, o, and g the number b that is subtracted.
+abbrev pub held : FieldValue → ℕ → ℤ → ℕ → ℕ → ℤ
+held NoValue s a p g = pos 0
+held Address s a p g = pos s +ℤ a
+held Distance s a p g = (pos s +ℤ a) -ℤ pos p
+held EntryDistance s a p g = (pos g +ℤ a) -ℤ pos p
+held SegmentOffset o a p b = (pos o +ℤ a) -ℤ pos b
+held ThreadOffset o a p b = (pos o +ℤ a) -ℤ pos b
+held DescriptorDistance s a p g = (pos g +ℤ a) -ℤ pos p
+
+-- the field that a relocation stores, None where the value does not fit it
 abbrev pub stored_field : RelocationKind → ℕ → ℤ → ℕ → ℕ → Option Field
-stored_field Nothing s a p g = Some Empty  -- R_X86_64_NONE
-stored_field Absolute64 s a p g = wrapped_field (pos s +ℤ a)  -- R_X86_64_64
-stored_field Pc32 s a p g = signed_field ((pos s +ℤ a) -ℤ pos p)  -- R_X86_64_PC32
-stored_field Plt32 s a p g = signed_field ((pos s +ℤ a) -ℤ pos p)  -- R_X86_64_PLT32
-stored_field GotPcRel s a p g = signed_field ((pos g +ℤ a) -ℤ pos p)  -- R_X86_64_GOTPCREL
-stored_field Absolute32 s a p g = unsigned_field (pos s +ℤ a)  -- R_X86_64_32
-stored_field Absolute32Signed s a p g = signed_field (pos s +ℤ a)  -- R_X86_64_32S
-stored_field TlsGd s a p g = signed_field ((pos g +ℤ a) -ℤ pos p)  -- R_X86_64_TLSGD
-stored_field TlsLd s a p g = signed_field ((pos g +ℤ a) -ℤ pos p)  -- R_X86_64_TLSLD
-stored_field DtpOff32 o a p b = signed_field ((pos o +ℤ a) -ℤ pos b)  -- R_X86_64_DTPOFF32
-stored_field GotTpOff s a p g = signed_field ((pos g +ℤ a) -ℤ pos p)  -- R_X86_64_GOTTPOFF
-stored_field TpOff32 o a p b = signed_field ((pos o +ℤ a) -ℤ pos b)  -- R_X86_64_TPOFF32
-stored_field GotPc32TlsDesc s a p g = signed_field ((pos g +ℤ a) -ℤ pos p)  -- R_X86_64_GOTPC32_TLSDESC
-stored_field TlsDescCall s a p g = Some Empty  -- R_X86_64_TLSDESC_CALL
-stored_field GotPcRelX s a p g = signed_field ((pos g +ℤ a) -ℤ pos p)  -- R_X86_64_GOTPCRELX
-stored_field RexGotPcRelX s a p g = signed_field ((pos g +ℤ a) -ℤ pos p)  -- R_X86_64_REX_GOTPCRELX
+stored_field kind s a p g = formed (row kind).form (held (row kind).value s a p g)

@@ -3,11 +3,13 @@
 ghost use Rattle.std.specs.Prelude.{◌≡◌, Some, IfOk};
 ghost use Rattle.std.specs.Result.{result_ok};
 ghost use Rattle.elf_object.specs.Relocations.{field_width};
+ghost use Rattle.elf_records.specs.RelocationRows.{form_width};
 ghost use Rattle.tls_relocs.specs.Fields.{width_of};
-ghost use Rattle.tls_relocs.specs.Values.{signed_field, unsigned_field, wrapped_field, stored_field};
+ghost use Rattle.tls_relocs.specs.Values.{formed, held, signed_field, unsigned_field, wrapped_field, stored_field};
 
 use crate::fields::Field;
 use elf_object::RelocationKind;
+use elf_records::relocation_row::{FieldForm, FieldValue};
 use thiserror::Error;
 
 /// The value of a relocation does not fit its field.
@@ -26,21 +28,39 @@ pub fn value(kind: RelocationKind, s: u64, a: i64, p: u64, g: u64) -> Result<Fie
     ensures stored { result_ok result ≡ stored_field kind s a p g }
     ensures width { IfOk result (λ field. width_of field ≡ field_width kind) }
 {
+    let row = kind.row();
+    formed(row.form, held(row.value, s, a, p, g))
+}
+
+/// The number that a field holds.
+#[inline(always)]
+fn held(value: FieldValue, s: u64, a: i64, p: u64, g: u64) -> i128
+    ensures { result ≡ held value s a p g }
+{
     let (s, a, p, g) = (i128::from(s), i128::from(a), i128::from(p), i128::from(g));
-    match kind {
-        RelocationKind::Nothing | RelocationKind::TlsDescCall => Ok(Field::Empty),
-        RelocationKind::Absolute64 => Ok(wrapped_field(s + a)),
-        RelocationKind::Absolute32 => unsigned_field(s + a),
-        RelocationKind::Absolute32Signed => signed_field(s + a),
-        RelocationKind::Pc32 | RelocationKind::Plt32 => signed_field(s + a - p),
-        RelocationKind::DtpOff32 | RelocationKind::TpOff32 => signed_field(s + a - g),
-        // G: the symbol's address
-        RelocationKind::GotPcRel => signed_field(g + a - p),
-        RelocationKind::GotPcRelX | RelocationKind::RexGotPcRelX => signed_field(g + a - p),
-        // G: a pair, module and offset
-        RelocationKind::TlsGd | RelocationKind::TlsLd => signed_field(g + a - p),
-        // G: the symbol's distance from the thread pointer, or its descriptor
-        RelocationKind::GotTpOff | RelocationKind::GotPc32TlsDesc => signed_field(g + a - p),
+    match value {
+        FieldValue::NoValue => 0,
+        FieldValue::Address => s + a,
+        FieldValue::Distance => s + a - p,
+        // G: a pair, module and offset; an offset from the thread pointer; or a symbol's address
+        FieldValue::EntryDistance => g + a - p,
+        // G: a descriptor
+        FieldValue::DescriptorDistance => g + a - p,
+        FieldValue::SegmentOffset | FieldValue::ThreadOffset => s + a - g,
+    }
+}
+
+/// The number in a field of this form, if it fits.
+#[inline(always)]
+fn formed(form: FieldForm, value: i128) -> Result<Field, Overflow>
+    ensures stored { result_ok result ≡ formed form value }
+    ensures width { IfOk result (λ field. width_of field ≡ form_width form) }
+{
+    match form {
+        FieldForm::NoField => Ok(Field::Empty),
+        FieldForm::Signed32 => signed_field(value),
+        FieldForm::Unsigned32 => unsigned_field(value),
+        FieldForm::Wrapped64 => Ok(wrapped_field(value)),
     }
 }
 

@@ -7,8 +7,7 @@ use Rattle.std.specs.Str.{bytes_eq}
 use Rattle.object_faults.specs.declared.class.SectionClass.{SectionClass}
 use Rattle.object_faults.specs.declared.class.SectionClass.TheVariants.{Tls}
 use Rattle.elf_records.specs.declared.relocation.RelocationKind.{RelocationKind}
-use Rattle.elf_records.specs.declared.relocation.RelocationKind.TheVariants.{TlsGd, GotTpOff}
-use Rattle.elf_records.specs.declared.relocation.RelocationKind.TheVariants.{GotPc32TlsDesc, TlsDescCall}
+pub use Rattle.elf_records.specs.RelocationRows.{may_import}
 use Rattle.elf_object.specs.declared.relocation.Relocation.{Relocation}
 use Rattle.elf_object.specs.declared.symbol.SymbolBinding.TheVariants.{Local}
 use Rattle.elf_object.specs.declared.symbol.SymbolPlace.{SymbolPlace}
@@ -89,14 +88,6 @@ unfoldable pub exported_names : List (List ℕ) → List (List ℕ)
 exported_names objects = exported_from objects 0 objects
 
 -- ** what a symbol is bound to
-
--- the types that another image's variable may be reached by: the loader fills in what they need
-abbrev pub may_import : RelocationKind → Bool
-may_import TlsGd = true
-may_import GotTpOff = true
-may_import GotPc32TlsDesc = true
-may_import TlsDescCall = true
-may_import kind = false
 
 -- the first of the startup images, from number k on, that exports the name
 abbrev pub first_export : List ℕ → ℕ → List (List (List ℕ)) → Option ℕ

@@ -3,9 +3,7 @@ use Rattle.std.specs.Prelude.{◌≡◌, ◌<◌, ◌⊎◌, ◌&&◌, ◌||◌,
 use Rattle.std.specs.Prelude.{is_none, length, slice_get, IsSomeAnd}
 use Rattle.std.specs.Str.{bytes_eq}
 use Rattle.elf_records.specs.declared.relocation.RelocationKind.{RelocationKind}
-use Rattle.elf_records.specs.declared.relocation.RelocationKind.TheVariants.{Nothing, TlsGd, TlsLd, DtpOff32}
-use Rattle.elf_records.specs.declared.relocation.RelocationKind.TheVariants.{GotTpOff}
-use Rattle.elf_records.specs.declared.relocation.RelocationKind.TheVariants.{TpOff32, GotPc32TlsDesc, TlsDescCall}
+pub use Rattle.elf_records.specs.RelocationRows.{is_tls_kind, names_symbol}
 use Rattle.elf_object.specs.declared.relocation.Relocation.{Relocation}
 use Rattle.elf_object.specs.declared.symbol.SymbolBinding.TheVariants.{Local, Global}
 use Rattle.elf_object.specs.Lent.{relocations, relocation_target, symbol_binding, symbol_name, symbol_place}
@@ -21,22 +19,6 @@ use Rattle.tls_symbols.specs.Definitions.{definition_of, is_defined, same_bindin
 use Rattle.tls_symbols.specs.Bindings.{binding_of, get_address, is_symbol, is_tls_binding, object_at}
 
 -- ** what a relocation is charged with
-
--- a relocation of type NONE names nothing
-abbrev pub names_symbol : RelocationKind → Bool
-names_symbol Nothing = false
-names_symbol kind = true
-
--- the types of thread-local storage (psABI, "Relocation Types")
-abbrev pub is_tls_kind : RelocationKind → Bool
-is_tls_kind TlsGd = true
-is_tls_kind TlsLd = true
-is_tls_kind DtpOff32 = true
-is_tls_kind GotTpOff = true
-is_tls_kind TpOff32 = true
-is_tls_kind GotPc32TlsDesc = true
-is_tls_kind TlsDescCall = true
-is_tls_kind kind = false
 
 abbrev pub differ : Bool → Bool → Bool
 differ true other = not other

@@ -2,7 +2,6 @@
 
 ghost use Rattle.std.specs.Prelude.{◌≡◌};
 ghost use Rattle.tls_symbols.specs.Charges.{asked_by, is_charged, IsAsked};
-ghost use Rattle.tls_symbols.specs.Faults.{is_tls_kind};
 ghost use Rattle.tls_symbols.specs.Standings.{is_unbound, is_unsuited};
 
 use crate::image_names::ImageNames;
@@ -22,22 +21,6 @@ pub enum Charge {
     Either,
 }
 
-/// Whether a relocation of this type belongs to thread-local storage.
-fn is_tls_kind(kind: RelocationKind) -> bool
-    ensures { result ≡ is_tls_kind kind }
-{
-    matches!(
-        kind,
-        RelocationKind::TlsGd
-            | RelocationKind::TlsLd
-            | RelocationKind::DtpOff32
-            | RelocationKind::GotTpOff
-            | RelocationKind::TpOff32
-            | RelocationKind::GotPc32TlsDesc
-            | RelocationKind::TlsDescCall
-    )
-}
-
 /// Whether there is nothing that a symbol is bound to.
 fn is_nothing(bound: Bound) -> bool
     ensures { result ≡ is_unbound bound }
@@ -51,8 +34,8 @@ fn is_mismatched(bound: Bound, kind: RelocationKind) -> bool
 {
     match bound {
         Bound::Nothing => false,
-        Bound::ThreadLocal => !is_tls_kind(kind),
-        Bound::Ordinary => is_tls_kind(kind),
+        Bound::ThreadLocal => !kind.is_tls(),
+        Bound::Ordinary => kind.is_tls(),
     }
 }
 
@@ -81,7 +64,7 @@ impl Question for NameQuestion<'_, '_, '_, '_> {
     ghost may_ask = { IsAsked };
 
     fn is_about(&self, object: usize, relocation: &Relocation) -> bool {
-        if relocation.kind == RelocationKind::Nothing {
+        if !relocation.kind.names_symbol() {
             return false;
         }
         let own = &self.standings[object];

@@ -5,7 +5,7 @@ ghost use Rattle.std.specs.Str.{bytes_eq};
 ghost use Rattle.elf_object.specs.Lent.{symbol_binding, symbol_name};
 ghost use Rattle.elf_object.specs.declared.symbol.SymbolBinding.TheVariants.{Local};
 ghost use Rattle.elf_object.specs.Parts.{symbol_count};
-ghost use Rattle.tls_symbols.specs.Bindings.{bound_to, get_address, is_tls_symbol, may, may_import, object_at, IsBindingWithin};
+ghost use Rattle.tls_symbols.specs.Bindings.{bound_to, get_address, is_tls_symbol, may, object_at, IsBindingWithin};
 ghost use Rattle.tls_symbols.specs.Definitions.{definition_of, same_binding, IsWithin};
 ghost use Rattle.tls_symbols.specs.Known.{IsKnown, binding_at, definition_at, imported_at};
 ghost use Rattle.tls_symbols.specs.Numbers.{IsNumbered};
@@ -14,7 +14,7 @@ use crate::export_list::Exports;
 use crate::firsts::{first_definitions, first_exports};
 use crate::imports::Imports;
 use crate::numbers::{KnownSymbol, Numbers, number_names};
-use elf_object::{Object, RelocationKind, SymbolBinding};
+use elf_object::{Object, SymbolBinding};
 use link_faults::{Binding, SymbolRef};
 use std::alloc::{AllocError, Global};
 
@@ -127,19 +127,6 @@ pub fn is_run_time(names: &ImageNames, object: usize, symbol: u32) -> bool
         Some(number) => number == 0,
         None => false,
     }
-}
-
-/// Whether a relocation of this type may name what another image exports.
-pub fn may_import(kind: RelocationKind) -> bool
-    ensures { result ≡ may_import kind }
-{
-    matches!(
-        kind,
-        RelocationKind::TlsGd
-            | RelocationKind::GotTpOff
-            | RelocationKind::GotPc32TlsDesc
-            | RelocationKind::TlsDescCall
-    )
 }
 
 /// The first startup image that exports the name of this number.

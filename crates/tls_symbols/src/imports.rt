@@ -3,7 +3,6 @@
 ghost use Rattle.std.specs.Prelude.{◌≡◌};
 ghost use Rattle.tls_symbols.specs.Bindings.{may, may_import};
 
-use crate::image_names::may_import;
 use elf_object::RelocationKind;
 
 /// Whether a symbol may be another image's variable: what it is bound to depends on that, and on nothing else of the
@@ -18,7 +17,7 @@ pub enum Imports {
 pub fn imports_of(kind: RelocationKind) -> Imports
     ensures { may result ≡ may_import kind }
 {
-    if may_import(kind) {
+    if kind.may_import() {
         Imports::Yes
     } else {
         Imports::No

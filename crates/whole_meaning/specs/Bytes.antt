@@ -7,7 +7,10 @@ use Rattle.elf_object.specs.declared.symbol.SymbolPlace.{SymbolPlace}
 use Rattle.elf_object.specs.declared.symbol.SymbolPlace.TheVariants.{InSection}
 use Rattle.elf_object.specs.Lent.{relocations, section_bytes, section_class, symbol_place}
 use Rattle.elf_records.specs.declared.relocation.RelocationKind.{RelocationKind}
-use Rattle.elf_records.specs.declared.relocation.RelocationKind.TheVariants.{Absolute64, Pc32, Plt32, Absolute32, Absolute32Signed, TpOff32}
+use Rattle.elf_records.specs.declared.relocation_row.FieldValue.{FieldValue}
+use Rattle.elf_records.specs.declared.relocation_row.FieldValue.TheVariants.{ThreadOffset}
+use Rattle.elf_records.specs.RelocationRows.{row, is_offset}
+pub use Rattle.elf_records.specs.RelocationRows.{has_value}
 use Rattle.elf_records.specs.Relocations.{field_width}
 use Rattle.link_faults.specs.declared.binding.Binding.{Binding}
 use Rattle.link_faults.specs.declared.binding.Binding.TheVariants.{Here}
@@ -28,16 +31,6 @@ use Rattle.whole_meaning.specs.Spots.{Spot, spot_in}
 
 -- ** fields
 
--- the types whose field holds a number of the program's own
-abbrev pub has_value : RelocationKind → Bool
-has_value Absolute64 = true
-has_value Pc32 = true
-has_value Plt32 = true
-has_value Absolute32 = true
-has_value Absolute32Signed = true
-has_value TpOff32 = true
-has_value kind = false
-
 -- byte k of a section lies in the relocation's field
 abbrev pub covers : ℕ → Relocation → Bool
 covers k r = nat_le r.offset k && nat_lt k (r.offset + field_width r.kind)
@@ -47,14 +40,16 @@ module _ (l : Linking) (bias : ℕ) where
   -- S, the symbol's place at the instance, or O, its offset in the TLS segment; a field that names the run time's
   -- function lies in a sequence, of which no byte is read
   abbrev pub symbol_number : RelocationKind → Option Binding → ℕ
-  symbol_number TpOff32 (Some (Here found)) = offset l found
-  symbol_number kind (Some (Here found)) = address l found + bias
+  symbol_number kind (Some (Here found)) = if is_offset kind then offset l found else address l found + bias
   symbol_number kind bound = 0
 
-  -- what is subtracted from an offset
+  -- what is subtracted from an offset from the thread pointer
+  abbrev pub subtracted_from : FieldValue → ℕ
+  subtracted_from ThreadOffset = block_offset l
+  subtracted_from value = 0
+
   abbrev pub subtracted : RelocationKind → ℕ
-  subtracted TpOff32 = block_offset l
-  subtracted kind = 0
+  subtracted kind = subtracted_from (row kind).value
 
   -- what the field of a relocation of section s of object o holds at the instance's place
   unfoldable pub value_of : ℕ → ℕ → Relocation → Option Field

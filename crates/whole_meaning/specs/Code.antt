@@ -5,7 +5,11 @@ use Rattle.amd64_subset.specs.Register.{register_of as numbered_register}
 use Rattle.elf_object.specs.declared.relocation.Relocation.{Relocation}
 use Rattle.elf_object.specs.Lent.{relocations, symbol_name}
 use Rattle.elf_records.specs.declared.relocation.RelocationKind.{RelocationKind}
-use Rattle.elf_records.specs.declared.relocation.RelocationKind.TheVariants.{DtpOff32, GotPcRel, GotPcRelX, RexGotPcRelX}
+use Rattle.elf_records.specs.declared.relocation_row.FieldValue.{FieldValue}
+use Rattle.elf_records.specs.declared.relocation_row.FieldValue.TheVariants.{SegmentOffset}
+use Rattle.elf_records.specs.declared.relocation_row.TableEntry.{TableEntry}
+use Rattle.elf_records.specs.declared.relocation_row.TableEntry.TheVariants.{AddressWord}
+use Rattle.elf_records.specs.RelocationRows.{row}
 use Rattle.link_faults.specs.declared.binding.Binding.{Binding}
 use Rattle.link_faults.specs.declared.binding.Binding.TheVariants.{Here, Startup}
 use Rattle.link_faults.specs.declared.symbol_ref.SymbolRef.{SymbolRef}
@@ -47,13 +51,14 @@ module _ (l : Linking) (bias : ℕ) where
   abbrev pub address_number : Relocation → Option Binding → ℕ
   address_number r bound = symbol_number l bias r.kind bound % 2 ^ 64
 
-  -- byte k of the field of a relocation, by its type
+  -- byte k of the field of a relocation, by what it holds and which entry it reaches
+  abbrev pub mark_for : ℕ → Relocation → Option Binding → FieldValue → TableEntry → Mark
+  mark_for k r bound SegmentOffset entry = Offset (offset_number r bound) (k - r.offset)
+  mark_for k r bound value AddressWord = Address (address_number r bound) r.addend (k - r.offset)
+  mark_for k r bound value entry = Usual
+
   abbrev pub field_mark : ℕ → Relocation → Option Binding → RelocationKind → Mark
-  field_mark k r bound DtpOff32 = Offset (offset_number r bound) (k - r.offset)
-  field_mark k r bound GotPcRel = Address (address_number r bound) r.addend (k - r.offset)
-  field_mark k r bound GotPcRelX = Address (address_number r bound) r.addend (k - r.offset)
-  field_mark k r bound RexGotPcRelX = Address (address_number r bound) r.addend (k - r.offset)
-  field_mark k r bound kind = Usual
+  field_mark k r bound kind = mark_for k r bound (row kind).value (row kind).entry
 
   abbrev pub relocated_mark : ℕ → ℕ → Option Relocation → Mark
   relocated_mark o k None = Usual
