@@ -85,12 +85,12 @@ fn first_fault(alloc: Global, names: &ImageNames) -> Result<Option<LinkFault>, A
         (IsFault names.now.objects.now names.now.startup.now)) }
 {
     let standings = standings(alloc, names)?;
-    if first_charged(names, &standings, Charge::Either).is_some() {
-        return Ok(first_of_all(names, &standings));
-    }
-    match first_duplicate(names) {
-        Some(place) => Ok(Some(place.fault(LinkFaultKind::Duplicate))),
-        None => Ok(None),
+    match first_charged(names, &standings, Charge::Either) {
+        Some(_) => Ok(first_of_all(names, &standings)),
+        None => match first_duplicate(names) {
+            Some(place) => Ok(Some(place.fault(LinkFaultKind::Duplicate))),
+            None => Ok(None),
+        },
     }
 }
 

@@ -1,8 +1,10 @@
 //! The faults that a relocation may have by what its symbol is bound to.
 
-ghost use Rattle.std.specs.Prelude.{◌≡◌};
+ghost use Rattle.std.specs.Prelude.{◌≡◌, ◌<◌, length, map};
+ghost use Rattle.elf_object.specs.Parts.{symbol_count};
+ghost use Rattle.tls_symbols.specs.Bindings.{object_at};
 ghost use Rattle.tls_symbols.specs.Charges.{asked_by, is_charged, IsAsked};
-ghost use Rattle.tls_symbols.specs.Standings.{is_unbound, is_unsuited};
+ghost use Rattle.tls_symbols.specs.Standings.{is_unbound, is_unsuited, AllStandings, IsStanding};
 
 use crate::image_names::ImageNames;
 use crate::imports::imports_of;
@@ -58,6 +60,23 @@ pub struct NameQuestion<'n, 'l, 's, 'a> {
     pub charge: Charge,
 }
 
+/// What a symbol of an object stands for.
+fn standing_at(
+    names: &ImageNames,
+    standings: &[Vec<Standing>],
+    object: usize,
+    symbol: u32,
+) -> Standing
+    requires standings { AllStandings names.now.objects.now names.now.startup.now
+        (map (λ own. own.items) standings.now) }
+    requires object { object < length names.now.objects.now }
+    requires symbol { symbol < symbol_count (object_at names.now.objects.now object) }
+    ensures { IsStanding names.now.objects.now names.now.startup.now object symbol result }
+{
+    let own = &standings[object];
+    own[symbol as usize]
+}
+
 impl Question for NameQuestion<'_, '_, '_, '_> {
     ghost test = { asked_by };
 
@@ -67,8 +86,8 @@ impl Question for NameQuestion<'_, '_, '_, '_> {
         if !relocation.kind.names_symbol() {
             return false;
         }
-        let own = &self.standings[object];
-        let bound = own[relocation.symbol as usize].bound(imports_of(relocation.kind));
+        let standing = standing_at(self.names, self.standings, object, relocation.symbol);
+        let bound = standing.bound(imports_of(relocation.kind));
         is_charged(self.charge, bound, relocation.kind)
     }
 }

@@ -115,8 +115,9 @@ pub fn standings(alloc: Global, names: &ImageNames) -> Result<Vec<Vec<Standing>>
     ensures { IfOk result (λ all.
         AllStandings names.now.objects.now names.now.startup.now (map (λ own. own.items) all.items)) }
 {
-    let mut all = Vec::with_capacity(alloc, names.objects.len())?;
-    for (index, object) in names.objects.iter().enumerate() {
+    let objects = names.objects;
+    let mut all = Vec::with_capacity(alloc, objects.len())?;
+    for (index, object) in objects.iter().enumerate() {
         let own = own_standings(alloc, names, index, object)?;
         all.push(own)?;
     }

@@ -3,7 +3,7 @@ use Rattle.std.specs.Prelude.{slice_index_or}
 use Rattle.tls_symbols.specs.declared.standings.Standing.{Standing}
 use Rattle.tls_symbols.specs.Standings.{IsStanding}
 use Rattle.tls_symbols.proofs.Numbered.{each_push}
-use Rattle.tls_symbols.proofs.standings.standings.Goals as goal
+use Rattle.tls_symbols.proofs.standings.own_standings.Goals as goal
 
 pub loop-symbol-preserved : goal.loop-symbol-preserved
 loop-symbol-preserved c =
