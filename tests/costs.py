@@ -1,7 +1,7 @@
 #!/usr/bin/env python3
 """Runs `rt ci` with the words that follow, and says what it cost, crate by crate, in processor seconds: proofs, tests (which
-prove their crate once more), must-fail edits, and building and running programs. The gate takes nothing from earlier runs, so
-`python3 tests/costs.py` measures it from nothing, and `taskset -c 0,1 python3 tests/costs.py` on two processors. Processes are
+prove their crate once more), must-fail edits, and building and running programs. The gate takes what earlier runs of the
+same files passed, so `python3 tests/costs.py --anew` measures it from nothing, `taskset -c 0,1` in front on two processors. Processes are
 looked at twice a second, so each may count half a second too little; the sum is the kernel's own. Lines of the run go to standard
 error."""
 import os, re, resource, subprocess, sys, threading, time

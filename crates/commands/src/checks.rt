@@ -10,7 +10,7 @@ ghost use Rattle.loaded_modules.specs.Given.{LateLast};
 
 use command_replies::{CommandFault, InputRefusal};
 use job_check::{check_job, verdict_text};
-use job_link::{ImageObjects, prepare_images, startup_exports};
+use job_link::{ImageObjects, inputs_of, prepare_images, startup_exports};
 use job_text::Job;
 use meant_images::MeantImages;
 use std::alloc::{AllocError, Global};
@@ -31,7 +31,10 @@ fn verdict_of(
 {
     let _images = job.images();
     let startup = startup_exports(alloc, images)?;
-    let inputs = prepare_images(alloc, images, startup.as_slice(), relax)?;
+    let Ok(ready) = prepare_images(alloc, images, startup.as_slice(), relax) else {
+        return Err(AllocError);
+    };
+    let inputs = inputs_of(alloc, ready)?;
     let meant = MeantImages::new(alloc, inputs.as_slice())?;
     check_job(alloc, job, &meant)
 }

@@ -16,3 +16,5 @@ mod link_faults_tests;
 mod objects;
 #[cfg(test)]
 mod records;
+#[cfg(test)]
+mod relocation_rows;

@@ -14,6 +14,7 @@
 //! that the crate keeps: **equal needs share an entry, and the order depends on nothing but the order of needs.** The
 //! entries stand group by group (module pair, pairs, descriptors, offsets, addresses, the run time's function), in
 //! each group by first need. [`GotPlan::start`] finds an entry by hash.
+//! That each need has an entry, that entries differ and that groups stand in order are laws of their own ([`laws`]).
 //!
 //! What an entry holds is one table ([`entry_of`], `specs/Entries`). A program is module 1 and knows where its block
 //! begins, so its own entries are numbers; a module learns its id and its block's place when it is loaded. An example:
@@ -34,6 +35,7 @@
 
 mod entry;
 mod got_plan;
+pub mod laws;
 mod name;
 mod need;
 

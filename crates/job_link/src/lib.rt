@@ -8,8 +8,9 @@
 //!    storage. Threads share them, and what each says is taken in order.
 //! 3. [`link_images`] links each image beside the names that the startup images export: the program, and the modules
 //!    that start with it. Two threads share a large one.
-//! 4. [`prepare_images`] gives of each image that links what is known before its fields are filled in, beside the same
-//!    names ([`startup_exports`]). A checker asks what the objects mean, and needs no file of them.
+//! 4. [`prepare_images`] makes each image ready beside the same names ([`startup_exports`]), or answers the first that
+//!    does not link, with no byte of any laid. [`write_images`] and [`write_image`] write all of them, or one; a checker
+//!    asks what the objects mean ([`inputs_of`]), and needs no file of them.
 //!
 //! Two orders meet here. The job's lines **mention** images in any order; in **image order** the program is first, then
 //! come the modules that start with it, then the late ones. Files are fetched and read as they are mentioned, so that a
@@ -51,5 +52,5 @@ mod reading;
 pub use fetching::{Files, fetch_objects};
 pub use images::ImageObjects;
 pub use linked_images::{ImageRefusal, link_images, startup_exports};
-pub use preparing::prepare_images;
+pub use preparing::{inputs_of, prepare_images, write_image, write_images};
 pub use reading::{ReadRefusal, read_objects};

@@ -102,7 +102,7 @@ fn link_one<'a, R: Threads + Sync>(
 }
 
 /// What is told of the image of this number.
-fn refused(image: usize, fault: LinkFault) -> ImageRefusal
+pub(crate) fn refused(image: usize, fault: LinkFault) -> ImageRefusal
     ensures { result ≡ refusal_of image fault }
 {
     match fault {

@@ -1,41 +1,47 @@
-//! What is known of each image of a job before fields are filled in.
+//! The images of a job, made ready in image order, and written.
 //!
-//! Whoever asks what a job means needs this of its images, and no file of them.
+//! Whoever asks what a job means, or wants one of its images, needs no file of the others.
 
-ghost use Rattle.std.specs.Prelude.{◌≡◌, ◌≤◌, ◌<◌, ◌-◌, ◌^◌, IfOk, length, map};
-ghost use Rattle.link_core.specs.Faults.{Links};
+ghost use Rattle.std.specs.Prelude.{◌≡◌, ◌≤◌, ◌<◌, ◌-◌, ◌^◌, All, IfErr, IfOk, OnOk, length, map};
+ghost use Rattle.link_core.specs.Faults.{IsLinkFault, IsSound, Links};
+ghost use Rattle.link_core.specs.Images.{linked_of};
 ghost use Rattle.job_link.specs.Linked.{exports_of, link_in, AllLink};
 ghost use Rattle.job_link.specs.Beside.{link_beside};
+ghost use Rattle.job_link.specs.Refusals.{IsImageRefusal};
 
 use crate::images::ImageObjects;
+use crate::linked_images::{ImageRefusal, refused};
+use link_core::{Linked, ReadyLink, prepare};
 use link_faults::LinkFault;
 use link_needs::Inputs;
-use link_tables::{Prepared, prepare};
 use std::alloc::{AllocError, Global};
+use std::thread::Threads;
 use tls_symbols::Exports;
 
-/// What is known of an image, where no writer of its file asks for more.
-fn inputs_of<'i, 'a>(prepared: Prepared<'i, 'i, 'a>) -> Inputs<'i, 'i, 'a>
-    ensures { result ≡ prepared.entry }
+/// A link that is ready, where all its fields hold their values, or the first that does not.
+fn fitting<'l, 's, 'a>(ready: ReadyLink<'l, 's, 'a>) -> Result<ReadyLink<'l, 's, 'a>, LinkFault>
+    requires { IsSound ready }
+    ensures ready { IfOk result (λ same. same ≡ ready.entry) }
+    ensures links { OnOk result (Links ready.entry) }
+    ensures fault { IfErr result (IsLinkFault ready.entry) }
 {
-    let Prepared {
-        inputs,
-        own: _,
-        imports: _,
-    } = prepared;
-    inputs
+    match ready.overflow() {
+        None => Ok(ready),
+        Some(fault) => Err(fault),
+    }
 }
 
-/// What is known of an image that links beside startup images that export these names. The only error is want of memory.
-fn prepare_one<'i, 'a>(
+/// Makes an image ready that links beside startup images that export these names, or answers its first fault.
+fn ready_one<'i, 'a>(
     alloc: Global,
     image: &'i ImageObjects<'a>,
     startup: &'i [Exports<'a>],
     relax: bool,
-) -> Result<Inputs<'i, 'i, 'a>, AllocError>
+) -> Result<ReadyLink<'i, 'i, 'a>, LinkFault>
     requires few { length startup.now < 2 ^ 32 - 1 }
-    requires links { Links (link_beside startup.now relax image.now) }
-    ensures { IfOk result (λ inputs. inputs ≡ link_beside startup.now relax image.now) }
+    ensures ready { IfOk result (λ ready. ready ≡ link_beside startup.now relax image.now) }
+    ensures links { OnOk result (Links (link_beside startup.now relax image.now)) }
+    ensures fault { IfErr result (IsLinkFault (link_beside startup.now relax image.now)) }
 {
     match prepare(
         alloc,
@@ -45,28 +51,77 @@ fn prepare_one<'i, 'a>(
         startup,
         relax,
     ) {
-        Ok(prepared) => Ok(inputs_of(prepared)),
-        Err(LinkFault::OutOfMemory) => Err(AllocError),
-        Err(LinkFault::At { .. }) => unreachable!(),
+        Ok(ready) => fitting(ready),
+        Err(fault) => Err(fault),
     }
 }
 
-/// What is known of the images of a job, which stand in image order and link. `startup` is what the startup images
-/// export, and `relax` says whether sequences may be rewritten. The only error is want of memory.
+/// Makes the images of a job ready, which stand in image order, or answers the first that does not link. `startup` is
+/// what the startup images export, and `relax` says whether sequences may be rewritten. No byte of an image is laid.
 pub fn prepare_images<'i, 'a>(
     alloc: Global,
     images: &'i [ImageObjects<'a>],
     startup: &'i [Exports<'a>],
     relax: bool,
-) -> Result<Vec<Inputs<'i, 'i, 'a>>, AllocError>
+) -> Result<Vec<ReadyLink<'i, 'i, 'a>>, ImageRefusal>
     requires few { length images.now ≤ 64 }
     requires startup { startup.now ≡ exports_of images.now }
-    requires links { AllLink images.now relax }
-    ensures { IfOk result (λ all. all.items ≡ map (link_in images.now relax) images.now) }
+    ensures ready { IfOk result (λ all. all.items ≡ map (link_in images.now relax) images.now) }
+    ensures links { OnOk result (AllLink images.now relax) }
+    ensures refused { IfErr result (IsImageRefusal images.now relax) }
 {
     let mut all = Vec::with_capacity(alloc, images.len())?;
-    for image in images {
-        all.push(prepare_one(alloc, image, startup, relax)?)?;
+    for (number, image) in images.iter().enumerate() {
+        match ready_one(alloc, image, startup, relax) {
+            Ok(ready) => all.push(ready)?,
+            Err(fault) => return Err(refused(number, fault)),
+        }
     }
     Ok(all)
+}
+
+/// Writes an image that links. The only error is want of memory.
+pub fn write_image<R: Threads + Sync>(
+    rt: &R,
+    alloc: Global,
+    ready: ReadyLink,
+) -> Result<Linked, AllocError>
+    requires { Links ready }
+    ensures { IfOk result (λ linked. linked ≡ linked_of ready.entry) }
+{
+    match ready.write(rt, alloc) {
+        Ok(linked) => Ok(linked),
+        Err(LinkFault::OutOfMemory) => Err(AllocError),
+        Err(LinkFault::At { .. }) => unreachable!(),
+    }
+}
+
+/// Writes images that link. The only error is want of memory.
+pub fn write_images<R: Threads + Sync>(
+    rt: &R,
+    alloc: Global,
+    all: Vec<ReadyLink>,
+) -> Result<Vec<Linked>, AllocError>
+    requires { All Links all.items }
+    ensures { IfOk result (λ written. written.items ≡ map linked_of all.items) }
+{
+    let mut written = Vec::with_capacity(alloc, all.len())?;
+    for ready in all {
+        written.push(write_image(rt, alloc, ready)?)?;
+    }
+    Ok(written)
+}
+
+/// What is known of images, where no byte of them is asked for.
+pub fn inputs_of<'l, 's, 'a>(
+    alloc: Global,
+    all: Vec<ReadyLink<'l, 's, 'a>>,
+) -> Result<Vec<Inputs<'l, 's, 'a>>, AllocError>
+    ensures { IfOk result (λ inputs. inputs.items ≡ all.items) }
+{
+    let mut inputs = Vec::with_capacity(alloc, all.len())?;
+    for ready in all {
+        inputs.push(ready.into_inputs())?;
+    }
+    Ok(inputs)
 }

@@ -90,7 +90,7 @@ needs_length l (need ∷ more) =
       needs_length l more,
     )
 
-got_length : (l : Linking) → length (got_bytes l) ≡ got_size l
+pub got_length : (l : Linking) → length (got_bytes l) ≡ got_size l
 unfolding got_bytes
 got_length l = needs_length l (entries l)
 

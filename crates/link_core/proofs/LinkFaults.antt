@@ -6,7 +6,7 @@ use Rattle.link_faults.specs.declared.fault.LinkFault.TheVariants.{OutOfMemory, 
 use Rattle.link_faults.specs.declared.fault.LinkFaultKind.TheVariants as fault
 use Rattle.link_needs.specs.Linking.{Linking}
 use Rattle.link_tables.specs.Faults.{IsLinkFault, IsSound, Links}
-use Rattle.link_core.specs.Overflows.{IsOverflowFault, NoOverflow}
+use Rattle.link_core.specs.Overflows.{IsFirstOverflow, IsOverflowFault, NoOverflow}
 
 -- that of a field
 pub overflow_fault : (l : Linking) → IsSound l → (told : LinkFault) → IsOverflowFault l told → IsLinkFault l told
@@ -21,6 +21,10 @@ overflow_fault l sound (At fault.NarrowInModule object s e) is = absurd is
 overflow_fault l sound (At fault.TlsTooLarge object s e) is = absurd is
 overflow_fault l sound (At fault.ImageTooLarge object s e) is = absurd is
 overflow_fault l sound (At fault.NoTls object s e) is = absurd is
+
+pub first_fault : (l : Linking) → IsSound l → (told : LinkFault) → IsFirstOverflow l told → IsLinkFault l told
+first_fault l sound OutOfMemory is = tt
+first_fault l sound (At kind object s e) is = overflow_fault l sound (At kind object s e) is
 
 -- ** the end
 

@@ -19,10 +19,11 @@ use Rattle.link_needs.specs.Linking.{Linking, layout, object, place}
 use Rattle.link_needs.specs.Given.{FitsTable, IsGiven}
 use Rattle.link_needs.specs.Values.{field, is_replaced}
 use Rattle.link_core.specs.Bytes.{with_field, with_fields, with_fields_from, with_table}
-use Rattle.link_core.specs.Parts.{IsCut, IsPart, part_with_field, part_with_fields, part_with_fields_from}
+use Rattle.link_core.specs.Parts.{EndsBehind, IsCut, IsPart, is_before, part_with_field, part_with_fields, part_with_fields_from}
 use Rattle.link_core.specs.Parts.{part_with_held, part_with_table, start_at, start_in}
 use Rattle.link_core.proofs.LengthsKept.{field_at_most}
-use Rattle.link_core.proofs.PartSplit.{address_near, begins_in, first_part, start_before, start_behind, start_yes}
+use Rattle.link_core.proofs.PartSplit.{before_cut, before_end, begins_in, first_part, is_before_end, not_before}
+use Rattle.link_core.proofs.PartSplit.{start_before, start_behind, start_yes}
 use Rattle.link_core.proofs.PartSteps.{Splits, fold_none, fold_same, fold_still, splits_after, splits_back}
 use Rattle.link_core.proofs.PartSteps.{splits_fold, splits_front, splits_nothing}
 use Rattle.link_core.proofs.StandingAway.{held_of}
@@ -61,8 +62,8 @@ module _ (l : Linking) (given : IsGiven l) (limits : FitsTable l) where
 
   -- ** a cut
 
-  module _ (from cut to m : ℕ) (low : from ≤ cut) (high : from < cut → cut ≤ to)
-      (first : IsPart l from cut (cut - from)) (second : IsPart l cut to m) where
+  module _ (from cut : ℕ) (to : Option ℕ) (m : ℕ) (low : from ≤ cut) (high : from < cut → EndsBehind cut to)
+      (first : IsPart l from (Some cut) (cut - from)) (second : IsPart l cut to m) where
     abbrev n : ℕ
     n = cut - from
 
@@ -82,8 +83,9 @@ module _ (l : Linking) (given : IsGiven l) (limits : FitsTable l) where
         inside : 0 < length bytes → place_of + length bytes ≤ n
         inside some =
             let is = stands_in o t address r there has at in
-            let begin : start_in l from cut o t ≡ Some address =
-            ap (start_at (layout l) from cut) at ∙ start_yes (layout l) from cut address above below in
+            let begin : start_in l from (Some cut) o t ≡ Some address =
+            ap (start_at (layout l) from (Some cut)) at
+            ∙ start_yes (layout l) from (Some cut) address above (is_before_end _ cut below) in
             let ends = first o t address there begin (omega (arith, is.fits, some)) in
             omega (arith, is.at, is.fits, ends.1, above, low)
 
@@ -96,7 +98,7 @@ module _ (l : Linking) (given : IsGiven l) (limits : FitsTable l) where
     -- of one that begins behind it
     back_field : (o t address : ℕ) (r : Relocation) → o < length l.objects → Contains (relocations (object l o) t) r
         → address_of (layout l) o t ≡ Some address → cut ≤ offset_of (layout l) address
-        → offset_of (layout l) address < to
+        → is_before (offset_of (layout l) address) to ≡ true
         → Splits n m (λ now. part_with_field l from o t now r) (λ now. now) (λ now. part_with_field l cut o t now r)
     back_field o t address r there has at above below = of_test (is_replaced l o r)
       where
@@ -155,7 +157,7 @@ module _ (l : Linking) (given : IsGiven l) (limits : FitsTable l) where
 
     back_held : (o s address : ℕ) (x y z : Option ℕ) → o < length l.objects
         → address_of (layout l) o (relocation_target (object l o) s) ≡ Some address
-        → cut ≤ offset_of (layout l) address → offset_of (layout l) address < to
+        → cut ≤ offset_of (layout l) address → is_before (offset_of (layout l) address) to ≡ true
         → x ≡ Some address → y ≡ None → z ≡ Some address → Held o s x y z
     unfolding held_in
     back_held o s address x y z there at above below e f g =
@@ -172,12 +174,26 @@ module _ (l : Linking) (given : IsGiven l) (limits : FitsTable l) where
     -- one table
     table_splits : (o s : ℕ) → o < length l.objects
         → Splits n m (λ now. part_with_table l from to o (object l o) now s)
-        (λ now. part_with_table l from cut o (object l o) now s)
+        (λ now. part_with_table l from (Some cut) o (object l o) now s)
         (λ now. part_with_table l cut to o (object l o) now s)
     table_splits o s there = of_address (address_of (layout l) o (relocation_target (object l o) s)) refl
       where
+        of_end : (address : ℕ) → address_of (layout l) o (relocation_target (object l o) s) ≡ Some address
+            → from ≤ offset_of (layout l) address → cut ≤ offset_of (layout l) address → (test : Bool)
+            → is_before (offset_of (layout l) address) to ≡ test
+            → Held o s (start_at (layout l) from to (Some address)) (start_at (layout l) from (Some cut) (Some address))
+            (start_at (layout l) cut to (Some address))
+        of_end address e above later true is =
+            let p = layout l in
+            back_held o s address _ _ _ there e later is (start_yes p from to address above is)
+            (start_behind p from (Some cut) address (not_before _ cut later)) (start_yes p cut to address later is)
+        of_end address e above later false is =
+            let p = layout l in
+            none_held o s _ _ _ (start_behind p from to address is)
+            (start_behind p from (Some cut) address (not_before _ cut later)) (start_behind p cut to address is)
+
         of_address : (found : Option ℕ) → address_of (layout l) o (relocation_target (object l o) s) ≡ found
-            → Held o s (start_at (layout l) from to found) (start_at (layout l) from cut found)
+            → Held o s (start_at (layout l) from to found) (start_at (layout l) from (Some cut) found)
             (start_at (layout l) cut to found)
         of_address None e = splits_nothing n m
         of_address (Some address) e =
@@ -185,48 +201,42 @@ module _ (l : Linking) (given : IsGiven l) (limits : FitsTable l) where
             let at = offset_of p address in
             elim (cases_lt at from) [
               | inl before ↦
-                  none_held o s _ _ _ (start_before p from to address before) (start_before p from cut address before)
-                  (start_before p cut to address (omega arith))
+                  none_held o s _ _ _ (start_before p from to address before)
+                  (start_before p from (Some cut) address before) (start_before p cut to address (omega arith))
               | inr above ↦ elim (cases_lt at cut) [
                 | inl front ↦
                     front_held o s address _ _ _ there e above front
-                    (start_yes p from to address above (omega (arith, high (omega arith))))
-                    (start_yes p from cut address above front)
+                    (start_yes p from to address above (before_cut at cut to (high (omega arith)) front))
+                    (start_yes p from (Some cut) address above (is_before_end at cut front))
                     (start_before p cut to address front)
-                | inr later ↦ elim (cases_lt at to) [
-                  | inl back ↦
-                      back_held o s address _ _ _ there e later back (start_yes p from to address above back)
-                      (start_behind p from cut address later) (start_yes p cut to address later back)
-                  | inr behind ↦
-                      none_held o s _ _ _ (start_behind p from to address behind)
-                      (start_behind p from cut address later) (start_behind p cut to address behind)
-                ]
+                | inr later ↦ of_end address e above later (is_before at to) refl
               ]
             ]
 
     -- one object
     object_splits : (o : ℕ) → o < length l.objects
-        → Splits n m (part_with_fields l from to o (object l o)) (part_with_fields l from cut o (object l o))
+        → Splits n m (part_with_fields l from to o (object l o)) (part_with_fields l from (Some cut) o (object l o))
         (part_with_fields l cut to o (object l o))
     unfolding part_with_fields
     object_splits o there =
         let b = object l o in
-        splits_fold n m (part_with_table l from to o b) (part_with_table l from cut o b) (part_with_table l cut to o b)
-        (range_with_len 1 (section_count b - 1)) (λ s has. table_splits o s there)
+        splits_fold n m (part_with_table l from to o b) (part_with_table l from (Some cut) o b)
+        (part_with_table l cut to o b) (range_with_len 1 (section_count b - 1))
+        (λ s has. table_splits o s there)
 
     -- those from one number on
     abbrev One : ℕ → List ℕ → Type 0
     One o b =
-        Splits n m (part_with_fields l from to o b) (part_with_fields l from cut o b) (part_with_fields l cut to o b)
+        Splits n m (part_with_fields l from to o b) (part_with_fields l from (Some cut) o b) (part_with_fields l cut to o b)
 
     objects_split : (o : ℕ) (bs : List (List ℕ)) → ((k : ℕ) → k < length bs → One (o + k) (slice_index_or bs k []))
-        → Splits n m (part_with_fields_from l from to o bs) (part_with_fields_from l from cut o bs)
+        → Splits n m (part_with_fields_from l from to o bs) (part_with_fields_from l from (Some cut) o bs)
         (part_with_fields_from l cut to o bs)
     objects_split o [] each = splits_nothing n m
     objects_split o (b ∷ bs) each =
-        splits_after n m (part_with_fields l from to o b) (part_with_fields l from cut o b)
+        splits_after n m (part_with_fields l from to o b) (part_with_fields l from (Some cut) o b)
         (part_with_fields l cut to o b) (part_with_fields_from l from to (o + 1) bs)
-        (part_with_fields_from l from cut (o + 1) bs) (part_with_fields_from l cut to (o + 1) bs)
+        (part_with_fields_from l from (Some cut) (o + 1) bs) (part_with_fields_from l cut to (o + 1) bs)
         (subst (λ i. One i b) here (each 0 (omega arith)))
         (objects_split (o + 1) bs (λ k below. next k (each (suc k) (omega arith))))
       where
@@ -238,92 +248,91 @@ module _ (l : Linking) (given : IsGiven l) (limits : FitsTable l) where
 
     -- all objects
     pub all_split : Splits n m (part_with_fields_from l from to 0 l.objects)
-        (part_with_fields_from l from cut 0 l.objects) (part_with_fields_from l cut to 0 l.objects)
+        (part_with_fields_from l from (Some cut) 0 l.objects) (part_with_fields_from l cut to 0 l.objects)
     all_split = objects_split 0 l.objects (λ k below.
         subst (λ i. One i (object l k)) (from_zero k) (object_splits k below))
 
   -- the law of a cut
-  pub parts_join : (from cut to : ℕ) (xs ys : List ℕ) → from ≤ cut → cut ≤ to → length xs ≡ cut - from → IsCut l cut
-      → IsPart l cut to (length ys)
+  pub parts_join : (from cut : ℕ) (to : Option ℕ) (xs ys : List ℕ) → from ≤ cut → EndsBehind cut to
+      → length xs ≡ cut - from → IsCut l cut → IsPart l cut to (length ys)
       → part_with_fields_from l from to 0 l.objects (xs ++ ys)
-      ≡ part_with_fields_from l from cut 0 l.objects xs ++ part_with_fields_from l cut to 0 l.objects ys
+      ≡ part_with_fields_from l from (Some cut) 0 l.objects xs ++ part_with_fields_from l cut to 0 l.objects ys
   parts_join from cut to xs ys low high long is_cut part =
       (all_split from cut to (length ys) low (λ some. high) (first_part l from cut low is_cut) part xs ys long refl).0
 
   -- a part stays as long as it was
-  pub part_keeps : (from to : ℕ) (part : List ℕ) → IsPart l from to (length part)
+  pub part_keeps : (from : ℕ) (to : Option ℕ) (part : List ℕ) → IsPart l from to (length part)
       → length (part_with_fields_from l from to 0 l.objects part) ≡ length part
   part_keeps from to part is =
       let none : 0 ≡ from - from = omega arith in
       (all_split from from to (length part) (omega arith) (λ some. absurd (omega arith)) (λ o t address there e some.
-      let b = begins_in l from from o t address e in absurd (omega (arith, b.low, b.high))) is [] part none refl).2
+      let b = begins_in l from (Some from) o t address e in
+      absurd (omega (arith, b.low, before_end (offset_of (layout l) address) from b.high))) is [] part none refl).2
 
   -- ** the whole
 
-  module _ (limit : ℕ) (large : 2 ^ 27 ≤ limit) where
-    whole_field : (o t : ℕ) (r : Relocation) (now : List ℕ) → part_with_field l 0 o t now r ≡ with_field l o t now r
-    whole_field o t r now = of_test (is_replaced l o r)
-      where
-        at : ℕ
-        at = offset_of (layout l) (place l o t r.offset)
+  whole_field : (o t : ℕ) (r : Relocation) (now : List ℕ) → part_with_field l 0 o t now r ≡ with_field l o t now r
+  whole_field o t r now = of_test (is_replaced l o r)
+    where
+      at : ℕ
+      at = offset_of (layout l) (place l o t r.offset)
 
-        same : at - 0 ≡ at
-        same = omega arith
+      same : at - 0 ≡ at
+      same = omega arith
 
-        of_test : (test : Bool) → (if test then now else splice (at - 0) (bytes_for l o t r) now)
-            ≡ (if test then now else splice at (bytes_for l o t r) now)
-        of_test true = refl
-        of_test false = ap (λ i. splice i (bytes_for l o t r) now) same
+      of_test : (test : Bool) → (if test then now else splice (at - 0) (bytes_for l o t r) now)
+          ≡ (if test then now else splice at (bytes_for l o t r) now)
+      of_test true = refl
+      of_test false = ap (λ i. splice i (bytes_for l o t r) now) same
 
-    whole_table : (o s : ℕ) (now : List ℕ) → o < length l.objects
-        → part_with_table l 0 limit o (object l o) now s ≡ with_table l o (object l o) now s
-    whole_table o s now there = of_address (address_of (layout l) o (relocation_target (object l o) s)) refl
-      where
-        t : ℕ
-        t = relocation_target (object l o) s
+  whole_table : (o s : ℕ) (now : List ℕ) → o < length l.objects
+      → part_with_table l 0 None o (object l o) now s ≡ with_table l o (object l o) now s
+  whole_table o s now there = of_address (address_of (layout l) o (relocation_target (object l o) s)) refl
+    where
+      t : ℕ
+      t = relocation_target (object l o) s
 
-        of_start : (start : Option ℕ) (address : ℕ) → start ≡ Some address
-            → part_with_held l 0 o (object l o) now s start ≡ with_table l o (object l o) now s
-        of_start start address e =
-            rw e (fold_same (part_with_field l 0 o t) (with_field l o t) (held_in (object l o) s) now
-            (λ r has file. whole_field o t r file))
+      of_start : (start : Option ℕ) (address : ℕ) → start ≡ Some address
+          → part_with_held l 0 o (object l o) now s start ≡ with_table l o (object l o) now s
+      of_start start address e =
+          rw e (fold_same (part_with_field l 0 o t) (with_field l o t) (held_in (object l o) s) now
+          (λ r has file. whole_field o t r file))
 
-        of_address : (found : Option ℕ) → address_of (layout l) o (relocation_target (object l o) s) ≡ found
-            → part_with_held l 0 o (object l o) now s (start_at (layout l) 0 limit found)
-            ≡ with_table l o (object l o) now s
-        of_address None e =
-            sym (fold_none (with_field l o t) (held_in (object l o) s) now (λ r has. has_address o s r there has e))
-        of_address (Some address) e =
-            of_start (start_at (layout l) 0 limit (Some address)) address
-            (start_yes (layout l) 0 limit address (omega arith)
-            (omega (arith, address_near l o t address limits e, large)))
+      of_address : (found : Option ℕ) → address_of (layout l) o (relocation_target (object l o) s) ≡ found
+          → part_with_held l 0 o (object l o) now s (start_at (layout l) 0 None found)
+          ≡ with_table l o (object l o) now s
+      of_address None e =
+          sym (fold_none (with_field l o t) (held_in (object l o) s) now (λ r has. has_address o s r there has e))
+      of_address (Some address) e =
+          of_start (start_at (layout l) 0 None (Some address)) address
+          (start_yes (layout l) 0 None address (omega arith) refl)
 
-    whole_object : (o : ℕ) (now : List ℕ) → o < length l.objects
-        → part_with_fields l 0 limit o (object l o) now ≡ with_fields l o (object l o) now
-    unfolding part_with_fields with_fields
-    whole_object o now there =
-        let b = object l o in
-        fold_same (part_with_table l 0 limit o b) (with_table l o b) (range_with_len 1 (section_count b - 1)) now
-        (λ s has file. whole_table o s file there)
+  whole_object : (o : ℕ) (now : List ℕ) → o < length l.objects
+      → part_with_fields l 0 None o (object l o) now ≡ with_fields l o (object l o) now
+  unfolding part_with_fields with_fields
+  whole_object o now there =
+      let b = object l o in
+      fold_same (part_with_table l 0 None o b) (with_table l o b) (range_with_len 1 (section_count b - 1)) now
+      (λ s has file. whole_table o s file there)
 
-    abbrev Alike : ℕ → List ℕ → Type 0
-    Alike o b = (now : List ℕ) → part_with_fields l 0 limit o b now ≡ with_fields l o b now
+  abbrev Alike : ℕ → List ℕ → Type 0
+  Alike o b = (now : List ℕ) → part_with_fields l 0 None o b now ≡ with_fields l o b now
 
-    whole_from : (o : ℕ) (bs : List (List ℕ)) (now : List ℕ)
-        → ((k : ℕ) → k < length bs → Alike (o + k) (slice_index_or bs k []))
-        → part_with_fields_from l 0 limit o bs now ≡ with_fields_from l o bs now
-    whole_from o [] now each = refl
-    whole_from o (b ∷ bs) now each =
-        let here : o + 0 ≡ o = omega arith in
-        ap (part_with_fields_from l 0 limit (o + 1) bs) (subst (λ i. Alike i b) here (each 0 (omega arith)) now)
-        ∙ whole_from (o + 1) bs (with_fields l o b now) (λ k below. next k (each (suc k) (omega arith)))
-      where
-        next : (k : ℕ) → Alike (o + suc k) (slice_index_or bs k []) → Alike (o + 1 + k) (slice_index_or bs k [])
-        next k h =
-            let same : o + suc k ≡ o + 1 + k = omega arith in subst (λ i. Alike i (slice_index_or bs k [])) same h
+  whole_from : (o : ℕ) (bs : List (List ℕ)) (now : List ℕ)
+      → ((k : ℕ) → k < length bs → Alike (o + k) (slice_index_or bs k []))
+      → part_with_fields_from l 0 None o bs now ≡ with_fields_from l o bs now
+  whole_from o [] now each = refl
+  whole_from o (b ∷ bs) now each =
+      let here : o + 0 ≡ o = omega arith in
+      ap (part_with_fields_from l 0 None (o + 1) bs) (subst (λ i. Alike i b) here (each 0 (omega arith)) now)
+      ∙ whole_from (o + 1) bs (with_fields l o b now) (λ k below. next k (each (suc k) (omega arith)))
+    where
+      next : (k : ℕ) → Alike (o + suc k) (slice_index_or bs k []) → Alike (o + 1 + k) (slice_index_or bs k [])
+      next k h =
+          let same : o + suc k ≡ o + 1 + k = omega arith in subst (λ i. Alike i (slice_index_or bs k [])) same h
 
-    -- as a part, it has the same fields
-    pub whole_part : (file : List ℕ)
-        → part_with_fields_from l 0 limit 0 l.objects file ≡ with_fields_from l 0 l.objects file
-    whole_part file = whole_from 0 l.objects file (λ k below.
-        subst (λ i. Alike i (object l k)) (from_zero k) (λ now. whole_object k now below))
+  -- as a part, it has the same fields
+  pub whole_part : (file : List ℕ)
+      → part_with_fields_from l 0 None 0 l.objects file ≡ with_fields_from l 0 l.objects file
+  whole_part file = whole_from 0 l.objects file (λ k below.
+      subst (λ i. Alike i (object l k)) (from_zero k) (λ now. whole_object k now below))

@@ -1,6 +1,7 @@
 -- Where sections begin, and a part of the file that is cut where no section lies.
-use Rattle.std.proofs.Common.{◌≡◌, ◌+◌, ◌-◌, ◌<◌, ◌≤◌, ◌^◌, ◌∙◌, ℕ, Option, Some, None, length, inl, inr}
-use Rattle.std.proofs.Common.{sym, ap, arith}
+use Rattle.std.proofs.Common.{◌≡◌, ◌+◌, ◌-◌, ◌<◌, ◌≤◌, ◌^◌, ◌∙◌, ◌&&◌, ℕ, Bool, true, false, Option, Some, None, length, inl, inr}
+use Rattle.std.proofs.Common.{refl, sym, ap, subst, arith}
+use Rattle.std.specs.Prelude.{nat_le, if◌then◌else◌}
 use Rattle.std.proofs.lemmas.Bool.{cases_lt}
 use Rattle.std.proofs.lemmas.Bool.Decides.{nat_tests}
 use Rattle.std.proofs.lemmas.Option.{same_Some}
@@ -13,63 +14,91 @@ use Rattle.tls_layout.proofs.LawsOfPlaces.{addresses_apart}
 use Rattle.link_needs.specs.Linking.{Linking, layout}
 use Rattle.link_needs.specs.Given.{FitsTable, IsGiven}
 use Rattle.link_core.specs.Bytes.{raw_file}
-use Rattle.link_core.specs.Parts.{IsCut, IsPart, start_at, start_in}
+use Rattle.link_core.specs.Parts.{is_before, start_at, start_in, EndsBehind, IsCut, IsPart}
 use Rattle.link_core.proofs.LengthsInside.{are_laid, raw_longer}
 use Rattle.link_core.proofs.StandingPlaces.{lies_at}
 
 -- ** where a section begins
 
+-- before an end that there is
+pub before_end : (at end : ℕ) → is_before at (Some end) ≡ true → at < end
+before_end at end is = grind (arith, nat_tests)
+
+pub is_before_end : (at end : ℕ) → at < end → is_before at (Some end) ≡ true
+is_before_end at end low = grind (arith, nat_tests)
+
+pub ends_nearer : (near far : ℕ) (to : Option ℕ) → near ≤ far → EndsBehind far to → EndsBehind near to
+ends_nearer near far None low behind = tt
+ends_nearer near far (Some end) low behind = omega (arith, low, behind)
+
+pub not_before : (at end : ℕ) → end ≤ at → is_before at (Some end) ≡ false
+not_before at end past = grind (arith, nat_tests)
+
+-- what lies before a cut lies before an end behind it
+pub before_cut : (at cut : ℕ) (to : Option ℕ) → EndsBehind cut to → at < cut → is_before at to ≡ true
+before_cut at cut None behind low = refl
+before_cut at cut (Some end) behind low = is_before_end at end (omega arith)
+
 -- an address that stands there
-pub start_yes : (p : Layout) (from to address : ℕ) → from ≤ offset_of p address → offset_of p address < to
-    → start_at p from to (Some address) ≡ Some address
-start_yes p from to address low high = grind (arith, nat_tests)
+pub start_yes : (p : Layout) (from : ℕ) (to : Option ℕ) (address : ℕ) → from ≤ offset_of p address
+    → is_before (offset_of p address) to ≡ true → start_at p from to (Some address) ≡ Some address
+start_yes p from to address low high =
+    let above : nat_le from (offset_of p address) ≡ true = grind (arith, nat_tests) in rw (above, high) refl
 
 -- one that stands before, or behind
-pub start_before : (p : Layout) (from to address : ℕ) → offset_of p address < from
+pub start_before : (p : Layout) (from : ℕ) (to : Option ℕ) (address : ℕ) → offset_of p address < from
     → start_at p from to (Some address) ≡ None
-start_before p from to address below = grind (arith, nat_tests)
+start_before p from to address below =
+    let not : nat_le from (offset_of p address) ≡ false = grind (arith, nat_tests) in rw not refl
 
-pub start_behind : (p : Layout) (from to address : ℕ) → to ≤ offset_of p address
+pub start_behind : (p : Layout) (from : ℕ) (to : Option ℕ) (address : ℕ) → is_before (offset_of p address) to ≡ false
     → start_at p from to (Some address) ≡ None
-start_behind p from to address above = grind (arith, nat_tests)
+start_behind p from to address above = of_test (nat_le from (offset_of p address)) (is_before (offset_of p address) to) above
+  where
+    of_test : (low high : Bool) → high ≡ false → (if low && high then Some address else None) ≡ None
+    of_test true true e = absurd (cc)
+    of_test true false e = refl
+    of_test false high e = refl
 
 -- an address begins in the part
-pub record Begins (p : Layout) (from to : ℕ) (found : Option ℕ) (address : ℕ) : Type 0 where
+pub record Begins (p : Layout) (from : ℕ) (to : Option ℕ) (found : Option ℕ) (address : ℕ) : Type 0 where
   pub address_is : found ≡ Some address
   pub low : from ≤ offset_of p address
-  pub high : offset_of p address < to
+  pub high : is_before (offset_of p address) to ≡ true
 
-pub begins : (p : Layout) (from to : ℕ) (found : Option ℕ) (address : ℕ) → start_at p from to found ≡ Some address
-    → Begins p from to found address
+pub begins : (p : Layout) (from : ℕ) (to : Option ℕ) (found : Option ℕ) (address : ℕ)
+    → start_at p from to found ≡ Some address → Begins p from to found address
 begins p from to None address e = absurd (cc)
 begins p from to (Some a) address e = elim (cases_lt (offset_of p a) from) [
   | inl below ↦ let none = start_before p from to a below in absurd (cc)
-  | inr low ↦ elim (cases_lt (offset_of p a) to) [
-    | inr above ↦ let none = start_behind p from to a above in absurd (cc)
-    | inl high ↦
-        let same : a ≡ address = same_Some a address (sym (start_yes p from to a low high) ∙ e) in
-        record { address_is = ap Some same; low = omega (arith, low, same); high = omega (arith, high, same) }
-  ]
+  | inr low ↦ of_test (is_before (offset_of p a) to) refl low
 ]
+  where
+    of_test : (high : Bool) → is_before (offset_of p a) to ≡ high → from ≤ offset_of p a
+        → Begins p from to (Some a) address
+    of_test false is low = let none = start_behind p from to a is in absurd (cc)
+    of_test true is low =
+        let same : a ≡ address = same_Some a address (sym (start_yes p from to a low is) ∙ e) in
+        subst (λ (n : ℕ). Begins p from to (Some a) n) same (record { address_is = refl; low = low; high = is })
 
 -- section t of object o
-pub begins_in : (l : Linking) (from to o t address : ℕ) → start_in l from to o t ≡ Some address
+pub begins_in : (l : Linking) (from : ℕ) (to : Option ℕ) (o t address : ℕ) → start_in l from to o t ≡ Some address
     → Begins (layout l) from to (address_of (layout l) o t) address
 begins_in l from to o t address e = begins (layout l) from to (address_of (layout l) o t) address e
 
 -- ** parts
 
 -- the first part of a cut: what begins there ends there
-pub first_part : (l : Linking) (from cut : ℕ) → from ≤ cut → IsCut l cut → IsPart l from cut (cut - from)
+pub first_part : (l : Linking) (from cut : ℕ) → from ≤ cut → IsCut l cut → IsPart l from (Some cut) (cut - from)
 first_part l from cut low is_cut o t address there e some =
-    let b = begins_in l from cut o t address e in
+    let b = begins_in l from (Some cut) o t address e in
     elim (is_cut o t address there b.address_is) [
       | inl before ↦ (b.low, omega (arith, low, before))
-      | inr behind ↦ absurd (omega (arith, b.high, behind))
+      | inr behind ↦ absurd (omega (arith, before_end (offset_of (layout l) address) cut b.high, behind))
     ]
 
 -- the second: what begins there began in the whole
-pub second_part : (l : Linking) (from cut to n : ℕ) → from ≤ cut → cut ≤ from + n → IsPart l from to n
+pub second_part : (l : Linking) (from cut : ℕ) (to : Option ℕ) (n : ℕ) → from ≤ cut → cut ≤ from + n → IsPart l from to n
     → IsPart l cut to (from + n - cut)
 second_part l from cut to n low inside part o t address there e some =
     let b = begins_in l cut to o t address e in
@@ -78,23 +107,17 @@ second_part l from cut to n low inside part o t address there e some =
     (b.low, omega (arith, whole.1, inside))
 
 -- a part and a cut
-pub cut_parts : (l : Linking) (from cut to n : ℕ) → from ≤ cut → cut ≤ to → cut ≤ from + n → IsCut l cut
-    → IsPart l from to n → IsPart l from cut (cut - from) × IsPart l cut to (from + n - cut)
-cut_parts l from cut to n low high inside is_cut part =
+pub cut_parts : (l : Linking) (from cut : ℕ) (to : Option ℕ) (n : ℕ) → from ≤ cut → cut ≤ from + n → IsCut l cut
+    → IsPart l from to n → IsPart l from (Some cut) (cut - from) × IsPart l cut to (from + n - cut)
+cut_parts l from cut to n low inside is_cut part =
     (first_part l from cut low is_cut, second_part l from cut to n low inside part)
 
 -- the whole file
-pub whole_is_part : (l : Linking) (limit : ℕ) → IsGiven l → FitsTable l → IsPart l 0 limit (length (raw_file l))
-whole_is_part l limit given limits o t address there e some =
-    let at = (begins_in l 0 limit o t address e).address_is in
+pub whole_is_part : (l : Linking) → IsGiven l → FitsTable l → IsPart l 0 None (length (raw_file l))
+whole_is_part l given limits o t address there e some =
+    let at = (begins_in l 0 None o t address e).address_is in
     let fits = sections_fit l.kind l.objects o t address (are_laid l given limits) (there, at) some in
     (omega arith, omega (arith, fits, raw_longer l))
-
--- an address is not far
-pub address_near : (l : Linking) (o t address : ℕ) → FitsTable l → address_of (layout l) o t ≡ Some address
-    → offset_of (layout l) address < 2 ^ 27
-address_near l o t address limits at =
-    let near = address_bounds (layout l) o t address at limits.lawful in omega (arith, near.0, near.1, near.2)
 
 -- ** cuts
 

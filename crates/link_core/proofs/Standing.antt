@@ -43,21 +43,25 @@ stub_leaves l q file inside = of_test (has_stub l)
     of_test true = slice_get-append file _ q inside
     of_test false = refl
 
+pub raw_leaves : (l : Linking) (q : ℕ) → q < length (sections_file (layout l) l.objects)
+    → slice_get (raw_file l) q ≡ slice_get (sections_file (layout l) l.objects) q
+unfolding raw_file
+raw_leaves l q inside =
+    let sections = sections_file (layout l) l.objects in
+    stub_leaves l q (with_got l sections) (omega (arith, got_longer l sections, inside)) ∙ got_leaves l q sections inside
+
 module _ (l : Linking) (given : IsGiven l) (links : Links l) (o t k address : ℕ) (there : o < length l.objects)
     (at : address_of (layout l) o t ≡ Some address) (below : k < section_size (object l o) t) where
   -- the byte of the section itself
   raw_byte : slice_get (raw_file l) (offset_of (layout l) (address + k))
       ≡ Some (slice_index_or (section_bytes (object l o) t) k 0)
-  unfolding raw_file
   raw_byte =
       let sections = sections_file (layout l) l.objects in
       let laid = are_laid l given (table_fits l given links.sound.limits) in
       let lies = lies_at l given (table_fits l given links.sound.limits) o t address there at in
       let fits = sections_fit l.kind l.objects o t address laid (there, at) (omega arith) in
       let whole : offset_of (layout l) (address + k) ≡ offset_of (layout l) address + k = omega (arith, lies.above) in
-      stub_leaves l (offset_of (layout l) (address + k)) (with_got l sections)
-      (omega (arith, got_longer l sections, fits))
-      ∙ got_leaves l (offset_of (layout l) (address + k)) sections (omega (arith, fits))
+      raw_leaves l (offset_of (layout l) (address + k)) (omega (arith, fits))
       ∙ ap (slice_get sections) whole
       ∙ sections_stand l.kind l.objects o t address k laid (there, at) below
 

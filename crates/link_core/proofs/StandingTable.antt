@@ -19,6 +19,7 @@ use Rattle.got_pairs.specs.declared.need.Need.TheVariants.{AddressWord, RuntimeW
 use Rattle.got_pairs.specs.declared.need.Target.{Target}
 use Rattle.got_pairs.specs.declared.need.Target.TheVariants.{Here, Import}
 use Rattle.got_pairs.specs.Needs.{same_need, same_symbol, same_target, size_of, start_from, start_of}
+use Rattle.got_pairs.proofs.Equal.{need_is, size_some}
 use Rattle.got_pairs.proofs.Served.{within}
 use Rattle.section_file.specs.Files.{offset_of, sections_file}
 use Rattle.section_file.specs.Laws.{sections_end}
@@ -35,52 +36,8 @@ use Rattle.link_core.specs.Bytes.{file, got_bytes, need_bytes, raw_file, stub_by
 use Rattle.link_needs.specs.Given.{FitsTable, IsGiven}
 use Rattle.link_core.proofs.LengthsInside.{are_laid}
 use Rattle.link_core.proofs.LengthsPlaces.{base_before, got_end, got_end-before, got_start-after}
-use Rattle.link_core.proofs.LengthsRaw.{back_fits, need_length, stub_length, stub_small, with_got_length, word_before}
+use Rattle.link_core.proofs.LengthsRaw.{back_fits, got_length, need_length, stub_length, stub_small, with_got_length, word_before}
 use Rattle.link_core.proofs.StandingAway.{table_stays}
-
--- ** equal needs are the same
-
-both_true : (s t : Bool) → (s && t) ≡ true → (s ≡ true) × (t ≡ true)
-both_true true true e = (refl, refl)
-both_true true false e = absurd (cc)
-both_true false t e = absurd (cc)
-
-same_number : (m n : ℕ) → nat_eq m n ≡ true → m ≡ n
-same_number m n e = grind (arith, nat_tests)
-
-symbol_is : (s t : SymbolRef) → same_symbol s t ≡ true → s ≡ t
-symbol_is s t e =
-    let parts = both_true (nat_eq s.object t.object) (nat_eq s.symbol t.symbol) e in
-    let object = same_number s.object t.object parts.0 in
-    let symbol = same_number s.symbol t.symbol parts.1 in
-    let first : s ≡ record { object = t.object; symbol = s.symbol } =
-    ap (λ (n : ℕ). let r : SymbolRef = record { object = n; symbol = s.symbol } in r) object in
-    let next : record { object = t.object; symbol = s.symbol } ≡ t =
-    ap (λ (n : ℕ). let r : SymbolRef = record { object = t.object; symbol = n } in r) symbol in
-    first ∙ next
-
-target_is : (x y : Target) → same_target x y ≡ true → x ≡ y
-target_is (Here s o) (Here t p) e =
-    let parts = both_true (same_symbol s t) (nat_eq o p) e in
-    let symbol = symbol_is s t parts.0 in
-    let number = same_number o p parts.1 in
-    cc
-target_is (Import n) (Import m) e = ap Import ((bytes_eq-Decides n m).0 e)
-target_is (Here s o) (Import m) e = absurd (cc)
-target_is (Import n) (Here t p) e = absurd (cc)
-
-need_is : (x y : Need) → same_need x y ≡ true → x ≡ y
-need_is ModulePair ModulePair e = refl
-need_is (SymbolPair x) (SymbolPair y) e = ap SymbolPair (target_is x y e)
-need_is (Descriptor x) (Descriptor y) e = ap Descriptor (target_is x y e)
-need_is (SymbolWord x) (SymbolWord y) e = ap SymbolWord (target_is x y e)
-need_is (AddressWord s p) (AddressWord t q) e =
-    let parts = both_true (same_symbol s t) (nat_eq p q) e in
-    let symbol = symbol_is s t parts.0 in
-    let number = same_number p q parts.1 in
-    cc
-need_is RuntimeWord RuntimeWord e = refl
-need_is x y e = absurd (cc)
 
 -- ** an entry in the bytes of the table
 
@@ -145,14 +102,6 @@ stub_behind l n at file inside = of_test (has_stub l)
 
 -- ** the table
 
-size_some : (need : Need) → 0 < size_of need
-size_some ModulePair = omega arith
-size_some (SymbolPair x) = omega arith
-size_some (Descriptor x) = omega arith
-size_some (SymbolWord x) = omega arith
-size_some (AddressWord s p) = omega arith
-size_some RuntimeWord = omega arith
-
 -- a table that has bytes is one
 pub got_there : (l : Linking) (file : List ℕ) → 0 < got_size l
     → (with_got l file ≡ with_part l (got_start l) (got_bytes l) file) × (got_end l ≡ got_start l + got_size l)
@@ -194,6 +143,28 @@ entry_stands l given limits need at e =
     ∙ ap (λ i. part_at n i (flat_map (need_bytes l) (entries l))) first
     ∙ (entry_in l need 0 at (entries l) e).1
 
+whole_part : (n : ℕ) (xs : List ℕ) → length xs ≡ n → part_at n 0 xs ≡ xs
+unfolding part_at
+whole_part n xs e = ap (take n) (sym (append-nil xs)) ∙ take_at xs [] n e
+
+-- the whole of it
+pub table_at : (l : Linking) → IsGiven l → FitsTable l → 0 < got_size l
+    → part_at (got_size l) (offset_of (layout l) (got_start l)) (file l) ≡ got_bytes l
+unfolding raw_file
+table_at l given limits some =
+    let sections = sections_file (layout l) l.objects in
+    let there = got_there l sections some in
+    let above = base_before l in
+    let low = files_end l.kind l.objects (are_laid l given limits) in
+    let long = with_got_length l sections low in
+    let whole : offset_of (layout l) (got_start l) ≡ offset_of (layout l) (got_start l) + 0 = omega arith in
+    table_stays l given limits (got_size l) (offset_of (layout l) (got_start l)) (omega arith)
+    ∙ stub_behind l (got_size l) (offset_of (layout l) (got_start l)) (with_got l sections) (omega (arith, there.1, long, above))
+    ∙ ap (part_at (got_size l) (offset_of (layout l) (got_start l))) there.0
+    ∙ ap (λ i. part_at (got_size l) i (with_part l (got_start l) (got_bytes l) sections)) whole
+    ∙ part_in l (got_size l) 0 (got_start l) (got_bytes l) sections (omega (arith, low, got_start-after l))
+    ∙ whole_part (got_size l) (got_bytes l) (got_length l)
+
 -- ** the stub
 
 stub_there : (l : Linking) (file : List ℕ) → has_stub l ≡ true
@@ -204,10 +175,6 @@ stub_there l file e = of_test (has_stub l) e
         ≡ with_part l (stub_start l) (stub_bytes l) file
     of_test true e = refl
     of_test false e = absurd (cc)
-
-whole_part : (n : ℕ) (xs : List ℕ) → length xs ≡ n → part_at n 0 xs ≡ xs
-unfolding part_at
-whole_part n xs e = ap (take n) (sym (append-nil xs)) ∙ take_at xs [] n e
 
 -- the stub stands at its place
 pub stub_at : (l : Linking) → IsGiven l → FitsTable l → has_stub l ≡ true

@@ -2,7 +2,7 @@
 use Rattle.std.proofs.Common.{◌≡◌, ◌+◌, ◌-◌, ◌<◌, ◌≤◌, ◌∙◌, ◌&&◌, ℕ, zero, suc, Bool, true, false, List, [], ◌∷◌}
 use Rattle.std.proofs.Common.{Option, Some, None, length}
 use Rattle.std.proofs.Common.{drop, inl, inr, refl, sym, ap, subst, arith}
-use Rattle.std.specs.Prelude.{IsSome, IsSomeAnd, fold, nat_le, nat_lt, slice_get, slice_index_or, if◌then◌else◌}
+use Rattle.std.specs.Prelude.{IsSome, IsSomeAnd, fold, nat_le, slice_get, slice_index_or, if◌then◌else◌}
 use Rattle.section_file.specs.Files.{offset_of}
 use Rattle.tls_layout.specs.Sections.{Layout}
 use Rattle.std.specs.List.{Contains, range_with_len}
@@ -24,7 +24,7 @@ use Rattle.link_tables.specs.Faults.{Overflows}
 use Rattle.link_core.specs.Overflows.{IsFilled, IsFirstAtAll, IsFirstIn, IsFirstOf, IsOverflow}
 use Rattle.link_core.specs.Overflows.{NoneAtAll, NoneIn, NoneOf}
 use Rattle.link_core.specs.Parts.{part_with_field, part_with_fields, part_with_fields_from, part_with_held}
-use Rattle.link_core.specs.Parts.{part_with_table, start_at, start_in, OverflowsIn}
+use Rattle.link_core.specs.Parts.{is_before, part_with_table, start_at, start_in, OverflowsIn}
 
 -- ** the walk over a list
 
@@ -136,7 +136,7 @@ module _ (l : Linking) (o s : ℕ) where
       none_behind (held_in (object l o) s) 0 f _ (sym (held_none (object l o) s none)) (omega arith) over.3
 
   -- it writes nothing
-  pub nothing_held : (from to : ℕ) (part : List ℕ) → nonzero (relocation_target (object l o) s) ≡ None
+  pub nothing_held : (from : ℕ) (to : Option ℕ) (part : List ℕ) → nonzero (relocation_target (object l o) s) ≡ None
       → part ≡ part_with_table l from to o (object l o) part s
   nothing_held from to part none = of_start (start_in l from to o (relocation_target (object l o) s))
     where
@@ -154,27 +154,27 @@ module _ (l : Linking) (o s : ℕ) where
   -- ** in a part of the file
 
   -- the section that a table belongs to begins in the part, or it does not
-  pub start_of : (from to t : ℕ) (start : Option ℕ) → nonzero (relocation_target (object l o) s) ≡ Some t
+  pub start_of : (from : ℕ) (to : Option ℕ) (t : ℕ) (start : Option ℕ) → nonzero (relocation_target (object l o) s) ≡ Some t
       → start ≡ start_in l from to o t → start_in l from to o (relocation_target (object l o) s) ≡ start
   start_of from to t start target is =
       ap (start_in l from to o) (held_is (object l o) s t target).1 ∙ sym is
 
-  pub held_written : (from to : ℕ) (part : List ℕ) (start : Option ℕ)
+  pub held_written : (from : ℕ) (to : Option ℕ) (part : List ℕ) (start : Option ℕ)
       → start_in l from to o (relocation_target (object l o) s) ≡ start
       → part_with_held l from o (object l o) part s start ≡ part_with_table l from to o (object l o) part s
   held_written from to part start is = ap (part_with_held l from o (object l o) part s) (sym is)
 
   -- none of all is none of those of a part
-  pub none_of_part : (from to : ℕ) → NoneIn (Overflows l) o s → NoneIn (OverflowsIn l from to) o s
+  pub none_of_part : (from : ℕ) (to : Option ℕ) → NoneIn (Overflows l) o s → NoneIn (OverflowsIn l from to) o s
   none_of_part from to none e over = none e over.0
 
   -- where the section begins elsewhere there is none
-  pub none_elsewhere : (from to : ℕ) → start_in l from to o (relocation_target (object l o) s) ≡ None
+  pub none_elsewhere : (from : ℕ) (to : Option ℕ) → start_in l from to o (relocation_target (object l o) s) ≡ None
       → NoneIn (OverflowsIn l from to) o s
   none_elsewhere from to none e over = let some : IsSome {T = ℕ} None = subst IsSome none over.1 in absurd (cc)
 
   -- the first of all is the first of the part where the section begins
-  pub first_of_part : (from to address : ℕ) (told : LinkFault)
+  pub first_of_part : (from : ℕ) (to : Option ℕ) (address : ℕ) (told : LinkFault)
       → start_in l from to o (relocation_target (object l o) s) ≡ Some address
       → IsFirstIn (Overflows l) o s told → IsFirstIn (OverflowsIn l from to) o s told
   first_of_part from to address OutOfMemory is first = first
@@ -182,11 +182,11 @@ module _ (l : Linking) (o s : ℕ) where
       (first.0, first.1, first.2, (first.3, rw is refl), λ f less over. first.4 f less over.0)
 
 -- the address of a section that begins in a part
-pub start_known : (p : Layout) (from to : ℕ) (at : Option ℕ) (address : ℕ) → Some address ≡ start_at p from to at
+pub start_known : (p : Layout) (from : ℕ) (to : Option ℕ) (at : Option ℕ) (address : ℕ) → Some address ≡ start_at p from to at
     → at ≡ Some address
 start_known p from to None address is = absurd (cc)
 start_known p from to (Some other) address is =
-    of_test (nat_le from (offset_of p other) && nat_lt (offset_of p other) to) is
+    of_test (nat_le from (offset_of p other) && is_before (offset_of p other) to) is
   where
     of_test : (t : Bool) → Some address ≡ (if t then Some other else None) → Some other ≡ Some address
     of_test true e = sym e
@@ -194,7 +194,7 @@ start_known p from to (Some other) address is =
 
 -- ** the tables of an object
 
-module _ (l : Linking) (from to o : ℕ) where
+module _ (l : Linking) (from : ℕ) (to : Option ℕ) (o : ℕ) where
   -- none of the tables before t overflows
   abbrev pub NoneInTables : ℕ → Type 0
   NoneInTables t = (s e : ℕ) → s < t → OverflowsIn l from to o s e → ⊥
@@ -238,7 +238,7 @@ module _ (l : Linking) (from to o : ℕ) where
 
 -- ** the objects
 
-module _ (l : Linking) (from to : ℕ) where
+module _ (l : Linking) (from : ℕ) (to : Option ℕ) where
   -- none of the objects before n overflows
   abbrev pub NoneInObjects : ℕ → Type 0
   NoneInObjects n = (o s e : ℕ) → o < n → OverflowsIn l from to o s e → ⊥

@@ -1,5 +1,5 @@
 -- What holds of every linked image.
-use Rattle.std.specs.Prelude.{◌≡◌, ◌+◌, ◌<◌, ◌≤◌, ℕ, pos, ◌-ℤ◌, true, false, Some, length, slice_get}
+use Rattle.std.specs.Prelude.{◌≡◌, ◌+◌, ◌<◌, ◌≤◌, ◌⊎◌, ℕ, pos, ◌-ℤ◌, true, false, Some, length, slice_get}
 use Rattle.std.specs.Int.{w32, cast_unsigned}
 use Rattle.elf_object.specs.declared.relocation.Relocation.{Relocation}
 use Rattle.elf_object.specs.Lent.{relocations, section_size}
@@ -8,22 +8,28 @@ use Rattle.elf_records.specs.Fields.{bytes_of, part_at}
 use Rattle.got_pairs.specs.declared.need.Need.{Need}
 use Rattle.got_pairs.specs.declared.need.Need.TheVariants.{RuntimeWord}
 use Rattle.got_pairs.specs.Needs.{start_of}
+use Rattle.image_file.specs.declared.part.PartClass.TheVariants.{Executable, Writable}
+use Rattle.image_file.specs.Spelled.{Part}
 use Rattle.image_writer.specs.Loadable.{HoldsTls}
 use Rattle.image_writer.specs.Outlined.{outline_of}
 use Rattle.object_rules.specs.declared.fault.FaultKind.TheVariants.{Sequence, StrayCall}
+use Rattle.relax_sites.specs.declared.rows.NewField.{NewField}
+use Rattle.relax_sites.specs.Rows.{new_field}
 use Rattle.section_file.specs.Files.{offset_of}
 use Rattle.sequence_forms.specs.declared.places.Site.{Site}
 use Rattle.sequence_match.specs.Faults.{Nowhere}
 use Rattle.std.specs.List.{Contains}
 use Rattle.tls_layout.specs.Places.{address_of}
-use Rattle.link_core.specs.Bytes.{file, need_bytes, stub_bytes}
+use Rattle.tls_relocs.specs.declared.fields.Field.{Field}
+use Rattle.link_core.specs.Bytes.{file, got_bytes, need_bytes, stub_bytes}
 use Rattle.link_tables.specs.Faults.{Links}
 use Rattle.link_needs.specs.Given.{IsGiven}
-use Rattle.link_core.specs.Images.{image_of}
+use Rattle.link_core.specs.Images.{got_number, image_of, section_places}
 use Rattle.link_needs.specs.Linking.{Linking, choice, layout, object, sites_at}
-use Rattle.link_core.specs.Meant.{meant_byte}
-use Rattle.link_needs.specs.Needs.{entries, got_start, has_stub, is_kept, need_address, stub_start}
-use Rattle.link_needs.specs.Values.{is_replaced}
+use Rattle.link_core.specs.Meant.{lies_in_rewritten, meant_byte, placed_byte}
+use Rattle.link_needs.specs.Needs.{entries, got_size, got_start, has_stub, is_kept, need_address, new_relocation}
+use Rattle.link_needs.specs.Needs.{stub_start}
+use Rattle.link_needs.specs.Values.{field, is_replaced}
 
 -- an image can be written: its TLS segment begins no further than its last part ends
 abbrev pub ImagesHoldTls : Type 0
@@ -75,3 +81,45 @@ pub record GoWithTheirSites (l : Linking) (o t : ℕ) (r : Relocation) : Type 0 
 abbrev pub FieldsGoWithTheirSites : Type 0
 FieldsGoWithTheirSites = (l : Linking) (o t : ℕ) (r : Relocation) → IsGiven l → Links l → HasNoStray l
     → o < length l.objects → Contains (relocations (object l o) t) r → GoWithTheirSites l o t r
+
+-- so a relocation has no field exactly where its field lies in a rewritten sequence, whatever its type,
+abbrev pub ReplacedFieldsLieInSites : Type 0
+ReplacedFieldsLieInSites = (l : Linking) (o t : ℕ) (r : Relocation) → IsGiven l → Links l → HasNoStray l
+    → o < length l.objects → Contains (relocations (object l o) t) r
+    → is_replaced l o r ≡ lies_in_rewritten l o t r
+
+-- and what a byte means asks for its place alone
+abbrev pub BytesAreMeantByPlace : Type 0
+BytesAreMeantByPlace = (l : Linking) (o t k : ℕ) → IsGiven l → Links l → HasNoStray l → o < length l.objects
+    → meant_byte l o t k ≡ placed_byte l o t k
+
+-- the field that a rewritten sequence leaves to be written holds its value
+abbrev pub NewFieldsFit : Type 0
+NewFieldsFit = (l : Linking) (o : ℕ) (site : Site) (new : NewField) → IsGiven l → Links l → o < length l.objects
+    → Contains (sites_at l o) site → new_field site.form (choice l o site) ≡ Some new
+    → (value : Field) × (field l o site.section (new_relocation site new) ≡ Some value)
+
+-- ** parts of the image
+
+-- no section has a byte at the address
+abbrev pub IsGap : Linking → ℕ → Type 0
+IsGap l address = (o t begin : ℕ) → o < length l.objects → address_of (layout l) o t ≡ Some begin
+    → (address < begin) ⊎ (begin + section_size (object l o) t ≤ address)
+
+-- a part of sections is zero there
+abbrev pub GapsAreZero : Type 0
+GapsAreZero = (l : Linking) (i k : ℕ) (part : Part) → IsGiven l → Links l → i < length (section_places (layout l))
+    → slice_get (image_of l).parts i ≡ Some part → k < length part.bytes → IsGap l (part.address + k)
+    → slice_get part.bytes k ≡ Some 0
+
+-- the part that the loader alone writes is the table, whole
+abbrev pub TablesAreParts : Type 0
+TablesAreParts = (l : Linking) → IsGiven l → Links l → 0 < got_size l
+    → (n : ℕ) × (got_number l ≡ Some n)
+    × (slice_get (image_of l).parts n
+    ≡ Some (record { class = Writable; address = got_start l; bytes = got_bytes l }))
+
+-- and the stub is a part that is run
+abbrev pub StubsAreParts : Type 0
+StubsAreParts = (l : Linking) → IsGiven l → Links l → has_stub l ≡ true
+    → Contains (image_of l).parts (record { class = Executable; address = stub_start l; bytes = stub_bytes l })

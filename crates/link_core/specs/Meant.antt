@@ -2,7 +2,7 @@
 -- how a linker writes it.
 use Rattle.std.specs.Prelude.{◌+◌, ◌-◌, ◌&&◌, ◌==◌, ℕ, Bool, not, List, Option, Some, None}
 use Rattle.std.specs.Prelude.{nat_le, nat_lt, slice_index_or, unwrap_or}
-use Rattle.std.specs.List.{find}
+use Rattle.std.specs.List.{find, list_any}
 use Rattle.elf_records.specs.Fields.{splice}
 use Rattle.elf_object.specs.declared.relocation.Relocation.{Relocation}
 use Rattle.elf_object.specs.Lent.{relocations, section_bytes}
@@ -55,4 +55,21 @@ unfoldable pub meant_byte : Linking → ℕ → ℕ → ℕ → ℕ
 meant_byte l o t k =
     site_byte l o k (find (is_in_rewritten l o t k) (sites_at l o))
     (field_byte l o t k (find (is_in_field l o k) (relocations (object l o) t))
+    (slice_index_or (section_bytes (object l o) t) k 0))
+
+-- ** the same by place alone
+
+-- a relocation's field lies in a sequence that is rewritten
+abbrev pub lies_in_rewritten : Linking → ℕ → ℕ → Relocation → Bool
+lies_in_rewritten l o t r = nat_lt 0 (field_width r.kind) && list_any (is_in_rewritten l o t r.offset) (sites_at l o)
+
+-- byte k lies in the field of a relocation
+abbrev pub is_of_field : ℕ → Relocation → Bool
+is_of_field k r = nat_le r.offset k && nat_lt k (r.offset + field_width r.kind)
+
+-- of the sequence that stands in a rewritten site's place, else of the field of any relocation, else the section's own
+unfoldable pub placed_byte : Linking → ℕ → ℕ → ℕ → ℕ
+placed_byte l o t k =
+    site_byte l o k (find (is_in_rewritten l o t k) (sites_at l o))
+    (field_byte l o t k (find (is_of_field k) (relocations (object l o) t))
     (slice_index_or (section_bytes (object l o) t) k 0))

@@ -1,5 +1,5 @@
 -- Fields that do not hold their values, table by table.
-use Rattle.std.specs.Prelude.{◌≡◌, ◌<◌, ℕ, Some, IsNone, false}
+use Rattle.std.specs.Prelude.{◌≡◌, ◌<◌, ℕ, Option, Some, None, IsNone, false}
 use Rattle.elf_object.specs.declared.relocation.Relocation.{Relocation}
 use Rattle.link_faults.specs.declared.fault.LinkFault.{LinkFault}
 use Rattle.link_faults.specs.declared.fault.LinkFault.TheVariants.{OutOfMemory, At}
@@ -52,6 +52,11 @@ NoOverflow l = NoneAtAll (Overflows l)
 
 abbrev pub IsFirstOverflow : Linking → LinkFault → Type 0
 IsFirstOverflow l told = IsFirstAtAll (Overflows l) told
+
+-- what is told of all fields: nothing where each holds its value, else the first that does not
+abbrev pub IsToldOverflow : Linking → Option LinkFault → Type 0
+IsToldOverflow l None = NoOverflow l
+IsToldOverflow l (Some told) = IsFirstOverflow l told
 
 -- the same where memory may be wanting
 abbrev pub IsOverflowFault : Linking → LinkFault → Type 0

@@ -1,6 +1,6 @@
 -- Fields that are written in a part of the file alone. They are those of the sections that begin in the part, and a
 -- place counts from where the part begins.
-use Rattle.std.specs.Prelude.{◌≡◌, ◌+◌, ◌-◌, ◌<◌, ◌≤◌, ◌⊎◌, ◌&&◌, ◌∷◌, ℕ, List, [], Option, Some, None, IsSome}
+use Rattle.std.specs.Prelude.{◌≡◌, ◌+◌, ◌-◌, ◌<◌, ◌≤◌, ◌⊎◌, ◌&&◌, ◌∷◌, ℕ, Bool, true, List, [], Option, Some, None, IsSome}
 use Rattle.std.specs.Prelude.{Result, OnErr, OnOk, fold, length, nat_le, nat_lt, unwrap_or, if◌then◌else◌}
 use Rattle.std.specs.List.{range_with_len}
 use Rattle.elf_object.specs.declared.relocation.Relocation.{Relocation}
@@ -21,14 +21,24 @@ use Rattle.link_needs.specs.Values.{field, is_replaced}
 
 -- ** where a section begins
 
--- the address, if there is one that stands in the file from one offset on and before another
-abbrev pub start_at : Layout → ℕ → ℕ → Option ℕ → Option ℕ
+-- an offset before the end, if there is one
+abbrev pub is_before : ℕ → Option ℕ → Bool
+is_before at None = true
+is_before at (Some end) = nat_lt at end
+
+-- an end, if there is one, that lies behind
+abbrev pub EndsBehind : ℕ → Option ℕ → Type 0
+EndsBehind at None = Unit {0}
+EndsBehind at (Some end) = at ≤ end
+
+-- the address, if there is one that stands in the file from an offset on and before the end
+abbrev pub start_at : Layout → ℕ → Option ℕ → Option ℕ → Option ℕ
 start_at p from to None = None
 start_at p from to (Some address) =
-    if nat_le from (offset_of p address) && nat_lt (offset_of p address) to then Some address else None
+    if nat_le from (offset_of p address) && is_before (offset_of p address) to then Some address else None
 
 -- that of section t of object o
-abbrev pub start_in : Linking → ℕ → ℕ → ℕ → ℕ → Option ℕ
+abbrev pub start_in : Linking → ℕ → Option ℕ → ℕ → ℕ → Option ℕ
 start_in l from to o t = start_at (layout l) from to (address_of (layout l) o t)
 
 -- the bytes of section t of object o, at this address, lie among n bytes of the file from an offset on. (The guard
@@ -39,7 +49,7 @@ IsInside l from n o t address =
     → (from ≤ offset_of (layout l) address) × (offset_of (layout l) address + section_size (object l o) t ≤ from + n)
 
 -- every section that begins in the part ends in its n bytes
-abbrev pub IsPart : Linking → ℕ → ℕ → ℕ → Type 0
+abbrev pub IsPart : Linking → ℕ → Option ℕ → ℕ → Type 0
 IsPart l from to n =
     (o t address : ℕ) → o < length l.objects → start_in l from to o t ≡ Some address → IsInside l from n o t address
 
@@ -64,16 +74,16 @@ abbrev pub part_with_held : Linking → ℕ → ℕ → List ℕ → List ℕ �
 part_with_held l from o b part s None = part
 part_with_held l from o b part s (Some start) = fold (part_with_field l from o (relocation_target b s)) part (held_in b s)
 
-abbrev pub part_with_table : Linking → ℕ → ℕ → ℕ → List ℕ → List ℕ → ℕ → List ℕ
+abbrev pub part_with_table : Linking → ℕ → Option ℕ → ℕ → List ℕ → List ℕ → ℕ → List ℕ
 part_with_table l from to o b part s = part_with_held l from o b part s (start_in l from to o (relocation_target b s))
 
 -- with those of object o
-unfoldable pub part_with_fields : Linking → ℕ → ℕ → ℕ → List ℕ → List ℕ → List ℕ
+unfoldable pub part_with_fields : Linking → ℕ → Option ℕ → ℕ → List ℕ → List ℕ → List ℕ
 part_with_fields l from to o b part =
     fold (part_with_table l from to o b) part (range_with_len 1 (section_count b - 1))
 
 -- with those of the objects from number o on
-abbrev pub part_with_fields_from : Linking → ℕ → ℕ → ℕ → List (List ℕ) → List ℕ → List ℕ
+abbrev pub part_with_fields_from : Linking → ℕ → Option ℕ → ℕ → List (List ℕ) → List ℕ → List ℕ
 part_with_fields_from l from to o [] part = part
 part_with_fields_from l from to o (b ∷ more) part =
     part_with_fields_from l from to (o + 1) more (part_with_fields l from to o b part)
@@ -81,14 +91,14 @@ part_with_fields_from l from to o (b ∷ more) part =
 -- ** those that do not hold their values
 
 -- entry e of section s of object o is one, and its own section begins in the part
-abbrev pub OverflowsIn : Linking → ℕ → ℕ → ℕ → ℕ → ℕ → Type 0
+abbrev pub OverflowsIn : Linking → ℕ → Option ℕ → ℕ → ℕ → ℕ → Type 0
 OverflowsIn l from to o s e =
     Overflows l o s e × IsSome (start_in l from to o (relocation_target (object l o) s))
 
 -- ** what writing a part leaves
 
 -- all its fields are written, or one overflows
-pub record IsWritten (l : Linking) (from to : ℕ) (before after : List ℕ) {V : Type 0} (result : Result V LinkFault)
+pub record IsWritten (l : Linking) (from : ℕ) (to : Option ℕ) (before after : List ℕ) {V : Type 0} (result : Result V LinkFault)
     : Type 0 where
   pub written : OnOk result (after ≡ part_with_fields_from l from to 0 l.objects before)
   pub filled : length after ≡ length before
@@ -96,12 +106,12 @@ pub record IsWritten (l : Linking) (from to : ℕ) (before after : List ℕ) {V 
   pub overflow : OnErr result (NoOverflow l → ⊥)
 
 -- the same of two parts, one behind the other
-pub record AreWritten (l : Linking) (from cut to : ℕ) (front front' back back' : List ℕ) {V : Type 0}
+pub record AreWritten (l : Linking) (from cut : ℕ) (to : Option ℕ) (front front' back back' : List ℕ) {V : Type 0}
     (result : Result V LinkFault) : Type 0 where
-  pub in_front : OnOk result (front' ≡ part_with_fields_from l from cut 0 l.objects front)
+  pub in_front : OnOk result (front' ≡ part_with_fields_from l from (Some cut) 0 l.objects front)
   pub behind : OnOk result (back' ≡ part_with_fields_from l cut to 0 l.objects back)
   pub front_filled : length front' ≡ length front
   pub back_filled : length back' ≡ length back
-  pub front_fits : OnOk result (NoneAtAll (OverflowsIn l from cut))
+  pub front_fits : OnOk result (NoneAtAll (OverflowsIn l from (Some cut)))
   pub back_fits : OnOk result (NoneAtAll (OverflowsIn l cut to))
   pub overflow : OnErr result (NoOverflow l → ⊥)

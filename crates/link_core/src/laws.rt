@@ -1,6 +1,8 @@
 //! Laws of linked images. The functions do nothing: what they ensure is the law.
 
-ghost use Rattle.link_core.specs.Laws.{BytesAreMeant, EntriesStand, FieldsGoWithTheirSites, ImagesHoldTls, StubsStand};
+ghost use Rattle.link_core.specs.Laws.{BytesAreMeant, BytesAreMeantByPlace, EntriesStand, FieldsGoWithTheirSites};
+ghost use Rattle.link_core.specs.Laws.{GapsAreZero, ImagesHoldTls, NewFieldsFit, ReplacedFieldsLieInSites};
+ghost use Rattle.link_core.specs.Laws.{StubsAreParts, StubsStand, TablesAreParts};
 
 /// An image can be written: its TLS segment begins no further than its last part ends.
 pub fn images_hold_tls()
@@ -25,4 +27,34 @@ pub fn stubs_stand()
 /// A relocation that has a field has it outside all rewritten sequences, and one that has none lies in one.
 pub fn fields_go_with_their_sites()
     ensures { FieldsGoWithTheirSites }
+{}
+
+/// So a relocation has no field exactly where its field lies in a rewritten sequence.
+pub fn replaced_fields_lie_in_sites()
+    ensures { ReplacedFieldsLieInSites }
+{}
+
+/// What a byte means asks for its place alone: of a rewritten sequence, else of a field, else the section's own.
+pub fn bytes_are_meant_by_place()
+    ensures { BytesAreMeantByPlace }
+{}
+
+/// The new field of a rewritten sequence fits its value, so it is written.
+pub fn new_fields_fit()
+    ensures { NewFieldsFit }
+{}
+
+/// Parts of sections are zero where no section has a byte.
+pub fn gaps_are_zero()
+    ensures { GapsAreZero }
+{}
+
+/// The part that the loader alone writes is the global offset table, whole.
+pub fn tables_are_parts()
+    ensures { TablesAreParts }
+{}
+
+/// The stub is a part that is run.
+pub fn stubs_are_parts()
+    ensures { StubsAreParts }
 {}

@@ -10,11 +10,18 @@
 //! refusals   what the image's kind and its storage refuse                    link_refusals
 //! places     where each section goes, in memory and in the TLS segment       tls_layout
 //! plan       the global offset table, and the value of each field            link_needs
+//!
 //! file       sections at their places, the table, the stub                   section_file, here
 //! fields     the value of each relocation, written                           tls_relocs, here
 //! sequences  those that stand in the place of others                         relax_sites, here
 //! tables     symbols and relocations for a loader                            link_tables, image_writer
 //! ```
+//!
+//! Linking has two halves. [`prepare`] does what stands above the gap, and asks all that may refuse the objects but
+//! whether each field holds its value: a [`ReadyLink`] has no byte of the image. [`ReadyLink::overflow`] finds the first
+//! field that does not hold its value, still with no byte laid, so that who wants no image can ask whether objects link.
+//! [`ReadyLink::write`] does what stands below the gap, and answers that same first field if there is one. [`link`] is
+//! the one half and then the other.
 //!
 //! **The rule of bytes** (`specs/Bytes`): each byte of a section stands at its place, changed only in the fields of its
 //! relocations and in the sequences that are rewritten; behind the sections stand the table and the stub, behind these
@@ -44,8 +51,8 @@
 //! Names are compared by hash, each section is copied once, and each relocation is looked at by a fixed number of walks:
 //! time is linear in objects, symbols, relocations and bytes.
 //!
-//! Threads share a large image: its sections are laid while its names are bound, and its fields are written in parts of
-//! the file, cut where a section begins. No clause knows of it. `specs/Parts` says what is written in a part, and its
+//! Threads share a large image: its fields are written in parts of the file, cut where a section begins. No clause knows
+//! of it. `specs/Parts` says what is written in a part, and its
 //! proofs that the parts together are the whole.
 //!
 //! The rules are those of "ELF Handling For Thread-Local Storage" (Drepper), of the psABI ("Thread-Local Storage",
@@ -54,12 +61,14 @@
 
 mod draft;
 mod file;
-mod laid;
 pub mod laws;
 mod linked;
 mod linking;
+mod overflow;
 mod parts;
+mod ready;
 mod writing;
 
 pub use linked::Linked;
 pub use linking::link;
+pub use ready::{ReadyLink, prepare};

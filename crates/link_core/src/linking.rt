@@ -18,15 +18,15 @@ ghost use Rattle.link_core.specs.Overflows.{IsOverflowFault, NoOverflow};
 
 use crate::draft::{file_kind, is_flagged, push_made, section_places, tls_part};
 use crate::file::file_of;
-use crate::laid::{Laid, bind_and_lay};
 use crate::linked::Linked;
+use crate::ready::{ReadyLink, prepare};
 use elf_object::Object;
 use image_file::{Image, ImageRelocation};
 use image_writer::{Draft, NamedSymbol, PartPlace, image_of};
 use link_faults::{ImageKind, LinkFault};
-use link_needs::{Inputs, Plan, plan_of};
-use link_refusals::ask_kind;
-use link_tables::{Prepared, relocations, symbols, within_limits};
+use link_needs::{Inputs, Plan};
+use link_tables::{Tables, relocations, symbols};
+use section_file::lay_sections;
 use sequence_match::Site;
 use std::alloc::{AllocError, Global};
 use std::thread::Threads;
@@ -61,22 +61,17 @@ fn draft_of<'d>(
 }
 
 /// The image that a file becomes.
-fn finished(
-    alloc: Global,
-    plan: &Plan,
-    prepared: &Prepared,
-    file: Vec<u8>,
-) -> Result<Image, AllocError>
-    requires same { plan.now ≡ prepared.now }
-    requires sound { IsSound plan.now }
-    requires file { file.items ≡ file_of_link plan.now }
-    ensures { IfOk result (λ image. image ≡ image_of_link plan.now) }
+fn finished(alloc: Global, tables: &Tables, file: Vec<u8>) -> Result<Image, AllocError>
+    requires sound { IsSound tables.now }
+    requires file { file.items ≡ file_of_link tables.now }
+    ensures { IfOk result (λ image. image ≡ image_of_link tables.now) }
 {
-    let inputs = plan.inputs;
+    let plan = &tables.plan;
+    let inputs = &plan.inputs;
     let mut parts = section_places(alloc, &inputs.placement)?;
     let got = push_made(plan, &mut parts)?;
-    let symbols = symbols(alloc, plan, prepared)?;
-    let relocations = relocations(alloc, plan, prepared)?;
+    let symbols = symbols(alloc, tables)?;
+    let relocations = relocations(alloc, tables)?;
     let draft = draft_of(
         inputs,
         parts.as_slice(),
@@ -87,46 +82,41 @@ fn finished(
     image_of(alloc, &draft, file)
 }
 
-/// The image of a link that no earlier fault stands in, or the first field that does not hold its value.
-fn image<R: Threads + Sync>(
-    rt: &R,
-    alloc: Global,
-    plan: &Plan,
-    prepared: &Prepared,
-    sections: Vec<u8>,
-) -> Result<Image, LinkFault>
-    requires same { plan.now ≡ prepared.now }
-    requires sound { IsSound plan.now }
-    requires laid { sections.items ≡ sections_file (layout plan.now) plan.now.objects }
-    ensures image { IfOk result (λ image. image ≡ image_of_link plan.now) }
-    ensures fits { OnOk result (NoOverflow plan.now) }
-    ensures overflow { IfErr result (IsOverflowFault plan.now) }
+/// The sections of a link, laid into a file.
+fn laid(alloc: Global, plan: &Plan) -> Result<Vec<u8>, AllocError>
+    ensures { IfOk result (λ file. file.items ≡ sections_file (layout plan.now) plan.now.objects) }
 {
-    let file = file_of(rt, plan, sections)?;
-    Ok(finished(alloc, plan, prepared, file)?)
+    let inputs = &plan.inputs;
+    lay_sections(alloc, &inputs.placement, inputs.kind, inputs.objects)
 }
 
-/// What a link that no earlier fault stands in gives, or the first field that does not hold its value.
-#[tactic(auto, unfolding(crate::specs::Images::linked_of))]
-fn linked<R: Threads + Sync>(
-    rt: &R,
-    alloc: Global,
-    prepared: &Prepared,
-    sections: Vec<u8>,
-) -> Result<Linked, LinkFault>
-    requires sound { IsSound prepared.now }
-    requires laid { sections.items ≡ sections_file (layout prepared.now) prepared.now.objects }
-    ensures linked { IfOk result (λ linked. linked ≡ linked_of prepared.now) }
-    ensures fits { OnOk result (NoOverflow prepared.now) }
-    ensures overflow { IfErr result (IsOverflowFault prepared.now) }
+/// The image of a link that no earlier fault stands in, or the first field that does not hold its value.
+fn image<R: Threads + Sync>(rt: &R, alloc: Global, tables: &Tables) -> Result<Image, LinkFault>
+    requires sound { IsSound tables.now }
+    ensures image { IfOk result (λ image. image ≡ image_of_link tables.now) }
+    ensures fits { OnOk result (NoOverflow tables.now) }
+    ensures overflow { IfErr result (IsOverflowFault tables.now) }
 {
-    let inputs = &prepared.inputs;
-    let plan = plan_of(alloc, inputs)?;
-    let image = image(rt, alloc, &plan, prepared, sections)?;
-    Ok(Linked {
-        image,
-        choices: plan.into_choices(),
-    })
+    let plan = &tables.plan;
+    let sections = laid(alloc, plan)?;
+    let file = file_of(rt, plan, sections)?;
+    Ok(finished(alloc, tables, file)?)
+}
+
+impl ReadyLink<'_, '_, '_> {
+    /// Writes the image, or answers the first field that does not hold its value.
+    #[tactic(auto, unfolding(crate::specs::Images::linked_of))]
+    pub fn write<R: Threads + Sync>(self, rt: &R, alloc: Global) -> Result<Linked, LinkFault>
+        ensures linked { IfOk result (λ linked. linked ≡ linked_of self.entry) }
+        ensures links { OnOk result (Links self.entry) }
+        ensures overflow { IfErr result (IsOverflowFault self.entry) }
+    {
+        let image = image(rt, alloc, &self.tables)?;
+        Ok(Linked {
+            image,
+            choices: self.into_choices(),
+        })
+    }
 }
 
 /// Links objects into an image of this kind, beside startup images that export these names: of all of them in image
@@ -153,10 +143,8 @@ pub fn link<'a, R: Threads + Sync>(
     ensures links { OnOk result (Links (link_of objects.now sites.now kind startup.now relax)) }
     ensures fault { IfErr result (IsLinkFault (link_of objects.now sites.now kind startup.now relax)) }
 {
-    let (bindings, laid) = bind_and_lay(rt, alloc, objects, startup, kind);
-    let bindings = bindings?;
-    ask_kind(objects, kind)?;
-    let Laid { placement, file } = laid?;
-    let prepared = within_limits(alloc, objects, sites, kind, relax, bindings, placement)?;
-    linked(rt, alloc, &prepared, file)
+    match prepare(alloc, objects, sites, kind, startup, relax) {
+        Ok(ready) => ready.write(rt, alloc),
+        Err(fault) => Err(fault),
+    }
 }

@@ -2,14 +2,14 @@
 //!
 //! A part begins where a section does, so that no field lies in two, and each thread writes what lies in its own.
 
-ghost use Rattle.std.specs.Prelude.{◌≡◌, ◌+◌, ◌<◌, ◌≤◌, ◌^◌, IfErr, OnOk, length};
+ghost use Rattle.std.specs.Prelude.{◌≡◌, ◌+◌, ◌<◌, ◌≤◌, ◌^◌, IfErr, OnOk, Some, length};
 ghost use Rattle.std.specs.Thread.{IsSync};
 ghost use Rattle.tls_symbols.specs.Bindings.{object_at};
 ghost use Rattle.link_core.specs.Bytes.{raw_file, with_fields_from};
 ghost use Rattle.link_core.specs.Overflows.{IsFirstOverflow, NoOverflow};
-ghost use Rattle.link_core.specs.Parts.{AreWritten, IsCut, IsPart, IsWritten};
+ghost use Rattle.link_core.specs.Parts.{AreWritten, EndsBehind, IsCut, IsPart, IsWritten};
 
-use crate::writing::{place_in_file, write_part};
+use crate::writing::{FilePart, place_in_file, write_part};
 use link_faults::LinkFault;
 use link_needs::Plan;
 use std::thread::{Threads, join_mut};
@@ -20,9 +20,6 @@ const WORTH_TWO_THREADS: usize = 1 << 20;
 /// How often the file is halved at most.
 const HALVINGS: u32 = 3;
 
-/// No file is as long.
-const BEHIND_ALL: u64 = 1 << 30;
-
 /// The later of two places where the file may be cut: one so far, and where a section begins, if that is not too far.
 fn later(plan: &Plan, number: usize, section: u32, limit: u64, cut: u64) -> u64
     requires object { number < length plan.now.objects }
@@ -31,7 +28,7 @@ fn later(plan: &Plan, number: usize, section: u32, limit: u64, cut: u64) -> u64
     ensures cut { IsCut plan.now result }
     ensures near { result ≤ limit }
 {
-    let inputs = plan.inputs;
+    let inputs = &plan.inputs;
     match inputs.placement.address(number, section) {
         Some(address) => {
             let place = place_in_file(plan, address);
@@ -65,7 +62,7 @@ fn cut_before(plan: &Plan, limit: u64) -> u64
     ensures cut { IsCut plan.now result }
     ensures near { result ≤ limit }
 {
-    let inputs = plan.inputs;
+    let inputs = &plan.inputs;
     let mut cut = 0;
     for number in 0..inputs.objects.len() {
         cut = last_of(plan, number, limit, cut);
@@ -78,61 +75,67 @@ fn cut_before(plan: &Plan, limit: u64) -> u64
 fn write_halves<R: Threads + Sync>(
     rt: &R,
     plan: &Plan,
-    from: u64,
-    to: u64,
+    part: FilePart,
     halvings: u32,
-    part: &mut [u8],
+    bytes: &mut [u8],
 ) -> Result<(), LinkFault>
-    requires part { IsPart plan.now from to (length part.old) }
-    requires near { from + length part.old ≤ to }
-    requires far { to ≤ 2 ^ 30 }
-    ensures { IsWritten plan.now from to part.old part.new result }
+    requires part { IsPart plan.now part.from part.to (length bytes.old) }
+    requires ends { EndsBehind (part.from + length bytes.old) part.to }
+    requires far { part.from + length bytes.old ≤ 2 ^ 30 }
+    ensures { IsWritten plan.now part.from part.to bytes.old bytes.new result }
 {
     // What is known of a plan is known where a part of it is read.
-    let _inputs = plan.inputs;
-    if halvings == 0 || part.len() < WORTH_TWO_THREADS {
-        return write_part(plan, from, to, part);
+    let _inputs = &plan.inputs;
+    if halvings == 0 || bytes.len() < WORTH_TWO_THREADS {
+        return write_part(plan, part, bytes);
     }
-    let cut = cut_before(plan, from + part.len() as u64 / 2);
-    if cut <= from {
-        return write_part(plan, from, to, part);
+    let cut = cut_before(plan, part.from + bytes.len() as u64 / 2);
+    if cut <= part.from {
+        return write_part(plan, part, bytes);
     }
-    let (front, back) = part.split_at_mut((cut - from) as usize);
-    write_both(rt, plan, from, cut, to, halvings - 1, front, back)
+    let (front, back) = bytes.split_at_mut((cut - part.from) as usize);
+    write_both(rt, plan, part, cut, halvings - 1, front, back)
 }
 
-/// Writes the fields of two parts of the file, one behind the other, side by side.
+/// Writes the fields of the two parts that a cut makes of one, side by side.
 #[cycle(halves)]
 fn write_both<R: Threads + Sync>(
     rt: &R,
     plan: &Plan,
-    from: u64,
+    part: FilePart,
     cut: u64,
-    to: u64,
     halvings: u32,
     front: &mut [u8],
     back: &mut [u8],
 ) -> Result<(), LinkFault>
-    requires front { IsPart plan.now from cut (length front.old) }
-    requires ends { from + length front.old ≡ cut }
-    requires back { IsPart plan.now cut to (length back.old) }
-    requires near { cut + length back.old ≤ to }
-    requires far { to ≤ 2 ^ 30 }
-    ensures { AreWritten plan.now from cut to front.old front.new back.old back.new result }
+    requires front { IsPart plan.now part.from (Some cut) (length front.old) }
+    requires cut { part.from + length front.old ≡ cut }
+    requires back { IsPart plan.now cut part.to (length back.old) }
+    requires ends { EndsBehind (cut + length back.old) part.to }
+    requires far { cut + length back.old ≤ 2 ^ 30 }
+    ensures { AreWritten plan.now part.from cut part.to front.old front.new back.old back.new result }
 {
+    let before = FilePart {
+        from: part.from,
+        to: Some(cut),
+    };
+    let behind = FilePart {
+        from: cut,
+        to: part.to,
+    };
     let mut first = || -> Result<(), LinkFault>
-        requires { IsSync R.row × IsPart plan.now from cut (length front.now) × (from + length front.now ≤ cut)
-            × (cut ≤ 2 ^ 30) }
-        ensures { IsWritten plan.entry.now from cut front.entry.now front.exit.now result }
-    { write_halves(rt, plan, from, cut, halvings, front) };
+        requires { IsSync R.row × IsPart plan.now before.from before.to (length front.now)
+            × EndsBehind (before.from + length front.now) before.to × (before.from + length front.now ≤ 2 ^ 30) }
+        ensures { IsWritten plan.entry.now before.from before.to front.entry.now front.exit.now result }
+    { write_halves(rt, plan, before, halvings, front) };
     let mut second = || -> Result<(), LinkFault>
-        requires { IsSync R.row × IsPart plan.now cut to (length back.now) × (cut + length back.now ≤ to)
-            × (to ≤ 2 ^ 30) }
-        ensures { IsWritten plan.entry.now cut to back.entry.now back.exit.now result }
-    { write_halves(rt, plan, cut, to, halvings, back) };
-    let (in_front, behind) = join_mut(rt, &mut first, &mut second);
+        requires { IsSync R.row × IsPart plan.now behind.from behind.to (length back.now)
+            × EndsBehind (behind.from + length back.now) behind.to × (behind.from + length back.now ≤ 2 ^ 30) }
+        ensures { IsWritten plan.entry.now behind.from behind.to back.entry.now back.exit.now result }
+    { write_halves(rt, plan, behind, halvings, back) };
+    let (in_front, in_back) = join_mut(rt, &mut first, &mut second);
     match in_front {
-        Ok(()) => behind,
+        Ok(()) => in_back,
         Err(fault) => Err(fault),
     }
 }
@@ -151,9 +154,10 @@ pub fn write_fields<R: Threads + Sync>(
     ensures overflow { IfErr result (IsFirstOverflow plan.now) }
 {
     // What is known of a plan is known where a part of it is read.
-    let _inputs = plan.inputs;
-    match write_halves(rt, plan, 0, BEHIND_ALL, HALVINGS, file) {
+    let _inputs = &plan.inputs;
+    let whole = FilePart { from: 0, to: None };
+    match write_halves(rt, plan, whole, HALVINGS, file) {
         Ok(()) => Ok(()),
-        Err(_) => write_part(plan, 0, BEHIND_ALL, file),
+        Err(_) => write_part(plan, whole, file),
     }
 }

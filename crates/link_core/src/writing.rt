@@ -1,7 +1,7 @@
 //! The fields of relocations, and the sequences in the place of rewritten ones, written in the file.
 
 ghost use Rattle.std.specs.Prelude.{◌≡◌, ◌+◌, ◌-◌, ◌^◌, ◌<◌, ◌≤◌, ◌&&◌, [], ◌∷◌, IfErr, OnErr, OnOk, Some};
-ghost use Rattle.std.specs.Prelude.{fold, length, nat_le, nat_lt, slice_index_or, unwrap_or};
+ghost use Rattle.std.specs.Prelude.{fold, length, nat_le, slice_index_or, unwrap_or};
 ghost use Rattle.std.specs.List.{Contains};
 ghost use Rattle.elf_object.specs.Lent.{relocation_target, relocations};
 ghost use Rattle.elf_object.specs.Object.{section_count};
@@ -18,11 +18,12 @@ ghost use Rattle.link_needs.specs.Linking.{choice, layout, sites_at};
 ghost use Rattle.link_core.specs.Overflows.{IsFilled, IsFirstAtAll, IsFirstIn, IsFirstOf, IsOverflow};
 ghost use Rattle.link_core.specs.Overflows.{NoneAtAll, NoneIn, NoneOf};
 ghost use Rattle.link_core.specs.Parts.{part_with_field, part_with_fields, part_with_fields_from, part_with_held};
-ghost use Rattle.link_core.specs.Parts.{part_with_table, start_in, IsInside, IsPart, OverflowsIn};
+ghost use Rattle.link_core.specs.Parts.{is_before, part_with_table, start_in, IsInside, IsPart, OverflowsIn};
 ghost use Rattle.link_core.specs.Room.{HasRoom};
 ghost use Rattle.relax_sites.specs.Rows.{new_field as new_field_of};
 
 use elf_object::{Relocation, RelocationKind};
+use elf_records::relocation_row::FieldValue;
 use link_faults::{LinkFault, LinkFaultKind};
 use link_needs::{Plan, new_relocation};
 use relax_sites::{NewField, new_field, rewrite};
@@ -30,11 +31,39 @@ use section_file::offset_of;
 use sequence_match::Site;
 use tls_relocs::{Field, Overflow, apply};
 
-/// Whether a number stands from one on and before another.
-fn is_between(from: u64, number: u64, to: u64) -> bool
-    ensures { result ≡ (nat_le from number && nat_lt number to) }
+/// A part of the file: where it begins, and where those sections begin at the latest that are its own: before `to`, or
+/// anywhere behind.
+#[derive(Clone, Copy)]
+pub struct FilePart {
+    pub from: u64,
+    pub to: Option<u64>,
+}
+
+/// Whether an offset lies before the end, if there is one.
+fn is_before(offset: u64, end: Option<u64>) -> bool
+    ensures { result ≡ is_before offset end }
 {
-    from <= number && number < to
+    match end {
+        Some(end) => offset < end,
+        None => true,
+    }
+}
+
+impl FilePart {
+    /// Whether a section that begins at this offset of the file is the part's own.
+    fn has(self, offset: u64) -> bool
+        ensures { result ≡ (nat_le self.from offset && is_before offset self.to) }
+    {
+        self.from <= offset && is_before(offset, self.to)
+    }
+}
+
+/// A section of an object, and the address where it begins.
+#[derive(Clone, Copy)]
+struct PlacedSection {
+    object: usize,
+    section: u32,
+    address: u64,
 }
 
 /// Where the byte of an address stands in the file.
@@ -44,7 +73,7 @@ pub fn place_in_file(plan: &Plan, address: u64) -> u64
     requires fits { address + 4096 < 2 ^ 64 }
     ensures { result ≡ file_offset (layout plan.now) address }
 {
-    let inputs = plan.inputs;
+    let inputs = &plan.inputs;
     offset_of(inputs.kind, address)
 }
 
@@ -61,81 +90,74 @@ fn put(plan: &Plan, from: u64, place: u64, field: Field, part: &mut [u8])
     }
 }
 
-/// Fills the field of a relocation of a section that begins at this address, if it has one.
+/// Fills the field of a relocation of a section, if it has one.
 #[inline(always)]
 fn fill_field(
     plan: &Plan,
     from: u64,
-    object: usize,
-    section: u32,
-    address: u64,
+    own: PlacedSection,
     relocation: &Relocation,
-    part: &mut [u8],
+    bytes: &mut [u8],
 ) -> Result<(), Overflow>
-    requires object { object < length plan.now.objects }
-    requires own { Contains (relocations (object_at plan.now.objects object) section) relocation.now }
-    requires address { address_of (layout plan.now) object section ≡ Some address }
-    requires inside { IsInside plan.now from (length part.old) object section address }
-    ensures written { OnOk result (part.new ≡ part_with_field plan.now from object section part.old relocation.now) }
-    ensures filled { length part.new ≡ length part.old }
-    ensures fits { OnOk result (IsFilled plan.now object section relocation.now) }
-    ensures overflow { OnErr result (IsOverflow plan.now object section relocation.now) }
+    requires object { own.object < length plan.now.objects }
+    requires own { Contains (relocations (object_at plan.now.objects own.object) own.section) relocation.now }
+    requires address { address_of (layout plan.now) own.object own.section ≡ Some own.address }
+    requires inside { IsInside plan.now from (length bytes.old) own.object own.section own.address }
+    ensures written { OnOk result (bytes.new
+        ≡ part_with_field plan.now from own.object own.section bytes.old relocation.now) }
+    ensures filled { length bytes.new ≡ length bytes.old }
+    ensures fits { OnOk result (IsFilled plan.now own.object own.section relocation.now) }
+    ensures overflow { OnErr result (IsOverflow plan.now own.object own.section relocation.now) }
 {
     if let RelocationKind::Nothing = relocation.kind {
         return Ok(());
     }
     // What is known of a plan is known where a part of it is read.
-    let _inputs = plan.inputs;
-    let symbol = plan.symbol_value(object, relocation.symbol);
+    let _inputs = &plan.inputs;
+    let symbol = plan.symbol_value(own.object, relocation.symbol);
     if plan.is_replaced(symbol, relocation.kind) {
         return Ok(());
     }
-    let place = address + relocation.offset;
-    match plan.field(object, place, relocation, symbol) {
+    let place = own.address + relocation.offset;
+    match plan.field(own.object, place, relocation, symbol) {
         Ok(field) => {
-            put(plan, from, place, field, part);
+            put(plan, from, place, field, bytes);
             Ok(())
         }
         Err(unfit) => Err(unfit),
     }
 }
 
-/// Fills the field of a relocation. What depends on its type is decided here, once for each of the types that objects
-/// have most of: `fill_field` is compiled for each of them.
+/// Fills the field of a relocation. What depends on its type is decided here, once for each of the numbers that most
+/// fields hold: `fill_field` is compiled for each of them.
 #[inline(always)]
 fn write_field(
     plan: &Plan,
     from: u64,
-    object: usize,
-    section: u32,
-    address: u64,
+    own: PlacedSection,
     relocation: &Relocation,
-    part: &mut [u8],
+    bytes: &mut [u8],
 ) -> Result<(), Overflow>
-    requires object { object < length plan.now.objects }
-    requires own { Contains (relocations (object_at plan.now.objects object) section) relocation.now }
-    requires address { address_of (layout plan.now) object section ≡ Some address }
-    requires inside { IsInside plan.now from (length part.old) object section address }
-    ensures written { OnOk result (part.new ≡ part_with_field plan.now from object section part.old relocation.now) }
-    ensures filled { length part.new ≡ length part.old }
-    ensures fits { OnOk result (IsFilled plan.now object section relocation.now) }
-    ensures overflow { OnErr result (IsOverflow plan.now object section relocation.now) }
+    requires object { own.object < length plan.now.objects }
+    requires own { Contains (relocations (object_at plan.now.objects own.object) own.section) relocation.now }
+    requires address { address_of (layout plan.now) own.object own.section ≡ Some own.address }
+    requires inside { IsInside plan.now from (length bytes.old) own.object own.section own.address }
+    ensures written { OnOk result (bytes.new
+        ≡ part_with_field plan.now from own.object own.section bytes.old relocation.now) }
+    ensures filled { length bytes.new ≡ length bytes.old }
+    ensures fits { OnOk result (IsFilled plan.now own.object own.section relocation.now) }
+    ensures overflow { OnErr result (IsOverflow plan.now own.object own.section relocation.now) }
 {
-    match relocation.kind {
-        RelocationKind::Pc32 => fill_field(plan, from, object, section, address, relocation, part),
-        RelocationKind::Plt32 => fill_field(plan, from, object, section, address, relocation, part),
-        RelocationKind::TpOff32 => fill_field(
-            plan, from, object, section, address, relocation, part,
-        ),
-        RelocationKind::Absolute64 => fill_field(
-            plan, from, object, section, address, relocation, part,
-        ),
-        _ => fill_field(plan, from, object, section, address, relocation, part),
+    match relocation.kind.row().value {
+        FieldValue::Distance => fill_field(plan, from, own, relocation, bytes),
+        FieldValue::ThreadOffset => fill_field(plan, from, own, relocation, bytes),
+        FieldValue::Address => fill_field(plan, from, own, relocation, bytes),
+        _ => fill_field(plan, from, own, relocation, bytes),
     }
 }
 
 /// A field of this object, section and entry does not hold its value.
-fn overflow(object: usize, section: u32, entry: u64) -> LinkFault
+pub fn overflow(object: usize, section: u32, entry: u64) -> LinkFault
     ensures { result ≡ LinkFault.At LinkFaultKind.Overflow (Some object) section entry }
 {
     LinkFault::At {
@@ -146,44 +168,42 @@ fn overflow(object: usize, section: u32, entry: u64) -> LinkFault
     }
 }
 
-/// Writes the fields of the relocations of a section, which the table holds. The section begins at this address.
+/// Writes the fields of the relocations of a section, which the table holds.
 fn write_held(
     plan: &Plan,
     from: u64,
-    number: usize,
+    own: PlacedSection,
     table: u32,
-    section: u32,
-    address: u64,
-    part: &mut [u8],
+    bytes: &mut [u8],
 ) -> Result<(), LinkFault>
-    requires object { number < length plan.now.objects }
-    requires table { (0 < table) × (table < section_count (object_at plan.now.objects number)) }
-    requires target { nonzero (relocation_target (object_at plan.now.objects number) table) ≡ Some section }
-    requires address { address_of (layout plan.now) number section ≡ Some address }
-    requires inside { IsInside plan.now from (length part.old) number section address }
-    ensures written { OnOk result (part.new ≡ part_with_held
-        plan.now from number (object_at plan.now.objects number) part.old table (Some address)) }
-    ensures filled { length part.new ≡ length part.old }
-    ensures fits { OnOk result (NoneIn (Overflows plan.now) number table) }
-    ensures overflow { IfErr result (IsFirstIn (Overflows plan.now) number table) }
+    requires object { own.object < length plan.now.objects }
+    requires table { (0 < table) × (table < section_count (object_at plan.now.objects own.object)) }
+    requires target { nonzero (relocation_target (object_at plan.now.objects own.object) table) ≡ Some own.section }
+    requires address { address_of (layout plan.now) own.object own.section ≡ Some own.address }
+    requires inside { IsInside plan.now from (length bytes.old) own.object own.section own.address }
+    ensures written { OnOk result (bytes.new ≡ part_with_held plan.now from own.object
+        (object_at plan.now.objects own.object) bytes.old table (Some own.address)) }
+    ensures filled { length bytes.new ≡ length bytes.old }
+    ensures fits { OnOk result (NoneIn (Overflows plan.now) own.object table) }
+    ensures overflow { IfErr result (IsFirstIn (Overflows plan.now) own.object table) }
 {
     let mut entry = 0;
-    for relocation in plan.inputs.object(number).relocs(section) {
-        if let Err(_) = write_field(plan, from, number, section, address, &relocation, part) {
-            return Err(overflow(number, table, entry));
+    for relocation in plan.inputs.object(own.object).relocs(own.section) {
+        if let Err(_) = write_field(plan, from, own, &relocation, bytes) {
+            return Err(overflow(own.object, table, entry));
         }
         entry += 1;
     }
     Ok(())
 }
 
-/// Where a section begins, if that is in the file from one offset on and before another.
-fn start_in(plan: &Plan, from: u64, to: u64, number: usize, section: u32) -> Option<u64>
-    ensures { result ≡ start_in plan.now from to number section }
+/// Where a section begins, if that is in the part of the file.
+fn start_in(plan: &Plan, part: FilePart, number: usize, section: u32) -> Option<u64>
+    ensures { result ≡ start_in plan.now part.from part.to number section }
 {
-    let inputs = plan.inputs;
+    let inputs = &plan.inputs;
     match inputs.placement.address(number, section) {
-        Some(address) if is_between(from, place_in_file(plan, address), to) => Some(address),
+        Some(address) if part.has(place_in_file(plan, address)) => Some(address),
         _ => None,
     }
 }
@@ -191,25 +211,31 @@ fn start_in(plan: &Plan, from: u64, to: u64, number: usize, section: u32) -> Opt
 /// Writes the fields of the relocations of a section, which the table holds, if the section begins in the part.
 fn write_section(
     plan: &Plan,
-    from: u64,
-    to: u64,
+    part: FilePart,
     number: usize,
     table: u32,
     section: u32,
-    part: &mut [u8],
+    bytes: &mut [u8],
 ) -> Result<(), LinkFault>
     requires object { number < length plan.now.objects }
     requires table { (0 < table) × (table < section_count (object_at plan.now.objects number)) }
     requires target { nonzero (relocation_target (object_at plan.now.objects number) table) ≡ Some section }
-    requires part { IsPart plan.now from to (length part.old) }
-    ensures written { OnOk result (part.new ≡ part_with_table
-        plan.now from to number (object_at plan.now.objects number) part.old table) }
-    ensures filled { length part.new ≡ length part.old }
-    ensures fits { OnOk result (NoneIn (OverflowsIn plan.now from to) number table) }
-    ensures overflow { IfErr result (IsFirstIn (OverflowsIn plan.now from to) number table) }
+    requires part { IsPart plan.now part.from part.to (length bytes.old) }
+    ensures written { OnOk result (bytes.new ≡ part_with_table
+        plan.now part.from part.to number (object_at plan.now.objects number) bytes.old table) }
+    ensures filled { length bytes.new ≡ length bytes.old }
+    ensures fits { OnOk result (NoneIn (OverflowsIn plan.now part.from part.to) number table) }
+    ensures overflow { IfErr result (IsFirstIn (OverflowsIn plan.now part.from part.to) number table) }
 {
-    match start_in(plan, from, to, number, section) {
-        Some(address) => write_held(plan, from, number, table, section, address, part),
+    match start_in(plan, part, number, section) {
+        Some(address) => {
+            let own = PlacedSection {
+                object: number,
+                section,
+                address,
+            };
+            write_held(plan, part.from, own, table, bytes)
+        }
         None => Ok(()),
     }
 }
@@ -217,23 +243,22 @@ fn write_section(
 /// Writes the fields of the relocations that a section holds, if it holds any, and theirs begins in the part.
 fn write_table(
     plan: &Plan,
-    from: u64,
-    to: u64,
+    part: FilePart,
     number: usize,
     table: u32,
-    part: &mut [u8],
+    bytes: &mut [u8],
 ) -> Result<(), LinkFault>
     requires object { number < length plan.now.objects }
     requires table { (0 < table) × (table < section_count (object_at plan.now.objects number)) }
-    requires part { IsPart plan.now from to (length part.old) }
-    ensures written { OnOk result (part.new ≡ part_with_table
-        plan.now from to number (object_at plan.now.objects number) part.old table) }
-    ensures filled { length part.new ≡ length part.old }
-    ensures fits { OnOk result (NoneIn (OverflowsIn plan.now from to) number table) }
-    ensures overflow { IfErr result (IsFirstIn (OverflowsIn plan.now from to) number table) }
+    requires part { IsPart plan.now part.from part.to (length bytes.old) }
+    ensures written { OnOk result (bytes.new ≡ part_with_table
+        plan.now part.from part.to number (object_at plan.now.objects number) bytes.old table) }
+    ensures filled { length bytes.new ≡ length bytes.old }
+    ensures fits { OnOk result (NoneIn (OverflowsIn plan.now part.from part.to) number table) }
+    ensures overflow { IfErr result (IsFirstIn (OverflowsIn plan.now part.from part.to) number table) }
 {
     match plan.inputs.object(number).relocation_target(table) {
-        Some(section) => write_section(plan, from, to, number, table, section, part),
+        Some(section) => write_section(plan, part, number, table, section, bytes),
         None => Ok(()),
     }
 }
@@ -241,39 +266,39 @@ fn write_table(
 /// Writes the fields of an object's relocations in a part of the file.
 fn write_object(
     plan: &Plan,
-    from: u64,
-    to: u64,
+    part: FilePart,
     number: usize,
-    part: &mut [u8],
+    bytes: &mut [u8],
 ) -> Result<(), LinkFault>
     requires object { number < length plan.now.objects }
-    requires part { IsPart plan.now from to (length part.old) }
-    ensures written { OnOk result (part.new ≡ part_with_fields
-        plan.now from to number (object_at plan.now.objects number) part.old) }
-    ensures filled { length part.new ≡ length part.old }
-    ensures fits { OnOk result (NoneOf (OverflowsIn plan.now from to) number) }
-    ensures overflow { IfErr result (IsFirstOf (OverflowsIn plan.now from to) number) }
+    requires part { IsPart plan.now part.from part.to (length bytes.old) }
+    ensures written { OnOk result (bytes.new ≡ part_with_fields
+        plan.now part.from part.to number (object_at plan.now.objects number) bytes.old) }
+    ensures filled { length bytes.new ≡ length bytes.old }
+    ensures fits { OnOk result (NoneOf (OverflowsIn plan.now part.from part.to) number) }
+    ensures overflow { IfErr result (IsFirstOf (OverflowsIn plan.now part.from part.to) number) }
 {
     for table in 1..plan.inputs.object(number).section_count() {
-        if let Err(fault) = write_table(plan, from, to, number, table, part) {
+        if let Err(fault) = write_table(plan, part, number, table, bytes) {
             return Err(fault);
         }
     }
     Ok(())
 }
 
-/// Writes the fields of all relocations whose sections begin in a part of the file, at an offset of the file from one
-/// on, where the part begins, and before another; or answers the first that does not hold its value.
-pub fn write_part(plan: &Plan, from: u64, to: u64, part: &mut [u8]) -> Result<(), LinkFault>
-    requires { IsPart plan.now from to (length part.old) }
-    ensures written { OnOk result (part.new ≡ part_with_fields_from plan.now from to 0 plan.now.objects part.old) }
-    ensures filled { length part.new ≡ length part.old }
-    ensures fits { OnOk result (NoneAtAll (OverflowsIn plan.now from to)) }
-    ensures overflow { IfErr result (IsFirstAtAll (OverflowsIn plan.now from to)) }
+/// Writes the fields of all relocations whose sections begin in a part of the file, which has these bytes, or answers the
+/// first that does not hold its value.
+pub fn write_part(plan: &Plan, part: FilePart, bytes: &mut [u8]) -> Result<(), LinkFault>
+    requires { IsPart plan.now part.from part.to (length bytes.old) }
+    ensures written { OnOk result (bytes.new
+        ≡ part_with_fields_from plan.now part.from part.to 0 plan.now.objects bytes.old) }
+    ensures filled { length bytes.new ≡ length bytes.old }
+    ensures fits { OnOk result (NoneAtAll (OverflowsIn plan.now part.from part.to)) }
+    ensures overflow { IfErr result (IsFirstAtAll (OverflowsIn plan.now part.from part.to)) }
 {
-    let inputs = plan.inputs;
+    let inputs = &plan.inputs;
     for number in 0..inputs.objects.len() {
-        if let Err(fault) = write_object(plan, from, to, number, part) {
+        if let Err(fault) = write_object(plan, part, number, bytes) {
             return Err(fault);
         }
     }
@@ -298,7 +323,7 @@ fn write_new_field(
     ensures filled { length file.new ≡ length (raw_file plan.now) }
 {
     // What is known of a plan is known where a part of it is read.
-    let _inputs = plan.inputs;
+    let _inputs = &plan.inputs;
     let relocation = new_relocation(site, field);
     let place = address + relocation.offset;
     let symbol = plan.symbol_value(object, relocation.symbol);
@@ -347,7 +372,7 @@ pub fn write_sites(plan: &Plan, file: &mut [u8])
     ensures written { file.new ≡ with_sites_from plan.now 0 plan.now.sites file.old }
     ensures filled { length file.new ≡ length (raw_file plan.now) }
 {
-    let inputs = plan.inputs;
+    let inputs = &plan.inputs;
     for (object, own) in inputs.sites.iter().enumerate() {
         write_own_sites(plan, object, own.as_slice(), file);
     }

@@ -5,8 +5,8 @@ use Rattle.std.proofs.lemmas.List.{length-map}
 use Rattle.std.specs.Global.{Vec}
 use Rattle.std.specs.Prelude.{slice_index_or}
 use Rattle.std.specs.List.{All, list_any}
-use Rattle.elf_records.specs.declared.relocation.RelocationKind.{RelocationKind}
-use Rattle.elf_records.specs.declared.relocation.RelocationKind.TheVariants.{DtpOff32, TpOff32}
+use Rattle.elf_records.specs.declared.relocation_row.FieldValue.{FieldValue}
+use Rattle.elf_records.specs.declared.relocation_row.FieldValue.TheVariants.{SegmentOffset, ThreadOffset}
 use Rattle.elf_object.specs.declared.relocation.Relocation.{Relocation}
 use Rattle.got_pairs.specs.declared.need.Need.{Need}
 use Rattle.got_pairs.specs.Needs.{entries as entries_of, total_size}
@@ -20,7 +20,7 @@ use Rattle.sequence_match.proofs.OwnSites.{own_sites, drop_at}
 use Rattle.link_needs.specs.Linking.{Linking, block_offset, layout, object, sites_at}
 use Rattle.link_needs.specs.Given.{FitsTable, IsGiven}
 use Rattle.link_needs.specs.Usable.{IsUsable}
-use Rattle.link_needs.specs.Values.{counts_from_thread_pointer, is_local, is_rewriting, other_number}
+use Rattle.link_needs.specs.Values.{counts_from_thread_pointer, is_local, is_rewriting, number_beside}
 use Rattle.link_needs.specs.Needs.{entries, got_size, got_start, needs, need_address, relocation_need, table}
 use Rattle.link_needs.proofs.UsableSites.{usable}
 
@@ -87,11 +87,11 @@ entry_small l got start at size given limits is begins inside =
     omega (arith, table_small l given limits, same, begins, inside)
 
 -- what is neither of the two offsets reaches an entry
-pub other_default : (l : Linking) (o : ℕ) (r : Relocation) (kind : RelocationKind) → kind ≢ DtpOff32 → kind ≢ TpOff32
-    → need_address l (relocation_need l o r) ≡ other_number l o r kind
-other_default l o r DtpOff32 first second = absurd (first refl)
-other_default l o r TpOff32 first second = absurd (second refl)
-other_default l o r kind first second = refl
+pub other_default : (l : Linking) (o : ℕ) (r : Relocation) (value : FieldValue) → value ≢ SegmentOffset
+    → value ≢ ThreadOffset → need_address l (relocation_need l o r) ≡ number_beside l o r value
+other_default l o r SegmentOffset first second = absurd (first refl)
+other_default l o r ThreadOffset first second = absurd (second refl)
+other_default l o r value first second = refl
 
 -- a table that is laid out from the needs of a link is its own
 module _ (l : Linking) (found : List Need) (got : Table) (start : ℕ) (needs_are : found ≡ needs l) where

@@ -7,9 +7,10 @@ use Rattle.std.specs.Global.{Vec}
 use Rattle.std.specs.Prelude.{if◌then◌else◌, slice_index_or}
 use Rattle.std.specs.Str.{bytes_eq}
 use Rattle.elf_records.specs.declared.relocation.RelocationKind.{RelocationKind}
-use Rattle.elf_records.specs.declared.relocation.RelocationKind.TheVariants.{Nothing, Pc32, Plt32, GotPcRel, TlsGd, TlsLd}
-use Rattle.elf_records.specs.declared.relocation.RelocationKind.TheVariants.{DtpOff32, GotTpOff, TpOff32}
-use Rattle.elf_records.specs.declared.relocation.RelocationKind.TheVariants.{GotPc32TlsDesc, GotPcRelX, RexGotPcRelX}
+use Rattle.elf_records.specs.declared.relocation.RelocationKind.TheVariants.{Nothing}
+use Rattle.elf_records.specs.declared.relocation_row.TableEntry.{TableEntry}
+use Rattle.elf_records.specs.declared.relocation_row.TableEntry.TheVariants.{NoEntry}
+use Rattle.elf_records.specs.RelocationRows.{is_entry, row}
 use Rattle.elf_object.specs.declared.relocation.Relocation.{Relocation}
 use Rattle.elf_object.specs.declared.symbol.SymbolBinding.TheVariants.{Local}
 use Rattle.elf_object.specs.Parts.{symbol_count}
@@ -22,7 +23,7 @@ use Rattle.tls_symbols.specs.Bindings.{binding_of, bound_to, first_export, get_a
 use Rattle.tls_symbols.specs.Bindings.{of_startup}
 use Rattle.tls_symbols.specs.Definitions.{definition_of, same_binding}
 use Rattle.link_needs.specs.Linking.{Linking, binding, object}
-use Rattle.link_needs.specs.Needs.{need_address, need_by, relocation_need}
+use Rattle.link_needs.specs.Needs.{entry_need, need_address, relocation_need}
 use Rattle.link_needs.specs.declared.symbol_values.SymbolValue.{SymbolValue}
 use Rattle.link_needs.specs.SymbolNumbers.{all_values, goes_by, is_own, is_run_time, number_by, reaches_entry}
 use Rattle.link_needs.specs.SymbolNumbers.{value_by, value_of, values_of}
@@ -70,14 +71,6 @@ module _ (l : Linking) where
 
   number_is : (kind : RelocationKind) (bound : Option Binding)
       → number_by l kind (value_by l bound) ≡ own_number l kind bound
-  number_is DtpOff32 (Some (Here found)) = refl
-  number_is DtpOff32 (Some (Startup image)) = refl
-  number_is DtpOff32 (Some Runtime) = refl
-  number_is DtpOff32 None = refl
-  number_is TpOff32 (Some (Here found)) = refl
-  number_is TpOff32 (Some (Startup image)) = refl
-  number_is TpOff32 (Some Runtime) = refl
-  number_is TpOff32 None = refl
   number_is kind (Some (Here found)) = refl
   number_is kind (Some (Startup image)) = refl
   number_is kind (Some Runtime) = refl
@@ -96,13 +89,7 @@ module _ (l : Linking) where
   runtime_is None = refl
 
   goes_is : (kind : RelocationKind) (bound : Option Binding) → goes_by (value_by l bound) kind ≡ goes bound kind
-  goes_is GotTpOff bound = here_is bound
-  goes_is Pc32 bound = runtime_is bound
-  goes_is Plt32 bound = runtime_is bound
-  goes_is GotPcRel bound = runtime_is bound
-  goes_is GotPcRelX bound = runtime_is bound
-  goes_is RexGotPcRelX bound = runtime_is bound
-  goes_is kind bound = refl
+  goes_is kind bound = rw (here_is bound, runtime_is bound) refl
 
   -- ** by the relocation
 
@@ -153,17 +140,10 @@ module _ (l : Linking) where
 
     -- ** entries
 
-    none_by : (bound : Option Binding) (kind : RelocationKind) → reaches_entry kind ≡ false
-        → need_by l o r.symbol bound kind ≡ None
-    none_by bound TlsGd e = absurd (cc)
-    none_by bound TlsLd e = absurd (cc)
-    none_by bound GotTpOff e = absurd (cc)
-    none_by bound GotPc32TlsDesc e = absurd (cc)
-    none_by bound GotPcRel e = absurd (cc)
-    none_by bound GotPcRelX e = absurd (cc)
-    none_by bound RexGotPcRelX e = absurd (cc)
-    none_by bound kind e = refl
+    none_by : (bound : Option Binding) (at : TableEntry) → is_entry at ≡ false → entry_need l o r.symbol bound at ≡ None
+    none_by bound NoEntry e = refl
+    none_by bound at e = absurd (cc)
 
     pub no_entry : reaches_entry r.kind ≡ false → 0 ≡ need_address l (relocation_need l o r)
     unfolding relocation_need
-    no_entry e = ap (need_address l) (sym (none_by (binding l o r) r.kind e))
+    no_entry e = ap (need_address l) (sym (none_by (binding l o r) (row r.kind).entry e))

@@ -1,4 +1,5 @@
 pub mod Given
+pub mod Laws
 pub mod Linking
 pub mod Needs
 pub mod Plans

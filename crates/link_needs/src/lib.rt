@@ -37,6 +37,7 @@
 #![tactic(auto)]
 
 mod inputs;
+pub mod laws;
 mod needs;
 mod plan;
 mod symbol_values;

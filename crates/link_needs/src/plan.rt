@@ -31,8 +31,8 @@ use tls_relocs::{Field, Overflow, value};
 
 /// A link whose table is laid out. Contracts see what decides it.
 #[derive(Drop)]
-pub struct Plan<'i, 'l, 's, 'a> {
-    pub inputs: &'i Inputs<'l, 's, 'a>,
+pub struct Plan<'l, 's, 'a> {
+    pub inputs: Inputs<'l, 's, 'a>,
     /// What each symbol of each object stands for.
     pub values: Vec<Vec<SymbolValue>>,
     /// Which sequence stands in the place of each site.
@@ -49,17 +49,17 @@ pub struct Plan<'i, 'l, 's, 'a> {
     pub counts_from_thread_pointer: bool,
 }
 
-impl<'i, 'l, 's, 'a> Model for Plan<'i, 'l, 's, 'a> {
+impl<'l, 's, 'a> Model for Plan<'l, 's, 'a> {
     ghost use Rattle.std.specs.Prelude.{map};
     ghost use Rattle.link_needs.specs.Linking.{Linking};
     ghost use Rattle.link_needs.specs.Plans.{IsPlan};
 
     ghost Value = { Linking };
 
-    ghost view = { λ plan. plan.inputs.now };
+    ghost view = { λ plan. plan.inputs };
 
     ghost invariant = { λ plan. IsPlan
-        plan.inputs.now (map (λ own. own.items) plan.values.items) (map (λ own. own.items) plan.choices.items) plan.got
+        plan.inputs (map (λ own. own.items) plan.values.items) (map (λ own. own.items) plan.choices.items) plan.got
         plan.got_start plan.stub_start plan.has_stub plan.is_rewriting plan.counts_from_thread_pointer };
 }
 
@@ -136,28 +136,31 @@ impl<'l, 's, 'a> Inputs<'l, 's, 'a> {
 }
 
 /// Lays out the table of a link behind its sections.
-pub fn plan_of<'i, 'l, 's, 'a>(
+pub fn plan_of<'l, 's, 'a>(
     alloc: Global,
-    inputs: &'i Inputs<'l, 's, 'a>,
-) -> Result<Plan<'i, 'l, 's, 'a>, AllocError>
-    requires { FitsTable inputs.now }
-    ensures { IfOk result (λ plan. plan ≡ inputs.now) }
+    inputs: Inputs<'l, 's, 'a>,
+) -> Result<Plan<'l, 's, 'a>, AllocError>
+    requires { FitsTable inputs }
+    ensures { IfOk result (λ plan. plan ≡ inputs.entry) }
 {
     let Wanted { needs, choices } = inputs.wanted(alloc)?;
     let got = plan(alloc, needs.as_slice(), inputs.kind, inputs.block_offset)?;
     let got_start = inputs.placement.room();
     let stub_start = page_up(got_start + got.size());
     let has_stub = inputs.has_stub(choices.as_slice());
+    let values = inputs.symbol_values(alloc)?;
+    let is_rewriting = inputs.is_rewriting();
+    let counts_from_thread_pointer = inputs.counts_from_thread_pointer();
     Ok(Plan {
         inputs,
-        values: inputs.symbol_values(alloc)?,
+        values,
         choices,
         got,
         got_start,
         stub_start,
         has_stub,
-        is_rewriting: inputs.is_rewriting(),
-        counts_from_thread_pointer: inputs.counts_from_thread_pointer(),
+        is_rewriting,
+        counts_from_thread_pointer,
     })
 }
 
@@ -174,7 +177,7 @@ fn goes(symbol: SymbolValue, kind: RelocationKind) -> bool
     }
 }
 
-impl<'i, 'l, 's, 'a> Plan<'i, 'l, 's, 'a> {
+impl<'l, 's, 'a> Plan<'l, 's, 'a> {
     /// The address of the entry of a need; 0 where there is none.
     pub fn need_address(&self, need: Option<Need<'a>>) -> u64
         ensures { result ≡ need_address self.now need.entry }
@@ -213,6 +216,13 @@ impl<'i, 'l, 's, 'a> Plan<'i, 'l, 's, 'a> {
         own[number]
     }
 
+    /// What is known of the link without its table.
+    pub fn into_inputs(self) -> Inputs<'l, 's, 'a>
+        ensures { result ≡ self.entry }
+    {
+        self.inputs
+    }
+
     /// Which sequence stands in the place of each site.
     pub fn into_choices(self) -> Vec<Vec<Choice>>
         ensures { map (λ own. own.items) result.items ≡ choices_from self.entry 0 self.entry.sites }
@@ -247,7 +257,7 @@ impl<'i, 'l, 's, 'a> Plan<'i, 'l, 's, 'a> {
         requires symbol { relocation.now.symbol < symbol_count (object_at self.now.objects object) }
         ensures { result ≡ need_address self.now (relocation_need self.now object relocation.now) }
     {
-        let inputs = self.inputs;
+        let inputs = &self.inputs;
         let bound = inputs.binding(object, relocation);
         self.need_address(inputs.need(object, relocation.symbol, bound, relocation.kind))
     }
@@ -259,7 +269,7 @@ impl<'i, 'l, 's, 'a> Plan<'i, 'l, 's, 'a> {
         requires symbol { relocation.now.symbol < symbol_count (object_at self.now.objects object) }
         ensures { result ≡ other_number self.now object relocation.now relocation.now.kind }
     {
-        let inputs = self.inputs;
+        let inputs = &self.inputs;
         let kind = relocation.kind;
         match kind.row().value {
             FieldValue::SegmentOffset if !self.counts_from_thread_pointer => 0,

@@ -1,5 +1,3 @@
-pub mod LinkFaults
-pub mod LinkLists
 pub mod ListedFields
 pub mod RelativesTables
 pub mod RelocationListLemmas

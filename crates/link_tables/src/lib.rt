@@ -22,17 +22,17 @@
 //! relocations    402000  TPOFF64     symbol 1, addend 0       the word holds x's distance from the thread pointer
 //! ```
 //!
-//! `prepare` asks the questions in their order, and `within_limits` those after names and places, for a linker that
-//! binds and lays at once. `symbols` and `relocations` write the tables' rows. Names are compared by hash: time is linear
-//! in objects, symbols and relocations, but for sorting the relocations of fields by their places.
+//! [`Tables`] are a link whose table is laid out, with the names that its dynamic tables have; [`symbols`] and
+//! [`relocations`] write the tables' rows. `link_core` asks the questions, in their order. Names are compared by hash:
+//! time is linear in objects, symbols and relocations, but for sorting the relocations of fields by their places.
 //!
 //! The tables are those of the gABI ("Symbol Table", "Relocation") and of the psABI ("Relocation Types").
 #![tactic(auto)]
 
-mod prepared;
 mod relocation_list;
 mod symbol_list;
+mod tables;
 
-pub use prepared::{Prepared, prepare, within_limits};
 pub use relocation_list::relocations;
 pub use symbol_list::symbols;
+pub use tables::Tables;

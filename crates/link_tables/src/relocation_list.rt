@@ -17,7 +17,7 @@ ghost use Rattle.link_tables.specs.Dynamic.{section_relocations, word_relocation
 ghost use Rattle.link_needs.specs.Linking.{block_offset, layout};
 ghost use Rattle.link_needs.specs.Needs.{entries, got_size, got_start};
 
-use crate::prepared::Prepared;
+use crate::tables::Tables;
 use elf_object::Relocation;
 use got_pairs::{DynamicKind, DynamicRelocation, DynamicSymbol, Entry, Word};
 use image_file::{ImageRelocation, LoaderKind};
@@ -41,29 +41,29 @@ fn loader_kind(kind: DynamicKind) -> LoaderKind
 
 /// How many symbols the image defines.
 #[tactic(auto, using(crate::proofs::RelocationListLemmas::few_symbols))]
-fn own_count(prepared: &Prepared) -> usize
-    ensures count { result ≡ length (own_symbols prepared.now) }
-    ensures few { length (own_symbols prepared.now) + length (imports prepared.now) ≤ 2 ^ 22 }
+fn own_count(tables: &Tables) -> usize
+    ensures count { result ≡ length (own_symbols tables.now) }
+    ensures few { length (own_symbols tables.now) + length (imports tables.now) ≤ 2 ^ 22 }
 {
-    prepared.own.len()
+    tables.own.len()
 }
 
 /// How many names it imports.
-fn import_count(prepared: &Prepared) -> usize
-    ensures { result ≡ length (imports prepared.now) }
+fn import_count(tables: &Tables) -> usize
+    ensures { result ≡ length (imports tables.now) }
 {
-    prepared.imports.len()
+    tables.imports.len()
 }
 
 /// The number of an import among the imports; 0 where there is no such import.
-fn import_number(prepared: &Prepared, name: &[u8]) -> usize
-    ensures number { result ≡ unwrap_or (position_from (bytes_eq name.now) 0 (imports prepared.now)) 0 }
-    ensures small { result ≤ length (imports prepared.now) }
+fn import_number(tables: &Tables, name: &[u8]) -> usize
+    ensures number { result ≡ unwrap_or (position_from (bytes_eq name.now) 0 (imports tables.now)) 0 }
+    ensures small { result ≤ length (imports tables.now) }
 {
-    prepared.imports.get_index_of(name).unwrap_or(0)
+    tables.imports.get_index_of(name).unwrap_or(0)
 }
 
-impl Prepared<'_, '_, '_> {
+impl Tables<'_, '_, '_> {
     /// The number of the symbol that a word of the table names.
     fn number_of(&self, symbol: &DynamicSymbol) -> u32
         ensures { result ≡ number_of self.now symbol.now }
@@ -143,7 +143,7 @@ fn entry_count(plan: &Plan) -> usize
 }
 
 /// What an entry holds, by its number.
-fn entry<'a>(plan: &Plan<'_, '_, '_, 'a>, number: usize) -> Option<Entry<'a>>
+fn entry<'a>(plan: &Plan<'_, '_, 'a>, number: usize) -> Option<Entry<'a>>
     ensures { result
         ≡ option_map (entry_of plan.now.kind (block_offset plan.now)) (slice_get (entries plan.now) number) }
 {
@@ -161,20 +161,16 @@ fn size_of(entry: &Entry) -> u64
 }
 
 /// Adds those of the table.
-fn push_got(
-    plan: &Plan,
-    prepared: &Prepared,
-    all: &mut Vec<ImageRelocation>,
-) -> Result<(), AllocError>
-    requires { plan.now ≡ prepared.now }
-    ensures { OnOk result (all.new.items ≡ all.old.items ++ got_relocations prepared.now) }
+fn push_got(tables: &Tables, all: &mut Vec<ImageRelocation>) -> Result<(), AllocError>
+    ensures { OnOk result (all.new.items ≡ all.old.items ++ got_relocations tables.now) }
 {
+    let plan = &tables.plan;
     let mut place = table_start(plan);
     for number in 0..entry_count(plan) {
         let Some(entry) = entry(plan, number) else {
             return Ok(());
         };
-        prepared.push_entry(place, &entry, all)?;
+        tables.push_entry(place, &entry, all)?;
         place += size_of(&entry);
     }
     Ok(())
@@ -200,7 +196,7 @@ fn push_field(
         return Ok(());
     }
     // What is known of a plan is known where a part of it is read.
-    let _inputs = plan.inputs;
+    let _inputs = &plan.inputs;
     let symbol = plan.symbol_value(object, relocation.symbol);
     let place = plan.own_number(relocation.kind, symbol);
     all.push(ImageRelocation {
@@ -247,7 +243,7 @@ fn found_fields(alloc: Global, plan: &Plan) -> Result<Vec<ImageRelocation>, Allo
     ensures { IfOk result (λ all. all.items ≡ object_relocations_from plan.now 0 plan.now.objects) }
 {
     let mut all = Vec::new(alloc);
-    let inputs = plan.inputs;
+    let inputs = &plan.inputs;
     for object in 0..inputs.objects.len() {
         push_object(plan, object, &mut all)?;
     }
@@ -258,7 +254,7 @@ fn found_fields(alloc: Global, plan: &Plan) -> Result<Vec<ImageRelocation>, Allo
 fn is_moved(plan: &Plan) -> bool
     ensures { result ≡ is_moved plan.now.kind }
 {
-    let inputs = plan.inputs;
+    let inputs = &plan.inputs;
     !matches!(inputs.kind, ImageKind::Exe)
 }
 
@@ -276,15 +272,10 @@ fn relatives(alloc: Global, plan: &Plan) -> Result<Vec<ImageRelocation>, AllocEr
 
 /// All relocations of an image, in the order of their places.
 #[tactic(auto, unfolding(crate::specs::Dynamic::image_relocations))]
-pub fn relocations(
-    alloc: Global,
-    plan: &Plan,
-    prepared: &Prepared,
-) -> Result<Vec<ImageRelocation>, AllocError>
-    requires { plan.now ≡ prepared.now }
-    ensures { IfOk result (λ all. all.items ≡ image_relocations prepared.now) }
+pub fn relocations(alloc: Global, tables: &Tables) -> Result<Vec<ImageRelocation>, AllocError>
+    ensures { IfOk result (λ all. all.items ≡ image_relocations tables.now) }
 {
-    let mut all = relatives(alloc, plan)?;
-    push_got(plan, prepared, &mut all)?;
+    let mut all = relatives(alloc, &tables.plan)?;
+    push_got(tables, &mut all)?;
     Ok(all)
 }

@@ -11,13 +11,13 @@ ghost use Rattle.link_tables.specs.Dynamic.{symbols, type_shown, visibility_show
 ghost use Rattle.link_needs.specs.Linking.{address, offset};
 ghost use Rattle.link_tables.specs.Named.{names_in, symbols_in};
 
-use crate::prepared::Prepared;
+use crate::tables::Tables;
 use elf_object::{Object, SectionClass, SymbolPlace};
 use got_pairs::Need;
 use image_file::{ImageSymbol, SymbolBinding, SymbolType, Visibility};
 use image_writer::NamedSymbol;
 use link_faults::SymbolRef;
-use link_needs::{Inputs, Plan};
+use link_needs::Inputs;
 use std::alloc::{AllocError, Global};
 
 /// The name of the function of the run time.
@@ -137,16 +137,15 @@ fn defined(inputs: &Inputs, found: SymbolRef) -> ImageSymbol
 #[tactic(auto, unfolding(crate::specs::Dynamic::symbols, crate::specs::Dynamic::names))]
 pub fn symbols<'a>(
     alloc: Global,
-    plan: &Plan,
-    prepared: &Prepared<'_, '_, 'a>,
+    tables: &Tables<'_, '_, 'a>,
 ) -> Result<Vec<NamedSymbol<'a>>, AllocError>
-    requires { plan.now ≡ prepared.now }
-    ensures symbols { IfOk result (λ all. symbols_in all.items ≡ symbols prepared.now) }
-    ensures names { IfOk result (λ all. names_in all.items ≡ names prepared.now) }
+    ensures symbols { IfOk result (λ all. symbols_in all.items ≡ symbols tables.now) }
+    ensures names { IfOk result (λ all. names_in all.items ≡ names tables.now) }
 {
+    let plan = &tables.plan;
     let mut all = Vec::new(alloc);
-    push_own(&prepared.inputs, prepared.own.as_slice(), &mut all)?;
-    push_imports(prepared.imports.as_slice(), &mut all)?;
+    push_own(&plan.inputs, tables.own.as_slice(), &mut all)?;
+    push_imports(tables.imports.as_slice(), &mut all)?;
     push_runtime(plan.got.start(&Need::RuntimeWord).is_some(), &mut all)?;
     Ok(all)
 }

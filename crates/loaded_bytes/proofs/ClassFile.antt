@@ -10,7 +10,7 @@ use Rattle.elf_object.specs.Lent.{relocations, section_bytes, section_class, sec
 use Rattle.link_core.proofs.Few.{table_fits}
 use Rattle.link_core.proofs.LengthsInside.{are_laid, got_longer, is_object}
 use Rattle.link_core.proofs.Standing.{byte_stands}
-use Rattle.link_core.proofs.StandingAway.{file_away}
+use Rattle.link_core.proofs.StandingParts.{gap_is_zero}
 use Rattle.link_core.proofs.StandingPlaces.{Lies, lies_at, lies_of}
 use Rattle.link_core.specs.Bytes.{file, got_bytes, raw_file, stub_bytes, with_got, with_part, with_stub}
 use Rattle.link_core.specs.Faults.{Links}
@@ -34,33 +34,6 @@ use Rattle.whole_meaning.specs.Spots.{Spot, begin_of, spot_in}
 use Rattle.loaded_bytes.proofs.Classes.{class_above, class_before, class_ends, rank, same_rank}
 use Rattle.loaded_bytes.proofs.Spots.{none_stands, standing}
 use Rattle.loaded_bytes.proofs.Zeros.{no_byte, no_relocations, no_site}
-
--- ** what lies behind the sections leaves them
-
-got_leaves : (l : Linking) (q : ℕ) (file : List ℕ) → q < length file
-    → slice_get (with_got l file) q ≡ slice_get file q
-got_leaves l q file inside = of_test (got_size l == 0)
-  where
-    of_test : (t : Bool) → slice_get (if t then file else with_part l (got_start l) (got_bytes l) file) q
-        ≡ slice_get file q
-    of_test true = refl
-    of_test false = slice_get-append file _ q inside
-
-stub_leaves : (l : Linking) (q : ℕ) (file : List ℕ) → q < length file
-    → slice_get (with_stub l file) q ≡ slice_get file q
-stub_leaves l q file inside = of_test (has_stub l)
-  where
-    of_test : (t : Bool) → slice_get (if t then with_part l (stub_start l) (stub_bytes l) file else file) q
-        ≡ slice_get file q
-    of_test true = slice_get-append file _ q inside
-    of_test false = refl
-
-raw_leaves : (l : Linking) (q : ℕ) → q < length (sections_file (layout l) l.objects)
-    → slice_get (raw_file l) q ≡ slice_get (sections_file (layout l) l.objects) q
-unfolding raw_file
-raw_leaves l q inside =
-    let sections = sections_file (layout l) l.objects in
-    stub_leaves l q (with_got l sections) (omega (arith, got_longer l sections, inside)) ∙ got_leaves l q sections inside
 
 -- the byte by what stands there, as it is in the file
 abbrev pub filed_byte : Linking → Option Spot → ℕ
@@ -153,30 +126,8 @@ module _ (l : Linking) (given : IsGiven l) (links : Links l) where
 
       none_byte : slice_get (file l) (offset_of (layout l) address) ≡ Some 0
       none_byte =
-          let laid = are_laid l given fits in
-          let q = offset_of (layout l) address in
-          let end = files_end l.kind l.objects laid in
           let last = class_ends (layout l) class (omega (arith, from, to)) in
-          let inside : q < length (sections_file (layout l) l.objects) = omega (arith, end, last, to, above) in
-          file_away l given fits q away
-          ∙ raw_leaves l q inside
-          ∙ gaps_are_zero l.kind l.objects q laid inside
-          (λ o s begin at. moved o s begin (lies_at l given fits o s begin at.0 at.1).above (lies_apart o s begin at.0 at.1))
-        where
-          away : (o t begin : ℕ) → Lies l o t begin
-              → (offset_of (layout l) address < offset_of (layout l) begin)
-              ⊎ (offset_of (layout l) (begin + section_size (object l o) t) ≤ offset_of (layout l) address)
-          away o t begin lies = elim (lies_apart o t begin lies.there lies.address_is) [
-            | inl before ↦ inl (omega (arith, above, before))
-            | inr behind ↦ inr (omega (arith, above, behind))
-          ]
-
-          moved : (o s begin : ℕ) → base_of l.kind ≤ begin
-              → (address < begin) ⊎ (begin + section_size (object l o) s ≤ address)
-              → (offset_of (layout l) address < offset_of (layout l) begin)
-              ⊎ (offset_of (layout l) begin + section_size (object l o) s ≤ offset_of (layout l) address)
-          moved o s begin low (inl before) = inl (omega (arith, above, before))
-          moved o s begin low (inr behind) = inr (omega (arith, above, behind, low))
+          gap_is_zero l given fits address above (omega (arith, last, to)) lies_apart
 
     -- ** which of the two it is
 

@@ -15,6 +15,7 @@ use Rattle.link_core.proofs.RelativesApart.{all_sorted}
 use Rattle.link_core.specs.Dynamic.{field_relocations, is_absolute, object_relocations, object_relocations_from, relative}
 use Rattle.link_core.specs.Dynamic.{relatives, section_relocations, sum_of}
 use Rattle.link_faults.specs.ImageKinds.{is_moved}
+use Rattle.link_needs.proofs.Reached.{contains_flat, contains_sorted}
 use Rattle.link_needs.specs.Linking.{Linking, object, place}
 use Rattle.link_needs.specs.Sorting.{inserted, sorted_by}
 
@@ -91,53 +92,6 @@ module _ (l : Linking) where
 
 contains_first : {X : Type 0} (x : X) (xs : List X) → Contains (x ∷ xs) x
 contains_first x xs = (0, omega arith, refl)
-
-contains_next : {X : Type 0} (y : X) (xs : List X) (x : X) → Contains xs x → Contains (y ∷ xs) x
-contains_next y xs x has = (suc has.0, (let lt = has.1 in omega arith), has.2)
-
-pub contains_flat : {X Y : Type 0} (f : Y → List X) (ys : List Y) (y : Y) (x : X) → Contains ys y → Contains (f y) x
-    → Contains (flat_map f ys) x
-contains_flat f [] y x has inner = absurd (omega (arith, has.1))
-contains_flat f (z ∷ more) y x has inner =
-    of_index has.0 has.1 has.2 (λ rest. contains_flat f more y x rest inner)
-  where
-    of_index : (i : ℕ) → i < length (z ∷ more) → slice_index_or (z ∷ more) i y ≡ y
-        → (Contains more y → Contains (flat_map f more) x) → Contains (f z ++ flat_map f more) x
-    of_index zero below at rest =
-        Contains-append_left (f z) (flat_map f more) x (subst (λ w. Contains (f w) x) (sym at) inner)
-    of_index (suc i) below at rest =
-        Contains-append_right (f z) (flat_map f more) x (rest (i, omega (arith, below), at))
-
-module _ {X : Type 0} (number : X → ℕ) where
-  contains_inserted : (x : X) (xs : List X) (z : X) → Contains (x ∷ xs) z → Contains (inserted number x xs) z
-  contains_inserted x [] z has = has
-  contains_inserted x (y ∷ ys) z has =
-      of_test (nat_le (number x) (number y)) (λ there. contains_inserted x ys z there)
-    where
-      of_index : (i : ℕ) → i < length (x ∷ (y ∷ ys)) → slice_index_or (x ∷ (y ∷ ys)) i z ≡ z
-          → (Contains (x ∷ ys) z → Contains (inserted number x ys) z) → Contains (y ∷ inserted number x ys) z
-      of_index zero below at rest =
-          contains_next y (inserted number x ys) z (rest (0, omega arith, at))
-      of_index (suc zero) below at rest = (0, omega arith, at)
-      of_index (suc (suc i)) below at rest =
-          contains_next y (inserted number x ys) z (rest (suc i, omega (arith, below), at))
-
-      of_test : (t : Bool) → (Contains (x ∷ ys) z → Contains (inserted number x ys) z)
-          → Contains (if t then x ∷ (y ∷ ys) else y ∷ inserted number x ys) z
-      of_test true rest = has
-      of_test false rest = of_index has.0 has.1 has.2 rest
-
-  pub contains_sorted : (xs : List X) (z : X) → Contains xs z → Contains (sorted_by number xs) z
-  contains_sorted [] z has = has
-  contains_sorted (x ∷ xs) z has =
-      contains_inserted x (sorted_by number xs) z
-      (of_index has.0 has.1 has.2 (λ there. contains_sorted xs z there))
-    where
-      of_index : (i : ℕ) → i < length (x ∷ xs) → slice_index_or (x ∷ xs) i z ≡ z
-          → (Contains xs z → Contains (sorted_by number xs) z) → Contains (x ∷ sorted_by number xs) z
-      of_index zero below at rest = (0, omega arith, at)
-      of_index (suc i) below at rest =
-          contains_next x (sorted_by number xs) z (rest (i, omega (arith, below), at))
 
 module _ (l : Linking) (o t : ℕ) (r : Relocation) (within : t < section_count (object l o))
     (has : Contains (relocations (object l o) t) r) (absolute : is_absolute r.kind ≡ true) where

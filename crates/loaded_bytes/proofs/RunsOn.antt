@@ -7,7 +7,6 @@ use Rattle.std.specs.List.{All, Contains, flat_map, list_any}
 use Rattle.std.proofs.lemmas.Bool.Decides.{nat_tests}
 use Rattle.std.proofs.lemmas.List.Elements.{All-append, All-cons, All-contains, All-nil}
 use Rattle.std.proofs.lemmas.List.Elements.{Contains-append_left, Contains-append_right}
-use Rattle.got_pairs.proofs.Served.{served}
 use Rattle.got_pairs.specs.declared.need.Need.{Need}
 use Rattle.got_pairs.specs.declared.need.Need.TheVariants.{ModulePair, SymbolPair, Descriptor, SymbolWord}
 use Rattle.got_pairs.specs.declared.need.Need.TheVariants.{AddressWord, RuntimeWord}
@@ -23,7 +22,8 @@ use Rattle.image_writer.specs.Tables.{tables_part}
 use Rattle.link_core.specs.Bytes.{file}
 use Rattle.link_core.specs.Images.{contents, file_kind, got_places, image_of, stub_places}
 use Rattle.link_faults.specs.ImageKinds.{base_of}
-use Rattle.link_needs.specs.Linking.{Linking, choice, layout}
+use Rattle.link_needs.proofs.Reached.{stubs_have_their_word, table_some}
+use Rattle.link_needs.specs.Linking.{Linking, layout}
 use Rattle.link_needs.specs.Needs.{any_stub_call, calls, calls_stub, entries, got_size, got_start, has_stub, is_kept}
 use Rattle.link_needs.specs.Needs.{is_stub_call, needs, object_needs_from, site_needs, site_needs_from, stub_start}
 use Rattle.loaded_modules.specs.declared.instance.Instance.{Instance}
@@ -45,74 +45,8 @@ use Rattle.loaded_bytes.proofs.Elsewhere.{Found, bounds, one, split, where_found
 use Rattle.loaded_bytes.proofs.Ranges.{still}
 use Rattle.loaded_bytes.proofs.Still.{fixed_is}
 
--- ** an image with a stub has a table
-
-size_some : (need : Need) → 0 < size_of need
-size_some ModulePair = omega arith
-size_some (SymbolPair x) = omega arith
-size_some (Descriptor x) = omega arith
-size_some (SymbolWord x) = omega arith
-size_some (AddressWord s p) = omega arith
-size_some RuntimeWord = omega arith
-
-table_some : (ks : List Need) (need : Need) → IsSome (start_of ks need) → 0 < total_size ks
-table_some [] need some = absurd (cc)
-table_some (k ∷ ks) need some = let first = size_some k in omega (arith, first)
-
-calls_too : (form : Form) → calls_stub form ≡ true → calls form ≡ true
-calls_too Gd e = refl
-calls_too Ld e = refl
-calls_too form e = absurd (cc)
-
-both : (a b : Bool) → (a && b) ≡ true → (a ≡ true) × (b ≡ true)
-both true b e = (refl, e)
-both false b e = absurd (cc)
-
 module _ (l : Linking) where
-  in_site : (o : ℕ) (site : Site) → is_stub_call l o site ≡ true → Contains (site_needs l o site) RuntimeWord
-  unfolding site_needs
-  in_site o site e =
-      let parts = both (is_kept (choice l o site)) (calls_stub site.form) e in
-      Contains-append_right _ (if is_kept (choice l o site) && calls site.form then RuntimeWord ∷ [] else []) RuntimeWord
-      (rw (parts.0, calls_too site.form parts.1) (0, omega arith, refl))
-
-  in_sites : (o : ℕ) (own : List Site) → list_any (is_stub_call l o) own ≡ true
-      → Contains (flat_map (site_needs l o) own) RuntimeWord
-  in_sites o [] e = absurd (cc)
-  in_sites o (site ∷ own) e = of_test (is_stub_call l o site) refl (in_sites o own)
-    where
-      of_test : (t : Bool) → is_stub_call l o site ≡ t
-          → (list_any (is_stub_call l o) own ≡ true → Contains (flat_map (site_needs l o) own) RuntimeWord)
-          → Contains (site_needs l o site ++ flat_map (site_needs l o) own) RuntimeWord
-      of_test true here later =
-          Contains-append_left (site_needs l o site) (flat_map (site_needs l o) own) RuntimeWord (in_site o site here)
-      of_test false here later =
-          Contains-append_right (site_needs l o site) (flat_map (site_needs l o) own) RuntimeWord
-          (later (rw here at e))
-
-  in_all : (o : ℕ) (sites : List (List Site)) → any_stub_call l o sites ≡ true
-      → Contains (site_needs_from l o sites) RuntimeWord
-  in_all o [] e = absurd (cc)
-  in_all o (own ∷ more) e = of_test (list_any (is_stub_call l o) own) refl e (in_all (o + 1) more)
-    where
-      of_test : (t : Bool) → list_any (is_stub_call l o) own ≡ t
-          → (if t then true else any_stub_call l (o + 1) more) ≡ true
-          → (any_stub_call l (o + 1) more ≡ true → Contains (site_needs_from l (o + 1) more) RuntimeWord)
-          → Contains (flat_map (site_needs l o) own ++ site_needs_from l (o + 1) more) RuntimeWord
-      of_test true here e later =
-          Contains-append_left (flat_map (site_needs l o) own) (site_needs_from l (o + 1) more) RuntimeWord
-          (in_sites o own here)
-      of_test false here e later =
-          Contains-append_right (flat_map (site_needs l o) own) (site_needs_from l (o + 1) more) RuntimeWord (later e)
-
-  pub stub_has_table : has_stub l ≡ true → 0 < got_size l
-  unfolding has_stub needs entries
-  stub_has_table e =
-      table_some (entries l) RuntimeWord
-      (All-contains (λ need. IsSome (start_of (entries_of (needs l)) need)) (needs l) RuntimeWord (served (needs l))
-      (Contains-append_left (site_needs_from l 0 l.sites) (object_needs_from l 0 l.objects) RuntimeWord (in_all 0 l.sites e)))
-
-  -- ** it lies on a later page than the table
+  -- ** the stub lies on a later page than the table, which is not empty
 
   page_next : (z s : ℕ) → 0 < s → page_up z + 4096 ≤ page_up (page_up z + s)
   unfolding page_up
@@ -127,7 +61,7 @@ module _ (l : Linking) where
 
   stub_behind : has_stub l ≡ true → room (layout l).kind (layout l).sections + 4096 ≤ stub_start l
   unfolding room
-  stub_behind e = page_next _ (got_size l) (stub_has_table e)
+  stub_behind e = page_next _ (got_size l) (table_some l RuntimeWord (stubs_have_their_word l e))
 
   -- ** all that is added begins behind the first bytes of the room, where it is run
 

@@ -9,5 +9,4 @@ pub mod Meant
 mod Named
 mod Runs
 pub mod Symbols
-mod Table
 pub mod Variables

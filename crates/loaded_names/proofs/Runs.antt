@@ -20,6 +20,8 @@ use Rattle.link_core.proofs.Few.{table_fits}
 use Rattle.link_core.proofs.Lengths.{places_inside}
 use Rattle.link_core.specs.Faults.{Links}
 use Rattle.link_core.specs.Images.{contents, file_kind, filled, got_places, image_of, places, section_places, stub_places}
+use Rattle.got_pairs.specs.declared.need.Need.TheVariants.{RuntimeWord}
+use Rattle.link_needs.proofs.Reached.{stubs_have_their_word, table_some}
 use Rattle.link_needs.specs.Given.{IsGiven}
 use Rattle.link_needs.specs.Linking.{Linking, layout}
 use Rattle.link_needs.specs.Needs.{got_size, got_start, has_stub, stub_start}
@@ -28,7 +30,6 @@ use Rattle.tls_layout.specs.declared.extent.Extent.{Extent}
 use Rattle.tls_layout.specs.Laws.{extent_for}
 use Rattle.tls_layout.specs.Places.{executable, read_only, room, tls_image, writable}
 use Rattle.tls_layout.proofs.Together.{page_up-above}
-use Rattle.loaded_names.proofs.Table.{table_some}
 
 -- ** lists
 
@@ -131,7 +132,7 @@ module _ (l : Linking) (given : IsGiven l) (links : Links l) where
             ≡ false
         of_test true has =
             let up = page_up-above (got_start l + got_size l) in
-            rw (lt-leb (stub_start l) at (omega (arith, low, table_some l has, up))) refl
+            rw (lt-leb (stub_start l) at (omega (arith, low, table_some l RuntimeWord (stubs_have_their_word l has), up))) refl
         of_test false none = refl
 
     -- the part of the code runs what lies in the class

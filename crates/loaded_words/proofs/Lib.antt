@@ -6,7 +6,6 @@ pub mod Read
 pub mod Rows
 pub mod Stub
 pub mod StubJump
-pub mod StubWord
 pub mod Table
 pub mod Tables
 pub mod Tests

@@ -26,7 +26,7 @@ use Rattle.link_core.proofs.LengthsPlaces.{base_before}
 use Rattle.link_core.proofs.LengthsRaw.{stub_length}
 use Rattle.link_core.proofs.Linkable.{linkable}
 use Rattle.link_core.proofs.LoadsTls.{same_base}
-use Rattle.link_core.proofs.StandingTable.{stub_at}
+use Rattle.link_core.proofs.StandingParts.{stub_index, stub_is_part, stub_part}
 use Rattle.link_core.specs.Bytes.{file, stub_bytes}
 use Rattle.link_core.specs.Dynamic.{got_relocations, image_relocations, relatives}
 use Rattle.link_core.specs.Images.{contents, file_kind, got_places, image_of, places, section_places, stub_places}
@@ -51,64 +51,8 @@ use Rattle.loaded_bytes.proofs.Ranges.{found_in_part, still}
 use Rattle.loaded_words.proofs.Tests.{none_found, written_from}
 use Rattle.loaded_words.proofs.Words.{no_relative}
 
-abbrev stub_place : Linking → PartPlace
-stub_place l = record { class = Executable; address = stub_start l; size = 6 }
-
-abbrev stub_part : Linking → Part
-stub_part l = part_in (file_kind l.kind) (file l) (stub_place l)
-
-abbrev stub_index : Linking → ℕ
-stub_index l = length (section_places (layout l) ++ got_places l)
-
 module _ (l : Linking) (has : has_stub l ≡ true) where
-  place_at : slice_get (places l) (stub_index l) ≡ Some (stub_place l)
-  unfolding places
-  place_at =
-      let first = section_places (layout l) in
-      let none : length (first ++ got_places l) - length first - length (got_places l) ≡ 0 =
-      omega (arith, length-append first (got_places l)) in
-      let two = length-append first (got_places l) in
-      slice_get-append_behind first (got_places l ++ stub_places l) (stub_index l) (omega (arith, two))
-      ∙ slice_get-append_behind (got_places l) (stub_places l) (stub_index l - length first) (omega (arith, two))
-      ∙ ap (slice_get (stub_places l)) none
-      ∙ rw has refl
-
-  at_index : slice_get (image_of l).parts (stub_index l) ≡ Some (stub_part l)
-  unfolding image_of finished contents
-  at_index =
-      let f : PartPlace → Part = part_in (file_kind l.kind) (file l) in
-      let made : slice_get (map f (places l)) (stub_index l) ≡ Some (stub_part l) =
-      slice_get-map f (places l) (stub_index l) ∙ ap (option_map f) place_at in
-      slice_get-append (map f (places l)) (tables_part (contents l) ∷ []) (stub_index l)
-      (slice_get_within (map f (places l)) (stub_index l) (stub_part l) made)
-      ∙ made
-
   module _ (given : IsGiven l) (limits : FitsTable l) where
-    stub_size : length (stub_part l).bytes ≡ 6
-    stub_size =
-        let below = slice_get_within (places l) (stub_index l) (stub_place l) place_at in
-        let P : PartPlace → Type 0 = λ p. file_offset (file_kind l.kind) p.address + p.size ≤ length (file l) in
-        let is : slice_index_or (places l) (stub_index l) no_part ≡ stub_place l =
-        get_or_from_slice_get (places l) (stub_index l) (stub_place l) no_part place_at in
-        part_length 6 (file_offset (file_kind l.kind) (stub_start l)) (file l)
-        (subst P is (places_inside l given limits (stub_index l) no_part below))
-
-    filed : (k byte : ℕ) → slice_get (stub_bytes l) k ≡ Some byte → slice_get (stub_part l).bytes k ≡ Some byte
-    unfolding part_at
-    filed k byte e =
-        let lies = slice_get_within (stub_bytes l) k byte e in
-        let long = stub_length l given limits in
-        let up = page_up-above (got_start l + got_size l) in
-        let place : file_offset (file_kind l.kind) (stub_start l) + k ≡ offset_of (layout l) (stub_start l) + k =
-        omega (arith, same_base l.kind, base_before l, up) in
-        slice_get-take 6 k _ (omega (arith, lies, long))
-        ∙ slice_get-drop (file_offset (file_kind l.kind) (stub_start l)) k (file l)
-        ∙ ap (slice_get (file l)) place
-        ∙ sym (slice_get-drop (offset_of (layout l) (stub_start l)) k (file l))
-        ∙ sym (slice_get-take 6 k _ (omega (arith, lies, long)))
-        ∙ ap (λ bytes. slice_get bytes k) (stub_at l given limits has)
-        ∙ e
-
     -- no loader writes in it
     unwritten : (address : ℕ) → stub_start l ≤ address → find (is_written_at address) (image_of l).relocations ≡ None
     unfolding image_of finished contents image_relocations
@@ -133,7 +77,7 @@ stub_byte ls l x k byte is has e =
     let link = linkable l is.given is.links.sound in
     let lies = slice_get_within (stub_bytes l) k byte e in
     let size = stub_length l is.given limits in
-    let long = stub_size l has is.given limits in
+    let part = stub_is_part l has is.given limits in
     let made : IsMade m (contents l) x = record { linkable = link; image = image_is ls l x is.image } in
     let index : stub_start l + k - stub_start l ≡ k = omega arith in
     ap (λ (ranges : List (Range ℕ)). byte_in Run ranges (stub_start l + k + bias_of l.kind x.number))
@@ -141,13 +85,12 @@ stub_byte ls l x k byte is has e =
     ∙ ap (λ b. byte_in Run (still (parts_from m (image_of l) x 0 (image_of l).parts)) (stub_start l + k + b))
     (sym (image_bias l x.number))
     ∙ found_in_part m (image_of l) x Run (stub_start l + k) (stub_part l) (omega arith)
-    (omega (arith, long, lies, size)) 0 (stub_index l) (stub_index l) (image_of l).parts (omega arith) (at_index l has)
+    (omega (arith, lies)) 0 (stub_index l) (stub_index l) (image_of l).parts (omega arith) part
     (λ j q less there.
-    let before = parts_follow (contents l) link j (stub_index l) q (stub_part l) there (at_index l has) less in
+    let before = parts_follow (contents l) link j (stub_index l) q (stub_part l) there part less in
     omega (arith, before))
     refl refl
     ∙ ap (slice_get (part_bytes m (image_of l) x (stub_part l))) index
-    ∙ (part_left m (contents l) x (stub_index l) (stub_part l) made (at_index l has)).each k byte
-    (filed l has is.given limits k byte e)
+    ∙ (part_left m (contents l) x (stub_index l) (stub_part l) made part).each k byte e
     ∙ ap (λ o. Some (byte_by m (image_of l) x (stub_start l + k) byte o))
     (unwritten l has is.given limits (stub_start l + k) (omega arith))

@@ -35,6 +35,7 @@ use Rattle.link_core.proofs.StandingTable.{stub_jumps}
 use Rattle.link_core.specs.Bytes.{stub_bytes}
 use Rattle.link_faults.specs.declared.image_kind.ImageKind.{ImageKind}
 use Rattle.link_faults.specs.ImageKinds.{is_moved}
+use Rattle.link_needs.proofs.Reached.{stubs_have_their_word}
 use Rattle.link_needs.specs.Given.{FitsTable, IsGiven}
 use Rattle.link_needs.specs.Linking.{Linking}
 use Rattle.link_needs.specs.Needs.{entries, entry_by, got_start, need_address, stub_start}
@@ -46,7 +47,6 @@ use Rattle.tls_relocs.specs.Fields.{field_bytes}
 use Rattle.tls_relocs.specs.Values.{stored_field}
 use Rattle.whole_meaning.specs.Spots.{bias_of}
 use Rattle.loaded_words.proofs.Stub.{stub_byte}
-use Rattle.loaded_words.proofs.StubWord.{stub_word}
 use Rattle.loaded_words.specs.Laws.{StubIsLoaded}
 
 -- ** how the six bytes are read
@@ -112,10 +112,6 @@ bias_low kind number low = of_test (is_moved kind)
 
 -- ** the instruction
 
-has_value : (o : Option ℕ) → IsSome o → (n : ℕ) × (o ≡ Some n)
-has_value None some = absurd (cc)
-has_value (Some n) some = (n, refl)
-
 module _ (l : Linking) (given : IsGiven l) (limits : FitsTable l) where
   abbrev jump : ℕ
   jump = cast_unsigned w32 (pos (need_address l (Some RuntimeWord)) -ℤ pos (stub_start l + 6))
@@ -138,8 +134,8 @@ pub stub_loaded : StubIsLoaded
 stub_loaded ls l x history known is has =
     let m = images_of ls in
     let limits = table_fits l is.given is.links.sound.limits in
-    let start = has_value (start_of (entries l) RuntimeWord) (stub_word l has) in
-    let place : need_address l (Some RuntimeWord) ≡ got_start l + start.0 = ap (entry_by l) start.1 in
+    let start = stubs_have_their_word l has in
+    let place : need_address l (Some RuntimeWord) ≡ got_start l + start.at = ap (entry_by l) start.starts in
     let number = (known_given (job_loads m) history known.legal x.number x known.known).low in
     let bias = bias_of l.kind x.number in
     let moved = bias_low l.kind x.number number in
@@ -147,7 +143,7 @@ stub_loaded ls l x history known is has =
     let small = stub_small l is.given limits in
     let long = stub_length l is.given limits in
     let goes : plus (stub_start l + bias_of l.kind x.number + 6) (field_of (bytes_of 4 (jump l is.given limits)))
-    ≡ got_start l + start.0 + bias_of l.kind x.number =
+    ≡ got_start l + start.at + bias_of l.kind x.number =
     ap (plus (stub_start l + bias_of l.kind x.number + 6))
     (far_is (stub_start l) (need_address l (Some RuntimeWord)) before small)
     ∙ goes_to (stub_start l) (need_address l (Some RuntimeWord)) before small (bias_of l.kind x.number)
@@ -163,7 +159,7 @@ stub_loaded ls l x history known is has =
           ap (byte_in Run ((job_loads m).fixed x)) order
           ∙ stub_byte ls l x k (slice_index_or (stub_bytes l) k 0) is has own
           ∙ sym own;
-      at = start.0;
-      starts = start.1;
+      at = start.at;
+      starts = start.starts;
       goes = goes;
     }

@@ -6,7 +6,11 @@ use Rattle.std.specs.List.{list_any}
 use Rattle.std.proofs.lemmas.Bool.{le-leb}
 use Rattle.std.proofs.lemmas.Option.{same_Some}
 use Rattle.image_file.specs.Spelled.{Part, Spelled}
+use Rattle.link_core.proofs.Few.{table_fits}
+use Rattle.link_core.proofs.LengthsRaw.{got_length}
+use Rattle.link_core.proofs.StandingParts.{got_index, got_is_part, got_part}
 use Rattle.link_core.specs.Images.{image_of}
+use Rattle.link_needs.proofs.Reached.{entry_within}
 use Rattle.link_needs.specs.Needs.{got_size, got_start}
 use Rattle.loaded_modules.specs.declared.instance.Instance.{Instance}
 use Rattle.loaded_modules.specs.Images.{JobImages}
@@ -19,7 +23,6 @@ use Rattle.whole_meaning.specs.Spots.{bias_of}
 use Rattle.loaded_bytes.specs.Laws.{images_of}
 use Rattle.loaded_bytes.proofs.Biases.{image_bias}
 use Rattle.loaded_bytes.proofs.Still.{image_is}
-use Rattle.loaded_words.proofs.Table.{got_index, got_part, inside_table, part_at_index, part_size}
 use Rattle.loaded_words.specs.Laws.{TablesHold}
 
 or_true : (a b : Bool) → b ≡ true → (a || b) ≡ true
@@ -53,9 +56,10 @@ pub tables_hold : TablesHold
 unfolding job_loads
 tables_hold ls l x need at is starts wide =
     let m = images_of ls in
-    let inside = inside_table l need at starts in
+    let inside = entry_within l need (record { at = at; starts = starts }) in
     let some : 0 < got_size l = omega (arith, inside, wide) in
-    let long = part_size l some is.given is.links in
+    let long = got_length l in
+    let part = got_is_part l some is.given (table_fits l is.given is.links.sound.limits) in
     let kept = left_long m (image_of l) x (got_part l) in
     let moved = image_bias l x.number in
     let begins : got_start l + bias (image_of l).kind x.number ≤ got_start l + at + bias_of l.kind x.number =
@@ -66,7 +70,7 @@ tables_hold ls l x need at is starts wide =
     ap (λ image. list_any (has_words (got_start l + at + bias_of l.kind x.number)) (tables_in m x image))
     (image_is ls l x is.image)
     ∙ among m (image_of l) x (got_start l + at + bias_of l.kind x.number) (got_part l) 0 (got_index l) (got_index l)
-    (image_of l).parts (omega arith) (part_at_index l some) refl
+    (image_of l).parts (omega arith) part refl
     (rw (
       le-leb (got_start l + bias (image_of l).kind x.number) (got_start l + at + bias_of l.kind x.number) begins,
       le-leb (got_start l + at + bias_of l.kind x.number + 16)

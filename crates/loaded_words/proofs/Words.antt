@@ -10,6 +10,7 @@ use Rattle.std.proofs.lemmas.List.Folds.{find-append}
 use Rattle.std.proofs.lemmas.Option.{same_Some, slice_get_within}
 use Rattle.elf_records.specs.Fields.{bytes_of}
 use Rattle.elf_records.specs.Laws.{length-bytes_of}
+use Rattle.got_pairs.proofs.Equal.{start_among}
 use Rattle.got_pairs.specs.declared.entry.Entry.{Entry}
 use Rattle.got_pairs.specs.declared.entry.Entry.TheVariants.{One, Two}
 use Rattle.got_pairs.specs.declared.need.Need.{Need}
@@ -44,7 +45,7 @@ use Rattle.thread_blocks.specs.JobLoads.{job_loads}
 use Rattle.loaded_words.proofs.Entries.{Fits, IsRow, byte_left, row}
 use Rattle.loaded_words.proofs.Names.{entry_fits}
 use Rattle.loaded_words.proofs.Placed.{placed}
-use Rattle.loaded_words.proofs.Rows.{row_found, start_among}
+use Rattle.loaded_words.proofs.Rows.{row_found}
 use Rattle.loaded_words.proofs.Table.{found}
 use Rattle.loaded_words.proofs.Tests.{none_found, written_from}
 use Rattle.loaded_words.specs.Laws.{HasWord, IsPlaced, WordsAreLoaded}

@@ -1,4 +1,5 @@
 pub mod Blocks
+pub mod Covered
 pub mod Found
 pub mod Fold
 pub mod Loaded

@@ -1,6 +1,6 @@
 -- The parts and the blocks of an instance, byte by byte.
 use Rattle.std.specs.Prelude.{◌≡◌, ◌+◌, ◌-◌, ◌<◌, ◌≤◌, ◌⊎◌, ℕ, List, Some, length, slice_get}
-use Rattle.std.specs.List.{All}
+use Rattle.std.specs.List.{All, Contains}
 use Rattle.image_file.specs.declared.part.TlsPart.{TlsPart}
 use Rattle.image_file.specs.declared.relocation.ImageRelocation.{ImageRelocation}
 use Rattle.image_file.specs.Spelled.{Part, Spelled}
@@ -10,7 +10,7 @@ use Rattle.image_writer.specs.Tables.{finished}
 use Rattle.loaded_modules.specs.declared.instance.Instance.{Instance}
 use Rattle.loaded_modules.specs.Images.{JobImages, image_at}
 use Rattle.loaded_modules.specs.Loader.{fresh_block, loaded_part, part_bytes}
-use Rattle.relocated_parts.specs.Left.{left_byte}
+use Rattle.relocated_parts.specs.Left.{left_byte, written_byte}
 
 -- ** parts
 
@@ -46,6 +46,23 @@ pub record IsMade (m : JobImages) (c : Contents) (x : Instance) : Type 0 where
 abbrev pub LoadedPartsAreLeft : Type 0
 LoadedPartsAreLeft = (m : JobImages) (c : Contents) (x : Instance) (i : ℕ) (part : Part) → IsMade m c x
     → slice_get (finished c).parts i ≡ Some part → IsLeft m (finished c) x part (loaded_part m x i)
+
+-- the relocation writes the byte at the address
+abbrev pub Covers : ImageRelocation → ℕ → Type 0
+Covers r address = (r.place ≤ address) × (address < r.place + width r.kind)
+
+-- each byte is of the word of whatever relocation covers it, and the part's own where none does
+pub record AreCovered (m : JobImages) (image : Spelled) (x : Instance) (part : Part) (bytes : List ℕ) : Type 0 where
+  pub written : (k : ℕ) (r : ImageRelocation) → k < length part.bytes → Contains image.relocations r
+      → Covers r (part.address + k)
+      → slice_get bytes k ≡ Some (written_byte m image x r (part.address + k - r.place))
+  pub own : (k own : ℕ) → slice_get part.bytes k ≡ Some own
+      → ((r : ImageRelocation) → Contains image.relocations r → Covers r (part.address + k) → ⊥)
+      → slice_get bytes k ≡ Some own
+
+abbrev pub LoadedBytesAreCovered : Type 0
+LoadedBytesAreCovered = (m : JobImages) (c : Contents) (x : Instance) (i : ℕ) (part : Part) → IsMade m c x
+    → slice_get (finished c).parts i ≡ Some part → AreCovered m (finished c) x part (loaded_part m x i)
 
 -- a thread's block before any write: the initial image, as the instance has the part that it stands in, and zeros
 pub record IsBlock (m : JobImages) (c : Contents) (x : Instance) (t : TlsPart) (bytes : List ℕ) : Type 0 where

@@ -7,7 +7,7 @@
 //!
 //! The rule of the crate: **a byte of an instance is a digit of the word that a relocation writes there, or else the
 //! part's own**. It holds of code, constants, the initial image of thread-local storage, data and tables alike
-//! ([`parts_are_left`], [`loaded_parts_are_left`]), and of the block that each thread begins with, which is taken from
+//! ([`parts_are_left`], [`loaded_parts_are_left`], [`loaded_bytes_are_covered`]), and of the block that each thread begins with, which is taken from
 //! the initial image as the instance has it, and not as the file has it ([`blocks_are_left`]).
 //!
 //! For example, an initial image at 0x3000 holds 8 bytes, and RELATIVE with the addend 0x1010 names its first. Instance
@@ -24,4 +24,4 @@
 
 mod laws;
 
-pub use laws::{blocks_are_left, loaded_parts_are_left, parts_are_left};
+pub use laws::{blocks_are_left, loaded_bytes_are_covered, loaded_parts_are_left, parts_are_left};

@@ -12,6 +12,7 @@ use Rattle.elf_object.specs.Lent.{relocations}
 use Rattle.elf_object.specs.Relocations.{field_width}
 use Rattle.link_core.proofs.StandingSteps.{one_found}
 use Rattle.link_core.proofs.Together.{together}
+use Rattle.link_core.proofs.TogetherPlaces.{covers_is, covers_so}
 use Rattle.link_core.specs.Meant.{is_in_field, is_in_rewritten}
 use Rattle.link_needs.specs.Given.{IsGiven}
 use Rattle.link_needs.specs.Linking.{Linking, choice, object, sites_at}
@@ -28,14 +29,6 @@ use Rattle.standing_sequences.specs.Table.{IsSequence}
 use Rattle.standing_sequences.proofs.Choosing.{matches}
 
 -- ** tests
-
-covers_is : (m n a k e : ℕ) (kept : Bool) → ((m == n) && (nat_le a k && nat_lt k e) && not kept) ≡ true
-    → (m ≡ n) × (a ≤ k) × (k < e) × (kept ≡ false)
-covers_is m n a k e kept h = grind (arith, nat_tests)
-
-covers_so : (m n a k e : ℕ) (kept : Bool) → m ≡ n → a ≤ k → k < e → kept ≡ false
-    → ((m == n) && (nat_le a k && nat_lt k e) && not kept) ≡ true
-covers_so m n a k e kept same low high off = grind (arith, nat_tests)
 
 field_is : (a k e : ℕ) (gone : Bool) → ((nat_le a k && nat_lt k e) && not gone) ≡ true
     → (a ≤ k) × (k < e) × (gone ≡ false)

@@ -2,7 +2,6 @@ mod Choosing
 mod Covering
 mod Example
 mod Kept
-mod NewValues
 mod Parts
 mod Rewritten
 mod Rows

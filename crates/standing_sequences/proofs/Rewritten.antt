@@ -8,6 +8,7 @@ use Rattle.elf_object.specs.Lent.{relocations, section_bytes, section_size}
 use Rattle.elf_records.specs.Fields.{splice}
 use Rattle.elf_records.specs.Laws.{length-splice}
 use Rattle.link_core.proofs.LengthsKept.{new_width}
+use Rattle.link_core.proofs.NewFields.{new_fields_fit}
 use Rattle.link_core.proofs.StandingPlaces.{site_in}
 use Rattle.link_core.specs.Images.{image_of}
 use Rattle.link_core.specs.Meant.{field_byte, is_in_field, meant_byte, rewritten_bytes, site_byte}
@@ -31,7 +32,6 @@ use Rattle.standing_sequences.specs.Table.{IsSequence, Matches}
 use Rattle.standing_sequences.proofs.Choosing.{listed_changes, listed_own, matched}
 use Rattle.standing_sequences.proofs.Covering.{own_site, rewritten_found}
 use Rattle.standing_sequences.proofs.Kept.{image_byte, limits}
-use Rattle.standing_sequences.proofs.NewValues.{new_value}
 use Rattle.standing_sequences.proofs.Values.{field_long}
 
 kept_not : (choice : Choice) → is_kept choice ≡ false → choice ≢ Keep
@@ -44,9 +44,6 @@ module _ (l : Linking) (linked : IsLinked l) (o t address : ℕ) (at : IsSection
   off = ap is_kept (matched l o site c m) ∙ listed_changes site.form m.bound c m.listed
 
   -- where the site lies
-  own_section : IsSequence l o site.section site
-  own_section = record { section_is = refl; spelled = is.spelled }
-
   has : Contains (sites_at l o) site
   has = own_site l linked.given o t at.there site is
 
@@ -65,7 +62,8 @@ module _ (l : Linking) (linked : IsLinked l) (o t address : ℕ) (at : IsSection
   value_of : (new : NewField) → new_field site.form c ≡ Some new
       → (value : Field) × (field l o site.section (new_relocation site new) ≡ Some value)
   value_of new e =
-      new_value l linked o at.there site own_section c m (limits l linked o t address at) new e
+      new_fields_fit l o site new linked.given linked.links at.there has
+      (ap (new_field site.form) (matched l o site c m) ∙ e)
 
   -- a field has four bytes, and ends with its row
   value_long : (new : NewField) (e : new_field site.form c ≡ Some new) (value : Field)

@@ -68,20 +68,6 @@ pub field_long : (l : Linking) (o t : ℕ) (r : Relocation) (value : Field) → 
 unfolding field
 field_long l o t r value e = kind_exact r.kind _ r.addend _ _ value e
 
--- ** that it fits
-
--- the difference of two small numbers
-pub difference_fits : (z : ℤ) (a b : ℕ) → z +ℤ pos b ≡ pos a → a < 2 ^ 31 → b < 2 ^ 31
-    → (value : Field) × (signed_field z ≡ Some value)
-difference_fits (pos n) a b e small low =
-    let sum : n + b ≡ a = omega (arith, ints, e) in
-    let yes = lt-ltb n (2 ^ 31) (omega (arith, sum, small)) in
-    (Word32 (modulo (2 ^ 32) (pos n)), rw yes refl)
-difference_fits (negsuc n) a b e small low =
-    let sum : n + 1 + a ≡ b = omega (arith, ints, e) in
-    let yes = lt-ltb n (2 ^ 31) (omega (arith, sum, low)) in
-    (Word32 (modulo (2 ^ 32) (negsuc n)), rw yes refl)
-
 -- ** that of an object's own relocation
 
 -- a section's relocations are held by its table

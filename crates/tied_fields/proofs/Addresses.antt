@@ -26,6 +26,7 @@ use Rattle.link_faults.specs.declared.image_kind.ImageKind.{ImageKind}
 use Rattle.link_faults.specs.declared.image_kind.ImageKind.TheVariants.{Exe, Pie, Start, Late}
 use Rattle.link_faults.specs.declared.symbol_ref.SymbolRef.{SymbolRef}
 use Rattle.link_faults.specs.ImageKinds.{base_of}
+use Rattle.link_needs.proofs.Reached.{fields_reach_entries}
 use Rattle.link_needs.specs.Linking.{Linking, address, binding, object, place}
 use Rattle.link_needs.specs.Needs.{address_need, entries, entry_by, got_start, is_address_kind, need_address, need_by}
 use Rattle.link_needs.specs.Needs.{relocation_need}
@@ -58,7 +59,6 @@ use Rattle.whole_meaning.specs.Spots.{bias_of}
 use Rattle.tied_fields.specs.Laws.{AddressFieldsAreTied}
 use Rattle.tied_fields.proofs.Fields.{bound, covers_so, four_loaded, value}
 use Rattle.tied_fields.proofs.Marks.{AtField, IsAddress, at_field, is_address, mark_is}
-use Rattle.tied_fields.proofs.Needed.{entry}
 use Rattle.tied_fields.proofs.Numbers.{field_is, field_long, reaches}
 
 impossible : {X : Type 0} → false ≡ true → X
@@ -169,17 +169,16 @@ module _ (ls : List Linking) (l : Linking) (x : Instance) (is : IsInstanceOf ls 
       let t = at.spot.section in
       let bias = bias_of l.kind x.number in
       let m = minus_is addend size minus in
-      let word = entry l at.spot.object at.spot.section at.field v
-      (class_in_table (object l at.spot.object) at.spot.section (rw stands.class_is refl)).1 found.among kind.kind_is e
-      stands.there in
-      let reached : need_address l (relocation_need l at.spot.object at.field) ≡ got_start l + word.0 =
+      let word = fields_reach_entries l o t at.field v stands.there
+      (class_in_table (object l o) t (rw stands.class_is refl)).1 found.among kind.kind_is e in
+      let reached : need_address l (relocation_need l at.spot.object at.field) ≡ got_start l + word.at =
       ap (need_address l) (need_of l at.spot.object at.field.symbol (binding l at.spot.object at.field) at.field.kind
-      kind.kind_is ∙ ap (address_need l) e) ∙ ap (entry_by l) word.1 in
+      kind.kind_is ∙ ap (address_need l) e) ∙ ap (entry_by l) word.starts in
       let far : ℤ =
-      (pos (got_start l + word.0) +ℤ negsuc m.0) -ℤ pos (place l at.spot.object at.spot.section at.field.offset) in
-      let holds : signed_field ((pos (got_start l + word.0) +ℤ negsuc m.0)
+      (pos (got_start l + word.at) +ℤ negsuc m.0) -ℤ pos (place l at.spot.object at.spot.section at.field.offset) in
+      let holds : signed_field ((pos (got_start l + word.at) +ℤ negsuc m.0)
       -ℤ pos (place l at.spot.object at.spot.section at.field.offset)) ≡ Some held.0 =
-      ap (λ a. signed_field ((pos (got_start l + word.0) +ℤ a)
+      ap (λ a. signed_field ((pos (got_start l + word.at) +ℤ a)
       -ℤ pos (place l at.spot.object at.spot.section at.field.offset))) (sym m.1 ∙ kind.addend_is)
       ∙ ap (λ g. signed_field ((pos g +ℤ at.field.addend)
       -ℤ pos (place l at.spot.object at.spot.section at.field.offset))) (sym reached)
@@ -195,22 +194,22 @@ module _ (ls : List Linking) (l : Linking) (x : Instance) (is : IsInstanceOf ls 
       let four_is = four_loaded l is.given is.links is.stray at.spot.object at.spot.section at.spot.within stands.there
       at.field found.among inside at.outside ls x is stands.class_is here four held.0 (wide at.field.kind kind.kind_is) long
       left where_is bytes in
-      let read : field_of four ≡ modulo (2 ^ 64) ((pos (got_start l + word.0) +ℤ negsuc m.0)
+      let read : field_of four ≡ modulo (2 ^ 64) ((pos (got_start l + word.at) +ℤ negsuc m.0)
       -ℤ pos (place l at.spot.object at.spot.section at.field.offset)) =
       ap field_of four_is ∙ field_is far held.0 holds in
-      let leads : plus (plus here size) (field_of four) ≡ got_start l + word.0 + bias_of l.kind x.number =
+      let leads : plus (plus here size) (field_of four) ≡ got_start l + word.at + bias_of l.kind x.number =
       ap (λ h. plus (plus h size) (field_of four)) where_is
       ∙ ap (λ s. plus (plus (place l at.spot.object at.spot.section at.field.offset + bias_of l.kind x.number) s)
       (field_of four)) (sym m.2)
       ∙ ap (plus (plus (place l at.spot.object at.spot.section at.field.offset + bias_of l.kind x.number) (suc m.0))) read
-      ∙ reaches (got_start l + word.0) (place l at.spot.object at.spot.section at.field.offset) (bias_of l.kind x.number) m.0
-      ∙ whole (got_start l + word.0 + bias_of l.kind x.number) (low v word.0 word.1) in
+      ∙ reaches (got_start l + word.at) (place l at.spot.object at.spot.section at.field.offset) (bias_of l.kind x.number) m.0
+      ∙ whole (got_start l + word.at + bias_of l.kind x.number) (low v word.at word.starts) in
       let number_is : number ≡ (address l v + bias_of l.kind x.number) % 2 ^ 64 =
       kind.number_is ∙ ap (λ b. symbol_number l (bias_of l.kind x.number) at.field.kind b % 2 ^ 64) e
       ∙ ap (λ n. n % 2 ^ 64) (number_of l (bias_of l.kind x.number) at.field.kind v kind.kind_is) in (
         omega (arith, number_is),
         λ k below. ap (λ p. byte_in Read ((job_loads (images_of ls)).fixed x) (p + k)) leads
-            ∙ words v word.0 word.1 k below
+            ∙ words v word.at word.starts k below
             ∙ ap Some (sym (ap (λ n. digit n k) number_is ∙ reduced (address l v + bias_of l.kind x.number) k below)),
       )
     where

@@ -76,7 +76,6 @@ module _ (ls : List Linking) (history : List Event) (l : Linking) (x : Instance)
 
   pub record TheMaker (symbol : ℕ) (m : ObjectSite) : Type 0 where
     pub there : m.object < length l.objects
-    pub listed : m.object < length l.sites
     pub own : Contains (sites_at l m.object) m.site
     pub form : m.site.form ≡ DescLea
     pub symbol_is : (variable_at ls (known_in (job_loads (images_of ls)) history) x l m.object m.site).symbol ≡ symbol
@@ -90,7 +89,6 @@ module _ (ls : List Linking) (history : List Event) (l : Linking) (x : Instance)
       let tests = both (makes m.site.form) _ is_maker.passes in
       record {
         there = (let each = is.given.each in let below = is_maker.below in omega (arith, each, below, object_is));
-        listed = (let below = is_maker.below in omega (arith, below, object_is));
         own = subst (λ (n : ℕ). Contains (sites_at l n) m.site) object_is is_maker.among;
         form = makes_lea m.site.form tests.0;
         symbol_is =
@@ -119,9 +117,9 @@ module _ (ls : List Linking) (history : List Event) (l : Linking) (x : Instance)
           let given = known_given (job_loads (images_of ls)) history known.legal x.number x known.known in
           omega (arith, given.low, given.number, bias_low l.kind x.number)
       of_kept true stays (Some t) e =
-          let found = descriptor_entry l m.object m.site t is_maker.own is_maker.form stays e is_maker.listed in
-          let word = entry_low ls history l x (Descriptor t) found.0 0x1800 known is found.1 refl in
-          subst (λ (n : Option ℕ). entry_by l n + bias_of l.kind x.number < 2 ^ 64) (sym found.1) word
+          let found = descriptor_entry l m.object m.site t is_maker.own is_maker.form stays e is.given is_maker.there in
+          let word = entry_low ls history l x (Descriptor t) found.at 0x1800 known is found.starts refl in
+          subst (λ (n : Option ℕ). entry_by l n + bias_of l.kind x.number < 2 ^ 64) (sym found.starts) word
       of_kept false gone t e = wrapped _
 
   low : (symbol : ℕ) → (setting_of ls history).descriptor x.number symbol < 2 ^ 64
@@ -205,10 +203,10 @@ module _ (ls : List Linking) (history : List Event) (l : Linking) (x : Instance)
     kept e stays t names =
         let h = has_maker e in
         let found = descriptor_entry l h.m.object h.m.site t h.is_maker.own h.is_maker.form (h.alike.kept_is ∙ stays)
-        (h.alike.target ∙ names) h.is_maker.listed in (
-          found.0,
-          found.1,
-          h.number_is ∙ kept_number t found.0 stays names found.1,
+        (h.alike.target ∙ names) is.given h.is_maker.there in (
+          found.at,
+          found.starts,
+          h.number_is ∙ kept_number t found.at stays names found.starts,
         )
 
     written : (setting_of ls history).makes_descriptor x.number symbol ≡ true → is_kept (choice l o site) ≡ false

@@ -3,6 +3,7 @@ use Rattle.std.proofs.Common.{◌≡◌, ◌+◌, ◌<◌, ◌^◌, ℕ, true, L
 use Rattle.got_pairs.specs.declared.need.Need.{Need}
 use Rattle.got_pairs.specs.declared.need.Need.TheVariants.{RuntimeWord}
 use Rattle.guest_machine.specs.Use.{plus}
+use Rattle.link_needs.specs.Laws.{HasEntry}
 use Rattle.link_needs.specs.Linking.{Linking, choice}
 use Rattle.link_needs.specs.Needs.{calls_stub, got_start, is_kept, relocation_need, stub_start}
 use Rattle.loaded_bytes.specs.Laws.{IsInstanceOf, images_of}
@@ -24,7 +25,6 @@ use Rattle.tied_sites.proofs.Cells.{kept_stands}
 use Rattle.tied_sites.proofs.Firsts.{HasField, first_leads, first_number, first_value, stub_leads, stub_number}
 use Rattle.tied_sites.proofs.Firsts.{stub_value}
 use Rattle.tied_sites.proofs.Firsts.{word_leads, word_number, word_value}
-use Rattle.tied_sites.proofs.Needed.{HasEntry}
 use Rattle.tied_sites.proofs.Pairs.{AreWords, first_word}
 use Rattle.tied_sites.proofs.Places.{IsHere}
 use Rattle.loaded_words.specs.Laws.{IsStub}

@@ -14,6 +14,8 @@ use Rattle.got_pairs.specs.declared.need.Target.{Target}
 use Rattle.link_core.proofs.TogetherRows.{chosen_kept, chosen_taken, taken}
 use Rattle.link_faults.specs.declared.binding.Binding.{Binding}
 use Rattle.link_faults.specs.ImageKinds.{is_module}
+use Rattle.link_needs.proofs.Reached.{called_entry, sites_reach_entries}
+use Rattle.link_needs.specs.Laws.{HasEntry, ReachesEntries}
 use Rattle.link_needs.specs.Given.{IsGiven}
 use Rattle.link_needs.specs.Linking.{Linking, binding, choice, sites_at}
 use Rattle.link_needs.specs.Needs.{as_list, calls, is_kept, need_by, new_relocation, reaching}
@@ -27,7 +29,6 @@ use Rattle.sequence_forms.specs.declared.forms.Form.{Form}
 use Rattle.sequence_forms.specs.declared.places.Site.{Site}
 use Rattle.sequence_forms.specs.Forms.{row}
 use Rattle.sequence_match.specs.Sites.{first_of}
-use Rattle.tied_sites.proofs.Needed.{HasEntry, entry_has}
 
 pub kept_is : (choice : Choice) → is_kept choice ≡ true → choice ≡ Keep
 kept_is Keep e = refl
@@ -66,48 +67,22 @@ module _ (l : Linking) (o : ℕ) (site : Site) where
 
   -- ** needs
 
-  needs_reached : (r : Option Relocation) (need : Need) → reaching site (choice l o site) ≡ r
-      → option_and_then (relocation_need l o) r ≡ Some need → Contains (site_needs l o site) need
-  unfolding site_needs
-  needs_reached r need reach e =
-      let listed : as_list (option_and_then (relocation_need l o) (reaching site (choice l o site))) ≡ need ∷ [] =
-      ap (λ found. as_list (option_and_then (relocation_need l o) found)) reach ∙ ap as_list e in
-      Contains-append_left (as_list (option_and_then (relocation_need l o) (reaching site (choice l o site))))
-      (if is_kept (choice l o site) && calls site.form then RuntimeWord ∷ [] else []) need
-      (subst (λ xs. Contains xs need) (sym listed) (0, omega arith, refl))
-
-  needs_runtime : is_kept (choice l o site) ≡ true → calls site.form ≡ true → Contains (site_needs l o site) RuntimeWord
-  unfolding site_needs
-  needs_runtime kept call =
-      let listed : (if is_kept (choice l o site) && calls site.form then RuntimeWord ∷ [] else []) ≡ RuntimeWord ∷ [] =
-      rw (kept, call) refl in
-      Contains-append_right (as_list (option_and_then (relocation_need l o) (reaching site (choice l o site))))
-      (if is_kept (choice l o site) && calls site.form then RuntimeWord ∷ [] else []) RuntimeWord
-      (subst (λ xs. Contains xs RuntimeWord) (sym listed) (0, omega arith, refl))
-
   module _ (given : IsGiven l) (there : o < length l.objects) (own : Contains (sites_at l o) site) where
+    reaches : ReachesEntries l o site
+    reaches = sites_reach_entries l o site given there own
+
     -- of a site that is kept
     pub kept_entry : is_kept (choice l o site) ≡ true → (need : Need) → relocation_need l o (first_of site) ≡ Some need
         → HasEntry l need
-    kept_entry kept need e =
-        entry_has l given o site need there own
-        (needs_reached (Some (first_of site)) need (ap (reaching site) (kept_is (choice l o site) kept)) e)
+    kept_entry = reaches.first
 
     pub runtime_entry : is_kept (choice l o site) ≡ true → calls site.form ≡ true → HasEntry l RuntimeWord
-    runtime_entry kept call = entry_has l given o site RuntimeWord there own (needs_runtime kept call)
+    runtime_entry = called_entry l given o site there own
 
     -- of one that is rewritten
     pub new_entry : is_kept (choice l o site) ≡ false → (f : NewField) → new_field site.form (choice l o site) ≡ Some f
         → (need : Need) → relocation_need l o (new_relocation site f) ≡ Some need → HasEntry l need
-    new_entry off f new need e =
-        entry_has l given o site need there own
-        (needs_reached (Some (new_relocation site f)) need
-        (by_choice (choice l o site) off ∙ ap (option_map (new_relocation site)) new) e)
-      where
-        by_choice : (c : Choice) → is_kept c ≡ false
-            → reaching site c ≡ option_map (new_relocation site) (new_field site.form c)
-        by_choice Keep off = absurd (cc)
-        by_choice c off = refl
+    new_entry = reaches.new
 
   -- ** of which sort they are
 

@@ -14,6 +14,7 @@ use Rattle.link_core.proofs.TogetherRows.{IsVariable}
 use Rattle.link_faults.specs.declared.binding.Binding.{Binding}
 use Rattle.link_faults.specs.declared.binding.Binding.TheVariants.{Here, Startup, Runtime}
 use Rattle.link_faults.specs.declared.symbol_ref.SymbolRef.{SymbolRef}
+use Rattle.link_needs.specs.Laws.{HasEntry}
 use Rattle.link_needs.specs.Linking.{Linking, binding, block_offset, choice, offset}
 use Rattle.link_needs.specs.Needs.{is_kept}
 use Rattle.loaded_bytes.specs.Laws.{images_of}
@@ -41,7 +42,6 @@ use Rattle.tied_sites.proofs.Cells.{kept_stands, loaded}
 use Rattle.tied_sites.proofs.Chosen.{choice_is, in_program, kept_entry, needs_descriptor}
 use Rattle.tied_sites.proofs.Firsts.{HasField, first_leads, first_number, first_value, moved_small}
 use Rattle.tied_sites.proofs.Named.{LiesBelow}
-use Rattle.tied_sites.proofs.Needed.{HasEntry}
 use Rattle.tied_sites.proofs.Own.{other_written, own_written}
 use Rattle.tied_sites.proofs.Pairs.{descriptor_is, distance_at}
 use Rattle.tied_sites.proofs.Places.{IsHere, usable_here}

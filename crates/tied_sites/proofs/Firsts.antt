@@ -26,6 +26,7 @@ use Rattle.link_faults.specs.declared.binding.Binding.{Binding}
 use Rattle.link_faults.specs.declared.binding.Binding.TheVariants.{Runtime}
 use Rattle.link_faults.specs.ImageKinds.{is_moved}
 use Rattle.link_needs.proofs.InputsLemmas.{address_small}
+use Rattle.link_needs.specs.Laws.{HasEntry}
 use Rattle.link_needs.specs.Given.{FitsTable}
 use Rattle.link_needs.specs.Linking.{Linking, binding, choice, layout, object}
 use Rattle.link_needs.specs.Needs.{got_start, is_kept, need_by, relocation_need, stub_start}
@@ -51,7 +52,6 @@ use Rattle.tls_relocs.specs.declared.fields.Field.TheVariants.{Empty}
 use Rattle.tls_relocs.specs.Fields.{field_bytes}
 use Rattle.whole_meaning.specs.Spots.{bias_of}
 use Rattle.tied_sites.proofs.Cells.{loaded, number_is}
-use Rattle.tied_sites.proofs.Needed.{HasEntry}
 use Rattle.tied_sites.proofs.Numbers.{Holds}
 use Rattle.tied_sites.proofs.Places.{IsHere, site_here, usable_here}
 use Rattle.tied_sites.proofs.Reaches.{call_held, entry_held, entry_low, from_end, leads, stub_low}

@@ -9,6 +9,8 @@ use Rattle.link_core.proofs.TogetherRows.{IsVariable}
 use Rattle.link_faults.specs.declared.binding.Binding.{Binding}
 use Rattle.link_faults.specs.declared.binding.Binding.TheVariants.{Here, Startup, Runtime}
 use Rattle.link_faults.specs.declared.symbol_ref.SymbolRef.{SymbolRef}
+use Rattle.link_needs.proofs.Reached.{stub_there}
+use Rattle.link_needs.specs.Laws.{HasEntry}
 use Rattle.link_needs.specs.Linking.{Linking, binding, choice}
 use Rattle.link_needs.specs.Needs.{calls, calls_stub, is_kept, is_stub_call}
 use Rattle.loaded_bytes.specs.Laws.{images_of}
@@ -29,7 +31,6 @@ use Rattle.whole_meaning.specs.Spots.{bias_of}
 use Rattle.tied_sites.proofs.Calls.{CallsThrough, stub_called, word_called}
 use Rattle.tied_sites.proofs.Chosen.{kept_entry, needs_pair, runtime_entry}
 use Rattle.tied_sites.proofs.Firsts.{HasField}
-use Rattle.tied_sites.proofs.Needed.{HasEntry, stub_there}
 use Rattle.tied_sites.proofs.Pairs.{pair_is}
 use Rattle.tied_sites.proofs.Places.{IsHere}
 use Rattle.tied_sites.proofs.Standing.{IsRelied, Name, name, stands_kept, variable, with_variable}
@@ -71,12 +72,11 @@ module _ (g : Setting) (ls : List Linking) (l : Linking) (x : Instance) (is : Is
         let first : (row site.form).first ≡ TlsGd = ap (λ f. (row f).first) form ∙ gd_first in
         let e = pair_entry first in
         let call : calls_stub site.form ≡ true = ap calls_stub form in
-        let stubbed : is_stub_call l o site ≡ true = rw (kept, call) refl in
         stands_kept g ls l x is o address site place here n.v Gd form n.of.asked tt
         (stub_called g ls l x is.of is.words is.counted.few o address site place here kept
         (subst HasField (sym form) tt) (SymbolPair n.t) e (needs_pair l o site n.t n.target_is first) n.v
         (pair_is g ls l x is.of is.words (sequence_with ls x.image x.number place site n.v) n.v refl refl n.t n.of e)
-        call (is.stub (stub_there l is.of.given o site here.at.there here.own stubbed)))
+        call (is.stub (stub_there l is.of.given o site here.at.there here.own (rw (kept, call) refl))))
 
     gd_ind_kept : site.form ≡ GdInd
         → Stands g (job_loads (images_of ls)) x place (sequence_with ls x.image x.number place site n.v)

@@ -12,6 +12,8 @@ use Rattle.link_faults.specs.declared.binding.Binding.{Binding}
 use Rattle.link_faults.specs.declared.binding.Binding.TheVariants.{Here, Startup, Runtime}
 use Rattle.link_faults.specs.declared.symbol_ref.SymbolRef.{SymbolRef}
 use Rattle.link_faults.specs.ImageKinds.{is_module}
+use Rattle.link_needs.proofs.Reached.{any_site}
+use Rattle.link_needs.specs.Laws.{HasEntry}
 use Rattle.link_needs.specs.Linking.{Linking, binding, block_offset, choice}
 use Rattle.link_needs.specs.Needs.{got_start, is_kept}
 use Rattle.loaded_bytes.specs.Laws.{images_of}
@@ -36,7 +38,6 @@ use Rattle.tied_sites.proofs.Cells.{kept_stands, loaded}
 use Rattle.tied_sites.proofs.Chosen.{choice_is, kept_entry, needs_word}
 use Rattle.tied_sites.proofs.Firsts.{HasField, first_leads, first_number, first_value}
 use Rattle.tied_sites.proofs.Named.{LiesBelow}
-use Rattle.tied_sites.proofs.Needed.{HasEntry, any_site}
 use Rattle.tied_sites.proofs.Own.{own_written}
 use Rattle.tied_sites.proofs.Pairs.{distance_at, distance_word}
 use Rattle.tied_sites.proofs.Places.{IsHere, usable_here}
@@ -76,7 +77,7 @@ module _ (g : Setting) (ls : List Linking) (l : Linking) (x : Instance) (is : Is
       of_kind : (t : Bool) → is_module l.kind ≡ t → (distance : ℕ) × (x.offset ≡ Some distance)
       of_kind false e = (block_offset l, (is.counted.program e).1)
       of_kind true e =
-          let any = any_site l is.of.given (λ (y : Site). is_initial y.form) o site here.at.there here.own
+          let any = any_site l is.of.given o site here.at.there here.own (λ (y : Site). is_initial y.form)
           facts.initial in
           some_is x.offset (is.counted.surplus (rw (e, any) refl))
 

@@ -13,7 +13,6 @@ mod Initial
 mod Known
 mod Local
 mod Named
-mod Needed
 mod Numbers
 mod Own
 mod Pairs

@@ -10,6 +10,8 @@ use Rattle.link_core.proofs.TogetherRows.{IsVariable, chosen_taken, taken}
 use Rattle.link_faults.specs.declared.binding.Binding.{Binding}
 use Rattle.link_faults.specs.declared.binding.Binding.TheVariants.{Here, Startup, Runtime}
 use Rattle.link_faults.specs.ImageKinds.{is_module}
+use Rattle.link_needs.proofs.Reached.{any_site, stub_there}
+use Rattle.link_needs.specs.Laws.{HasEntry}
 use Rattle.link_needs.specs.Linking.{Linking, binding, choice}
 use Rattle.link_needs.specs.Needs.{calls, calls_stub, is_kept, is_stub_call}
 use Rattle.link_needs.specs.Values.{counts_from_thread_pointer, is_local, is_rewriting}
@@ -31,7 +33,6 @@ use Rattle.whole_meaning.specs.Spots.{bias_of}
 use Rattle.tied_sites.proofs.Calls.{CallsThrough, stub_called, word_called}
 use Rattle.tied_sites.proofs.Chosen.{choice_is, in_program, kept_entry, needs_module, rewriting, runtime_entry}
 use Rattle.tied_sites.proofs.Firsts.{HasField}
-use Rattle.tied_sites.proofs.Needed.{HasEntry, any_site, stub_there}
 use Rattle.tied_sites.proofs.Pairs.{module_pair_is}
 use Rattle.tied_sites.proofs.Places.{IsHere}
 use Rattle.tied_sites.proofs.Standing.{IsRelied, stands_kept, stands_written, variable, with_variable}
@@ -111,13 +112,12 @@ module _ (g : Setting) (ls : List Linking) (l : Linking) (x : Instance) (is : Is
         let first : (row site.form).first ≡ TlsLd = ap (λ f. (row f).first) form ∙ ld_first in
         let e = pair_entry first in
         let call : calls_stub site.form ≡ true = ap calls_stub form in
-        let stubbed : is_stub_call l o site ≡ true = rw (kept, call) refl in
         stands_kept g ls l x is o address site place here own Ld form (inl refl) (refl, refl) (
           counts_from_block,
           stub_called g ls l x is.of is.words is.counted.few o address site place here kept
               (subst HasField (sym form) tt) ModulePair e (needs_module l o site first) own
               (module_pair_is g ls l x is.of is.words s own refl refl is.counted refl refl e) call
-              (is.stub (stub_there l is.of.given o site here.at.there here.own stubbed)),
+              (is.stub (stub_there l is.of.given o site here.at.there here.own (rw (kept, call) refl))),
         )
 
     ld_ind_kept : site.form ≡ LdInd → Stands g (job_loads (images_of ls)) x place s
@@ -146,7 +146,7 @@ module _ (g : Setting) (ls : List Linking) (l : Linking) (x : Instance) (is : Is
     unfolding counts_from_thread_pointer
     counts =
         let rewrites = rewriting l o site off in
-        let any = any_site l is.of.given (λ (y : Site). is_local y.form) o site here.at.there here.own
+        let any = any_site l is.of.given o site here.at.there here.own (λ (y : Site). is_local y.form)
         (is_local_form site.form local) in
         is.knows.counts (is.counted.program (in_program l o site off)).0 ∙ rw (rewrites, any) refl
 

@@ -6,6 +6,7 @@ use Rattle.got_pairs.specs.declared.need.Need.TheVariants.{ModulePair, SymbolPai
 use Rattle.got_pairs.specs.declared.need.Target.{Target}
 use Rattle.got_pairs.specs.Entries.{less}
 use Rattle.got_pairs.specs.Needs.{start_of}
+use Rattle.link_needs.specs.Laws.{HasEntry}
 use Rattle.link_needs.specs.Linking.{Linking}
 use Rattle.link_needs.specs.Needs.{entries, got_start}
 use Rattle.loaded_bytes.specs.Laws.{IsInstanceOf, images_of}
@@ -20,7 +21,6 @@ use Rattle.whole_meaning.specs.declared.sequences.Sequence.{Sequence}
 use Rattle.whole_meaning.specs.Spots.{bias_of}
 use Rattle.tied_sites.proofs.Distances.{distance_is}
 use Rattle.tied_sites.proofs.Named.{IsIdOf, IsVariableOf, LiesBelow, own_id}
-use Rattle.tied_sites.proofs.Needed.{HasEntry}
 use Rattle.tied_sites.specs.Instances.{IsCounted}
 
 -- each word of each entry is that of the table

@@ -18,6 +18,7 @@ use Rattle.link_faults.specs.declared.binding.Binding.{Binding}
 use Rattle.link_faults.specs.declared.binding.Binding.TheVariants.{Here, Runtime}
 use Rattle.link_faults.specs.declared.symbol_ref.SymbolRef.{SymbolRef}
 use Rattle.link_needs.proofs.PlanLemmas.{table_small}
+use Rattle.link_needs.specs.Laws.{HasEntry}
 use Rattle.link_needs.specs.Given.{FitsTable, IsGiven}
 use Rattle.link_needs.specs.Linking.{Linking, binding, block_offset, layout, offset, place}
 use Rattle.link_needs.specs.Needs.{entries, entry_by, got_size, got_start, need_address, relocation_need, stub_start}
@@ -28,7 +29,6 @@ use Rattle.sequence_forms.specs.Forms.{IsCallKind}
 use Rattle.tls_layout.proofs.Together.{page_up-least}
 use Rattle.tls_layout.specs.Places.{address_of}
 use Rattle.tls_relocs.specs.Values.{signed_field, stored_field}
-use Rattle.tied_sites.proofs.Needed.{HasEntry}
 use Rattle.tied_sites.proofs.Numbers.{Holds, less_held}
 
 -- from the end of a field of four bytes at a place to a number, modulo 2^64

@@ -12,6 +12,7 @@ use Rattle.link_core.proofs.Few.{table_fits}
 use Rattle.link_faults.specs.declared.binding.Binding.TheVariants.{Here}
 use Rattle.link_faults.specs.declared.symbol_ref.SymbolRef.{SymbolRef}
 use Rattle.link_needs.proofs.InputsLemmas.{address_small}
+use Rattle.link_needs.specs.Laws.{HasEntry}
 use Rattle.link_needs.specs.Given.{FitsTable}
 use Rattle.link_needs.specs.Linking.{Linking, binding, block_offset, choice, layout, object, offset}
 use Rattle.link_needs.specs.Needs.{got_start, is_kept, new_relocation, relocation_need, target_by}
@@ -35,7 +36,6 @@ use Rattle.tls_symbols.specs.Bindings.{may_import}
 use Rattle.whole_meaning.specs.Spots.{bias_of}
 use Rattle.tied_sites.proofs.Chosen.{in_program, new_entry, new_word}
 use Rattle.tied_sites.proofs.Firsts.{moved_small}
-use Rattle.tied_sites.proofs.Needed.{HasEntry}
 use Rattle.tied_sites.proofs.Numbers.{Holds}
 use Rattle.tied_sites.proofs.Places.{IsHere, usable_here}
 use Rattle.tied_sites.proofs.Reaches.{entry_held, entry_low, from_end, leads, offset_held}

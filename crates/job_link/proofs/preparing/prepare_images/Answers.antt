@@ -1,33 +1,45 @@
 use Rattle.std.proofs.Common.{◌∙◌, ◌∷◌, ◌++◌, [], List, length, map, take, sym, ap, subst, arith}
-use Rattle.link_core.specs.Faults.{Links}
+use Rattle.link_core.specs.Faults.{IsLinkFault, Links}
 use Rattle.link_needs.specs.Linking.{Linking}
-use Rattle.job_link.specs.Given.{Given}
 use Rattle.job_link.specs.LinkLaws.{exports_few}
 use Rattle.job_link.specs.Linked.{link_in}
-use Rattle.job_link.proofs.Exported.{beside, made_more}
+use Rattle.job_link.specs.Refusals.{IsImageRefusal}
+use Rattle.job_link.proofs.Exported.{all_link, beside, first_refused, links_more, made_more}
 use Rattle.job_link.proofs.preparing.prepare_images.Goals as goal
 
-pub prepare_one-requires-clause-few : goal.prepare_one-requires-clause-few
-prepare_one-requires-clause-few c =
+pub ready_one-requires-clause-few : goal.ready_one-requires-clause-few
+ready_one-requires-clause-few c =
     omega (arith, ap length c.requires.startup, exports_few c.args.images.now, c.requires.few)
 
-pub prepare_one-requires-clause-links : goal.prepare_one-requires-clause-links
-prepare_one-requires-clause-links c =
+pub returns-in-Err-clause-refused : goal.returns-in-Err-clause-refused
+returns-in-Err-clause-refused c =
     let images = c.args.images.now in
-    let g = c.image-item.result in
-    let its : Links (link_in images c.args.relax g) =
-    subst (λ (h : Given). Links (link_in images c.args.relax h)) (sym c.image-item.is)
-    (c.requires.links c.loop-image.image-index g c.loop-image-test.true) in
-    subst (λ (l : Linking). Links l) (sym (beside images c.args.startup.now c.args.relax g c.requires.startup)) its
+    let g = c.index-images-number.result in
+    let same = beside images c.args.startup.now c.args.relax g c.requires.startup in
+    subst (IsImageRefusal images c.args.relax) (sym c.refused.ensures)
+    (first_refused images c.args.relax c.loop-number.number g c.index-images-number.is c.loop-number-test.true
+    c.in-Err.fault c.loop-number.invariant.links
+    (subst (λ (l : Linking). IsLinkFault l c.in-Err.fault) same c.in-Err.ensures.fault))
 
-pub loop-image-preserved : goal.loop-image-preserved
-loop-image-preserved c =
+pub loop-number-preserved : goal.loop-number-preserved
+loop-number-preserved c =
     let images = c.args.images.now in
     let relax = c.args.relax in
-    let i = c.loop-image.image-index in
-    let g = c.image-item.result in
-    c.in_ok-push.ensures.items
-    ∙ ap (λ (all : List Linking). all ++ c.in_ok-prepare_one.field-0 ∷ []) c.loop-image.invariant
-    ∙ ap (λ (last : Linking). map (link_in images relax) (take i images) ++ last ∷ [])
-    (c.in_ok-prepare_one.ensures ∙ beside images c.args.startup.now relax g c.requires.startup)
-    ∙ sym (made_more images relax i g c.image-item.is c.loop-image-test.true (link_in images relax))
+    let i = c.loop-number.number in
+    let g = c.index-images-number.result in
+    let same = beside images c.args.startup.now relax g c.requires.startup in
+    record {
+      ready =
+          c.in_ok-push-in-Ok.ensures.items
+          ∙ ap (λ (all : List Linking). all ++ c.in-Ok.ready ∷ []) c.loop-number.invariant.ready
+          ∙ ap (λ (last : Linking). map (link_in images relax) (take i images) ++ last ∷ [])
+          (c.in-Ok.ensures.ready ∙ same)
+          ∙ sym (made_more images relax i g c.index-images-number.is c.loop-number-test.true (link_in images relax));
+      links =
+          links_more images relax i g c.index-images-number.is c.loop-number-test.true c.loop-number.invariant.links
+          (subst (λ (l : Linking). Links l) same c.in-Ok.ensures.links);
+    }
+
+pub returns-clause-links : goal.returns-clause-links
+returns-clause-links c =
+    all_link c.args.images.now c.args.relax c.loop-number.number c.loop-number-test.false c.loop-number.invariant.links

@@ -12,17 +12,17 @@ use Rattle.link_core.proofs.file.push_got.Goals as goal
 
 pub place_in_file-requires-clause-from_base : goal.place_in_file-requires-clause-from_base
 place_in_file-requires-clause-from_base c =
-    let near = stand_near c.plan.inside.inputs.now c.plan.invariant.given c.plan.invariant.limits in
+    let near = stand_near c.plan.inside.inputs c.plan.invariant.given c.plan.invariant.limits in
     omega (arith, near.above, c.plan.invariant.start_is, ap (λ (l : Linking). base_of l.kind) c.plan.view_is)
 
 pub place_in_file-requires-clause-fits : goal.place_in_file-requires-clause-fits
 place_in_file-requires-clause-fits c =
-    let near = stand_near c.plan.inside.inputs.now c.plan.invariant.given c.plan.invariant.limits in
+    let near = stand_near c.plan.inside.inputs c.plan.invariant.given c.plan.invariant.limits in
     omega (arith, near.after, near.near, c.plan.invariant.start_is)
 
 pub pad-requires : goal.pad-requires
 pad-requires c =
-    let near = stand_near c.plan.inside.inputs.now c.plan.invariant.given c.plan.invariant.limits in
+    let near = stand_near c.plan.inside.inputs c.plan.invariant.given c.plan.invariant.limits in
     omega (arith, near.after, near.near, c.plan.invariant.start_is, c.place_in_file.ensures)
 
 pub returns : goal.returns

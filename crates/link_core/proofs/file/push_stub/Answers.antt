@@ -15,17 +15,17 @@ use Rattle.link_core.proofs.file.push_stub.Goals as goal
 
 pub place_in_file-requires-clause-from_base : goal.place_in_file-requires-clause-from_base
 place_in_file-requires-clause-from_base c =
-    let near = stand_near c.plan.inside.inputs.now c.plan.invariant.given c.plan.invariant.limits in
+    let near = stand_near c.plan.inside.inputs c.plan.invariant.given c.plan.invariant.limits in
     omega (arith, near.above, near.after, c.plan.invariant.stub_is, ap (λ (l : Linking). base_of l.kind) c.plan.view_is)
 
 pub place_in_file-requires-clause-fits : goal.place_in_file-requires-clause-fits
 place_in_file-requires-clause-fits c =
-    let near = stand_near c.plan.inside.inputs.now c.plan.invariant.given c.plan.invariant.limits in
+    let near = stand_near c.plan.inside.inputs c.plan.invariant.given c.plan.invariant.limits in
     omega (arith, near.near, c.plan.invariant.stub_is)
 
 pub pad-requires : goal.pad-requires
 pad-requires c =
-    let near = stand_near c.plan.inside.inputs.now c.plan.invariant.given c.plan.invariant.limits in
+    let near = stand_near c.plan.inside.inputs c.plan.invariant.given c.plan.invariant.limits in
     omega (arith, near.near, c.plan.invariant.stub_is, c.place_in_file.ensures)
 
 pub returns-in-Ok : goal.returns-in-Ok

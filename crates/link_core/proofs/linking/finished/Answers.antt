@@ -12,7 +12,7 @@ use Rattle.link_core.proofs.linking.finished.Goals as goal
 pub draft_of-draft-requires-clause-parts : goal.draft_of-draft-requires-clause-parts
 unfolding places
 draft_of-draft-requires-clause-parts c =
-    let l = c.args.plan.now in
+    let l = c.tables.inside.plan in
     let made = got_places l ++ stub_places l in
     c.as_slice.ensures.value
     ∙ (c.in_ok-got.ensures.places
@@ -23,29 +23,29 @@ draft_of-draft-requires-clause-parts c =
 
 pub image_of-requires-clause-linkable : goal.image_of-requires-clause-linkable
 image_of-requires-clause-linkable c =
-    can_link c.plan.inside.inputs.now c.plan.invariant.given (subst IsSound (sym c.plan.view_is) c.requires.sound)
-    c.draft_of-draft.result c.args.file.items (c.requires.file ∙ ap file (sym c.plan.view_is))
+    can_link c.plan.inside.inputs c.plan.invariant.given (subst IsSound (sym (c.plan.view_is ∙ c.tables.view_is)) c.requires.sound)
+    c.draft_of-draft.result c.args.file.items (c.requires.file ∙ ap file (sym (c.plan.view_is ∙ c.tables.view_is)))
     c.draft_of-draft.ensures.kind c.draft_of-draft.ensures.parts c.draft_of-draft.ensures.contents
 
 pub image_of-requires-clause-ends : goal.image_of-requires-clause-ends
 image_of-requires-clause-ends c =
-    ends c.plan.inside.inputs.now c.plan.invariant.given (subst IsSound (sym c.plan.view_is) c.requires.sound)
-    c.draft_of-draft.result c.args.file.items (c.requires.file ∙ ap file (sym c.plan.view_is))
+    ends c.plan.inside.inputs c.plan.invariant.given (subst IsSound (sym (c.plan.view_is ∙ c.tables.view_is)) c.requires.sound)
+    c.draft_of-draft.result c.args.file.items (c.requires.file ∙ ap file (sym (c.plan.view_is ∙ c.tables.view_is)))
     c.draft_of-draft.ensures.kind c.draft_of-draft.ensures.parts c.draft_of-draft.ensures.contents
 
 pub image_of-requires-clause-inside : goal.image_of-requires-clause-inside
 image_of-requires-clause-inside c =
-    inside c.plan.inside.inputs.now c.plan.invariant.given (subst IsSound (sym c.plan.view_is) c.requires.sound)
-    c.draft_of-draft.result c.args.file.items (c.requires.file ∙ ap file (sym c.plan.view_is))
+    inside c.plan.inside.inputs c.plan.invariant.given (subst IsSound (sym (c.plan.view_is ∙ c.tables.view_is)) c.requires.sound)
+    c.draft_of-draft.result c.args.file.items (c.requires.file ∙ ap file (sym (c.plan.view_is ∙ c.tables.view_is)))
     c.draft_of-draft.ensures.kind c.draft_of-draft.ensures.parts c.draft_of-draft.ensures.contents
 
 pub returns : goal.returns
 unfolding image_of
 returns c =
     let same =
-    same_contents c.plan.inside.inputs.now c.plan.invariant.given
-    (subst IsSound (sym c.plan.view_is) c.requires.sound) c.draft_of-draft.result c.args.file.items
-    (c.requires.file ∙ ap file (sym c.plan.view_is)) c.draft_of-draft.ensures.kind c.draft_of-draft.ensures.parts
+    same_contents c.plan.inside.inputs c.plan.invariant.given
+    (subst IsSound (sym (c.plan.view_is ∙ c.tables.view_is)) c.requires.sound) c.draft_of-draft.result c.args.file.items
+    (c.requires.file ∙ ap file (sym (c.plan.view_is ∙ c.tables.view_is))) c.draft_of-draft.ensures.kind c.draft_of-draft.ensures.parts
     c.draft_of-draft.ensures.contents in
     subst (λ (made : Spelled). IfOk c.image_of.result (λ image. image ≡ made))
-    (ap finished same ∙ ap image_of c.plan.view_is) c.image_of.ensures
+    (ap finished same ∙ ap image_of (c.plan.view_is ∙ c.tables.view_is)) c.image_of.ensures

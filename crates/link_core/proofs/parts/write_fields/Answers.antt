@@ -1,4 +1,4 @@
-use Rattle.std.proofs.Common.{◌∙◌, sym, subst, arith}
+use Rattle.std.proofs.Common.{◌∙◌, None, sym, subst, arith}
 use Rattle.link_needs.specs.Given.{FitsTable, IsGiven}
 use Rattle.link_core.specs.Parts.{IsPart}
 use Rattle.link_core.proofs.PartFields.{whole_part}
@@ -12,10 +12,10 @@ write_halves-requires-clause-part g c κs within =
     let l = c.args.plan.now in
     let given = subst IsGiven c.plan.view_is c.plan.invariant.given in
     let limits = subst FitsTable c.plan.view_is c.plan.invariant.limits in
-    subst (IsPart l 0 1073741824) (sym c.requires.filled) (whole_is_part l 1073741824 given limits)
+    subst (IsPart l 0 None) (sym c.requires.filled) (whole_is_part l given limits)
 
-pub write_halves-requires-clause-near : goal.write_halves-requires-clause-near
-write_halves-requires-clause-near g c =
+pub write_halves-requires-clause-far : goal.write_halves-requires-clause-far
+write_halves-requires-clause-far g c =
     let l = c.args.plan.now in
     let given = subst IsGiven c.plan.view_is c.plan.invariant.given in
     let limits = subst FitsTable c.plan.view_is c.plan.invariant.limits in
@@ -26,29 +26,29 @@ write_part-requires g c =
     let l = c.args.plan.now in
     let given = subst IsGiven c.plan.view_is c.plan.invariant.given in
     let limits = subst FitsTable c.plan.view_is c.plan.invariant.limits in
-    subst (IsPart l 0 1073741824) (sym (c.write_halves.ensures.filled ∙ c.requires.filled))
-    (whole_is_part l 1073741824 given limits)
+    subst (IsPart l 0 None) (sym (c.write_halves.ensures.filled ∙ c.requires.filled))
+    (whole_is_part l given limits)
 
 pub returns-in-Ok-clause-written : goal.returns-in-Ok-clause-written
 returns-in-Ok-clause-written g c =
     let l = c.args.plan.now in
     let given = subst IsGiven c.plan.view_is c.plan.invariant.given in
     let limits = subst FitsTable c.plan.view_is c.plan.invariant.limits in
-    c.in-Ok.ensures.written ∙ whole_part l given limits 1073741824 (omega arith) c.args.file.now
+    c.in-Ok.ensures.written ∙ whole_part l given limits c.args.file.now
 
 pub returns-in-Ok-clause-fits : goal.returns-in-Ok-clause-fits
 returns-in-Ok-clause-fits g c =
     let l = c.args.plan.now in
     let given = subst IsGiven c.plan.view_is c.plan.invariant.given in
     let limits = subst FitsTable c.plan.view_is c.plan.invariant.limits in
-    none_whole l given limits 1073741824 (omega arith) c.in-Ok.ensures.fits
+    none_whole l given limits c.in-Ok.ensures.fits
 
 pub returns-in-Err-clause-written : goal.returns-in-Err-clause-written
 returns-in-Err-clause-written g c =
     let l = c.args.plan.now in
     let given = subst IsGiven c.plan.view_is c.plan.invariant.given in
     let limits = subst FitsTable c.plan.view_is c.plan.invariant.limits in
-    unfit_again l given limits 1073741824 (omega arith) _ c.write_part.result c.in-Err.ensures.overflow
+    unfit_again l given limits _ c.write_part.result c.in-Err.ensures.overflow
     c.write_part.ensures.fits
 
 pub returns-in-Err-clause-fits : goal.returns-in-Err-clause-fits
@@ -56,11 +56,11 @@ returns-in-Err-clause-fits g c =
     let l = c.args.plan.now in
     let given = subst IsGiven c.plan.view_is c.plan.invariant.given in
     let limits = subst FitsTable c.plan.view_is c.plan.invariant.limits in
-    on_ok_then c.write_part.result (none_whole l given limits 1073741824 (omega arith)) c.write_part.ensures.fits
+    on_ok_then c.write_part.result (none_whole l given limits) c.write_part.ensures.fits
 
 pub returns-in-Err-clause-overflow : goal.returns-in-Err-clause-overflow
 returns-in-Err-clause-overflow g c =
     let l = c.args.plan.now in
     let given = subst IsGiven c.plan.view_is c.plan.invariant.given in
     let limits = subst FitsTable c.plan.view_is c.plan.invariant.limits in
-    if_err_then c.write_part.result (first_whole l given limits 1073741824 (omega arith)) c.write_part.ensures.overflow
+    if_err_then c.write_part.result (first_whole l given limits) c.write_part.ensures.overflow

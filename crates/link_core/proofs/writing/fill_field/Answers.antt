@@ -12,30 +12,30 @@ use Rattle.link_core.proofs.writing.fill_field.Goals as goal
 
 pub returns-in-Nothing-clause-written : goal.returns-in-Nothing-clause-written
 returns-in-Nothing-clause-written c =
-    nothing_writes c.args.plan.now c.args.object c.args.section c.args.relocation.now c.args.from c.args.part.now
+    nothing_writes c.args.plan.now c.args.own.object c.args.own.section c.args.relocation.now c.args.from c.args.bytes.now
     c.in-Nothing.is
 
 pub returns-in-Nothing-clause-fits : goal.returns-in-Nothing-clause-fits
 returns-in-Nothing-clause-fits c =
-    nothing_fills c.args.plan.now c.args.object c.args.section c.args.relocation.now c.in-Nothing.is
+    nothing_fills c.args.plan.now c.args.own.object c.args.own.section c.args.relocation.now c.in-Nothing.is
 
 pub symbol_value-symbol-requires-clause-symbol : goal.symbol_value-symbol-requires-clause-symbol
 symbol_value-symbol-requires-clause-symbol c =
     let given = subst IsGiven c.plan.view_is c.plan.invariant.given in
-    names_symbol c.args.plan.now c.args.object c.args.section c.args.relocation.now given c.requires.object
+    names_symbol c.args.plan.now c.args.own.object c.args.own.section c.args.relocation.now given c.requires.object
     c.requires.own c.in_default.not-Nothing
 
 pub returns-then-is_replaced : goal.returns-then-is_replaced
 returns-then-is_replaced c =
     let l = c.args.plan.now in
-    let o = c.args.object in
+    let o = c.args.own.object in
     let r = c.args.relocation.now in
-    let is = replaced_as l o c.args.section r c.symbol_value-symbol.result c.symbol_value-symbol.ensures
+    let is = replaced_as l o c.args.own.section r c.symbol_value-symbol.result c.symbol_value-symbol.ensures
     ∙ sym c.is_replaced.ensures ∙ c.if-is_replaced.true in
     record {
-      written = replaced_writes l o c.args.section r c.args.from c.args.part.now is;
+      written = replaced_writes l o c.args.own.section r c.args.from c.args.bytes.now is;
       filled = refl;
-      fits = replaced_fills l o c.args.section r is;
+      fits = replaced_fills l o c.args.own.section r is;
       overflow = tt;
     }
 
@@ -44,7 +44,7 @@ overflow_add-place c =
     let l = c.args.plan.now in
     let given = subst IsGiven c.plan.view_is c.plan.invariant.given in
     let limits = subst FitsTable c.plan.view_is c.plan.invariant.limits in
-    let room = field_room l c.args.object c.args.section c.args.relocation.now given limits c.requires.object
+    let room = field_room l c.args.own.object c.args.own.section c.args.relocation.now given limits c.requires.object
     c.requires.own in
     let begins = ap (λ a. unwrap_or a 0 + c.args.relocation.now.offset) c.requires.address in
     omega (arith, room.near, begins)
@@ -52,7 +52,7 @@ overflow_add-place c =
 pub field-requires-clause-number : goal.field-requires-clause-number
 field-requires-clause-number c =
     let given = subst IsGiven c.plan.view_is c.plan.invariant.given in
-    names_symbol c.args.plan.now c.args.object c.args.section c.args.relocation.now given c.requires.object
+    names_symbol c.args.plan.now c.args.own.object c.args.own.section c.args.relocation.now given c.requires.object
     c.requires.own c.in_default.not-Nothing
 
 pub put-requires : goal.put-requires
@@ -61,27 +61,27 @@ put-requires c =
     let r = c.args.relocation.now in
     let given = subst IsGiven c.plan.view_is c.plan.invariant.given in
     let limits = subst FitsTable c.plan.view_is c.plan.invariant.limits in
-    let room = part_room l c.args.from (length c.args.part.now) c.args.object c.args.section c.args.address r given
+    let room = part_room l c.args.from (length c.args.bytes.now) c.args.own.object c.args.own.section c.args.own.address r given
     limits c.requires.object c.requires.own c.requires.address c.requires.inside in
     record { room = rw c.in-Ok.ensures.width room.room; behind = rw c.in-Ok.ensures.width room.behind }
 
 pub returns-in-Ok : goal.returns-in-Ok
 returns-in-Ok c =
     let l = c.args.plan.now in
-    let o = c.args.object in
-    let t = c.args.section in
+    let o = c.args.own.object in
+    let t = c.args.own.section in
     let r = c.args.relocation.now in
     let is = replaced_as l o t r c.symbol_value-symbol.result c.symbol_value-symbol.ensures
     ∙ sym c.is_replaced.ensures ∙ c.if-is_replaced.false in
     let from = c.args.from in
-    let part = c.args.part.now in
+    let part = c.args.bytes.now in
     let place = sym (ap (λ a. unwrap_or a 0 + r.offset) c.requires.address) in
     let value = c.in-Ok.ensures.field t place in
     let put = c.put.ensures
     ∙ ap (λ n. patched (field_patch (offset_of (layout l) n - from) c.in-Ok.field ∷ []) part) place in
     record {
       written = put ∙ field_writes l o t r from part c.in-Ok.field is value;
-      filled = c.put.auto.part;
+      filled = c.put.auto.bytes;
       fits = field_fills l o t r c.in-Ok.field value;
       overflow = tt;
     }
@@ -89,8 +89,8 @@ returns-in-Ok c =
 pub returns-in-Err : goal.returns-in-Err
 returns-in-Err c =
     let l = c.args.plan.now in
-    let o = c.args.object in
-    let t = c.args.section in
+    let o = c.args.own.object in
+    let t = c.args.own.section in
     let r = c.args.relocation.now in
     let is = replaced_as l o t r c.symbol_value-symbol.result c.symbol_value-symbol.ensures
     ∙ sym c.is_replaced.ensures ∙ c.if-is_replaced.false in

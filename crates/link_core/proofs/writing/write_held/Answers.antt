@@ -10,9 +10,9 @@ use Rattle.link_core.proofs.writing.write_held.Goals as goal
 pub returns-in-Err-clause-overflow : goal.returns-in-Err-clause-overflow
 returns-in-Err-clause-overflow c =
     let l = c.args.plan.now in
-    let o = c.args.number in
+    let o = c.args.own.object in
     let s = c.args.table in
-    let t = c.args.section in
+    let t = c.args.own.section in
     let e = c.loop-relocation.entry in
     let r = c.in-Some.relocation in
     let kept = c.loop-relocation.invariant in
@@ -24,9 +24,9 @@ returns-in-Err-clause-overflow c =
 pub loop-relocation-preserved : goal.loop-relocation-preserved
 loop-relocation-preserved c =
     let l = c.args.plan.now in
-    let o = c.args.number in
+    let o = c.args.own.object in
     let s = c.args.table in
-    let t = c.args.section in
+    let t = c.args.own.section in
     let e = c.loop-relocation.entry in
     let r = c.in-Some.relocation in
     let rest = c.next.new.self in
@@ -39,7 +39,7 @@ loop-relocation-preserved c =
       tt,
       rest_after all rest e r left,
       ap (λ part. fold (part_with_field l from o t) part rest) c.in_default.ensures.written
-          ∙ ap (fold (part_with_field l from o t) c.loop-relocation.part) (sym first)
+          ∙ ap (fold (part_with_field l from o t) c.loop-relocation.bytes) (sym first)
           ∙ kept.3,
       c.write_field.ensures.filled ∙ kept.4,
       none_next l o s t e r c.requires.target (first_at all rest e r left) c.in_default.ensures.fits kept.5,
@@ -49,14 +49,14 @@ loop-relocation-preserved c =
 pub returns-clause-written : goal.returns-clause-written
 returns-clause-written c =
     let l = c.args.plan.now in
-    let o = c.args.number in
-    let t = c.args.section in
+    let o = c.args.own.object in
+    let t = c.args.own.section in
     let kept = c.loop-relocation.invariant in
-    ap (fold (part_with_field l c.args.from o t) c.loop-relocation.part) (sym c.in-None.ensures.steps.0)
-    ∙ kept.3 ∙ table_written l o c.args.table c.args.from t c.args.address c.args.part.now c.requires.target
+    ap (fold (part_with_field l c.args.from o t) c.loop-relocation.bytes) (sym c.in-None.ensures.steps.0)
+    ∙ kept.3 ∙ table_written l o c.args.table c.args.from t c.args.own.address c.args.bytes.now c.requires.target
 
 pub returns-clause-fits : goal.returns-clause-fits
 returns-clause-fits c =
     let kept = c.loop-relocation.invariant in
-    none_in c.args.plan.now c.args.number c.args.table c.args.section c.loop-relocation.entry c.requires.target
+    none_in c.args.plan.now c.args.own.object c.args.table c.args.own.section c.loop-relocation.entry c.requires.target
     (sym c.in-None.ensures.steps.0 ∙ kept.2) kept.5

@@ -10,10 +10,10 @@ abbrev pub invariant-loop-relocation : goal.invariant-loop-relocation
 invariant-loop-relocation l =
     (goal.iterator-loop-relocation).can_next l.relocation-iterator ×
     (goal.iterator-loop-relocation).is_finite l.relocation-iterator ×
-    (l.relocation-iterator ≡ drop l.entry (relocations (object l.plan l.number) l.section)) ×
-    (fold (part_with_field l.plan l.from l.number l.section) l.part l.relocation-iterator
-    ≡ fold (part_with_field l.plan l.from l.number l.section) l.fn.part
-    (relocations (object l.plan l.number) l.section)) ×
-    (length l.part ≡ length l.fn.part) ×
-    NoneBefore l.plan l.number l.table l.entry ×
+    (l.relocation-iterator ≡ drop l.entry (relocations (object l.plan l.own.object) l.own.section)) ×
+    (fold (part_with_field l.plan l.from l.own.object l.own.section) l.bytes l.relocation-iterator
+    ≡ fold (part_with_field l.plan l.from l.own.object l.own.section) l.fn.bytes
+    (relocations (object l.plan l.own.object) l.own.section)) ×
+    (length l.bytes ≡ length l.fn.bytes) ×
+    NoneBefore l.plan l.own.object l.table l.entry ×
     (l.entry + length l.relocation-iterator ≤ 2 ^ 20)

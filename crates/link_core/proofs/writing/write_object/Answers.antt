@@ -5,4 +5,4 @@ use Rattle.link_core.proofs.writing.write_object.Goals as goal
 
 pub loop-table-init : goal.loop-table-init
 unfolding part_with_fields
-loop-table-init c = (refl, refl, no_tables c.args.plan.now c.args.from c.args.to c.args.number)
+loop-table-init c = (refl, refl, no_tables c.args.plan.now c.args.part.from c.args.part.to c.args.number)

@@ -9,8 +9,8 @@ use Rattle.link_core.proofs.writing.write_object.Given as goal
 -- the tables that are left write what all do; none so far overflows
 abbrev pub invariant-loop-table : goal.invariant-loop-table
 invariant-loop-table l =
-    (fold (part_with_table l.plan l.from l.to l.number (object l.plan l.number)) l.part
+    (fold (part_with_table l.plan l.part.from l.part.to l.number (object l.plan l.number)) l.bytes
     (range_with_len l.table (section_count (object l.plan l.number) - l.table))
-    ≡ part_with_fields l.plan l.from l.to l.number (object l.plan l.number) l.fn.part) ×
-    (length l.part ≡ length l.fn.part) ×
-    NoneInTables l.plan l.from l.to l.number l.table
+    ≡ part_with_fields l.plan l.part.from l.part.to l.number (object l.plan l.number) l.fn.bytes) ×
+    (length l.bytes ≡ length l.fn.bytes) ×
+    NoneInTables l.plan l.part.from l.part.to l.number l.table

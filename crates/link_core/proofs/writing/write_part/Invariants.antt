@@ -6,7 +6,7 @@ use Rattle.link_core.proofs.writing.write_part.Given as goal
 -- the objects that are left write what all do; none so far overflows
 abbrev pub invariant-loop-number : goal.invariant-loop-number
 invariant-loop-number l =
-    (part_with_fields_from l.plan l.from l.to l.number (drop l.number l.plan.objects) l.part
-    ≡ part_with_fields_from l.plan l.from l.to 0 l.plan.objects l.fn.part) ×
-    (length l.part ≡ length l.fn.part) ×
-    NoneInObjects l.plan l.from l.to l.number
+    (part_with_fields_from l.plan l.part.from l.part.to l.number (drop l.number l.plan.objects) l.bytes
+    ≡ part_with_fields_from l.plan l.part.from l.part.to 0 l.plan.objects l.fn.bytes) ×
+    (length l.bytes ≡ length l.fn.bytes) ×
+    NoneInObjects l.plan l.part.from l.part.to l.number

@@ -11,7 +11,7 @@ returns-in-None-clause-written c =
     let o = c.args.number in
     let s = c.args.table in
     let b = c.object.ensures ∙ ap (λ l. object l o) c.plan.view_is in
-    nothing_held l o s c.args.from c.args.to c.args.part.now
+    nothing_held l o s c.args.part.from c.args.part.to c.args.bytes.now
     (sym (c.in-None.ensures.target ∙ ap (λ b. nonzero (relocation_target b s)) b))
 
 pub returns-in-None-clause-fits : goal.returns-in-None-clause-fits
@@ -20,5 +20,5 @@ returns-in-None-clause-fits c =
     let o = c.args.number in
     let s = c.args.table in
     let b = c.object.ensures ∙ ap (λ l. object l o) c.plan.view_is in
-    none_of_part l o s c.args.from c.args.to
+    none_of_part l o s c.args.part.from c.args.part.to
     (none_held l o s (sym (c.in-None.ensures.target ∙ ap (λ b. nonzero (relocation_target b s)) b)))

@@ -10,7 +10,7 @@ use Rattle.link_needs.proofs.plan.plan_of.Goals as goal
 
 pub page_up-stub_start-requires : goal.page_up-stub_start-requires
 page_up-stub_start-requires c =
-    let l = c.args.inputs.now in
+    let l = c.args.inputs in
     let found = c.as_slice.result.now in
     let needs_are : found ≡ needs l = c.as_slice.ensures.value ∙ c.in_ok-needs.ensures.needs in
     let got = c.in_ok-got.got in
@@ -30,7 +30,7 @@ page_up-stub_start-requires c =
 
 pub invariant_of-result : goal.invariant_of-result
 invariant_of-result c =
-    let l = c.args.inputs.now in
+    let l = c.args.inputs in
     let found = c.as_slice.result.now in
     let needs_are : found ≡ needs l = c.as_slice.ensures.value ∙ c.in_ok-needs.ensures.needs in
     let got = c.in_ok-got.got in
@@ -45,13 +45,13 @@ invariant_of-result c =
     record {
       given = subst IsGiven c.inputs.view_is c.inputs.invariant.given;
       limits = c.requires;
-      values_are = c.in_ok-symbol_values.ensures;
+      values_are = c.in_ok-values.ensures;
       choices_are = c.in_ok-needs.ensures.choices;
       got_is = is;
       start_is = begins;
       stub_is = c.page_up-stub_start.ensures.page
           ∙ ap page_up (ends_at l found got start needs_are c.size.result is begins c.size.ensures);
       stubbed_is = c.has_stub-has_stub.ensures;
-      rewriting_is = c.is_rewriting.ensures;
-      counting_is = c.counts_from_thread_pointer.ensures;
+      rewriting_is = c.is_rewriting-is_rewriting.ensures;
+      counting_is = c.counts_from_thread_pointer-counts_from_thread_pointer.ensures;
     }

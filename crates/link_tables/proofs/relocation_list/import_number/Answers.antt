@@ -10,12 +10,12 @@ use Rattle.link_tables.proofs.relocation_list.import_number.Goals as goal
 pub returns-clause-number : goal.returns-clause-number
 returns-clause-number c =
     let name = c.args.name.now in
-    let lent = c.prepared.inside.imports.keys in
+    let lent = c.tables.inside.imports.keys in
     let found = λ (names : List (List ℕ)). position_from (bytes_eq name) 0 names in
     c.unwrap_or.ensures
     ∙ ap (λ (at : Option ℕ). unwrap_or at 0)
     (c.get_index_of.ensures.index
     ∙ position_from-zero (λ (other : Bor (List ℕ)). bytes_eq name other.now) lent
     ∙ found_lent name 0 lent
-    ∙ ap found c.prepared.invariant.imports_are
-    ∙ ap (λ (l : Linking). found (imports l)) c.prepared.view_is)
+    ∙ ap found c.tables.invariant.imports_are
+    ∙ ap (λ (l : Linking). found (imports l)) c.tables.view_is)

@@ -7,5 +7,5 @@ use Rattle.link_tables.proofs.relocation_list.push_got.Given as goal
 
 abbrev pub invariant-loop-number : goal.invariant-loop-number
 invariant-loop-number l =
-    (l.all.items ++ left l.prepared l.place l.number ≡ l.fn.all.items ++ got_relocations l.prepared)
-    × (l.place + total_size (drop l.number (entries l.prepared)) ≡ got_start l.prepared + got_size l.prepared)
+    (l.all.items ++ left l.tables l.place l.number ≡ l.fn.all.items ++ got_relocations l.tables)
+    × (l.place + total_size (drop l.number (entries l.tables)) ≡ got_start l.tables + got_size l.tables)

@@ -9,6 +9,6 @@ overflow_add-result c =
     let kept = c.self.invariant in
     omega (
       arith,
-      entry_small plan.inputs.now plan.got plan.got_start c.in-Some-start.at (size_of c.in-Some.need)
+      entry_small plan.inputs plan.got plan.got_start c.in-Some-start.at (size_of c.in-Some.need)
           kept.given kept.limits kept.got_is kept.start_is c.in-Some-start.ensures.within,
     )

@@ -1,0 +1,239 @@
+//! A link that is ready to be written: all that may refuse it has been asked but whether its fields hold their values,
+//! and its table is laid out. No byte of the image is.
+
+ghost use Rattle.std.specs.Prelude.{◌≡◌, ◌-◌, ◌<◌, ◌^◌, ℕ, [], None, IfErr, IfOk, OnOk, length, map, slice_index_or};
+ghost use Rattle.sequence_match.specs.Faults.{AreSites};
+ghost use Rattle.link_refusals.specs.Faults.{FitsKind, FitsStorage};
+ghost use Rattle.tls_layout.specs.Places.{tls_alignment, tls_size, IsLawful};
+ghost use Rattle.tls_layout.specs.Rounding.{round_up};
+ghost use Rattle.tls_layout.specs.Sections.{layout_of};
+ghost use Rattle.tls_symbols.specs.Bindings.{object_at};
+ghost use Rattle.tls_symbols.specs.Faults.{AreResolved};
+ghost use Rattle.link_needs.specs.Linking.{choices_from, link_of};
+ghost use Rattle.link_tables.specs.Faults.{ArePrepared, IsLinkFault, IsSound, LacksStorage};
+
+use dynamic_symbols::{defined_symbols, imports, names_fit};
+use elf_object::Object;
+use indexmap::IndexSet;
+use link_faults::{ImageKind, LinkFault, LinkFaultKind, SymbolRef};
+use link_needs::{Inputs, Plan, plan_of};
+use link_refusals::{ask_kind, ask_tls, has_few_relocations};
+use link_tables::Tables;
+use relax_sites::Choice;
+use sequence_match::Site;
+use std::alloc::{AllocError, Global};
+use std::marker::Model;
+use tls_layout::{Placement, TlsSize, place, static_offsets};
+use tls_symbols::{Bindings, Exports, resolve};
+
+/// A link that no fault stands in but an `Overflow`, with its table laid out. Contracts see what decides it.
+#[derive(Drop)]
+pub struct ReadyLink<'l, 's, 'a> {
+    pub(crate) tables: Tables<'l, 's, 'a>,
+}
+
+impl<'l, 's, 'a> Model for ReadyLink<'l, 's, 'a> {
+    ghost use Rattle.link_needs.specs.Linking.{Linking};
+    ghost use Rattle.link_tables.specs.Faults.{IsSound};
+
+    ghost Value = { Linking };
+
+    ghost view = { λ ready. ready.tables };
+
+    ghost invariant = { λ ready. IsSound ready.tables };
+}
+
+/// The names of an image: the symbols that it defines for others, and those that it imports.
+#[derive(Drop)]
+struct Names<'a> {
+    own: Vec<SymbolRef>,
+    imports: IndexSet<&'a [u8]>,
+}
+
+/// How far below the thread pointer the block of a program begins.
+fn block_offset(alloc: Global, placement: &Placement) -> Result<u64, AllocError>
+    ensures { IfOk result (λ offset. offset
+        ≡ round_up (tls_size placement.now.sections) (tls_alignment placement.now.sections)) }
+{
+    let segment = TlsSize {
+        size: placement.tls_size(),
+        alignment: placement.tls_alignment(),
+    };
+    let offsets = static_offsets(alloc, &[segment])?;
+    Ok(offsets[0])
+}
+
+/// The image as a whole is too large.
+fn too_large() -> LinkFault
+    ensures { result ≡ LinkFault.At LinkFaultKind.ImageTooLarge None 0 0 }
+{
+    LinkFault::At {
+        kind: LinkFaultKind::ImageTooLarge,
+        object: None,
+        section: 0,
+        entry: 0,
+    }
+}
+
+/// The names of an image whose relocations are few and whose names are short.
+fn named<'a>(
+    alloc: Global,
+    objects: &[Object<'a>],
+    sites: &[Vec<Site>],
+    kind: ImageKind,
+    relax: bool,
+    bindings: &Bindings<'_, '_, 'a>,
+) -> Result<Names<'a>, LinkFault>
+    requires few { length bindings.now.startup < 2 ^ 32 - 1 }
+    requires each { length sites.now ≡ length objects.now }
+    requires sites { (o : ℕ) → o < length objects.now
+        → AreSites (object_at objects.now o) (slice_index_or (map (λ own. own.items) sites.now) o []) }
+    requires objects { bindings.now.objects ≡ objects.now }
+    requires resolved { AreResolved objects.now bindings.now.startup }
+    requires kind { FitsKind objects.now kind }
+    requires lawful { IsLawful (layout_of kind objects.now) }
+    ensures prepared { IfOk result (λ names.
+        ArePrepared (link_of objects.now sites.now kind bindings.now.startup relax)
+        names.own.items (map (λ name. name.now) names.imports.keys)) }
+    ensures fault { IfErr result (IsLinkFault (link_of objects.now sites.now kind bindings.now.startup relax)) }
+{
+    let few = has_few_relocations(objects);
+    let own = defined_symbols(alloc, objects, bindings)?;
+    let imports = imports(alloc, objects, bindings, sites)?;
+    if !few || !names_fit(objects, own.as_slice(), imports.as_slice()) {
+        return Err(too_large());
+    }
+    Ok(Names { own, imports })
+}
+
+/// How far below the thread pointer the block begins, where what asks for thread-local storage finds some.
+fn storage(
+    alloc: Global,
+    objects: &[Object],
+    bindings: &Bindings,
+    kind: ImageKind,
+    placement: &Placement,
+) -> Result<u64, LinkFault>
+    requires { bindings.now.objects ≡ objects.now }
+    ensures offset { IfOk result (λ offset. offset
+        ≡ round_up (tls_size placement.now.sections) (tls_alignment placement.now.sections)) }
+    ensures fits { OnOk result
+        (FitsStorage bindings.now.objects bindings.now.startup kind (tls_size placement.now.sections)) }
+    ensures fault { IfErr result
+        (LacksStorage bindings.now.objects bindings.now.startup kind (tls_size placement.now.sections)) }
+{
+    ask_tls(objects, bindings, kind, placement.tls_size())?;
+    Ok(block_offset(alloc, placement)?)
+}
+
+/// A link of these inputs, with its table laid out. The only error is want of memory.
+fn planned<'l, 's, 'a>(
+    alloc: Global,
+    inputs: Inputs<'l, 's, 'a>,
+    names: Names<'a>,
+) -> Result<ReadyLink<'l, 's, 'a>, AllocError>
+    requires prepared { ArePrepared inputs names.own.items (map (λ name. name.now) names.imports.keys) }
+    requires sound { IsSound inputs }
+    ensures { IfOk result (λ ready. ready ≡ inputs.entry) }
+{
+    let plan = plan_of(alloc, inputs)?;
+    let tables = Tables {
+        plan,
+        own: names.own,
+        imports: names.imports,
+    };
+    Ok(ReadyLink { tables })
+}
+
+/// The link of objects whose names are bound so and whose sections go there, or the first fault that is left, of another
+/// kind than `Overflow`.
+fn within_limits<'l, 's, 'a>(
+    alloc: Global,
+    objects: &'l [Object<'a>],
+    sites: &'l [Vec<Site>],
+    kind: ImageKind,
+    relax: bool,
+    bindings: Bindings<'l, 's, 'a>,
+    placement: Placement,
+) -> Result<ReadyLink<'l, 's, 'a>, LinkFault>
+    requires few { length bindings.startup < 2 ^ 32 - 1 }
+    requires each { length sites.now ≡ length objects.now }
+    requires sites { (o : ℕ) → o < length objects.now
+        → AreSites (object_at objects.now o) (slice_index_or (map (λ own. own.items) sites.now) o []) }
+    requires objects { bindings.objects ≡ objects.now }
+    requires resolved { AreResolved objects.now bindings.startup }
+    requires kind { FitsKind objects.now kind }
+    requires places { placement ≡ layout_of kind objects.now }
+    requires lawful { IsLawful placement }
+    ensures ready { IfOk result (λ ready. ready ≡ link_of objects.now sites.now kind bindings.entry.startup relax) }
+    ensures sound { OnOk result (IsSound (link_of objects.now sites.now kind bindings.entry.startup relax)) }
+    ensures fault { IfErr result (IsLinkFault (link_of objects.now sites.now kind bindings.entry.startup relax)) }
+{
+    let names = named(alloc, objects, sites, kind, relax, &bindings)?;
+    let block_offset = storage(alloc, objects, &bindings, kind, &placement)?;
+    let inputs = Inputs {
+        kind,
+        relax,
+        objects,
+        sites,
+        bindings,
+        placement,
+        block_offset,
+    };
+    let ready = planned(alloc, inputs, names)?;
+    Ok(ready)
+}
+
+/// Makes a link of objects ready, beside startup images that export these names, or answers the first fault of another
+/// kind than `Overflow`. No byte of the image is laid.
+pub fn prepare<'l, 's, 'a>(
+    alloc: Global,
+    objects: &'l [Object<'a>],
+    sites: &'l [Vec<Site>],
+    kind: ImageKind,
+    startup: &'s [Exports<'a>],
+    relax: bool,
+) -> Result<ReadyLink<'l, 's, 'a>, LinkFault>
+    requires few { length startup.now < 2 ^ 32 - 1 }
+    requires each { length sites.now ≡ length objects.now }
+    requires sites { (o : ℕ) → o < length objects.now
+        → AreSites (object_at objects.now o) (slice_index_or (map (λ own. own.items) sites.now) o []) }
+    ensures ready { IfOk result (λ ready. ready ≡ link_of objects.now sites.now kind startup.now relax) }
+    ensures sound { OnOk result (IsSound (link_of objects.now sites.now kind startup.now relax)) }
+    ensures fault { IfErr result (IsLinkFault (link_of objects.now sites.now kind startup.now relax)) }
+{
+    let bindings = resolve(alloc, objects, startup)?;
+    ask_kind(objects, kind)?;
+    let placement = place(alloc, objects, kind)?;
+    within_limits(alloc, objects, sites, kind, relax, bindings, placement)
+}
+
+/// A link without the names of its tables.
+fn plan_in<'l, 's, 'a>(tables: Tables<'l, 's, 'a>) -> Plan<'l, 's, 'a>
+    ensures { result ≡ tables.entry }
+{
+    let Tables {
+        plan,
+        own: _,
+        imports: _,
+    } = tables;
+    plan
+}
+
+impl<'l, 's, 'a> ReadyLink<'l, 's, 'a> {
+    /// What is known of the link, where no byte of it is asked for.
+    pub fn into_inputs(self) -> Inputs<'l, 's, 'a>
+        ensures { result ≡ self.entry }
+    {
+        let ReadyLink { tables } = self;
+        plan_in(tables).into_inputs()
+    }
+
+    /// Which sequence stands in the place of each site, where no byte of the image is asked for.
+    pub fn into_choices(self) -> Vec<Vec<Choice>>
+        ensures { map (λ own. own.items) result.items ≡ choices_from self.entry 0 self.entry.sites }
+    {
+        let ReadyLink { tables } = self;
+        plan_in(tables).into_choices()
+    }
+}
