@@ -102,7 +102,7 @@ fn count_in(bindings: &Bindings, index: usize, object: &Object) -> u64
     let mut count = 0_u64;
     for relocation in object.relocs(2) {
         if relocation.symbol < object.symbol_count() {
-            if let Some(Binding::Here(_)) = bindings.binding(index, &relocation) {
+            if let Some(Binding::Here(_)) = bindings.binding_of(index, &relocation) {
                 count = count.wrapping_add(1);
             }
         }

@@ -49,7 +49,7 @@ fn binding(inputs: &Inputs, object: usize, relocation: &Relocation) -> Option<Bi
     ensures binding { result ≡ binding_in inputs.now object relocation.now }
     ensures within { IfSome result (IsBindingWithin inputs.now.objects) }
 {
-    inputs.bindings.binding(object, relocation)
+    inputs.bindings.binding_of(object, relocation)
 }
 
 /// S or O, where the image is not moved.

@@ -11,7 +11,7 @@ use Rattle.sequence_forms.specs.declared.places.Site.{Site}
 use Rattle.link_faults.specs.declared.binding.Binding.{Binding}
 use Rattle.link_faults.specs.declared.binding.Binding.TheVariants.{Here, Runtime}
 use Rattle.link_faults.specs.declared.symbol_ref.SymbolRef.{SymbolRef}
-use Rattle.tls_symbols.specs.Bindings.{binding_of, first_export, get_address, here_or, may_import, name_binding, object_at, of_startup}
+use Rattle.tls_symbols.specs.Bindings.{binding_of, bound_to, first_export, get_address, here_or, may_import, name_binding, object_at, of_startup}
 use Rattle.tls_symbols.specs.Definitions.{definition_of, same_binding}
 use Rattle.dynamic_symbols.specs.Laws.{BindingsAreByUse, ImportsAreDistinct, ImportsAreForeign, IsForeign}
 use Rattle.dynamic_symbols.specs.Names.{imported_at, imported_from, imported_in, imports, is_import, is_startup}
@@ -21,7 +21,7 @@ use Rattle.dynamic_symbols.proofs.Lists.{all_append, all_cons, all_distinct, all
 module _ (objects : List (List ℕ)) (startup : List (List (List ℕ))) where
   -- a name that is bound to a startup image
   foreign : (o : ℕ) (r : Relocation) → is_startup (binding_of objects startup o r) ≡ true → IsForeign objects (symbol_name (object_at objects o) r.symbol)
-  unfolding binding_of
+  unfolding bound_to
   foreign o r is = of_local (same_binding Local (symbol_binding (object_at objects o) r.symbol)) is
     where
       of_definition : (rest : Option Binding) (n : List ℕ) → bytes_eq n get_address ≡ false
@@ -71,7 +71,7 @@ unfolding imports
 imports_distinct objects startup sites = distinct_names (imported_from objects startup 0 sites)
 
 pub bindings_by_use : BindingsAreByUse
-unfolding binding_of
+unfolding bound_to
 bindings_by_use objects startup o x y kinds symbols = λ i.
     if same_binding Local (symbol_binding (object_at objects o) (symbols i))
     then Some (Here (record { object = o; symbol = symbols i }))

@@ -8,11 +8,11 @@ use Rattle.elf_object.specs.declared.symbol.SymbolBinding.TheVariants.{Local}
 use Rattle.elf_object.specs.Lent.{symbol_binding, symbol_name, symbol_place}
 use Rattle.elf_object.specs.Parts.{symbol_count}
 use Rattle.sequence_forms.specs.declared.places.Site.{Site}
-use Rattle.sequence_match.specs.Sites.{first_of}
+use Rattle.sequence_forms.specs.Forms.{row}
 use Rattle.link_faults.specs.declared.binding.Binding.{Binding}
 use Rattle.link_faults.specs.declared.binding.Binding.TheVariants.{Startup}
 use Rattle.link_faults.specs.declared.symbol_ref.SymbolRef.{SymbolRef}
-use Rattle.tls_symbols.specs.Bindings.{binding_of, object_at}
+use Rattle.tls_symbols.specs.Bindings.{bound_to, may_import, object_at}
 use Rattle.tls_symbols.specs.Definitions.{definition_of, is_defined, same_binding}
 
 -- each of these names once, where it comes first
@@ -50,7 +50,8 @@ is_startup _ = false
 
 -- whether a startup image defines what a site of object o uses
 abbrev pub is_import : List (List ℕ) → List (List (List ℕ)) → ℕ → Site → Bool
-is_import objects startup o site = is_startup (binding_of objects startup o (first_of site))
+is_import objects startup o site =
+    is_startup (bound_to objects startup o site.symbol (may_import (row site.form).first))
 
 -- its name, where one does
 abbrev pub imported_at : List (List ℕ) → List (List (List ℕ)) → ℕ → Site → List (List ℕ)

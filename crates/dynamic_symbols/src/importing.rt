@@ -5,15 +5,15 @@ ghost use Rattle.std.specs.List.{All};
 ghost use Rattle.elf_object.specs.Parts.{symbol_count};
 ghost use Rattle.tls_symbols.specs.Bindings.{object_at};
 ghost use Rattle.dynamic_symbols.specs.Names.{imported_in, imports, is_import};
-ghost use Rattle.sequence_match.specs.Sites.{first_of, HaveSymbols};
+ghost use Rattle.sequence_match.specs.Sites.{HaveSymbols};
 ghost use Rattle.dynamic_symbols.specs.Walks.{with_names};
 
 use elf_object::Object;
 use indexmap::IndexSet;
 use link_faults::Binding;
-use sequence_match::{Site, first_of};
+use sequence_match::Site;
 use std::alloc::{AllocError, Global};
-use tls_symbols::Bindings;
+use tls_symbols::{Bindings, imports_of};
 
 /// Whether a startup image defines what a site of an object uses.
 fn is_import(bindings: &Bindings, index: usize, site: &Site) -> bool
@@ -21,8 +21,9 @@ fn is_import(bindings: &Bindings, index: usize, site: &Site) -> bool
     requires symbol { site.now.symbol < symbol_count (object_at bindings.now.objects index) }
     ensures { result ≡ is_import bindings.now.objects bindings.now.startup index site.now }
 {
+    let imports = imports_of(site.form.row().first);
     matches!(
-        bindings.binding(index, &first_of(site)),
+        bindings.binding(index, site.symbol, imports),
         Some(Binding::Startup(_))
     )
 }

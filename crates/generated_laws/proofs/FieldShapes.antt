@@ -15,7 +15,7 @@ use Rattle.link_faults.specs.declared.binding.Binding.TheVariants.{Here, Runtime
 use Rattle.link_faults.specs.declared.image_kind.ImageKind.TheVariants.{Exe}
 use Rattle.link_faults.specs.declared.symbol_ref.SymbolRef.{SymbolRef}
 use Rattle.tls_layout.specs.Places.{IsLawful}
-use Rattle.tls_symbols.specs.Bindings.{binding_of}
+use Rattle.tls_symbols.specs.Bindings.{bound_to, binding_of}
 use Rattle.link_needs.specs.Given.{FitsTable, IsGiven}
 use Rattle.link_needs.specs.Linking.{Linking, binding, block_offset, layout, object, offset, place}
 use Rattle.link_needs.specs.Needs.{need_address, relocation_need, stub_start}
@@ -55,7 +55,7 @@ module _ (l : Linking) (o : ℕ) where
   module _ (s : Shape) (reads : ReadsAs (object l o) s) where
     -- symbol 3 is the run time's function
     pub calls_runtime : s.calls ≡ true → (r : Relocation) → r.symbol ≡ 3 → binding l o r ≡ Some Runtime
-    unfolding binding_of
+    unfolding bound_to
     calls_runtime calls r is =
         let known = known_third s calls in
         let name = reads.names 3 known.0 ∙ known.1 in

@@ -7,11 +7,10 @@ use Rattle.elf_object.specs.declared.relocation.Relocation.{Relocation}
 use Rattle.object_faults.specs.Firsts.{nonzero}
 use Rattle.link_faults.specs.declared.image_kind.ImageKind.{ImageKind}
 use Rattle.link_faults.specs.declared.fault.LinkFaultKind.TheVariants.{LocalExecInModule, NarrowInModule}
-use Rattle.link_refusals.specs.Places.{NoneCharged, Test}
 use Rattle.link_refusals.specs.Refused.{is_refused}
-use Rattle.link_refusals.proofs.Positions.{PassesAt, impossible}
 use Rattle.tls_symbols.specs.Bindings.{object_at}
-use Rattle.tls_symbols.specs.Faults.{held_for, held_in, is_tls_kind}
+use Rattle.tls_symbols.specs.Faults.{held_for, held_in, is_tls_kind, NoneCharged, Test}
+use Rattle.tls_symbols.proofs.FirstFaults.{ChargedAt, impossible}
 use Rattle.tls_symbols.proofs.Search.{first_all, rest_all}
 use Rattle.generated_job.specs.Shapes.{Shape}
 use Rattle.generated_laws.specs.Reading.{ReadsAs, relocation_of}
@@ -40,7 +39,7 @@ pub record IsPlain (s : Shape) : Type 0 where
 -- ** tests of relocations
 
 nowhere_in : {X : Type 0} (P : X → Type 0) (test : X → Bool) (xs : List X) → All P xs → ((x : X) → P x → test x ≡ false)
-    → (e : ℕ) → PassesAt test xs e → ⊥
+    → (e : ℕ) → ChargedAt test xs e → ⊥
 nowhere_in P test [] all fails e passes = passes
 nowhere_in P test (x ∷ xs) all fails zero passes = impossible (sym passes ∙ fails x (first_all P x xs (x ∷ xs) refl all))
 nowhere_in P test (x ∷ xs) all fails (suc e) passes = nowhere_in P test xs (rest_all P x xs all) fails e passes
@@ -57,12 +56,12 @@ module _ (b : List ℕ) (s : Shape) (reads : ReadsAs b s) where
 
   -- where all of them fail a test none that a section holds passes it
   pub none_held : (P : Relocation → Type 0) (test : Relocation → Bool) → All P (map relocation_of s.relocations)
-      → ((r : Relocation) → P r → test r ≡ false) → (t e : ℕ) → PassesAt test (held_in b t) e → ⊥
+      → ((r : Relocation) → P r → test r ≡ false) → (t e : ℕ) → ChargedAt test (held_in b t) e → ⊥
   none_held P test all fails t e passes = elim (cases_eq t 2) [
     | inl same ↦
         nowhere_in P test (map relocation_of s.relocations) all fails e
-        (subst (λ held. PassesAt test held e) (ap (held_in b) same ∙ held_here) passes)
-    | inr other ↦ subst (λ held. PassesAt test held e) (held_nowhere t other) passes
+        (subst (λ held. ChargedAt test held e) (ap (held_in b) same ∙ held_here) passes)
+    | inr other ↦ subst (λ held. ChargedAt test held e) (held_nowhere t other) passes
   ]
 
 -- ** objects that read as plain shapes

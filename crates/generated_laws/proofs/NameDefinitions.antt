@@ -8,7 +8,7 @@ use Rattle.elf_object.specs.declared.relocation.Relocation.{Relocation}
 use Rattle.elf_object.specs.declared.symbol.SymbolBinding.{SymbolBinding}
 use Rattle.elf_object.specs.declared.symbol.SymbolBinding.TheVariants.{Global}
 use Rattle.link_faults.specs.declared.binding.Binding.TheVariants.{Here, Runtime}
-use Rattle.tls_symbols.specs.Bindings.{binding_of, get_address, is_tls_symbol, object_at}
+use Rattle.tls_symbols.specs.Bindings.{binding_of, bound_to, get_address, is_tls_symbol, object_at}
 use Rattle.tls_symbols.specs.Definitions.{definition_of, first_from, first_in}
 use Rattle.tls_symbols.proofs.Numbered.{same_name}
 use Rattle.generated_job.specs.Shapes.{Shape}
@@ -95,14 +95,14 @@ module _ (objects : List (List ℕ)) (shape : ℕ → Shape) (given : ReadAsShap
   module _ (startup : List (List (List ℕ))) where
     pub variable_bound : (o : ℕ) (r : Relocation) → o < length objects → r.symbol ≡ 2
         → binding_of objects startup o r ≡ Some (Here (record { object = o; symbol = 2 }))
-    unfolding binding_of
+    unfolding bound_to
     variable_bound o r there is =
         let own = symbols_at o there in
         rw (is, own.variable_binding, own.variable_name, differs (shape o).variable get_address (apart.variable_named o there), variable_definition o there) refl
 
     pub getter_bound : (o : ℕ) (r : Relocation) → o < length objects → r.symbol ≡ 3 → (shape o).calls ≡ true
         → binding_of objects startup o r ≡ Some Runtime
-    unfolding binding_of
+    unfolding bound_to
     getter_bound o r there is calls =
         let getter = (symbols_at o there).getter calls in
         rw (is, getter.binding, getter.name) refl

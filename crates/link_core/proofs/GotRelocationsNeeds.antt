@@ -21,7 +21,7 @@ use Rattle.link_faults.specs.declared.image_kind.ImageKind.{ImageKind}
 use Rattle.link_faults.specs.declared.binding.Binding.{Binding}
 use Rattle.link_faults.specs.declared.binding.Binding.TheVariants.{Here, Startup, Runtime}
 use Rattle.link_faults.specs.declared.symbol_ref.SymbolRef.{SymbolRef}
-use Rattle.tls_symbols.specs.Bindings.{binding_of, first_export, get_address, here_or, may_import, object_at}
+use Rattle.tls_symbols.specs.Bindings.{binding_of, bound_to, first_export, get_address, here_or, may_import, object_at}
 use Rattle.tls_symbols.specs.Bindings.{of_startup}
 use Rattle.tls_symbols.specs.Definitions.{definition_of, same_binding}
 use Rattle.std.specs.Str.{bytes_eq}
@@ -163,7 +163,7 @@ new_kind form c = tt
 bound_alike : (objects : List (List ℕ)) (startup : List (List (List ℕ))) (o : ℕ) (x y : Relocation)
     → may_import x.kind ≡ may_import y.kind → x.symbol ≡ y.symbol
     → binding_of objects startup o x ≡ binding_of objects startup o y
-unfolding binding_of
+unfolding bound_to
 bound_alike objects startup o x y kinds symbols = λ i.
     let name = symbol_name (object_at objects o) (symbols i) in
     if same_binding Local (symbol_binding (object_at objects o) (symbols i))

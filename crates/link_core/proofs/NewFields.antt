@@ -50,7 +50,7 @@ use Rattle.tls_layout.specs.Sections.{IsOrdinary}
 use Rattle.tls_relocs.specs.declared.fields.Field.{Field}
 use Rattle.tls_relocs.specs.declared.fields.Field.TheVariants.{Word32}
 use Rattle.tls_relocs.specs.Values.{modulo, signed_field, stored_field}
-use Rattle.tls_symbols.specs.Bindings.{binding_of, first_export, get_address, here_or, may_import, name_binding}
+use Rattle.tls_symbols.specs.Bindings.{binding_of, bound_to, first_export, get_address, here_or, may_import, name_binding}
 use Rattle.tls_symbols.specs.Bindings.{object_at, of_startup}
 use Rattle.tls_symbols.specs.Definitions.{definition_of, same_binding}
 use Rattle.link_core.proofs.Few.{table_fits}
@@ -134,7 +134,7 @@ which l form (Some bound) new e = of_kind form bound l.kind l.relax new e
 here_alike : (objects : List (List ℕ)) (startup : List (List (List ℕ))) (o : ℕ) (x y : Relocation)
     (found : SymbolRef) → x.symbol ≡ y.symbol → binding_of objects startup o x ≡ Some (Here found)
     → binding_of objects startup o y ≡ Some (Here found)
-unfolding binding_of
+unfolding bound_to
 here_alike objects startup o x y found same e =
     let b = object_at objects o in
     subst (λ n. (if same_binding Local (symbol_binding (object_at objects o) n)

@@ -17,7 +17,7 @@ use Rattle.elf_object.specs.Relocations.{field_width}
 use Rattle.dynamic_symbols.proofs.Lists.{all_flat_range}
 use Rattle.image_faults.specs.declared.loader_kind.LoaderKind.TheVariants.{Relative}
 use Rattle.image_file.specs.declared.relocation.ImageRelocation.{ImageRelocation}
-use Rattle.link_refusals.proofs.Objects.{dropped_is}
+use Rattle.tls_symbols.proofs.Within.{dropped_is}
 use Rattle.sequence_match.specs.Code.{AreApart as ShareNoByte}
 use Rattle.sequence_match.proofs.Sections.{fields_apart}
 use Rattle.tls_layout.specs.Places.{address_of, class_of, section_named}

@@ -19,7 +19,7 @@ use Rattle.sequence_match.specs.Faults.{IsGetter}
 use Rattle.link_faults.specs.declared.binding.Binding.{Binding}
 use Rattle.link_faults.specs.declared.binding.Binding.TheVariants.{Here, Runtime}
 use Rattle.link_faults.specs.declared.symbol_ref.SymbolRef.{SymbolRef}
-use Rattle.tls_symbols.specs.Bindings.{binding_of, first_export, get_address, here_or, may_import, name_binding}
+use Rattle.tls_symbols.specs.Bindings.{binding_of, bound_to, first_export, get_address, here_or, may_import, name_binding}
 use Rattle.tls_symbols.specs.Bindings.{object_at, of_startup}
 use Rattle.tls_symbols.specs.Definitions.{definition_of, is_defined, same_binding}
 use Rattle.tls_symbols.specs.Faults.{is_second, AreResolved, Stands as StandsAt}
@@ -86,7 +86,7 @@ module _ (objects : List (List ℕ)) (startup : List (List (List ℕ))) (o : ℕ
   -- it is bound to the run time's function where it has its name
   pub getter_bound : IsObject own → (r : Relocation) → 0 < r.symbol → IsGetter own r.symbol
       → binding_of objects startup o r ≡ Some Runtime
-  unfolding binding_of
+  unfolding bound_to
   getter_bound object r above getter =
       let same = (bytes_eq-Decides (symbol_name own r.symbol) get_address).1 getter.2 in
       rw (undefined_shared own object r.symbol above getter.0 getter.1, same) refl
@@ -110,7 +110,7 @@ module _ (objects : List (List ℕ)) (startup : List (List (List ℕ))) (o : ℕ
   IsRunTime n = (same_binding Local (symbol_binding own n) ≡ false) × (bytes_eq (symbol_name own n) get_address ≡ true)
 
   runtime_named : (r : Relocation) → binding_of objects startup o r ≡ Some Runtime → IsRunTime r.symbol
-  unfolding binding_of
+  unfolding bound_to
   runtime_named r is = of_local (same_binding Local (symbol_binding own r.symbol)) refl is
     where
       of_name : (n : List ℕ) (t : Bool) → bytes_eq n get_address ≡ t

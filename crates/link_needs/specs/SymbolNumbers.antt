@@ -1,34 +1,29 @@
 -- What each symbol that relocations name stands for, and what a relocation's field takes from it.
-use Rattle.std.specs.Prelude.{ℕ, pos, Bool, true, false, List, Option, Some, length, map, if◌then◌else◌}
+use Rattle.std.specs.Prelude.{ℕ, Bool, true, false, List, Option, Some, length, map, if◌then◌else◌}
 use Rattle.std.specs.List.{range_with_len}
 use Rattle.elf_records.specs.declared.relocation.RelocationKind.{RelocationKind}
-use Rattle.elf_records.specs.declared.relocation.RelocationKind.TheVariants.{Nothing}
 use Rattle.elf_records.specs.RelocationRows.{row, is_offset}
 pub use Rattle.elf_records.specs.RelocationRows.{reaches_entry}
-use Rattle.elf_object.specs.declared.relocation.Relocation.{Relocation}
 use Rattle.elf_object.specs.Parts.{symbol_count}
 use Rattle.link_faults.specs.declared.binding.Binding.{Binding}
 use Rattle.link_faults.specs.declared.binding.Binding.TheVariants as bound
+use Rattle.tls_symbols.specs.Bindings.{bound_to}
 use Rattle.link_needs.specs.declared.symbol_values.SymbolValue.{SymbolValue}
 use Rattle.link_needs.specs.declared.symbol_values.SymbolValue.TheVariants.{Here, Runtime, Elsewhere}
-use Rattle.link_needs.specs.Linking.{Linking, address, binding, object, offset}
+use Rattle.link_needs.specs.Linking.{Linking, address, object, offset}
 use Rattle.link_needs.specs.Needs.{stub_start}
 use Rattle.link_needs.specs.Values.{goes_where}
 
 -- ** what a symbol stands for
-
--- a relocation that names symbol e, and may not name another image's
-abbrev pub naming : ℕ → Relocation
-naming e = record { offset = 0; kind = Nothing; symbol = e; addend = pos 0 }
 
 abbrev pub value_by : Linking → Option Binding → SymbolValue
 value_by l (Some (bound.Here found)) = Here (address l found) (offset l found)
 value_by l (Some bound.Runtime) = Runtime
 value_by l other = Elsewhere
 
--- symbol e of object o
+-- symbol e of object o, which may not be another image's
 unfoldable pub value_of : Linking → ℕ → ℕ → SymbolValue
-value_of l o e = value_by l (binding l o (naming e))
+value_of l o e = value_by l (bound_to l.objects l.startup o e false)
 
 -- the symbols of object o, and those of all objects
 abbrev pub values_of : Linking → ℕ → List SymbolValue

@@ -74,7 +74,7 @@ impl<'l, 's, 'a> Inputs<'l, 's, 'a> {
         ensures binding { result ≡ binding self.now object relocation.now }
         ensures within { IfSome result (IsBindingWithin self.now.objects) }
     {
-        self.bindings.binding(object, relocation)
+        self.bindings.binding_of(object, relocation)
     }
 
     /// Which sequence stands in a site's place.

@@ -3,12 +3,12 @@
 ghost use Rattle.std.specs.Prelude.{◌≡◌, ◌<◌, IfOk, IfSome, length, map};
 ghost use Rattle.elf_object.specs.Parts.{symbol_count};
 ghost use Rattle.tls_symbols.specs.Bindings.{IsBindingWithin, object_at};
-ghost use Rattle.link_needs.specs.SymbolNumbers.{all_values, naming, value_by, value_of, values_of};
+ghost use Rattle.link_needs.specs.SymbolNumbers.{all_values, value_by, value_of, values_of};
 
 use crate::inputs::Inputs;
-use elf_object::{Relocation, RelocationKind};
 use link_faults::Binding;
 use std::alloc::{AllocError, Global};
+use tls_symbols::Imports;
 
 /// What a symbol that relocations name stands for.
 #[derive(Clone, Copy)]
@@ -19,18 +19,6 @@ pub enum SymbolValue {
     Runtime,
     /// A symbol of another image, or of none.
     Elsewhere,
-}
-
-/// A relocation that names a symbol, and may not name another image's.
-fn naming(symbol: u32) -> Relocation
-    ensures { result ≡ naming symbol }
-{
-    Relocation {
-        offset: 0,
-        kind: RelocationKind::Nothing,
-        symbol,
-        addend: 0,
-    }
 }
 
 impl<'l, 's, 'a> Inputs<'l, 's, 'a> {
@@ -49,14 +37,14 @@ impl<'l, 's, 'a> Inputs<'l, 's, 'a> {
         }
     }
 
-    /// What a symbol of an object stands for.
+    /// What a symbol of an object stands for, which may not be another image's.
     #[tactic(auto, unfolding(crate::specs::SymbolNumbers::value_of))]
     fn value_of(&self, object: usize, symbol: u32) -> SymbolValue
         requires object { object < length self.now.objects }
         requires symbol { symbol < symbol_count (object_at self.now.objects object) }
         ensures { result ≡ value_of self.now object symbol }
     {
-        self.value_by(self.binding(object, &naming(symbol)))
+        self.value_by(self.bindings.binding(object, symbol, Imports::No))
     }
 
     /// What each symbol of an object stands for.

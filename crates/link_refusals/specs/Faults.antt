@@ -1,18 +1,17 @@
 -- When relocations of an image are refused, and which one is told.
-use Rattle.std.specs.Prelude.{◌≡◌, ◌≢◌, ◌<◌, ℕ, List, Some, length}
-use Rattle.elf_records.specs.declared.relocation.RelocationKind.TheVariants.{Nothing}
+use Rattle.std.specs.Prelude.{◌≡◌, ◌<◌, ℕ, List, Some, length}
 use Rattle.elf_object.specs.declared.relocation.Relocation.{Relocation}
-use Rattle.elf_object.specs.Parts.{symbol_count}
 use Rattle.link_faults.specs.declared.image_kind.ImageKind.{ImageKind}
 use Rattle.link_faults.specs.declared.fault.LinkFault.{LinkFault}
 use Rattle.link_faults.specs.declared.fault.LinkFault.TheVariants.{At}
 use Rattle.link_faults.specs.declared.fault.LinkFaultKind.{LinkFaultKind}
 use Rattle.link_faults.specs.declared.fault.LinkFaultKind.TheVariants.{LocalExecInModule, NarrowInModule, NoTls}
 use Rattle.tls_symbols.specs.Bindings.{binding_of, object_at}
+use Rattle.tls_symbols.specs.Faults.{Test, IsFirstCharged, NoneCharged}
+use Rattle.tls_symbols.specs.Searches.{NamesWithin}
 use Rattle.link_refusals.specs.declared.charge.Charge.{Charge}
 use Rattle.link_refusals.specs.declared.charge.Charge.TheVariants.{ByType, ByKind, ByStorage}
 use Rattle.link_refusals.specs.Refused.{is_refused, is_refused_at_all, is_without_storage}
-use Rattle.link_refusals.specs.Places.{Test, IsFirstCharged, NoneCharged}
 
 -- the relocations that the image's kind refuses
 abbrev pub by_type : LinkFaultKind → ImageKind → Test
@@ -70,17 +69,9 @@ IsAskedOf objects (ByType fault image) = Unit {0}
 IsAskedOf objects (ByKind image) = Unit {0}
 IsAskedOf objects (ByStorage image bindings) = bindings.now.objects ≡ objects
 
--- it is asked of object o, and b is that object
-abbrev pub IsAskedAt : ℕ → List ℕ → Charge → Type 0
-IsAskedAt o b (ByType fault image) = Unit {0}
-IsAskedAt o b (ByKind image) = Unit {0}
-IsAskedAt o b (ByStorage image bindings) =
-    (o < length bindings.now.objects) × (b ≡ object_at bindings.now.objects o)
-
--- it is asked of a relocation of object o, whose symbol is there
-abbrev pub IsAskedWithin : ℕ → Relocation → Charge → Type 0
-IsAskedWithin o r (ByType fault image) = Unit {0}
-IsAskedWithin o r (ByKind image) = Unit {0}
-IsAskedWithin o r (ByStorage image bindings) =
-    (o < length bindings.now.objects)
-    × (r.kind ≢ Nothing → r.symbol < symbol_count (object_at bindings.now.objects o))
+-- it may be asked of a relocation of object o: its symbol is there
+abbrev pub IsAskedWithin : Charge → ℕ → Relocation → Type 0
+IsAskedWithin (ByType fault image) o r = Unit {0}
+IsAskedWithin (ByKind image) o r = Unit {0}
+IsAskedWithin (ByStorage image bindings) o r =
+    (o < length bindings.now.objects) × NamesWithin (object_at bindings.now.objects o) r

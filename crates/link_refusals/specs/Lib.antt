@@ -1,5 +1,3 @@
 pub mod Counts
 pub mod Faults
-pub mod Places
 pub mod Refused
-pub mod Searches

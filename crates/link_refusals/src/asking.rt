@@ -2,14 +2,12 @@
 
 ghost use Rattle.std.specs.Prelude.{◌≡◌, MatchOption, MatchResult};
 ghost use Rattle.link_refusals.specs.Faults.{by_kind, test_of, FitsKind, FitsStorage, IsAskedOf, IsKindFault, IsStorageFault};
-ghost use Rattle.link_refusals.specs.Places.{IsFirstCharged, NoneCharged};
+ghost use Rattle.tls_symbols.specs.Faults.{IsFirstCharged, NoneCharged};
 
 use crate::charge::Charge;
-use crate::place::Place;
-use crate::search::first_charged;
 use elf_object::Object;
 use link_faults::{ImageKind, LinkFault, LinkFaultKind};
-use tls_symbols::Bindings;
+use tls_symbols::{Bindings, Place, first_use};
 
 /// The first relocation of the objects that is charged, if one is.
 fn first_place(charge: &Charge, objects: &[Object]) -> Option<Place>
@@ -17,7 +15,7 @@ fn first_place(charge: &Charge, objects: &[Object]) -> Option<Place>
     ensures { MatchOption result (NoneCharged (test_of charge.now) objects.now)
         (λ place. IsFirstCharged (test_of charge.now) objects.now place.object place.section place.entry) }
 {
-    first_charged(charge, objects)
+    first_use(charge, objects)
 }
 
 /// The first relocation that an image of this kind refuses, if there is one. A program at a fixed address refuses none.

@@ -11,7 +11,7 @@ ghost use Rattle.link_faults.specs.ImageKinds.{is_moved};
 use elf_object::{Relocation, RelocationKind};
 use elf_records::relocation_row::{Refused, TableEntry};
 use link_faults::{Binding, ImageKind, LinkFaultKind};
-use tls_symbols::Bindings;
+use tls_symbols::{Bindings, Question};
 
 /// A question about the relocations of an image.
 #[derive(Clone, Copy)]
@@ -50,11 +50,16 @@ fn is_refused_at_all(image: ImageKind, kind: RelocationKind) -> bool
         || is_refused(LinkFaultKind::NarrowInModule, image, kind)
 }
 
-/// Whether it is a symbol of the image itself.
-fn is_here(bound: Option<Binding>) -> bool
-    ensures { result ≡ is_here bound }
+/// Whether what a relocation names is a symbol of the image itself.
+fn is_here(bindings: &Bindings, index: usize, relocation: &Relocation) -> bool
+    requires object { index < length bindings.now.objects }
+    requires symbol { relocation.now.symbol < symbol_count (object_at bindings.now.objects index) }
+    ensures { result ≡ is_here (binding_of bindings.now.objects bindings.now.startup index relocation.now) }
 {
-    matches!(bound, Some(Binding::Here(_)))
+    matches!(
+        bindings.binding_of(index, relocation),
+        Some(Binding::Here(_))
+    )
 }
 
 /// Whether a relocation asks for storage that the image itself has.
@@ -73,21 +78,25 @@ fn asks_storage(
     match relocation.kind.row().entry {
         TableEntry::ModulePair => true,
         TableEntry::SymbolPair | TableEntry::SymbolWord => {
-            image.is_module() && is_here(bindings.binding(index, relocation))
+            image.is_module() && is_here(bindings, index, relocation)
         }
-        TableEntry::Descriptor => is_here(bindings.binding(index, relocation)),
+        TableEntry::Descriptor => is_here(bindings, index, relocation),
         TableEntry::NoEntry | TableEntry::AddressWord => false,
     }
 }
 
-/// Whether a relocation of an object is charged.
-pub fn is_charged(charge: &Charge, index: usize, relocation: &Relocation) -> bool
-    requires { IsAskedWithin index relocation.now charge.now }
-    ensures { result ≡ test_of charge.now index relocation.now }
-{
-    match charge {
-        Charge::ByType(fault, image) => is_refused(*fault, *image, relocation.kind),
-        Charge::ByKind(image) => is_refused_at_all(*image, relocation.kind),
-        Charge::ByStorage(image, bindings) => asks_storage(bindings, *image, index, relocation),
+impl Question for Charge<'_, '_, '_, '_> {
+    ghost test = { test_of };
+
+    ghost may_ask = { IsAskedWithin };
+
+    fn is_about(&self, object: usize, relocation: &Relocation) -> bool {
+        match self {
+            Charge::ByType(fault, image) => is_refused(*fault, *image, relocation.kind),
+            Charge::ByKind(image) => is_refused_at_all(*image, relocation.kind),
+            Charge::ByStorage(image, bindings) => {
+                asks_storage(bindings, *image, object, relocation)
+            }
+        }
     }
 }

@@ -39,15 +39,13 @@
 //! No call takes memory, and none looks at a name. Where nothing is refused, each question reads every relocation once
 //! at most, and of a program at a fixed address [`ask_kind`] reads none. A count reads none.
 //!
-//! `specs/Refused` has the table, `specs/Places` says where a relocation is charged and which is the first,
-//! `specs/Faults` what each call asks, `specs/Searches` how the first is found, and `specs/Counts` what is counted.
+//! `specs/Refused` has the table, `specs/Faults` what each call asks, and `specs/Counts` what is counted. The walk that
+//! finds the first relocation is that of `tls_symbols`, which says where one is charged and which is the first.
 #![tactic(auto)]
 
 mod asking;
 mod charge;
 mod count;
-mod place;
-mod search;
 
 pub use asking::{ask_kind, ask_tls};
 pub use count::{MAX_RELOCATIONS, has_few_relocations, relocation_count};

@@ -15,7 +15,7 @@ use Rattle.elf_object.specs.LawsOfSections.{kept_as}
 use Rattle.elf_object.specs.Lent.{relocations}
 use Rattle.elf_object.specs.Parts.{symbol_count}
 use Rattle.image_file.specs.declared.relocation.ImageRelocation.{ImageRelocation}
-use Rattle.link_refusals.proofs.Places.{range_first, range_none}
+use Rattle.tls_symbols.proofs.Search.{range_first, range_none}
 use Rattle.tls_symbols.specs.Bindings.{object_at}
 use Rattle.link_needs.specs.Linking.{Linking, object}
 use Rattle.link_tables.specs.Dynamic.{is_absolute, object_relocations, object_relocations_from}

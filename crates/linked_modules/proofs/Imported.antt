@@ -10,7 +10,7 @@ use Rattle.sequence_forms.specs.declared.places.Site.{Site}
 use Rattle.sequence_match.specs.Sites.{first_of}
 use Rattle.link_faults.specs.declared.binding.Binding.TheVariants.{Here, Runtime}
 use Rattle.link_faults.specs.declared.symbol_ref.SymbolRef.{SymbolRef}
-use Rattle.tls_symbols.specs.Bindings.{binding_of, first_export, get_address, here_or, may_import, name_binding}
+use Rattle.tls_symbols.specs.Bindings.{binding_of, bound_to, first_export, get_address, here_or, may_import, name_binding}
 use Rattle.tls_symbols.specs.Bindings.{object_at, of_startup}
 use Rattle.tls_symbols.specs.Definitions.{definition_of, same_binding}
 use Rattle.dynamic_symbols.specs.Names.{imported_at, imported_from, imported_in, imports, is_import, is_startup}
@@ -33,7 +33,7 @@ module _ (objects : List (List ℕ)) (startup : List (List (List ℕ))) where
   -- a name that is bound to a startup image
   bound_among : (o : ℕ) (r : Relocation) → is_startup (binding_of objects startup o r) ≡ true
       → IsAmong startup (symbol_name (object_at objects o) r.symbol)
-  unfolding binding_of
+  unfolding bound_to
   bound_among o r is = of_local (same_binding Local (symbol_binding (object_at objects o) r.symbol)) is
     where
       name : List ℕ

@@ -19,7 +19,7 @@ use Rattle.link_needs.specs.Given.{IsGiven}
 use Rattle.link_needs.specs.Linking.{Linking, binding, object, offset}
 use Rattle.linked_modules.specs.Together.{exports_among}
 use Rattle.loaded_modules.specs.Loader.{export_in, export_of, shared_from, shared_offset}
-use Rattle.tls_symbols.specs.Bindings.{binding_of, exported_names, first_export, get_address, here_or, may_import}
+use Rattle.tls_symbols.specs.Bindings.{binding_of, bound_to, exported_names, first_export, get_address, here_or, may_import}
 use Rattle.tls_symbols.specs.Bindings.{name_binding, of_startup}
 use Rattle.tls_symbols.specs.Definitions.{definition_of, same_binding}
 use Rattle.thread_blocks.specs.Turns.{at_number}
@@ -125,7 +125,7 @@ module _ (name : List ℕ) where
 
 module _ (l : Linking) (o k : ℕ) (r : Relocation) where
   export_first : binding l o r ≡ Some (Startup k) → first_export (symbol_name (object l o) r.symbol) 1 l.startup ≡ Some k
-  unfolding binding_of
+  unfolding bound_to
   export_first is = of_local (same_binding Local (symbol_binding (object l o) r.symbol)) is
     where
       of_export : (may : Bool) (found : Option ℕ) → (if may then of_startup found else None) ≡ Some (Startup k)

@@ -26,7 +26,7 @@ use Rattle.loaded_names.proofs.Defined.{definition_shared}
 use Rattle.loaded_names.proofs.Symbols.{placed_in}
 use Rattle.object_rules.specs.declared.fault.FaultKind.TheVariants.{SymbolSection}
 use Rattle.tls_layout.specs.Places.{IsLawful as IsWithinLimits, address_of}
-use Rattle.tls_symbols.specs.Bindings.{binding_of, first_export, get_address, here_or, may_import, name_binding, of_startup}
+use Rattle.tls_symbols.specs.Bindings.{binding_of, bound_to, first_export, get_address, here_or, may_import, name_binding, of_startup}
 use Rattle.tls_symbols.specs.Definitions.{definition_of, same_binding}
 
 -- ** a LOCAL symbol is defined
@@ -147,7 +147,7 @@ module _ (l : Linking) (given : IsGiven l) (limits : IsWithinLimits (layout l)) 
     same_here x y e = cc
 
     pub bound_low : (found : SymbolRef) → binding l o r ≡ Some (Here found) → address l found < 2 ^ 64
-    unfolding binding_of
+    unfolding bound_to
     bound_low found at = of_local (same_binding Local (symbol_binding (object l o) r.symbol)) refl at
       where
         of_export : (may : Bool) (k : Option ℕ)

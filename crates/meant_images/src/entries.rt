@@ -139,11 +139,11 @@ pub fn field_entry(inputs: &Inputs, number: usize, relocation: &Relocation) -> E
 {
     match relocation.kind {
         RelocationKind::DtpOff32 => {
-            let bound = inputs.bindings.binding(number, relocation);
+            let bound = inputs.bindings.binding_of(number, relocation);
             offset_entry(inputs, relocation, bound)
         }
         RelocationKind::GotPcRel | RelocationKind::GotPcRelX | RelocationKind::RexGotPcRelX => {
-            let bound = inputs.bindings.binding(number, relocation);
+            let bound = inputs.bindings.binding_of(number, relocation);
             address_entry(inputs, relocation, bound)
         }
         _ => Entry::Usual,

@@ -118,7 +118,7 @@ fn bound_target(images: &[Inputs], inputs: &Inputs, number: usize, site: &Site) 
     ensures target { IsBound images.now inputs.now number site.now result }
     ensures numbered { IsNumbered result }
 {
-    match inputs.bindings.binding(number, &first_of(site)) {
+    match inputs.bindings.binding_of(number, &first_of(site)) {
         Some(Binding::Here(found)) => Target::Own(found, inputs.offset(found)),
         Some(Binding::Startup(image)) => {
             let name = inputs.object(number).symbol_name(site.symbol);

@@ -208,7 +208,7 @@ fn push_said(
 {
     for relocation in object.relocs(CODE) {
         if relocation.symbol < object.symbol_count() {
-            let one = one_said(alloc, bindings.binding(index, &relocation))?;
+            let one = one_said(alloc, bindings.binding_of(index, &relocation))?;
             text.push_str(one.as_str())?;
         }
     }

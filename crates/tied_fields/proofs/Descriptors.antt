@@ -31,7 +31,7 @@ use Rattle.sequence_match.proofs.SitesSymbols.{sites_symbols}
 use Rattle.sequence_match.specs.Sites.{first_of}
 use Rattle.thread_blocks.specs.Turns.{at_number}
 use Rattle.tls_symbols.proofs.Within.{binding_within, definition_within}
-use Rattle.tls_symbols.specs.Bindings.{IsBindingWithin, binding_of, first_export, get_address, here_or, may_import}
+use Rattle.tls_symbols.specs.Bindings.{bound_to, IsBindingWithin, binding_of, first_export, get_address, here_or, may_import}
 use Rattle.tls_symbols.specs.Bindings.{object_at}
 use Rattle.tls_symbols.specs.Bindings.{of_startup}
 use Rattle.tls_symbols.specs.Definitions.{IsWithin, definition_of, same_binding}
@@ -75,7 +75,7 @@ some_is P found x e h = subst (λ (f : Option _). IfSome f P) e h
 not_own : (objects : List (List ℕ)) (startup : List (List (List ℕ))) (o : ℕ) (r : Relocation) (k : ℕ)
     → binding_of objects startup o r ≡ Some (Startup k)
     → definition_of objects (symbol_name (object_at objects o) r.symbol) ≡ None
-unfolding binding_of
+unfolding bound_to
 not_own objects startup o r k e =
     of_tests (same_binding Local (symbol_binding (object_at objects o) r.symbol))
     (bytes_eq (symbol_name (object_at objects o) r.symbol) get_address)

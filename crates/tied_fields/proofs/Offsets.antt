@@ -40,7 +40,7 @@ use Rattle.tied_meaning.specs.Ties.{HasFourBytes}
 use Rattle.tls_relocs.specs.declared.fields.Field.{Field}
 use Rattle.tls_relocs.specs.Fields.{field_bytes}
 use Rattle.tls_relocs.specs.Values.{signed_field, stored_field}
-use Rattle.tls_symbols.specs.Bindings.{binding_of, first_export, get_address, here_or, may_import, object_at}
+use Rattle.tls_symbols.specs.Bindings.{binding_of, bound_to, first_export, get_address, here_or, may_import, object_at}
 use Rattle.tls_symbols.specs.Bindings.{of_startup}
 use Rattle.tls_symbols.specs.Definitions.{definition_of, same_binding}
 use Rattle.whole_meaning.specs.declared.marks.Mark.TheVariants.{Offset}
@@ -60,7 +60,7 @@ use Rattle.tied_fields.proofs.Program.{IsProgram, linked_program, numbered_one}
 -- no other image's variable: only types that a loader fills in may name one
 not_startup : (objects : List (List ℕ)) (startup : List (List (List ℕ))) (o : ℕ) (r : Relocation) (k : ℕ)
     → may_import r.kind ≡ false → binding_of objects startup o r ≡ Some (Startup k) → ⊥
-unfolding binding_of
+unfolding bound_to
 not_startup objects startup o r k alone e =
     of_local (same_binding Local (symbol_binding (object_at objects o) r.symbol))
     (bytes_eq (symbol_name (object_at objects o) r.symbol) get_address)

@@ -21,7 +21,7 @@ use Rattle.sequence_forms.specs.declared.places.Site.{Site}
 use Rattle.sequence_forms.specs.Forms.{row}
 use Rattle.sequence_match.specs.Faults.{IsSite}
 use Rattle.sequence_match.specs.Sites.{first_of}
-use Rattle.tls_symbols.specs.Bindings.{binding_of, first_export, get_address, here_or, may_import, name_binding}
+use Rattle.tls_symbols.specs.Bindings.{binding_of, bound_to, first_export, get_address, here_or, may_import, name_binding}
 use Rattle.tls_symbols.specs.Bindings.{object_at, of_startup}
 use Rattle.tls_symbols.specs.Definitions.{definition_of, same_binding}
 use Rattle.tls_symbols.specs.Faults.{Stands, is_faulty, is_mismatched, is_tls_kind, names_symbol}
@@ -87,7 +87,7 @@ module _ (l : Linking) (links : Links l) (o : ℕ) (there : o < length l.objects
 pub here_alike : (objects : List (List ℕ)) (startup : List (List (List ℕ))) (o : ℕ) (x y : Relocation)
     (found : SymbolRef) → x.symbol ≡ y.symbol → binding_of objects startup o x ≡ Some (Here found)
     → binding_of objects startup o y ≡ Some (Here found)
-unfolding binding_of
+unfolding bound_to
 here_alike objects startup o x y found same e =
     let b = object_at objects o in
     subst (λ n. (if same_binding Local (symbol_binding (object_at objects o) n)
@@ -130,7 +130,7 @@ here_alike objects startup o x y found same e =
 pub import_alike : (objects : List (List ℕ)) (startup : List (List (List ℕ))) (o : ℕ) (x y : Relocation)
     → may_import x.kind ≡ may_import y.kind → x.symbol ≡ y.symbol
     → binding_of objects startup o x ≡ binding_of objects startup o y
-unfolding binding_of
+unfolding bound_to
 import_alike objects startup o x y kinds symbols = λ i.
     let name = symbol_name (object_at objects o) (symbols i) in
     if same_binding Local (symbol_binding (object_at objects o) (symbols i))

@@ -5,5 +5,4 @@ use Rattle.tls_symbols.specs.Bindings.{binding_of, may_import}
 
 pub bound_alike : (objects : List (List ℕ)) (startup : List (List (List ℕ))) (o : ℕ) (r s : Relocation) → r.symbol ≡ s.symbol → may_import r.kind ≡ may_import s.kind
     → binding_of objects startup o r ≡ binding_of objects startup o s
-unfolding binding_of
 bound_alike objects startup o r s symbol may = rw (symbol, may) refl

@@ -1,6 +1,6 @@
 -- What the searches find is the first fault.
 use Rattle.std.proofs.Common.{◌≡◌, ◌+◌, ◌-◌, ◌<◌, ◌≤◌, ◌∙◌, ℕ, zero, suc, Bool, true, false, List, [], ◌∷◌, Option, Some, None, length, drop, inl, inr, refl, sym, ap, subst, arith}
-use Rattle.std.specs.Prelude.{cond, slice_get, IsSomeAnd}
+use Rattle.std.specs.Prelude.{cond, slice_get, IsSomeAnd, MatchOption}
 use Rattle.std.specs.List.{position_from, range_with_len}
 use Rattle.std.proofs.lemmas.Bool.{cases_lt}
 use Rattle.std.proofs.lemmas.List.{length-drop}
@@ -8,11 +8,11 @@ use Rattle.elf_object.specs.Object.{section_count}
 use Rattle.elf_object.specs.Parts.{symbol_count, symbol_table}
 use Rattle.tls_symbols.specs.declared.place.Place.{Place}
 use Rattle.tls_symbols.specs.Bindings.{object_at}
-use Rattle.tls_symbols.specs.Faults.{held_in, is_duplicate, Earlier, IsDuplicateAt}
-use Rattle.tls_symbols.specs.Searches.{first_duplicate_from, first_duplicate_in, first_entry, first_in_sections, first_use_from, first_use_in, or_place, place_at, Test}
+use Rattle.tls_symbols.specs.Faults.{held_in, is_duplicate, Earlier, IsChargedAt, IsDuplicateAt, IsFirstCharged, NoneCharged, Test}
+use Rattle.tls_symbols.specs.Searches.{first_duplicate_from, first_duplicate_in, first_entry, first_in_sections, first_use_from, first_use_in, or_place, place_at}
 use Rattle.tls_symbols.proofs.Within.{Dropped, dropped_is, FoundAt, find_found, find_nothing}
 
-impossible : true ≡ false → ⊥
+pub impossible : true ≡ false → ⊥
 impossible h = cc
 
 some_same : (x y : Place) → Some x ≡ Some y → x ≡ y
@@ -121,12 +121,6 @@ module _ (f : ℕ → List ℕ → Option Place) (all : List (List ℕ)) where
 
 -- ** relocations
 
--- entry e of section s of object o is a relocation that is charged
-abbrev pub IsChargedUse : Test → List (List ℕ) → ℕ → ℕ → ℕ → Type 0
-IsChargedUse test objects o s e =
-    (o < length objects) × (0 < s) × (s < section_count (object_at objects o))
-    × IsSomeAnd (slice_get (held_in (object_at objects o) s) e) (λ r. test o r ≡ true)
-
 module _ (test : Test) (objects : List (List ℕ)) where
   -- the place is that of the first such relocation in n sections of object o, from number a on
   record FirstIn (o : ℕ) (b : List ℕ) (a n : ℕ) (place : Place) : Type 0 where
@@ -195,7 +189,7 @@ module _ (test : Test) (objects : List (List ℕ)) where
   walk_uses o [] = refl
   walk_uses o (b ∷ more) = ap (or_place (first_use_in test o b)) (walk_uses (o + 1) more)
 
-  use_nothing_in : (o : ℕ) → first_use_in test o (object_at objects o) ≡ None → (s e : ℕ) → IsChargedUse test objects o s e → ⊥
+  use_nothing_in : (o : ℕ) → first_use_in test o (object_at objects o) ≡ None → (s e : ℕ) → IsChargedAt test objects o s e → ⊥
   unfolding first_use_in
   use_nothing_in o is s e at =
       sections_nothing o (object_at objects o) 1 (section_count (object_at objects o) - 1) is s (omega (arith, at.1)) (omega (arith, at.1, at.2)) e at.3
@@ -205,10 +199,9 @@ module _ (test : Test) (objects : List (List ℕ)) where
   use_found_in o place is = sections_found o (object_at objects o) 1 (section_count (object_at objects o) - 1) place is
 
   -- the first use is one, and none is earlier
-  pub use_found : (place : Place) → first_use_from test 0 objects ≡ Some place
-      → IsChargedUse test objects place.object place.section place.entry
-      × ((p t f : ℕ) → Earlier p t f place.object place.section place.entry → IsChargedUse test objects p t f → ⊥)
-  use_found place is = (here, earlier)
+  use_found : (place : Place) → first_use_from test 0 objects ≡ Some place
+      → IsFirstCharged test objects place.object place.section place.entry
+  use_found place is = record { here = here; nowhere_earlier = earlier }
     where
       first : FirstOf (first_use_in test) objects 0 place
       first = walk_found (first_use_in test) objects objects 0 place refl (sym (walk_uses 0 objects) ∙ is)
@@ -216,25 +209,32 @@ module _ (test : Test) (objects : List (List ℕ)) where
       found : FirstIn first.at (object_at objects first.at) 1 (section_count (object_at objects first.at) - 1) place
       found = use_found_in first.at place first.here
 
-      use_at : IsChargedUse test objects first.at place.section place.entry
+      use_at : IsChargedAt test objects first.at place.section place.entry
       use_at = (first.within, omega (arith, found.low), omega (arith, found.low, found.high), found.entry.charged)
 
-      here : IsChargedUse test objects place.object place.section place.entry
-      here = subst (λ o. IsChargedUse test objects o place.section place.entry) (sym found.object) use_at
+      here : IsChargedAt test objects place.object place.section place.entry
+      here = subst (λ o. IsChargedAt test objects o place.section place.entry) (sym found.object) use_at
 
-      earlier : (p t f : ℕ) → Earlier p t f place.object place.section place.entry → IsChargedUse test objects p t f → ⊥
+      earlier : (p t f : ℕ) → Earlier p t f place.object place.section place.entry → IsChargedAt test objects p t f → ⊥
       earlier p t f (inl less) at = use_nothing_in p (first.none_earlier p (omega arith) (omega (arith, less, found.object))) t f at
       earlier p t f (inr (same, inl less)) at =
-          let moved : IsChargedUse test objects first.at t f = subst (λ o. IsChargedUse test objects o t f) (same ∙ found.object) at in
+          let moved : IsChargedAt test objects first.at t f = subst (λ o. IsChargedAt test objects o t f) (same ∙ found.object) at in
           found.none_earlier t (omega (arith, moved.1)) less f moved.3
       earlier p t f (inr (same, inr (section, less))) at =
-          let moved : IsChargedUse test objects first.at t f = subst (λ o. IsChargedUse test objects o t f) (same ∙ found.object) at in
-          let there : IsChargedUse test objects first.at place.section f = subst (λ s. IsChargedUse test objects first.at s f) section moved in
+          let moved : IsChargedAt test objects first.at t f = subst (λ o. IsChargedAt test objects o t f) (same ∙ found.object) at in
+          let there : IsChargedAt test objects first.at place.section f = subst (λ s. IsChargedAt test objects first.at s f) section moved in
           found.entry.first f less there.3
 
-  pub use_nothing : first_use_from test 0 objects ≡ None → (o s e : ℕ) → IsChargedUse test objects o s e → ⊥
-  use_nothing is o s e at =
-      use_nothing_in o (walk_nothing (first_use_in test) objects objects 0 refl (sym (walk_uses 0 objects) ∙ is) o (omega arith) at.0) s e at
+  use_nothing : first_use_from test 0 objects ≡ None → NoneCharged test objects
+  use_nothing is = record {
+    nowhere = λ o s e at. use_nothing_in o (walk_nothing (first_use_in test) objects objects 0 refl (sym (walk_uses 0 objects) ∙ is) o (omega arith) at.0) s e at;
+  }
+
+  -- what the search answers
+  pub found_or_none : (found : Option Place) → found ≡ first_use_from test 0 objects
+      → MatchOption found (NoneCharged test objects) (λ place. IsFirstCharged test objects place.object place.section place.entry)
+  found_or_none (Some place) is = use_found place (sym is)
+  found_or_none None is = use_nothing (sym is)
 
 -- ** symbols
 

@@ -8,12 +8,11 @@ use Rattle.std.proofs.lemmas.List.{get_or_past}
 use Rattle.std.proofs.lemmas.Slice.Eq.{bytes_eq-Decides}
 use Rattle.elf_object.specs.declared.symbol.SymbolBinding.TheVariants.{Local, Global, Weak}
 use Rattle.elf_object.specs.Lent.{symbol_binding, symbol_name}
-use Rattle.elf_records.specs.declared.relocation.RelocationKind.{RelocationKind}
 use Rattle.link_faults.specs.declared.binding.Binding.{Binding}
 use Rattle.link_faults.specs.declared.binding.Binding.TheVariants.{Runtime}
 use Rattle.tls_symbols.specs.declared.numbers.KnownSymbol.{KnownSymbol}
 use Rattle.link_faults.specs.declared.symbol_ref.SymbolRef.{SymbolRef}
-use Rattle.tls_symbols.specs.Bindings.{get_address, here_or, may_import, name_binding, of_startup}
+use Rattle.tls_symbols.specs.Bindings.{get_address, here_or, name_bound, of_startup}
 use Rattle.tls_symbols.specs.Definitions.{definition_of, first_from, or_weak, same_binding}
 use Rattle.tls_symbols.specs.Numbers.{Names, KnowsNames, IsNamed, IsNumbered, number_of, IsNumberOf, at_number, or_else, told}
 use Rattle.tls_symbols.proofs.Told.{same_number}
@@ -71,14 +70,14 @@ module _ (objects : List (List ℕ)) (startup : List (List (List ℕ))) (names :
           cc))
 
   -- what a name is bound to, by its number
-  pub known_binding : (name : List ℕ) (n : ℕ) (kind : RelocationKind) → IsNumberOf names name n
-      → (if n == 0 then Some Runtime else here_or (or_else (at_number strong n) (at_number weak n)) (if may_import kind then of_startup (at_number imported n) else None))
-      ≡ name_binding objects startup kind name
-  known_binding name n kind is =
-      let rest : Option Binding = here_or (or_else (at_number strong n) (at_number weak n)) (if may_import kind then of_startup (at_number imported n) else None) in
-      ap (λ t. if t then Some Runtime else here_or (or_else (at_number strong n) (at_number weak n)) (if may_import kind then of_startup (at_number imported n) else None)) (known_run_time name n is)
-      ∙ ap (λ d. if bytes_eq name get_address then Some Runtime else here_or d (if may_import kind then of_startup (at_number imported n) else None)) (known_definition name n is.number)
-      ∙ ap (λ i. if bytes_eq name get_address then Some Runtime else here_or (definition_of objects name) (if may_import kind then of_startup i else None))
+  pub known_binding : (name : List ℕ) (n : ℕ) (imports : Bool) → IsNumberOf names name n
+      → (if n == 0 then Some Runtime else here_or (or_else (at_number strong n) (at_number weak n)) (if imports then of_startup (at_number imported n) else None))
+      ≡ name_bound objects startup imports name
+  known_binding name n imports is =
+      let rest : Option Binding = here_or (or_else (at_number strong n) (at_number weak n)) (if imports then of_startup (at_number imported n) else None) in
+      ap (λ t. if t then Some Runtime else here_or (or_else (at_number strong n) (at_number weak n)) (if imports then of_startup (at_number imported n) else None)) (known_run_time name n is)
+      ∙ ap (λ d. if bytes_eq name get_address then Some Runtime else here_or d (if imports then of_startup (at_number imported n) else None)) (known_definition name n is.number)
+      ∙ ap (λ i. if bytes_eq name get_address then Some Runtime else here_or (definition_of objects name) (if imports then of_startup i else None))
       (ap (at_number imported) is.number ∙ known.exports.tells name)
 
 -- what a search for a name answers

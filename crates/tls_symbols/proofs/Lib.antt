@@ -1,4 +1,5 @@
 pub mod BoundAlike
+pub mod Charged
 pub mod Exported
 pub mod ExportLaw
 pub mod FirstFaults

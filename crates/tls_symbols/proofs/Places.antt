@@ -1,7 +1,8 @@
 -- The searches of sections, one by one.
 use Rattle.std.proofs.Common.{◌≡◌, ◌+◌, ◌-◌, ◌<◌, ◌≤◌, ℕ, Bool, false, List, ◌∷◌, Some, None, refl}
 use Rattle.std.specs.List.{position_from, range_with_len}
-use Rattle.tls_symbols.specs.Searches.{first_entry, first_in_sections, Test}
+use Rattle.tls_symbols.specs.Faults.{Test}
+use Rattle.tls_symbols.specs.Searches.{first_entry, first_in_sections}
 use Rattle.tls_symbols.proofs.Search.{range_first, range_none}
 
 module _ (test : Test) (o : ℕ) (b : List ℕ) where

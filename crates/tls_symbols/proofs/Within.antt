@@ -13,7 +13,7 @@ use Rattle.elf_object.specs.Lent.{symbol_binding, symbol_name}
 use Rattle.elf_object.specs.Parts.{symbol_count}
 use Rattle.link_faults.specs.declared.binding.Binding.TheVariants.{Here, Runtime}
 use Rattle.link_faults.specs.declared.symbol_ref.SymbolRef.{SymbolRef}
-use Rattle.tls_symbols.specs.Bindings.{binding_of, first_export, get_address, here_or, may_import, name_binding, object_at, of_startup, IsBindingWithin}
+use Rattle.tls_symbols.specs.Bindings.{binding_of, bound_to, first_export, get_address, here_or, may_import, name_bound, object_at, of_startup, IsBindingWithin}
 use Rattle.tls_symbols.specs.Definitions.{defines, definition_of, first_from, first_in, found_or, or_weak, same_binding, IsWithin}
 
 -- a list from a place on, which begins with x
@@ -100,10 +100,10 @@ definition_within objects name = either (first_from Global name 0 objects) (firs
     either (Some x) weak s w = s
     either None weak s w = w
 
-pub binding_within : (objects : List (List ℕ)) (startup : List (List (List ℕ))) (o : ℕ) (r : Relocation) → o < length objects → r.symbol < symbol_count (object_at objects o)
-    → IfSome (binding_of objects startup o r) (IsBindingWithin objects)
-unfolding binding_of
-binding_within objects startup o r there symbol = of_local (same_binding Local (symbol_binding (object_at objects o) r.symbol))
+pub bound_within : (objects : List (List ℕ)) (startup : List (List (List ℕ))) (o e : ℕ) (imports : Bool) → o < length objects → e < symbol_count (object_at objects o)
+    → IfSome (bound_to objects startup o e imports) (IsBindingWithin objects)
+unfolding bound_to
+bound_within objects startup o e imports there symbol = of_local (same_binding Local (symbol_binding (object_at objects o) e))
   where
     of_import : (t : Bool) (k : Option ℕ) → IfSome (if t then of_startup k else None) (IsBindingWithin objects)
     of_import true (Some k) = tt
@@ -114,10 +114,14 @@ binding_within objects startup o r there symbol = of_local (same_binding Local (
     of_definition (Some x) t k within = within
     of_definition None t k within = of_import t k
 
-    of_name : (t : Bool) (name : List ℕ) → IfSome (if t then Some Runtime else here_or (definition_of objects name) (if may_import r.kind then of_startup (first_export name 1 startup) else None)) (IsBindingWithin objects)
+    of_name : (t : Bool) (name : List ℕ) → IfSome (if t then Some Runtime else here_or (definition_of objects name) (if imports then of_startup (first_export name 1 startup) else None)) (IsBindingWithin objects)
     of_name true name = tt
-    of_name false name = of_definition (definition_of objects name) (may_import r.kind) (first_export name 1 startup) (definition_within objects name)
+    of_name false name = of_definition (definition_of objects name) imports (first_export name 1 startup) (definition_within objects name)
 
-    of_local : (t : Bool) → IfSome (if t then Some (Here (record { object = o; symbol = r.symbol })) else name_binding objects startup r.kind (symbol_name (object_at objects o) r.symbol)) (IsBindingWithin objects)
+    of_local : (t : Bool) → IfSome (if t then Some (Here (record { object = o; symbol = e })) else name_bound objects startup imports (symbol_name (object_at objects o) e)) (IsBindingWithin objects)
     of_local true = record { object = there; symbol = symbol }
-    of_local false = of_name (bytes_eq (symbol_name (object_at objects o) r.symbol) get_address) (symbol_name (object_at objects o) r.symbol)
+    of_local false = of_name (bytes_eq (symbol_name (object_at objects o) e) get_address) (symbol_name (object_at objects o) e)
+
+pub binding_within : (objects : List (List ℕ)) (startup : List (List (List ℕ))) (o : ℕ) (r : Relocation) → o < length objects → r.symbol < symbol_count (object_at objects o)
+    → IfSome (binding_of objects startup o r) (IsBindingWithin objects)
+binding_within objects startup o r there symbol = bound_within objects startup o r.symbol (may_import r.kind) there symbol

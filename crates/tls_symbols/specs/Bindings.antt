@@ -1,4 +1,4 @@
--- What the symbol of a relocation is bound to (gABI, "Symbol Table"; Drepper, "ELF Handling For Thread-Local Storage",
+-- What a symbol is bound to (gABI, "Symbol Table"; Drepper, "ELF Handling For Thread-Local Storage",
 -- section 4: which ways to reach a variable leave room for another module's).
 use Rattle.std.specs.Prelude.{◌+◌, ◌-◌, ◌&&◌, ◌++◌, ℕ, Bool, true, false, not, List, [], ◌∷◌, Option, Some, None}
 use Rattle.std.specs.Prelude.{codes, slice_index_or, nat_eq, if◌then◌else◌}
@@ -19,6 +19,8 @@ use Rattle.elf_object.specs.Parts.{symbol_count}
 use Rattle.link_faults.specs.declared.binding.Binding.{Binding}
 use Rattle.link_faults.specs.declared.binding.Binding.TheVariants.{Here, Startup, Runtime}
 use Rattle.link_faults.specs.declared.symbol_ref.SymbolRef.{SymbolRef}
+use Rattle.tls_symbols.specs.declared.imports.Imports.{Imports}
+use Rattle.tls_symbols.specs.declared.imports.Imports.TheVariants.{Yes, No}
 use Rattle.tls_symbols.specs.Definitions.{definition_of, same_binding, IsWithin}
 
 -- the function of the run time, which no object defines (Drepper, section 3.4)
@@ -85,7 +87,7 @@ exported_from objects o (b ∷ more) = exported_in objects o b ++ exported_from 
 unfoldable pub exported_names : List (List ℕ) → List (List ℕ)
 exported_names objects = exported_from objects 0 objects
 
--- ** what a relocation's symbol is bound to
+-- ** what a symbol is bound to
 
 -- the first of the startup images, from number k on, that exports the name
 abbrev pub first_export : List ℕ → ℕ → List (List (List ℕ)) → Option ℕ
@@ -100,19 +102,31 @@ abbrev pub here_or : Option SymbolRef → Option Binding → Option Binding
 here_or (Some found) rest = Some (Here found)
 here_or None rest = rest
 
--- what a name is bound to, which a relocation of this type names; image 1 is the program
-abbrev pub name_binding : List (List ℕ) → List (List (List ℕ)) → RelocationKind → List ℕ → Option Binding
-name_binding objects startup kind name =
-    if bytes_eq name get_address then Some Runtime else
-    here_or (definition_of objects name) (if may_import kind then of_startup (first_export name 1 startup) else None)
+-- whether a symbol may be another image's variable, as code says it
+abbrev pub may : Imports → Bool
+may Yes = true
+may No = false
 
--- what the symbol is bound to that a relocation of object o names; a LOCAL one is bound to itself
-unfoldable pub binding_of : List (List ℕ) → List (List (List ℕ)) → ℕ → Relocation → Option Binding
-binding_of objects startup o r =
+-- what a name is bound to, by whether it may be another image's variable; image 1 is the program
+abbrev pub name_bound : List (List ℕ) → List (List (List ℕ)) → Bool → List ℕ → Option Binding
+name_bound objects startup imports name =
+    if bytes_eq name get_address then Some Runtime else
+    here_or (definition_of objects name) (if imports then of_startup (first_export name 1 startup) else None)
+
+-- what symbol e of object o is bound to, by whether it may be another image's variable; a LOCAL one is bound to itself
+unfoldable pub bound_to : List (List ℕ) → List (List (List ℕ)) → ℕ → ℕ → Bool → Option Binding
+bound_to objects startup o e imports =
     let b = object_at objects o in
-    if same_binding Local (symbol_binding b r.symbol)
-    then Some (Here (record { object = o; symbol = r.symbol }))
-    else name_binding objects startup r.kind (symbol_name b r.symbol)
+    if same_binding Local (symbol_binding b e)
+    then Some (Here (record { object = o; symbol = e }))
+    else name_bound objects startup imports (symbol_name b e)
+
+-- the same of a relocation of object o, by the symbol that it names and by its type
+abbrev pub name_binding : List (List ℕ) → List (List (List ℕ)) → RelocationKind → List ℕ → Option Binding
+name_binding objects startup kind name = name_bound objects startup (may_import kind) name
+
+abbrev pub binding_of : List (List ℕ) → List (List (List ℕ)) → ℕ → Relocation → Option Binding
+binding_of objects startup o r = bound_to objects startup o r.symbol (may_import r.kind)
 
 -- whether what it is bound to is thread-local; what a startup image exports always is
 abbrev pub is_tls_binding : List (List ℕ) → Binding → Bool

@@ -67,11 +67,15 @@ held_for b None = []
 unfoldable pub held_in : List ℕ → ℕ → List Relocation
 held_in b s = held_for b (nonzero (relocation_target b s))
 
--- entry e of section s of object o is a relocation that is charged with the kind
-abbrev pub IsFaultyUse : LinkFaultKind → List (List ℕ) → List (List (List ℕ)) → ℕ → ℕ → ℕ → Type 0
-IsFaultyUse kind objects startup o s e =
+-- which relocations are charged, by the number of their object
+abbrev pub Test : Type 0
+Test = ℕ → Relocation → Bool
+
+-- entry e of section s of object o is a relocation that is charged
+abbrev pub IsChargedAt : Test → List (List ℕ) → ℕ → ℕ → ℕ → Type 0
+IsChargedAt test objects o s e =
     (o < length objects) × (0 < s) × (s < section_count (object_at objects o))
-    × IsSomeAnd (slice_get (held_in (object_at objects o) s) e) (λ r. is_faulty kind objects startup o r ≡ true)
+    × IsSomeAnd (slice_get (held_in (object_at objects o) s) e) (λ r. test o r ≡ true)
 
 -- symbol e of object o, in the symbol table s, is a duplicate
 abbrev pub IsDuplicateAt : List (List ℕ) → ℕ → ℕ → ℕ → Type 0
@@ -81,9 +85,9 @@ IsDuplicateAt objects o s e =
 
 -- the kind stands at entry e of section s of object o: what each kind means
 unfoldable pub Stands : LinkFaultKind → List (List ℕ) → List (List (List ℕ)) → ℕ → ℕ → ℕ → Type 0
-Stands Undefined objects startup o s e = IsFaultyUse Undefined objects startup o s e
+Stands Undefined objects startup o s e = IsChargedAt (is_faulty Undefined objects startup) objects o s e
 Stands Duplicate objects startup o s e = IsDuplicateAt objects o s e
-Stands NotTls objects startup o s e = IsFaultyUse NotTls objects startup o s e
+Stands NotTls objects startup o s e = IsChargedAt (is_faulty NotTls objects startup) objects o s e
 Stands kind objects startup o s e = ⊥
 
 -- the order of the kinds that names may be charged with
@@ -96,6 +100,15 @@ number kind = 3
 -- one place comes before another: by object, then by section, then by entry
 abbrev pub Earlier : ℕ → ℕ → ℕ → ℕ → ℕ → ℕ → Type 0
 Earlier p t f o s e = (p < o) ⊎ ((p ≡ o) × ((t < s) ⊎ ((t ≡ s) × (f < e))))
+
+-- a relocation is the first that is charged: none is at an earlier object, section or entry
+pub record IsFirstCharged (test : Test) (objects : List (List ℕ)) (o s e : ℕ) : Type 0 where
+  pub here : IsChargedAt test objects o s e
+  pub nowhere_earlier : (p t f : ℕ) → Earlier p t f o s e → IsChargedAt test objects p t f → ⊥
+
+-- none is charged
+pub record NoneCharged (test : Test) (objects : List (List ℕ)) : Type 0 where
+  pub nowhere : (o s e : ℕ) → IsChargedAt test objects o s e → ⊥
 
 -- the kind stands nowhere
 abbrev pub Nowhere : LinkFaultKind → List (List ℕ) → List (List (List ℕ)) → Type 0

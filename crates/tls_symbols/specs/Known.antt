@@ -1,11 +1,10 @@
 -- What is known of the names of an image, and what it tells by their numbers.
-use Rattle.std.specs.Prelude.{◌==◌, ℕ, Option, Some, None, map, if◌then◌else◌}
-use Rattle.elf_records.specs.declared.relocation.RelocationKind.{RelocationKind}
+use Rattle.std.specs.Prelude.{◌==◌, ℕ, Bool, Option, Some, None, map, if◌then◌else◌}
 use Rattle.link_faults.specs.declared.binding.Binding.{Binding}
 use Rattle.link_faults.specs.declared.binding.Binding.TheVariants.{Runtime}
 use Rattle.tls_symbols.specs.declared.image_names.ImageNames.{ImageNames}
 use Rattle.link_faults.specs.declared.symbol_ref.SymbolRef.{SymbolRef}
-use Rattle.tls_symbols.specs.Bindings.{here_or, may_import, of_startup}
+use Rattle.tls_symbols.specs.Bindings.{here_or, of_startup}
 use Rattle.tls_symbols.specs.Numbers.{KnowsNames, at_number, or_else}
 
 abbrev pub IsKnown : ImageNames → Type 0
@@ -20,7 +19,7 @@ definition_at n number = or_else (at_number n.strong.items number) (at_number n.
 abbrev pub imported_at : ImageNames → ℕ → Option Binding
 imported_at n number = of_startup (at_number n.imported.items number)
 
-abbrev pub binding_at : ImageNames → ℕ → RelocationKind → Option Binding
-binding_at n number kind =
+abbrev pub binding_at : ImageNames → ℕ → Bool → Option Binding
+binding_at n number imports =
     if number == 0 then Some Runtime else
-    here_or (definition_at n number) (if may_import kind then imported_at n number else None)
+    here_or (definition_at n number) (if imports then imported_at n number else None)

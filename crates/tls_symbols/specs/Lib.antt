@@ -1,4 +1,5 @@
 pub mod Bindings
+pub mod Charges
 pub mod Definitions
 pub mod Faults
 pub mod Firsts

@@ -1,14 +1,13 @@
 -- The searches for the first place that something is charged with, in the order of objects, sections and entries.
-use Rattle.std.specs.Prelude.{◌+◌, ◌-◌, ℕ, Bool, List, [], ◌∷◌, Option, Some, None}
+use Rattle.std.specs.Prelude.{◌≢◌, ◌<◌, ◌+◌, ◌-◌, ℕ, List, [], ◌∷◌, Option, Some, None, length}
 use Rattle.std.specs.List.{find, position_from, range_with_len}
 use Rattle.elf_object.specs.declared.relocation.Relocation.{Relocation}
 use Rattle.elf_object.specs.Object.{section_count}
 use Rattle.elf_object.specs.Parts.{symbol_count, symbol_table}
-use Rattle.link_faults.specs.declared.fault.LinkFaultKind.TheVariants.{Undefined, NotTls}
+use Rattle.elf_records.specs.declared.relocation.RelocationKind.TheVariants.{Nothing}
 use Rattle.tls_symbols.specs.declared.place.Place.{Place}
-use Rattle.tls_symbols.specs.declared.uses.Charge.{Charge}
-use Rattle.tls_symbols.specs.declared.uses.Charge.TheVariants.{Unbound, Unsuited, Either}
-use Rattle.tls_symbols.specs.Faults.{held_in, is_duplicate, is_faulty, is_unfit}
+use Rattle.tls_symbols.specs.Bindings.{object_at}
+use Rattle.tls_symbols.specs.Faults.{held_in, is_duplicate, Test}
 
 abbrev pub or_place : Option Place → Option Place → Option Place
 or_place (Some place) rest = Some place
@@ -20,10 +19,6 @@ place_at o s (Some e) = Some (record { object = o; section = s; entry = e })
 place_at o s None = None
 
 -- ** relocations
-
--- which relocations are charged, by the number of their object
-abbrev pub Test : Type 0
-Test = ℕ → Relocation → Bool
 
 -- the first relocation that section s of object o holds and that is charged
 unfoldable pub first_entry : Test → ℕ → List ℕ → ℕ → Option ℕ
@@ -44,11 +39,17 @@ abbrev pub first_use_from : Test → ℕ → List (List ℕ) → Option Place
 first_use_from test o [] = None
 first_use_from test o (b ∷ more) = or_place (first_use_in test o b) (first_use_from test (o + 1) more)
 
--- the relocations that have this fault of a name
-abbrev pub test_of : Charge → List (List ℕ) → List (List (List ℕ)) → Test
-test_of Unbound objects startup = is_faulty Undefined objects startup
-test_of Unsuited objects startup = is_faulty NotTls objects startup
-test_of Either objects startup = is_unfit objects startup
+-- a relocation names a symbol of its object, or none
+abbrev pub NamesWithin : List ℕ → Relocation → Type 0
+NamesWithin b r = r.kind ≢ Nothing → r.symbol < symbol_count b
+
+-- what may be asked of a relocation may be asked of each of object o, and b is that object
+abbrev pub MayAskIn : (ℕ → Relocation → Type 0) → ℕ → List ℕ → Type 0
+MayAskIn may_ask o b = (r : Relocation) → NamesWithin b r → may_ask o r
+
+-- of each of the objects
+abbrev pub MayAsk : (ℕ → Relocation → Type 0) → List (List ℕ) → Type 0
+MayAsk may_ask objects = (o : ℕ) → o < length objects → MayAskIn may_ask o (object_at objects o)
 
 -- ** symbols
 

@@ -1,18 +1,24 @@
 //! What the symbols of an image's relocations are bound to.
 
-ghost use Rattle.std.specs.Prelude.{◌≡◌, ◌<◌, ◌-◌, ◌^◌, IfErr, IfOk, IfSome, MatchOption, OnOk, false, length};
+ghost use Rattle.std.specs.Prelude.{◌≡◌, ◌<◌, ◌-◌, ◌^◌, IfErr, IfOk, IfSome, MatchOption, OnOk, false, length, map};
 ghost use Rattle.elf_object.specs.Lent.{symbol_binding, symbol_name};
 ghost use Rattle.elf_object.specs.declared.symbol.SymbolBinding.TheVariants.{Local};
 ghost use Rattle.elf_object.specs.Parts.{symbol_count};
-ghost use Rattle.tls_symbols.specs.Bindings.{binding_of, object_at, IsBindingWithin};
+ghost use Rattle.tls_symbols.specs.Bindings.{binding_of, bound_to, may, object_at, IsBindingWithin};
 ghost use Rattle.tls_symbols.specs.Definitions.{definition_of, same_binding, IsWithin};
-ghost use Rattle.tls_symbols.specs.Faults.{AreResolved, IsFault};
+ghost use Rattle.tls_symbols.specs.Charges.{test_of};
+ghost use Rattle.tls_symbols.specs.Faults.{AreResolved, IsFault, IsFirstCharged, NoneCharged};
 ghost use Rattle.tls_symbols.specs.Known.{IsKnown};
+ghost use Rattle.tls_symbols.specs.Standings.{AllStandings};
 
+use crate::charges::{Charge, NameQuestion};
 use crate::duplicates::first_duplicate;
 use crate::export_list::Exports;
 use crate::image_names::{ImageNames, binding, definition_named, know_names, symbol_definition};
-use crate::uses::{Charge, first_charged, first_use};
+use crate::imports::{Imports, imports_of};
+use crate::place::Place;
+use crate::standings::{Standing, standings};
+use crate::uses::first_use;
 use elf_object::{Object, Relocation};
 use link_faults::{Binding, LinkFault, LinkFaultKind, SymbolRef};
 use std::alloc::{AllocError, Global};
@@ -36,21 +42,54 @@ impl<'l, 's, 'a> Model for Bindings<'l, 's, 'a> {
     ghost invariant = { λ b. IsKnown b.names × AreResolved b.names.objects.now b.names.startup.now };
 }
 
+/// The first relocation that has the fault.
+fn first_charged(names: &ImageNames, standings: &[Vec<Standing>], charge: Charge) -> Option<Place>
+    requires { AllStandings names.now.objects.now names.now.startup.now (map (λ own. own.items) standings.now) }
+    ensures { MatchOption result
+        (NoneCharged (test_of charge names.now.objects.now names.now.startup.now) names.now.objects.now)
+        (λ place. IsFirstCharged (test_of charge names.now.objects.now names.now.startup.now) names.now.objects.now
+            place.object place.section place.entry) }
+{
+    let question = NameQuestion {
+        names,
+        standings,
+        charge,
+    };
+    first_use(&question, names.objects)
+}
+
+/// The first fault of names where some relocation may be at fault.
+fn first_of_all(names: &ImageNames, standings: &[Vec<Standing>]) -> Option<LinkFault>
+    requires known { IsKnown names.now }
+    requires standings { AllStandings names.now.objects.now names.now.startup.now
+        (map (λ own. own.items) standings.now) }
+    ensures { MatchOption result (AreResolved names.now.objects.now names.now.startup.now)
+        (IsFault names.now.objects.now names.now.startup.now) }
+{
+    if let Some(place) = first_charged(names, standings, Charge::Unbound) {
+        return Some(place.fault(LinkFaultKind::Undefined));
+    }
+    if let Some(place) = first_duplicate(names) {
+        return Some(place.fault(LinkFaultKind::Duplicate));
+    }
+    match first_charged(names, standings, Charge::Unsuited) {
+        Some(place) => Some(place.fault(LinkFaultKind::NotTls)),
+        None => None,
+    }
+}
+
 /// The first fault of the names of an image. Where no relocation is unfit, one walk over them says so.
 fn first_fault(alloc: Global, names: &ImageNames) -> Result<Option<LinkFault>, AllocError>
     requires { IsKnown names.now }
     ensures { IfOk result (λ fault. MatchOption fault (AreResolved names.now.objects.now names.now.startup.now)
         (IsFault names.now.objects.now names.now.startup.now)) }
 {
-    let unfit = first_use(alloc, names, Charge::Either)?;
-    match first_charged(alloc, names, unfit, Charge::Unbound)? {
-        Some(place) => Ok(Some(place.fault(LinkFaultKind::Undefined))),
+    let standings = standings(alloc, names)?;
+    match first_charged(names, &standings, Charge::Either) {
+        Some(_) => Ok(first_of_all(names, &standings)),
         None => match first_duplicate(names) {
             Some(place) => Ok(Some(place.fault(LinkFaultKind::Duplicate))),
-            None => match first_charged(alloc, names, unfit, Charge::Unsuited)? {
-                Some(place) => Ok(Some(place.fault(LinkFaultKind::NotTls))),
-                None => Ok(None),
-            },
+            None => Ok(None),
         },
     }
 }
@@ -77,17 +116,28 @@ pub fn resolve<'l, 's, 'a>(
 }
 
 impl Bindings<'_, '_, '_> {
-    /// What the symbol is bound to that a relocation of an object names, in time that does not depend on the names.
-    /// `None` where it has no binding, which no relocation of the objects has that names a symbol. `object` is the
-    /// object's place in the list, from 0.
-    pub fn binding(&self, object: usize, relocation: &Relocation) -> Option<Binding>
+    /// What a symbol of an object is bound to, by whether it may be another image's variable, in time that does not
+    /// depend on the names. `None` where it has no binding, which no symbol has that a relocation of a type that
+    /// imports so names. `object` is the object's place in the list, from 0.
+    pub fn binding(&self, object: usize, symbol: u32, imports: Imports) -> Option<Binding>
+        requires object { object < length self.now.objects }
+        requires symbol { symbol < symbol_count (object_at self.now.objects object) }
+        ensures binding { result ≡ bound_to self.now.objects self.now.startup object symbol (may imports) }
+        ensures within { IfSome result (IsBindingWithin self.now.objects) }
+        ensures resolved { AreResolved self.now.objects self.now.startup }
+    {
+        binding(&self.names, object, symbol, imports)
+    }
+
+    /// The same of the symbol that a relocation of an object names.
+    pub fn binding_of(&self, object: usize, relocation: &Relocation) -> Option<Binding>
         requires object { object < length self.now.objects }
         requires symbol { relocation.now.symbol < symbol_count (object_at self.now.objects object) }
         ensures binding { result ≡ binding_of self.now.objects self.now.startup object relocation.now }
         ensures within { IfSome result (IsBindingWithin self.now.objects) }
         ensures resolved { AreResolved self.now.objects self.now.startup }
     {
-        binding(&self.names, object, relocation)
+        self.binding(object, relocation.symbol, imports_of(relocation.kind))
     }
 
     /// The definition that a name binds to in the image, in time that depends on the name's length alone.

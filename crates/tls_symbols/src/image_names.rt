@@ -5,15 +5,16 @@ ghost use Rattle.std.specs.Str.{bytes_eq};
 ghost use Rattle.elf_object.specs.Lent.{symbol_binding, symbol_name};
 ghost use Rattle.elf_object.specs.declared.symbol.SymbolBinding.TheVariants.{Local};
 ghost use Rattle.elf_object.specs.Parts.{symbol_count};
-ghost use Rattle.tls_symbols.specs.Bindings.{binding_of, get_address, is_tls_symbol, object_at, IsBindingWithin};
+ghost use Rattle.tls_symbols.specs.Bindings.{bound_to, get_address, is_tls_symbol, may, object_at, IsBindingWithin};
 ghost use Rattle.tls_symbols.specs.Definitions.{definition_of, same_binding, IsWithin};
 ghost use Rattle.tls_symbols.specs.Known.{IsKnown, binding_at, definition_at, imported_at};
 ghost use Rattle.tls_symbols.specs.Numbers.{IsNumbered};
 
 use crate::export_list::Exports;
 use crate::firsts::{first_definitions, first_exports};
+use crate::imports::Imports;
 use crate::numbers::{KnownSymbol, Numbers, number_names};
-use elf_object::{Object, Relocation, RelocationKind, SymbolBinding};
+use elf_object::{Object, SymbolBinding};
 use link_faults::{Binding, SymbolRef};
 use std::alloc::{AllocError, Global};
 
@@ -138,34 +139,40 @@ fn imported_at(names: &ImageNames, number: usize) -> Option<Binding>
     }
 }
 
-/// What the name of this number is bound to, which a relocation of this type names.
-fn binding_at(names: &ImageNames, number: usize, kind: RelocationKind) -> Option<Binding>
-    ensures { result ≡ binding_at names.now number kind }
+/// What the name of this number is bound to, by whether it may be another image's variable.
+fn binding_at(names: &ImageNames, number: usize, imports: Imports) -> Option<Binding>
+    ensures { result ≡ binding_at names.now number (may imports) }
 {
     if number == 0 {
         return Some(Binding::Runtime);
     }
-    match definition_at(names, number) {
-        Some(found) => Some(Binding::Here(found)),
-        None if kind.may_import() => imported_at(names, number),
-        None => None,
+    match (definition_at(names, number), imports) {
+        (Some(found), _) => Some(Binding::Here(found)),
+        (None, Imports::Yes) => imported_at(names, number),
+        (None, Imports::No) => None,
     }
 }
 
-/// What the symbol is bound to that a relocation of an object names; a LOCAL one is bound to itself.
-#[tactic(auto, unfolding(crate::specs::Bindings::binding_of))]
-pub fn binding(names: &ImageNames, object: usize, relocation: &Relocation) -> Option<Binding>
+/// What a symbol of an object is bound to, by whether it may be another image's variable; a LOCAL one is bound to
+/// itself.
+#[tactic(auto, unfolding(crate::specs::Bindings::bound_to))]
+pub fn binding(
+    names: &ImageNames,
+    object: usize,
+    symbol: u32,
+    imports: Imports,
+) -> Option<Binding>
     requires known { IsKnown names.now }
     requires object { object < length names.now.objects.now }
-    requires symbol { relocation.now.symbol < symbol_count (object_at names.now.objects.now object) }
-    ensures binding { result ≡ binding_of names.now.objects.now names.now.startup.now object relocation.now }
+    requires symbol { symbol < symbol_count (object_at names.now.objects.now object) }
+    ensures binding { result ≡ bound_to names.now.objects.now names.now.startup.now object symbol (may imports) }
     ensures within { IfSome result (IsBindingWithin names.now.objects.now) }
 {
-    match symbol_at(names, object, relocation.symbol).name {
-        Some(number) => binding_at(names, number, relocation.kind),
+    match symbol_at(names, object, symbol).name {
+        Some(number) => binding_at(names, number, imports),
         None => Some(Binding::Here(SymbolRef {
             object: object as u64,
-            symbol: relocation.symbol,
+            symbol,
         })),
     }
 }

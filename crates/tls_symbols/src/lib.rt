@@ -28,26 +28,33 @@
 //! a name that a relocation uses and that nothing binds; then `Duplicate`, a second strong definition, used or not;
 //! then `NotTls`, a relocation of thread-local storage that names something else, or the other way round, judged by the
 //! definition that the name binds to. Within a kind the first object, section and entry counts. [`Bindings`] then tells
-//! of each relocation what its symbol is bound to, and of a name or a symbol the definition in the image.
+//! what a symbol is bound to, and of a name or a symbol the definition in the image. What a symbol is bound to depends
+//! on whether it may be another image's variable ([`Imports`]), and on nothing else of a relocation that names it.
+//!
+//! [`first_use`] is the one walk over relocations: it finds the first, by object, section and entry, that a
+//! [`Question`] is about.
 //!
 //! The rule of cost: **a name is read and hashed once, and is a number from then on.** Names are numbered in the order
 //! in which they are met, each symbol keeps the number of its name and whether it is thread-local, and tables over
 //! these numbers hold the first strong and the first weak definition and the first startup image. So a relocation is
-//! bound by a few look-ups in lists, however many names there are. LOCAL names are not looked at. Where no relocation
-//! is at fault, one walk over them all says so, and the searches for the first of each kind are not made.
+//! bound by a few look-ups in lists, however many names there are. LOCAL names are not looked at. What a symbol stands
+//! for is found once. Where no relocation is at fault, one walk over them all says so, and the searches for the first
+//! of each kind are not made.
 //!
 //! `specs/Definitions` says which definition a name has, `specs/Bindings` what a symbol is bound to and what an image
 //! exports, and `specs/Faults` what each kind of fault means and which is the first. The other files of specs/ speak of
-//! what the code keeps: numbers (`Numbers`), tables (`Firsts`, `Known`), what each symbol stands for (`Standings`) and
-//! searches (`Searches`).
+//! what the code keeps: numbers (`Numbers`), tables (`Firsts`, `Known`), what each symbol stands for (`Standings`), what
+//! a question about names asks (`Charges`) and searches (`Searches`).
 #![tactic(auto)]
 
 mod bindings;
+mod charges;
 mod duplicates;
 mod export_list;
 mod exporting;
 mod firsts;
 mod image_names;
+mod imports;
 pub mod laws;
 mod numbers;
 mod place;
@@ -59,5 +66,8 @@ mod uses;
 pub use bindings::{Bindings, resolve};
 pub use export_list::Exports;
 pub use exporting::exports;
+pub use imports::{Imports, imports_of};
 pub use numbers::symbol_total;
+pub use place::Place;
 pub use symbols::definition;
+pub use uses::{Question, first_use};

@@ -1,13 +1,14 @@
 //! What each symbol of an object stands for, asked once a symbol and not once a relocation.
 
-ghost use Rattle.std.specs.Prelude.{◌≡◌, ◌<◌, IfOk, IfSome, length};
+ghost use Rattle.std.specs.Prelude.{◌≡◌, ◌<◌, IfOk, IfSome, length, map};
 ghost use Rattle.elf_object.specs.Parts.{symbol_count};
-ghost use Rattle.tls_symbols.specs.Bindings.{is_tls_binding, object_at, IsBindingWithin};
+ghost use Rattle.tls_symbols.specs.Bindings.{bound_to, is_tls_binding, may, object_at, IsBindingWithin};
 ghost use Rattle.tls_symbols.specs.Known.{IsKnown};
-ghost use Rattle.tls_symbols.specs.Standings.{bound_as, bound_in, AreStandings, IsBound, IsStanding};
+ghost use Rattle.tls_symbols.specs.Standings.{bound_as, bound_in, AllStandings, AreStandings, IsStanding};
 
 use crate::image_names::{ImageNames, binding, is_tls};
-use elf_object::{Object, Relocation, RelocationKind};
+use crate::imports::Imports;
+use elf_object::Object;
 use link_faults::Binding;
 use std::alloc::{AllocError, Global};
 
@@ -19,24 +20,21 @@ pub enum Bound {
     Ordinary,
 }
 
-/// What a symbol is bound to, by the type of the relocation that names it.
+/// What a symbol is bound to, by whether it may be another image's variable.
 #[derive(Clone, Copy)]
 pub struct Standing {
-    /// For the types that may name what another image exports.
     pub importing: Bound,
-    /// For all others.
     pub usual: Bound,
 }
 
 impl Standing {
-    /// What the symbol is bound to for a relocation of this type.
-    pub fn bound(self, kind: RelocationKind) -> Bound
-        ensures { result ≡ bound_in self kind }
+    /// What the symbol is bound to.
+    pub fn bound(self, imports: Imports) -> Bound
+        ensures { result ≡ bound_in self (may imports) }
     {
-        if kind.may_import() {
-            self.importing
-        } else {
-            self.usual
+        match imports {
+            Imports::Yes => self.importing,
+            Imports::No => self.usual,
         }
     }
 }
@@ -67,23 +65,18 @@ fn bound_of(names: &ImageNames, binding: Option<Binding>) -> Bound
     }
 }
 
-/// What a symbol of an object is bound to for a relocation of this type, and of every type that may import as it may.
-fn bound_where(names: &ImageNames, index: usize, symbol: u32, kind: RelocationKind) -> Bound
+/// What a symbol of an object is bound to.
+fn bound_by(names: &ImageNames, index: usize, symbol: u32, imports: Imports) -> Bound
     requires known { IsKnown names.now }
     requires object { index < length names.now.objects.now }
     requires symbol { symbol < symbol_count (object_at names.now.objects.now index) }
-    ensures { IsBound names.now.objects.now names.now.startup.now index symbol kind result }
+    ensures { result ≡ bound_as names.now.objects.now
+        (bound_to names.now.objects.now names.now.startup.now index symbol (may imports)) }
 {
-    let relocation = Relocation {
-        offset: 0,
-        kind,
-        symbol,
-        addend: 0,
-    };
-    bound_of(names, binding(names, index, &relocation))
+    bound_of(names, binding(names, index, symbol, imports))
 }
 
-/// What a symbol of an object stands for: TLSGD is one of the types that may import, PC32 one of those that may not.
+/// What a symbol of an object stands for.
 fn standing_of(names: &ImageNames, index: usize, symbol: u32) -> Standing
     requires known { IsKnown names.now }
     requires object { index < length names.now.objects.now }
@@ -91,13 +84,13 @@ fn standing_of(names: &ImageNames, index: usize, symbol: u32) -> Standing
     ensures { IsStanding names.now.objects.now names.now.startup.now index symbol result }
 {
     Standing {
-        importing: bound_where(names, index, symbol, RelocationKind::TlsGd),
-        usual: bound_where(names, index, symbol, RelocationKind::Pc32),
+        importing: bound_by(names, index, symbol, Imports::Yes),
+        usual: bound_by(names, index, symbol, Imports::No),
     }
 }
 
 /// What each symbol of an object stands for.
-pub fn standings(
+fn own_standings(
     alloc: Global,
     names: &ImageNames,
     index: usize,
@@ -114,4 +107,19 @@ pub fn standings(
         standings.push(standing_of(names, index, symbol))?;
     }
     Ok(standings)
+}
+
+/// What each symbol of each object stands for.
+pub fn standings(alloc: Global, names: &ImageNames) -> Result<Vec<Vec<Standing>>, AllocError>
+    requires { IsKnown names.now }
+    ensures { IfOk result (λ all.
+        AllStandings names.now.objects.now names.now.startup.now (map (λ own. own.items) all.items)) }
+{
+    let objects = names.objects;
+    let mut all = Vec::with_capacity(alloc, objects.len())?;
+    for (index, object) in objects.iter().enumerate() {
+        let own = own_standings(alloc, names, index, object)?;
+        all.push(own)?;
+    }
+    Ok(all)
 }

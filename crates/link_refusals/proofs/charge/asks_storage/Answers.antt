@@ -3,8 +3,8 @@ use Rattle.elf_records.specs.RelocationRows.{is_entry}
 use Rattle.link_refusals.proofs.Named.{named}
 use Rattle.link_refusals.proofs.charge.asks_storage.Goals as goal
 
-pub binding-requires-clause-symbol : goal.binding-requires-clause-symbol
-binding-requires-clause-symbol c =
+pub is_here-requires-clause-symbol : goal.is_here-requires-clause-symbol
+is_here-requires-clause-symbol c =
     let reaches : is_entry c.row.result.entry ≡ true =
     elim c.in-SymbolPair.is [ inl e ↦ ap is_entry e | inr e ↦ ap is_entry e ] in
     c.requires.symbol (named c.args.relocation.now.kind c.row.result c.row.ensures reaches)

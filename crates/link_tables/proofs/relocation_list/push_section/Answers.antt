@@ -2,7 +2,7 @@ use Rattle.std.proofs.Common.{◌≡◌}
 use Rattle.std.specs.List.{Contains}
 use Rattle.elf_object.specs.Lent.{relocations}
 use Rattle.tls_symbols.specs.Bindings.{object_at}
-use Rattle.link_refusals.proofs.Asked.{rest_all}
+use Rattle.tls_symbols.proofs.Search.{rest_all_of}
 use Rattle.link_tables.specs.Dynamic.{field_relocations}
 use Rattle.link_tables.proofs.ListedFields.{all_contained, flat_next, flat_start}
 use Rattle.link_tables.proofs.relocation_list.push_section.Goals as goal
@@ -27,6 +27,6 @@ loop-relocation-preserved c =
       flat_next c.loop-relocation.all.items c.push_field.new.all.items _
           (field_relocations c.args.plan.now c.args.object c.args.section) c.in-Some.relocation c.next.new.self
           c.loop-relocation.relocation-iterator first c.in_ok-push_field.ensures c.loop-relocation.invariant.2,
-      rest_all (Contains all) c.in-Some.relocation c.next.new.self c.loop-relocation.relocation-iterator first
+      rest_all_of (Contains all) c.in-Some.relocation c.next.new.self c.loop-relocation.relocation-iterator first
           c.loop-relocation.invariant.3,
     )

@@ -1,20 +1,19 @@
-use Rattle.std.proofs.Common.{◌≡◌, ◌+◌, ◌<◌, ◌++◌, ℕ, List, [], ◌∷◌, sym, subst, arith}
-use Rattle.std.specs.Prelude.{slice_index_or}
-use Rattle.tls_symbols.specs.declared.standings.Standing.{Standing}
-use Rattle.tls_symbols.specs.Standings.{IsStanding}
-use Rattle.tls_symbols.proofs.Numbered.{each_push}
+use Rattle.std.proofs.Common.{◌≡◌, [], length, refl, subst, arith}
+use Rattle.std.proofs.lemmas.List.{get_or_read_under}
+use Rattle.elf_object.specs.Parts.{symbol_count}
+use Rattle.tls_symbols.specs.Bindings.{object_at}
+use Rattle.tls_symbols.specs.Standings.{AreStandings}
+use Rattle.tls_symbols.proofs.Numbered.{vecs_push}
 use Rattle.tls_symbols.proofs.standings.standings.Goals as goal
 
-pub loop-symbol-preserved : goal.loop-symbol-preserved
-loop-symbol-preserved c =
+pub loop-index-preserved : goal.loop-index-preserved
+loop-index-preserved c =
+    let so_far = c.loop-index.invariant in
     let objects = c.args.names.now.objects.now in
     let startup = c.args.names.now.startup.now in
-    let so_far = c.loop-symbol.invariant in
-    let symbol = c.loop-symbol.symbol in
-    let items = c.loop-symbol.standings.items in
-    let Stands : ℕ → Standing → Type 0 = λ e s. IsStanding objects startup c.args.index e s in
-    let pushed : c.push.new.self.items ≡ items ++ c.standing_of.result ∷ [] = c.in_ok-push.ensures.items in
-    let P : List Standing → Type 0 = λ xs. (e : ℕ) (d : Standing) → e < symbol + 1 → Stands e (slice_index_or xs e d) in (
+    let i = c.loop-index.index in
+    let here : c.index-objects-index.result ≡ object_at objects i = get_or_read_under objects i (length objects) c.index-objects-index.result [] c.index-objects-index.is c.loop-index-test.true refl in (
       omega (arith, c.in_ok-push.ensures.len, so_far.0),
-      subst P (sym pushed) (λ e d. each_push Stands items c.standing_of.result d symbol so_far.0 (λ e less. so_far.1 e d less) c.standing_of.ensures e),
+      vecs_push (λ o own. AreStandings objects startup o (symbol_count (object_at objects o)) own) c.loop-index.all.items c.push.new.self.items c.in_ok-own.own i so_far.0 c.in_ok-push.ensures.items so_far.1
+          (subst (λ b. AreStandings objects startup i (symbol_count b) c.in_ok-own.own.items) here c.in_ok-own.ensures),
     )

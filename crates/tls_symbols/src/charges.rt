@@ -1,0 +1,93 @@
+//! The faults that a relocation may have by what its symbol is bound to.
+
+ghost use Rattle.std.specs.Prelude.{◌≡◌, ◌<◌, length, map};
+ghost use Rattle.elf_object.specs.Parts.{symbol_count};
+ghost use Rattle.tls_symbols.specs.Bindings.{object_at};
+ghost use Rattle.tls_symbols.specs.Charges.{asked_by, is_charged, IsAsked};
+ghost use Rattle.tls_symbols.specs.Standings.{is_unbound, is_unsuited, AllStandings, IsStanding};
+
+use crate::image_names::ImageNames;
+use crate::imports::imports_of;
+use crate::standings::{Bound, Standing};
+use crate::uses::Question;
+use elf_object::{Relocation, RelocationKind};
+
+/// A fault that a relocation may have by what its symbol is bound to.
+#[derive(Clone, Copy)]
+pub enum Charge {
+    /// It is bound to nothing.
+    Unbound,
+    /// One of the two is thread-local, the relocation's type or what its symbol is bound to, and the other isn't.
+    Unsuited,
+    /// Either of these.
+    Either,
+}
+
+/// Whether there is nothing that a symbol is bound to.
+fn is_nothing(bound: Bound) -> bool
+    ensures { result ≡ is_unbound bound }
+{
+    matches!(bound, Bound::Nothing)
+}
+
+/// Whether a relocation of this type may not name what is bound so.
+fn is_mismatched(bound: Bound, kind: RelocationKind) -> bool
+    ensures { result ≡ is_unsuited kind bound }
+{
+    match bound {
+        Bound::Nothing => false,
+        Bound::ThreadLocal => !kind.is_tls(),
+        Bound::Ordinary => kind.is_tls(),
+    }
+}
+
+/// Whether a relocation of this type has this fault, whose symbol is bound so.
+fn is_charged(charge: Charge, bound: Bound, kind: RelocationKind) -> bool
+    ensures { result ≡ is_charged charge kind bound }
+{
+    match charge {
+        Charge::Unbound => is_nothing(bound),
+        Charge::Unsuited => is_mismatched(bound, kind),
+        Charge::Either => is_nothing(bound) || is_mismatched(bound, kind),
+    }
+}
+
+/// Which relocations have this fault? `standings` has what each symbol of each object stands for.
+#[derive(Clone, Copy)]
+pub struct NameQuestion<'n, 'l, 's, 'a> {
+    pub names: &'n ImageNames<'l, 's, 'a>,
+    pub standings: &'n [Vec<Standing>],
+    pub charge: Charge,
+}
+
+/// What a symbol of an object stands for.
+fn standing_at(
+    names: &ImageNames,
+    standings: &[Vec<Standing>],
+    object: usize,
+    symbol: u32,
+) -> Standing
+    requires standings { AllStandings names.now.objects.now names.now.startup.now
+        (map (λ own. own.items) standings.now) }
+    requires object { object < length names.now.objects.now }
+    requires symbol { symbol < symbol_count (object_at names.now.objects.now object) }
+    ensures { IsStanding names.now.objects.now names.now.startup.now object symbol result }
+{
+    let own = &standings[object];
+    own[symbol as usize]
+}
+
+impl Question for NameQuestion<'_, '_, '_, '_> {
+    ghost test = { asked_by };
+
+    ghost may_ask = { IsAsked };
+
+    fn is_about(&self, object: usize, relocation: &Relocation) -> bool {
+        if !relocation.kind.names_symbol() {
+            return false;
+        }
+        let standing = standing_at(self.names, self.standings, object, relocation.symbol);
+        let bound = standing.bound(imports_of(relocation.kind));
+        is_charged(self.charge, bound, relocation.kind)
+    }
+}
