@@ -47,6 +47,6 @@ mod stack;
 mod words;
 
 pub use bytes::Outline;
-pub use names::JobNames;
+pub use names::{JobNames, names_cross_threads};
 pub use space::ThreadSpace;
 pub use words::{end_of_stack, thread_pointer};

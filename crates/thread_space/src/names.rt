@@ -109,3 +109,11 @@ impl<'m> JobNames<'m> {
         Some(variable.offset)
     }
 }
+
+/// Asks that threads may move a type's values, and share them.
+fn crosses_threads<T: Send + Sync>() {}
+
+/// Threads may move the names of a job's images, and share them: all of a job's threads find functions by one table.
+pub fn names_cross_threads() {
+    crosses_threads::<JobNames<'static>>();
+}
