@@ -81,7 +81,7 @@ returns-in-Ok c =
     ∙ ap (λ n. patched (field_patch (offset_of (layout l) n - from) c.in-Ok.field ∷ []) part) place in
     record {
       written = put ∙ field_writes l o t r from part c.in-Ok.field is value;
-      filled = c.put.auto.bytes;
+      filled = c.put.auto.part;
       fits = field_fills l o t r c.in-Ok.field value;
       overflow = tt;
     }
