@@ -169,8 +169,9 @@ module _ (ls : List Linking) (l : Linking) (x : Instance) (is : IsInstanceOf ls 
       let t = at.spot.section in
       let bias = bias_of l.kind x.number in
       let m = minus_is addend size minus in
-      let word = fields_reach_entries l o t at.field v stands.there
-      (class_in_table (object l o) t (rw stands.class_is refl)).1 found.among kind.kind_is e in
+      let word = fields_reach_entries l at.spot.object at.spot.section at.field v stands.there
+      (class_in_table (object l at.spot.object) at.spot.section (rw stands.class_is refl)).1 found.among kind.kind_is
+      e in
       let reached : need_address l (relocation_need l at.spot.object at.field) ≡ got_start l + word.at =
       ap (need_address l) (need_of l at.spot.object at.field.symbol (binding l at.spot.object at.field) at.field.kind
       kind.kind_is ∙ ap (address_need l) e) ∙ ap (entry_by l) word.starts in
