@@ -8,7 +8,7 @@ use Rattle.elf_object.specs.Lent.{relocations, section_bytes, section_size}
 use Rattle.elf_records.specs.declared.relocation.RelocationKind.{RelocationKind}
 use Rattle.elf_records.specs.declared.relocation_row.FieldForm.{FieldForm}
 use Rattle.elf_records.specs.declared.relocation_row.FieldForm.TheVariants.{Wrapped64}
-use Rattle.elf_records.specs.RelocationRows.{row, is_absolute, is_offset}
+use Rattle.elf_records.specs.RelocationRows.{row, is_offset}
 use Rattle.link_faults.specs.declared.binding.Binding.{Binding}
 use Rattle.link_faults.specs.declared.binding.Binding.TheVariants.{Here}
 use Rattle.link_faults.specs.declared.image_kind.ImageKind.{ImageKind}
@@ -48,9 +48,12 @@ own_field l o s r =
     (own_subtracted l r.kind)) (Word32 0)
 
 -- it holds an address, which moves with the image
+abbrev pub moves_in_form : FieldForm → Option Binding → Bool
+moves_in_form Wrapped64 (Some (Here found)) = true
+moves_in_form form bound = false
+
 abbrev pub is_moving : RelocationKind → Option Binding → Bool
-is_moving kind (Some (Here found)) = is_absolute kind
-is_moving kind bound = false
+is_moving kind bound = moves_in_form (row kind).form bound
 
 -- the marks of its bytes: 1 to 8 where it moves, else 0
 abbrev pub marks_in_form : FieldForm → Option Binding → Field
