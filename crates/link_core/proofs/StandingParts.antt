@@ -102,8 +102,7 @@ module _ (l : Linking) (given : IsGiven l) (limits : FitsTable l) (i k : ℕ) (p
       (slice_get_within (section_places (layout l)) i place at) in
       let is : slice_index_or (section_places (layout l)) i place ≡ place =
       get_or_from_slice_get (section_places (layout l)) i place place at in
-      let lies : (base_of l.kind ≤ place.address) × (place.address + place.size ≤ sections_end (layout l)) =
-      (
+      let lies : (base_of l.kind ≤ place.address) × (place.address + place.size ≤ sections_end (layout l)) = (
         omega (arith, own.0, ap (λ (p : PartPlace). p.address) is),
         omega (arith, own.1, ap (λ (p : PartPlace). p.address + p.size) is, parts.ends),
       ) in

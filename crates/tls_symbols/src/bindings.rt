@@ -48,7 +48,7 @@ fn first_charged(names: &ImageNames, standings: &[Vec<Standing>], charge: Charge
     ensures { MatchOption result
         (NoneCharged (test_of charge names.now.objects.now names.now.startup.now) names.now.objects.now)
         (λ place. IsFirstCharged (test_of charge names.now.objects.now names.now.startup.now) names.now.objects.now
-            place.object place.section place.entry) }
+        place.object place.section place.entry) }
 {
     let question = NameQuestion {
         names,

@@ -156,12 +156,7 @@ fn binding_at(names: &ImageNames, number: usize, imports: Imports) -> Option<Bin
 /// What a symbol of an object is bound to, by whether it may be another image's variable; a LOCAL one is bound to
 /// itself.
 #[tactic(auto, unfolding(crate::specs::Bindings::bound_to))]
-pub fn binding(
-    names: &ImageNames,
-    object: usize,
-    symbol: u32,
-    imports: Imports,
-) -> Option<Binding>
+pub fn binding(names: &ImageNames, object: usize, symbol: u32, imports: Imports) -> Option<Binding>
     requires known { IsKnown names.now }
     requires object { object < length names.now.objects.now }
     requires symbol { symbol < symbol_count (object_at names.now.objects.now object) }
