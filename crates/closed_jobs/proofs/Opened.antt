@@ -40,7 +40,7 @@ use Rattle.thread_blocks.specs.Spaces.{space_accesses}
 use Rattle.tls_layout.specs.Places.{end_of, place_in, executable, read_only, tls_image, initial_data, zero_data, room, address_at, initial_tls, zero_tls, greatest_alignment, tls_alignment, offset_at, address_of as placed_at, tls_offset_of}
 use Rattle.tls_layout.specs.Rounding.{round_up, page_up}
 use Rattle.tls_layout.specs.Sections.{section_of, sections_of, all_sections, section_counts, position}
-use Rattle.tls_symbols.specs.Bindings.{binding_of}
+use Rattle.tls_symbols.specs.Bindings.{bound_to}
 use Rattle.tls_symbols.specs.Definitions.{first_in, definition_of}
 use Rattle.whole_meaning.specs.Bytes.{value_of, class_bytes, function_of, variable_of}
 use Rattle.whole_meaning.specs.Code.{mark_of, sequence_of}
@@ -80,7 +80,7 @@ unfolding
     released opened after_one past row looked_at reached_at loaded_at instances_in instance_at fixed_at
     begin_line zeros space_accesses end_of place_in executable read_only tls_image initial_data zero_data room
     address_at initial_tls zero_tls greatest_alignment tls_alignment offset_at placed_at tls_offset_of round_up
-    page_up section_of sections_of all_sections section_counts position binding_of first_in definition_of
+    page_up section_of sections_of all_sections section_counts position bound_to first_in definition_of
     value_of class_bytes function_of variable_of mark_of sequence_of memory_in read_in marked_frame meant_world
     verdict_of verdict_text wants_surplus info_of loads_of meaning_of hindrance plain_step reaches_linker
     marked_step meaning sequence_result in_room spot_in meant_accesses meant_steps resume_meant begin_meant

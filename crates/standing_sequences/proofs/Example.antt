@@ -31,7 +31,7 @@ use Rattle.tls_layout.specs.Rounding.{round_up, page_up}
 use Rattle.tls_layout.specs.Places.{end_of, place_in, executable, read_only, tls_image, initial_data, zero_data, room}
 use Rattle.tls_layout.specs.Places.{address_at, initial_tls, zero_tls, greatest_alignment, tls_alignment, offset_at}
 use Rattle.tls_layout.specs.Places.{section_named, address_of as placed_at, tls_offset_of}
-use Rattle.tls_symbols.specs.Bindings.{exported_in, exported_names, binding_of}
+use Rattle.tls_symbols.specs.Bindings.{exported_in, exported_names, bound_to}
 use Rattle.tls_symbols.specs.Definitions.{first_in, definition_of}
 use Rattle.tls_symbols.specs.Faults.{held_in}
 use Rattle.sequence_forms.specs.Forms.{row, register}
@@ -58,7 +58,7 @@ unfolding
     defined_names defined_symbols imported_in imports section_of sections_of all_sections section_counts
     position round_up page_up end_of place_in executable read_only tls_image initial_data zero_data room
     address_at initial_tls zero_tls greatest_alignment tls_alignment offset_at section_named placed_at
-    tls_offset_of exported_in exported_names binding_of first_in definition_of held_in row register
+    tls_offset_of exported_in exported_names bound_to first_in definition_of held_in row register
     section_bytes section_name section_class section_size section_alignment symbol_name symbol_binding
     symbol_type symbol_visibility symbol_place symbol_value symbol_size relocation_at relocations_from
     kept_relocation_table relocations_in relocation_target header_at section_at symbol_at symbol_bytes rela_at
