@@ -103,7 +103,7 @@ pub fn write_images<R: Threads + Sync>(
     all: Vec<ReadyLink>,
 ) -> Result<Vec<Linked>, AllocError>
     requires { All Links all.items }
-    ensures { IfOk result (λ written. written.items ≡ map linked_of all.items) }
+    ensures { IfOk result (λ written. written.items ≡ map linked_of all.entry.items) }
 {
     let mut written = Vec::with_capacity(alloc, all.len())?;
     for ready in all {
@@ -117,7 +117,7 @@ pub fn inputs_of<'l, 's, 'a>(
     alloc: Global,
     all: Vec<ReadyLink<'l, 's, 'a>>,
 ) -> Result<Vec<Inputs<'l, 's, 'a>>, AllocError>
-    ensures { IfOk result (λ inputs. inputs.items ≡ all.items) }
+    ensures { IfOk result (λ inputs. inputs.items ≡ all.entry.items) }
 {
     let mut inputs = Vec::with_capacity(alloc, all.len())?;
     for ready in all {
