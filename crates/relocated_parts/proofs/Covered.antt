@@ -1,7 +1,7 @@
 -- The relocation that covers a byte is the one that is found, and where none covers it none is.
 use Rattle.std.proofs.Common.{◌≡◌, ◌∙◌, ◌+◌, ◌-◌, ◌<◌, ◌≤◌, ◌&&◌, ℕ, zero, suc, Bool, true, false, List, [], ◌∷◌, Option}
 use Rattle.std.proofs.Common.{Some, None, length, inl, inr, refl, sym, ap, arith, if◌then◌else◌}
-use Rattle.std.specs.Prelude.{slice_get}
+use Rattle.std.specs.Prelude.{slice_get, slice_index_or}
 use Rattle.std.specs.List.{Contains, find}
 use Rattle.std.proofs.lemmas.Bool.{cases_lt, le-leb, lt-ltb}
 use Rattle.std.proofs.lemmas.Bool.Decides.{nat_tests}
@@ -90,9 +90,10 @@ module _ (m : JobImages) (c : Contents) (x : Instance) (i : ℕ) (part : Part) (
       → slice_get (loaded_part m x i) k ≡ Some (written_byte m (finished c) x r (part.address + k - r.place))
   unfolding left_byte
   written k r below has covers =
-      let own = slice_get-get_or part.bytes k 0 below in
-      left.each k _ own
-      ∙ ap (λ o. Some (byte_by m (finished c) x (part.address + k) _ o))
+      let first : ℕ = slice_index_or part.bytes k 0 in
+      let own : slice_get part.bytes k ≡ Some first = slice_get-get_or part.bytes k 0 below in
+      left.each k first own
+      ∙ ap (λ o. Some (byte_by m (finished c) x (part.address + k) first o))
       (found_one (finished c).relocations rising r (part.address + k) has covers)
 
   kept : (k own : ℕ) → slice_get part.bytes k ≡ Some own
