@@ -1,10 +1,15 @@
-use Rattle.std.proofs.Common.{◌∙◌, ◌∷◌, ◌++◌, [], List, map, take, sym, ap, subst}
+use Rattle.std.proofs.Common.{◌∙◌, ◌∷◌, ◌++◌, [], List, length, map, take, sym, ap, subst, arith}
 use Rattle.link_core.specs.Faults.{IsLinkFault, Links}
 use Rattle.link_needs.specs.Linking.{Linking}
+use Rattle.job_link.specs.LinkLaws.{exports_few}
 use Rattle.job_link.specs.Linked.{link_in}
 use Rattle.job_link.specs.Refusals.{IsImageRefusal}
 use Rattle.job_link.proofs.Exported.{all_link, beside, first_refused, links_more, made_more}
 use Rattle.job_link.proofs.preparing.prepare_images.Goals as goal
+
+pub ready_one-requires : goal.ready_one-requires
+ready_one-requires c =
+    omega (arith, ap length c.requires.startup, exports_few c.args.images.now, c.requires.few)
 
 pub returns-in-Err-clause-refused : goal.returns-in-Err-clause-refused
 returns-in-Err-clause-refused c =
