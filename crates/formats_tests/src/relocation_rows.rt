@@ -1,6 +1,8 @@
 //! The table of relocation types beside those of the standards, from which each line here is typed: number, field and
 //! calculation from the psABI, "Relocation Types"; what those of thread-local storage name and reach from Drepper, "ELF
 //! Handling For Thread-Local Storage", sections 4.1 to 4.4 and, for descriptors, the psABI, "Thread-Local Storage".
+//! Where a type may stand, its part of a sequence, when it is replaced and what refuses it are rules of this linker, typed
+//! once more.
 
 use elf_records::RelocationKind;
 use elf_records::relocation_row::{

@@ -14,7 +14,8 @@ ghost use Rattle.whole_meaning.specs.Code.{offset_number};
 
 use crate::targets::{Target, target_of};
 use amd64_words::Register;
-use elf_object::{Relocation, RelocationKind};
+use elf_object::Relocation;
+use elf_records::relocation_row::{FieldValue, TableEntry};
 use link_faults::Binding;
 use link_needs::Inputs;
 use sequence_match::{Form, Site};
@@ -129,7 +130,7 @@ fn address_entry(inputs: &Inputs, relocation: &Relocation, bound: Option<Binding
     }
 }
 
-/// What the bytes of a relocation's field are.
+/// What the bytes of a relocation's field are: its row says what it holds, and which entry it reaches.
 pub fn field_entry(inputs: &Inputs, number: usize, relocation: &Relocation) -> Entry
     requires object { number < length inputs.now.objects }
     requires symbol { relocation.now.kind ≢ Nothing
@@ -137,12 +138,13 @@ pub fn field_entry(inputs: &Inputs, number: usize, relocation: &Relocation) -> E
     ensures entry { IsFieldEntry inputs.now number relocation.now result }
     ensures numbered { IsNumberedEntry result }
 {
-    match relocation.kind {
-        RelocationKind::DtpOff32 => {
+    let row = relocation.kind.row();
+    match (row.value, row.entry) {
+        (FieldValue::SegmentOffset, _) => {
             let bound = inputs.bindings.binding_of(number, relocation);
             offset_entry(inputs, relocation, bound)
         }
-        RelocationKind::GotPcRel | RelocationKind::GotPcRelX | RelocationKind::RexGotPcRelX => {
+        (_, TableEntry::AddressWord) => {
             let bound = inputs.bindings.binding_of(number, relocation);
             address_entry(inputs, relocation, bound)
         }
