@@ -70,4 +70,4 @@ pub use imports::{Imports, imports_of};
 pub use numbers::symbol_total;
 pub use place::Place;
 pub use symbols::definition;
-pub use uses::{Question, first_use};
+pub use uses::{Question, Use, Uses, first_use};
