@@ -1,15 +1,14 @@
 -- What is left of a walk over uses, step by step.
-use Rattle.std.proofs.Common.{◌≡◌, ◌+◌, ◌-◌, ◌<◌, ◌≤◌, ◌++◌, ◌∙◌, ℕ, suc, List, [], ◌∷◌, Option, Some, None, drop, length, refl, sym, ap, arith}
+use Rattle.std.proofs.Common.{◌≡◌, ◌+◌, ◌-◌, ◌<◌, ◌≤◌, ◌++◌, ◌∙◌, ℕ, List, [], ◌∷◌, Some, None, drop, length, refl, sym, ap, arith}
 use Rattle.std.specs.List.{flat_map, range_with_len}
 use Rattle.std.proofs.lemmas.List.{append_assoc, drop_more}
 use Rattle.std.proofs.lemmas.Bool.Decides.{nat_tests}
 use Rattle.object_faults.specs.Firsts.{nonzero}
 use Rattle.elf_object.specs.Lent.{relocation_target, relocations}
 use Rattle.elf_object.specs.Object.{section_count}
-use Rattle.tls_symbols.specs.declared.uses.Uses.{Uses}
 use Rattle.tls_symbols.specs.Bindings.{object_at}
 use Rattle.tls_symbols.specs.Faults.{held_for, held_in}
-use Rattle.tls_symbols.specs.Walks.{entries_from, steps_from, uses_from, uses_held, uses_left}
+use Rattle.tls_symbols.specs.Walks.{entries_from, steps_from, uses_from, uses_held}
 use Rattle.tls_symbols.proofs.Search.{range_first, range_none}
 
 -- the relocations that a section holds are those of the section that they are for

@@ -5,7 +5,6 @@ use Rattle.elf_object.specs.declared.relocation.Relocation.{Relocation}
 use Rattle.elf_object.specs.Lawful.{IsLawful}
 use Rattle.elf_object.specs.Lent.{relocation_target, relocations}
 use Rattle.elf_object.specs.Object.{section_count}
-use Rattle.tls_symbols.specs.declared.place.Place.{Place}
 use Rattle.tls_symbols.specs.declared.uses.Use.{Use}
 use Rattle.tls_symbols.specs.declared.uses.Uses.{Uses}
 use Rattle.tls_symbols.specs.Bindings.{object_at}
