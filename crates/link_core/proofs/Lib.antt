@@ -34,7 +34,6 @@ pub mod Relatives
 pub mod RelativesApart
 pub mod RelativesFields
 pub mod RelativesParts
-pub mod SearchedFields
 pub mod Standing
 pub mod StandingAway
 pub mod StandingFields

@@ -3,12 +3,13 @@ pub mod Charged
 pub mod Exported
 pub mod ExportLaw
 pub mod FirstFaults
+pub mod FirstUses
 pub mod KnownNames
 pub mod Numbered
-pub mod Places
 pub mod Resolves
 pub mod Search
 pub mod Sections
 pub mod Told
 pub mod Unfit
+pub mod Walked
 pub mod Within

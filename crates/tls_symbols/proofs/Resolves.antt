@@ -1,10 +1,8 @@
 -- One search after another: what they find is the first fault, and where they find nothing the names are resolved.
-use Rattle.std.proofs.Common.{◌≡◌, ℕ, List, Some, None, arith}
+use Rattle.std.proofs.Common.{ℕ, List, arith}
 use Rattle.link_faults.specs.declared.fault.LinkFaultKind.TheVariants.{Undefined, Duplicate, NotTls}
 use Rattle.tls_symbols.specs.declared.place.Place.{Place}
-use Rattle.tls_symbols.specs.Faults.{is_faulty, IsFirst, IsFirstCharged, NoneBelow, NoneCharged, Stands}
-use Rattle.tls_symbols.specs.Searches.{first_duplicate_from}
-use Rattle.tls_symbols.proofs.FirstFaults.{duplicate_found, duplicate_nothing}
+use Rattle.tls_symbols.specs.Faults.{is_faulty, IsFirst, IsFirstCharged, IsFirstDuplicate, NoDuplicate, NoneBelow, NoneCharged, Stands}
 
 module _ (objects : List (List ℕ)) (startup : List (List (List ℕ))) where
   pub none_at_all : NoneBelow 0 objects startup
@@ -20,17 +18,15 @@ module _ (objects : List (List ℕ)) (startup : List (List (List ℕ))) where
   none_undefined none Undefined less = none.nowhere
   none_undefined none kind less = absurd (omega (arith, less))
 
-  pub duplicate_first : NoneBelow 1 objects startup → (place : Place) → first_duplicate_from objects 0 objects ≡ Some place → IsFirst objects startup Duplicate place.object place.section place.entry
+  pub duplicate_first : NoneBelow 1 objects startup → (place : Place) → IsFirstDuplicate objects place.object place.section place.entry → IsFirst objects startup Duplicate place.object place.section place.entry
   unfolding Stands
-  duplicate_first earlier place is =
-      let found = duplicate_found objects place is in
-      record { known = omega arith; here = found.0; nowhere_earlier = found.1; earlier_kinds = earlier }
+  duplicate_first earlier place first = record { known = omega arith; here = first.0; nowhere_earlier = first.1; earlier_kinds = earlier }
 
-  pub none_duplicate : NoneBelow 1 objects startup → first_duplicate_from objects 0 objects ≡ None → NoneBelow 2 objects startup
+  pub none_duplicate : NoneBelow 1 objects startup → NoDuplicate objects → NoneBelow 2 objects startup
   unfolding Stands
-  none_duplicate earlier is Undefined less = earlier Undefined (omega arith)
-  none_duplicate earlier is Duplicate less = duplicate_nothing objects is
-  none_duplicate earlier is kind less = absurd (omega (arith, less))
+  none_duplicate earlier none Undefined less = earlier Undefined (omega arith)
+  none_duplicate earlier none Duplicate less = none
+  none_duplicate earlier none kind less = absurd (omega (arith, less))
 
   pub not_tls_first : NoneBelow 2 objects startup → (place : Place) → IsFirstCharged (is_faulty NotTls objects startup) objects place.object place.section place.entry
       → IsFirst objects startup NotTls place.object place.section place.entry

@@ -1,7 +1,7 @@
--- The first of some numbers that passes a test.
-use Rattle.std.proofs.Common.{◌≡◌, ◌+◌, ◌-◌, ◌<◌, ◌≤◌, ◌∙◌, ℕ, suc, Bool, true, false, List, [], ◌∷◌, Some, None, ◌&&◌, length, nat_eq, refl, sym, ap, subst, arith}
+-- The first of some numbers that passes a test, and what holds of a list.
+use Rattle.std.proofs.Common.{◌≡◌, ◌+◌, ◌-◌, ◌<◌, ◌≤◌, ◌∙◌, ℕ, suc, Bool, true, false, List, [], ◌∷◌, Some, None, ◌&&◌, length, nat_eq, refl, ap, subst, arith}
 use Rattle.std.specs.Str.{bytes_eq}
-use Rattle.std.specs.List.{All, find, list_all, range_with_len}
+use Rattle.std.specs.List.{All, find, range_with_len}
 
 pub range_first : (a n : ℕ) → a < n → range_with_len a (n - a) ≡ a ∷ range_with_len (a + 1) (n - (a + 1))
 range_first a n h = let some : n - a ≡ suc (n - (a + 1)) = omega arith in ap (range_with_len a) some
@@ -18,22 +18,9 @@ find_later P a n h other = rw (range_first a n h, other) refl
 pub find_none : (P : ℕ → Bool) (a n : ℕ) → n ≤ a → find P (range_with_len a (n - a)) ≡ None
 find_none P a n h = rw (range_none a n h) refl
 
--- whether all of them pass
-pub all_fails : (P : ℕ → Bool) (a n : ℕ) → a < n → P a ≡ false → list_all P (range_with_len a (n - a)) ≡ false
-all_fails P a n h fails = rw (range_first a n h, fails) refl
-
-pub all_later : (P : ℕ → Bool) (a n : ℕ) → a < n → P a ≡ true → list_all P (range_with_len a (n - a)) ≡ list_all P (range_with_len (a + 1) (n - (a + 1)))
-all_later P a n h passes = rw (range_first a n h, passes) refl
-
-pub all_none : (P : ℕ → Bool) (a n : ℕ) → n ≤ a → list_all P (range_with_len a (n - a)) ≡ true
-all_none P a n h = rw (range_none a n h) refl
-
 -- what holds of all holds of the rest
 pub rest_all : {X : Type 0} (P : X → Type 0) (x : X) (xs : List X) → All P (x ∷ xs) → All P xs
 rest_all P x xs all = λ k d h. all (suc k) d (omega arith)
-
-pub passes_rest : {X : Type 0} (P : X → Bool) (x : X) (xs all : List X) → all ≡ x ∷ xs → P x ≡ true → list_all P xs ≡ list_all P all
-passes_rest P x xs all first passes = rw (first, passes) refl
 
 -- what holds of all holds of the first
 pub first_all : {X : Type 0} (P : X → Type 0) (x : X) (xs all : List X) → all ≡ x ∷ xs → All P all → P x
@@ -41,16 +28,6 @@ first_all P x xs all first holds = (subst (All P) first holds) 0 x (omega arith)
 
 pub rest_all_of : {X : Type 0} (P : X → Type 0) (x : X) (xs all : List X) → all ≡ x ∷ xs → All P all → All P xs
 rest_all_of P x xs all first holds = rest_all P x xs (subst (All P) first holds)
-
-pub both_pass : (a b : Bool) → (a && b) ≡ true → (a ≡ true) × (b ≡ true)
-both_pass true b e = (refl, e)
-both_pass false b e = cc
-
-pub first_passes : {X : Type 0} (P : X → Bool) (x : X) (xs all : List X) → all ≡ x ∷ xs → list_all P all ≡ true → P x ≡ true
-first_passes P x xs all first passes = (both_pass (P x) (list_all P xs) (sym (ap (list_all P) first) ∙ passes)).0
-
-pub rest_passes : {X : Type 0} (P : X → Bool) (x : X) (xs all : List X) → all ≡ x ∷ xs → list_all P all ≡ true → list_all P xs ≡ true
-rest_passes P x xs all first passes = (both_pass (P x) (list_all P xs) (sym (ap (list_all P) first) ∙ passes)).1
 
 -- a longer name is another one
 pub longer_differs : (xs ys : List ℕ) → length xs < length ys → bytes_eq xs ys ≡ false

@@ -106,6 +106,14 @@ pub record IsFirstCharged (test : Test) (objects : List (List ℕ)) (o s e : ℕ
   pub here : IsChargedAt test objects o s e
   pub nowhere_earlier : (p t f : ℕ) → Earlier p t f o s e → IsChargedAt test objects p t f → ⊥
 
+-- none is a duplicate; a symbol is the first that is
+abbrev pub NoDuplicate : List (List ℕ) → Type 0
+NoDuplicate objects = (o s e : ℕ) → IsDuplicateAt objects o s e → ⊥
+
+abbrev pub IsFirstDuplicate : List (List ℕ) → ℕ → ℕ → ℕ → Type 0
+IsFirstDuplicate objects o s e =
+    IsDuplicateAt objects o s e × ((p t f : ℕ) → Earlier p t f o s e → IsDuplicateAt objects p t f → ⊥)
+
 -- none is charged
 pub record NoneCharged (test : Test) (objects : List (List ℕ)) : Type 0 where
   pub nowhere : (o s e : ℕ) → IsChargedAt test objects o s e → ⊥

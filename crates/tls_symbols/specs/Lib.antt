@@ -9,3 +9,4 @@ pub mod Numbers
 pub mod Resolved
 pub mod Searches
 pub mod Standings
+pub mod Walks

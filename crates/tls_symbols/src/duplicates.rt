@@ -1,14 +1,14 @@
 //! The first symbol that defines what is defined already.
 
-ghost use Rattle.std.specs.Prelude.{◌≡◌, ◌<◌, false, length};
+ghost use Rattle.std.specs.Prelude.{◌≡◌, ◌-◌, ◌<◌, MatchOption, false, length};
+ghost use Rattle.std.specs.List.{find, range_with_len};
 ghost use Rattle.elf_object.specs.Lent.{symbol_binding, symbol_name};
 ghost use Rattle.elf_object.specs.Parts.{symbol_count, symbol_table};
 ghost use Rattle.elf_object.specs.declared.symbol.SymbolBinding.TheVariants.{Local};
 ghost use Rattle.tls_symbols.specs.Bindings.{is_symbol, object_at};
 ghost use Rattle.tls_symbols.specs.Definitions.{same_binding};
-ghost use Rattle.tls_symbols.specs.Faults.{is_duplicate};
+ghost use Rattle.tls_symbols.specs.Faults.{is_duplicate, IsFirstDuplicate, NoDuplicate};
 ghost use Rattle.tls_symbols.specs.Known.{IsKnown};
-ghost use Rattle.tls_symbols.specs.Searches.{first_duplicate_from, first_duplicate_in};
 
 use crate::image_names::{ImageNames, is_run_time, symbol_definition};
 use crate::place::Place;
@@ -47,12 +47,13 @@ fn is_duplicate(names: &ImageNames, index: usize, object: &Object, symbol: u32) 
 }
 
 /// The first such symbol of an object.
-#[tactic(auto, using(crate::proofs::Search::find_here, crate::proofs::Search::find_later, crate::proofs::Search::find_none), unfolding(crate::specs::Searches::first_duplicate_in))]
+#[tactic(auto, using(crate::proofs::Search::find_here, crate::proofs::Search::find_later, crate::proofs::Search::find_none))]
 fn first_duplicate_in(names: &ImageNames, index: usize, object: &Object) -> Option<u64>
     requires known { IsKnown names.now }
     requires object { index < length names.now.objects.now }
     requires here { object.now ≡ object_at names.now.objects.now index }
-    ensures { result ≡ first_duplicate_in names.now.objects.now index object.now }
+    ensures { result ≡ find (is_duplicate names.now.objects.now index object.now)
+        (range_with_len 1 (symbol_count object.now - 1)) }
 {
     for symbol in 1..object.symbol_count() {
         if is_duplicate(names, index, object, symbol) {
@@ -75,7 +76,8 @@ fn symbol_table(object: &Object) -> u64
 /// The first such symbol.
 pub fn first_duplicate(names: &ImageNames) -> Option<Place>
     requires { IsKnown names.now }
-    ensures { result ≡ first_duplicate_from names.now.objects.now 0 names.now.objects.now }
+    ensures { MatchOption result (NoDuplicate names.now.objects.now)
+        (λ place. IsFirstDuplicate names.now.objects.now place.object place.section place.entry) }
 {
     for (index, object) in names.objects.iter().enumerate() {
         if let Some(entry) = first_duplicate_in(names, index, object) {

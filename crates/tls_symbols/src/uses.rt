@@ -1,14 +1,131 @@
-//! The relocations of objects, walked until one is found. No other function loops over them to look for one.
+//! The relocations of objects, one after another, and the first that a question is about. No other function loops over
+//! those of all objects to look for one.
 
-ghost use Rattle.std.specs.Prelude.{◌≡◌, ℕ, MatchOption};
-ghost use Rattle.std.specs.List.{position_from};
-ghost use Rattle.elf_object.specs.Lent.{relocations};
+ghost use Rattle.std.specs.Prelude.{◌≡◌, ℕ, MatchBool, MatchOption, []};
+ghost use Rattle.std.specs.Iterator.{YieldsFirst, item_count};
+ghost use Rattle.std.specs.List.{All};
+ghost use Rattle.elf_object.specs.Faults.{IsObject};
 ghost use Rattle.elf_object.specs.declared.relocation.Relocation.{Relocation};
 ghost use Rattle.tls_symbols.specs.Faults.{IsFirstCharged, NoneCharged, Test};
-ghost use Rattle.tls_symbols.specs.Searches.{first_entry, first_use_from, first_use_in, MayAsk, MayAskIn};
+ghost use Rattle.tls_symbols.specs.Searches.{MayAsk};
+ghost use Rattle.tls_symbols.specs.Walks.{uses, uses_left, GoesOn, IsCounted};
 
 use crate::place::Place;
-use elf_object::{Object, Relocation};
+use elf_object::{Object, Relocation, Relocs};
+
+/// A relocation of a section that linking keeps.
+#[derive(Clone, Copy)]
+pub struct Use {
+    /// Where it stands: the object, the section that holds it and its number there.
+    pub place: Place,
+    /// The section that it is for.
+    pub section: u32,
+    pub relocation: Relocation,
+}
+
+/// The relocations of objects that are left, in the order of objects, of the sections that hold them and of entries.
+/// Only those are met whose sections linking keeps.
+#[derive(Drop)]
+pub struct Uses<'o, 'a> {
+    objects: &'o [Object<'a>],
+    // the object and the section that come next
+    object: usize,
+    table: u32,
+    // what is left of the section before: where its first entry stands, and the section that the entries are for
+    place: Place,
+    section: u32,
+    relocs: Relocs<'a>,
+}
+
+/// Tells of each object that it was read without fault.
+fn are_objects(objects: &[Object])
+    ensures { All IsObject objects.now }
+{
+    for object in objects {
+        let _count = object.section_count();
+    }
+}
+
+impl<'o, 'a> Uses<'o, 'a> {
+    /// All relocations of these objects.
+    #[tactic(auto, unfolding(elf_object::specs::Lent::relocations_from, crate::specs::Walks::uses, crate::specs::Walks::uses_left))]
+    pub fn of(objects: &'o [Object<'a>]) -> Uses<'o, 'a>
+        ensures uses { uses_left result ≡ uses objects.now }
+        ensures counted { IsCounted result }
+        ensures objects { All IsObject objects.now }
+    {
+        are_objects(objects);
+        Uses {
+            objects,
+            object: 0,
+            table: 1,
+            place: Place {
+                object: 0,
+                section: 0,
+                entry: 0,
+            },
+            section: 0,
+            relocs: Relocs::of(&[], 0, 0),
+        }
+    }
+
+    /// Goes on to the next section, of this object or of the one behind it. `false` behind the last object.
+    #[inline(always)]
+    fn advance(&mut self) -> bool
+        requires counted { IsCounted self.old }
+        requires empty { self.old.relocs ≡ [] }
+        ensures { MatchBool result (GoesOn self.old self.new) ((uses_left self.old ≡ []) × (uses_left self.new ≡ [])) }
+    {
+        let Some(object) = self.objects.get(self.object) else {
+            return false;
+        };
+        let table = self.table;
+        if object.section_count() <= table {
+            self.object += 1;
+            self.table = 1;
+            return true;
+        }
+        self.table += 1;
+        if let Some(section) = object.relocation_target(table) {
+            self.place = Place {
+                object: self.object as u64,
+                section: u64::from(table),
+                entry: 0,
+            };
+            self.section = section;
+            self.relocs = object.relocs(section);
+        }
+        true
+    }
+}
+
+impl Iterator for Uses<'_, '_> {
+    type Item = Use;
+
+    ghost can_next = { IsCounted };
+
+    ghost next_gives = { YieldsFirst uses_left };
+
+    ghost remaining = { item_count uses_left };
+
+    #[inline(always)]
+    fn next(&mut self) -> Option<Use> {
+        loop {
+            if let Some(relocation) = self.relocs.next() {
+                let place = self.place;
+                self.place.entry += 1;
+                return Some(Use {
+                    place,
+                    section: self.section,
+                    relocation,
+                });
+            }
+            if !self.advance() {
+                return None;
+            }
+        }
+    }
+}
 
 /// A question about the relocations of objects.
 pub trait Question {
@@ -24,74 +141,6 @@ pub trait Question {
         ensures { result ≡ test self.now object relocation.now };
 }
 
-/// The first relocation of a section that a question is about.
-fn first_relocation<Q: Question>(
-    question: &Q,
-    index: usize,
-    object: &Object,
-    target: u32,
-) -> Option<u64>
-    requires { MayAskIn (Q.may_ask question.now) index object.now }
-    ensures { result ≡ position_from (Q.test question.now index) 0 (relocations object.now target) }
-{
-    let mut entry = 0;
-    for relocation in object.relocs(target) {
-        if question.is_about(index, &relocation) {
-            return Some(entry);
-        }
-        entry += 1;
-    }
-    None
-}
-
-/// The first that a section holds.
-#[tactic(auto, unfolding(crate::specs::Searches::first_entry, crate::specs::Faults::held_in))]
-fn first_entry<Q: Question>(
-    question: &Q,
-    index: usize,
-    object: &Object,
-    section: u32,
-) -> Option<u64>
-    requires { MayAskIn (Q.may_ask question.now) index object.now }
-    ensures { result ≡ first_entry (Q.test question.now) index object.now section }
-{
-    match object.relocation_target(section) {
-        Some(target) => first_relocation(question, index, object, target),
-        None => None,
-    }
-}
-
-/// The first in an object.
-#[tactic(auto, using(crate::proofs::Places::sections_none, crate::proofs::Places::sections_later, crate::proofs::Places::sections_here), unfolding(crate::specs::Searches::first_use_in))]
-fn first_use_in<Q: Question>(question: &Q, index: usize, object: &Object) -> Option<Place>
-    requires { MayAskIn (Q.may_ask question.now) index object.now }
-    ensures { result ≡ first_use_in (Q.test question.now) index object.now }
-{
-    for section in 1..object.section_count() {
-        if let Some(entry) = first_entry(question, index, object, section) {
-            return Some(Place {
-                object: index as u64,
-                section: u64::from(section),
-                entry,
-            });
-        }
-    }
-    None
-}
-
-/// The first in the objects.
-fn first_found<Q: Question>(question: &Q, objects: &[Object]) -> Option<Place>
-    requires { MayAsk (Q.may_ask question.now) objects.now }
-    ensures { result ≡ first_use_from (Q.test question.now) 0 objects.now }
-{
-    for (index, object) in objects.iter().enumerate() {
-        if let Some(place) = first_use_in(question, index, object) {
-            return Some(place);
-        }
-    }
-    None
-}
-
 /// The first relocation that a question is about, by object, by the section that holds it and by its number there. Only
 /// those are walked whose sections linking keeps.
 pub fn first_use<Q: Question>(question: &Q, objects: &[Object]) -> Option<Place>
@@ -99,5 +148,10 @@ pub fn first_use<Q: Question>(question: &Q, objects: &[Object]) -> Option<Place>
     ensures { MatchOption result (NoneCharged (Q.test question.now) objects.now)
         (λ place. IsFirstCharged (Q.test question.now) objects.now place.object place.section place.entry) }
 {
-    first_found(question, objects)
+    for found in Uses::of(objects) {
+        if question.is_about(found.place.object as usize, &found.relocation) {
+            return Some(found.place);
+        }
+    }
+    None
 }

@@ -9,11 +9,11 @@ returns-in-Some-first_duplicate c =
     let objects = c.args.names.now.objects.now in
     let startup = c.args.names.now.startup.now in
     let earlier = none_undefined objects startup (none_unbound objects startup c.in-None.ensures) in
-    subst (IsFault objects startup) (sym c.fault.ensures) (duplicate_first objects startup earlier c.in-Some-first_duplicate.place (sym c.in-Some-first_duplicate.ensures))
+    subst (IsFault objects startup) (sym c.fault.ensures) (duplicate_first objects startup earlier c.in-Some-first_duplicate.place c.in-Some-first_duplicate.ensures)
 
 pub returns : goal.returns
 returns c =
     let objects = c.args.names.now.objects.now in
     let startup = c.args.names.now.startup.now in
-    let earlier = none_duplicate objects startup (none_undefined objects startup (none_unbound objects startup c.in-None.ensures)) (sym c.in-None-first_duplicate.ensures) in
+    let earlier = none_duplicate objects startup (none_undefined objects startup (none_unbound objects startup c.in-None.ensures)) c.in-None-first_duplicate.ensures in
     none_not_tls objects startup earlier (none_unsuited objects startup c.in-None.ensures)
