@@ -39,12 +39,14 @@
 #![tactic(auto)]
 
 mod faults;
+mod fetching;
 mod host;
 mod memory;
 mod sinks;
 mod stores;
 
 pub use faults::{FetchFault, PutFault};
+pub use fetching::fetch_each;
 pub use host::{HostSink, HostStore, LARGEST_FILE, ProgressStore};
 pub use memory::{MemorySink, MemoryStore};
 pub use sinks::Sink;

@@ -2,6 +2,7 @@
 ghost use Rattle.std.specs.Prelude.{◌≡◌};
 
 use crate::{FetchFault, PutFault, Store};
+use std::alloc::Global;
 use std::marker::Model;
 use std::rt::Clock;
 use std::time::Instant;
@@ -71,18 +72,18 @@ impl<'a, R: Clock + Eprint> Progress<'a, R> {
 /// A store that says on standard error how far it is, where that takes long: how many files it has fetched, and
 /// that a file is about to be written. A contract sees it as the store within.
 #[derive(Drop)]
-pub struct ProgressStore<'a, S: Store + Drop, R: Clock + Eprint> {
+pub struct ProgressStore<'a, S: Store + Drop, R: Clock + Eprint + Sync> {
     store: S,
     progress: Progress<'a, R>,
 }
 
-impl<'a, S: Store + Drop, R: Clock + Eprint> Model for ProgressStore<'a, S, R> {
+impl<'a, S: Store + Drop, R: Clock + Eprint + Sync> Model for ProgressStore<'a, S, R> {
     ghost Value = { S };
 
     ghost view = { λ a. a.store };
 }
 
-impl<'a, S: Store + Drop, R: Clock + Eprint> ProgressStore<'a, S, R> {
+impl<'a, S: Store + Drop, R: Clock + Eprint + Sync> ProgressStore<'a, S, R> {
     /// The store, whose progress is shown on `rt`'s standard error where the caller says so, as it does if that is a
     /// terminal: no bound on a runtime tells.
     pub fn new(store: S, rt: &'a R, is_shown: bool) -> Self
@@ -95,7 +96,7 @@ impl<'a, S: Store + Drop, R: Clock + Eprint> ProgressStore<'a, S, R> {
     }
 }
 
-impl<'a, S: Store + Drop, R: Clock + Eprint> Store for ProgressStore<'a, S, R> {
+impl<'a, S: Store + Drop, R: Clock + Eprint + Sync> Store for ProgressStore<'a, S, R> {
     ghost files = { S.files };
 
     ghost faults = { S.faults };
@@ -106,6 +107,18 @@ impl<'a, S: Store + Drop, R: Clock + Eprint> Store for ProgressStore<'a, S, R> {
         self.store.fetch(name, into)?;
         self.progress.count_file();
         Ok(())
+    }
+
+    fn read(&self, alloc: Global, name: &str) -> Result<Vec<u8>, FetchFault> {
+        self.store.read(alloc, name)
+    }
+
+    fn count(&mut self, name: &str, read: Result<Vec<u8>, FetchFault>) -> Result<Vec<u8>, FetchFault> {
+        let answer = self.store.count(name, read);
+        if answer.is_ok() {
+            self.progress.count_file();
+        }
+        answer
     }
 
     fn put(&mut self, name: &str, bytes: &[u8]) -> Result<(), PutFault> {

@@ -1,4 +1,4 @@
--- Objects that were read side by side, taken one after another.
+-- A list that goes together with another, taken item by item.
 use Rattle.std.proofs.Common.{◌≡◌, ◌∙◌, ◌+◌, ◌<◌, List, [], ◌∷◌, ◌++◌, arith, ap, get_or, length, refl, subst, suc, take}
 use Rattle.std.proofs.lemmas.List.{take_all}
 use Rattle.std.specs.Iterator.{Yields}
