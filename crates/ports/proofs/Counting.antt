@@ -1,12 +1,17 @@
 -- Files that are fetched one after another.
 use Rattle.std.proofs.Common.{◌≡◌, ◌∙◌, ◌+◌, ◌<◌, ℕ, List, [], ◌∷◌, ◌++◌, Option, None, Some, Result, Ok, Err, Vec, Bor}
-use Rattle.std.proofs.Common.{append_assoc, ap, get_or, length, map, refl, subst, sym, take}
+use Rattle.std.proofs.Common.{append-nil, append_assoc, ap, get_or, length, map, refl, subst, sym, take}
 use Rattle.std.specs.Prelude.{IfOk}
 use Rattle.std.specs.List.{AllZip}
 use Rattle.std.proofs.lemmas.List.{map-append, take-map, take_more}
 use Rattle.rayon.proofs.ListFacts.{AllZip-append}
 use Rattle.ports.specs.declared.faults.FetchFault.{FetchFault}
 use Rattle.ports.specs.Files.{Files, IsFile, IsReading, with_name, with_names}
+
+-- no name asked for
+pub asked_none : (a : Option (List (List ℕ))) → a ≡ with_names [] a
+asked_none None = refl
+asked_none (Some names) = ap Some (sym (append-nil names))
 
 -- a name asked for behind others
 asked_behind : (names : List (List ℕ)) (name : List ℕ) (a : Option (List (List ℕ)))

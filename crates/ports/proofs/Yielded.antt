@@ -36,7 +36,7 @@ next_of R xs s t u before y d all gave next =
     (subst (AllZip R xs) (given_first before s t gave ∙ ap (λ l. before ++ l) next) all)
 
 -- a list up to as many as there are of another that goes together with it
-same_length : {X Y : Type 0} (R : X → Y → Type 0) (xs : List X) (ys : List Y) → AllZip R xs ys → length ys ≡ length xs
+pub same_length : {X Y : Type 0} (R : X → Y → Type 0) (xs : List X) (ys : List Y) → AllZip R xs ys → length ys ≡ length xs
 same_length R [] [] h = refl
 same_length R [] (y ∷ ys) h = absurd h
 same_length R (x ∷ xs) [] h = absurd h
