@@ -1,6 +1,6 @@
 -- Names, and the files that stand beside them.
-use Rattle.std.proofs.Common.{◌≡◌, ◌∙◌, ◌≤◌, ◌<◌, ℕ, suc, Bool, true, false, not, cond, List, [], ◌∷◌, ◌++◌, Option, Some, None}
-use Rattle.std.proofs.Common.{IsSome, Vec, Bor, refl, sym, ap, subst, length, map, arith, nat_lt}
+use Rattle.std.proofs.Common.{◌≡◌, ◌∙◌, ◌≤◌, ◌<◌, ℕ, suc, zero, Bool, true, false, not, cond, List, [], ◌∷◌, ◌++◌, Option, Some, None}
+use Rattle.std.proofs.Common.{IsSome, Vec, Bor, refl, sym, ap, subst, length, arith, get_or, nat_lt}
 use Rattle.std.specs.Prelude.{◌+◌, if◌then◌else◌, slice_get, unwrap_or, IfSome}
 use Rattle.std.specs.List.{All, AllZip, find, position_or_len}
 use Rattle.std.specs.Option.{option_map}
@@ -27,6 +27,17 @@ module _ {A : Type 0} where
   -- the bytes of the file at a place; none where there is none
   abbrev pub content_of : List (Vec ℕ A) → ℕ → List ℕ
   content_of files place = unwrap_or (option_map (λ (file : Vec ℕ A). file.items) (slice_get files place)) []
+
+  pub content_at : (files : List (Vec ℕ A)) (place : ℕ) (file : Vec ℕ A) → place < length files
+      → file ≡ get_or files place file → file.items ≡ content_of files place
+  content_at [] place file within e = absurd (omega (arith, within))
+  content_at (f ∷ files) zero file within e = ap (λ (v : Vec ℕ A). v.items) e
+  content_at (f ∷ files) (suc place) file within e = content_at files place file (omega (arith, within)) e
+
+  pub no_content : (files : List (Vec ℕ A)) (place : ℕ) → length files ≤ place → content_of files place ≡ []
+  no_content [] place past = refl
+  no_content (file ∷ files) zero past = absurd (omega (arith, past))
+  no_content (file ∷ files) (suc place) past = no_content files place (omega (arith, past))
 
   -- a file's bytes are those at the place of its name
   pub found : (name : List ℕ) (names : List (Bor (List ℕ))) (files : List (Vec ℕ A)) → length files ≡ length names
