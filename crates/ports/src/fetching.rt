@@ -9,10 +9,10 @@ use rayon::prelude::*;
 use std::alloc::{AllocError, Global};
 use std::thread::Threads;
 
-/// How many files are read before they are counted: a fault among them leaves those behind unread.
-const FEW: usize = 1;
+/// Fewer files than these are read by one thread.
+const FEW: usize = 4;
 
-/// What comes of reading each file. Where none can be started, a thread's part is read by the caller's.
+/// What comes of reading each file, by as many threads as pay; where one can't be started, its starter reads.
 fn read_each<'n, S: Store, R: Threads + Sync>(
     rt: &R,
     alloc: Global,
@@ -23,7 +23,7 @@ fn read_each<'n, S: Store, R: Threads + Sync>(
 {
     names
         .par_iter()
-        .with_min_len(FEW)
+        .with_min_len(FEW.div_ceil(names.len().max(1)))
         .map(
             |name: &&str| -> (&str, Result<Vec<u8>, FetchFault>)
                 ensures { IsReading (S.files store.entry.now) name.entry.now result }
