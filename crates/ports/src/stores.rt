@@ -39,7 +39,11 @@ pub trait Store: Sync {
         ensures file { IfOk result (λ file. IsFile (files self.now) name.now file.items) };
 
     /// Fetches the file of that name, of which this was read.
-    fn count(&mut self, name: &str, read: Result<Vec<u8>, FetchFault>) -> Result<Vec<u8>, FetchFault>
+    fn count(
+        &mut self,
+        name: &str,
+        read: Result<Vec<u8>, FetchFault>,
+    ) -> Result<Vec<u8>, FetchFault>
         requires file { IfOk read (λ file. IsFile (files self.old) name.now file.items) }
         ensures files { files self.new ≡ files self.old }
         ensures bytes { IfOk result (λ file. IsFile (files self.old) name.now file.items) }

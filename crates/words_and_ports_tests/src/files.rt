@@ -162,7 +162,11 @@ fn put_fails<R: Files + Sync>(rt: &R, alloc: Global, file: &str, fault: Fault) -
 
 /// Puts over an old file, on disks that fail in each way, and says what then stands there, if each put failed. The
 /// folder can only be removed where no other file is left.
-fn survives_failing_puts<R: Files + Sync>(rt: &R, alloc: Global, folder: &str) -> io::Result<Vec<u8>> {
+fn survives_failing_puts<R: Files + Sync>(
+    rt: &R,
+    alloc: Global,
+    folder: &str,
+) -> io::Result<Vec<u8>> {
     let file = path(alloc, folder, "file")?;
     fs::write(rt, file.as_str(), "old")?;
     for fault in [Fault::Write, Fault::Rename] {

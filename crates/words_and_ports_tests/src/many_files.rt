@@ -36,7 +36,10 @@ fn files_come_in_the_order_of_their_names(rt: HostRuntime) -> Result<(), Fail> {
     for (names, text) in [
         ([].as_slice(), ""),
         (["b"].as_slice(), "bb"),
-        (["f", "a", "c", "a", "e", "d", "b", "f", "a"].as_slice(), "ffaaccaaeeddbbffaa"),
+        (
+            ["f", "a", "c", "a", "e", "d", "b", "f", "a"].as_slice(),
+            "ffaaccaaeeddbbffaa",
+        ),
     ] {
         match joined(&rt, rt.alloc(), &mut store, names) {
             Ok(all) => assert!(rt; all.as_slice() == text.as_bytes(), "{text}"),
@@ -121,7 +124,10 @@ fn fetches_of_host<R: Files + Threads + Sync>(
     let (none, faults) = lengths(rt, rt, alloc, missing.as_slice())?;
     let names = lay_files(rt, alloc, folder, 9)?;
     let (all, no_faults) = lengths(rt, rt, alloc, names.as_slice())?;
-    let disk = FaultyDisk { disk: rt, fault: Fault::Length(4_500, None) };
+    let disk = FaultyDisk {
+        disk: rt,
+        fault: Fault::Length(4_500, None),
+    };
     let (longer, _) = lengths(&disk, rt, alloc, names.as_slice())?;
     let is_all = matches!(&all, Ok(all) if all.as_slice() == expected.as_slice());
     let is_longer = matches!(&longer, Ok(all) if all.as_slice() == [4_500; 9].as_slice());

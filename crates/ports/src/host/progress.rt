@@ -114,7 +114,11 @@ impl<'a, S: Store + Drop, R: Clock + Eprint + Sync> Store for ProgressStore<'a, 
         Ok(file)
     }
 
-    fn count(&mut self, name: &str, read: Result<Vec<u8>, FetchFault>) -> Result<Vec<u8>, FetchFault> {
+    fn count(
+        &mut self,
+        name: &str,
+        read: Result<Vec<u8>, FetchFault>,
+    ) -> Result<Vec<u8>, FetchFault> {
         self.store.count(name, read)
     }
 

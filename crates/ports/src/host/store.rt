@@ -107,7 +107,11 @@ impl<'a, R: Files + Sync> Store for HostStore<'a, R> {
         Ok(file)
     }
 
-    fn count(&mut self, _name: &str, read: Result<Vec<u8>, FetchFault>) -> Result<Vec<u8>, FetchFault>
+    fn count(
+        &mut self,
+        _name: &str,
+        read: Result<Vec<u8>, FetchFault>,
+    ) -> Result<Vec<u8>, FetchFault>
         ensures files { untold_files ≡ untold_files }
         ensures bytes { IfOk result (λ file. IsFile untold_files _name.now file.items) }
         ensures cause { FetchCounts self.old self.new result }

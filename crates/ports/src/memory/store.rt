@@ -135,7 +135,11 @@ impl Store for MemoryStore {
         }
     }
 
-    fn count(&mut self, name: &str, read: Result<Vec<u8>, FetchFault>) -> Result<Vec<u8>, FetchFault>
+    fn count(
+        &mut self,
+        name: &str,
+        read: Result<Vec<u8>, FetchFault>,
+    ) -> Result<Vec<u8>, FetchFault>
         requires file { IfOk read (λ file. IsFile (Some self.old.files) name.now file.items) }
         ensures files { Some self.new.files ≡ Some self.old.files }
         ensures bytes { IfOk result (λ file. IsFile (Some self.old.files) name.now file.items) }
