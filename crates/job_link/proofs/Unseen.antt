@@ -1,14 +1,13 @@
 -- Names that are taken where they were not seen, and the list that they come to.
-use Rattle.std.proofs.Common.{◌≡◌, ◌∙◌, ◌+◌, ◌<◌, ◌≤◌, ◌&&◌, ◌||◌, ℕ, suc, Bool, true, false, not, cond, List, [], ◌∷◌}
+use Rattle.std.proofs.Common.{◌≡◌, ◌∙◌, ◌+◌, ◌<◌, ◌&&◌, ◌||◌, ℕ, Bool, true, false, not, cond, List, [], ◌∷◌}
 use Rattle.std.proofs.Common.{◌++◌}
-use Rattle.std.proofs.Common.{Option, Some, None, IsSome, filter, map, min, refl, sym, ap, subst, append_assoc}
-use Rattle.std.proofs.Common.{append-nil, length, take, drop, get_or, arith, Bor}
-use Rattle.std.specs.Prelude.{◌-◌, if◌then◌else◌, slice_get, IfSome}
+use Rattle.std.proofs.Common.{Option, Some, None, filter, refl, sym, ap, append_assoc}
+use Rattle.std.proofs.Common.{append-nil, length, take, drop, get_or, Bor}
+use Rattle.std.specs.Prelude.{◌-◌, if◌then◌else◌, slice_get}
 use Rattle.std.specs.List.{cons_option, filter_map, flat_map, list_any}
 use Rattle.std.specs.Str.{bytes_eq}
-use Rattle.std.proofs.lemmas.List.{get_or_default, map-append, take-append-drop, take-append-le, take_all, take_min}
+use Rattle.std.proofs.lemmas.List.{get_or_default, map-append, take-append-drop}
 use Rattle.std.proofs.lemmas.List.{take_more}
-use Rattle.std.proofs.lemmas.List.Elements.{All-append}
 use Rattle.std.proofs.lemmas.List.Folds.{list_any-append}
 use Rattle.std.proofs.lemmas.Slice.Eq.{bytes_eq-Decides}
 use Rattle.job_text.specs.declared.images.Image.{Image}

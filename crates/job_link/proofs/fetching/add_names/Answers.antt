@@ -1,4 +1,4 @@
-use Rattle.std.proofs.Common.{◌≡◌, ◌∙◌, ◌+◌, ◌<◌, [], ◌∷◌, ◌++◌, ap, arith, get_or, length, sym, take}
+use Rattle.std.proofs.Common.{◌≡◌, ◌∙◌, ◌<◌, [], ◌∷◌, ◌++◌, ap, arith, get_or, length, sym, take}
 use Rattle.std.proofs.lemmas.List.{get_or_read}
 use Rattle.job_link.specs.Walks.{texts, unseen}
 use Rattle.job_link.proofs.Unseen.{inserted, one_more, seen_next}

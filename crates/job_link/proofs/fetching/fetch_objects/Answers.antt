@@ -1,4 +1,4 @@
-use Rattle.std.proofs.Common.{◌≡◌, ◌∙◌, List, ℕ, Option, Some, ap, length, subst, Bor, Vec, Global}
+use Rattle.std.proofs.Common.{◌∙◌, List, ℕ, Option, Some, ap, length, subst, Bor, Vec, Global}
 use Rattle.std.specs.List.{AllZip}
 use Rattle.ports.specs.Files.{Files, IsFile}
 use Rattle.ports.proofs.Yielded.{same_length}

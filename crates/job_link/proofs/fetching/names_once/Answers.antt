@@ -1,6 +1,4 @@
-use Rattle.std.proofs.Common.{◌≡◌, ◌∙◌, ◌<◌, ◌≤◌, ℕ, List, [], ap, arith, length, sym, take, take_all}
-use Rattle.job_text.specs.Jobs.{JobParts}
-use Rattle.job_link.specs.Mentions.{object_names}
+use Rattle.std.proofs.Common.{◌∙◌, ◌<◌, [], ap, arith, length, sym, take, take_all}
 use Rattle.job_link.specs.Walks.{names_in, texts, unseen}
 use Rattle.job_link.proofs.Unseen.{names_more, object_names_are, seen_next}
 use Rattle.job_link.proofs.fetching.names_once.Goals as goal

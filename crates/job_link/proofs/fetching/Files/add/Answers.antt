@@ -1,4 +1,4 @@
-use Rattle.std.proofs.Common.{◌≡◌, ◌∙◌, ◌++◌, ◌∷◌, [], true, false, ap, rules, sym}
+use Rattle.std.proofs.Common.{◌≡◌, ◌∙◌, ◌++◌, ◌∷◌, [], ap, rules, sym}
 use Rattle.std.specs.Prelude.{if◌then◌else◌}
 use Rattle.job_link.specs.Places.{files_in}
 use Rattle.job_link.specs.Walks.{is_among, names_of}

@@ -1,4 +1,4 @@
-use Rattle.std.proofs.Common.{◌≡◌, ◌∙◌, ◌<◌, ap, length, List, subst, sym, take_all, Vec, Global, ℕ}
+use Rattle.std.proofs.Common.{◌∙◌, subst, take_all, Vec, Global, ℕ}
 use Rattle.std.specs.List.{All}
 use Rattle.job_link.specs.Mentions.{bytes_in}
 use Rattle.job_link.proofs.Held.{Small, small_files}

@@ -1,4 +1,4 @@
-use Rattle.std.proofs.Common.{◌<◌, ℕ, take, Vec, Global}
+use Rattle.std.proofs.Common.{ℕ, take, Vec, Global}
 use Rattle.std.specs.List.{All}
 use Rattle.job_link.proofs.Held.{Small}
 use Rattle.job_link.proofs.fetching.Files.are_bytes.Given as goal

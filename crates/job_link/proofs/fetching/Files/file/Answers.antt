@@ -1,4 +1,4 @@
-use Rattle.std.proofs.Common.{◌≡◌, ◌∙◌, ◌≤◌, ap, arith, length, subst, sym}
+use Rattle.std.proofs.Common.{◌∙◌, ◌≤◌, ap, arith, length, subst, sym}
 use Rattle.std.specs.List.{position_or_len}
 use Rattle.job_link.specs.Mentions.{bytes_in}
 use Rattle.job_link.proofs.Held.{content_at, content_of, found, is_name, no_content, no_place, place_is}
