@@ -1,6 +1,5 @@
 -- What is asked of a job, by the image's name, or where it is found by its place; and what is told of it.
-use Rattle.std.specs.Prelude.{◌≡◌, ◌-◌, ◌<◌, ℕ, Bool, true, false, List, Option, Some, None, Result, length}
-use Rattle.std.specs.Option.{option_map}
+use Rattle.std.specs.Prelude.{◌≡◌, ◌+◌, ◌<◌, ℕ, Bool, true, false, List, Option, Some, None, Result, length}
 use Rattle.command_line.specs.declared.tasks.Rewriting.{Rewriting}
 use Rattle.command_line.specs.Rewritings.{is_allowed}
 use Rattle.command_replies.specs.declared.fault.CommandFault.{CommandFault}
@@ -46,11 +45,12 @@ FileTold purpose rewriting fs name status text =
 
 -- ---- where the image is found
 
-abbrev pub ending_of : Purpose → JobParts → Option Found
-ending_of (Run telling) job = Some (found.Run telling)
-ending_of Check job = Some found.Check
-ending_of (File image) job = option_map (λ number. found.File (number - 1)) (image_number job.images image.now)
-ending_of (Sites image) job = option_map (λ number. found.Sites (number - 1)) (image_number job.images image.now)
+abbrev pub Finds : Purpose → JobParts → Found → Type 0
+Finds (Run telling) job ending = ending ≡ found.Run telling
+Finds Check job ending = ending ≡ found.Check
+Finds (File image) job (found.File place) = image_number job.images image.now ≡ Some (place + 1)
+Finds (Sites image) job (found.Sites place) = image_number job.images image.now ≡ Some (place + 1)
+Finds purpose job ending = ⊥
 
 -- it is an image of the job
 abbrev pub IsWithin : Found → JobParts → Type 0

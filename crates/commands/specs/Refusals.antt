@@ -4,8 +4,8 @@ use Rattle.command_replies.specs.declared.fault.CommandFault.{CommandFault}
 use Rattle.command_replies.specs.declared.fault.CommandFault.TheVariants as fault
 use Rattle.command_replies.specs.Says.{fault_text}
 use Rattle.command_replies.specs.Steps.{IsRefusalWith}
-use Rattle.job_link.specs.declared.linked_images.ImageRefusal.{ImageRefusal}
-use Rattle.job_link.specs.declared.linked_images.ImageRefusal.TheVariants as unlinked
+use Rattle.job_link.specs.declared.preparing.ImageRefusal.{ImageRefusal}
+use Rattle.job_link.specs.declared.preparing.ImageRefusal.TheVariants as unlinked
 use Rattle.job_link.specs.declared.reading.ReadRefusal.{ReadRefusal}
 use Rattle.job_link.specs.declared.reading.ReadRefusal.TheVariants as unread
 use Rattle.job_text.specs.Jobs.{JobParts}

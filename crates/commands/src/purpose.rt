@@ -1,7 +1,7 @@
 //! What is asked of a job whose images all link.
-ghost use Rattle.std.specs.Prelude.{◌≡◌, Some, IfErr, IfOk};
+ghost use Rattle.std.specs.Prelude.{IfErr, IfOk};
 ghost use Rattle.commands.specs.Jobs.{has};
-ghost use Rattle.commands.specs.Purposes.{IsMissing, IsWithin, ending_of, wanted_by};
+ghost use Rattle.commands.specs.Purposes.{Finds, IsMissing, IsWithin, wanted_by};
 
 use crate::telling::Telling;
 use command_replies::{CommandFault, image_place};
@@ -32,7 +32,7 @@ pub enum Ending {
 impl<'n> Purpose<'n> {
     /// What is asked of this job; refused, where it has no image of the name.
     pub fn ending(self, job: &Job) -> Result<Ending, CommandFault>
-        ensures ending { IfOk result (λ ending. ending_of self.entry job.now ≡ Some ending) }
+        ensures ending { IfOk result (Finds self.entry job.now) }
         ensures within { IfOk result (λ ending. IsWithin ending job.now) }
         ensures missing { IfErr result (IsMissing (has job.now (wanted_by self.entry))) }
     {

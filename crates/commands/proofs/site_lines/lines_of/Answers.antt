@@ -2,17 +2,17 @@ use Rattle.std.proofs.Common.{◌∙◌, ◌+◌, ◌++◌, ◌<◌, [], length,
 use Rattle.sequence_match.specs.Sites.{HaveSymbols}
 use Rattle.commands.proofs.Places.{at_any, row_is}
 use Rattle.commands.proofs.SiteLines.{all_left, left, one_less, same_lines}
-use Rattle.commands.proofs.made.lines_of.Goals as goal
+use Rattle.commands.proofs.site_lines.lines_of.Goals as goal
 
 pub loop-number-init : goal.loop-number-init
-loop-number-init c = rw c.new-lines.ensures.items (all_left c.args.names.now c.args.image.now.objects c.args.image.now.sites c.args.linked.now.choices)
+loop-number-init c = rw c.new-lines.ensures.items (all_left c.args.names.now c.args.image.now.objects c.args.image.now.sites (map (λ own. own.items) c.args.choices.now))
 
 pub push_sites-requires-clause-each : goal.push_sites-requires-clause-each
 push_sites-requires-clause-each c =
     let n = c.loop-number.number in
     let in_sites : n < length c.args.image.now.sites = omega arith in
-    let in_choices : n < length c.args.linked.now.choices = omega arith in
-    ap length (c.as_slice-choices.ensures.value ∙ row_is (λ own. own.items) c.linked.inside.choices.items c.args.linked.now.choices n c.index.result.now (ap (λ s. s.choices) c.linked.view_is) in_choices c.index.ensures)
+    let in_choices : n < length (map (λ own. own.items) c.args.choices.now) = omega arith in
+    ap length (c.as_slice-choices.ensures.value ∙ row_is (λ own. own.items) c.linked.inside.choices.items (map (λ own. own.items) c.args.choices.now) n c.index.result.now (ap (λ s. s.choices) c.linked.view_is) in_choices c.index.ensures)
     ∙ c.requires.each n
     ∙ sym (ap length (c.as_slice-sites.ensures.value ∙ row_is (λ own. own.items) c.sites.result.now c.args.image.now.sites n c.index-sites-number.result c.sites.ensures.sites in_sites c.index-sites-number.is))
 
@@ -31,7 +31,7 @@ loop-number-preserved c =
     let names = c.args.names.now in
     let objects = c.args.image.now.objects in
     let sites = c.args.image.now.sites in
-    let choices = c.args.linked.now.choices in
+    let choices = (map (λ own. own.items) c.args.choices.now) in
     let below : n < length names = omega arith in
     let in_sites : n < length sites = omega arith in
     let in_objects : n < length objects = omega arith in

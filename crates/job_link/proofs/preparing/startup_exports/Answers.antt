@@ -6,9 +6,9 @@ use Rattle.tls_symbols.specs.Bindings.{exported_names}
 use Rattle.job_link.specs.Given.{Given}
 use Rattle.job_link.specs.Linked.{exports_of, is_startup}
 use Rattle.job_link.proofs.Exported.{exports-nil, exports_none, exports_one}
-use Rattle.job_link.proofs.linked_images.startup_exports.Goals as goal
-use Rattle.job_link.proofs.linked_images.startup_exports.Goals.{then-is_startup+in_ok-exports+in_ok-push}
-use Rattle.job_link.proofs.linked_images.startup_exports.Goals.{else-is_startup}
+use Rattle.job_link.proofs.preparing.startup_exports.Goals as goal
+use Rattle.job_link.proofs.preparing.startup_exports.Goals.{then-is_startup+in_ok-exports+in_ok-push}
+use Rattle.job_link.proofs.preparing.startup_exports.Goals.{else-is_startup}
 
 pub loop-image-preserved : goal.loop-image-preserved
 loop-image-preserved c =
