@@ -8,13 +8,10 @@ use Rattle.command_replies.specs.Statuses.{IsLate}
 use Rattle.commands.specs.Replies.{Asked, AsksOfAnswer}
 use Rattle.commands.specs.Tasks.{task_names}
 use Rattle.std.proofs.Math.Seq.{take-length}
-use Rattle.command_replies.specs.FetchFaults.{fault_of_fetch}
 use Rattle.command_replies.specs.Steps.{Asks, AsksFront, with_names}
 use Rattle.command_replies.specs.declared.fault.CommandFault.{CommandFault}
 use Rattle.command_replies.specs.declared.fault.CommandFault.TheVariants as fault
 use Rattle.job_text.specs.Jobs.{job_of}
-use Rattle.ports.specs.declared.faults.FetchFault.{FetchFault}
-use Rattle.ports.specs.declared.faults.FetchFault.TheVariants as fetch
 use Rattle.ports.specs.Files.{Files, file_at, with_name}
 use Rattle.commands.specs.Jobs.{asked_names, job_names}
 
@@ -57,11 +54,6 @@ pub asks_before : {T : Type 0} (files : Option Files) (names : Files → Names) 
     → new ≡ mid → IfSome files (λ fs. Asks (names fs) old new r)
 asks_before None names old mid new r before same = tt
 asks_before (Some fs) names old mid new r before same = asks_whole (names fs) old new r (same ∙ before)
-
--- a front of them, where a fetch failed
-pub asks_fetched : (T : Type 0) (names : Names) (old new : Option Names) (fetch : FetchFault) (f : CommandFault) → f ≡ fault_of_fetch fetch → AsksFront names old new → Asks {T = T} names old new (Err f)
-asks_fetched T names old new fetch.Failed f e front = subst (λ v. Asks {T = T} names old new (Err v)) (sym e) front
-asks_fetched T names old new fetch.OutOfMemory f e front = subst (λ v. Asks {T = T} names old new (Err v)) (sym e) front
 
 -- ** the whole command
 

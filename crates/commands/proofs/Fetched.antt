@@ -1,5 +1,5 @@
 -- What is said over the files that were fetched, and of images that do not link.
-use Rattle.std.proofs.Common.{◌≡◌, ◌∙◌, ◌≤◌, ℕ, Bool, length, map, Option, Some, None, IfSome, List, Result, Err, inl, inr, sym, ap, subst, arith}
+use Rattle.std.proofs.Common.{◌≡◌, ◌∙◌, ◌≤◌, ℕ, Bool, length, Option, Some, None, IfSome, List, Result, Err, inl, inr, sym, ap, subst, arith}
 use Rattle.std.specs.List.{Contains}
 use Rattle.std.proofs.lemmas.List.{length-map}
 use Rattle.std.proofs.lemmas.Option.{slice_get_within}
@@ -18,8 +18,8 @@ use Rattle.link_needs.specs.Linking.{Linking}
 use Rattle.ports.specs.Files.{Files}
 use Rattle.commands.specs.Jobs.{BytesSay, Ending, ImagesSay, ObjectsSay, links_of}
 use Rattle.commands.specs.Refusals.{IsImageRefusalOf, NamesImage}
-use Rattle.commands.proofs.Mentioned.{faulty_at, given_at}
-use Rattle.commands.proofs.Saying.{Text, comes_by, items, says_by}
+use Rattle.commands.proofs.Mentioned.{given_at, unread_at}
+use Rattle.commands.proofs.Saying.{Text, comes_by, items}
 
 -- ** files
 
@@ -27,14 +27,7 @@ module _ (E : Ending) (relax : Bool) (fs : Files) (job : JobParts) (files : Fetc
     (every : (k : ℕ) → 1 ≤ k → k ≤ length job.images → Contains job.mentions k) where
   at_files : (status : ℕ) (text : List ℕ) → BytesSay E relax (bytes_in files) job status text → BytesSay E relax (bytes_at fs) job status text
   at_files status text (inl read) = inl (record { images = read.images; given = given_at fs job files are every read.images read.given; says = read.says })
-  at_files status text (inr un) = inr (record {
-    name = un.name;
-    section = un.section;
-    entry = un.entry;
-    kind = un.kind;
-    first = faulty_at fs job files are every un.name un.section un.entry un.kind un.first;
-    says = un.says;
-  })
+  at_files status text (inr un) = inr (unread_at fs job files are every status text un)
 
   pub objects_say : (status : ℕ) (text : List ℕ) → BytesSay E relax (bytes_in files) job status text → ObjectsSay E relax fs job status text
   objects_say status text says = record { there = are.there; says = at_files status text says }

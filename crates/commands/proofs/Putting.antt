@@ -31,7 +31,7 @@ module _ (image out name : List ℕ) (relax : Bool) (after : Option Files) where
   put : (fs : Files) (file : List ℕ) → after ≡ with_file out file (Some fs) → Made fs 0 file → Put fs 0 (linked_text image (length file))
   put fs file files_are =
       file_more (OfImage image (λ own number. IsFile)) (OfImage image (λ own number. IsPut fs after image out)) relax 0 0 file (linked_text image (length file))
-      (λ code words high says. absurd (omega (arith, high, says.0))) (Some image) fs
+      (λ P high own. absurd (omega (arith, high own))) (Some image) fs
       (λ job ls of. record {
         number = of.number;
         named = of.named;
@@ -50,7 +50,7 @@ module _ (image out name : List ℕ) (relax : Bool) (after : Option Files) where
   unput fs fault.OutOfMemory says = tt
   unput fs (fault.Refused refusal) says =
       file_more (OfImage image (λ own number. IsFile)) (OfImage image (λ own number. IsPut fs after image out)) relax _ _ _ _
-      (λ code words high own. own) (Some image) fs (λ job ls of. absurd (omega (arith, of.says.says.0, some_code refusal))) (file_at fs name) says
+      (λ P high own. own) (Some image) fs (λ job ls of. absurd (omega (arith, of.says.says.0, some_code refusal))) (file_at fs name) says
 
   pub unput_says : (old : Option Files) (f : CommandFault) → IfSome old (λ fs. Comes items (Made fs) (Err f)) → IfSome old (λ fs. Comes items (Put fs) (Err f))
   unput_says None f says = tt

@@ -1,8 +1,8 @@
 -- What says more says as much, from the ending of a command on.
-use Rattle.std.proofs.Common.{◌≡◌, ◌≤◌, ℕ, Bool, true, false, List, Vec, Global, Option, Some, None, IfSome, Result, Ok, Err, inl, inr, refl, sym, subst, lit≤}
+use Rattle.std.proofs.Common.{◌≡◌, ◌≤◌, ℕ, Bool, true, false, List, Vec, Global, Option, Some, None, IfSome, Result, Ok, Err, inl, inr, refl, sym, subst, arith}
 use Rattle.command_replies.specs.declared.fault.CommandFault.{CommandFault}
 use Rattle.command_replies.specs.declared.fault.CommandFault.TheVariants as fault
-use Rattle.command_replies.specs.Says.{HasFile, Is}
+use Rattle.command_replies.specs.Says.{HasFile, JobFaultSays}
 use Rattle.command_replies.specs.Steps.{Comes}
 use Rattle.job_link.specs.Given.{Given}
 use Rattle.job_text.specs.declared.fault.JobFault.{JobFault}
@@ -36,41 +36,19 @@ says_by (Some fs) P Q r more says = comes_by (P fs) (Q fs) r (more fs refl) says
 
 -- ** an ending in another's place: what it says, and what refusals say
 
-module _ (E F : Ending) (relax : Bool) (s s' : ℕ) (t t' : List ℕ)
-    (refuses : (code : ℕ) (words : List ℕ) → 5 ≤ code → Is code words s t → Is code words s' t') where
-  unread_more : (bytes : List ℕ → List ℕ) (job : JobParts) → IsUnread bytes job s t → IsUnread bytes job s' t'
-  unread_more bytes job un = record {
-    name = un.name;
-    section = un.section;
-    entry = un.entry;
-    kind = un.kind;
-    first = un.first;
-    says = refuses 6 _ (lit≤ tt) un.says;
-  }
-
-  unlinked_more : (job : JobParts) (images : List Given) → IsUnlinked relax job images s t → IsUnlinked relax job images s' t'
-  unlinked_more job images un = record {
-    number = un.number;
-    kind = un.kind;
-    object = un.object;
-    section = un.section;
-    entry = un.entry;
-    first = un.first;
-    says = refuses 7 _ (lit≤ tt) un.says;
-  }
-
+module _ (E F : Ending) (relax : Bool) (s s' : ℕ) (t t' : List ℕ) (refuses : (P : Said) → (P s t → 5 ≤ s) → P s t → P s' t') where
   module _ (job : JobParts) (ends : (ls : List Linking) → E job ls s t → F job ls s' t') where
     images_more : (images : List Given) → ImagesSay E relax job images s t → ImagesSay F relax job images s' t'
     images_more images (inl linked) = inl (record { links = linked.links; says = ends (links_of images relax) linked.says })
-    images_more images (inr un) = inr (unlinked_more job images un)
+    images_more images (inr un) = inr (refuses (IsUnlinked relax job images) (λ own. omega (arith, own.says.0)) un)
 
     bytes_more : (bytes : List ℕ → List ℕ) → BytesSay E relax bytes job s t → BytesSay F relax bytes job s' t'
     bytes_more bytes (inl read) = inl (record { images = read.images; given = read.given; says = images_more read.images read.says })
-    bytes_more bytes (inr un) = inr (unread_more bytes job un)
+    bytes_more bytes (inr un) = inr (refuses (IsUnread bytes job) (λ own. omega (arith, own.says.0)) un)
 
     named_more : (fs : Files) (b : Bool) → NamedSays E relax fs job b s t → NamedSays F relax fs job b s' t'
     named_more fs true says = record { there = says.there; says = bytes_more _ says.says }
-    named_more fs false says = refuses 5 _ (lit≤ tt) says
+    named_more fs false says = refuses (NamedSays E relax fs job false) (λ own. omega (arith, own.0)) says
 
   pub file_more : (image : Option (List ℕ)) (fs : Files) → ((job : JobParts) (ls : List Linking) → E job ls s t → F job ls s' t')
       → (o : Option (List ℕ)) → HasFile o (λ bytes. JobSays image E relax fs (job_of bytes) s t)
@@ -81,7 +59,7 @@ module _ (E F : Ending) (relax : Bool) (s s' : ℕ) (t t' : List ℕ)
       of_job : (r : Result JobParts JobFault) → JobSays image E relax fs r s t → JobSays image F relax fs r s' t'
       of_job (Ok job) own = named_more job (ends job) fs (has job image) own
       of_job (Err job_fault.OutOfMemory) own = absurd own
-      of_job (Err (job_fault.At line kind)) own = refuses 5 _ (lit≤ tt) own
+      of_job (Err (job_fault.At line kind)) own = refuses (JobFaultSays (job_fault.At line kind)) (λ is. omega (arith, is.0)) own
 
 -- of one job that has its image
 pub objects_named : (E F : Ending) (relax : Bool) (fs : Files) (job : JobParts) (b : Bool) → b ≡ true
@@ -89,7 +67,7 @@ pub objects_named : (E F : Ending) (relax : Bool) (fs : Files) (job : JobParts) 
     → (status : ℕ) (text : List ℕ) → ObjectsSay E relax fs job status text → NamedSays F relax fs job b status text
 objects_named E F relax fs job b is ends status text says =
     subst (λ (named : Bool). NamedSays F relax fs job named status text) (sym is)
-    (named_more E F relax status status text text (λ code words high own. own) job (λ ls. ends ls status text) fs true says)
+    (named_more E F relax status status text text (λ P high own. own) job (λ ls. ends ls status text) fs true says)
 
 -- ** a job that has no image of the name
 
