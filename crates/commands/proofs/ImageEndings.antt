@@ -93,6 +93,6 @@ module _ (have : SitesHaveSymbols) (job : JobParts) (images : List Given) (ls : 
         says = (
           refl,
           e ∙ ap (λ ns. lines_of ns g.objects g.sites choices) named ∙ ap (λ os. lines_of (objects_of job place) os g.sites choices) (sym objects_are)
-          ∙ ap (λ ss. lines_of (objects_of job place) l.objects ss choices) (sym sites_are) ∙ ap (lines_of (objects_of job place) l.objects l.sites) choices_are,
+              ∙ ap (λ ss. lines_of (objects_of job place) l.objects ss choices) (sym sites_are) ∙ ap (lines_of (objects_of job place) l.objects l.sites) choices_are,
         );
       }

@@ -11,7 +11,7 @@ use Rattle.job_text.specs.Images.{image_number}
 use Rattle.job_text.specs.Jobs.{JobParts}
 use Rattle.link_needs.specs.Linking.{Linking}
 use Rattle.ports.specs.Files.{Files}
-use Rattle.commands.specs.declared.purpose.Ending.{Ending as Found}
+use Rattle.commands.specs.declared.purpose.Ending.{Ending as Placed}
 use Rattle.commands.specs.declared.purpose.Ending.TheVariants as found
 use Rattle.commands.specs.declared.purpose.Purpose.{Purpose}
 use Rattle.commands.specs.declared.purpose.Purpose.TheVariants.{Run, Check, File, Sites}
@@ -45,7 +45,7 @@ FileTold purpose rewriting fs name status text =
 
 -- ---- where the image is found
 
-abbrev pub Finds : Purpose → JobParts → Found → Type 0
+abbrev pub Finds : Purpose → JobParts → Placed → Type 0
 Finds (Run telling) job ending = ending ≡ found.Run telling
 Finds Check job ending = ending ≡ found.Check
 Finds (File image) job (found.File place) = image_number job.images image.now ≡ Some (place + 1)
@@ -53,7 +53,7 @@ Finds (Sites image) job (found.Sites place) = image_number job.images image.now 
 Finds purpose job ending = ⊥
 
 -- it is an image of the job
-abbrev pub IsWithin : Found → JobParts → Type 0
+abbrev pub IsWithin : Placed → JobParts → Type 0
 IsWithin (found.Run telling) job = Unit {0}
 IsWithin found.Check job = Unit {0}
 IsWithin (found.File place) job = place < length job.images
@@ -64,7 +64,7 @@ abbrev pub IsMissing : Bool → CommandFault → Type 0
 IsMissing true f = ⊥
 IsMissing false f = f ≡ Refused (Job 0 Name)
 
-abbrev pub Makes : Found → JobParts → List Linking → ℕ → List ℕ → Type 0
+abbrev pub Makes : Placed → JobParts → List Linking → ℕ → List ℕ → Type 0
 Makes (found.Run telling) job ls status text = IsRun telling job ls status text
 Makes found.Check job ls status text = VerdictSays job ls status text
 Makes (found.File place) job ls status text = OfLink place IsFile ls status text

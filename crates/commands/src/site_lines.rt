@@ -45,12 +45,13 @@ fn lines_of(
     let mut lines = Vec::new(alloc);
     for number in 0..names.len() {
         let sites = image.sites()[number].as_slice();
+        let chosen = choices[number].as_slice();
         push_sites(
             alloc,
             names[number].as_str(),
             &image.objects()[number],
             sites,
-            choices[number].as_slice(),
+            chosen,
             &mut lines,
         )?;
     }

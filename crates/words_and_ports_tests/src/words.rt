@@ -118,7 +118,11 @@ fn shown(rewriting: Rewriting) -> &'static str {
 /// What is asked for, as a case writes it.
 fn told(alloc: Global, task: Result<Task, WordsFault>) -> Result<String, AllocError> {
     match task {
-        Ok(Task::Run { job, rewriting }) => format!(in alloc; "run {} {}", job.as_str(), shown(rewriting)),
+        Ok(Task::Run { job, rewriting }) => format!(in alloc;
+            "run {} {}",
+            job.as_str(),
+            shown(rewriting)
+        ),
         Ok(
             Task::Link {
                 job,

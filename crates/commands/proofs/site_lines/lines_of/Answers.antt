@@ -1,4 +1,4 @@
-use Rattle.std.proofs.Common.{◌∙◌, ◌+◌, ◌++◌, ◌<◌, [], length, get_or, sym, ap, subst, append_assoc, arith}
+use Rattle.std.proofs.Common.{◌∙◌, ◌+◌, ◌++◌, ◌<◌, [], length, map, get_or, refl, sym, ap, subst, append_assoc, arith}
 use Rattle.sequence_match.specs.Sites.{HaveSymbols}
 use Rattle.commands.proofs.Places.{at_any, row_is}
 use Rattle.commands.proofs.SiteLines.{all_left, left, one_less, same_lines}
@@ -12,7 +12,7 @@ push_sites-requires-clause-each c =
     let n = c.loop-number.number in
     let in_sites : n < length c.args.image.now.sites = omega arith in
     let in_choices : n < length (map (λ own. own.items) c.args.choices.now) = omega arith in
-    ap length (c.as_slice-choices.ensures.value ∙ row_is (λ own. own.items) c.linked.inside.choices.items (map (λ own. own.items) c.args.choices.now) n c.index.result.now (ap (λ s. s.choices) c.linked.view_is) in_choices c.index.ensures)
+    ap length (c.as_slice-chosen.ensures.value ∙ row_is (λ own. own.items) c.args.choices.now (map (λ own. own.items) c.args.choices.now) n c.index-choices-number.result refl in_choices c.index-choices-number.is)
     ∙ c.requires.each n
     ∙ sym (ap length (c.as_slice-sites.ensures.value ∙ row_is (λ own. own.items) c.sites.result.now c.args.image.now.sites n c.index-sites-number.result c.sites.ensures.sites in_sites c.index-sites-number.is))
 
@@ -39,7 +39,7 @@ loop-number-preserved c =
     let name = c.as_str.ensures ∙ at_any names n c.index-names-number.result [] below c.index-names-number.is in
     let object = at_any objects n c.index-objects-number.result [] in_objects (c.index-objects-number.is ∙ ap (λ os. get_or os n c.index-objects-number.result) c.objects.ensures.objects) in
     let own = c.as_slice-sites.ensures.value ∙ row_is (λ own. own.items) c.sites.result.now sites n c.index-sites-number.result c.sites.ensures.sites in_sites c.index-sites-number.is in
-    let chosen = c.as_slice-choices.ensures.value ∙ row_is (λ own. own.items) c.linked.inside.choices.items choices n c.index.result.now (ap (λ s. s.choices) c.linked.view_is) in_choices c.index.ensures in
+    let chosen = c.as_slice-chosen.ensures.value ∙ row_is (λ own. own.items) c.args.choices.now choices n c.index-choices-number.result refl in_choices c.index-choices-number.is in
     let rest = left names objects sites choices (n + 1) in
     ap (λ t. t ++ rest) c.in_ok-push_sites.ensures.ok
     ∙ append_assoc c.loop-number.lines.items _ rest
