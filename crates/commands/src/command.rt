@@ -10,10 +10,11 @@ ghost use Rattle.commands.specs.Listings.{ListingSays};
 ghost use Rattle.commands.specs.Tasks.{ShowSays, TaskLeaves, TaskSays, task_names};
 
 use crate::generated::generated;
-use crate::links::{link, sites};
+use crate::links::link;
+use crate::purpose::Purpose;
 use crate::telling::Telling;
-use crate::told::{Purpose, told};
-use command_line::Task;
+use crate::told::told;
+use command_line::{Rewriting, Task};
 use command_replies::{Answer, CommandFault, InputRefusal, Reply, Status, reply_of, whole_file};
 use image_file::{Image, ImageFault, read_owned};
 use image_text::push_shown;
@@ -69,16 +70,19 @@ fn output<R: Threads + Sync, S: Store>(
         (S.asked store.old) (S.asked store.new) result) }
 {
     match task {
-        Task::Run { job, no_relax } => {
+        Task::Run { job, rewriting } => {
             let purpose = Purpose::Run(Telling::Transcript);
-            told(rt, alloc, store, job.as_str(), !*no_relax, purpose)
+            told(rt, alloc, store, job.as_str(), *rewriting, purpose)
         }
-        Task::Check { job } => told(rt, alloc, store, job.as_str(), true, Purpose::Check),
+        Task::Check { job } => {
+            let rewriting = Rewriting::Allowed;
+            told(rt, alloc, store, job.as_str(), rewriting, Purpose::Check)
+        }
         Task::Link {
             job,
             image,
             out,
-            no_relax,
+            rewriting,
         } => link(
             rt,
             alloc,
@@ -86,9 +90,15 @@ fn output<R: Threads + Sync, S: Store>(
             job.as_str(),
             image.as_str(),
             out.as_str(),
-            *no_relax,
+            *rewriting,
         ),
-        Task::Sites { job, image } => sites(rt, alloc, store, job.as_str(), image.as_str()),
+        Task::Sites { job, image } => {
+            let purpose = Purpose::Sites {
+                image: image.as_str(),
+            };
+            let rewriting = Rewriting::Allowed;
+            told(rt, alloc, store, job.as_str(), rewriting, purpose)
+        }
         Task::Show { file } => show(alloc, store, file.as_str()),
         Task::Gen { count } => generated(rt, alloc, *count),
     }
