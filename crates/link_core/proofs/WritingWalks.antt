@@ -8,7 +8,6 @@ use Rattle.tls_layout.specs.Sections.{Layout}
 use Rattle.std.specs.List.{Contains, range_with_len}
 use Rattle.std.proofs.Math.ListN.{drop_of_length-le}
 use Rattle.std.proofs.lemmas.Bool.{cases_lt}
-use Rattle.std.proofs.lemmas.Bool.Decides.{nat_tests}
 use Rattle.object_faults.specs.Firsts.{nonzero}
 use Rattle.elf_object.specs.declared.relocation.Relocation.{Relocation}
 use Rattle.elf_object.specs.Lent.{relocation_target, relocations}
@@ -17,7 +16,7 @@ use Rattle.link_faults.specs.declared.fault.LinkFault.{LinkFault}
 use Rattle.link_faults.specs.declared.fault.LinkFault.TheVariants.{OutOfMemory, At}
 use Rattle.link_faults.specs.declared.fault.LinkFaultKind.{LinkFaultKind}
 use Rattle.link_faults.specs.declared.fault.LinkFaultKind.TheVariants as fault
-use Rattle.tls_symbols.specs.Faults.{Earlier, held_for, held_in}
+use Rattle.tls_symbols.specs.Faults.{Earlier, held_in}
 use Rattle.tls_symbols.proofs.Search.{range_first, range_none}
 use Rattle.tls_symbols.proofs.Walked.{held_is, held_none}
 use Rattle.link_needs.specs.Linking.{Linking, object}
