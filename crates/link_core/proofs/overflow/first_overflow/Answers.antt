@@ -13,6 +13,9 @@ loop-found-init c =
     let objects = c.inputs.inside.objects.now in
     let P : Use → Type 0 = λ u. IsOverflow l u.place.object u.section u.relocation in
     let same = ap (λ (l : Linking). l.objects) (c.inputs.view_is ∙ c.plan.view_is) in
-    rw c.into_iter-found-iterator.ensures.into_iter_gives
-    (made.counted, tt, subst (λ objects. Decides P objects (uses_left c.of-found-items.result)) same
-    (subst (Decides P objects) (sym made.uses) (decides P objects made.objects)))
+    rw c.into_iter-found-iterator.ensures.into_iter_gives (
+      made.counted,
+      tt,
+      subst (λ objects. Decides P objects (uses_left c.of-found-items.result)) same
+          (subst (Decides P objects) (sym made.uses) (decides P objects made.objects)),
+    )
