@@ -8,7 +8,6 @@ use Rattle.tls_layout.specs.Sections.{Layout}
 use Rattle.std.specs.List.{Contains, range_with_len}
 use Rattle.std.proofs.Math.ListN.{drop_of_length-le}
 use Rattle.std.proofs.lemmas.Bool.{cases_lt}
-use Rattle.std.proofs.lemmas.Bool.Decides.{nat_tests}
 use Rattle.object_faults.specs.Firsts.{nonzero}
 use Rattle.elf_object.specs.declared.relocation.Relocation.{Relocation}
 use Rattle.elf_object.specs.Lent.{relocation_target, relocations}
@@ -17,8 +16,9 @@ use Rattle.link_faults.specs.declared.fault.LinkFault.{LinkFault}
 use Rattle.link_faults.specs.declared.fault.LinkFault.TheVariants.{OutOfMemory, At}
 use Rattle.link_faults.specs.declared.fault.LinkFaultKind.{LinkFaultKind}
 use Rattle.link_faults.specs.declared.fault.LinkFaultKind.TheVariants as fault
-use Rattle.tls_symbols.specs.Faults.{Earlier, held_for, held_in}
+use Rattle.tls_symbols.specs.Faults.{Earlier, held_in}
 use Rattle.tls_symbols.proofs.Search.{range_first, range_none}
+use Rattle.tls_symbols.proofs.Walked.{held_is, held_none}
 use Rattle.link_needs.specs.Linking.{Linking, object}
 use Rattle.link_tables.specs.Faults.{Overflows}
 use Rattle.link_core.specs.Overflows.{IsFilled, IsFirstAtAll, IsFirstIn, IsFirstOf, IsOverflow}
@@ -66,19 +66,6 @@ module _ {X : Type 0} where
   none_behind (y ∷ xs) (suc n) (suc f) P e behind some = none_behind xs n f P e (omega arith) some
 
 -- ** the relocations that a section holds
-
--- those of section t
-pub held_is : (b : List ℕ) (s t : ℕ) → nonzero (relocation_target b s) ≡ Some t
-    → (held_in b s ≡ relocations b t) × (relocation_target b s ≡ t)
-unfolding held_in
-held_is b s t e = (ap (held_for b) e, same (relocation_target b s) t e)
-  where
-    same : (n t : ℕ) → nonzero n ≡ Some t → n ≡ t
-    same n t e = grind (arith, nat_tests)
-
-pub held_none : (b : List ℕ) (s : ℕ) → nonzero (relocation_target b s) ≡ None → held_in b s ≡ []
-unfolding held_in
-held_none b s e = ap (held_for b) e
 
 module _ (l : Linking) (o s : ℕ) where
   -- none of the first e overflows
