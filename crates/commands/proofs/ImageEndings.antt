@@ -1,8 +1,10 @@
 -- What is made of one image: its file, or the lines of its sites.
 use Rattle.std.proofs.Common.{◌≡◌, ◌∙◌, ◌+◌, ◌<◌, ℕ, zero, suc, List, All, [], ◌∷◌, get_or, length, map, refl, sym, ap, subst, arith}
+use Rattle.std.specs.Prelude.{IfOk, Result, Ok, Err}
 use Rattle.std.specs.Option.{option_map_or}
 use Rattle.std.proofs.lemmas.List.{length-map}
 use Rattle.dynamic_symbols.specs.Laws.{SitesHaveSymbols}
+use Rattle.image_file.specs.Spelled.{Spelled}
 use Rattle.image_writer.specs.Loadable.{HoldsTls}
 use Rattle.image_writer.specs.Outlined.{outline_of}
 use Rattle.image_writer.specs.Written.{written}
@@ -33,9 +35,11 @@ module _ (ls : List Linking) (place : ℕ) (l : Linking) (below : place < length
   unfolding linked_of
   can_write tls given links linked e = subst (λ s. HoldsTls (outline_of s)) (sym (ap (λ v. v.image) e)) (tls l (its IsGiven given) (its Links links))
 
-  pub is_file : (linked : LinkedImage) (file : List ℕ) → linked ≡ linked_of l → file ≡ written linked.image → OfLink place IsFile ls 0 file
-  unfolding linked_of
-  is_file linked file e is = record { link = l; there = some_at ls place l below l_is; says = (refl, is ∙ ap (λ v. written v.image) e) }
+  pub is_file : {V E : Type 0} (items : V → List ℕ) (result : Result V E) (image : Spelled) → image ≡ image_of l
+      → IfOk result (λ file. items file ≡ written image) → IfOk result (λ file. OfLink place IsFile ls 0 (items file))
+  is_file items (Ok file) image e is =
+      record { link = l; there = some_at ls place l below l_is; says = (refl, is ∙ ap written e) }
+  is_file items (Err none) image e is = tt
 
 -- ** lines
 
@@ -82,8 +86,8 @@ module _ (have : SitesHaveSymbols) (job : JobParts) (images : List Given) (ls : 
     symbols = λ o h. have (get_or g.objects o []) (get_or g.sites o []) ((given.sound o [] h).object) (given.own o h);
   }
 
-  pub are_lines : (lines : List ℕ) → lines ≡ lines_of names g.objects g.sites choices → OfLink place (AreLines (objects_of job place)) ls 0 lines
-  are_lines lines e =
+  are_lines_of : (lines : List ℕ) → lines ≡ lines_of names g.objects g.sites choices → OfLink place (AreLines (objects_of job place)) ls 0 lines
+  are_lines_of lines e =
       let named : names ≡ objects_of job place =
       names_are ∙ sym (ap (λ o. option_map_or (λ (i : Image). i.objects) o []) (some_at job.images place image below image_is)) in
       let linked : length ls ≡ length job.images = count_linked job images ls are in
@@ -96,3 +100,8 @@ module _ (have : SitesHaveSymbols) (job : JobParts) (images : List Given) (ls : 
               ∙ ap (λ ss. lines_of (objects_of job place) l.objects ss choices) (sym sites_are) ∙ ap (lines_of (objects_of job place) l.objects l.sites) choices_are,
         );
       }
+
+  pub are_lines : {V E : Type 0} (items : V → List ℕ) (result : Result V E) → IfOk result (λ lines. items lines ≡ lines_of names g.objects g.sites choices)
+      → IfOk result (λ lines. OfLink place (AreLines (objects_of job place)) ls 0 (items lines))
+  are_lines items (Ok lines) e = are_lines_of (items lines) e
+  are_lines items (Err none) e = tt

@@ -6,6 +6,7 @@ ghost use Rattle.command_replies.specs.Replies.{AnswerCounts, AnswerKeeps};
 ghost use Rattle.command_replies.specs.Steps.{Asks, Comes};
 ghost use Rattle.image_text.specs.Shown.{shown};
 ghost use Rattle.commands.specs.Replies.{AnswerSays, AsksOfAnswer};
+ghost use Rattle.commands.specs.Links.{SitesSays, image_names};
 ghost use Rattle.commands.specs.Listings.{ListingSays};
 ghost use Rattle.commands.specs.Tasks.{ShowSays, TaskLeaves, TaskSays, task_names};
 
@@ -92,16 +93,29 @@ fn output<R: Threads + Sync, S: Store>(
             out.as_str(),
             *rewriting,
         ),
-        Task::Sites { job, image } => {
-            let purpose = Purpose::Sites {
-                image: image.as_str(),
-            };
-            let rewriting = Rewriting::Allowed;
-            told(rt, alloc, store, job.as_str(), rewriting, purpose)
-        }
+        Task::Sites { job, image } => sites(rt, alloc, store, job.as_str(), image.as_str()),
         Task::Show { file } => show(alloc, store, file.as_str()),
         Task::Gen { count } => generated(rt, alloc, *count),
     }
+}
+
+/// `sites JOB IMAGE`: the lines of the image's sites.
+fn sites<R: Threads + Sync, S: Store>(
+    rt: &R,
+    alloc: Global,
+    store: &mut S,
+    job: &str,
+    image: &str,
+) -> Result<Vec<u8>, CommandFault>
+    ensures files { S.files store.new ≡ S.files store.old }
+    ensures cause { StoreCounts (S.faults store.old) (S.faults store.new) result }
+    ensures says { IfSome (S.files store.old) (λ fs. Comes (λ text. text.items)
+        (SitesSays fs job.now image.now) result) }
+    ensures asks { IfSome (S.files store.old) (λ fs. Asks (image_names fs job.now image.now)
+        (S.asked store.old) (S.asked store.new) result) }
+{
+    let purpose = Purpose::Sites { image };
+    told(rt, alloc, store, job, Rewriting::Allowed, purpose)
 }
 
 /// `show FILE`: what the image says.

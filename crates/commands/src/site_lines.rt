@@ -1,7 +1,8 @@
 //! The lines of the sites of an image that links.
 ghost use Rattle.std.specs.Prelude.{◌≡◌, ◌<◌, IfOk, length, map};
 ghost use Rattle.commands.specs.InOrder.{AreLinked};
-ghost use Rattle.commands.specs.Links.{AreLines, HaveLines, OfLink, lines_of as lines_of_sites, objects_of};
+ghost use Rattle.commands.specs.Jobs.{objects_of};
+ghost use Rattle.commands.specs.Links.{AreLines, HaveLines, OfLink, lines_of as lines_of_sites};
 
 use dynamic_symbols::laws::sites_have_symbols;
 use job_link::ImageObjects;

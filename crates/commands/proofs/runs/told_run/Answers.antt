@@ -1,10 +1,10 @@
-use Rattle.std.proofs.Common.{◌∙◌, ap}
+use Rattle.std.proofs.Common.{◌∙◌, ap, rules}
 use Rattle.run_summary.specs.Summaries.{counts_of}
 use Rattle.commands.proofs.Transcribed.{is_told}
 use Rattle.commands.proofs.runs.told_run.Goals as goal
 
 pub write_images-requires : goal.write_images-requires
-write_images-requires g c = c.requires.links.ready.together.links
+write_images-requires g c = (search rules, c.requires.links.ready.together.links)
 
 pub run_linked-requires : goal.run_linked-requires
 run_linked-requires g c = record { links = (c.args.ready.items, c.requires, c.in_ok-all.ensures) }

@@ -11,7 +11,7 @@ prepare_images-requires-clause-few g c =
     omega (arith, count_is bytes c.args.job.now c.args.images.now are, few)
 
 pub ended-requires-clause-linked : goal.ended-requires-clause-linked
-ended-requires-clause-linked g c =
+ended-requires-clause-linked g c κs within =
     let (bytes, are, small) = c.requires.given in
     record {
       some = subst (λ is. 1 ≤ length is) c.images-images.ensures.value c.images-images.ensures.some;
@@ -35,7 +35,7 @@ returns-in-Ok-clause-says g c =
     linked_say (Makes c.args.ending) c.is_allowed.result (is_allowed c.args.rewriting) c.is_allowed.ensures c.args.job.now c.args.images.now c.in-Ok.ready.items c.in-Ok.ensures.links
     c.in-Ok.ensures.ready c.ended.result c.ended.ensures.says
 
-pub returns-in-Err-clause-says : goal.returns-in-Err-clause-says
-returns-in-Err-clause-says g c =
+pub returns-clause-says : goal.returns-clause-says
+returns-clause-says g c =
     unlinked_say (Makes c.args.ending) c.is_allowed.result (is_allowed c.args.rewriting) c.is_allowed.ensures c.args.job.now c.args.images.now c.in-Err.refusal c.unlinked.result
     c.in-Err.ensures.refused c.unlinked.ensures.says
