@@ -155,7 +155,7 @@ fn image_of_job<R: Threads + Sync, S: Store>(
     ensures asks { Asks (object_names job.now) (S.asked store.old) (S.asked store.new) result }
 {
     let _mentions = job.mentions();
-    let files = fetch_objects(alloc, store, job)?;
+    let files = fetch_objects(rt, alloc, store, job)?;
     match made(rt, alloc, job, &files, place, wish) {
         Ok(bytes) => put_image(alloc, store, image, bytes, wish),
         Err(fault) => Err(fault),

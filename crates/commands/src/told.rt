@@ -95,7 +95,7 @@ fn told_of_job<R: Threads + Sync, S: Store>(
     ensures asks { Asks (object_names job.now) (S.asked store.old) (S.asked store.new) result }
 {
     let _mentions = job.mentions();
-    let files = fetch_objects(alloc, store, job)?;
+    let files = fetch_objects(rt, alloc, store, job)?;
     told_of_files(rt, alloc, job, &files, relax, purpose)
 }
 

@@ -1,6 +1,5 @@
-pub mod Buffer
 pub mod Exported
 pub mod Filled
+pub mod Held
 pub mod Pushed
-pub mod Read
 pub mod Unseen

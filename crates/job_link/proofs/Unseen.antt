@@ -1,21 +1,20 @@
--- Names that are fetched where they were not seen, and the list that they come to.
-use Rattle.std.proofs.Common.{◌≡◌, ◌∙◌, ◌+◌, ◌<◌, ◌≤◌, ◌&&◌, ◌||◌, ℕ, suc, Bool, true, false, not, cond, List, [], ◌∷◌}
+-- Names that are taken where they were not seen, and the list that they come to.
+use Rattle.std.proofs.Common.{◌≡◌, ◌∙◌, ◌+◌, ◌<◌, ◌&&◌, ◌||◌, ℕ, Bool, true, false, not, cond, List, [], ◌∷◌}
 use Rattle.std.proofs.Common.{◌++◌}
-use Rattle.std.proofs.Common.{Option, Some, None, IsSome, filter, map, min, refl, sym, ap, subst, append_assoc}
-use Rattle.std.proofs.Common.{append-nil, length, take, drop, get_or, arith}
-use Rattle.std.specs.Prelude.{◌-◌, if◌then◌else◌, slice_get, IfSome}
-use Rattle.std.specs.List.{cons_option, filter_map, flat_map}
+use Rattle.std.proofs.Common.{Option, Some, None, filter, refl, sym, ap, append_assoc}
+use Rattle.std.proofs.Common.{append-nil, length, take, drop, get_or, Bor}
+use Rattle.std.specs.Prelude.{◌-◌, if◌then◌else◌, slice_get}
+use Rattle.std.specs.List.{cons_option, filter_map, flat_map, list_any}
 use Rattle.std.specs.Str.{bytes_eq}
-use Rattle.std.proofs.lemmas.List.{get_or_default, map-append, take-append-drop, take-append-le, take_all, take_min}
+use Rattle.std.proofs.lemmas.List.{get_or_default, map-append, take-append-drop}
 use Rattle.std.proofs.lemmas.List.{take_more}
-use Rattle.std.proofs.lemmas.List.Elements.{All-append}
 use Rattle.std.proofs.lemmas.List.Folds.{list_any-append}
 use Rattle.std.proofs.lemmas.Slice.Eq.{bytes_eq-Decides}
 use Rattle.job_text.specs.declared.images.Image.{Image}
 use Rattle.job_text.specs.Jobs.{JobParts}
-use Rattle.ports.specs.Files.{Files, file_at}
-use Rattle.job_link.specs.Mentions.{bytes_at, mentions_of, object_names, once, with_names, AreFilesOf, Fetched}
-use Rattle.job_link.specs.Walks.{is_among, names_in, names_of, unseen, Grows}
+use Rattle.indexmap.specs.IndexSet.{insert_key}
+use Rattle.job_link.specs.Mentions.{mentions_of, object_names, once}
+use Rattle.job_link.specs.Walks.{is_among, names_in, texts, unseen}
 
 -- ** those that were not seen
 
@@ -123,128 +122,30 @@ unseen_once seen (x ∷ xs) = by (is_among seen x) refl (λ s. unseen_once s xs)
 pub all_once : (xs : List (List ℕ)) → unseen [] xs ≡ once xs
 all_once xs = unseen_once [] xs ∙ filter_all (once xs)
 
--- one name that was seen
-pub seen_one : (seen : List (List ℕ)) (name : List ℕ) → is_among seen name ≡ true → unseen seen (name ∷ []) ≡ []
-seen_one seen name e = ap (λ b. if b then [] else name ∷ []) e
+-- names that were seen, and more of them that were not
+pub seen_next : (s now new xs more : List (List ℕ)) → now ≡ s ++ unseen s xs → new ≡ now ++ unseen now more
+    → new ≡ s ++ unseen s (xs ++ more)
+seen_next s now new xs more e step =
+    step ∙ ap (λ n. n ++ unseen n more) e ∙ append_assoc s (unseen s xs) (unseen (s ++ unseen s xs) more)
+    ∙ ap (λ r. s ++ r) (sym (unseen-append s xs more))
 
--- one name that was not seen
-pub unseen_one : (seen : List (List ℕ)) (name : List ℕ) → is_among seen name ≡ false
-    → unseen seen (name ∷ []) ≡ name ∷ []
-unseen_one seen name e = ap (λ b. if b then [] else name ∷ []) e
+-- a name among others that are lent
+pub among : (keys : List (Bor (List ℕ))) (name : List ℕ)
+    → list_any (λ k. bytes_eq name k.now) keys ≡ is_among (texts keys) name
+among [] name = refl
+among (k ∷ keys) name = ap (λ b. bytes_eq name k.now || b) (among keys name)
 
--- ** names asked for
-
--- no name asked for
-pub asked_none : (a : Option (List (List ℕ))) → a ≡ with_names [] a
-asked_none None = refl
-asked_none (Some names) = ap Some (sym (append-nil names))
-
--- names asked for, and then others
-pub asked-append : (xs ys : List (List ℕ)) (a : Option (List (List ℕ)))
-    → with_names ys (with_names xs a) ≡ with_names (xs ++ ys) a
-asked-append xs ys None = refl
-asked-append xs ys (Some names) = ap Some (append_assoc names xs ys)
-
--- ** files that follow
-
--- a front that reaches past a list
-take_past : (xs ys : List (List ℕ)) (k : ℕ) → take (length xs + k) (xs ++ ys) ≡ xs ++ take k ys
--- a front that reaches past a list
-take_past [] ys k = let e : 0 + k ≡ k = omega arith in ap (λ n. take n ys) e
-take_past (x ∷ xs) ys k =
-    let e : suc (length xs) + k ≡ suc (length xs + k) = omega arith in
-    ap (λ n. take n (x ∷ xs ++ ys)) e ∙ ap (λ r. x ∷ r) (take_past xs ys k)
-
--- a front that ends in the second of three lists
-take_front : (xs ys zs : List (List ℕ)) (k : ℕ)
-    → take (length xs + min k (length ys)) (xs ++ (ys ++ zs)) ≡ xs ++ take k ys
-take_front xs ys zs k =
-    let few : min k (length ys) ≤ length ys = omega arith in
-    let past : length xs ≤ length xs + min k (length ys) = omega arith in
-    let rest : length xs + min k (length ys) - length xs ≡ min k (length ys) = omega arith in
-    take_past xs (ys ++ zs) (min k (length ys))
-    ∙ ap (λ r. xs ++ r) (take-append-le (min k (length ys)) ys zs few ∙ take_min k ys)
-
--- no file follows
-pub follow_none : (told : Option Files) (old : Fetched) → Grows told [] old old
-follow_none told old = record {
-  names_are = sym (append-nil (names_of old));
-  files_are = λ fs e. record { there = λ k d h. absurd (omega arith); files_are = sym (append-nil old) };
-}
-
--- the files of these names
-abbrev files_at : Files → List (List ℕ) → Fetched
-files_at fs names = map (λ name. (name, bytes_at fs name)) names
-
--- files follow, and then others
-pub follow-append : (told : Option Files) (xs ys : List (List ℕ)) (old mid new : Fetched) → Grows told xs old mid
-    → Grows told ys mid new
-    → Grows told (xs ++ ys) old new
-follow-append told xs ys old mid new first second = record {
-  names_are = second.names_are ∙ ap (λ names. names ++ ys) first.names_are ∙ append_assoc (names_of old) xs ys;
-  files_are = λ fs e. record {
-    there = All-append (λ name. IsSome (file_at fs name)) xs ys (first.files_are fs e).there
-        (second.files_are fs e).there;
-    files_are =
-        (second.files_are fs e).files_are ∙ ap (λ r. r ++ files_at fs ys) (first.files_are fs e).files_are
-        ∙ append_assoc old (files_at fs xs) (files_at fs ys)
-        ∙ ap (λ r. old ++ r) (sym (map-append (λ name. (name, bytes_at fs name)) xs ys));
-  };
-}
-
--- ** some names fetched, of more
-
--- what a store tells, its count of faults and the names that it was asked for, and the files: before, and after names
--- were fetched where they were not there
-pub record Fetching (told_old told : Option Files) (faults_old faults : ℕ) (asked_old asked : Option (List (List ℕ)))
-    (names : List (List ℕ)) (old new : Fetched) : Type 0 where
-  pub told_is : told ≡ told_old
-  pub faults_is : faults ≡ faults_old
-  pub asked_is : asked ≡ with_names (unseen (names_of old) names) asked_old
-  pub grows : Grows told_old (unseen (names_of old) names) old new
-
-module _ {told_old told : Option Files} {faults_old faults : ℕ} {asked_old asked : Option (List (List ℕ))}
-    {old mid : Fetched}
-    (names more : List (List ℕ)) (before : Fetching told_old told faults_old faults asked_old asked names old mid) where
-  both : unseen (names_of old) (names ++ more) ≡ unseen (names_of old) names ++ unseen (names_of mid) more
-  both =
-      unseen-append (names_of old) names more
-      ∙ ap (λ seen. unseen (names_of old) names ++ unseen seen more) (sym before.grows.names_are)
-
-  pub fetching_more : (told_new : Option Files) (faults_new : ℕ) (asked_new : Option (List (List ℕ))) (new : Fetched)
-      → told_new ≡ told → faults_new ≡ faults → asked_new ≡ with_names (unseen (names_of mid) more) asked
-      → Grows told (unseen (names_of mid) more) mid new
-      → Fetching told_old told_new faults_old faults_new asked_old asked_new (names ++ more) old new
-  fetching_more told_new faults_new asked_new new t f a g = record {
-    told_is = t ∙ before.told_is;
-    faults_is = f ∙ before.faults_is;
-    asked_is =
-        a ∙ ap (with_names (unseen (names_of mid) more)) before.asked_is
-        ∙ asked-append (unseen (names_of old) names) (unseen (names_of mid) more) asked_old
-        ∙ ap (λ all. with_names all asked_old) (sym both);
-    grows =
-        let late : Grows told_old (unseen (names_of mid) more) mid new =
-        subst (λ (t : Option Files). Grows t (unseen (names_of mid) more) mid new) before.told_is g in
-        subst (λ all. Grows told_old all old new) (sym both)
-        (follow-append told_old (unseen (names_of old) names) (unseen (names_of mid) more) old mid new before.grows
-        late);
-  }
-
-  -- a fetch among them that failed
-  pub fetching_stops : (rest : List (List ℕ)) (asked_new : Option (List (List ℕ)))
-      → (k : ℕ) × (asked_new ≡ with_names (take k (unseen (names_of mid) more)) asked)
-      → (k : ℕ) × (asked_new ≡ with_names (take k (unseen (names_of old) ((names ++ more) ++ rest))) asked_old)
-  fetching_stops rest asked_new (k, a) =
-      let first = unseen (names_of old) names in
-      let second = unseen (names_of mid) more in
-      let last = unseen (names_of old ++ unseen (names_of old) (names ++ more)) rest in
-      let all : unseen (names_of old) ((names ++ more) ++ rest) ≡ first ++ (second ++ last) =
-      unseen-append (names_of old) (names ++ more) rest ∙ ap (λ r. r ++ last) both ∙ append_assoc first second last in (
-        length first + min k (length second),
-        a ∙ ap (with_names (take k second)) before.asked_is ∙ asked-append first (take k second) asked_old
-            ∙ ap (λ r. with_names r asked_old)
-            (sym (take_front first second last k) ∙ ap (take (length first + min k (length second))) (sym all)),
-      )
+-- a name that is put among them goes last, where it was not there
+pub inserted : (keys : List (Bor (List ℕ))) (k : Bor (List ℕ))
+    → texts (insert_key (λ (a b : Bor (List ℕ)). bytes_eq a.now b.now) keys k)
+    ≡ texts keys ++ unseen (texts keys) (k.now ∷ [])
+inserted keys k =
+    elim (list_any (λ (o : Bor (List ℕ)). bytes_eq k.now o.now) keys) as (λ b.
+    texts (if b then keys else keys ++ k ∷ []) ≡ texts keys ++ (if b then [] else k.now ∷ [])) [
+      | true ↦ sym (append-nil (texts keys))
+      | false ↦ map-append (λ (name : Bor (List ℕ)). name.now) keys (k ∷ [])
+    ]
+    ∙ ap (λ b. texts keys ++ (if b then [] else k.now ∷ [])) (among keys k.now)
 
 -- ** images
 
@@ -310,26 +211,3 @@ mentions_are job = refl
 pub object_names_are : (job : JobParts) → object_names job ≡ unseen [] (names_in job job.mentions)
 unfolding object_names
 object_names_are job = ap once (mentions_are job) ∙ sym (all_once (names_in job job.mentions))
-
--- ** all fetched
-
--- once the last image is behind, all names were asked for and all files are there
-pub all_fetched : {told_old told : Option Files} {faults_old faults : ℕ} {asked_old asked : Option (List (List ℕ))}
-    {files : Fetched} (job : JobParts) (n : ℕ)
-    → Fetching told_old told faults_old faults asked_old asked (names_in job (take n job.mentions)) [] files
-    → length job.mentions ≤ n
-    → (asked ≡ with_names (object_names job) asked_old) × ((fs : Files) → told_old ≡ Some fs
-    → AreFilesOf fs (object_names job) files)
-all_fetched {told_old} {told} {faults_old} {faults} {asked_old} {asked} {files} job n all past =
-    let names : unseen [] (names_in job (take n job.mentions)) ≡ object_names job =
-    ap (λ numbers. unseen [] (names_in job numbers)) (take_all n job.mentions past) ∙ sym (object_names_are job) in (
-      all.asked_is ∙ ap (λ ns. with_names ns asked_old) names,
-      λ fs e.
-          let is = all.grows.files_are fs e in
-          subst (λ ns. AreFilesOf fs ns files) names (record { there = is.there; files_are = is.files_are }),
-    )
-
--- what holds of what is there
-pub if_some : {X : Type 0} (P : X → Type 0) (o : Option X) → ((x : X) → o ≡ Some x → P x) → IfSome o P
-if_some P None h = tt
-if_some P (Some x) h = h x refl

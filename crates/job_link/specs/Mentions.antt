@@ -1,13 +1,12 @@
 -- The objects that a job names, in the order in which its lines mention them, and their bytes.
-use Rattle.std.specs.Prelude.{◌≡◌, ◌-◌, ◌++◌, ℕ, not, List, [], ◌∷◌, Option, filter, map, slice_get, take, unwrap_or}
-use Rattle.std.specs.Prelude.{IsSome, Result, Ok, Err}
+use Rattle.std.specs.Prelude.{◌≡◌, ◌-◌, ℕ, not, List, [], ◌∷◌, filter, map, slice_get, unwrap_or}
+use Rattle.std.specs.Prelude.{IsSome}
 use Rattle.std.specs.List.{All, filter_map, find, flat_map}
 use Rattle.std.specs.Option.{option_map}
 use Rattle.std.specs.Str.{bytes_eq}
 use Rattle.job_text.specs.declared.images.Image.{Image}
 use Rattle.job_text.specs.Jobs.{JobParts}
 use Rattle.ports.specs.Files.{Files, file_at}
-use Rattle.ports.specs.declared.faults.FetchFault.{FetchFault}
 
 -- the images in the order of their lines
 abbrev pub mentioned : JobParts → List Image
@@ -45,14 +44,3 @@ bytes_in files name =
 pub record AreFilesOf (fs : Files) (names : List (List ℕ)) (files : Fetched) : Type 0 where
   pub there : All (λ name. IsSome (file_at fs name)) names
   pub files_are : files ≡ map (λ name. (name, bytes_at fs name)) names
-
--- ** the names asked for
-
-abbrev pub with_names : List (List ℕ) → Option (List (List ℕ)) → Option (List (List ℕ))
-with_names names = option_map (λ before. before ++ names)
-
--- all of these names where they were fetched, else a front of them
-abbrev pub Fetches : {T : Type 0} → List (List ℕ) → Option (List (List ℕ)) → Option (List (List ℕ))
-    → Result T FetchFault → Type 0
-Fetches names old new (Ok x) = new ≡ with_names names old
-Fetches names old new (Err fault) = (k : ℕ) × (new ≡ with_names (take k names) old)

@@ -1,16 +1,20 @@
 -- The names of files that are fetched one after another.
-use Rattle.std.specs.Prelude.{◌≡◌, ◌-◌, ◌++◌, ℕ, Bool, List, [], ◌∷◌, Option, Some, IsSome, map, slice_get}
+use Rattle.std.specs.Prelude.{◌-◌, ◌++◌, ℕ, Bool, List, [], ◌∷◌, map, slice_get}
 use Rattle.std.specs.Prelude.{if◌then◌else◌}
-use Rattle.std.specs.List.{All, filter_map, flat_map, list_any}
+use Rattle.std.specs.List.{filter_map, flat_map, list_any}
+use Rattle.std.specs.Borrow.{Bor}
 use Rattle.std.specs.Str.{bytes_eq}
 use Rattle.job_text.specs.declared.images.Image.{Image}
 use Rattle.job_text.specs.Jobs.{JobParts}
-use Rattle.ports.specs.Files.{Files, file_at}
-use Rattle.job_link.specs.Mentions.{bytes_at, Fetched}
+use Rattle.job_link.specs.Mentions.{Fetched}
 
 -- the names of files
 abbrev pub names_of : Fetched → List (List ℕ)
 names_of files = map (λ (file : List ℕ × List ℕ). file.0) files
+
+-- the same of names that are lent
+abbrev pub texts : List (Bor (List ℕ)) → List (List ℕ)
+texts names = map (λ name. name.now) names
 
 abbrev pub is_among : List (List ℕ) → List ℕ → Bool
 is_among names name = list_any (bytes_eq name) names
@@ -30,13 +34,3 @@ abbrev pub names_in : JobParts → List ℕ → List (List ℕ)
 names_in job numbers =
     flat_map (λ (image : Image). image.objects)
     (filter_map (λ (number : ℕ). slice_get job.images (number - 1)) numbers)
-
--- these files, of a store that holds them, behind others
-pub record IsFollowedBy (fs : Files) (names : List (List ℕ)) (old new : Fetched) : Type 0 where
-  pub there : All (λ name. IsSome (file_at fs name)) names
-  pub files_are : new ≡ old ++ map (λ name. (name, bytes_at fs name)) names
-
--- files of these names follow, and where a store tells its files they are those
-pub record Grows (told : Option Files) (names : List (List ℕ)) (old new : Fetched) : Type 0 where
-  pub names_are : names_of new ≡ names_of old ++ names
-  pub files_are : (fs : Files) → told ≡ Some fs → IsFollowedBy fs names old new

@@ -1,22 +1,17 @@
 //! Files of objects, fetched once each.
 
-ghost use Rattle.std.specs.Prelude.{◌≡◌, ◌<◌, ◌∷◌, [], ℕ, List, All, IfOk, IfSome, OnErr, OnOk};
+ghost use Rattle.std.specs.Prelude.{◌≡◌, ◌<◌, ◌++◌, [], ℕ, List, All, IfOk, IfSome, OnErr, OnOk};
 ghost use Rattle.ports.specs.Counts.{FetchCounts};
-ghost use Rattle.job_link.specs.Mentions.{bytes_in, object_names, AreFilesOf, Fetches};
-ghost use Rattle.job_link.specs.Walks.{names_of, unseen, with_unseen, Grows};
+ghost use Rattle.ports.specs.Files.{Fetches};
+ghost use Rattle.job_link.specs.Mentions.{bytes_in, object_names, AreFilesOf};
+ghost use Rattle.job_link.specs.Walks.{texts, unseen, with_unseen};
 
-use indexmap::IndexMap;
+use indexmap::IndexSet;
 use job_text::{Image, Job};
-use ports::{FetchFault, Store};
+use ports::{FetchFault, Store, fetch_each};
 use std::alloc::{AllocError, Global};
 use std::marker::Model;
-
-/// Where a file lies among others, one behind another.
-#[derive(Clone, Copy)]
-struct Extent {
-    start: usize,
-    end: usize,
-}
+use std::thread::Threads;
 
 /// Bytes are numbers below 256. The call only tells a proof so.
 fn are_small(bytes: &[u8])
@@ -26,35 +21,23 @@ fn are_small(bytes: &[u8])
 /// How many bytes of objects are worth a thread of their own.
 const WORTH_A_THREAD: usize = 1 << 18;
 
-/// How many bytes of files there is room for at first: a buffer of this size grows without being copied.
-const ROOM: usize = 4 << 20;
-
-/// An empty buffer, with room for files where there is memory for it.
-fn roomy(alloc: Global) -> Vec<u8>
-    ensures { result.items ≡ [] }
-{
-    match Vec::with_capacity(alloc, ROOM) {
-        Ok(bytes) => bytes,
-        Err(_) => Vec::new(alloc),
-    }
-}
-
-/// The files of a job's objects, in one buffer. Contracts see each name with its bytes.
+/// The files of a job's objects. Contracts see each name with its bytes.
 #[derive(Drop)]
 pub struct Files<'j> {
-    bytes: Vec<u8>,
-    places: IndexMap<&'j str, Extent>,
+    names: IndexSet<&'j str>,
+    files: Vec<Vec<u8>>,
 }
 
 impl<'j> Model for Files<'j> {
+    ghost use Rattle.std.specs.Prelude.{◌≡◌, length};
     ghost use Rattle.job_link.specs.Mentions.{Fetched};
-    ghost use Rattle.job_link.specs.Places.{files_in, AreWithin};
+    ghost use Rattle.job_link.specs.Places.{files_in};
 
     ghost Value = { Fetched };
 
-    ghost view = { λ files. files_in files.bytes.items files.places.entries };
+    ghost view = { λ all. files_in all.names.keys all.files.items };
 
-    ghost invariant = { λ files. AreWithin files.bytes.items files.places.entries };
+    ghost invariant = { λ all. length all.files.items ≡ length all.names.keys };
 }
 
 impl<'j> Files<'j> {
@@ -63,8 +46,8 @@ impl<'j> Files<'j> {
         ensures { result ≡ [] }
     {
         Files {
-            bytes: roomy(alloc),
-            places: IndexMap::new(alloc),
+            names: IndexSet::new(alloc),
+            files: Vec::new(alloc),
         }
     }
 
@@ -74,13 +57,13 @@ impl<'j> Files<'j> {
         ensures added { OnOk result (self.new ≡ with_unseen self.old name.now bytes.now) }
         ensures kept { OnErr result (self.new ≡ self.old) }
     {
-        if self.places.contains_key(name) {
+        if self.names.contains(name) {
             return Ok(());
         }
-        let start = self.bytes.as_slice().len();
-        self.bytes.extend_from_slice(bytes)?;
-        let end = self.bytes.as_slice().len();
-        self.places.insert(name, Extent { start, end })?;
+        let file = Vec::from_slice(*self.names.allocator(), bytes)?;
+        self.files.reserve(1)?;
+        self.names.insert(name)?;
+        self.files.push(file).unwrap();
         Ok(())
     }
 
@@ -88,15 +71,19 @@ impl<'j> Files<'j> {
     pub fn file(&self, name: &str) -> &[u8]
         ensures { result.now ≡ bytes_in self.now name.now }
     {
-        match self.places.get(name) {
-            Some(place) => &self.bytes[place.start..place.end],
+        match self.names.get_index_of(name) {
+            Some(place) => self.files[place].as_slice(),
             None => &[],
         }
     }
 
     /// How many files of the mean size are worth a thread of their own, at least one.
     pub(crate) fn share(&self) -> usize {
-        let mean = self.bytes.as_slice().len() / self.places.len().max(1);
+        let mut total: usize = 0;
+        for file in self.files.as_slice() {
+            total = total.saturating_add(file.as_slice().len());
+        }
+        let mean = total / self.names.len().max(1);
         WORTH_A_THREAD.div_ceil(mean.max(1))
     }
 
@@ -104,52 +91,37 @@ impl<'j> Files<'j> {
     pub fn are_bytes(&self)
         ensures { (name : List ℕ) → All (λ (byte : ℕ). byte < 256) (bytes_in self.now name) }
     {
-        are_small(self.bytes.as_slice());
-    }
-
-    /// Fetches a file, unless it is there.
-    fn fetch<S: Store>(&mut self, store: &mut S, name: &'j str) -> Result<(), FetchFault>
-        ensures files { S.files store.new ≡ S.files store.old }
-        ensures cause { FetchCounts (S.faults store.old) (S.faults store.new) result }
-        ensures asked { Fetches (unseen (names_of self.old) (name.now ∷ [])) (S.asked store.old) (S.asked store.new)
-            result }
-        ensures grows { OnOk result (Grows (S.files store.old) (unseen (names_of self.old) (name.now ∷ []))
-            self.old self.new) }
-    {
-        if self.places.contains_key(name) {
-            return Ok(());
+        for file in self.files.as_slice() {
+            are_small(file.as_slice());
         }
-        let start = self.bytes.as_slice().len();
-        if let Err(fault) = store.fetch(name, &mut self.bytes) {
-            return Err(fault);
-        }
-        let end = self.bytes.as_slice().len();
-        if let Err(_failed) = self.places.insert(name, Extent { start, end }) {
-            return Err(FetchFault::OutOfMemory);
-        }
-        Ok(())
-    }
-
-    /// Fetches the objects of an image that are not there.
-    fn fetch_image<S: Store>(&mut self, store: &mut S, image: &'j Image) -> Result<(), FetchFault>
-        ensures files { S.files store.new ≡ S.files store.old }
-        ensures cause { FetchCounts (S.faults store.old) (S.faults store.new) result }
-        ensures asked { Fetches (unseen (names_of self.old) image.now.objects) (S.asked store.old) (S.asked store.new)
-            result }
-        ensures grows { OnOk result (Grows (S.files store.old) (unseen (names_of self.old) image.now.objects)
-            self.old self.new) }
-    {
-        for object in image.objects.as_slice() {
-            if let Err(fault) = self.fetch(store, object.as_str()) {
-                return Err(fault);
-            }
-        }
-        Ok(())
     }
 }
 
-/// Fetches each object of a job once, in the order of first mentions, all into one buffer.
-pub fn fetch_objects<'j, S: Store>(
+/// Adds the names of an image's objects that are not there.
+fn add_names<'j>(names: &mut IndexSet<&'j str>, image: &'j Image) -> Result<(), AllocError>
+    ensures { OnOk result (texts names.new.keys
+        ≡ texts names.old.keys ++ unseen (texts names.old.keys) image.now.objects) }
+{
+    for object in image.objects.as_slice() {
+        names.insert(object.as_str())?;
+    }
+    Ok(())
+}
+
+/// The names of the objects of a job, each once, in the order of first mentions.
+fn names_once<'j>(alloc: Global, job: &'j Job) -> Result<IndexSet<&'j str>, AllocError>
+    ensures { IfOk result (λ names. texts names.keys ≡ object_names job.now) }
+{
+    let mut names = IndexSet::new(alloc);
+    for number in job.mentions() {
+        add_names(&mut names, job.image(*number))?;
+    }
+    Ok(names)
+}
+
+/// Fetches each object of a job once, in the order of first mentions. Threads share the reading.
+pub fn fetch_objects<'j, R: Threads + Sync, S: Store>(
+    rt: &R,
     alloc: Global,
     store: &mut S,
     job: &'j Job,
@@ -159,11 +131,11 @@ pub fn fetch_objects<'j, S: Store>(
     ensures asked { Fetches (object_names job.now) (S.asked store.old) (S.asked store.new) result }
     ensures bytes { IfSome (S.files store.old) (λ fs. IfOk result (AreFilesOf fs (object_names job.now))) }
 {
-    let mut files = Files::empty(alloc);
-    for number in job.mentions() {
-        if let Err(fault) = files.fetch_image(store, job.image(*number)) {
-            return Err(fault);
-        }
+    let Ok(names) = names_once(alloc, job) else {
+        return Err(FetchFault::OutOfMemory);
+    };
+    match fetch_each(rt, alloc, store, names.as_slice()) {
+        Ok(files) => Ok(Files { names, files }),
+        Err(fault) => Err(fault),
     }
-    Ok(files)
 }

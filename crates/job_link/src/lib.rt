@@ -3,7 +3,7 @@
 //! A job names its images, and each image the object files that it is made of. Between that text and images that run
 //! there are three steps, and for whoever asks what a job means a fourth. This crate is their order:
 //!
-//! 1. [`fetch_objects`] asks a store for each object file, and keeps the bytes of all of them in one buffer.
+//! 1. [`fetch_objects`] asks a store for each object file, and keeps the bytes of all of them. Threads share the reading.
 //! 2. [`read_objects`] reads the objects of each image, and finds the sequences of code that reach thread-local
 //!    storage. Threads share them, and what each says is taken in order.
 //! 3. [`link_images`] links each image beside the names that the startup images export: the program, and the modules

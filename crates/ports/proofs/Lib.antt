@@ -1,2 +1,4 @@
+pub mod Counting
 pub mod Lookups
 pub mod StreamLemmas
+pub mod Yielded

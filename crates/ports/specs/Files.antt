@@ -1,9 +1,11 @@
 -- What a store holds and was asked for, and what a call makes of it.
-use Rattle.std.specs.Prelude.{ℕ, List, [], ◌∷◌, ◌++◌, Option, None}
+use Rattle.std.specs.Prelude.{◌≡◌, ℕ, List, [], ◌∷◌, ◌++◌, Option, None, Some, IfSome, Result, Ok, Err, IfOk, take, Vec}
+use Rattle.std.specs.Borrow.{Bor}
 use Rattle.std.specs.Option.{option_map}
 use Rattle.std.specs.Ordering.{nat_cmp}
 use Rattle.std.specs.Cmp.Lexicographic.{slice_cmp}
 use Rattle.std.specs.FinMap as map
+use Rattle.ports.specs.declared.faults.FetchFault.{FetchFault}
 
 -- files by name: names and contents are bytes
 abbrev pub Files : Type 0
@@ -17,6 +19,14 @@ untold_files = None
 abbrev pub file_at : Files → List ℕ → Option (List ℕ)
 file_at files name = map.get files name
 
+-- the content of the file of that name, where a store tells its files
+abbrev pub IsFile : Option Files → List ℕ → List ℕ → Type 0
+IsFile told name bytes = IfSome told (λ files. file_at files name ≡ Some bytes)
+
+-- a name, and what came of reading the file of that name
+abbrev pub IsReading : {A : Type 0} → Option Files → Bor (List ℕ) → Bor (List ℕ) × Result (Vec ℕ A) FetchFault → Type 0
+IsReading told name came = (came.0.now ≡ name.now) × IfOk came.1 (λ file. IsFile told name.now file.items)
+
 -- the files with these bytes under that name, and each other file as it was
 abbrev pub with_file : List ℕ → List ℕ → Option Files → Option Files
 with_file name bytes = option_map (λ files. map.insert files name bytes)
@@ -28,3 +38,13 @@ untold_names = None
 -- the names asked for, and one more
 abbrev pub with_name : List ℕ → Option (List (List ℕ)) → Option (List (List ℕ))
 with_name name = option_map (λ names. names ++ name ∷ [])
+
+-- the names asked for, and these
+abbrev pub with_names : List (List ℕ) → Option (List (List ℕ)) → Option (List (List ℕ))
+with_names names = option_map (λ before. before ++ names)
+
+-- all of these names where they were fetched, else a front of them
+abbrev pub Fetches : {T : Type 0} → List (List ℕ) → Option (List (List ℕ)) → Option (List (List ℕ))
+    → Result T FetchFault → Type 0
+Fetches names old new (Ok x) = new ≡ with_names names old
+Fetches names old new (Err fault) = (k : ℕ) × (new ≡ with_names (take k names) old)

@@ -6,7 +6,7 @@
 //! any sink that keep their clauses will do:
 //!
 //! - A [`Store`] has files by name. `fetch` appends a file's bytes to a buffer; `put` makes some bytes a
-//!   file's whole content.
+//!   file's whole content. [`fetch_each`] fetches several files, which threads read side by side.
 //! - A [`Sink`] takes bytes in pieces. `put` appends a piece, and after a refusal a front of it may stand.
 //!
 //! **What a clause can say of the outside.** A store may tell its files, as a finite map from names to
@@ -39,12 +39,14 @@
 #![tactic(auto)]
 
 mod faults;
+mod fetching;
 mod host;
 mod memory;
 mod sinks;
 mod stores;
 
 pub use faults::{FetchFault, PutFault};
+pub use fetching::fetch_each;
 pub use host::{HostSink, HostStore, LARGEST_FILE, ProgressStore};
 pub use memory::{MemorySink, MemoryStore};
 pub use sinks::Sink;

@@ -1,16 +1,17 @@
 //! Files by name.
 ghost use Rattle.std.specs.Prelude.{◌≡◌, ℕ, List, ◌++◌, length, take};
-ghost use Rattle.std.specs.Prelude.{Option, IsErr, OnOk, OnErr, IfSome, MatchOption};
+ghost use Rattle.std.specs.Prelude.{Option, IsErr, OnOk, OnErr, IfOk, IfSome, MatchOption};
 ghost use Rattle.ports.specs.Counts.{FetchCounts, PutCounts};
-ghost use Rattle.ports.specs.Files.{Files, file_at, with_file, with_name};
+ghost use Rattle.ports.specs.Files.{Files, file_at, with_file, with_name, IsFile};
 
 use crate::{FetchFault, PutFault};
+use std::alloc::Global;
 
 /// Files by name: where jobs and objects come from, and where an image goes.
 ///
 /// A store that tells its files (`files` is `Some`) has exactly those: a name that is not among them cannot
 /// be fetched, a fetch changes none, and a put changes the file of that name alone.
-pub trait Store {
+pub trait Store: Sync {
     // The files by name, where the store tells them.
     ghost files: { Self → Option Files };
 
@@ -29,6 +30,23 @@ pub trait Store {
             (IsErr result) (λ b. OnOk result (into.new.items ≡ into.old.items ++ b))) }
         ensures appends { take (length into.old.items) into.new.items ≡ into.old.items }
         ensures kept { OnErr result (into.new.items ≡ into.old.items) }
+        ensures cause { FetchCounts (faults self.old) (faults self.new) result }
+        ensures asked { asked self.new ≡ with_name name.now (asked self.old) };
+
+    /// The bytes of the file of that name, or why there are none. It is no fetch yet, and so threads may share it:
+    /// [`count`](Self::count) makes it one.
+    fn read(&self, alloc: Global, name: &str) -> Result<Vec<u8>, FetchFault>
+        ensures file { IfOk result (λ file. IsFile (files self.now) name.now file.items) };
+
+    /// Fetches the file of that name, of which this was read.
+    fn count(
+        &mut self,
+        name: &str,
+        read: Result<Vec<u8>, FetchFault>,
+    ) -> Result<Vec<u8>, FetchFault>
+        requires file { IfOk read (λ file. IsFile (files self.old) name.now file.items) }
+        ensures files { files self.new ≡ files self.old }
+        ensures bytes { IfOk result (λ file. IsFile (files self.old) name.now file.items) }
         ensures cause { FetchCounts (faults self.old) (faults self.new) result }
         ensures asked { asked self.new ≡ with_name name.now (asked self.old) };
 

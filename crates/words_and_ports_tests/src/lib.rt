@@ -12,6 +12,8 @@ mod disk;
 #[cfg(test)]
 mod files;
 #[cfg(test)]
+mod many_files;
+#[cfg(test)]
 mod progress;
 #[cfg(test)]
 mod words;

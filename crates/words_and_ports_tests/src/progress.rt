@@ -2,48 +2,52 @@
 use crate::files::fetched;
 use ports::{MemoryStore, ProgressStore, Store};
 use std::alloc::Global;
-use std::cell::{Cell, RefCell};
 use std::fmt::Display;
 use std::io;
 use std::io::{Error, ErrorKind};
 use std::rt::Clock;
+use std::sync::Mutex;
+use std::sync::atomic::{AtomicU64, Ordering};
 use std::test::Fail;
 use std::time::Duration;
+
+/// The seconds of a clock that fails.
+const NO_TIME: u64 = u64::MAX;
 
 /// A clock, which fails where it has no time, and a standard error, which keeps each line and then fails.
 #[derive(Drop)]
 struct Terminal {
     alloc: Global,
-    seconds: Cell<Option<u64>>,
-    readings: Cell<u32>,
-    lines: RefCell<String>,
+    seconds: AtomicU64,
+    readings: AtomicU64,
+    lines: Mutex<String>,
 }
 
 impl Terminal {
     fn new(alloc: Global) -> Self {
         Terminal {
             alloc,
-            seconds: Cell::new(Some(10)),
-            readings: Cell::new(0),
-            lines: RefCell::new(String::new(alloc)),
+            seconds: AtomicU64::new(10),
+            readings: AtomicU64::new(0),
+            lines: Mutex::new(String::new(alloc)),
         }
     }
 
     /// Whether these lines were written, and no others.
     fn has_shown(&self, lines: &str) -> bool {
-        match self.lines.try_borrow() {
-            Ok(shown) => shown.as_str() == lines,
-            Err(_) => false,
+        match self.lines.try_lock() {
+            Some(shown) => shown.as_str() == lines,
+            None => false,
         }
     }
 }
 
 impl Clock for Terminal {
     fn monotonic(&self) -> io::Result<Duration> {
-        self.readings.set(self.readings.get().saturating_add(1));
-        match self.seconds.get() {
-            Some(seconds) => Ok(Duration::from_secs(seconds)),
-            None => Err(Error::from(ErrorKind::Other)),
+        self.readings.fetch_add(1, Ordering::SeqCst);
+        match self.seconds.load(Ordering::SeqCst) {
+            NO_TIME => Err(Error::from(ErrorKind::Other)),
+            seconds => Ok(Duration::from_secs(seconds)),
         }
     }
 
@@ -55,7 +59,7 @@ impl Clock for Terminal {
 impl Eprint for Terminal {
     fn eprint<D: Display + Drop>(&self, value: D) -> io::Result<()> {
         let text = value.to_string(self.alloc)?;
-        if let Ok(mut lines) = self.lines.try_borrow_mut() {
+        if let Some(mut lines) = self.lines.try_lock() {
             lines.push_str(text.as_str())?;
         }
         Err(Error::from(ErrorKind::Other))
@@ -67,14 +71,14 @@ impl Eprint for Terminal {
 }
 
 /// Fetches a file at each of five times and puts one at two, and says whether all was done.
-fn works<S: Store>(store: &mut S, alloc: Global, seconds: &Cell<Option<u64>>) -> bool {
+fn works<S: Store>(store: &mut S, alloc: Global, seconds: &AtomicU64) -> bool {
     let mut is_done = true;
-    for now in [Some(10), Some(11), Some(11), None, Some(13)] {
-        seconds.set(now);
+    for now in [10, 11, 11, NO_TIME, 13] {
+        seconds.store(now, Ordering::SeqCst);
         is_done &= fetched(alloc, store, "a").is_ok();
     }
-    for now in [Some(13), Some(14)] {
-        seconds.set(now);
+    for now in [13, 14] {
+        seconds.store(now, Ordering::SeqCst);
         is_done &= store.put("b", b"").is_ok();
     }
     is_done
@@ -89,7 +93,7 @@ fn progress_is_a_line_a_second_and_only_where_it_is_shown(rt: HostRuntime) -> Re
         files.add("a", b"two")?;
         let mut store = ProgressStore::new(files, &terminal, is_shown);
         assert!(rt; works(&mut store, rt.alloc(), &terminal.seconds));
-        assert!(rt; terminal.readings.get() == readings);
+        assert!(rt; terminal.readings.load(Ordering::SeqCst) == readings);
         assert!(rt; terminal.has_shown(lines));
     }
     Ok(())

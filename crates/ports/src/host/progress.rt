@@ -2,21 +2,24 @@
 ghost use Rattle.std.specs.Prelude.{◌≡◌};
 
 use crate::{FetchFault, PutFault, Store};
+use std::alloc::Global;
 use std::marker::Model;
 use std::rt::Clock;
+use std::sync::Mutex;
+use std::sync::atomic::{AtomicU64, Ordering};
 use std::time::Instant;
 
 /// The seconds between two lines, and before the first.
 const INTERVAL: u64 = 1;
 
-/// Lines on standard error that say how far a command is: none in its first second, and then at most one a
-/// second. Where none are wanted no clock is asked. A clock or a standard error that fails costs lines and
-/// nothing else.
+/// Lines on standard error that say how far a command is: none in its first second, and then at most one a second,
+/// whichever threads are at work. Where none are wanted no clock is asked. A clock or a standard error that fails costs
+/// lines and nothing else.
 #[derive(Drop)]
 struct Progress<'a, R: Clock + Eprint> {
     rt: &'a R,
-    since: Option<Instant>,
-    fetched: u64,
+    since: Option<Mutex<Instant>>,
+    fetched: AtomicU64,
 }
 
 impl<'a, R: Clock + Eprint> Progress<'a, R> {
@@ -28,61 +31,58 @@ impl<'a, R: Clock + Eprint> Progress<'a, R> {
         };
         Progress {
             rt,
-            since,
-            fetched: 0,
+            since: since.map(Mutex::new),
+            fetched: AtomicU64::new(0),
         }
     }
 
     /// One file more was fetched.
-    fn count_file(&mut self) {
-        self.fetched = self.fetched.saturating_add(1);
+    fn count_file(&self) {
+        let before = self.fetched.fetch_add(1, Ordering::SeqCst);
         if self.is_due() {
-            let fetched = self.fetched;
+            let fetched = before.saturating_add(1);
             let _ = eprintln!(self.rt; "tlsld: {fetched} files fetched");
         }
     }
 
     /// The output is about to be written.
-    fn begin_output(&mut self) {
+    fn begin_output(&self) {
         if self.is_due() {
             let _ = eprintln!(self.rt; "tlsld: writing out");
         }
     }
 
-    /// Whether it is time for a line. The next one is due a second later.
-    fn is_due(&mut self) -> bool {
-        let (Some(since), Some(now)) = (self.since, self.now()) else {
+    /// Whether it is time for a line. The next one is due a second later. A thread that finds another here says none.
+    fn is_due(&self) -> bool {
+        let Some(since) = &self.since else {
             return false;
         };
-        let is_due = now.duration_since(since).as_secs() >= INTERVAL;
+        let (Ok(now), Some(mut since)) = (Instant::now(self.rt), since.try_lock()) else {
+            return false;
+        };
+        let is_due = now.duration_since(*since).as_secs() >= INTERVAL;
         if is_due {
-            self.since = Some(now);
+            *since = now;
         }
         is_due
     }
-
-    /// The time, where lines are wanted and the clock tells it.
-    fn now(&self) -> Option<Instant> {
-        self.since?;
-        Instant::now(self.rt).ok()
-    }
 }
 
-/// A store that says on standard error how far it is, where that takes long: how many files it has fetched, and
+/// A store that says on standard error how far it is, where that takes long: how many files it has fetched or read, and
 /// that a file is about to be written. A contract sees it as the store within.
 #[derive(Drop)]
-pub struct ProgressStore<'a, S: Store + Drop, R: Clock + Eprint> {
+pub struct ProgressStore<'a, S: Store + Drop, R: Clock + Eprint + Sync> {
     store: S,
     progress: Progress<'a, R>,
 }
 
-impl<'a, S: Store + Drop, R: Clock + Eprint> Model for ProgressStore<'a, S, R> {
+impl<'a, S: Store + Drop, R: Clock + Eprint + Sync> Model for ProgressStore<'a, S, R> {
     ghost Value = { S };
 
     ghost view = { λ a. a.store };
 }
 
-impl<'a, S: Store + Drop, R: Clock + Eprint> ProgressStore<'a, S, R> {
+impl<'a, S: Store + Drop, R: Clock + Eprint + Sync> ProgressStore<'a, S, R> {
     /// The store, whose progress is shown on `rt`'s standard error where the caller says so, as it does if that is a
     /// terminal: no bound on a runtime tells.
     pub fn new(store: S, rt: &'a R, is_shown: bool) -> Self
@@ -95,7 +95,7 @@ impl<'a, S: Store + Drop, R: Clock + Eprint> ProgressStore<'a, S, R> {
     }
 }
 
-impl<'a, S: Store + Drop, R: Clock + Eprint> Store for ProgressStore<'a, S, R> {
+impl<'a, S: Store + Drop, R: Clock + Eprint + Sync> Store for ProgressStore<'a, S, R> {
     ghost files = { S.files };
 
     ghost faults = { S.faults };
@@ -106,6 +106,20 @@ impl<'a, S: Store + Drop, R: Clock + Eprint> Store for ProgressStore<'a, S, R> {
         self.store.fetch(name, into)?;
         self.progress.count_file();
         Ok(())
+    }
+
+    fn read(&self, alloc: Global, name: &str) -> Result<Vec<u8>, FetchFault> {
+        let file = self.store.read(alloc, name)?;
+        self.progress.count_file();
+        Ok(file)
+    }
+
+    fn count(
+        &mut self,
+        name: &str,
+        read: Result<Vec<u8>, FetchFault>,
+    ) -> Result<Vec<u8>, FetchFault> {
+        self.store.count(name, read)
     }
 
     fn put(&mut self, name: &str, bytes: &[u8]) -> Result<(), PutFault> {

@@ -1,8 +1,8 @@
 //! The host's file system as a store.
 ghost use Rattle.std.specs.Prelude.{◌≡◌, ◌+◌, ◌++◌, ◌≤◌, length, take};
-ghost use Rattle.std.specs.Prelude.{IsErr, OnOk, OnErr, IfSome, MatchOption};
+ghost use Rattle.std.specs.Prelude.{IsErr, OnOk, OnErr, IfOk, IfSome, MatchOption};
 ghost use Rattle.ports.specs.Counts.{FetchCounts, PutCounts};
-ghost use Rattle.ports.specs.Files.{file_at, with_file, with_name};
+ghost use Rattle.ports.specs.Files.{file_at, with_file, with_name, IsFile};
 
 use super::streams::{read_all, write_all};
 use crate::{FetchFault, PutFault, Store};
@@ -34,13 +34,13 @@ const NAMES: u32 = 100;
 /// where something stands there that is no plain file, such as a device, a pipe or a link, are the bytes
 /// written to it in place; a refused put may then leave a part.
 #[derive(Drop)]
-pub struct HostStore<'a, R: Files> {
+pub struct HostStore<'a, R: Files + Sync> {
     rt: &'a R,
     alloc: Global,
     faults: u64,
 }
 
-impl<'a, R: Files> Model for HostStore<'a, R> {
+impl<'a, R: Files + Sync> Model for HostStore<'a, R> {
     ghost use Rattle.std.specs.Prelude.{ℕ};
 
     ghost Value = { ℕ };
@@ -48,7 +48,7 @@ impl<'a, R: Files> Model for HostStore<'a, R> {
     ghost view = { λ a. a.faults };
 }
 
-impl<'a, R: Files> HostStore<'a, R> {
+impl<'a, R: Files + Sync> HostStore<'a, R> {
     /// The files that `rt` reaches. `alloc` serves the names of new files.
     pub fn new(rt: &'a R, alloc: Global) -> Self
         ensures { result ≡ 0 }
@@ -68,7 +68,7 @@ impl<'a, R: Files> HostStore<'a, R> {
     }
 }
 
-impl<'a, R: Files> Store for HostStore<'a, R> {
+impl<'a, R: Files + Sync> Store for HostStore<'a, R> {
     ghost use Rattle.ports.specs.Files.{untold_files, untold_names};
 
     ghost files = { λ _. untold_files };
@@ -95,6 +95,34 @@ impl<'a, R: Files> Store for HostStore<'a, R> {
             }
             answer => answer,
         }
+    }
+
+    fn read(&self, alloc: Global, name: &str) -> Result<Vec<u8>, FetchFault>
+        ensures file { IfOk result (λ file. IsFile untold_files name.now file.items) }
+
+        ensures fits { IfOk result (λ file. length file.items ≤ LARGEST_FILE) }
+    {
+        let mut file = Vec::new(alloc);
+        read_file(self.rt, name, &mut file)?;
+        Ok(file)
+    }
+
+    fn count(
+        &mut self,
+        _name: &str,
+        read: Result<Vec<u8>, FetchFault>,
+    ) -> Result<Vec<u8>, FetchFault>
+        ensures files { untold_files ≡ untold_files }
+        ensures bytes { IfOk result (λ file. IsFile untold_files _name.now file.items) }
+        ensures cause { FetchCounts self.old self.new result }
+        ensures asked { untold_names ≡ with_name _name.now untold_names }
+
+        ensures same { result ≡ read }
+    {
+        if let Err(FetchFault::Failed) = read {
+            self.faults = self.faults.saturating_add(1);
+        }
+        read
     }
 
     fn put(&mut self, name: &str, bytes: &[u8]) -> Result<(), PutFault>

@@ -1,10 +1,10 @@
 //! Files in memory.
 ghost use Rattle.std.specs.Prelude.{◌≡◌, ◌-◌, ◌⊎◌, ◌↔◌, ◌++◌, length, take};
-ghost use Rattle.std.specs.Prelude.{None, IsErr, OnOk, OnErr, IsErrOf, IfSome, MatchOption};
+ghost use Rattle.std.specs.Prelude.{None, IsErr, OnOk, OnErr, IsErrOf, IfOk, IfSome, MatchOption};
 ghost use Rattle.std.specs.Option.{option_copied};
 ghost use Rattle.std.specs.FinMap as map;
 ghost use Rattle.ports.specs.Counts.{FetchCounts, PutCounts, faults_after_fetch, faults_after_put};
-ghost use Rattle.ports.specs.Files.{file_at, with_file, with_name};
+ghost use Rattle.ports.specs.Files.{file_at, with_file, with_name, IsFile};
 
 use super::plan::FaultPlan;
 use crate::{FetchFault, PutFault, Store};
@@ -118,6 +118,43 @@ impl Store for MemoryStore {
         match self.get(name) {
             Some(bytes) => Ok(into.extend_from_slice(bytes)?),
             None => {
+                self.plan.counts_fault();
+                Err(FetchFault::Failed)
+            }
+        }
+    }
+
+    fn read(&self, alloc: Global, name: &str) -> Result<Vec<u8>, FetchFault>
+        ensures file { IfOk result (λ file. IsFile (Some self.now.files) name.now file.items) }
+
+        ensures fails { IsErrOf result FetchFault.Failed ↔ (file_at self.now.files name.now ≡ None) }
+    {
+        match self.get(name) {
+            Some(bytes) => Ok(Vec::from_slice(alloc, bytes)?),
+            None => Err(FetchFault::Failed),
+        }
+    }
+
+    fn count(
+        &mut self,
+        name: &str,
+        read: Result<Vec<u8>, FetchFault>,
+    ) -> Result<Vec<u8>, FetchFault>
+        requires file { IfOk read (λ file. IsFile (Some self.old.files) name.now file.items) }
+        ensures files { Some self.new.files ≡ Some self.old.files }
+        ensures bytes { IfOk result (λ file. IsFile (Some self.old.files) name.now file.items) }
+        ensures cause { FetchCounts self.old.faults self.new.faults result }
+        ensures asked { untold_names ≡ with_name name.now untold_names }
+
+        ensures fails { IsErrOf result FetchFault.Failed ↔ ((self.old.fails_in ≡ 1)
+            ⊎ IsErrOf read FetchFault.Failed) }
+        ensures count { self.new.faults ≡ faults_after_fetch self.old.faults result }
+        ensures call { self.new.fails_in ≡ self.old.fails_in - 1 }
+    {
+        let fails_now = self.plan.counts_call();
+        match read {
+            Ok(_) | Err(FetchFault::OutOfMemory) if !fails_now => read,
+            _ => {
                 self.plan.counts_fault();
                 Err(FetchFault::Failed)
             }

@@ -7,7 +7,7 @@ use Rattle.job_link.specs.Given.{IsSound}
 use Rattle.job_link.specs.Mentions.{bytes_in}
 use Rattle.job_link.specs.Reads.{IsReading}
 use Rattle.job_link.proofs.Filled.{refused_at}
-use Rattle.job_link.proofs.Read.{as_many, given_count, next_of}
+use Rattle.ports.proofs.Yielded.{as_many, given_count, next_of}
 use Rattle.job_link.proofs.reading.read_image.Goals as goal
 
 pub push-requires-clause-sound : goal.push-requires-clause-sound

@@ -1,36 +1,34 @@
-use Rattle.std.proofs.Common.{◌∙◌, ◌++◌, ◌∷◌, [], true, false, ap, length, sym}
-use Rattle.job_link.proofs.Buffer.{OnErr-always, added, among, kept_unseen, new_unseen, not_added}
+use Rattle.std.proofs.Common.{◌≡◌, ◌∙◌, ◌++◌, ◌∷◌, [], ap, rules, sym}
+use Rattle.std.specs.Prelude.{if◌then◌else◌}
+use Rattle.job_link.specs.Places.{files_in}
+use Rattle.job_link.specs.Walks.{is_among, names_of}
+use Rattle.job_link.proofs.Held.{kept_unseen, names_are, new_unseen, one_behind}
+use Rattle.job_link.proofs.Unseen.{among}
 use Rattle.job_link.proofs.fetching.Files.add.Goals as goal
 
-pub returns-then-contains_key-clause-added : goal.returns-then-contains_key-clause-added
-returns-then-contains_key-clause-added c =
-    kept_unseen c.args.self.now c.args.name.now c.args.bytes.now
-    (among c.self.inside.bytes.items c.args.name.now c.self.inside.places.entries c.args.self.now c.contains_key.result
-    true c.self.view_is c.contains_key.ensures c.if-contains_key.true)
-
-pub invariant_of-self-2 : goal.invariant_of-self-2
-invariant_of-self-2 c = (added c.self.inside.bytes.items c.extend_from_slice.new.self.items c.args.bytes.now
-    c.insert.new.self.entries c.self.inside.places.entries c.args.name (length c.as_slice-start.result.now)
-    (length c.as_slice-end.result.now) (ap length c.as_slice-start.ensures.value) (ap length c.as_slice-end.ensures.value)
-    c.self.invariant c.in_ok-extend_from_slice.ensures.items c.in_ok-insert.ensures.entries
-    (sym c.contains_key.ensures ∙ c.if-contains_key.false)).1
+pub returns-then-contains-clause-added : goal.returns-then-contains-clause-added
+returns-then-contains-clause-added c =
+    let keys = c.self.inside.names.keys in
+    let name = c.args.name.now in
+    let names = names_are keys c.self.inside.files.items c.self.invariant in
+    kept_unseen c.args.self.now name c.args.bytes.now
+    (ap (λ files. is_among (names_of files) name) (sym c.self.view_is) ∙ ap (λ ns. is_among ns name) names
+    ∙ sym (among keys name) ∙ sym c.contains.ensures ∙ c.if-contains.true)
 
 pub returns-clause-added : goal.returns-clause-added
 returns-clause-added c =
-    let more = added c.self.inside.bytes.items c.extend_from_slice.new.self.items c.args.bytes.now
-    c.insert.new.self.entries c.self.inside.places.entries c.args.name (length c.as_slice-start.result.now)
-    (length c.as_slice-end.result.now) (ap length c.as_slice-start.ensures.value) (ap length c.as_slice-end.ensures.value)
-    c.self.invariant c.in_ok-extend_from_slice.ensures.items c.in_ok-insert.ensures.entries
-    (sym c.contains_key.ensures ∙ c.if-contains_key.false) in
-    more.0
-    ∙ ap (λ files. files ++ (c.args.name.now, c.args.bytes.now) ∷ []) c.self.view_is
-    ∙ sym (new_unseen c.args.self.now c.args.name.now c.args.bytes.now
-    (among c.self.inside.bytes.items c.args.name.now c.self.inside.places.entries c.args.self.now c.contains_key.result
-    false c.self.view_is c.contains_key.ensures c.if-contains_key.false))
-
-pub returns-in_err-insert-clause-kept : goal.returns-in_err-insert-clause-kept
-returns-in_err-insert-clause-kept c =
-    OnErr-always _
-    (not_added c.self.inside.bytes.items c.extend_from_slice.new.self.items c.args.bytes.now c.insert.new.self.entries
-    c.self.inside.places.entries c.self.invariant c.in_ok-extend_from_slice.ensures.items c.in_err-insert.ensures.err
-    ∙ c.self.view_is)
+    let keys = c.self.inside.names.keys in
+    let files = c.self.inside.files.items in
+    let name = c.args.name in
+    let names = names_are keys files c.self.invariant in
+    let new = sym c.contains.ensures ∙ c.if-contains.false in
+    let last = c.in_ok-insert.ensures.keys ∙ ap (λ b. if b then keys else keys ++ name ∷ []) new in
+    let more : c.push.new.self.items ≡ files ++ c.in_ok-file.file ∷ [] = search rules in
+    ap (λ ks. files_in ks c.push.new.self.items) last
+    ∙ ap (files_in (keys ++ name ∷ [])) more
+    ∙ one_behind keys files name c.in_ok-file.file c.self.invariant
+    ∙ ap (λ b. files_in keys files ++ (name.now, b) ∷ []) c.in_ok-file.ensures.items
+    ∙ ap (λ all. all ++ (name.now, c.args.bytes.now) ∷ []) c.self.view_is
+    ∙ new_unseen c.args.self.now name.now c.args.bytes.now
+    (ap (λ fs. is_among (names_of fs) name.now) (sym c.self.view_is) ∙ ap (λ ns. is_among ns name.now) names
+    ∙ sym (among keys name.now) ∙ new)

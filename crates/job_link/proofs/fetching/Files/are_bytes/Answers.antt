@@ -1,9 +1,13 @@
-use Rattle.std.proofs.Common.{subst}
+use Rattle.std.proofs.Common.{◌∙◌, subst, take_all, Vec, Global, ℕ}
+use Rattle.std.specs.List.{All}
 use Rattle.job_link.specs.Mentions.{bytes_in}
-use Rattle.job_link.proofs.Buffer.{Small, small_files}
+use Rattle.job_link.proofs.Held.{Small, small_files}
 use Rattle.job_link.proofs.fetching.Files.are_bytes.Goals as goal
 
 pub returns : goal.returns
 returns c =
-    λ name. subst (λ files. Small (bytes_in files name)) c.self.view_is
-    (small_files c.self.inside.bytes.items name c.self.inside.places.entries (subst Small c.as_slice.ensures.value c.are_small.ensures))
+    let files = c.as_slice-file-items.result.now in
+    let all = take_all c.loop-file.file-index files c.loop-file-test.false ∙ c.as_slice-file-items.ensures.value in
+    λ name. subst (λ held. Small (bytes_in held name)) c.self.view_is
+    (small_files name c.self.inside.names.keys c.self.inside.files.items
+    (subst (λ fs. All (λ (file : Vec ℕ Global). Small file.items) fs) all c.loop-file.invariant))

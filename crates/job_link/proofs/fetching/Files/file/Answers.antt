@@ -1,35 +1,28 @@
-use Rattle.std.proofs.Common.{◌∙◌, sym, ap, length, List, ℕ, arith}
-use Rattle.std.specs.Prelude.{slice_range}
+use Rattle.std.proofs.Common.{◌∙◌, ◌≤◌, ap, arith, length, subst, sym}
+use Rattle.std.specs.List.{position_or_len}
 use Rattle.job_link.specs.Mentions.{bytes_in}
-use Rattle.job_link.proofs.Buffer.{file_found, found_within, part_of}
+use Rattle.job_link.proofs.Held.{content_at, content_of, found, is_name, no_content, no_place, place_is}
 use Rattle.job_link.proofs.fetching.Files.file.Goals as goal
-
-pub slice_bounds-result-count : goal.slice_bounds-result-count
-slice_bounds-result-count c =
-    (found_within c.self.inside.bytes.items c.args.name.now c.self.inside.places.entries c.in-Some.place.now
-    c.self.invariant (sym c.in-Some.ensures.value)).0
-
-pub slice_bounds-result-start : goal.slice_bounds-result-start
-slice_bounds-result-start c =
-    (found_within c.self.inside.bytes.items c.args.name.now c.self.inside.places.entries c.in-Some.place.now
-    c.self.invariant (sym c.in-Some.ensures.value)).0
-
-pub slice_bounds-result-end : goal.slice_bounds-result-end
-slice_bounds-result-end c =
-    let h =
-    found_within c.self.inside.bytes.items c.args.name.now c.self.inside.places.entries c.in-Some.place.now
-    c.self.invariant (sym c.in-Some.ensures.value) in
-    omega (arith, h.0, h.1, ap length c.deref.ensures.value)
 
 pub returns-in-Some : goal.returns-in-Some
 returns-in-Some c =
-    ap (λ (bytes : List ℕ). slice_range bytes c.in-Some.place.now.start c.in-Some.place.now.end) c.deref.ensures.value
-    ∙ ap (part_of c.self.inside.bytes.items) c.in-Some.ensures.value
-    ∙ sym (file_found c.self.inside.bytes.items c.args.name.now c.self.inside.places.entries)
-    ∙ ap (λ files. bytes_in files c.args.name.now) c.self.view_is
+    let names = c.self.inside.names.keys in
+    let files = c.self.inside.files.items in
+    let name = c.args.name.now in
+    let at = place_is (position_or_len (is_name name) names) (length names) c.in-Some.place c.in-Some.ensures.index in
+    c.as_slice.ensures.value
+    ∙ content_at files c.in-Some.place c.index.result.now (omega (arith, at.0, at.1, c.self.invariant)) c.index.ensures
+    ∙ ap (content_of files) at.0
+    ∙ sym (found name names files c.self.invariant)
+    ∙ ap (λ all. bytes_in all name) c.self.view_is
 
 pub returns-in-None : goal.returns-in-None
 returns-in-None c =
-    sym (ap (part_of c.self.inside.bytes.items) (sym c.in-None.ensures.value))
-    ∙ sym (file_found c.self.inside.bytes.items c.args.name.now c.self.inside.places.entries)
-    ∙ ap (λ files. bytes_in files c.args.name.now) c.self.view_is
+    let names = c.self.inside.names.keys in
+    let files = c.self.inside.files.items in
+    let name = c.args.name.now in
+    let place = position_or_len (is_name name) names in
+    let past = no_place place (length names) c.in-None.ensures.index in
+    sym (no_content files place (subst (λ n. n ≤ place) (sym c.self.invariant) past))
+    ∙ sym (found name names files c.self.invariant)
+    ∙ ap (λ all. bytes_in all name) c.self.view_is

@@ -1,4 +1,4 @@
--- Objects that were read side by side, taken one after another.
+-- A list that goes together with another, taken item by item.
 use Rattle.std.proofs.Common.{◌≡◌, ◌∙◌, ◌+◌, ◌<◌, List, [], ◌∷◌, ◌++◌, arith, ap, get_or, length, refl, subst, suc, take}
 use Rattle.std.proofs.lemmas.List.{take_all}
 use Rattle.std.specs.Iterator.{Yields}
@@ -36,7 +36,7 @@ next_of R xs s t u before y d all gave next =
     (subst (AllZip R xs) (given_first before s t gave ∙ ap (λ l. before ++ l) next) all)
 
 -- a list up to as many as there are of another that goes together with it
-same_length : {X Y : Type 0} (R : X → Y → Type 0) (xs : List X) (ys : List Y) → AllZip R xs ys → length ys ≡ length xs
+pub same_length : {X Y : Type 0} (R : X → Y → Type 0) (xs : List X) (ys : List Y) → AllZip R xs ys → length ys ≡ length xs
 same_length R [] [] h = refl
 same_length R [] (y ∷ ys) h = absurd h
 same_length R (x ∷ xs) [] h = absurd h

@@ -1,0 +1,148 @@
+//! Files that are fetched side by side: their order, and the first that is refused.
+use crate::disk::{Fault, FaultyDisk};
+use ports::{FetchFault, HostStore, MemoryStore, Store, fetch_each};
+use std::alloc::{AllocError, Global};
+use std::rt::Files;
+use std::test::Fail;
+use std::thread::Threads;
+use std::{env, fs, io, process};
+
+/// A store of files `a` to `f`, each of its own name, twice.
+fn letters(alloc: Global) -> Result<MemoryStore, AllocError> {
+    let mut store = MemoryStore::new(alloc);
+    for name in ["a", "b", "c", "d", "e", "f"] {
+        store.add(name, format!(in alloc; "{name}{name}")?.as_bytes())?;
+    }
+    Ok(store)
+}
+
+/// The files of these names, one behind another.
+fn joined<S: Store, R: Threads + Sync>(
+    rt: &R,
+    alloc: Global,
+    store: &mut S,
+    names: &[&str],
+) -> Result<Vec<u8>, FetchFault> {
+    let mut all = Vec::new(alloc);
+    for file in fetch_each(rt, alloc, store, names)?.as_slice() {
+        all.extend_from_slice(file.as_slice())?;
+    }
+    Ok(all)
+}
+
+#[test]
+fn files_come_in_the_order_of_their_names(rt: HostRuntime) -> Result<(), Fail> {
+    let mut store = letters(rt.alloc())?;
+    for (names, text) in [
+        ([].as_slice(), ""),
+        (["b"].as_slice(), "bb"),
+        (
+            ["f", "a", "c", "a", "e", "d", "b", "f", "a"].as_slice(),
+            "ffaaccaaeeddbbffaa",
+        ),
+    ] {
+        match joined(&rt, rt.alloc(), &mut store, names) {
+            Ok(all) => assert!(rt; all.as_slice() == text.as_bytes(), "{text}"),
+            Err(_) => assert!(rt; false, "{text}"),
+        }
+    }
+    assert!(rt; store.faults() == 0);
+    Ok(())
+}
+
+#[test]
+fn the_first_refusal_is_the_last_call(rt: HostRuntime) -> Result<(), Fail> {
+    // The call that fails, and how many calls are counted of the fetch of five names of which the third is none.
+    for (fails_at, calls) in [(0, 3), (1, 1), (2, 2), (3, 3)] {
+        let mut store = letters(rt.alloc())?;
+        store.fail_at(fails_at);
+        let names = ["a", "b", "none", "c", "none"];
+        assert!(rt; joined(&rt, rt.alloc(), &mut store, &names) == Err(FetchFault::Failed));
+        assert!(rt; store.faults() == 1, "after {calls} calls");
+    }
+    // Calls behind the one that was refused are not counted: the fourth is the next.
+    let mut store = letters(rt.alloc())?;
+    store.fail_at(4);
+    let names = ["a", "b", "none", "c", "d"];
+    assert!(rt; joined(&rt, rt.alloc(), &mut store, &names) == Err(FetchFault::Failed));
+    assert!(rt; joined(&rt, rt.alloc(), &mut store, &["a"]) == Err(FetchFault::Failed));
+    assert!(rt; joined(&rt, rt.alloc(), &mut store, &["a"]).is_ok() && store.faults() == 2);
+    Ok(())
+}
+
+/// The names of files in a folder, the first `there` of which are laid, each a thousand times as long as the one before
+/// it is far from the first.
+fn lay_files<R: Files>(
+    rt: &R,
+    alloc: Global,
+    folder: &str,
+    there: usize,
+) -> io::Result<Vec<String>> {
+    let mut names = Vec::new(alloc);
+    for number in 0..9usize {
+        let name = format!(in alloc; "{folder}/{number}")?;
+        if number < there {
+            let bytes = Vec::from_elem(alloc, number as u8, number.saturating_mul(1000))?;
+            fs::write(rt, name.as_str(), bytes.as_slice())?;
+        }
+        names.push(name)?;
+    }
+    Ok(names)
+}
+
+/// How long each file is that a store of the host fetches side by side, and how often it failed.
+fn lengths<R: Files + Sync, T: Threads + Sync>(
+    rt: &R,
+    threads: &T,
+    alloc: Global,
+    names: &[String],
+) -> io::Result<(Result<Vec<usize>, FetchFault>, u64)> {
+    let mut store = HostStore::new(rt, alloc);
+    let mut texts = Vec::new(alloc);
+    for name in names {
+        texts.push(name.as_str())?;
+    }
+    let mut lengths = Vec::new(alloc);
+    let files = match fetch_each(threads, alloc, &mut store, texts.as_slice()) {
+        Ok(files) => files,
+        Err(fault) => return Ok((Err(fault), store.faults())),
+    };
+    for file in files.as_slice() {
+        lengths.push(file.as_slice().len())?;
+    }
+    Ok((Ok(lengths), store.faults()))
+}
+
+/// What is fetched of nine files, of eight that are there and one that is not, and over a disk that tells a wrong length.
+fn fetches_of_host<R: Files + Threads + Sync>(
+    rt: &R,
+    alloc: Global,
+    folder: &str,
+) -> io::Result<bool> {
+    let expected = [0, 1000, 2000, 3000, 4000, 5000, 6000, 7000, 8000];
+    let missing = lay_files(rt, alloc, folder, 8)?;
+    let (none, faults) = lengths(rt, rt, alloc, missing.as_slice())?;
+    let names = lay_files(rt, alloc, folder, 9)?;
+    let (all, no_faults) = lengths(rt, rt, alloc, names.as_slice())?;
+    let disk = FaultyDisk {
+        disk: rt,
+        fault: Fault::Length(4_500, None),
+    };
+    let (longer, _) = lengths(&disk, rt, alloc, names.as_slice())?;
+    let is_all = matches!(&all, Ok(all) if all.as_slice() == expected.as_slice());
+    let is_longer = matches!(&longer, Ok(all) if all.as_slice() == [4_500; 9].as_slice());
+    Ok(is_all && is_longer && no_faults == 0 && none.is_err() && faults == 1)
+}
+
+#[test]
+fn a_host_store_is_read_by_several_threads(rt: HostRuntime) -> Result<(), Fail> {
+    let temp = env::temp_dir(&rt)?;
+    let path = temp.as_path().as_str();
+    let id = process::id(rt.process());
+    let folder = format!(in rt.alloc(); "{path}/tlsld-many-files-{id}")?;
+    fs::create_dir(&rt, folder.as_str())?;
+    let is_fetched = fetches_of_host(&rt, rt.alloc(), folder.as_str());
+    fs::remove_dir_all(&rt, folder.as_str())?;
+    assert!(rt; is_fetched?);
+    Ok(())
+}
