@@ -1,24 +1,25 @@
 -- What the definitions say of some words, by computing.
-use Rattle.std.proofs.Common.{◌≡◌, true, false, [], ◌∷◌, Some, None, refl}
+use Rattle.std.proofs.Common.{◌≡◌, [], ◌∷◌, Some, None, refl}
 use Rattle.std.specs.Prelude.{codes}
 use Rattle.clap.specs.Walk.{Text}
 use Rattle.clap.proofs.OnLiterals.{clap_on_literals}
+use Rattle.command_line.specs.declared.tasks.Rewriting.TheVariants.{Allowed, Off}
 use Rattle.command_line.specs.declared.tasks.Task.TheVariants as task
 use Rattle.command_line.specs.Counts.{count_of}
 use Rattle.command_line.specs.Words.{asked, takes_words}
 
 -- run job
-a_run : asked (codes "run" ∷ codes "job" ∷ []) ≡ Some (task.Run (codes "job") false)
+a_run : asked (codes "run" ∷ codes "job" ∷ []) ≡ Some (task.Run (codes "job") Allowed)
 unfolding asked takes_words clap_on_literals
 a_run = refl
 
 -- run --no-relax job
-a_run_without_rewriting : asked (codes "run" ∷ codes "--no-relax" ∷ codes "job" ∷ []) ≡ Some (task.Run (codes "job") true)
+a_run_without_rewriting : asked (codes "run" ∷ codes "--no-relax" ∷ codes "job" ∷ []) ≡ Some (task.Run (codes "job") Off)
 unfolding asked takes_words clap_on_literals
 a_run_without_rewriting = refl
 
 -- run -- --no-relax
-a_job_like_an_option : asked (codes "run" ∷ codes "--" ∷ codes "--no-relax" ∷ []) ≡ Some (task.Run (codes "--no-relax") false)
+a_job_like_an_option : asked (codes "run" ∷ codes "--" ∷ codes "--no-relax" ∷ []) ≡ Some (task.Run (codes "--no-relax") Allowed)
 unfolding asked takes_words clap_on_literals
 a_job_like_an_option = refl
 
@@ -33,13 +34,13 @@ unfolding asked takes_words clap_on_literals
 twice = refl
 
 -- link job app out
-a_link : asked (codes "link" ∷ codes "job" ∷ codes "app" ∷ codes "out" ∷ []) ≡ Some (task.Link (codes "job") (codes "app") (codes "out") false)
+a_link : asked (codes "link" ∷ codes "job" ∷ codes "app" ∷ codes "out" ∷ []) ≡ Some (task.Link (codes "job") (codes "app") (codes "out") Allowed)
 unfolding asked takes_words clap_on_literals
 a_link = refl
 
 -- link job --no-relax app out
 a_link_without_rewriting : asked (codes "link" ∷ codes "job" ∷ codes "--no-relax" ∷ codes "app" ∷ codes "out" ∷ [])
-    ≡ Some (task.Link (codes "job") (codes "app") (codes "out") true)
+    ≡ Some (task.Link (codes "job") (codes "app") (codes "out") Off)
 unfolding asked takes_words clap_on_literals
 a_link_without_rewriting = refl
 
@@ -109,12 +110,12 @@ unfolding asked takes_words count_of clap_on_literals
 a_job_of_none = refl
 
 -- run -- JOB, whatever the text JOB is
-any_job : (job : Text) → asked (codes "run" ∷ codes "--" ∷ job ∷ []) ≡ Some (task.Run job false)
+any_job : (job : Text) → asked (codes "run" ∷ codes "--" ∷ job ∷ []) ≡ Some (task.Run job Allowed)
 unfolding asked takes_words clap_on_literals
 any_job job = refl
 
 -- link -- JOB IMAGE OUT, whatever these texts are
-any_link : (job image out : Text) → asked (codes "link" ∷ codes "--" ∷ job ∷ image ∷ out ∷ []) ≡ Some (task.Link job image out false)
+any_link : (job image out : Text) → asked (codes "link" ∷ codes "--" ∷ job ∷ image ∷ out ∷ []) ≡ Some (task.Link job image out Allowed)
 unfolding asked takes_words clap_on_literals
 any_link job image out = refl
 
@@ -129,6 +130,6 @@ unfolding asked takes_words clap_on_literals
 any_check job = refl
 
 -- run --no-relax -- JOB
-any_job_without_rewriting : (job : Text) → asked (codes "run" ∷ codes "--no-relax" ∷ codes "--" ∷ job ∷ []) ≡ Some (task.Run job true)
+any_job_without_rewriting : (job : Text) → asked (codes "run" ∷ codes "--no-relax" ∷ codes "--" ∷ job ∷ []) ≡ Some (task.Run job Off)
 unfolding asked takes_words clap_on_literals
 any_job_without_rewriting job = refl

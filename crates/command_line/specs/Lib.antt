@@ -1,3 +1,4 @@
 pub mod CommandSet
 pub mod Counts
+pub mod Rewritings
 pub mod Words

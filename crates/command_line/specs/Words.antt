@@ -7,6 +7,8 @@ use Rattle.clap.specs.Walk.{Row, Text, first_of}
 use Rattle.clap.specs.Kinds.{Kinds}
 use Rattle.clap.specs.Faults.{fault_of}
 use Rattle.clap.specs.Simple.{subcommand_of}
+use Rattle.command_line.specs.declared.tasks.Rewriting.{Rewriting}
+use Rattle.command_line.specs.declared.tasks.Rewriting.TheVariants.{Allowed, Off}
 use Rattle.command_line.specs.declared.tasks.Task.{Task}
 use Rattle.command_line.specs.declared.tasks.Task.TheVariants as task
 use Rattle.command_line.specs.CommandSet.{tool_app}
@@ -21,19 +23,19 @@ has_no_fault (k ∷ ks) = false
 abbrev pub text_at : Text → List Row → Text
 text_at id rows = unwrap_or (first_of id rows) []
 
--- whether a flag is set, which reads as `true`
-abbrev pub flag_at : Text → List Row → Bool
-flag_at id rows = bytes_eq (text_at id rows) (codes "true")
+-- whether sequences may be rewritten: not where the flag `--no-relax` is set, which reads as `true`
+abbrev pub rewriting_at : List Row → Rewriting
+rewriting_at rows = if bytes_eq (text_at (codes "no-relax") rows) (codes "true") then Off else Allowed
 
 -- run JOB [--no-relax]
 abbrev pub run_task : List Row → Task
-run_task rows = task.Run (text_at (codes "JOB") rows) (flag_at (codes "no-relax") rows)
+run_task rows = task.Run (text_at (codes "JOB") rows) (rewriting_at rows)
 
 -- link JOB IMAGE OUT [--no-relax]
 abbrev pub link_task : List Row → Task
 link_task rows =
     task.Link (text_at (codes "JOB") rows) (text_at (codes "IMAGE") rows) (text_at (codes "OUT") rows)
-    (flag_at (codes "no-relax") rows)
+    (rewriting_at rows)
 
 -- sites JOB IMAGE
 abbrev pub sites_task : List Row → Task

@@ -14,12 +14,12 @@
 //! | `gen N` | make a job of N objects and a module in memory, run it, and print a summary |
 //!
 //! ```text
-//! run a.job                    Run { job: "a.job", no_relax: false }
-//! run --no-relax a.job         Run { job: "a.job", no_relax: true }
-//! run -- --no-relax            Run { job: "--no-relax", no_relax: false }
-//! run -                        Run { job: "-", no_relax: false }
+//! run a.job                    Run { job: "a.job", rewriting: Allowed }
+//! run --no-relax a.job         Run { job: "a.job", rewriting: Off }
+//! run -- --no-relax            Run { job: "--no-relax", rewriting: Allowed }
+//! run -                        Run { job: "-", rewriting: Allowed }
 //! run                          usage: there is no JOB
-//! link a.job app a.out         Link { job: "a.job", image: "app", out: "a.out", no_relax: false }
+//! link a.job app a.out         Link { job: "a.job", image: "app", out: "a.out", rewriting: Allowed }
 //! link a.job app               usage: there is no OUT
 //! sites a.job app              Sites { job: "a.job", image: "app" }
 //! show app                     Show { file: "app" }
@@ -55,6 +55,6 @@ mod tasks;
 mod text;
 mod words;
 
-pub use tasks::{Task, WordsFault};
+pub use tasks::{Rewriting, Task, WordsFault};
 pub use text::Text;
 pub use words::read_words;

@@ -1,6 +1,29 @@
 //! What a user can ask for.
+ghost use Rattle.std.specs.Prelude.{◌≡◌};
+ghost use Rattle.command_line.specs.Rewritings.{is_allowed};
+
 use crate::Text;
 use thiserror::Error;
+
+/// Whether a linker may put other code sequences in the place of those that the compiler wrote.
+#[derive(Clone, Copy)]
+pub enum Rewriting {
+    /// It may, where another serves.
+    Allowed,
+    /// Each sequence stays as the compiler wrote it.
+    Off,
+}
+
+impl Rewriting {
+    pub fn is_allowed(self) -> bool
+        ensures { result ≡ is_allowed self }
+    {
+        match self {
+            Rewriting::Allowed => true,
+            Rewriting::Off => false,
+        }
+    }
+}
 
 /// What a user asks for, with the values of the command's words.
 #[derive(Drop)]
@@ -9,8 +32,8 @@ pub enum Task {
     Run {
         /// The name of the job's file.
         job: Text,
-        /// Whether each code sequence stays as the compiler wrote it.
-        no_relax: bool,
+        /// `Off` by `--no-relax`.
+        rewriting: Rewriting,
     },
     /// `link JOB IMAGE OUT [--no-relax]`: link the images of the job, put one to a file, and print how long it is.
     Link {
@@ -20,8 +43,8 @@ pub enum Task {
         image: Text,
         /// The name of the file that the image is put to.
         out: Text,
-        /// Whether each code sequence stays as the compiler wrote it.
-        no_relax: bool,
+        /// `Off` by `--no-relax`.
+        rewriting: Rewriting,
     },
     /// `sites JOB IMAGE`: print the code sequences of an image for thread-local storage, and what stands in the place
     /// of each.

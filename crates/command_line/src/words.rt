@@ -4,12 +4,12 @@ ghost use Rattle.std.specs.Option.{option_and_then};
 ghost use Rattle.clap.specs.Matches.{found_of};
 ghost use Rattle.clap.specs.Walk.{rows_of};
 ghost use Rattle.clap.specs.Simple.{subcommand_rows_of};
-ghost use Rattle.command_line.specs.Words.{takes_words, asked, task_of, text_at, flag_at};
+ghost use Rattle.command_line.specs.Words.{takes_words, asked, task_of, text_at, rewriting_at};
 ghost use Rattle.command_line.specs.Words.{run_task, link_task, sites_task, show_task, check_task, gen_task, IsInLimits};
 
 use crate::command_set::tool_command;
 use crate::counts::count_of;
-use crate::{Task, Text, WordsFault};
+use crate::{Rewriting, Task, Text, WordsFault};
 use clap::ArgMatches;
 use clap::error::ErrorKind;
 use std::alloc::{AllocError, Global};
@@ -32,11 +32,15 @@ fn text_of<'a>(matches: &ArgMatches<'a>, id: &str) -> &'a str
     matches.get_str(id).unwrap_or("")
 }
 
-/// Whether the flag is set.
-fn flag_of(matches: &ArgMatches<'_>, id: &str) -> bool
-    ensures { result ≡ flag_at id.now (rows_of (found_of matches.now)) }
+/// Whether sequences may be rewritten: unless the flag is set.
+fn rewriting_of(matches: &ArgMatches<'_>) -> Rewriting
+    ensures { result ≡ rewriting_at (rows_of (found_of matches.now)) }
 {
-    text_of(matches, id) == "true"
+    if text_of(matches, "no-relax") == "true" {
+        Rewriting::Off
+    } else {
+        Rewriting::Allowed
+    }
 }
 
 fn run_of(alloc: Global, matches: &ArgMatches<'_>) -> Result<Task, AllocError>
@@ -44,7 +48,7 @@ fn run_of(alloc: Global, matches: &ArgMatches<'_>) -> Result<Task, AllocError>
 {
     Ok(Task::Run {
         job: Text::copy_of(alloc, text_of(matches, "JOB"))?,
-        no_relax: flag_of(matches, "no-relax"),
+        rewriting: rewriting_of(matches),
     })
 }
 
@@ -55,7 +59,7 @@ fn link_of(alloc: Global, matches: &ArgMatches<'_>) -> Result<Task, AllocError>
         job: Text::copy_of(alloc, text_of(matches, "JOB"))?,
         image: Text::copy_of(alloc, text_of(matches, "IMAGE"))?,
         out: Text::copy_of(alloc, text_of(matches, "OUT"))?,
-        no_relax: flag_of(matches, "no-relax"),
+        rewriting: rewriting_of(matches),
     })
 }
 

@@ -8,16 +8,12 @@ use Rattle.command_replies.specs.Statuses.{IsLate}
 use Rattle.commands.specs.Replies.{Asked, AsksOfAnswer}
 use Rattle.commands.specs.Tasks.{task_names}
 use Rattle.std.proofs.Math.Seq.{take-length}
-use Rattle.command_replies.specs.FetchFaults.{fault_of_fetch}
 use Rattle.command_replies.specs.Steps.{Asks, AsksFront, with_names}
 use Rattle.command_replies.specs.declared.fault.CommandFault.{CommandFault}
 use Rattle.command_replies.specs.declared.fault.CommandFault.TheVariants as fault
 use Rattle.job_text.specs.Jobs.{job_of}
-use Rattle.ports.specs.declared.faults.FetchFault.{FetchFault}
-use Rattle.ports.specs.declared.faults.FetchFault.TheVariants as fetch
 use Rattle.ports.specs.Files.{Files, file_at, with_name}
-use Rattle.commands.specs.Links.{image_job_names, image_names}
-use Rattle.commands.specs.RunJobs.{job_names, run_names}
+use Rattle.commands.specs.Jobs.{asked_names, job_names}
 
 abbrev Names : Type 0
 Names = List (List ℕ)
@@ -40,18 +36,11 @@ more name names old mid new (Err fault.OutOfMemory) first h = more_front name na
 more name names old mid new (Err (fault.Refused refusal)) first e = e ∙ ap (with_names names) first ∙ one_more name names old
 
 -- the job, and then what it asks for
-pub asks_after : {T : Type 0} (files : Option Files) (name text seen : List ℕ) (old mid new : Option Names) (r : Result T CommandFault) → mid ≡ with_name name old
-    → IfSome files (λ fs. file_at fs name ≡ Some text) → seen ≡ text → Asks (job_names (job_of seen)) mid new r → IfSome files (λ fs. Asks (run_names fs name) old new r)
-asks_after None name text seen old mid new r first there same h = tt
-asks_after (Some fs) name text seen old mid new r first there same h =
-    rw there (more name (job_names (job_of text)) old mid new r first (subst (λ (s : List ℕ). Asks (job_names (job_of s)) mid new r) same h))
-
--- the job, and then the objects of its images
-pub asks_images : {T : Type 0} (files : Option Files) (name text seen image : List ℕ) (old mid new : Option Names) (r : Result T CommandFault) → mid ≡ with_name name old
-    → IfSome files (λ fs. file_at fs name ≡ Some text) → seen ≡ text → Asks (image_job_names image (job_of seen)) mid new r → IfSome files (λ fs. Asks (image_names fs name image) old new r)
-asks_images None name text seen image old mid new r first there same h = tt
-asks_images (Some fs) name text seen image old mid new r first there same h =
-    rw there (more name (image_job_names image (job_of text)) old mid new r first (subst (λ (s : List ℕ). Asks (image_job_names image (job_of s)) mid new r) same h))
+pub asks_after : {T : Type 0} (files : Option Files) (name text seen : List ℕ) (image : Option (List ℕ)) (old mid new : Option Names) (r : Result T CommandFault) → mid ≡ with_name name old
+    → IfSome files (λ fs. file_at fs name ≡ Some text) → seen ≡ text → Asks (job_names image (job_of seen)) mid new r → IfSome files (λ fs. Asks (asked_names fs name image) old new r)
+asks_after None name text seen image old mid new r first there same h = tt
+asks_after (Some fs) name text seen image old mid new r first there same h =
+    rw there (more name (job_names image (job_of text)) old mid new r first (subst (λ (s : List ℕ). Asks (job_names image (job_of s)) mid new r) same h))
 
 -- all names were asked for
 pub asks_whole : {T : Type 0} (names : Names) (old new : Option Names) (r : Result T CommandFault) → new ≡ with_names names old → Asks names old new r
@@ -60,10 +49,11 @@ asks_whole names old new (Err fault.Store) e = asks_all names old new e
 asks_whole names old new (Err fault.OutOfMemory) e = asks_all names old new e
 asks_whole names old new (Err (fault.Refused refusal)) e = e
 
--- a front of them, where a fetch failed
-pub asks_fetched : (T : Type 0) (names : Names) (old new : Option Names) (fetch : FetchFault) (f : CommandFault) → f ≡ fault_of_fetch fetch → AsksFront names old new → Asks {T = T} names old new (Err f)
-asks_fetched T names old new fetch.Failed f e front = subst (λ v. Asks {T = T} names old new (Err v)) (sym e) front
-asks_fetched T names old new fetch.OutOfMemory f e front = subst (λ v. Asks {T = T} names old new (Err v)) (sym e) front
+-- and no other behind them
+pub asks_before : {T : Type 0} (files : Option Files) (names : Files → Names) (old mid new : Option Names) (r : Result T CommandFault) → IfSome files (λ fs. mid ≡ with_names (names fs) old)
+    → new ≡ mid → IfSome files (λ fs. Asks (names fs) old new r)
+asks_before None names old mid new r before same = tt
+asks_before (Some fs) names old mid new r before same = asks_whole (names fs) old new r (same ∙ before)
 
 -- ** the whole command
 

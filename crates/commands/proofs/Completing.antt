@@ -1,6 +1,6 @@
 -- A command that is given nothing wrong completes.
 use Rattle.std.proofs.Common.{◌≡◌, ◌+◌, ◌-◌, ◌<◌, ℕ, suc, Bool, true, false, cond, not, List, [], ◌∷◌, length, map, Option, Some, None, IfSome, Result, Ok, ◌⊎◌, inl, inr, ⊎_elim, refl, sym, ap, subst, arith}
-use Rattle.std.specs.Prelude.{unwrap_or}
+use Rattle.std.specs.Prelude.{is_some, unwrap_or}
 use Rattle.std.specs.List.{Contains, position_or_len}
 use Rattle.std.specs.Option.{option_map}
 use Rattle.std.specs.Str.{bytes_eq}
@@ -8,6 +8,7 @@ use Rattle.std.proofs.lemmas.Bool.{lt-ltb}
 use Rattle.std.proofs.lemmas.Slice.Eq.{bytes_eq-Decides}
 use Rattle.command_line.specs.declared.tasks.Task.{Task}
 use Rattle.command_line.specs.declared.tasks.Task.TheVariants.{Run, Check, Link, Sites, Show, Gen}
+use Rattle.command_line.specs.Rewritings.{is_allowed}
 use Rattle.command_line.specs.Words.{asked, takes_words}
 use Rattle.command_replies.specs.declared.replies.Answer.{Answer}
 use Rattle.command_replies.specs.declared.replies.Answer.TheVariants.{Replies, StoreFails, NoMemory}
@@ -24,28 +25,25 @@ use Rattle.job_text.specs.declared.fault.JobFault.{JobFault}
 use Rattle.job_text.specs.declared.images.Image.{Image}
 use Rattle.job_text.specs.Images.{image_number, is_named}
 use Rattle.job_text.specs.Jobs.{JobParts, job_of}
-use Rattle.link_needs.specs.Linking.{Linking}
 use Rattle.ports.specs.Files.{Files, file_at}
 use Rattle.ports.specs.Sinks.{SinkView}
 use Rattle.whole_meaning.specs.declared.unclean.UncleanStep.{UncleanStep}
-use Rattle.commands.specs.Checks.{SaysOf, verdict}
-use Rattle.commands.specs.Completes.{Completes, DidNotFail, HasGoodImage, IsDone, IsGood, IsGoodJob}
-use Rattle.commands.specs.Links.{BytesSay, ImageSays, ImagesSay, IsUnlinked, IsUnread, LinkOutput, NumberSays, Output, SitesOutput}
+use Rattle.commands.specs.Checks.{SaysOf, VerdictSays}
+use Rattle.commands.specs.Completes.{Completes, DidNotFail, IsDone, IsGood, IsGoodJob}
+use Rattle.commands.specs.Jobs.{Ending, FileSays, JobSays, NamedSays, ObjectsSay, has, objects_of}
+use Rattle.commands.specs.Links.{AreLines, IsPut, OfImage}
 use Rattle.commands.specs.Listings.{ListingSays}
 use Rattle.commands.specs.Replies.{AnswerSays}
-use Rattle.commands.specs.RunJobs.{BytesRun, ImagesRun, JobSays, ObjectsRun, links_of}
-use Rattle.commands.specs.RunJobs as runs
+use Rattle.commands.specs.RunJobs.{IsRun}
 use Rattle.commands.specs.Tasks.{TaskSays}
 use Rattle.commands.specs.declared.telling.Telling.TheVariants.{Transcript}
-use Rattle.commands.specs.declared.told.Purpose.{Purpose}
-use Rattle.commands.specs.declared.told.Purpose.TheVariants.{Run as Runs, Check as Checks}
 use Rattle.commands.proofs.Membership.{In, in_at, in_contains, of_all}
 use Rattle.commands.proofs.Mentioned.{in_once}
-use Rattle.commands.proofs.NoFault.{no_file_fault, none_unlinked}
+use Rattle.commands.proofs.NoFault.{DoesLink, never_refused}
 use Rattle.commands.proofs.SameGiven.{same_images}
 use Rattle.commands.proofs.Words.{not_asked}
 
--- ** no object is refused
+-- ** a good job is not refused
 
 sound_at : (o : Option (List ℕ)) → HasFile o IsSound → IsSound (unwrap_or o [])
 sound_at None h = absurd h
@@ -54,61 +52,34 @@ sound_at (Some b) h = h
 faultless : (b : List ℕ) → IsSound b → IsFaultless b
 faultless b sound = record { object = sound.object; no_loose = sound.no_loose; no_stray = sound.no_stray }
 
-module _ (fs : Files) (relax : Bool) (name : List ℕ) (good : IsGoodJob fs relax name) where
-  sound : (object : List ℕ) → In (mentions_of good.job) object → IsSound (bytes_at fs object)
+-- what its ending says alone is said
+module _ (image : Option (List ℕ)) (E : Ending) (relax : Bool) (fs : Files) (name : List ℕ) (good : IsGoodJob fs relax name) (has_is : has good.job image ≡ true)
+    (status : ℕ) (text : List ℕ) where
+  fine : (object : List ℕ) → In (mentions_of good.job) object → IsFaultless (bytes_at fs object)
   unfolding object_names
-  sound object i =
-      sound_at (file_at fs object) (of_all (λ other. HasFile (file_at fs other) IsSound) (once (mentions_of good.job)) object good.objects
-      (in_once (mentions_of good.job) object i))
+  fine object i =
+      faultless (bytes_at fs object)
+      (sound_at (file_at fs object) (of_all (λ other. HasFile (file_at fs other) IsSound) (once (mentions_of good.job)) object good.objects
+      (in_once (mentions_of good.job) object i)))
 
-  never_unread : (status : ℕ) (text : List ℕ) → IsUnread (bytes_at fs) good.job status text → ⊥
-  never_unread status text unread =
-      let there = in_at (mentions_of good.job) unread.first.at unread.name unread.first.there in
-      let fine = faultless (bytes_at fs unread.name) (sound unread.name there) in
-      no_file_fault (bytes_at fs unread.name) unread.section unread.entry unread.kind fine unread.first.here
+  all_link : (images : List Given) → AreGiven (bytes_at fs) good.job images → AllLink images relax
+  all_link images given = subst (λ (all : List Given). AllLink all relax) (same_images (bytes_at fs) good.job good.images images good.given given) good.links
 
-  -- ** nor an image
+  of_file : (o : Option (List ℕ)) → HasFile o (λ bytes. job_of bytes ≡ Ok good.job) → HasFile o (λ bytes. JobSays image E relax fs (job_of bytes) status text)
+      → ObjectsSay E relax fs good.job status text
+  of_file None is says = absurd is
+  of_file (Some bytes) is says =
+      subst (λ (b : Bool). NamedSays E relax fs good.job b status text) has_is
+      (subst (λ (r : Result JobParts JobFault). JobSays image E relax fs r status text) is says)
 
-  never_unlinked : (images : List Given) → AreGiven (bytes_at fs) good.job images → (status : ℕ) (text : List ℕ) → IsUnlinked relax good.job images status text → ⊥
-  never_unlinked images given status text unlinked =
-      let same = same_images (bytes_at fs) good.job good.images images good.given given in
-      none_unlinked images relax unlinked.number unlinked.kind unlinked.object unlinked.section unlinked.entry
-      (subst (λ (all : List Given). AllLink all relax) same good.links) unlinked.first
-
--- ** what is told of a job
+  ends : FileSays image E relax fs name status text → DoesLink E relax (bytes_at fs) good.job status text
+  ends says = let objects = of_file (file_at fs name) good.text says in never_refused E relax (bytes_at fs) good.job status text fine all_link objects.says
 
 verdict_done : (found : Option UncleanStep) (status : ℕ) (text : List ℕ) → SaysOf found status text → (status ≡ 0) ⊎ (status ≡ 9)
 verdict_done None status text says = inl says.0
 verdict_done (Some step) status text says = inr says.0
 
--- the status of what is told
-abbrev Done : Purpose → ℕ → Type 0
-Done (Runs telling) status = status ≡ 0
-Done Checks status = (status ≡ 0) ⊎ (status ≡ 9)
-
-told_done : (purpose : Purpose) (job : JobParts) (ls : List Linking) (status : ℕ) (text : List ℕ) → runs.Says purpose job ls status text → Done purpose status
-told_done (Runs telling) job ls status text says = says.0
-told_done Checks job ls status text says = verdict_done (verdict job ls) status text says
-
-job_says : (purpose : Purpose) (relax : Bool) (fs : Files) (job : JobParts) (status : ℕ) (text : List ℕ) (o : Option (List ℕ)) → HasFile o (λ bytes. job_of bytes ≡ Ok job)
-    → HasFile o (λ bytes. JobSays purpose relax fs (job_of bytes) status text) → ObjectsRun purpose relax fs job status text
-job_says purpose relax fs job status text None is says = absurd is
-job_says purpose relax fs job status text (Some bytes) is says = subst (λ (r : Result JobParts JobFault). JobSays purpose relax fs r status text) is says
-
-module _ (purpose : Purpose) (relax : Bool) (fs : Files) (name : List ℕ) (good : IsGoodJob fs relax name) (status : ℕ) (text : List ℕ) where
-  images_done : (images : List Given) → AreGiven (bytes_at fs) good.job images → ImagesRun purpose relax good.job images status text → Done purpose status
-  images_done images given (inl ran) = told_done purpose good.job (links_of images relax) status text ran.says
-  images_done images given (inr unlinked) = absurd (never_unlinked fs relax name good images given status text unlinked)
-
-  bytes_done : BytesRun purpose relax (bytes_at fs) good.job status text → Done purpose status
-  bytes_done (inl read) = images_done read.images read.given read.says
-  bytes_done (inr unread) = absurd (never_unread fs relax name good status text unread)
-
-  told_completes : runs.FileSays purpose relax fs name status text → Done purpose status
-  told_completes says =
-      let objects = job_says purpose relax fs good.job status text (file_at fs name) good.text says in bytes_done objects.says
-
--- ** what is made of an image
+-- ** nor for the image that it has
 
 step_less : (b : Bool) (n m : ℕ) → (b ≡ false → n < m) → cond (not b) (1 + n) 0 < suc m
 step_less true n m less = omega arith
@@ -135,31 +106,8 @@ numbered images name declared =
     let less = found name images (in_contains (map (λ (own : Image). own.name) images) name declared) in
     (place + 1, ap (λ (b : Bool). option_map (λ (index : ℕ). index + 1) (cond b (Some place) None)) (lt-ltb place (length images) less))
 
-image_says : (relax : Bool) (O : Output) (fs : Files) (image : List ℕ) (job : JobParts) (status : ℕ) (text : List ℕ) (o : Option (List ℕ))
-    → HasFile o (λ bytes. job_of bytes ≡ Ok job) → HasFile o (λ bytes. ImageSays relax O fs image (job_of bytes) status text)
-    → NumberSays relax O fs job (image_number job.images image) status text
-image_says relax O fs image job status text None is says = absurd is
-image_says relax O fs image job status text (Some bytes) is says = subst (λ (r : Result JobParts JobFault). ImageSays relax O fs image r status text) is says
-
-module _ (relax : Bool) (O : Output) (fs : Files) (name image : List ℕ) (has : HasGoodImage fs relax name image) (status : ℕ) (text : List ℕ)
-    (done : (job : JobParts) (number : ℕ) (l : Linking) → O job number l status text → status ≡ 0) where
-  made_done : (number : ℕ) (images : List Given) → AreGiven (bytes_at fs) has.good.job images → ImagesSay relax O has.good.job number images status text → status ≡ 0
-  made_done number images given (inl linked) = done has.good.job number _ linked.says
-  made_done number images given (inr unlinked) = absurd (never_unlinked fs relax name has.good images given status text unlinked)
-
-  object_done : (number : ℕ) → BytesSay relax O (bytes_at fs) has.good.job number status text → status ≡ 0
-  object_done number (inl read) = made_done number read.images read.given read.says
-  object_done number (inr unread) = absurd (never_unread fs relax name has.good status text unread)
-
-  number_done : (o : Option ℕ) (k : ℕ) → o ≡ Some k → NumberSays relax O fs has.good.job o status text → status ≡ 0
-  number_done None k e says = cc
-  number_done (Some number) k e says = object_done (number - 1) says.says
-
-  image_completes : HasFile (file_at fs name) (λ bytes. ImageSays relax O fs image (job_of bytes) status text) → status ≡ 0
-  image_completes says =
-      let (k, e) = numbered has.good.job.images image has.declared in
-      number_done (image_number has.good.job.images image) k e
-      (image_says relax O fs image has.good.job status text (file_at fs name) has.good.text says)
+has_declared : (job : JobParts) (name : List ℕ) → Contains (map (λ (own : Image). own.name) job.images) name → has job (Some name) ≡ true
+has_declared job name declared = let (k, e) = numbered job.images name declared in ap is_some e
 
 -- ** what an image says
 
@@ -171,12 +119,22 @@ shown_done (Some b) status text is (inr none) = absurd (is none.first.rule none.
 -- ** the law: what a command says of what it is given, where nothing is wrong with it
 
 pub task_done : (fs : Files) (after : Option Files) (task : Task) (status : ℕ) (text : List ℕ) → IsGood fs task → TaskSays fs after task status text → IsDone task status
-task_done fs after (Run job no_relax) status text good says = told_completes (Runs Transcript) (not no_relax) fs job good status text says
-task_done fs after (Check job) status text good says = told_completes Checks true fs job good status text says
-task_done fs after (Link job image out no_relax) status text good says =
-    image_completes (not no_relax) (LinkOutput fs after image out) fs job image good status text (λ own number l put. put.says.0) says
-task_done fs after (Sites job image) status text good says =
-    image_completes true SitesOutput fs job image good status text (λ own number l lines. lines.0) says
+task_done fs after (Run job rewriting) status text good says =
+    let own = ends None (IsRun Transcript) (is_allowed rewriting) fs job good refl status text says in own.linked.says.0
+task_done fs after (Check job) status text good says =
+    let own = ends None VerdictSays true fs job good refl status text says in verdict_done _ status text own.linked.says
+task_done fs after (Link job image out rewriting) status text has_it says =
+    let own =
+    ends (Some image) (OfImage image (λ j number. IsPut fs after image out)) (is_allowed rewriting) fs job has_it.good
+    (has_declared has_it.good.job image has_it.declared) status text says
+    in
+    own.linked.says.says.says.says.0
+task_done fs after (Sites job image) status text has_it says =
+    let own =
+    ends (Some image) (OfImage image (λ j number. AreLines (objects_of j number))) true fs job has_it.good
+    (has_declared has_it.good.job image has_it.declared) status text says
+    in
+    own.linked.says.says.says.0
 task_done fs after (Show file) status text good says = shown_done (file_at fs file) status text good says
 task_done fs after (Gen count) status text good says = says.ran.says.0
 

@@ -5,13 +5,13 @@ use Rattle.std.specs.List.{Contains}
 use Rattle.std.specs.Str.{bytes_eq}
 use Rattle.std.proofs.lemmas.Option.{slice_get_within}
 use Rattle.std.proofs.lemmas.Slice.Eq.{bytes_eq-Decides}
-use Rattle.job_link.specs.Given.{Given, AreGiven, IsFileFault, IsFirstFaulty, IsSound}
+use Rattle.job_link.specs.Given.{Given, AreGiven, IsFileFault, IsSound}
 use Rattle.job_link.specs.Mentions.{AreFilesOf, Fetched, bytes_at, bytes_in, mentioned, mentions_of, object_names, once}
 use Rattle.job_text.specs.declared.images.Image.{Image}
 use Rattle.job_text.specs.Jobs.{JobParts}
-use Rattle.object_rules.specs.declared.fault.FaultKind.{FaultKind}
 use Rattle.object_rules.specs.declared.fault.ObjectFault.TheVariants.{At}
 use Rattle.ports.specs.Files.{Files}
+use Rattle.commands.specs.Jobs.{IsUnread}
 use Rattle.commands.proofs.Membership.{In, in_at, at_in, in_contains, in_filter, in_filter_map, in_flat, map_same}
 
 abbrev Name : Type 0
@@ -71,10 +71,17 @@ module _ (fs : Files) (job : JobParts) (files : Fetched) (are : AreFilesOf fs (o
     given = g.given;
   }
 
-  pub faulty_at : (name : Name) (section entry : ℕ) (kind : FaultKind) → IsFirstFaulty (bytes_in files) job name section entry kind → IsFirstFaulty (bytes_at fs) job name section entry kind
-  faulty_at name section entry kind f = record {
-    at = f.at;
-    there = f.there;
-    here = subst (λ b. IsFileFault b (At section entry kind)) (of_mention name (in_at (mentions_of job) f.at name f.there)) f.here;
-    before = λ k other h g. subst IsSound (of_mention other (in_at (mentions_of job) k other g)) (f.before k other h g);
+  pub unread_at : (status : ℕ) (text : List ℕ) → IsUnread (bytes_in files) job status text → IsUnread (bytes_at fs) job status text
+  unread_at status text un = record {
+    name = un.name;
+    section = un.section;
+    entry = un.entry;
+    kind = un.kind;
+    first = record {
+      at = un.first.at;
+      there = un.first.there;
+      here = subst (λ b. IsFileFault b (At un.section un.entry un.kind)) (of_mention un.name (in_at (mentions_of job) un.first.at un.name un.first.there)) un.first.here;
+      before = λ k other h g. subst IsSound (of_mention other (in_at (mentions_of job) k other g)) (un.first.before k other h g);
+    };
+    says = un.says;
   }

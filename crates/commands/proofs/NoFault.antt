@@ -1,16 +1,19 @@
--- What has no fault is refused with none: bytes, and the link of an image.
+-- What has no fault is refused with none: bytes, the link of an image, and a job.
 use Rattle.std.proofs.Common.{ℕ, Bool, Option, List, inl, inr, subst}
 use Rattle.std.proofs.lemmas.Option.{get_or_from_slice_get, slice_get_within}
 use Rattle.generated_laws.specs.Sound.{IsFaultless}
-use Rattle.job_link.specs.Given.{Given, IsFileFault}
-use Rattle.job_link.specs.Linked.{AllLink, IsFirstUnlinked, link_in}
+use Rattle.job_link.specs.Given.{Given, AreGiven, IsFileFault}
+use Rattle.job_link.specs.Linked.{AllLink, link_in}
+use Rattle.job_link.specs.Mentions.{mentions_of}
 use Rattle.job_link.specs.NoFault.{no_link_fault}
+use Rattle.job_text.specs.Jobs.{JobParts}
 use Rattle.link_core.specs.Faults.{Links}
-use Rattle.link_faults.specs.declared.fault.LinkFaultKind.{LinkFaultKind}
 use Rattle.object_rules.specs.declared.fault.FaultKind.{FaultKind}
 use Rattle.object_rules.specs.declared.fault.FaultKind.TheVariants.{Sequence, StrayCall}
 use Rattle.object_rules.specs.declared.fault.ObjectFault.TheVariants as object_fault
 use Rattle.sequence_match.specs.Faults.{Stands}
+use Rattle.commands.specs.Jobs.{BytesSay, DoLink, Ending, ImagesSay, IsUnlinked}
+use Rattle.commands.proofs.Membership.{In, in_at}
 
 -- ** bytes
 
@@ -19,16 +22,37 @@ no_sequence_fault Sequence b r e fine here = fine.no_loose r e here
 no_sequence_fault StrayCall b r e fine here = fine.no_stray r e here
 no_sequence_fault kind b r e fine (above, (s, kept, never)) = never
 
-pub no_file_fault : (b : List ℕ) (section entry : ℕ) (kind : FaultKind) → IsFaultless b → IsFileFault b (object_fault.At section entry kind) → ⊥
+no_file_fault : (b : List ℕ) (section entry : ℕ) (kind : FaultKind) → IsFaultless b → IsFileFault b (object_fault.At section entry kind) → ⊥
 no_file_fault b section entry kind fine (inl first) = fine.object kind section entry first.here
 no_file_fault b section entry kind fine (inr (is, first)) = no_sequence_fault kind b section entry fine first.here
 
 -- ** links
 
-pub none_unlinked : (images : List Given) (relax : Bool) (number : ℕ) (kind : LinkFaultKind) (object : Option ℕ) (section entry : ℕ) → AllLink images relax
-    → IsFirstUnlinked images relax number kind object section entry → ⊥
-none_unlinked images relax number kind object section entry all first =
-    let within = slice_get_within images number first.image first.there in
-    let is = get_or_from_slice_get images number first.image first.image first.there in
-    let its : Links (link_in images relax first.image) = subst (λ (g : Given). Links (link_in images relax g)) is (all number first.image within) in
-    no_link_fault (link_in images relax first.image) kind object section entry its first.here
+none_unlinked : (images : List Given) (relax : Bool) (job : JobParts) (status : ℕ) (text : List ℕ) → AllLink images relax
+    → IsUnlinked relax job images status text → ⊥
+none_unlinked images relax job status text all un =
+    let first = un.first in
+    let within = slice_get_within images un.number first.image first.there in
+    let is = get_or_from_slice_get images un.number first.image first.image first.there in
+    let its : Links (link_in images relax first.image) = subst (λ (g : Given). Links (link_in images relax g)) is (all un.number first.image within) in
+    no_link_fault (link_in images relax first.image) un.kind un.object un.section un.entry its first.here
+
+-- ** jobs: what is left is that all images link
+
+pub record DoesLink (E : Ending) (relax : Bool) (bytes : List ℕ → List ℕ) (job : JobParts) (status : ℕ) (text : List ℕ) : Type 0 where
+  pub images : List Given
+  pub given : AreGiven bytes job images
+  pub linked : DoLink E relax job images status text
+
+module _ (E : Ending) (relax : Bool) (bytes : List ℕ → List ℕ) (job : JobParts) (status : ℕ) (text : List ℕ)
+    (fine : (name : List ℕ) → In (mentions_of job) name → IsFaultless (bytes name))
+    (link : (images : List Given) → AreGiven bytes job images → AllLink images relax) where
+  of_images : (images : List Given) → AreGiven bytes job images → ImagesSay E relax job images status text → DoesLink E relax bytes job status text
+  of_images images given (inl linked) = record { images = images; given = given; linked = linked }
+  of_images images given (inr un) = absurd (none_unlinked images relax job status text (link images given) un)
+
+  pub never_refused : BytesSay E relax bytes job status text → DoesLink E relax bytes job status text
+  never_refused (inl read) = of_images read.images read.given read.says
+  never_refused (inr un) =
+      let there = in_at (mentions_of job) un.first.at un.name un.first.there in
+      absurd (no_file_fault (bytes un.name) un.section un.entry un.kind (fine un.name there) un.first.here)

@@ -5,15 +5,15 @@ use Rattle.relax_sites.specs.declared.choices.Choice.{Choice}
 use Rattle.sequence_forms.specs.declared.places.Site.{Site}
 use Rattle.site_text.specs.Lines.{site_lines}
 use Rattle.tls_symbols.proofs.Search.{range_first, range_none}
-use Rattle.commands.specs.Wishes.{image_lines, lines_at}
+use Rattle.commands.specs.Links.{lines_at, lines_of}
 
 module _ (names objects : List (List ℕ)) (sites : List (List Site)) (choices : List (List Choice)) where
   -- those of the objects that are left
   abbrev pub left : ℕ → List ℕ
   left n = flat_map (lines_at names objects sites choices) (range_with_len n (length names - n))
 
-  pub all_left : left 0 ≡ image_lines names objects sites choices
-  unfolding image_lines
+  pub all_left : left 0 ≡ lines_of names objects sites choices
+  unfolding lines_of
   all_left = let all : length names - 0 ≡ length names = omega arith in rw all refl
 
   pub one_less : (n : ℕ) → n < length names → left n ≡ lines_at names objects sites choices n ++ left (n + 1)

@@ -1,5 +1,5 @@
 -- Transcripts: the machine's, and where a job or a thread is clean what it means.
-use Rattle.std.proofs.Common.{◌≡◌, ◌∙◌, ◌≤◌, true, List, [], ◌∷◌, length, map, Result, Ok, Err, IfOk, refl, sym, ap, subst}
+use Rattle.std.proofs.Common.{◌≡◌, ◌∙◌, ◌≤◌, ℕ, true, List, Vec, Global, [], ◌∷◌, length, map, Result, Ok, Err, IfOk, refl, sym, ap, subst}
 use Rattle.image_file.specs.Spelled.{Spelled}
 use Rattle.job_text.specs.Jobs.{JobParts}
 use Rattle.link_core.specs.Images.{LinkedImage, image_of, linked_of}
@@ -11,19 +11,23 @@ use Rattle.loaded_modules.specs.Given.{of_job}
 use Rattle.loaded_modules.specs.Images.{JobImages}
 use Rattle.meaning_laws.specs.Laws.{VerdictKnowsNoSetting}
 use Rattle.module_table.specs.declared.events.Event.{Event}
+use Rattle.run_summary.specs.Summaries.{counts_of}
+use Rattle.run_summary.specs.declared.sites.SiteCounts.{SiteCounts}
 use Rattle.thread_blocks.specs.JobWorlds.{Tells}
 use Rattle.thread_blocks.specs.MachineTurns.{shown}
 use Rattle.thread_blocks.specs.Turns.{Thread}
 use Rattle.transcript_text.specs.Texts.{Shown}
 use Rattle.commands.specs.InOrder.{AreLinks}
+use Rattle.commands.specs.declared.telling.Telling.{Telling}
+use Rattle.commands.specs.RunJobs.{IsTold, told}
 use Rattle.commands.specs.Runs.{HasRun, modules_of, read_back, world_of}
 
 -- ** the images
 
-linked_images : (ls : List Linking) → map (λ (linked : LinkedImage). linked.image) (map linked_of ls) ≡ map image_of ls
+preparing : (ls : List Linking) → map (λ (linked : LinkedImage). linked.image) (map linked_of ls) ≡ map image_of ls
 unfolding linked_of
-linked_images [] = refl
-linked_images (l ∷ ls) = ap (λ more. image_of l ∷ more) (linked_images ls)
+preparing [] = refl
+preparing (l ∷ ls) = ap (λ more. image_of l ∷ more) (preparing ls)
 
 images_back : (ls : List Linking) → map read_back (map linked_of ls) ≡ map (λ l. read_back (linked_of l)) ls
 images_back [] = refl
@@ -37,7 +41,7 @@ pub record AreBack (job : JobParts) (all : List LinkedImage) (images : List Spel
 module _ (job : JobParts) (ls : List Linking) (links : AreLinks job ls) (all : List LinkedImage) (all_is : all ≡ map linked_of ls)
     (images : List Spelled) (back : AreBack job all images) where
   pub images_are : images ≡ map image_of ls
-  images_are = back.again ∙ ap (map (λ (linked : LinkedImage). linked.image)) all_is ∙ linked_images ls
+  images_are = back.again ∙ ap (map (λ (linked : LinkedImage). linked.image)) all_is ∙ preparing ls
 
   pub modules_are : of_job job images ≡ modules_of job ls
   unfolding modules_of
@@ -91,3 +95,14 @@ pub ran : {E : Type 0} → LinkedJobsPrint → TranscriptsTellTheirThreads → V
 ran jobs threads settings job few all images back m m_is (Ok transcript) printed =
     λ ls links all_is. has_run job ls links few all all_is images back m m_is transcript printed jobs threads settings
 ran jobs threads settings job few all images back m m_is (Err e) printed = tt
+
+-- what is told of it
+pub is_told : {E : Type 0} (telling : Telling) (job : JobParts) (ls : List Linking) (all : List LinkedImage) → all ≡ map linked_of ls
+    → (counts : SiteCounts) → counts ≡ counts_of all → (transcript : Shown) → HasRun job ls transcript → (r : Result (Vec ℕ Global) E)
+    → IfOk r (λ text. text.items ≡ told telling job.images counts transcript) → IfOk r (λ text. IsTold telling job ls text.items)
+is_told telling job ls all all_is counts counts_are transcript ran (Ok text) text_is = record {
+  transcript = transcript;
+  ran = ran;
+  told_is = text_is ∙ ap (λ own. told telling job.images own transcript) (counts_are ∙ ap counts_of all_is);
+}
+is_told telling job ls all all_is counts counts_are transcript ran (Err e) text_is = tt

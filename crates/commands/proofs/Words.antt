@@ -58,9 +58,9 @@ unchanged (Some fs) Says = inl refl
 
 pub leave_late : (files : Option Files) (task : Option Task) → WordsLeave files files task
 leave_late files None = refl
-leave_late files (Some (Run job no_relax)) = refl
+leave_late files (Some (Run job rewriting)) = refl
 leave_late files (Some (Check job)) = refl
-leave_late files (Some (Link job image out no_relax)) = unchanged files (λ fs. LinkSays fs files job image out no_relax)
+leave_late files (Some (Link job image out rewriting)) = unchanged files (λ fs. LinkSays fs files job image out rewriting)
 leave_late files (Some (Sites job image)) = refl
 leave_late files (Some (Show file)) = refl
 leave_late files (Some (Gen count)) = refl

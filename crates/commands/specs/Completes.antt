@@ -1,7 +1,8 @@
 -- Which commands complete: where nothing is wrong with what a command is given, and no port fails, its status is 0,
 -- or 9 of a job that `check` finds unclean; or 1, where memory was wanting. So no good job is refused.
-use Rattle.std.specs.Prelude.{◌≡◌, ◌⊎◌, ℕ, Bool, true, not, List, Contains, map, Ok}
+use Rattle.std.specs.Prelude.{◌≡◌, ◌⊎◌, ℕ, Bool, true, List, Contains, map, Ok}
 use Rattle.std.specs.List.{All}
+use Rattle.command_line.specs.Rewritings.{is_allowed}
 use Rattle.command_line.specs.declared.tasks.Task.{Task}
 use Rattle.command_line.specs.declared.tasks.Task.TheVariants.{Run, Check, Link, Sites, Show, Gen}
 use Rattle.command_replies.specs.Says.{HasFile}
@@ -32,9 +33,9 @@ pub record HasGoodImage (fs : Files) (relax : Bool) (name image : List ℕ) : Ty
 
 -- of `show` the file stands for an image; and nothing is ever wrong with the job that `gen` makes
 abbrev pub IsGood : Files → Task → Type 0
-IsGood fs (Run job no_relax) = IsGoodJob fs (not no_relax) job
+IsGood fs (Run job rewriting) = IsGoodJob fs (is_allowed rewriting) job
 IsGood fs (Check job) = IsGoodJob fs true job
-IsGood fs (Link job image out no_relax) = HasGoodImage fs (not no_relax) job image
+IsGood fs (Link job image out rewriting) = HasGoodImage fs (is_allowed rewriting) job image
 IsGood fs (Sites job image) = HasGoodImage fs true job image
 IsGood fs (Show file) = HasFile (file_at fs file) IsImage
 IsGood fs (Gen count) = Unit {0}
@@ -43,9 +44,9 @@ IsGood fs (Gen count) = Unit {0}
 
 -- the status of a command that did all that it is to do
 abbrev pub IsDone : Task → ℕ → Type 0
-IsDone (Run job no_relax) code = code ≡ 0
+IsDone (Run job rewriting) code = code ≡ 0
 IsDone (Check job) code = (code ≡ 0) ⊎ (code ≡ 9)
-IsDone (Link job image out no_relax) code = code ≡ 0
+IsDone (Link job image out rewriting) code = code ≡ 0
 IsDone (Sites job image) code = code ≡ 0
 IsDone (Show file) code = code ≡ 0
 IsDone (Gen count) code = code ≡ 0

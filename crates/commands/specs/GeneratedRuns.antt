@@ -7,19 +7,20 @@ use Rattle.job_link.specs.Given.{Given, AreGiven}
 use Rattle.job_link.specs.Mentions.{bytes_in}
 use Rattle.job_text.specs.Jobs.{JobParts}
 use Rattle.job_text.specs.declared.fault.JobFault.{JobFault}
-use Rattle.commands.specs.RunJobs.{AllRan, BytesRun}
 use Rattle.commands.specs.declared.telling.Telling.TheVariants.{Summary}
-use Rattle.commands.specs.declared.told.Purpose.TheVariants.{Run}
+use Rattle.commands.specs.Jobs.{BytesSay, DoLink}
+use Rattle.commands.specs.RunJobs.{IsRun}
 
 -- it ran: its objects are those that were made, all its images link, with sequences rewritten, and one line is told
 pub record GenSays (count status : ℕ) (text : List ℕ) : Type 0 where
   pub images : List Given
   pub given : AreGiven (bytes_in (generated_files count)) (generated_parts count) images
-  pub ran : AllRan (Run (Summary count)) true (generated_parts count) images status text
+  pub ran : DoLink (IsRun (Summary count)) true (generated_parts count) images status text
 
 -- ** on the way
 
 -- what a job, or a text that is none, says over objects that were made
 abbrev pub MadeSays : ℕ → Result JobParts JobFault → ℕ → List ℕ → Type 0
-MadeSays count (Ok job) status text = BytesRun (Run (Summary count)) true (bytes_in (generated_files count)) job status text
+MadeSays count (Ok job) status text =
+    BytesSay (IsRun (Summary count)) true (bytes_in (generated_files count)) job status text
 MadeSays count (Err fault) status text = JobFaultSays fault status text

@@ -1,12 +1,15 @@
--- What is in order before a job runs: its images, and the links that are made of them.
-use Rattle.std.specs.Prelude.{◌≡◌, ◌<◌, ◌^◌, ℕ, List, length, map, Ok}
-use Rattle.job_link.specs.Given.{Given}
+-- What is in order before a command ends: a job's images, and the links that are made of them.
+use Rattle.std.specs.Prelude.{◌≡◌, ◌<◌, ◌≤◌, ◌^◌, ℕ, Bool, List, length, map, Ok}
+use Rattle.job_link.specs.Given.{Given, AreGiven}
+use Rattle.job_link.specs.Linked.{AllLink}
 use Rattle.job_text.specs.Jobs.{JobParts, job_of}
 use Rattle.job_text.specs.LateImages.{LateLast}
 use Rattle.job_text.specs.ProgramFirst.{ProgramFirst}
 use Rattle.link_faults.specs.declared.image_kind.ImageKind.{ImageKind}
 use Rattle.link_needs.specs.Linking.{Linking}
 use Rattle.linked_jobs.specs.Ready.{AreJob}
+use Rattle.loaded_bytes.specs.Small.{AreBytes}
+use Rattle.commands.specs.Jobs.{links_of}
 
 -- the images of a job are in order: the program is the first of them and the only one, and those that an open loads come
 -- last
@@ -17,6 +20,18 @@ pub record AreInOrder (kinds : List ImageKind) : Type 0 where
 -- so they are in each job that a text spells
 abbrev pub IsInOrder : List ℕ → JobParts → Type 0
 IsInOrder text job = job_of text ≡ Ok job → AreInOrder (map (λ image. image.kind) job.images)
+
+-- a job's images all link, which are made of files, and these are their links
+pub record AreLinked (job : JobParts) (images : List Given) (ls : List Linking) : Type 0 where
+  pub some : 1 ≤ length job.images
+  pub few : length job.images ≤ 64
+  pub order : AreInOrder (map (λ image. image.kind) job.images)
+  pub bytes : List ℕ → List ℕ
+  pub small : (name : List ℕ) → AreBytes (bytes name)
+  pub given : AreGiven bytes job images
+  pub relax : Bool
+  pub links : AllLink images relax
+  pub links_are : ls ≡ links_of images relax
 
 -- an image is linked of so few objects that each of their symbols has a number of its own
 abbrev pub IsOfFew : Given → Type 0

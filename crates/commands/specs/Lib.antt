@@ -2,11 +2,12 @@ pub mod Checks
 pub mod Completes
 pub mod GeneratedRuns
 pub mod InOrder
-pub mod LinkSteps
+pub mod Jobs
 pub mod Links
 pub mod Listings
+pub mod Purposes
+pub mod Refusals
 pub mod Replies
 pub mod RunJobs
 pub mod Runs
 pub mod Tasks
-pub mod Wishes

@@ -15,28 +15,28 @@ ShowSays fs name status text = HasFile (file_at fs name) (λ b. ListingSays b st
 
 -- what a command says over these files, after which the store's files are so
 abbrev pub TaskSays : Files → Option Files → Task → ℕ → List ℕ → Type 0
-TaskSays fs after (Run job no_relax) status text = RunSays fs job no_relax status text
+TaskSays fs after (Run job rewriting) status text = RunSays fs job rewriting status text
 TaskSays fs after (Check job) status text = CheckSays fs job status text
-TaskSays fs after (Link job image out no_relax) status text = LinkSays fs after job image out no_relax status text
+TaskSays fs after (Link job image out rewriting) status text = LinkSays fs after job image out rewriting status text
 TaskSays fs after (Sites job image) status text = SitesSays fs job image status text
 TaskSays fs after (Show file) status text = ShowSays fs file status text
 TaskSays fs after (Gen count) status text = GenSays count status text
 
 -- the files after a command: as before, but that `link` may have put the whole image
 abbrev pub TaskLeaves : Option Files → Option Files → Task → Type 0
-TaskLeaves before after (Run job no_relax) = after ≡ before
+TaskLeaves before after (Run job rewriting) = after ≡ before
 TaskLeaves before after (Check job) = after ≡ before
-TaskLeaves before after (Link job image out no_relax) =
-    Leaves before after (λ fs. LinkSays fs after job image out no_relax)
+TaskLeaves before after (Link job image out rewriting) =
+    Leaves before after (λ fs. LinkSays fs after job image out rewriting)
 TaskLeaves before after (Sites job image) = after ≡ before
 TaskLeaves before after (Show file) = after ≡ before
 TaskLeaves before after (Gen count) = after ≡ before
 
 -- the names: the job and then its objects, or the file; none of what is made
 abbrev pub task_names : Files → Task → List (List ℕ)
-task_names fs (Run job no_relax) = run_names fs job
+task_names fs (Run job rewriting) = run_names fs job
 task_names fs (Check job) = run_names fs job
-task_names fs (Link job image out no_relax) = image_names fs job image
+task_names fs (Link job image out rewriting) = image_names fs job image
 task_names fs (Sites job image) = image_names fs job image
 task_names fs (Show file) = file ∷ []
 task_names fs (Gen count) = []

@@ -6,14 +6,16 @@ ghost use Rattle.command_replies.specs.Replies.{AnswerCounts, AnswerKeeps};
 ghost use Rattle.command_replies.specs.Steps.{Asks, Comes};
 ghost use Rattle.image_text.specs.Shown.{shown};
 ghost use Rattle.commands.specs.Replies.{AnswerSays, AsksOfAnswer};
+ghost use Rattle.commands.specs.Links.{SitesSays, image_names};
 ghost use Rattle.commands.specs.Listings.{ListingSays};
 ghost use Rattle.commands.specs.Tasks.{ShowSays, TaskLeaves, TaskSays, task_names};
 
 use crate::generated::generated;
-use crate::links::{link, sites};
+use crate::links::link;
+use crate::purpose::Purpose;
 use crate::telling::Telling;
-use crate::told::{Purpose, told};
-use command_line::Task;
+use crate::told::told;
+use command_line::{Rewriting, Task};
 use command_replies::{Answer, CommandFault, InputRefusal, Reply, Status, reply_of, whole_file};
 use image_file::{Image, ImageFault, read_owned};
 use image_text::push_shown;
@@ -69,16 +71,19 @@ fn output<R: Threads + Sync, S: Store>(
         (S.asked store.old) (S.asked store.new) result) }
 {
     match task {
-        Task::Run { job, no_relax } => {
+        Task::Run { job, rewriting } => {
             let purpose = Purpose::Run(Telling::Transcript);
-            told(rt, alloc, store, job.as_str(), !*no_relax, purpose)
+            told(rt, alloc, store, job.as_str(), *rewriting, purpose)
         }
-        Task::Check { job } => told(rt, alloc, store, job.as_str(), true, Purpose::Check),
+        Task::Check { job } => {
+            let rewriting = Rewriting::Allowed;
+            told(rt, alloc, store, job.as_str(), rewriting, Purpose::Check)
+        }
         Task::Link {
             job,
             image,
             out,
-            no_relax,
+            rewriting,
         } => link(
             rt,
             alloc,
@@ -86,12 +91,31 @@ fn output<R: Threads + Sync, S: Store>(
             job.as_str(),
             image.as_str(),
             out.as_str(),
-            *no_relax,
+            *rewriting,
         ),
         Task::Sites { job, image } => sites(rt, alloc, store, job.as_str(), image.as_str()),
         Task::Show { file } => show(alloc, store, file.as_str()),
         Task::Gen { count } => generated(rt, alloc, *count),
     }
+}
+
+/// `sites JOB IMAGE`: the lines of the image's sites.
+fn sites<R: Threads + Sync, S: Store>(
+    rt: &R,
+    alloc: Global,
+    store: &mut S,
+    job: &str,
+    image: &str,
+) -> Result<Vec<u8>, CommandFault>
+    ensures files { S.files store.new ≡ S.files store.old }
+    ensures cause { StoreCounts (S.faults store.old) (S.faults store.new) result }
+    ensures says { IfSome (S.files store.old) (λ fs. Comes (λ text. text.items)
+        (SitesSays fs job.now image.now) result) }
+    ensures asks { IfSome (S.files store.old) (λ fs. Asks (image_names fs job.now image.now)
+        (S.asked store.old) (S.asked store.new) result) }
+{
+    let purpose = Purpose::Sites { image };
+    told(rt, alloc, store, job, Rewriting::Allowed, purpose)
 }
 
 /// `show FILE`: what the image says.

@@ -9,11 +9,14 @@ ghost use Rattle.job_link.specs.Mentions.{bytes_in};
 ghost use Rattle.generated_job.specs.Generated.{generated_files};
 ghost use Rattle.commands.specs.InOrder.{AreInOrder};
 ghost use Rattle.commands.specs.GeneratedRuns.{GenSays};
-ghost use Rattle.commands.specs.RunJobs.{BytesRun};
+ghost use Rattle.commands.specs.Jobs.{BytesSay};
+ghost use Rattle.commands.specs.RunJobs.{IsRun};
 
 use crate::laws::images_are_in_order;
+use crate::purpose::Ending;
 use crate::telling::Telling;
-use crate::told::{Purpose, told_of_files};
+use crate::told::told_of_files;
+use command_line::Rewriting;
 use command_replies::{CommandFault, job_of};
 use generated_job::{GeneratedFile, generated_objects, generated_text};
 use generated_laws::links::generated_objects_link;
@@ -56,14 +59,14 @@ fn run_generated<R: Threads + Sync>(
     requires some { 1 ≤ count }
     requires few { count ≤ 1000 }
     requires order { AreInOrder (map (λ image. image.kind) job.now.images) }
-    ensures says { Comes (λ text. text.items) (BytesRun (Purpose.Run (Telling.Summary count)) true
-        (bytes_in (generated_files count)) job.now) result }
+    ensures says { Comes (λ text. text.items)
+        (BytesSay (IsRun (Telling.Summary count)) true (bytes_in (generated_files count)) job.now) result }
     ensures cause { NoStoreFault result }
 {
     let objects = generated_objects(alloc, count)?;
     let files = files_of(alloc, objects.as_slice())?;
-    let purpose = Purpose::Run(Telling::Summary { count });
-    told_of_files(rt, alloc, job, &files, true, purpose)
+    let ending = Ending::Run(Telling::Summary { count });
+    told_of_files(rt, alloc, job, &files, Rewriting::Allowed, ending)
 }
 
 /// These files, as if they were fetched.

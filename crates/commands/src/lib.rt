@@ -13,13 +13,13 @@
 //! this program says of its input is a contract: the clauses of `tlsld` and `tlsld_plain`, in `top`.
 //!
 //! A command is read from top to bottom in `command`. For `show` the file is fetched, read as an image, and what it
-//! says is written. The others are about a job, and refuse it for the same reasons, in the same order: the job is
-//! fetched and read, the objects of all its images are fetched and read, and all images are linked. Only then
-//! does a command go its own way. `link` and `sites` (`links`) name an image, which must be one of the job's before any
-//! object is fetched, and make something of it (`made`): its file, which is put into the store whole, or the lines of
-//! its sites. `run` and `check` (`told`) are about the job as a whole: `run` (`runs`) runs its threads over all images
-//! and writes the transcript, and `check` (`checks`) says whether what they do is in the objects alone, or hangs on what a
-//! linker chooses. `gen` (`generated`) is `run` of a job that is made and not fetched.
+//! says is written. The others are about a job, and one chain of steps (`told`) refuses it for the same reasons, in the
+//! same order: the job is fetched and read; an image that `link` or `sites` name is one of it; the objects of all its
+//! images are fetched and read; and all images link. No byte of an image is laid until then. Only then does a command go
+//! its own way (`endings`): `run` (`runs`) writes all images, reads them back, runs the job's threads over them and tells
+//! the transcript; `check` (`checks`) says whether what they do is in the objects alone, or hangs on what a linker
+//! chooses; `sites` (`site_lines`) tells what stands in the place of each sequence; and `link` (`links`) writes its image
+//! alone, and puts the file into the store, whole. `gen` (`generated`) is `run` of a job that is made and not fetched.
 //!
 //! `run` and `check` are tied: where `check` says `clean`, what `run` prints is what the objects mean, event by event and
 //! line by line, whether sequences were rewritten or not (`specs/Runs`, `HasRun`, by the laws of `linked_jobs`).
@@ -38,16 +38,17 @@
 
 mod checks;
 mod command;
+mod endings;
 mod generated;
 mod laws;
 mod links;
-mod made;
+mod purpose;
 mod runs;
+mod site_lines;
 mod telling;
 mod told;
 mod top;
 mod unlinked;
-mod wish;
 
 pub use laws::checked_links_are_run;
 pub use top::{tlsld, tlsld_plain};

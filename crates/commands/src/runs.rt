@@ -21,30 +21,32 @@ ghost use Rattle.transcript_text.specs.Texts.{IsImageNumber};
 use crate::telling::Telling;
 use image_file::Image;
 use image_writer::into_file;
-use job_link::ImageObjects;
+use job_link::{ImageObjects, write_images};
 use job_text::Job;
 use job_turns::run_job;
-use link_core::Linked;
 use link_core::laws::images_hold_tls;
+use link_core::{Linked, ReadyLink};
 use linked_jobs::{linked_jobs_print, transcripts_tell_their_threads};
 use linked_modules::laws::linked_images_are_modules;
 use loaded_modules::Modules;
 use meaning_laws::laws::verdict_knows_no_setting;
 use run_summary::SiteCounts;
 use std::alloc::{AllocError, Global};
+use std::thread::Threads;
 use transcript_text::Transcript;
 
-/// What is told of the run of a job whose images are linked.
-pub fn told_run(
+/// What is told of the run of a job whose images are ready to be written.
+pub fn told_run<R: Threads + Sync>(
+    rt: &R,
     alloc: Global,
     job: &Job,
-    all: Vec<Linked>,
+    ready: Vec<ReadyLink>,
     telling: Telling,
 ) -> Result<Vec<u8>, AllocError>
-    requires links { (ls : List Linking) × AreLinks job.now ls × (all.items ≡ map linked_of ls) }
-    ensures { IfOk result (λ text. (ls : List Linking) → AreLinks job.now ls → all.items ≡ map linked_of ls
-        → IsTold telling job.now ls text.items) }
+    requires { AreLinks job.now ready.items }
+    ensures { IfOk result (λ text. IsTold telling job.now ready.entry.items text.items) }
 {
+    let all = write_images(rt, alloc, ready)?;
     let counts = SiteCounts::of(all.as_slice())?;
     let transcript = run_linked(alloc, job, all)?;
     telling.text(alloc, job, counts, &transcript)

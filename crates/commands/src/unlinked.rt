@@ -1,6 +1,6 @@
 //! Refusals of objects and of images that do not link, as the command has them.
 ghost use Rattle.command_replies.specs.Faults.{IsNoStoreFault};
-ghost use Rattle.commands.specs.LinkSteps.{IsImageRefusalOf, IsReadRefusalOf, NamesImage};
+ghost use Rattle.commands.specs.Refusals.{IsImageRefusalOf, IsReadRefusalOf, NamesImage};
 
 use command_replies::{CommandFault, InputRefusal, link_refusal};
 use job_link::{ImageRefusal, ReadRefusal};

@@ -7,8 +7,6 @@ use Rattle.std.specs.Global.{Vec}
 use Rattle.std.proofs.lemmas.List.{map-append, take_more}
 use Rattle.std.proofs.lemmas.Option.{slice_get-get_or}
 use Rattle.link_core.specs.Faults.{IsLinkFault, Links}
-use Rattle.link_core.specs.Images.{linked_of, LinkedImage}
-use Rattle.link_core.specs.Laws.{HasNoStray}
 use Rattle.link_needs.specs.Linking.{link_of, Linking}
 use Rattle.link_faults.specs.declared.fault.LinkFault.{LinkFault}
 use Rattle.link_faults.specs.declared.fault.LinkFault.TheVariants as link
@@ -43,15 +41,6 @@ sites_held objects sites g o s given =
     → AreSites (slice_index_or objects o []) (slice_index_or sites o []) in
     subst (λ (objects : List (List ℕ)). P objects (map (λ own. own.items) sites)) (sym o)
     (subst (P g.objects) (sym s) given.own)
-
--- none of them has a stray call or a loose relocation
-pub none_stray : (objects : List (List ℕ)) (sites : List (Vec Site)) (kind : ImageKind)
-    (startup : List (List (List ℕ))) (relax : Bool) (g : Given) → objects ≡ g.objects → IsGiven g
-    → HasNoStray (link_of objects sites kind startup relax)
-none_stray objects sites kind startup relax g o given =
-    subst (λ (objects : List (List ℕ)). HasNoStray (link_of objects sites kind startup relax)) (sym o)
-    (λ at below.
-    let sound = given.sound at [] below in (sound.no_loose, sound.no_stray))
 
 -- that beside all startup images
 beside_all : (images : List Given) (relax : Bool) (g : Given)
@@ -104,10 +93,6 @@ module _ (seen : List (List (List ℕ))) (images : List Given) (i : ℕ) (g : Gi
       ∙ ap (λ r. seen ++ r) (sym (exports-cons g (drop (i + 1) images)) ∙ ap exports_of (sym rest))
 
 -- ** links in a row
-
--- what an image comes to
-abbrev pub linked_as : List Given → Bool → Given → LinkedImage
-linked_as images relax g = linked_of (link_in images relax g)
 
 module _ (images : List Given) (relax : Bool) (i : ℕ) (g : Given) (is : g ≡ get_or images i g)
     (inside : i < length images) where

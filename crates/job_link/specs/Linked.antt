@@ -3,7 +3,6 @@ use Rattle.std.specs.Prelude.{◌≡◌, ◌<◌, ℕ, Bool, true, false, List, 
 use Rattle.std.specs.List.{All}
 use Rattle.link_core.specs.Faults.{IsLinkFault, Links}
 use Rattle.link_needs.specs.Linking.{Linking}
-use Rattle.link_core.specs.Images.{LinkedImage, linked_of}
 use Rattle.link_faults.specs.declared.fault.LinkFault.TheVariants.{At}
 use Rattle.link_faults.specs.declared.fault.LinkFaultKind.{LinkFaultKind}
 use Rattle.link_faults.specs.declared.image_kind.ImageKind.{ImageKind}
@@ -35,10 +34,6 @@ link_in images relax g = record {
 -- all link
 abbrev pub AllLink : List Given → Bool → Type 0
 AllLink images relax = All (λ g. Links (link_in images relax g)) images
-
--- what they come to
-abbrev pub linked_in : List Given → Bool → List LinkedImage
-linked_in images relax = map (λ g. linked_of (link_in images relax g)) images
 
 -- image `number`, from 0, is the first that does not link, and this is its first fault
 pub record IsFirstUnlinked (images : List Given) (relax : Bool) (number : ℕ) (kind : LinkFaultKind)

@@ -1,8 +1,8 @@
 -- What a refusal says of a job's objects and images; of want of memory nothing.
 use Rattle.std.specs.Prelude.{ℕ, Bool, List}
 use Rattle.job_text.specs.Jobs.{JobParts}
-use Rattle.job_link.specs.declared.linked_images.ImageRefusal.{ImageRefusal}
-use Rattle.job_link.specs.declared.linked_images.ImageRefusal.TheVariants as unlinked
+use Rattle.job_link.specs.declared.preparing.ImageRefusal.{ImageRefusal}
+use Rattle.job_link.specs.declared.preparing.ImageRefusal.TheVariants as unlinked
 use Rattle.job_link.specs.declared.reading.ReadRefusal.{ReadRefusal}
 use Rattle.job_link.specs.declared.reading.ReadRefusal.TheVariants as unread
 use Rattle.job_link.specs.Given.{Given, IsFirstFaulty}

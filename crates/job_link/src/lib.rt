@@ -1,16 +1,15 @@
 //! The images of a job: their objects fetched, read and linked.
 //!
 //! A job names its images, and each image the object files that it is made of. Between that text and images that run
-//! there are three steps, and for whoever asks what a job means a fourth. This crate is their order:
+//! there are four steps. This crate is their order:
 //!
 //! 1. [`fetch_objects`] asks a store for each object file, and keeps the bytes of all of them. Threads share the reading.
 //! 2. [`read_objects`] reads the objects of each image, and finds the sequences of code that reach thread-local
 //!    storage. Threads share them, and what each says is taken in order.
-//! 3. [`link_images`] links each image beside the names that the startup images export: the program, and the modules
-//!    that start with it. Two threads share a large one.
-//! 4. [`prepare_images`] makes each image ready beside the same names ([`startup_exports`]), or answers the first that
-//!    does not link, with no byte of any laid. [`write_images`] and [`write_image`] write all of them, or one; a checker
-//!    asks what the objects mean ([`inputs_of`]), and needs no file of them.
+//! 3. [`prepare_images`] makes each image ready beside the names that the startup images export ([`startup_exports`]): the
+//!    program, and the modules that start with it. Or it answers the first that does not link. No byte of any is laid.
+//! 4. [`write_images`] and [`write_image`] write all of them, or one, and two threads share a large one; a checker asks
+//!    what the objects mean ([`inputs_of`]), and needs no file of them.
 //!
 //! Two orders meet here. The job's lines **mention** images in any order; in **image order** the program is first, then
 //! come the modules that start with it, then the late ones. Files are fetched and read as they are mentioned, so that a
@@ -45,12 +44,12 @@
 
 mod fetching;
 mod images;
-mod linked_images;
 mod preparing;
 mod reading;
 
 pub use fetching::{Files, fetch_objects};
 pub use images::ImageObjects;
-pub use linked_images::{ImageRefusal, link_images, startup_exports};
-pub use preparing::{inputs_of, prepare_images, write_image, write_images};
+pub use preparing::{
+    ImageRefusal, inputs_of, prepare_images, startup_exports, write_image, write_images,
+};
 pub use reading::{ReadRefusal, read_objects};

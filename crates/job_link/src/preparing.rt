@@ -5,18 +5,80 @@
 ghost use Rattle.std.specs.Prelude.{◌≡◌, ◌≤◌, ◌<◌, ◌-◌, ◌^◌, All, IfErr, IfOk, OnOk, length, map};
 ghost use Rattle.link_core.specs.Faults.{IsLinkFault, IsSound, Links};
 ghost use Rattle.link_core.specs.Images.{linked_of};
-ghost use Rattle.job_link.specs.Linked.{exports_of, link_in, AllLink};
+ghost use Rattle.job_link.specs.Linked.{exports_of, is_startup as starts, link_in, AllLink};
 ghost use Rattle.job_link.specs.Beside.{link_beside};
-ghost use Rattle.job_link.specs.Refusals.{IsImageRefusal};
+ghost use Rattle.job_link.specs.Refusals.{refusal_of, IsImageRefusal};
 
 use crate::images::ImageObjects;
-use crate::linked_images::{ImageRefusal, refused};
 use link_core::{Linked, ReadyLink, prepare};
-use link_faults::LinkFault;
+use link_faults::{ImageKind, LinkFault, LinkFaultKind};
 use link_needs::Inputs;
-use std::alloc::{AllocError, Global};
+use std::alloc::{AllocError, AllocFailed, Global};
 use std::thread::Threads;
-use tls_symbols::Exports;
+use tls_symbols::{Exports, exports};
+
+/// Why the images of a job do not link.
+#[derive(Clone, Copy)]
+pub enum ImageRefusal {
+    /// There was no memory for an image.
+    OutOfMemory,
+    /// The first image that does not link, by its number in image order from 0, and its first fault.
+    At {
+        image: usize,
+        kind: LinkFaultKind,
+        object: Option<u64>,
+        section: u64,
+        entry: u64,
+    },
+}
+
+impl From<AllocError> for ImageRefusal {
+    ghost use Rattle.std.specs.Prelude.{◌≡◌};
+    ghost use Rattle.job_link.specs.declared.preparing.ImageRefusal.TheVariants.{OutOfMemory as NoRoom};
+
+    ghost from_gives = { λ _ refusal. refusal ≡ NoRoom };
+
+    fn from(_error: AllocError) -> ImageRefusal {
+        ImageRefusal::OutOfMemory
+    }
+}
+
+impl<T: Drop> From<AllocFailed<T>> for ImageRefusal {
+    ghost use Rattle.std.specs.Prelude.{◌≡◌};
+    ghost use Rattle.job_link.specs.declared.preparing.ImageRefusal.TheVariants.{OutOfMemory as NoRoom};
+
+    ghost from_gives = { λ _ refusal. refusal ≡ NoRoom };
+
+    fn from(_error: AllocFailed<T>) -> ImageRefusal {
+        ImageRefusal::OutOfMemory
+    }
+}
+
+/// Whether an image is the program, or a module that starts with it.
+fn is_startup(kind: ImageKind) -> bool
+    ensures { result ≡ starts kind }
+{
+    match kind {
+        ImageKind::Exe | ImageKind::Pie | ImageKind::Start => true,
+        ImageKind::Late => false,
+    }
+}
+
+/// What the startup images export: the program, and the modules that start with it.
+pub fn startup_exports<'a>(
+    alloc: Global,
+    images: &[ImageObjects<'a>],
+) -> Result<Vec<Exports<'a>>, AllocError>
+    ensures { IfOk result (λ startup. startup.items ≡ exports_of images.now) }
+{
+    let mut startup = Vec::new(alloc);
+    for image in images {
+        if is_startup(image.kind()) {
+            startup.push(exports(alloc, image.objects())?)?;
+        }
+    }
+    Ok(startup)
+}
 
 /// A link that is ready, where all its fields hold their values, or the first that does not.
 fn fitting<'l, 's, 'a>(ready: ReadyLink<'l, 's, 'a>) -> Result<ReadyLink<'l, 's, 'a>, LinkFault>
@@ -53,6 +115,27 @@ fn ready_one<'i, 'a>(
     ) {
         Ok(ready) => fitting(ready),
         Err(fault) => Err(fault),
+    }
+}
+
+/// What is told of the image of this number.
+fn refused(image: usize, fault: LinkFault) -> ImageRefusal
+    ensures { result ≡ refusal_of image fault }
+{
+    match fault {
+        LinkFault::OutOfMemory => ImageRefusal::OutOfMemory,
+        LinkFault::At {
+            kind,
+            object,
+            section,
+            entry,
+        } => ImageRefusal::At {
+            image,
+            kind,
+            object,
+            section,
+            entry,
+        },
     }
 }
 

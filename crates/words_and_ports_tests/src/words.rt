@@ -1,30 +1,30 @@
 //! The words of each kind that users write, and what they ask for.
-use command_line::{Task, WordsFault, read_words};
+use command_line::{Rewriting, Task, WordsFault, read_words};
 use std::alloc::{AllocError, Global};
 use std::process::Abort;
 use std::test::Fail;
 
 /// Each line: what is asked for, and each word behind a `|`.
 const CASES: &str = "\
-run job false|run|job
-run job true|run|job|--no-relax
-run job true|run|--no-relax|job
-run - false|run|-
-run  false|run|
-run a=b c false|run|a=b c
-run job false|run|--|job
-run --no-relax false|run|--|--no-relax
-run -- false|run|--|--
-run -x true|run|--no-relax|--|-x
-run run false|run|run
-link job app out false|link|job|app|out
-link a b c true|link|--no-relax|a|b|c
-link a b c true|link|a|--no-relax|b|c
-link a b c true|link|a|b|--no-relax|c
-link a b c true|link|a|b|c|--no-relax
-link a b --no-relax false|link|a|b|--|--no-relax
-link - - - false|link|-|-|-
-link link sites run false|link|link|sites|run
+run job allowed|run|job
+run job off|run|job|--no-relax
+run job off|run|--no-relax|job
+run - allowed|run|-
+run  allowed|run|
+run a=b c allowed|run|a=b c
+run job allowed|run|--|job
+run --no-relax allowed|run|--|--no-relax
+run -- allowed|run|--|--
+run -x off|run|--no-relax|--|-x
+run run allowed|run|run
+link job app out allowed|link|job|app|out
+link a b c off|link|--no-relax|a|b|c
+link a b c off|link|a|--no-relax|b|c
+link a b c off|link|a|b|--no-relax|c
+link a b c off|link|a|b|c|--no-relax
+link a b --no-relax allowed|link|a|b|--|--no-relax
+link - - - allowed|link|-|-|-
+link link sites run allowed|link|link|sites|run
 sites job app|sites|job|app
 sites --no-relax app|sites|--|--no-relax|app
 sites a=b |sites|a=b|
@@ -107,23 +107,36 @@ usage|gen|--no-relax|5
 usage|ge|5
 ";
 
+/// How a case writes whether sequences may be rewritten.
+fn shown(rewriting: Rewriting) -> &'static str {
+    match rewriting {
+        Rewriting::Allowed => "allowed",
+        Rewriting::Off => "off",
+    }
+}
+
 /// What is asked for, as a case writes it.
 fn told(alloc: Global, task: Result<Task, WordsFault>) -> Result<String, AllocError> {
     match task {
-        Ok(Task::Run { job, no_relax }) => format!(in alloc; "run {} {no_relax}", job.as_str()),
+        Ok(Task::Run { job, rewriting }) => format!(in alloc;
+            "run {} {}",
+            job.as_str(),
+            shown(rewriting)
+        ),
         Ok(
             Task::Link {
                 job,
                 image,
                 out,
-                no_relax,
+                rewriting,
             },
         ) => {
             format!(in alloc;
-                "link {} {} {} {no_relax}",
+                "link {} {} {} {}",
                 job.as_str(),
                 image.as_str(),
-                out.as_str()
+                out.as_str(),
+                shown(rewriting)
             )
         }
         Ok(Task::Sites { job, image }) => format!(in alloc;

@@ -1,4 +1,4 @@
-use Rattle.commands.proofs.Running.{checked_links}
+use Rattle.commands.proofs.Ready.{checked_links}
 use Rattle.commands.proofs.laws.checked_links_are_run.Goals as goal
 
 pub returns : goal.returns

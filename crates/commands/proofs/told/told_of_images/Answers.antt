@@ -1,35 +1,41 @@
-use Rattle.std.proofs.Common.{◌∙◌, ◌≤◌, length, subst}
-use Rattle.commands.specs.RunJobs.{links_of}
-use Rattle.commands.proofs.Making.{names_image}
-use Rattle.commands.proofs.Running.{are_links, linked_all, unlinked_run}
-use Rattle.commands.proofs.Answered.{images_run}
+use Rattle.std.proofs.Common.{◌≤◌, length, subst, arith}
+use Rattle.command_line.specs.Rewritings.{is_allowed}
+use Rattle.commands.specs.Purposes.{Makes}
+use Rattle.commands.proofs.Fetched.{count_is, linked_say, names_image, unlinked_say}
 use Rattle.commands.proofs.told.told_of_images.Goals as goal
 
-pub told_run-requires : goal.told_run-requires
-told_run-requires g c = record {
-  links = (
-    links_of c.args.images.now c.args.relax,
-    are_links c.args.job.now c.args.images.now c.args.relax c.requires.given.0 c.requires.given.1
-        (subst (λ is. length is ≤ 64) c.images-images.ensures.value c.images-images.ensures.few) c.requires.given.2 c.requires.order
-        (c.are_of_few.ensures.few c.if-are_of_few.true) c.in-Ok.ensures.links,
-    c.in-Ok.ensures.linked ∙ linked_all c.args.images.now c.args.relax c.args.images.now,
-  );
-}
+pub prepare_images-requires-clause-few : goal.prepare_images-requires-clause-few
+prepare_images-requires-clause-few g c =
+    let (bytes, are, small) = c.requires.given in
+    let few = subst (λ is. length is ≤ 64) c.images-images.ensures.value c.images-images.ensures.few in
+    omega (arith, count_is bytes c.args.job.now c.args.images.now are, few)
+
+pub ended-requires-clause-linked : goal.ended-requires-clause-linked
+ended-requires-clause-linked g c κs within =
+    let (bytes, are, small) = c.requires.given in
+    record {
+      some = subst (λ is. 1 ≤ length is) c.images-images.ensures.value c.images-images.ensures.some;
+      few = subst (λ is. length is ≤ 64) c.images-images.ensures.value c.images-images.ensures.few;
+      order = c.requires.order;
+      bytes = bytes;
+      small = small;
+      given = are;
+      relax = c.is_allowed.result;
+      links = c.in-Ok.ensures.links;
+      links_are = c.in-Ok.ensures.ready;
+    }
 
 pub unlinked-requires : goal.unlinked-requires
-unlinked-requires g c = names_image c.args.job.now c.args.images.now c.args.relax c.requires.given.0 c.requires.given.1 c.in-Err.refusal c.in-Err.ensures.refused
+unlinked-requires g c =
+    let (bytes, are, small) = c.requires.given in
+    names_image c.args.job.now c.args.images.now c.is_allowed.result (count_is bytes c.args.job.now c.args.images.now are) c.in-Err.refusal c.in-Err.ensures.refused
 
-pub returns-in_ok-told_run-in-Run-clause-says : goal.returns-in_ok-told_run-in-Run-clause-says
-returns-in_ok-told_run-in-Run-clause-says g c =
-    let links =
-    are_links c.args.job.now c.args.images.now c.args.relax c.requires.given.0 c.requires.given.1
-    (subst (λ is. length is ≤ 64) c.images-images.ensures.value c.images-images.ensures.few) c.requires.given.2 c.requires.order
-    (c.are_of_few.ensures.few c.if-are_of_few.true) c.in-Ok.ensures.links in
-    images_run c.args.purpose c.in-Run.telling c.in-Run.is c.args.relax c.args.job.now c.args.images.now c.in-Ok.ensures.links
-    c.in_ok-told_run-in-Run.field-0.items
-    (c.in_ok-told_run-in-Run.ensures (links_of c.args.images.now c.args.relax) links
-    (c.in-Ok.ensures.linked ∙ linked_all c.args.images.now c.args.relax c.args.images.now))
+pub returns-in-Ok-clause-says : goal.returns-in-Ok-clause-says
+returns-in-Ok-clause-says g c =
+    linked_say (Makes c.args.ending) c.is_allowed.result (is_allowed c.args.rewriting) c.is_allowed.ensures c.args.job.now c.args.images.now c.in-Ok.ready.items c.in-Ok.ensures.links
+    c.in-Ok.ensures.ready c.ended.result c.ended.ensures.says
 
-pub returns-in-Err-clause-says : goal.returns-in-Err-clause-says
-returns-in-Err-clause-says g c =
-    unlinked_run c.args.purpose c.args.job.now c.args.images.now c.args.relax c.in-Err.refusal c.unlinked.result c.in-Err.ensures.refused c.unlinked.ensures.says
+pub returns-clause-says : goal.returns-clause-says
+returns-clause-says g c =
+    unlinked_say (Makes c.args.ending) c.is_allowed.result (is_allowed c.args.rewriting) c.is_allowed.ensures c.args.job.now c.args.images.now c.in-Err.refusal c.unlinked.result
+    c.in-Err.ensures.refused c.unlinked.ensures.says

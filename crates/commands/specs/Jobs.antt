@@ -1,0 +1,125 @@
+-- What a command of a job says over the files of a store: how the job is refused, in which order, and of a job whose
+-- images all link what the command's own ending says.
+use Rattle.std.specs.Prelude.{◌≡◌, ◌⊎◌, ℕ, Bool, true, false, List, [], ◌∷◌, map, slice_get}
+use Rattle.std.specs.Prelude.{Option, Some, None, IsSome, Result, Ok, Err, is_some}
+use Rattle.std.specs.List.{All}
+use Rattle.std.specs.Option.{option_map_or}
+use Rattle.command_replies.specs.Says.{HasFile, Is, JobFaultSays, fault_text, job_fault_text, link_line, shown_object}
+use Rattle.job_link.specs.Given.{Given, AreGiven, IsFirstFaulty}
+use Rattle.job_link.specs.Linked.{AllLink, IsFirstUnlinked, link_in}
+use Rattle.job_link.specs.Mentions.{bytes_at, object_names}
+use Rattle.job_text.specs.declared.fault.JobFault.{JobFault}
+use Rattle.job_text.specs.declared.fault.JobFaultKind.TheVariants.{Name}
+use Rattle.job_text.specs.Images.{image_number}
+use Rattle.job_text.specs.Jobs.{JobParts, job_of}
+use Rattle.link_faults.specs.declared.fault.LinkFaultKind.{LinkFaultKind}
+use Rattle.link_needs.specs.Linking.{Linking}
+use Rattle.object_rules.specs.declared.fault.FaultKind.{FaultKind}
+use Rattle.ports.specs.Files.{Files, file_at}
+
+-- ---- the refusals
+
+-- the names of the objects of an image of the job, by its number from 0
+abbrev pub objects_of : JobParts → ℕ → List (List ℕ)
+objects_of job number = option_map_or (λ image. image.objects) (slice_get job.images number) []
+
+-- an image of the job that does not link, by its number from 0
+abbrev pub link_fault_text : JobParts → ℕ → LinkFaultKind → Option ℕ → ℕ → ℕ → List ℕ
+link_fault_text job number kind object section entry =
+    link_line (option_map_or (λ image. image.name) (slice_get job.images number) []) kind
+    (shown_object (objects_of job number) object) section entry
+
+-- an object has a fault: 6, and the first
+pub record IsUnread (bytes : List ℕ → List ℕ) (job : JobParts) (status : ℕ) (text : List ℕ) : Type 0 where
+  pub name : List ℕ
+  pub section : ℕ
+  pub entry : ℕ
+  pub kind : FaultKind
+  pub first : IsFirstFaulty bytes job name section entry kind
+  pub says : Is 6 (fault_text name section entry kind) status text
+
+-- an image does not link: 7, and the first
+pub record IsUnlinked (relax : Bool) (job : JobParts) (images : List Given) (status : ℕ) (text : List ℕ) : Type 0 where
+  pub number : ℕ
+  pub kind : LinkFaultKind
+  pub object : Option ℕ
+  pub section : ℕ
+  pub entry : ℕ
+  pub first : IsFirstUnlinked images relax number kind object section entry
+  pub says : Is 7 (link_fault_text job number kind object section entry) status text
+
+-- ---- a job whose images all link
+
+-- the links of its images, in image order
+abbrev pub links_of : List Given → Bool → List Linking
+links_of images relax = map (link_in images relax) images
+
+-- what is said of it and of these links: a status and a text
+abbrev pub Ending : Type 1
+Ending = JobParts → List Linking → ℕ → List ℕ → Type 0
+
+-- ---- the command
+
+-- E: what it says where all images link; relax: whether sequences may be rewritten
+module _ (E : Ending) (relax : Bool) where
+  -- all images link
+  pub record DoLink (job : JobParts) (images : List Given) (status : ℕ) (text : List ℕ) : Type 0 where
+    pub links : AllLink images relax
+    pub says : E job (links_of images relax) status text
+
+  abbrev pub ImagesSay : JobParts → List Given → ℕ → List ℕ → Type 0
+  ImagesSay job images status text = DoLink job images status text ⊎ IsUnlinked relax job images status text
+
+  -- each object is in order
+  pub record AreRead (bytes : List ℕ → List ℕ) (job : JobParts) (status : ℕ) (text : List ℕ) : Type 0 where
+    pub images : List Given
+    pub given : AreGiven bytes job images
+    pub says : ImagesSay job images status text
+
+  abbrev pub BytesSay : (List ℕ → List ℕ) → JobParts → ℕ → List ℕ → Type 0
+  BytesSay bytes job status text = AreRead bytes job status text ⊎ IsUnread bytes job status text
+
+  -- fs: the files; each object is there
+  pub record ObjectsSay (fs : Files) (job : JobParts) (status : ℕ) (text : List ℕ) : Type 0 where
+    pub there : All (λ name. IsSome (file_at fs name)) (object_names job)
+    pub says : BytesSay (bytes_at fs) job status text
+
+  -- the job has the image that the command names, or it has not
+  abbrev pub NamedSays : Files → JobParts → Bool → ℕ → List ℕ → Type 0
+  NamedSays fs job true status text = ObjectsSay fs job status text
+  NamedSays fs job false status text = Is 5 (job_fault_text 0 Name) status text
+
+-- the job has an image of that name, where one is named
+abbrev pub has : JobParts → Option (List ℕ) → Bool
+has job None = true
+has job (Some name) = is_some (image_number job.images name)
+
+-- image: the name of the image that the command is about; none where it is about all
+module _ (image : Option (List ℕ)) where
+  module _ (E : Ending) (relax : Bool) (fs : Files) where
+    abbrev pub JobSays : Result JobParts JobFault → ℕ → List ℕ → Type 0
+    JobSays (Ok job) status text = NamedSays E relax fs job (has job image) status text
+    JobSays (Err fault) status text = JobFaultSays fault status text
+
+    -- of the job in the file of that name
+    abbrev pub FileSays : List ℕ → ℕ → List ℕ → Type 0
+    FileSays name status text = HasFile (file_at fs name) (λ bytes. JobSays (job_of bytes) status text)
+
+-- ---- the names asked for
+
+-- the objects of all images of the job, where it has the image
+abbrev pub named_objects : JobParts → Bool → List (List ℕ)
+named_objects job true = object_names job
+named_objects job false = []
+
+abbrev pub job_names : Option (List ℕ) → Result JobParts JobFault → List (List ℕ)
+job_names image (Ok job) = named_objects job (has job image)
+job_names image (Err fault) = []
+
+abbrev pub file_names : Option (List ℕ) → Option (List ℕ) → List (List ℕ)
+file_names image None = []
+file_names image (Some bytes) = job_names image (job_of bytes)
+
+-- the job, and then its objects
+abbrev pub asked_names : Files → List ℕ → Option (List ℕ) → List (List ℕ)
+asked_names fs name image = name ∷ file_names image (file_at fs name)

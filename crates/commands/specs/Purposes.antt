@@ -1,0 +1,71 @@
+-- What is asked of a job, by the image's name, or where it is found by its place; and what is told of it.
+use Rattle.std.specs.Prelude.{◌≡◌, ◌+◌, ◌<◌, ℕ, Bool, true, false, List, Option, Some, None, Result, length}
+use Rattle.command_line.specs.declared.tasks.Rewriting.{Rewriting}
+use Rattle.command_line.specs.Rewritings.{is_allowed}
+use Rattle.command_replies.specs.declared.fault.CommandFault.{CommandFault}
+use Rattle.command_replies.specs.declared.fault.CommandFault.TheVariants.{Refused}
+use Rattle.command_replies.specs.declared.fault.InputRefusal.TheVariants.{Job}
+use Rattle.job_text.specs.declared.fault.JobFault.{JobFault}
+use Rattle.job_text.specs.declared.fault.JobFaultKind.TheVariants.{Name}
+use Rattle.job_text.specs.Images.{image_number}
+use Rattle.job_text.specs.Jobs.{JobParts}
+use Rattle.link_needs.specs.Linking.{Linking}
+use Rattle.ports.specs.Files.{Files}
+use Rattle.commands.specs.declared.purpose.Ending.{Ending as Placed}
+use Rattle.commands.specs.declared.purpose.Ending.TheVariants as found
+use Rattle.commands.specs.declared.purpose.Purpose.{Purpose}
+use Rattle.commands.specs.declared.purpose.Purpose.TheVariants.{Run, Check, File, Sites}
+use Rattle.commands.specs.Checks.{VerdictSays}
+use Rattle.commands.specs.Jobs.{FileSays, JobSays, objects_of}
+use Rattle.commands.specs.Links.{AreLines, IsFile, OfImage, OfLink}
+use Rattle.commands.specs.RunJobs.{IsRun}
+
+-- the name of the image that is asked about
+abbrev pub wanted_by : Purpose → Option (List ℕ)
+wanted_by (Run telling) = None
+wanted_by Check = None
+wanted_by (File image) = Some image.now
+wanted_by (Sites image) = Some image.now
+
+-- what is said where all images link
+abbrev pub Tells : Purpose → JobParts → List Linking → ℕ → List ℕ → Type 0
+Tells (Run telling) job ls status text = IsRun telling job ls status text
+Tells Check job ls status text = VerdictSays job ls status text
+Tells (File image) job ls status text = OfImage image.now (λ own number. IsFile) job ls status text
+Tells (Sites image) job ls status text =
+    OfImage image.now (λ own number. AreLines (objects_of own number)) job ls status text
+
+abbrev pub JobTold : Purpose → Rewriting → Files → Result JobParts JobFault → ℕ → List ℕ → Type 0
+JobTold purpose rewriting fs job status text =
+    JobSays (wanted_by purpose) (Tells purpose) (is_allowed rewriting) fs job status text
+
+abbrev pub FileTold : Purpose → Rewriting → Files → List ℕ → ℕ → List ℕ → Type 0
+FileTold purpose rewriting fs name status text =
+    FileSays (wanted_by purpose) (Tells purpose) (is_allowed rewriting) fs name status text
+
+-- ---- where the image is found
+
+abbrev pub Finds : Purpose → JobParts → Placed → Type 0
+Finds (Run telling) job ending = ending ≡ found.Run telling
+Finds Check job ending = ending ≡ found.Check
+Finds (File image) job (found.File place) = image_number job.images image.now ≡ Some (place + 1)
+Finds (Sites image) job (found.Sites place) = image_number job.images image.now ≡ Some (place + 1)
+Finds purpose job ending = ⊥
+
+-- it is an image of the job
+abbrev pub IsWithin : Placed → JobParts → Type 0
+IsWithin (found.Run telling) job = Unit {0}
+IsWithin found.Check job = Unit {0}
+IsWithin (found.File place) job = place < length job.images
+IsWithin (found.Sites place) job = place < length job.images
+
+-- why it is not found
+abbrev pub IsMissing : Bool → CommandFault → Type 0
+IsMissing true f = ⊥
+IsMissing false f = f ≡ Refused (Job 0 Name)
+
+abbrev pub Makes : Placed → JobParts → List Linking → ℕ → List ℕ → Type 0
+Makes (found.Run telling) job ls status text = IsRun telling job ls status text
+Makes found.Check job ls status text = VerdictSays job ls status text
+Makes (found.File place) job ls status text = OfLink place IsFile ls status text
+Makes (found.Sites place) job ls status text = OfLink place (AreLines (objects_of job place)) ls status text
