@@ -21,7 +21,7 @@ pub(crate) fn fetched<S: Store>(
 }
 
 /// A new folder for one test.
-fn new_folder<R: Files + Sync>(
+fn new_folder<R: Files>(
     rt: &R,
     alloc: Global,
     temp: &str,
@@ -34,7 +34,7 @@ fn new_folder<R: Files + Sync>(
 }
 
 /// What a file holds, behind a mark.
-fn read_back<R: Files + Sync>(rt: &R, alloc: Global, name: &str) -> io::Result<Vec<u8>> {
+fn read_back(rt: &HostRuntime, alloc: Global, name: &str) -> io::Result<Vec<u8>> {
     match fetched(alloc, &mut HostStore::new(rt, alloc), name) {
         Ok(text) => Ok(text),
         Err(_) => Err(Error::from(ErrorKind::Other)),
@@ -47,7 +47,7 @@ fn path(alloc: Global, folder: &str, name: &str) -> Result<String, AllocError> {
 }
 
 /// Lays a file that a put has left over, and a link to a file.
-fn lay<R: Files + Sync>(rt: &R, alloc: Global, folder: &str, file: &str) -> io::Result<()> {
+fn lay<R: Files>(rt: &R, alloc: Global, folder: &str, file: &str) -> io::Result<()> {
     fs::write(rt, path(alloc, folder, "file.part0")?.as_str(), "left over")?;
     symlink(rt, file, path(alloc, folder, "link")?.as_str())
 }
@@ -64,7 +64,7 @@ fn put_all<S: Store>(store: &mut S, alloc: Global, folder: &str, file: &str) -> 
 }
 
 /// What a file then holds, and how many faults there were.
-fn keeps_files<R: Files + Sync>(rt: &R, alloc: Global, folder: &str) -> io::Result<(Vec<u8>, u64)> {
+fn keeps_files(rt: &HostRuntime, alloc: Global, folder: &str) -> io::Result<(Vec<u8>, u64)> {
     let file = path(alloc, folder, "file")?;
     lay(rt, alloc, folder, file.as_str())?;
     let mut store = HostStore::new(rt, alloc);
@@ -85,8 +85,8 @@ fn a_host_store_keeps_files(rt: HostRuntime) -> Result<(), Fail> {
 }
 
 /// The length of what a fetch gives of a file on a disk with this fault.
-fn fetched_length<R: Files + Sync>(
-    rt: &R,
+fn fetched_length(
+    rt: &HostRuntime,
     alloc: Global,
     file: &str,
     fault: Fault,
@@ -115,8 +115,8 @@ fn a_host_store_fetches_up_to_2_to_28_bytes(rt: HostRuntime) {
 }
 
 /// What a fetch gives of a file that tells one length and has another.
-fn fetched_from<R: Files + Sync>(
-    rt: &R,
+fn fetched_from(
+    rt: &HostRuntime,
     alloc: Global,
     file: &str,
     told: u64,
@@ -127,8 +127,8 @@ fn fetched_from<R: Files + Sync>(
 }
 
 /// What fetches give of a file that is shorter than it tells, is as long, is longer, and tells too much.
-fn told_lengths<R: Files + Sync>(
-    rt: &R,
+fn told_lengths(
+    rt: &HostRuntime,
     alloc: Global,
     folder: &str,
 ) -> io::Result<[Result<usize, FetchFault>; 4]> {
@@ -154,7 +154,7 @@ fn a_told_length_is_a_hint_but_for_its_limit(rt: HostRuntime) -> Result<(), Fail
 }
 
 /// Puts over an old file, on a disk that fails in one way, and says whether the put failed.
-fn put_fails<R: Files + Sync>(rt: &R, alloc: Global, file: &str, fault: Fault) -> bool {
+fn put_fails(rt: &HostRuntime, alloc: Global, file: &str, fault: Fault) -> bool {
     let disk = FaultyDisk { disk: rt, fault };
     let mut store = HostStore::new(&disk, alloc);
     store.put(file, b"a text") == Err(PutFault::Failed) && store.faults() == 1
@@ -162,11 +162,7 @@ fn put_fails<R: Files + Sync>(rt: &R, alloc: Global, file: &str, fault: Fault) -
 
 /// Puts over an old file, on disks that fail in each way, and says what then stands there, if each put failed. The
 /// folder can only be removed where no other file is left.
-fn survives_failing_puts<R: Files + Sync>(
-    rt: &R,
-    alloc: Global,
-    folder: &str,
-) -> io::Result<Vec<u8>> {
+fn survives_failing_puts(rt: &HostRuntime, alloc: Global, folder: &str) -> io::Result<Vec<u8>> {
     let file = path(alloc, folder, "file")?;
     fs::write(rt, file.as_str(), "old")?;
     for fault in [Fault::Write, Fault::Rename] {

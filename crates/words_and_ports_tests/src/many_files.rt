@@ -70,8 +70,8 @@ fn the_first_refusal_is_the_last_call(rt: HostRuntime) -> Result<(), Fail> {
     Ok(())
 }
 
-/// The names of files in a folder, the first `there` of which are laid, each a thousand times as long as the one before
-/// it is far from the first.
+/// The names of nine files in a folder. The first `there` of them are laid, each a thousand bytes longer than the one
+/// before.
 fn lay_files<R: Files>(
     rt: &R,
     alloc: Global,
@@ -90,48 +90,53 @@ fn lay_files<R: Files>(
     Ok(names)
 }
 
-/// How long each file is that a store of the host fetches side by side, and how often it failed.
-fn lengths<R: Files + Sync, T: Threads + Sync>(
+/// How long each file is that a store fetches side by side.
+fn lengths<S: Store, R: Threads + Sync>(
     rt: &R,
-    threads: &T,
     alloc: Global,
+    store: &mut S,
     names: &[String],
-) -> io::Result<(Result<Vec<usize>, FetchFault>, u64)> {
-    let mut store = HostStore::new(rt, alloc);
+) -> Result<Vec<usize>, FetchFault> {
     let mut texts = Vec::new(alloc);
     for name in names {
-        texts.push(name.as_str())?;
+        texts.push(name.as_str()).map_err(AllocError::from)?;
     }
     let mut lengths = Vec::new(alloc);
-    let files = match fetch_each(threads, alloc, &mut store, texts.as_slice()) {
-        Ok(files) => files,
-        Err(fault) => return Ok((Err(fault), store.faults())),
-    };
-    for file in files.as_slice() {
-        lengths.push(file.as_slice().len())?;
+    for file in fetch_each(rt, alloc, store, texts.as_slice())?.as_slice() {
+        lengths
+            .push(file.as_slice().len())
+            .map_err(AllocError::from)?;
     }
-    Ok((Ok(lengths), store.faults()))
+    Ok(lengths)
 }
 
 /// What is fetched of nine files, of eight that are there and one that is not, and over a disk that tells a wrong length.
-fn fetches_of_host<R: Files + Threads + Sync>(
-    rt: &R,
+fn fetches_of_host<R: Threads + Sync>(
+    rt: &HostRuntime,
+    threads: &R,
     alloc: Global,
     folder: &str,
 ) -> io::Result<bool> {
     let expected = [0, 1000, 2000, 3000, 4000, 5000, 6000, 7000, 8000];
-    let missing = lay_files(rt, alloc, folder, 8)?;
-    let (none, faults) = lengths(rt, rt, alloc, missing.as_slice())?;
+    let mut store = HostStore::new(rt, alloc);
+    let names = lay_files(rt, alloc, folder, 8)?;
+    let none = lengths(threads, alloc, &mut store, names.as_slice());
+    let faults = store.faults();
     let names = lay_files(rt, alloc, folder, 9)?;
-    let (all, no_faults) = lengths(rt, rt, alloc, names.as_slice())?;
+    let all = lengths(threads, alloc, &mut store, names.as_slice());
     let disk = FaultyDisk {
         disk: rt,
         fault: Fault::Length(4_500, None),
     };
-    let (longer, _) = lengths(&disk, rt, alloc, names.as_slice())?;
+    let longer = lengths(
+        threads,
+        alloc,
+        &mut HostStore::new(&disk, alloc),
+        names.as_slice(),
+    );
     let is_all = matches!(&all, Ok(all) if all.as_slice() == expected.as_slice());
     let is_longer = matches!(&longer, Ok(all) if all.as_slice() == [4_500; 9].as_slice());
-    Ok(is_all && is_longer && no_faults == 0 && none.is_err() && faults == 1)
+    Ok(is_all && is_longer && none.is_err() && (faults, store.faults()) == (1, 1))
 }
 
 #[test]
@@ -141,7 +146,7 @@ fn a_host_store_is_read_by_several_threads(rt: HostRuntime) -> Result<(), Fail> 
     let id = process::id(rt.process());
     let folder = format!(in rt.alloc(); "{path}/tlsld-many-files-{id}")?;
     fs::create_dir(&rt, folder.as_str())?;
-    let is_fetched = fetches_of_host(&rt, rt.alloc(), folder.as_str());
+    let is_fetched = fetches_of_host(&rt, &rt, rt.alloc(), folder.as_str());
     fs::remove_dir_all(&rt, folder.as_str())?;
     assert!(rt; is_fetched?);
     Ok(())
