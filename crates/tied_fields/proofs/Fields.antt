@@ -21,7 +21,6 @@ use Rattle.link_core.proofs.LengthsInside.{is_object}
 use Rattle.link_core.proofs.StandingPlaces.{IsIn, field_in}
 use Rattle.link_core.proofs.Together.{together}
 use Rattle.link_core.proofs.TogetherSites.{first_within, own_relocation, second_within}
-use Rattle.link_core.proofs.WritingWalks.{held_is}
 use Rattle.link_core.specs.Faults.{Links, Overflows}
 use Rattle.link_core.specs.Laws.{HasNoStray}
 use Rattle.link_needs.specs.Given.{IsGiven}
@@ -46,6 +45,7 @@ use Rattle.thread_blocks.specs.JobLoads.{job_loads}
 use Rattle.tls_relocs.specs.declared.fields.Field.{Field}
 use Rattle.tls_relocs.specs.declared.fields.Field.TheVariants.{Empty}
 use Rattle.tls_relocs.specs.Fields.{field_bytes}
+use Rattle.tls_symbols.proofs.Walked.{held_is}
 use Rattle.tls_symbols.specs.Faults.{held_in}
 use Rattle.whole_meaning.specs.Bytes.{covers}
 use Rattle.whole_meaning.specs.Code.{is_in_site}
