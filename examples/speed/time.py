@@ -1,8 +1,9 @@
 #!/usr/bin/env python3
 """time.py TLSLD: times `link` beside the linkers that are there, on the same objects.
 
-Each linker links the objects of each shape five times, in turns, where no output stands yet; the least wall-clock time of each is printed in
-milliseconds, and the greatest memory in MiB. For tlsld the growth from 1,000 to 8,000 objects stands in the last line.
+Each linker links the objects of each shape five times, in turns, where no output stands yet; the least wall-clock time
+of each is printed in milliseconds, and the greatest memory in MiB. For tlsld the growth from 1,000 to 8,000 objects
+stands in the last line.
 """
 import glob
 import os
@@ -11,8 +12,7 @@ import sys
 import tempfile
 import time
 
-SHAPES = [("small", 1000), ("small", 4000), ("small", 8000), ("large", 60), ("code", 60),
-          ("relocations", 490_000)]
+SHAPES = [("small", 1000), ("small", 4000), ("small", 8000), ("code", 60), ("sequences", 7)]
 OTHERS = ["ld.bfd", "ld.gold", "ld.lld", "mold"]
 
 
