@@ -15,6 +15,7 @@ pub enum Rewriting {
 }
 
 impl Rewriting {
+    /// Whether it may.
     pub fn is_allowed(self) -> bool
         ensures { result ≡ is_allowed self }
     {

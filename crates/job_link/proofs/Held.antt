@@ -8,8 +8,7 @@ use Rattle.std.specs.Str.{bytes_eq}
 use Rattle.std.proofs.lemmas.List.Elements.{All-cons, All-head, All-nil, All-tail}
 use Rattle.ports.specs.Files.{Files, file_at, IsFile}
 use Rattle.job_link.specs.Mentions.{bytes_at, bytes_in, AreFilesOf, Fetched}
-use Rattle.job_link.specs.Places.{files_in}
-use Rattle.job_link.specs.Walks.{is_among, names_of, texts, with_unseen}
+use Rattle.job_link.specs.Walks.{files_in, is_among, names_of, texts, with_unseen}
 
 -- the test of a name that is lent
 abbrev pub is_name : List ℕ → Bor (List ℕ) → Bool

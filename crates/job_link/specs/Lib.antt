@@ -4,7 +4,6 @@ pub mod LinkLaws
 pub mod Linked
 pub mod Mentions
 pub mod NoFault
-pub mod Places
 pub mod Reads
 pub mod Refusals
 pub mod Walks

@@ -1,5 +1,5 @@
--- The names of files that are fetched one after another.
-use Rattle.std.specs.Prelude.{◌-◌, ◌++◌, ℕ, Bool, List, [], ◌∷◌, map, slice_get}
+-- The names of files that are fetched one after another, and the files beside them.
+use Rattle.std.specs.Prelude.{◌-◌, ◌++◌, ℕ, Bool, List, [], ◌∷◌, map, slice_get, Vec}
 use Rattle.std.specs.Prelude.{if◌then◌else◌}
 use Rattle.std.specs.List.{filter_map, flat_map, list_any}
 use Rattle.std.specs.Borrow.{Bor}
@@ -15,6 +15,12 @@ names_of files = map (λ (file : List ℕ × List ℕ). file.0) files
 -- the same of names that are lent
 abbrev pub texts : List (Bor (List ℕ)) → List (List ℕ)
 texts names = map (λ name. name.now) names
+
+-- names that are lent, each with the file that stands beside it
+abbrev pub files_in : {A : Type 0} → List (Bor (List ℕ)) → List (Vec ℕ A) → Fetched
+files_in [] files = []
+files_in (name ∷ names) [] = []
+files_in (name ∷ names) (file ∷ files) = (name.now, file.items) ∷ files_in names files
 
 abbrev pub is_among : List (List ℕ) → List ℕ → Bool
 is_among names name = list_any (bytes_eq name) names

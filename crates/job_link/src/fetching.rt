@@ -31,7 +31,7 @@ pub struct Files<'j> {
 impl<'j> Model for Files<'j> {
     ghost use Rattle.std.specs.Prelude.{◌≡◌, length};
     ghost use Rattle.job_link.specs.Mentions.{Fetched};
-    ghost use Rattle.job_link.specs.Places.{files_in};
+    ghost use Rattle.job_link.specs.Walks.{files_in};
 
     ghost Value = { Fetched };
 

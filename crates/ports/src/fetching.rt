@@ -21,9 +21,10 @@ fn read_each<'n, S: Store, R: Threads + Sync>(
 ) -> Result<Vec<(&'n str, Result<Vec<u8>, FetchFault>)>, AllocError>
     ensures { IfOk result (λ readings. AllZip (IsReading (S.files store.now)) names.now readings.items) }
 {
+    let least = if names.len() < FEW { FEW } else { 1 };
     names
         .par_iter()
-        .with_min_len(FEW.div_ceil(names.len().max(1)))
+        .with_min_len(least)
         .map(
             |name: &&str| -> (&str, Result<Vec<u8>, FetchFault>)
                 ensures { IsReading (S.files store.entry.now) name.entry.now result }
@@ -32,8 +33,8 @@ fn read_each<'n, S: Store, R: Threads + Sync>(
         .collect(rt, alloc)
 }
 
-/// Fetches the file of each of these names, as one fetch after another does, of which the first refusal is
-/// answered. Threads read the files side by side, and then the caller counts each in its turn.
+/// Fetches the files of these names in their order, up to the first refusal, which is answered. Threads read the
+/// files side by side, and then the caller counts each in its turn; what was read behind a refusal is not counted.
 pub fn fetch_each<S: Store, R: Threads + Sync>(
     rt: &R,
     alloc: Global,

@@ -6,7 +6,8 @@
 //! any sink that keep their clauses will do:
 //!
 //! - A [`Store`] has files by name. `fetch` appends a file's bytes to a buffer; `put` makes some bytes a
-//!   file's whole content. [`fetch_each`] fetches several files, which threads read side by side.
+//!   file's whole content. `read` and `count` are the two halves of a fetch: `read` changes nothing, so that
+//!   threads may share it. [`fetch_each`] fetches several files so.
 //! - A [`Sink`] takes bytes in pieces. `put` appends a piece, and after a refusal a front of it may stand.
 //!
 //! **What a clause can say of the outside.** A store may tell its files, as a finite map from names to

@@ -38,7 +38,7 @@ pub trait Store: Sync {
     fn read(&self, alloc: Global, name: &str) -> Result<Vec<u8>, FetchFault>
         ensures file { IfOk result (λ file. IsFile (files self.now) name.now file.items) };
 
-    /// Fetches the file of that name, of which this was read.
+    /// Fetches the file of that name, of which this was read: answers it, or that the store fails.
     fn count(
         &mut self,
         name: &str,
@@ -48,7 +48,8 @@ pub trait Store: Sync {
         ensures files { files self.new ≡ files self.old }
         ensures bytes { IfOk result (λ file. IsFile (files self.old) name.now file.items) }
         ensures cause { FetchCounts (faults self.old) (faults self.new) result }
-        ensures asked { asked self.new ≡ with_name name.now (asked self.old) };
+        ensures asked { asked self.new ≡ with_name name.now (asked self.old) }
+        ensures same { OnOk result (result ≡ read) };
 
     /// Makes these bytes the whole content of the file of that name, whether it was there or not. On a refusal
     /// the files are as they were.

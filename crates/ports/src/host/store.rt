@@ -116,8 +116,9 @@ impl<'a, R: Files + Sync> Store for HostStore<'a, R> {
         ensures bytes { IfOk result (λ file. IsFile untold_files _name.now file.items) }
         ensures cause { FetchCounts self.old self.new result }
         ensures asked { untold_names ≡ with_name _name.now untold_names }
+        ensures same { OnOk result (result ≡ read) }
 
-        ensures same { result ≡ read }
+        ensures given { result ≡ read }
     {
         if let Err(FetchFault::Failed) = read {
             self.faults = self.faults.saturating_add(1);

@@ -1,5 +1,5 @@
 //! Files in memory.
-ghost use Rattle.std.specs.Prelude.{◌≡◌, ◌-◌, ◌⊎◌, ◌↔◌, ◌++◌, length, take};
+ghost use Rattle.std.specs.Prelude.{◌≡◌, ◌≢◌, ◌-◌, ◌⊎◌, ◌↔◌, ◌++◌, length, take};
 ghost use Rattle.std.specs.Prelude.{None, IsErr, OnOk, OnErr, IsErrOf, IfOk, IfSome, MatchOption};
 ghost use Rattle.std.specs.Option.{option_copied};
 ghost use Rattle.std.specs.FinMap as map;
@@ -145,9 +145,11 @@ impl Store for MemoryStore {
         ensures bytes { IfOk result (λ file. IsFile (Some self.old.files) name.now file.items) }
         ensures cause { FetchCounts self.old.faults self.new.faults result }
         ensures asked { untold_names ≡ with_name name.now untold_names }
+        ensures same { OnOk result (result ≡ read) }
 
         ensures fails { IsErrOf result FetchFault.Failed ↔ ((self.old.fails_in ≡ 1)
             ⊎ IsErrOf read FetchFault.Failed) }
+        ensures given { self.old.fails_in ≢ 1 → result ≡ read }
         ensures count { self.new.faults ≡ faults_after_fetch self.old.faults result }
         ensures call { self.new.fails_in ≡ self.old.fails_in - 1 }
     {

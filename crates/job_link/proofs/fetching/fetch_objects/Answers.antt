@@ -3,7 +3,7 @@ use Rattle.std.specs.List.{AllZip}
 use Rattle.ports.specs.Files.{Files, IsFile}
 use Rattle.ports.proofs.Yielded.{same_length}
 use Rattle.job_link.specs.Mentions.{AreFilesOf}
-use Rattle.job_link.specs.Places.{files_in}
+use Rattle.job_link.specs.Walks.{files_in}
 use Rattle.job_link.proofs.Held.{held, if_some}
 use Rattle.job_link.proofs.fetching.fetch_objects.Goals as goal
 

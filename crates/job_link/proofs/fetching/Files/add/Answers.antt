@@ -1,7 +1,6 @@
 use Rattle.std.proofs.Common.{◌≡◌, ◌∙◌, ◌++◌, ◌∷◌, [], ap, rules, sym}
 use Rattle.std.specs.Prelude.{if◌then◌else◌}
-use Rattle.job_link.specs.Places.{files_in}
-use Rattle.job_link.specs.Walks.{is_among, names_of}
+use Rattle.job_link.specs.Walks.{files_in, is_among, names_of}
 use Rattle.job_link.proofs.Held.{kept_unseen, names_are, new_unseen, one_behind}
 use Rattle.job_link.proofs.Unseen.{among}
 use Rattle.job_link.proofs.fetching.Files.add.Goals as goal
