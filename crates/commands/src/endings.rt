@@ -19,7 +19,7 @@ use crate::site_lines::image_lines;
 use crate::telling::Telling;
 use command_replies::CommandFault;
 use image_writer::into_file;
-use job_link::{ImageObjects, write_image};
+use job_link::ImageObjects;
 use job_text::Job;
 use link_core::ReadyLink;
 use link_core::laws::images_hold_tls;
@@ -82,6 +82,6 @@ fn file_of<R: Threads + Sync>(
 {
     images_hold_tls();
     let mut ready = ready;
-    let linked = write_image(rt, alloc, ready.swap_remove(place))?;
+    let linked = ready.swap_remove(place).write(rt, alloc)?;
     into_file(alloc, linked.image)
 }

@@ -8,8 +8,8 @@
 //!    storage. Threads share them, and what each says is taken in order.
 //! 3. [`prepare_images`] makes each image ready beside the names that the startup images export ([`startup_exports`]): the
 //!    program, and the modules that start with it. Or it answers the first that does not link. No byte of any is laid.
-//! 4. [`write_images`] and [`write_image`] write all of them, or one, and two threads share a large one; a checker asks
-//!    what the objects mean ([`inputs_of`]), and needs no file of them.
+//! 4. [`write_images`] writes all of them, and threads share a large one; who wants one image writes that alone, and a
+//!    checker asks what the objects mean ([`inputs_of`]), and needs no file of them.
 //!
 //! Two orders meet here. The job's lines **mention** images in any order; in **image order** the program is first, then
 //! come the modules that start with it, then the late ones. Files are fetched and read as they are mentioned, so that a
@@ -49,7 +49,5 @@ mod reading;
 
 pub use fetching::{Files, fetch_objects};
 pub use images::ImageObjects;
-pub use preparing::{
-    ImageRefusal, inputs_of, prepare_images, startup_exports, write_image, write_images,
-};
+pub use preparing::{ImageRefusal, inputs_of, prepare_images, startup_exports, write_images};
 pub use reading::{ReadRefusal, read_objects};

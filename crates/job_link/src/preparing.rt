@@ -163,22 +163,6 @@ pub fn prepare_images<'i, 'a>(
     Ok(all)
 }
 
-/// Writes an image that links. The only error is want of memory.
-pub fn write_image<R: Threads + Sync>(
-    rt: &R,
-    alloc: Global,
-    ready: ReadyLink,
-) -> Result<Linked, AllocError>
-    requires { Links ready }
-    ensures { IfOk result (λ linked. linked ≡ linked_of ready.entry) }
-{
-    match ready.write(rt, alloc) {
-        Ok(linked) => Ok(linked),
-        Err(LinkFault::OutOfMemory) => Err(AllocError),
-        Err(LinkFault::At { .. }) => unreachable!(),
-    }
-}
-
 /// Writes images that link. The only error is want of memory.
 pub fn write_images<R: Threads + Sync>(
     rt: &R,
@@ -190,7 +174,7 @@ pub fn write_images<R: Threads + Sync>(
 {
     let mut written = Vec::with_capacity(alloc, all.len())?;
     for ready in all {
-        written.push(write_image(rt, alloc, ready)?)?;
+        written.push(ready.write(rt, alloc)?)?;
     }
     Ok(written)
 }

@@ -57,6 +57,12 @@ module _ (l : Linking) (o t : ℕ) (r : Relocation) where
       ≡ part_with_field l from o t part r
   field_writes from part value e is = rw (e, ← is) refl
 
+  -- one whose field does not hold its value writes nothing
+  pub unfit_writes : (from : ℕ) (part : List ℕ) → is_replaced l o r ≡ false → None ≡ field l o t r
+      → part ≡ part_with_field l from o t part r
+  unfit_writes from part e is =
+      rw (e, ← is) (sym (patched_nothing (offset_of (layout l) (place l o t r.offset) - from) Empty part (omega arith)))
+
   pub field_fills : (value : Field) → Some value ≡ field l o t r → IsFilled l o t r
   field_fills value is wrong =
       let none = rw (← is) at wrong.1 in

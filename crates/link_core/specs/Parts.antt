@@ -1,12 +1,11 @@
 -- Fields that are written in a part of the file alone. They are those of the sections that begin in the part, and a
 -- place counts from where the part begins.
-use Rattle.std.specs.Prelude.{◌≡◌, ◌+◌, ◌-◌, ◌<◌, ◌≤◌, ◌⊎◌, ◌&&◌, ◌∷◌, ℕ, Bool, true, List, [], Option, Some, None, IsSome}
-use Rattle.std.specs.Prelude.{Result, OnErr, OnOk, fold, length, nat_le, nat_lt, unwrap_or, if◌then◌else◌}
+use Rattle.std.specs.Prelude.{◌≡◌, ◌+◌, ◌-◌, ◌<◌, ◌≤◌, ◌⊎◌, ◌&&◌, ◌∷◌, ℕ, Bool, true, List, [], Option, Some, None}
+use Rattle.std.specs.Prelude.{fold, length, nat_le, nat_lt, unwrap_or, if◌then◌else◌}
 use Rattle.std.specs.List.{range_with_len}
 use Rattle.elf_object.specs.declared.relocation.Relocation.{Relocation}
 use Rattle.elf_object.specs.Lent.{relocation_target, section_size}
 use Rattle.elf_object.specs.Object.{section_count}
-use Rattle.link_faults.specs.declared.fault.LinkFault.{LinkFault}
 use Rattle.section_file.specs.Files.{offset_of}
 use Rattle.tls_layout.specs.Places.{address_of}
 use Rattle.tls_layout.specs.Sections.{Layout}
@@ -14,8 +13,6 @@ use Rattle.tls_relocs.specs.declared.fields.Field.TheVariants.{Empty}
 use Rattle.tls_relocs.specs.Fields.{field_patch}
 use Rattle.tls_relocs.specs.Patches.{patched}
 use Rattle.tls_symbols.specs.Faults.{held_in}
-use Rattle.link_tables.specs.Faults.{Overflows}
-use Rattle.link_core.specs.Overflows.{NoOverflow, NoneAtAll}
 use Rattle.link_needs.specs.Linking.{Linking, layout, object, place}
 use Rattle.link_needs.specs.Values.{field, is_replaced}
 
@@ -88,30 +85,7 @@ part_with_fields_from l from to o [] part = part
 part_with_fields_from l from to o (b ∷ more) part =
     part_with_fields_from l from to (o + 1) more (part_with_fields l from to o b part)
 
--- ** those that do not hold their values
-
--- entry e of section s of object o is one, and its own section begins in the part
-abbrev pub OverflowsIn : Linking → ℕ → Option ℕ → ℕ → ℕ → ℕ → Type 0
-OverflowsIn l from to o s e =
-    Overflows l o s e × IsSome (start_in l from to o (relocation_target (object l o) s))
-
--- ** what writing a part leaves
-
--- all its fields are written, or one overflows
-pub record IsWritten (l : Linking) (from : ℕ) (to : Option ℕ) (before after : List ℕ) {V : Type 0} (result : Result V LinkFault)
-    : Type 0 where
-  pub written : OnOk result (after ≡ part_with_fields_from l from to 0 l.objects before)
+-- what writing a part leaves: all its fields are written
+pub record IsWritten (l : Linking) (from : ℕ) (to : Option ℕ) (before after : List ℕ) : Type 0 where
+  pub written : after ≡ part_with_fields_from l from to 0 l.objects before
   pub filled : length after ≡ length before
-  pub fits : OnOk result (NoneAtAll (OverflowsIn l from to))
-  pub overflow : OnErr result (NoOverflow l → ⊥)
-
--- the same of two parts, one behind the other
-pub record AreWritten (l : Linking) (from cut : ℕ) (to : Option ℕ) (front front' back back' : List ℕ) {V : Type 0}
-    (result : Result V LinkFault) : Type 0 where
-  pub in_front : OnOk result (front' ≡ part_with_fields_from l from (Some cut) 0 l.objects front)
-  pub behind : OnOk result (back' ≡ part_with_fields_from l cut to 0 l.objects back)
-  pub front_filled : length front' ≡ length front
-  pub back_filled : length back' ≡ length back
-  pub front_fits : OnOk result (NoneAtAll (OverflowsIn l from (Some cut)))
-  pub back_fits : OnOk result (NoneAtAll (OverflowsIn l cut to))
-  pub overflow : OnErr result (NoOverflow l → ⊥)

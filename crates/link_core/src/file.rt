@@ -1,6 +1,6 @@
 //! The bytes of an image's file but for its headers and its dynamic tables.
 
-ghost use Rattle.std.specs.Prelude.{◌≡◌, ◌<◌, ◌-◌, ◌^◌, ◌++◌, IfErr, IfOk, OnOk, length};
+ghost use Rattle.std.specs.Prelude.{◌≡◌, ◌<◌, ◌-◌, ◌^◌, ◌++◌, IfOk, OnOk, length};
 ghost use Rattle.std.specs.List.{flat_map};
 ghost use Rattle.elf_records.specs.Fields.{bytes_of};
 ghost use Rattle.got_pairs.specs.Entries.{words};
@@ -10,13 +10,11 @@ ghost use Rattle.tls_relocs.specs.Laid.{zeros};
 ghost use Rattle.link_needs.specs.Linking.{layout};
 ghost use Rattle.link_core.specs.Bytes.{file as file_of_link, raw_file as raw_file_of};
 ghost use Rattle.link_core.specs.Bytes.{table_bytes, with_got, with_stub};
-ghost use Rattle.link_core.specs.Overflows.{IsFirstOverflow, IsOverflowFault, NoOverflow};
 
 use crate::parts::write_fields;
 use crate::writing::{place_in_file, write_sites};
 use elf_object::RelocationKind;
 use got_pairs::{Entry, GotPlan, Need, Word};
-use link_faults::LinkFault;
 use link_needs::Plan;
 use std::alloc::AllocError;
 use std::thread::Threads;
@@ -117,33 +115,18 @@ fn raw_file(plan: &Plan, mut sections: Vec<u8>) -> Result<Vec<u8>, AllocError>
     Ok(sections)
 }
 
-/// Writes all fields and sequences, or answers the first field that does not hold its value.
+/// The file of a link whose sections are laid down. A field that does not hold its value is left as it was.
 #[tactic(auto, unfolding(crate::specs::Bytes::file))]
-fn write_all<R: Threads + Sync>(rt: &R, plan: &Plan, file: &mut [u8]) -> Result<(), LinkFault>
-    requires { file.old ≡ raw_file_of plan.now }
-    ensures written { OnOk result (file.new ≡ file_of_link plan.now) }
-    ensures fits { OnOk result (NoOverflow plan.now) }
-    ensures overflow { IfErr result (IsFirstOverflow plan.now) }
-{
-    if let Err(fault) = write_fields(rt, plan, file) {
-        return Err(fault);
-    }
-    write_sites(plan, file);
-    Ok(())
-}
-
-/// The file of a link whose sections are laid down, or the first field that does not hold its value.
 pub fn file_of<R: Threads + Sync>(
     rt: &R,
     plan: &Plan,
     sections: Vec<u8>,
-) -> Result<Vec<u8>, LinkFault>
+) -> Result<Vec<u8>, AllocError>
     requires { sections.items ≡ sections_file (layout plan.now) plan.now.objects }
-    ensures file { IfOk result (λ file. file.items ≡ file_of_link plan.now) }
-    ensures fits { OnOk result (NoOverflow plan.now) }
-    ensures overflow { IfErr result (IsOverflowFault plan.now) }
+    ensures { IfOk result (λ file. file.items ≡ file_of_link plan.now) }
 {
     let mut file = raw_file(plan, sections)?;
-    write_all(rt, plan, file.as_mut_slice())?;
+    write_fields(rt, plan, file.as_mut_slice());
+    write_sites(plan, file.as_mut_slice());
     Ok(file)
 }

@@ -20,8 +20,8 @@
 //! Linking has two halves. [`prepare`] does what stands above the gap, and asks all that may refuse the objects but
 //! whether each field holds its value: a [`ReadyLink`] has no byte of the image. [`ReadyLink::overflow`] finds the first
 //! field that does not hold its value, still with no byte laid, so that who wants no image can ask whether objects link.
-//! [`ReadyLink::write`] does what stands below the gap, and answers that same first field if there is one. [`link`] is
-//! the one half and then the other.
+//! Where there is none, [`ReadyLink::write`] does what stands below the gap, and only memory may be wanting. [`link`] is
+//! all three.
 //!
 //! **The rule of bytes** (`specs/Bytes`): each byte of a section stands at its place, changed only in the fields of its
 //! relocations and in the sequences that are rewritten; behind the sections stand the table and the stub, behind these
@@ -52,8 +52,7 @@
 //! time is linear in objects, symbols, relocations and bytes.
 //!
 //! Threads share a large image: its fields are written in parts of the file, cut where a section begins. No clause knows
-//! of it. `specs/Parts` says what is written in a part, and its
-//! proofs that the parts together are the whole.
+//! of it. `specs/Parts` says what is written in a part, and its proofs that the parts together are the whole.
 //!
 //! The rules are those of "ELF Handling For Thread-Local Storage" (Drepper), of the psABI ("Thread-Local Storage",
 //! "Relocation Types") and of the gABI ("Program Loading and Dynamic Linking").

@@ -14,7 +14,6 @@ ghost use Rattle.link_core.specs.Images.{contents, file_kind as file_kind_of, go
 ghost use Rattle.link_core.specs.Images.{image_of as image_of_link, linked_of, places};
 ghost use Rattle.link_core.specs.Laws.{HasNoStray};
 ghost use Rattle.link_tables.specs.Named.{names_in, symbols_in};
-ghost use Rattle.link_core.specs.Overflows.{IsOverflowFault, NoOverflow};
 
 use crate::draft::{file_kind, is_flagged, push_made, section_places, tls_part};
 use crate::file::file_of;
@@ -90,32 +89,47 @@ fn laid(alloc: Global, plan: &Plan) -> Result<Vec<u8>, AllocError>
     lay_sections(alloc, &inputs.placement, inputs.kind, inputs.objects)
 }
 
-/// The image of a link that no earlier fault stands in, or the first field that does not hold its value.
-fn image<R: Threads + Sync>(rt: &R, alloc: Global, tables: &Tables) -> Result<Image, LinkFault>
-    requires sound { IsSound tables.now }
-    ensures image { IfOk result (λ image. image ≡ image_of_link tables.now) }
-    ensures fits { OnOk result (NoOverflow tables.now) }
-    ensures overflow { IfErr result (IsOverflowFault tables.now) }
+/// The image of a link.
+fn image<R: Threads + Sync>(rt: &R, alloc: Global, tables: &Tables) -> Result<Image, AllocError>
+    requires { IsSound tables.now }
+    ensures { IfOk result (λ image. image ≡ image_of_link tables.now) }
 {
     let plan = &tables.plan;
     let sections = laid(alloc, plan)?;
     let file = file_of(rt, plan, sections)?;
-    Ok(finished(alloc, tables, file)?)
+    finished(alloc, tables, file)
 }
 
 impl ReadyLink<'_, '_, '_> {
-    /// Writes the image, or answers the first field that does not hold its value.
+    /// Writes the image, where all fields hold their values ([`overflow`](Self::overflow) tells). The only error is want
+    /// of memory.
     #[tactic(auto, unfolding(crate::specs::Images::linked_of))]
-    pub fn write<R: Threads + Sync>(self, rt: &R, alloc: Global) -> Result<Linked, LinkFault>
-        ensures linked { IfOk result (λ linked. linked ≡ linked_of self.entry) }
-        ensures links { OnOk result (Links self.entry) }
-        ensures overflow { IfErr result (IsOverflowFault self.entry) }
+    pub fn write<R: Threads + Sync>(self, rt: &R, alloc: Global) -> Result<Linked, AllocError>
+        requires { Links self }
+        ensures { IfOk result (λ linked. linked ≡ linked_of self.entry) }
     {
         let image = image(rt, alloc, &self.tables)?;
         Ok(Linked {
             image,
             choices: self.into_choices(),
         })
+    }
+}
+
+/// The image of a link that is ready, or the first field that does not hold its value.
+fn written<R: Threads + Sync>(
+    rt: &R,
+    alloc: Global,
+    ready: ReadyLink,
+) -> Result<Linked, LinkFault>
+    requires { IsSound ready }
+    ensures linked { IfOk result (λ linked. linked ≡ linked_of ready.entry) }
+    ensures links { OnOk result (Links ready.entry) }
+    ensures fault { IfErr result (IsLinkFault ready.entry) }
+{
+    match ready.overflow() {
+        None => Ok(ready.write(rt, alloc)?),
+        Some(fault) => Err(fault),
     }
 }
 
@@ -144,7 +158,7 @@ pub fn link<'a, R: Threads + Sync>(
     ensures fault { IfErr result (IsLinkFault (link_of objects.now sites.now kind startup.now relax)) }
 {
     match prepare(alloc, objects, sites, kind, startup, relax) {
-        Ok(ready) => ready.write(rt, alloc),
+        Ok(ready) => written(rt, alloc, ready),
         Err(fault) => Err(fault),
     }
 }

@@ -2,15 +2,13 @@
 //!
 //! A part begins where a section does, so that no field lies in two, and each thread writes what lies in its own.
 
-ghost use Rattle.std.specs.Prelude.{◌≡◌, ◌+◌, ◌<◌, ◌≤◌, ◌^◌, IfErr, OnOk, Some, length};
+ghost use Rattle.std.specs.Prelude.{◌≡◌, ◌+◌, ◌<◌, ◌≤◌, ◌^◌, Some, length};
 ghost use Rattle.std.specs.Thread.{IsSync};
 ghost use Rattle.tls_symbols.specs.Bindings.{object_at};
 ghost use Rattle.link_core.specs.Bytes.{raw_file, with_fields_from};
-ghost use Rattle.link_core.specs.Overflows.{IsFirstOverflow, NoOverflow};
-ghost use Rattle.link_core.specs.Parts.{AreWritten, EndsBehind, IsCut, IsPart, IsWritten};
+ghost use Rattle.link_core.specs.Parts.{EndsBehind, IsCut, IsPart, IsWritten};
 
 use crate::writing::{FilePart, place_in_file, write_part};
-use link_faults::LinkFault;
 use link_needs::Plan;
 use std::thread::{Threads, join_mut};
 
@@ -78,11 +76,11 @@ fn write_halves<R: Threads + Sync>(
     part: FilePart,
     halvings: u32,
     bytes: &mut [u8],
-) -> Result<(), LinkFault>
+)
     requires part { IsPart plan.now part.from part.to (length bytes.old) }
     requires ends { EndsBehind (part.from + length bytes.old) part.to }
     requires far { part.from + length bytes.old ≤ 2 ^ 30 }
-    ensures { IsWritten plan.now part.from part.to bytes.old bytes.new result }
+    ensures { IsWritten plan.now part.from part.to bytes.old bytes.new }
 {
     // What is known of a plan is known where a part of it is read.
     let _inputs = &plan.inputs;
@@ -94,7 +92,7 @@ fn write_halves<R: Threads + Sync>(
         return write_part(plan, part, bytes);
     }
     let (front, back) = bytes.split_at_mut((cut - part.from) as usize);
-    write_both(rt, plan, part, cut, halvings - 1, front, back)
+    write_both(rt, plan, part, cut, halvings - 1, front, back);
 }
 
 /// Writes the fields of the two parts that a cut makes of one, side by side.
@@ -107,13 +105,14 @@ fn write_both<R: Threads + Sync>(
     halvings: u32,
     front: &mut [u8],
     back: &mut [u8],
-) -> Result<(), LinkFault>
+)
     requires front { IsPart plan.now part.from (Some cut) (length front.old) }
     requires cut { part.from + length front.old ≡ cut }
     requires back { IsPart plan.now cut part.to (length back.old) }
     requires ends { EndsBehind (cut + length back.old) part.to }
     requires far { cut + length back.old ≤ 2 ^ 30 }
-    ensures { AreWritten plan.now part.from cut part.to front.old front.new back.old back.new result }
+    ensures front { IsWritten plan.now part.from (Some cut) front.old front.new }
+    ensures back { IsWritten plan.now cut part.to back.old back.new }
 {
     let before = FilePart {
         from: part.from,
@@ -123,41 +122,27 @@ fn write_both<R: Threads + Sync>(
         from: cut,
         to: part.to,
     };
-    let mut first = || -> Result<(), LinkFault>
+    let mut first = || -> ()
         requires { IsSync R.row × IsPart plan.now before.from before.to (length front.now)
             × EndsBehind (before.from + length front.now) before.to × (before.from + length front.now ≤ 2 ^ 30) }
-        ensures { IsWritten plan.entry.now before.from before.to front.entry.now front.exit.now result }
+        ensures { IsWritten plan.entry.now before.from before.to front.entry.now front.exit.now }
     { write_halves(rt, plan, before, halvings, front) };
-    let mut second = || -> Result<(), LinkFault>
+    let mut second = || -> ()
         requires { IsSync R.row × IsPart plan.now behind.from behind.to (length back.now)
             × EndsBehind (behind.from + length back.now) behind.to × (behind.from + length back.now ≤ 2 ^ 30) }
-        ensures { IsWritten plan.entry.now behind.from behind.to back.entry.now back.exit.now result }
+        ensures { IsWritten plan.entry.now behind.from behind.to back.entry.now back.exit.now }
     { write_halves(rt, plan, behind, halvings, back) };
-    let (in_front, in_back) = join_mut(rt, &mut first, &mut second);
-    match in_front {
-        Ok(()) => in_back,
-        Err(fault) => Err(fault),
-    }
+    join_mut(rt, &mut first, &mut second);
 }
 
-/// Writes the fields of all relocations, or answers the first that does not hold its value. Where one doesn't, all are
-/// written once more, in order, up to the first.
-pub fn write_fields<R: Threads + Sync>(
-    rt: &R,
-    plan: &Plan,
-    file: &mut [u8],
-) -> Result<(), LinkFault>
+/// Writes the fields of all relocations.
+pub fn write_fields<R: Threads + Sync>(rt: &R, plan: &Plan, file: &mut [u8])
     requires filled { length file.old ≡ length (raw_file plan.now) }
-    ensures written { OnOk result (file.new ≡ with_fields_from plan.now 0 plan.now.objects file.old) }
+    ensures written { file.new ≡ with_fields_from plan.now 0 plan.now.objects file.old }
     ensures filled { length file.new ≡ length (raw_file plan.now) }
-    ensures fits { OnOk result (NoOverflow plan.now) }
-    ensures overflow { IfErr result (IsFirstOverflow plan.now) }
 {
     // What is known of a plan is known where a part of it is read.
     let _inputs = &plan.inputs;
     let whole = FilePart { from: 0, to: None };
-    match write_halves(rt, plan, whole, HALVINGS, file) {
-        Ok(()) => Ok(()),
-        Err(_) => write_part(plan, whole, file),
-    }
+    write_halves(rt, plan, whole, HALVINGS, file);
 }

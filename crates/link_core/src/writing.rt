@@ -1,35 +1,30 @@
 //! The fields of relocations, and the sequences in the place of rewritten ones, written in the file.
 
-ghost use Rattle.std.specs.Prelude.{◌≡◌, ◌+◌, ◌-◌, ◌^◌, ◌<◌, ◌≤◌, ◌&&◌, [], ◌∷◌, IfErr, OnErr, OnOk, Some};
+ghost use Rattle.std.specs.Prelude.{◌≡◌, ◌+◌, ◌-◌, ◌^◌, ◌<◌, ◌≤◌, ◌&&◌, [], ◌∷◌, Some};
 ghost use Rattle.std.specs.Prelude.{fold, length, nat_le, slice_index_or, unwrap_or};
 ghost use Rattle.std.specs.List.{Contains};
-ghost use Rattle.elf_object.specs.Lent.{relocation_target, relocations};
+ghost use Rattle.elf_object.specs.Lent.{relocations};
 ghost use Rattle.elf_object.specs.Object.{section_count};
 ghost use Rattle.link_faults.specs.ImageKinds.{base_of};
-ghost use Rattle.object_faults.specs.Firsts.{nonzero};
 ghost use Rattle.section_file.specs.Files.{offset_of as file_offset};
 ghost use Rattle.tls_layout.specs.Places.{address_of};
 ghost use Rattle.tls_relocs.specs.Fields.{field_patch, width_of};
 ghost use Rattle.tls_relocs.specs.Patches.{patched};
 ghost use Rattle.tls_symbols.specs.Bindings.{object_at};
 ghost use Rattle.link_core.specs.Bytes.{raw_file, with_new_field, with_site, with_sites_from};
-ghost use Rattle.link_tables.specs.Faults.{Overflows};
 ghost use Rattle.link_needs.specs.Linking.{choice, layout, sites_at};
-ghost use Rattle.link_core.specs.Overflows.{IsFilled, IsFirstAtAll, IsFirstIn, IsFirstOf, IsOverflow};
-ghost use Rattle.link_core.specs.Overflows.{NoneAtAll, NoneIn, NoneOf};
-ghost use Rattle.link_core.specs.Parts.{part_with_field, part_with_fields, part_with_fields_from, part_with_held};
-ghost use Rattle.link_core.specs.Parts.{is_before, part_with_table, start_in, IsInside, IsPart, OverflowsIn};
+ghost use Rattle.link_core.specs.Parts.{part_with_field, part_with_fields, part_with_table, start_in};
+ghost use Rattle.link_core.specs.Parts.{is_before, IsInside, IsPart, IsWritten};
 ghost use Rattle.link_core.specs.Room.{HasRoom};
 ghost use Rattle.relax_sites.specs.Rows.{new_field as new_field_of};
 
 use elf_object::{Relocation, RelocationKind};
 use elf_records::relocation_row::FieldValue;
-use link_faults::{LinkFault, LinkFaultKind};
 use link_needs::{Plan, new_relocation};
 use relax_sites::{NewField, new_field, rewrite};
 use section_file::offset_of;
 use sequence_match::Site;
-use tls_relocs::{Field, Overflow, apply};
+use tls_relocs::{Field, apply};
 
 /// A part of the file: where it begins, and where those sections begin at the latest that are its own: before `to`, or
 /// anywhere behind.
@@ -90,7 +85,7 @@ fn put(plan: &Plan, from: u64, place: u64, field: Field, part: &mut [u8])
     }
 }
 
-/// Fills the field of a relocation of a section, if it has one.
+/// Fills the field of a relocation of a section, if it has one that holds its value.
 #[inline(always)]
 fn fill_field(
     plan: &Plan,
@@ -98,33 +93,26 @@ fn fill_field(
     own: PlacedSection,
     relocation: &Relocation,
     bytes: &mut [u8],
-) -> Result<(), Overflow>
+)
     requires object { own.object < length plan.now.objects }
     requires own { Contains (relocations (object_at plan.now.objects own.object) own.section) relocation.now }
     requires address { address_of (layout plan.now) own.object own.section ≡ Some own.address }
     requires inside { IsInside plan.now from (length bytes.old) own.object own.section own.address }
-    ensures written { OnOk result (bytes.new
-        ≡ part_with_field plan.now from own.object own.section bytes.old relocation.now) }
+    ensures written { bytes.new ≡ part_with_field plan.now from own.object own.section bytes.old relocation.now }
     ensures filled { length bytes.new ≡ length bytes.old }
-    ensures fits { OnOk result (IsFilled plan.now own.object own.section relocation.now) }
-    ensures overflow { OnErr result (IsOverflow plan.now own.object own.section relocation.now) }
 {
     if let RelocationKind::Nothing = relocation.kind {
-        return Ok(());
+        return;
     }
     // What is known of a plan is known where a part of it is read.
     let _inputs = &plan.inputs;
     let symbol = plan.symbol_value(own.object, relocation.symbol);
     if plan.is_replaced(symbol, relocation.kind) {
-        return Ok(());
+        return;
     }
     let place = own.address + relocation.offset;
-    match plan.field(own.object, place, relocation, symbol) {
-        Ok(field) => {
-            put(plan, from, place, field, bytes);
-            Ok(())
-        }
-        Err(unfit) => Err(unfit),
+    if let Ok(field) = plan.field(own.object, place, relocation, symbol) {
+        put(plan, from, place, field, bytes);
     }
 }
 
@@ -137,16 +125,13 @@ fn write_field(
     own: PlacedSection,
     relocation: &Relocation,
     bytes: &mut [u8],
-) -> Result<(), Overflow>
+)
     requires object { own.object < length plan.now.objects }
     requires own { Contains (relocations (object_at plan.now.objects own.object) own.section) relocation.now }
     requires address { address_of (layout plan.now) own.object own.section ≡ Some own.address }
     requires inside { IsInside plan.now from (length bytes.old) own.object own.section own.address }
-    ensures written { OnOk result (bytes.new
-        ≡ part_with_field plan.now from own.object own.section bytes.old relocation.now) }
+    ensures written { bytes.new ≡ part_with_field plan.now from own.object own.section bytes.old relocation.now }
     ensures filled { length bytes.new ≡ length bytes.old }
-    ensures fits { OnOk result (IsFilled plan.now own.object own.section relocation.now) }
-    ensures overflow { OnErr result (IsOverflow plan.now own.object own.section relocation.now) }
 {
     match relocation.kind.row().value {
         FieldValue::Distance => fill_field(plan, from, own, relocation, bytes),
@@ -156,45 +141,18 @@ fn write_field(
     }
 }
 
-/// A field of this object, section and entry does not hold its value.
-pub fn overflow(object: usize, section: u32, entry: u64) -> LinkFault
-    ensures { result ≡ LinkFault.At LinkFaultKind.Overflow (Some object) section entry }
-{
-    LinkFault::At {
-        kind: LinkFaultKind::Overflow,
-        object: Some(object as u64),
-        section: u64::from(section),
-        entry,
-    }
-}
-
-/// Writes the fields of the relocations of a section, which the table holds.
-fn write_held(
-    plan: &Plan,
-    from: u64,
-    own: PlacedSection,
-    table: u32,
-    bytes: &mut [u8],
-) -> Result<(), LinkFault>
+/// Writes the fields of a section's relocations.
+fn write_section(plan: &Plan, from: u64, own: PlacedSection, bytes: &mut [u8])
     requires object { own.object < length plan.now.objects }
-    requires table { (0 < table) × (table < section_count (object_at plan.now.objects own.object)) }
-    requires target { nonzero (relocation_target (object_at plan.now.objects own.object) table) ≡ Some own.section }
     requires address { address_of (layout plan.now) own.object own.section ≡ Some own.address }
     requires inside { IsInside plan.now from (length bytes.old) own.object own.section own.address }
-    ensures written { OnOk result (bytes.new ≡ part_with_held plan.now from own.object
-        (object_at plan.now.objects own.object) bytes.old table (Some own.address)) }
+    ensures written { bytes.new ≡ fold (part_with_field plan.now from own.object own.section) bytes.old
+        (relocations (object_at plan.now.objects own.object) own.section) }
     ensures filled { length bytes.new ≡ length bytes.old }
-    ensures fits { OnOk result (NoneIn (Overflows plan.now) own.object table) }
-    ensures overflow { IfErr result (IsFirstIn (Overflows plan.now) own.object table) }
 {
-    let mut entry = 0;
     for relocation in plan.inputs.object(own.object).relocs(own.section) {
-        if let Err(_) = write_field(plan, from, own, &relocation, bytes) {
-            return Err(overflow(own.object, table, entry));
-        }
-        entry += 1;
+        write_field(plan, from, own, &relocation, bytes);
     }
-    Ok(())
 }
 
 /// Where a section begins, if that is in the part of the file.
@@ -208,101 +166,50 @@ fn start_in(plan: &Plan, part: FilePart, number: usize, section: u32) -> Option<
     }
 }
 
-/// Writes the fields of the relocations of a section, which the table holds, if the section begins in the part.
-fn write_section(
-    plan: &Plan,
-    part: FilePart,
-    number: usize,
-    table: u32,
-    section: u32,
-    bytes: &mut [u8],
-) -> Result<(), LinkFault>
-    requires object { number < length plan.now.objects }
-    requires table { (0 < table) × (table < section_count (object_at plan.now.objects number)) }
-    requires target { nonzero (relocation_target (object_at plan.now.objects number) table) ≡ Some section }
-    requires part { IsPart plan.now part.from part.to (length bytes.old) }
-    ensures written { OnOk result (bytes.new ≡ part_with_table
-        plan.now part.from part.to number (object_at plan.now.objects number) bytes.old table) }
-    ensures filled { length bytes.new ≡ length bytes.old }
-    ensures fits { OnOk result (NoneIn (OverflowsIn plan.now part.from part.to) number table) }
-    ensures overflow { IfErr result (IsFirstIn (OverflowsIn plan.now part.from part.to) number table) }
-{
-    match start_in(plan, part, number, section) {
-        Some(address) => {
-            let own = PlacedSection {
-                object: number,
-                section,
-                address,
-            };
-            write_held(plan, part.from, own, table, bytes)
-        }
-        None => Ok(()),
-    }
-}
-
 /// Writes the fields of the relocations that a section holds, if it holds any, and theirs begins in the part.
-fn write_table(
-    plan: &Plan,
-    part: FilePart,
-    number: usize,
-    table: u32,
-    bytes: &mut [u8],
-) -> Result<(), LinkFault>
+fn write_table(plan: &Plan, part: FilePart, number: usize, table: u32, bytes: &mut [u8])
     requires object { number < length plan.now.objects }
     requires table { (0 < table) × (table < section_count (object_at plan.now.objects number)) }
     requires part { IsPart plan.now part.from part.to (length bytes.old) }
-    ensures written { OnOk result (bytes.new ≡ part_with_table
-        plan.now part.from part.to number (object_at plan.now.objects number) bytes.old table) }
+    ensures written { bytes.new ≡ part_with_table
+        plan.now part.from part.to number (object_at plan.now.objects number) bytes.old table }
     ensures filled { length bytes.new ≡ length bytes.old }
-    ensures fits { OnOk result (NoneIn (OverflowsIn plan.now part.from part.to) number table) }
-    ensures overflow { IfErr result (IsFirstIn (OverflowsIn plan.now part.from part.to) number table) }
 {
-    match plan.inputs.object(number).relocation_target(table) {
-        Some(section) => write_section(plan, part, number, table, section, bytes),
-        None => Ok(()),
+    let Some(section) = plan.inputs.object(number).relocation_target(table) else {
+        return;
+    };
+    if let Some(address) = start_in(plan, part, number, section) {
+        let own = PlacedSection {
+            object: number,
+            section,
+            address,
+        };
+        write_section(plan, part.from, own, bytes);
     }
 }
 
 /// Writes the fields of an object's relocations in a part of the file.
-fn write_object(
-    plan: &Plan,
-    part: FilePart,
-    number: usize,
-    bytes: &mut [u8],
-) -> Result<(), LinkFault>
+fn write_object(plan: &Plan, part: FilePart, number: usize, bytes: &mut [u8])
     requires object { number < length plan.now.objects }
     requires part { IsPart plan.now part.from part.to (length bytes.old) }
-    ensures written { OnOk result (bytes.new ≡ part_with_fields
-        plan.now part.from part.to number (object_at plan.now.objects number) bytes.old) }
+    ensures written { bytes.new ≡ part_with_fields
+        plan.now part.from part.to number (object_at plan.now.objects number) bytes.old }
     ensures filled { length bytes.new ≡ length bytes.old }
-    ensures fits { OnOk result (NoneOf (OverflowsIn plan.now part.from part.to) number) }
-    ensures overflow { IfErr result (IsFirstOf (OverflowsIn plan.now part.from part.to) number) }
 {
     for table in 1..plan.inputs.object(number).section_count() {
-        if let Err(fault) = write_table(plan, part, number, table, bytes) {
-            return Err(fault);
-        }
+        write_table(plan, part, number, table, bytes);
     }
-    Ok(())
 }
 
-/// Writes the fields of all relocations whose sections begin in a part of the file, which has these bytes, or answers the
-/// first that does not hold its value.
-pub fn write_part(plan: &Plan, part: FilePart, bytes: &mut [u8]) -> Result<(), LinkFault>
+/// Writes the fields of all relocations whose sections begin in a part of the file, which has these bytes.
+pub fn write_part(plan: &Plan, part: FilePart, bytes: &mut [u8])
     requires { IsPart plan.now part.from part.to (length bytes.old) }
-    ensures written { OnOk result (bytes.new
-        ≡ part_with_fields_from plan.now part.from part.to 0 plan.now.objects bytes.old) }
-    ensures filled { length bytes.new ≡ length bytes.old }
-    ensures fits { OnOk result (NoneAtAll (OverflowsIn plan.now part.from part.to)) }
-    ensures overflow { IfErr result (IsFirstAtAll (OverflowsIn plan.now part.from part.to)) }
+    ensures { IsWritten plan.now part.from part.to bytes.old bytes.new }
 {
     let inputs = &plan.inputs;
     for number in 0..inputs.objects.len() {
-        if let Err(fault) = write_object(plan, part, number, bytes) {
-            return Err(fault);
-        }
+        write_object(plan, part, number, bytes);
     }
-    Ok(())
 }
 
 /// Writes the field of a sequence in a site's place. The section begins at this address.

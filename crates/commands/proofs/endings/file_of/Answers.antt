@@ -6,8 +6,8 @@ use Rattle.link_core.specs.Images.{LinkedImage, linked_of}
 use Rattle.commands.proofs.ImageEndings.{can_write, is_file, its}
 use Rattle.commands.proofs.endings.file_of.Goals as goal
 
-pub write_image-requires : goal.write_image-requires
-write_image-requires g c =
+pub write-requires : goal.write-requires
+write-requires g c =
     (search rules, its c.args.ready.items c.args.place c.swap_remove.result c.requires.place c.swap_remove.ensures.value Links c.requires.links)
 
 pub into_file-requires : goal.into_file-requires

@@ -22,9 +22,7 @@ write_halves-returns g t c =
     let part : IsPart l cut to (length back) =
     subst (IsPart l cut to) rest
     (second_part l from cut to (length c.args.bytes.now) (omega arith) (omega arith) c.requires.part) in
-    subst (λ xs. IsWritten l from to xs (c.write_both.new.front ++ c.write_both.new.back) c.write_both.result)
-    (sym halves.ensures.value)
-    (joined l given limits from cut to front c.write_both.new.front back c.write_both.new.back c.write_both.result
-    (omega arith) (ends_nearer cut (from + length c.args.bytes.now) to (omega (arith, near)) c.requires.ends)
+    subst (λ xs. IsWritten l from to xs (c.write_both.new.front ++ c.write_both.new.back)) (sym halves.ensures.value)
+    (joined l given limits from cut to front c.write_both.new.front back c.write_both.new.back (omega arith) (ends_nearer cut (from + length c.args.bytes.now) to (omega (arith, near)) c.requires.ends)
     halves.ensures.front_len c.cut_before-cut.ensures.cut part
-    c.write_both.ensures)
+    c.write_both.ensures.front c.write_both.ensures.back)

@@ -5,8 +5,7 @@ use Rattle.tls_relocs.specs.Fields.{field_patch}
 use Rattle.tls_relocs.specs.Patches.{patched}
 use Rattle.link_needs.specs.Given.{FitsTable, IsGiven}
 use Rattle.link_needs.specs.Linking.{layout}
-use Rattle.link_core.proofs.WritingFields.{field_fills, field_overflows, field_writes, names_symbol, nothing_fills}
-use Rattle.link_core.proofs.WritingFields.{nothing_writes, replaced_as, replaced_fills, replaced_writes}
+use Rattle.link_core.proofs.WritingFields.{field_writes, names_symbol, nothing_writes, replaced_as, replaced_writes, unfit_writes}
 use Rattle.link_core.proofs.WritingRoom.{field_room, part_room}
 use Rattle.link_core.proofs.writing.fill_field.Goals as goal
 
@@ -14,10 +13,6 @@ pub returns-in-Nothing-clause-written : goal.returns-in-Nothing-clause-written
 returns-in-Nothing-clause-written c =
     nothing_writes c.args.plan.now c.args.own.object c.args.own.section c.args.relocation.now c.args.from c.args.bytes.now
     c.in-Nothing.is
-
-pub returns-in-Nothing-clause-fits : goal.returns-in-Nothing-clause-fits
-returns-in-Nothing-clause-fits c =
-    nothing_fills c.args.plan.now c.args.own.object c.args.own.section c.args.relocation.now c.in-Nothing.is
 
 pub symbol_value-symbol-requires-clause-symbol : goal.symbol_value-symbol-requires-clause-symbol
 symbol_value-symbol-requires-clause-symbol c =
@@ -35,8 +30,6 @@ returns-then-is_replaced c =
     record {
       written = replaced_writes l o c.args.own.section r c.args.from c.args.bytes.now is;
       filled = refl;
-      fits = replaced_fills l o c.args.own.section r is;
-      overflow = tt;
     }
 
 pub overflow_add-place : goal.overflow_add-place
@@ -82,23 +75,15 @@ returns-in-Ok c =
     record {
       written = put ∙ field_writes l o t r from part c.in-Ok.field is value;
       filled = c.put.auto.part;
-      fits = field_fills l o t r c.in-Ok.field value;
-      overflow = tt;
     }
 
-pub returns-in-Err : goal.returns-in-Err
-returns-in-Err c =
+pub returns-in_default-clause-written : goal.returns-in_default-clause-written
+returns-in_default-clause-written c =
     let l = c.args.plan.now in
     let o = c.args.own.object in
     let t = c.args.own.section in
     let r = c.args.relocation.now in
     let is = replaced_as l o t r c.symbol_value-symbol.result c.symbol_value-symbol.ensures
     ∙ sym c.is_replaced.ensures ∙ c.if-is_replaced.false in
-    record {
-      written = tt;
-      filled = refl;
-      fits = tt;
-      overflow =
-          field_overflows l o t r is
-          (c.in-Err.ensures.field t (sym (ap (λ a. unwrap_or a 0 + r.offset) c.requires.address)));
-    }
+    unfit_writes l o t r c.args.from c.args.bytes.now is
+    (c.in_default.ensures.field t (sym (ap (λ a. unwrap_or a 0 + r.offset) c.requires.address)))

@@ -1,8 +1,7 @@
 use Rattle.std.proofs.Common.{refl}
 use Rattle.link_core.specs.Parts.{part_with_fields}
-use Rattle.link_core.proofs.WritingWalks.{no_tables}
 use Rattle.link_core.proofs.writing.write_object.Goals as goal
 
 pub loop-table-init : goal.loop-table-init
 unfolding part_with_fields
-loop-table-init c = (refl, refl, no_tables c.args.plan.now c.args.part.from c.args.part.to c.args.number)
+loop-table-init c = (refl, refl)

@@ -1,8 +1,9 @@
 use Rattle.std.proofs.Common.{◌∙◌, sym, ap}
 use Rattle.object_faults.specs.Firsts.{nonzero}
 use Rattle.elf_object.specs.Lent.{relocation_target}
-use Rattle.link_needs.specs.Linking.{object}
-use Rattle.link_core.proofs.WritingWalks.{none_held, none_of_part, nothing_held}
+use Rattle.tls_layout.specs.Places.{address_of}
+use Rattle.link_needs.specs.Linking.{layout, object}
+use Rattle.link_core.proofs.WritingWalks.{nothing_held, start_known, table_elsewhere, table_written}
 use Rattle.link_core.proofs.writing.write_table.Goals as goal
 
 pub returns-in-None-clause-written : goal.returns-in-None-clause-written
@@ -13,12 +14,3 @@ returns-in-None-clause-written c =
     let b = c.object.ensures ∙ ap (λ l. object l o) c.plan.view_is in
     nothing_held l o s c.args.part.from c.args.part.to c.args.bytes.now
     (sym (c.in-None.ensures.target ∙ ap (λ b. nonzero (relocation_target b s)) b))
-
-pub returns-in-None-clause-fits : goal.returns-in-None-clause-fits
-returns-in-None-clause-fits c =
-    let l = c.args.plan.now in
-    let o = c.args.number in
-    let s = c.args.table in
-    let b = c.object.ensures ∙ ap (λ l. object l o) c.plan.view_is in
-    none_of_part l o s c.args.part.from c.args.part.to
-    (none_held l o s (sym (c.in-None.ensures.target ∙ ap (λ b. nonzero (relocation_target b s)) b)))
