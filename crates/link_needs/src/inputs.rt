@@ -3,17 +3,17 @@
 ghost use Rattle.std.specs.Prelude.{◌≡◌, ◌<◌, ◌≤◌, ◌^◌, ℕ, IfSome, IsSome, length, unwrap_or};
 ghost use Rattle.elf_object.specs.Parts.{symbol_count};
 ghost use Rattle.tls_layout.specs.Places.{address_of, tls_offset_of};
-ghost use Rattle.tls_symbols.specs.Bindings.{IsBindingWithin, object_at};
+ghost use Rattle.tls_symbols.specs.Bindings.{IsBindingWithin, bound_to, may_import, object_at};
 ghost use Rattle.tls_symbols.specs.Definitions.{IsWithin};
-ghost use Rattle.link_needs.specs.Linking.{address, address_in, binding, choice, layout, offset, offset_in};
+ghost use Rattle.link_needs.specs.Linking.{address, address_in, choice, layout, offset, offset_in};
 
-use elf_object::{Object, Relocation, SymbolPlace};
+use elf_object::{Object, RelocationKind, SymbolPlace};
 use link_faults::{Binding, ImageKind, SymbolRef};
 use relax_sites::{Choice, choice};
-use sequence_match::{Site, first_of};
+use sequence_match::Site;
 use std::marker::Model;
 use tls_layout::Placement;
-use tls_symbols::Bindings;
+use tls_symbols::{Bindings, imports_of};
 
 /// Objects, what their names are bound to, and where their sections go. Contracts see what decides these.
 #[derive(Drop)]
@@ -66,15 +66,15 @@ impl<'l, 's, 'a> Inputs<'l, 's, 'a> {
         &objects[number]
     }
 
-    /// What the symbol is bound to that a relocation of an object names.
+    /// What a symbol of an object is bound to that a relocation of this type names.
     #[inline]
-    pub(crate) fn binding(&self, object: usize, relocation: &Relocation) -> Option<Binding>
+    pub fn bound(&self, object: usize, symbol: u32, kind: RelocationKind) -> Option<Binding>
         requires object { object < length self.now.objects }
-        requires symbol { relocation.now.symbol < symbol_count (object_at self.now.objects object) }
-        ensures binding { result ≡ binding self.now object relocation.now }
+        requires symbol { symbol < symbol_count (object_at self.now.objects object) }
+        ensures binding { result ≡ bound_to self.now.objects self.now.startup object symbol (may_import kind) }
         ensures within { IfSome result (IsBindingWithin self.now.objects) }
     {
-        self.bindings.binding_of(object, relocation)
+        self.bindings.binding(object, symbol, imports_of(kind))
     }
 
     /// Which sequence stands in a site's place.
@@ -84,7 +84,7 @@ impl<'l, 's, 'a> Inputs<'l, 's, 'a> {
         requires symbol { site.now.symbol < symbol_count (object_at self.now.objects object) }
         ensures { result ≡ choice self.now object site.now }
     {
-        match self.binding(object, &first_of(site)) {
+        match self.bound(object, site.symbol, site.form.row().first) {
             Some(bound) => choice(site.form, bound, self.kind, self.relax),
             None => Choice::Keep,
         }

@@ -1,7 +1,7 @@
 //! What code needs of the global offset table.
 
 ghost use Rattle.std.specs.Prelude.{◌≡◌, ◌+◌, ◌<◌, ◌≤◌, ◌^◌, ◌++◌, ◌&&◌, [], ◌∷◌, IfOk, IfSome, OnOk, filter, length};
-ghost use Rattle.std.specs.Prelude.{map, option_and_then, if◌then◌else◌};
+ghost use Rattle.std.specs.Prelude.{map, option_and_then, option_map, if◌then◌else◌};
 ghost use Rattle.std.specs.List.{All, flat_map};
 ghost use Rattle.elf_object.specs.Lawful.{IsLawful};
 ghost use Rattle.elf_object.specs.Lent.{relocations};
@@ -21,7 +21,7 @@ use elf_records::relocation_row::TableEntry;
 use got_pairs::{Name, Need, Target};
 use link_faults::Binding;
 use relax_sites::{Choice, NewField, new_field};
-use sequence_match::{Form, Site, first_of};
+use sequence_match::{Form, Site};
 use std::alloc::{AllocError, Global};
 
 /// What all code needs of the table, and which sequence stands in the place of each site. Each site is chosen for once;
@@ -87,15 +87,14 @@ pub fn new_relocation(site: &Site, field: &NewField) -> Relocation
     }
 }
 
-/// The relocation by which a site reaches its entry, if it does.
-fn reaching(site: &Site, choice: Choice) -> Option<Relocation>
-    requires { site.now.start ≤ 2 ^ 20 }
-    ensures { result ≡ reaching site.now choice }
+/// The type of the relocation by which a site reaches its entry, if it does.
+fn reaching(site: &Site, choice: Choice) -> Option<RelocationKind>
+    ensures { result ≡ option_map (λ r. r.kind) (reaching site.now choice) }
 {
     match choice {
-        Choice::Keep => Some(first_of(site)),
+        Choice::Keep => Some(site.form.row().first),
         _ => match new_field(site.form, choice) {
-            Some(field) => Some(new_relocation(site, &field)),
+            Some(field) => Some(field.kind),
             None => None,
         },
     }
@@ -176,9 +175,9 @@ impl<'l, 's, 'a> Inputs<'l, 's, 'a> {
         ensures { result ≡ option_and_then (relocation_need self.now object) (reaching site.now choice) }
     {
         match reaching(site, choice) {
-            Some(relocation) => {
-                let bound = self.binding(object, &relocation);
-                self.need(object, relocation.symbol, bound, relocation.kind)
+            Some(kind) => {
+                let bound = self.bound(object, site.symbol, kind);
+                self.need(object, site.symbol, bound, kind)
             }
             None => None,
         }
@@ -269,7 +268,7 @@ impl<'l, 's, 'a> Inputs<'l, 's, 'a> {
         requires symbol { relocation.now.symbol < symbol_count (object_at self.now.objects object) }
         ensures { OnOk result (needs.new.items ≡ needs.old.items ++ address_needs self.now object relocation.now) }
     {
-        let bound = self.binding(object, relocation);
+        let bound = self.bound(object, relocation.symbol, relocation.kind);
         push_some(self.own_word(bound), needs)
     }
 

@@ -258,7 +258,7 @@ impl<'l, 's, 'a> Plan<'l, 's, 'a> {
         ensures { result ≡ need_address self.now (relocation_need self.now object relocation.now) }
     {
         let inputs = &self.inputs;
-        let bound = inputs.binding(object, relocation);
+        let bound = inputs.bound(object, relocation.symbol, relocation.kind);
         self.need_address(inputs.need(object, relocation.symbol, bound, relocation.kind))
     }
 

@@ -10,7 +10,7 @@ ghost use Rattle.whole_meaning.specs.Code.{definition_number};
 
 use link_faults::{Binding, SymbolRef};
 use link_needs::Inputs;
-use sequence_match::{Form, Site, first_of};
+use sequence_match::{Form, Site};
 use std::marker::Model;
 
 /// One more than the greatest number of an object, and of a symbol, in the number of a definition.
@@ -118,7 +118,7 @@ fn bound_target(images: &[Inputs], inputs: &Inputs, number: usize, site: &Site) 
     ensures target { IsBound images.now inputs.now number site.now result }
     ensures numbered { IsNumbered result }
 {
-    match inputs.bindings.binding_of(number, &first_of(site)) {
+    match inputs.bound(number, site.symbol, site.form.row().first) {
         Some(Binding::Here(found)) => Target::Own(found, inputs.offset(found)),
         Some(Binding::Startup(image)) => {
             let name = inputs.object(number).symbol_name(site.symbol);

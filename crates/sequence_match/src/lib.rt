@@ -36,12 +36,10 @@
 #![tactic(auto)]
 
 mod finding;
-mod first;
 mod index;
 pub mod laws;
 mod matching;
 mod near;
 
 pub use finding::sites;
-pub use first::first_of;
 pub use sequence_forms::{Call, Cell, Form, Row, Second, Site};
