@@ -1,6 +1,6 @@
 -- The field of a rewritten sequence fits its value: a variable's distance from the thread pointer, and how far an entry
 -- of the table is from the field's end, are small.
-use Rattle.std.proofs.Common.{◌≡◌, ◌+◌, ◌<◌, ◌≤◌, ◌⊎◌, ◌^◌, ◌==◌, ◌∙◌, ℕ, ℤ, pos, negsuc, Bool, true, false, List}
+use Rattle.std.proofs.Common.{◌≡◌, ◌+◌, ◌<◌, ◌≤◌, ◌⊎◌, ◌^◌, ◌==◌, ℕ, ℤ, pos, negsuc, Bool, true, false, List}
 use Rattle.std.proofs.Common.{[], ◌∷◌, Option, Some, None, length, inl, inr, refl, sym, ap, subst, arith}
 use Rattle.std.specs.Prelude.{◌+ℤ◌, ◌-ℤ◌, fold, unwrap_or, if◌then◌else◌}
 use Rattle.std.specs.List.{All, Contains}

@@ -1,5 +1,5 @@
 -- The fields of a part of the file are those of the two parts that a cut makes of it.
-use Rattle.std.proofs.Common.{◌≡◌, ◌+◌, ◌-◌, ◌<◌, ◌≤◌, ◌^◌, ◌∙◌, ◌++◌, ℕ, suc, Bool, true, false, List, [], ◌∷◌}
+use Rattle.std.proofs.Common.{◌≡◌, ◌+◌, ◌-◌, ◌<◌, ◌≤◌, ◌∙◌, ◌++◌, ℕ, suc, Bool, true, false, List, [], ◌∷◌}
 use Rattle.std.proofs.Common.{Option, Some, None, length, inl, inr, refl, sym, ap, subst, arith}
 use Rattle.std.specs.Prelude.{fold, slice_index_or, unwrap_or, if◌then◌else◌}
 use Rattle.std.specs.List.{Contains, range_with_len}

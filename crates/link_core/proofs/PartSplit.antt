@@ -1,5 +1,5 @@
 -- Where sections begin, and a part of the file that is cut where no section lies.
-use Rattle.std.proofs.Common.{◌≡◌, ◌+◌, ◌-◌, ◌<◌, ◌≤◌, ◌^◌, ◌∙◌, ◌&&◌, ℕ, Bool, true, false, Option, Some, None, length, inl, inr}
+use Rattle.std.proofs.Common.{◌≡◌, ◌+◌, ◌-◌, ◌<◌, ◌≤◌, ◌∙◌, ◌&&◌, ℕ, Bool, true, false, Option, Some, None, length, inl, inr}
 use Rattle.std.proofs.Common.{refl, sym, ap, subst, arith}
 use Rattle.std.specs.Prelude.{nat_le, if◌then◌else◌}
 use Rattle.std.proofs.lemmas.Bool.{cases_lt}
@@ -9,7 +9,6 @@ use Rattle.section_file.specs.Files.{offset_of}
 use Rattle.section_file.proofs.Told.{sections_fit}
 use Rattle.tls_layout.specs.Places.{address_of}
 use Rattle.tls_layout.specs.Sections.{Layout}
-use Rattle.tls_layout.proofs.Bounds.{address_bounds}
 use Rattle.tls_layout.proofs.LawsOfPlaces.{addresses_apart}
 use Rattle.link_needs.specs.Linking.{Linking, layout}
 use Rattle.link_needs.specs.Given.{FitsTable, IsGiven}

@@ -1,6 +1,6 @@
 -- The parts of an image: those of sections are zero where no section has a byte, and the table and the stub are parts.
 use Rattle.std.proofs.Common.{◌≡◌, ◌+◌, ◌-◌, ◌<◌, ◌≤◌, ◌⊎◌, ◌==◌, ◌∙◌, ◌++◌, ℕ, true, false, List, [], ◌∷◌, Option, Some, length, map}
-use Rattle.std.proofs.Common.{drop, take, inl, inr, refl, sym, ap, subst, arith}
+use Rattle.std.proofs.Common.{drop, inl, inr, refl, sym, ap, subst, arith}
 use Rattle.std.specs.Prelude.{option_map, slice_get, slice_index_or}
 use Rattle.std.proofs.lemmas.Bool.Decides.{nat_tests}
 use Rattle.std.proofs.lemmas.List.{length-append, length-take}
@@ -18,7 +18,6 @@ use Rattle.section_file.proofs.Told.{files_end, gaps_are_zero as zero_between}
 use Rattle.section_file.specs.Files.{offset_of, sections_file}
 use Rattle.section_file.specs.Laws.{sections_end}
 use Rattle.tls_layout.proofs.Together.{page_up-above}
-use Rattle.tls_layout.specs.Places.{address_of}
 use Rattle.tls_relocs.specs.Elements.{slice_get-append, slice_get-append_behind, slice_get-drop, slice_get-take}
 use Rattle.link_needs.specs.Given.{FitsTable, IsGiven}
 use Rattle.link_needs.specs.Linking.{Linking, layout, object}
@@ -27,7 +26,6 @@ use Rattle.link_core.specs.Bytes.{file, got_bytes, stub_bytes}
 use Rattle.link_core.specs.Images.{contents, file_kind, got_number, got_places, image_of, places, section_places}
 use Rattle.link_core.specs.Images.{stub_places}
 use Rattle.link_core.specs.Laws.{GapsAreZero, IsGap, StubsAreParts, TablesAreParts}
-use Rattle.link_tables.specs.Faults.{Links}
 use Rattle.link_core.proofs.Few.{table_fits}
 use Rattle.link_core.proofs.LengthsInside.{are_laid}
 use Rattle.link_core.proofs.LengthsPlaces.{are_parts, base_before, lie_between}

@@ -1,7 +1,7 @@
 -- The entries of the table and the stub stand at their places.
-use Rattle.std.proofs.Common.{◌≡◌, ◌+◌, ◌-◌, ◌^◌, ◌<◌, ◌≤◌, ◌&&◌, ◌∙◌, ◌++◌, ℕ, suc, ℤ, Bool, true, false, List, []}
+use Rattle.std.proofs.Common.{◌≡◌, ◌+◌, ◌-◌, ◌^◌, ◌<◌, ◌≤◌, ◌∙◌, ◌++◌, ℕ, suc, ℤ, Bool, true, false, List, []}
 use Rattle.std.proofs.Common.{◌∷◌, ◌%◌, inl, inr, Some, FitsSigned, length, take, refl, sym, ap, subst, arith}
-use Rattle.std.specs.Prelude.{pos, negsuc, ◌+ℤ◌, ◌-ℤ◌, nat_eq, ◌==◌, if◌then◌else◌, unwrap_or}
+use Rattle.std.specs.Prelude.{pos, negsuc, ◌+ℤ◌, ◌-ℤ◌, ◌==◌, if◌then◌else◌, unwrap_or}
 use Rattle.std.specs.Int.{w32, cast_unsigned}
 use Rattle.std.specs.List.{flat_map}
 use Rattle.std.specs.Option.{IfSome}
@@ -10,15 +10,11 @@ use Rattle.std.proofs.lemmas.Bool.{cases_lt, le-ltb, lt-ltb}
 use Rattle.std.proofs.lemmas.Bool.Decides.{nat_tests}
 use Rattle.std.proofs.lemmas.List.{append-nil, length-replicate, take_at}
 use Rattle.std.proofs.lemmas.Option.{same_Some}
-use Rattle.std.proofs.lemmas.Slice.Eq.{bytes_eq-Decides}
 use Rattle.elf_records.specs.Fields.{bytes_of, part_at}
 use Rattle.elf_records.specs.Laws.{length-bytes_of, part_again, part_at-append, part_at-behind}
 use Rattle.got_pairs.specs.declared.need.Need.{Need}
-use Rattle.got_pairs.specs.declared.need.Need.TheVariants.{ModulePair, SymbolPair, Descriptor, SymbolWord}
-use Rattle.got_pairs.specs.declared.need.Need.TheVariants.{AddressWord, RuntimeWord}
-use Rattle.got_pairs.specs.declared.need.Target.{Target}
-use Rattle.got_pairs.specs.declared.need.Target.TheVariants.{Here, Import}
-use Rattle.got_pairs.specs.Needs.{same_need, same_symbol, same_target, size_of, start_from, start_of}
+use Rattle.got_pairs.specs.declared.need.Need.TheVariants.{RuntimeWord}
+use Rattle.got_pairs.specs.Needs.{same_need, size_of, start_from, start_of}
 use Rattle.got_pairs.proofs.Equal.{need_is, size_some}
 use Rattle.got_pairs.proofs.Served.{within}
 use Rattle.section_file.specs.Files.{offset_of, sections_file}
@@ -29,7 +25,6 @@ use Rattle.tls_relocs.specs.declared.fields.Field.TheVariants.{Empty, Word32}
 use Rattle.tls_relocs.specs.Fields.{field_bytes}
 use Rattle.tls_relocs.specs.Laid.{zeros}
 use Rattle.tls_relocs.specs.Values.{signed_field}
-use Rattle.link_faults.specs.declared.symbol_ref.SymbolRef.{SymbolRef}
 use Rattle.link_needs.specs.Linking.{Linking, layout}
 use Rattle.link_needs.specs.Needs.{entries, got_size, got_start, has_stub, need_address, stub_start}
 use Rattle.link_core.specs.Bytes.{file, got_bytes, need_bytes, raw_file, stub_bytes, with_got, with_part, with_stub}

@@ -117,11 +117,7 @@ impl ReadyLink<'_, '_, '_> {
 }
 
 /// The image of a link that is ready, or the first field that does not hold its value.
-fn written<R: Threads + Sync>(
-    rt: &R,
-    alloc: Global,
-    ready: ReadyLink,
-) -> Result<Linked, LinkFault>
+fn written<R: Threads + Sync>(rt: &R, alloc: Global, ready: ReadyLink) -> Result<Linked, LinkFault>
     requires { IsSound ready }
     ensures linked { IfOk result (λ linked. linked ≡ linked_of ready.entry) }
     ensures links { OnOk result (Links ready.entry) }

@@ -87,13 +87,7 @@ fn put(plan: &Plan, from: u64, place: u64, field: Field, part: &mut [u8])
 
 /// Fills the field of a relocation of a section, if it has one that holds its value.
 #[inline(always)]
-fn fill_field(
-    plan: &Plan,
-    from: u64,
-    own: PlacedSection,
-    relocation: &Relocation,
-    bytes: &mut [u8],
-)
+fn fill_field(plan: &Plan, from: u64, own: PlacedSection, relocation: &Relocation, bytes: &mut [u8])
     requires object { own.object < length plan.now.objects }
     requires own { Contains (relocations (object_at plan.now.objects own.object) own.section) relocation.now }
     requires address { address_of (layout plan.now) own.object own.section ≡ Some own.address }

@@ -77,13 +77,17 @@ returns-in-Ok c =
       filled = c.put.auto.part;
     }
 
-pub returns-in_default-clause-written : goal.returns-in_default-clause-written
-returns-in_default-clause-written c =
+pub returns-in_default-field : goal.returns-in_default-field
+returns-in_default-field c =
     let l = c.args.plan.now in
     let o = c.args.own.object in
     let t = c.args.own.section in
     let r = c.args.relocation.now in
     let is = replaced_as l o t r c.symbol_value-symbol.result c.symbol_value-symbol.ensures
     ∙ sym c.is_replaced.ensures ∙ c.if-is_replaced.false in
-    unfit_writes l o t r c.args.from c.args.bytes.now is
-    (c.in_default.ensures.field t (sym (ap (λ a. unwrap_or a 0 + r.offset) c.requires.address)))
+    record {
+      written =
+          unfit_writes l o t r c.args.from c.args.bytes.now is
+          (c.in_default-field.ensures.field t (sym (ap (λ a. unwrap_or a 0 + r.offset) c.requires.address)));
+      filled = refl;
+    }
