@@ -1,3 +1,4 @@
+mod DataParts
 mod Exports
 mod Flagged
 mod Imported
@@ -5,3 +6,5 @@ mod Listed
 mod Members
 mod Named
 mod Shared
+mod Unshared
+mod Unwritten

@@ -1,1 +1,2 @@
+pub mod Dataless
 pub mod Together

@@ -1,4 +1,5 @@
-//! That images which are linked together can be loaded together: a law, and no code that runs.
+//! What a loader, and threads that really run, may rely on of images that are linked together: laws, and no code that
+//! runs.
 //!
 //! A loader takes the images of a job, and some of what it needs no image tells alone (`loaded_modules`,
 //! `AreModules`): that a name which one image asks for is shared by another, and that an image which comes late, when
@@ -28,6 +29,19 @@
 //!
 //! The module's two relocations name `total`, which the loader finds in the program. Were it HIDDEN there, the program
 //! would not export it, and the module would not link.
+//!
+//! The other law is of **data that threads share**. A loader leaves two kinds of parts writable: the class of writable
+//! sections (gABI, "Section Attributes": SHF_ALLOC and SHF_WRITE), which all threads write, and the global offset table,
+//! which the loader alone writes. So where no object has a byte in such a section, in the file or in memory
+//! (`IsDataless`, `specs/Dataless`), that class is empty in each image and the table is all that is left (`ShareNoData`):
+//! threads of such images have their blocks and their stacks to themselves, and nothing else to write. For example, of a
+//! program with `.text`, `.tdata` and an empty `.data`:
+//!
+//! ```text
+//! part 0   executable   .text
+//! part 1   read-only    .tdata, which each thread's block begins as
+//! part 2   writable     the global offset table: no data
+//! ```
 #![tactic(auto)]
 
 pub mod laws;

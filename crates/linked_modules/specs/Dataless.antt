@@ -1,0 +1,31 @@
+-- Images of objects that have no section for programs to write: no data in them is shared by threads.
+use Rattle.std.specs.Prelude.{◌≡◌, ℕ, Bool, true, false, List, is_some, map, nat_lt}
+use Rattle.std.specs.List.{All, list_any}
+use Rattle.elf_object.specs.Object.{IsWritable}
+use Rattle.link_core.specs.Images.{image_of}
+use Rattle.link_needs.specs.Linking.{Linking, layout}
+use Rattle.module_data.specs.Parts.{data_part}
+use Rattle.object_faults.specs.declared.class.SectionClass.TheVariants.{Writable}
+use Rattle.tls_layout.specs.Laws.{extent_for}
+
+-- no section of the object is of the writable class and has bytes, in the file or in memory
+abbrev pub IsDataless : List ℕ → Type 0
+IsDataless b = (s : ℕ) → IsWritable b s → ⊥
+
+-- nor has any object that an image is linked from
+abbrev pub IsOfDataless : Linking → Type 0
+IsOfDataless l = All IsDataless l.objects
+
+-- whether an image's class of such sections has bytes
+abbrev pub has_writable : Linking → Bool
+has_writable l = let extent = extent_for (Writable true) (layout l) in nat_lt extent.start extent.end
+
+-- the images of these links have no data that threads share: the class of what programs write is empty in each, and
+-- none has a part that programs write
+pub record ShareNoData (ls : List Linking) : Type 0 where
+  pub classes : All (λ (l : Linking). has_writable l ≡ false) ls
+  pub parts : list_any (λ image. is_some (data_part image)) (map image_of ls) ≡ false
+
+-- what is linked from such objects shares none
+abbrev pub DatalessObjectsShareNoData : Type 0
+DatalessObjectsShareNoData = (ls : List Linking) → All IsOfDataless ls → ShareNoData ls
