@@ -2,6 +2,7 @@
 use Rattle.std.proofs.Common.{ℕ, Bool, Option, List, inl, inr, subst}
 use Rattle.std.proofs.lemmas.Option.{get_or_from_slice_get, slice_get_within}
 use Rattle.generated_laws.specs.Sound.{IsFaultless}
+use Rattle.job_link.specs.declared.writable.WritableSections.TheVariants.{Kept}
 use Rattle.job_link.specs.Given.{Given, AreGiven, IsFileFault}
 use Rattle.job_link.specs.Linked.{AllLink, link_in}
 use Rattle.job_link.specs.Mentions.{mentions_of}
@@ -22,9 +23,11 @@ no_sequence_fault Sequence b r e fine here = fine.no_loose r e here
 no_sequence_fault StrayCall b r e fine here = fine.no_stray r e here
 no_sequence_fault kind b r e fine (above, (s, kept, never)) = never
 
-no_file_fault : (b : List ℕ) (section entry : ℕ) (kind : FaultKind) → IsFaultless b → IsFileFault b (object_fault.At section entry kind) → ⊥
+no_file_fault : (b : List ℕ) (section entry : ℕ) (kind : FaultKind) → IsFaultless b → IsFileFault Kept b (object_fault.At section entry kind) → ⊥
 no_file_fault b section entry kind fine (inl first) = fine.object kind section entry first.here
-no_file_fault b section entry kind fine (inr (is, first)) = no_sequence_fault kind b section entry fine first.here
+no_file_fault b section entry kind fine (inr (is, inl never)) = never
+no_file_fault b section entry kind fine (inr (is, inr (allowed, first))) =
+    no_sequence_fault kind b section entry fine first.here
 
 -- ** links
 

@@ -5,6 +5,7 @@ use Rattle.std.specs.Prelude.{Option, Some, None, IsSome, Result, Ok, Err, is_so
 use Rattle.std.specs.List.{All}
 use Rattle.std.specs.Option.{option_map_or}
 use Rattle.command_replies.specs.Says.{HasFile, Is, JobFaultSays, fault_text, job_fault_text, link_line, shown_object}
+use Rattle.job_link.specs.declared.writable.WritableSections.TheVariants.{Kept}
 use Rattle.job_link.specs.Given.{Given, AreGiven, IsFirstFaulty}
 use Rattle.job_link.specs.Linked.{AllLink, IsFirstUnlinked, link_in}
 use Rattle.job_link.specs.Mentions.{bytes_at, object_names}
@@ -35,7 +36,7 @@ pub record IsUnread (bytes : List ℕ → List ℕ) (job : JobParts) (status : �
   pub section : ℕ
   pub entry : ℕ
   pub kind : FaultKind
-  pub first : IsFirstFaulty bytes job name section entry kind
+  pub first : IsFirstFaulty Kept bytes job name section entry kind
   pub says : Is 6 (fault_text name section entry kind) status text
 
 -- an image does not link: 7, and the first

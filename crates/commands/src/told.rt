@@ -20,7 +20,10 @@ use crate::purpose::{Ending, Purpose};
 use crate::unlinked::{unlinked, unread};
 use command_line::Rewriting;
 use command_replies::{CommandFault, job_of, whole_file};
-use job_link::{Files, ImageObjects, fetch_objects, prepare_images, read_objects, startup_exports};
+use job_link::{
+    Files, ImageObjects, WritableSections, fetch_objects, prepare_images, read_objects,
+    startup_exports,
+};
 use job_text::Job;
 use ports::Store;
 use std::alloc::Global;
@@ -132,7 +135,7 @@ pub fn told_of_files<R: Threads + Sync>(
     ensures cause { NoStoreFault result }
 {
     files.are_bytes();
-    match read_objects(rt, alloc, job, files) {
+    match read_objects(rt, alloc, job, files, WritableSections::Kept) {
         Ok(images) => told_of_images(rt, alloc, job, images.as_slice(), rewriting, ending),
         Err(refusal) => Err(unread(alloc, refusal)),
     }

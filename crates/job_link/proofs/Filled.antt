@@ -6,7 +6,7 @@ use Rattle.std.specs.List.{All, Contains}
 use Rattle.std.proofs.lemmas.Bool.{cases_eq, cases_lt}
 use Rattle.std.proofs.lemmas.List.{ext_get_or, get_or-map, get_or-set_other, get_or-set_same, length-map}
 use Rattle.std.proofs.lemmas.List.{length-take-le, map-set, set-get_or, take-append-drop}
-use Rattle.std.proofs.lemmas.List.Elements.{All-get_or, All-set, Contains-push_cases}
+use Rattle.std.proofs.lemmas.List.Elements.{All-get_or, All-map, All-set, All-weaker, Contains-push_cases}
 use Rattle.std.proofs.lemmas.Option.{get_or_from_slice_get, slice_get-get_or, slice_get_within}
 use Rattle.object_rules.specs.declared.fault.ObjectFault.{ObjectFault}
 use Rattle.object_rules.specs.declared.fault.ObjectFault.TheVariants as object
@@ -15,7 +15,8 @@ use Rattle.job_text.specs.Jobs.{JobParts}
 use Rattle.link_faults.specs.declared.image_kind.ImageKind.{ImageKind}
 use Rattle.job_link.specs.declared.reading.ReadRefusal.{ReadRefusal}
 use Rattle.job_link.specs.declared.reading.ReadRefusal.TheVariants as unread
-use Rattle.job_link.specs.Given.{AreGiven, Given, IsFileFault, IsGiven, IsSound}
+use Rattle.job_link.specs.declared.writable.WritableSections.{WritableSections}
+use Rattle.job_link.specs.Given.{Allows, AreGiven, Given, IsFileFault, IsGiven, IsTaken}
 use Rattle.job_link.specs.Mentions.{mentions_of}
 use Rattle.job_link.specs.Reads.{kinds_of, objects_of, read_refusal_of, IsReadIn, IsRefusalIn, IsRefusalOf}
 use Rattle.job_link.specs.Refusals.{IsReadRefusal}
@@ -138,29 +139,38 @@ front xs ys k other less e =
     let same : get_or xs k other ≡ other = cc in
     own ∙ ap Some same
 
--- a file among sound ones
-pub sound_before : (bytes : List ℕ → List ℕ) (xs : List (List ℕ)) → All (λ name. IsSound (bytes name)) xs
-    → (k : ℕ) (other : List ℕ) → slice_get xs k ≡ Some other → IsSound (bytes other)
-sound_before bytes xs all k other e =
-    subst (λ (name : List ℕ). IsSound (bytes name)) (get_or_from_slice_get xs k other other e)
-    (All-get_or (λ name. IsSound (bytes name)) xs k other (slice_get_within xs k other e) all)
+-- the files of these names have no section that is refused
+pub allowed_of : (writable : WritableSections) (bytes : List ℕ → List ℕ) (names : List (List ℕ))
+    → All (λ name. IsTaken writable (bytes name)) names → All (Allows writable) (map bytes names)
+allowed_of writable bytes names taken =
+    All-map (Allows writable) bytes names
+    (All-weaker (λ name. IsTaken writable (bytes name)) (λ name. Allows writable (bytes name)) (λ name its. its.allowed)
+    names taken)
+
+-- a file among those that are taken
+pub taken_before : (writable : WritableSections) (bytes : List ℕ → List ℕ) (xs : List (List ℕ))
+    → All (λ name. IsTaken writable (bytes name)) xs
+    → (k : ℕ) (other : List ℕ) → slice_get xs k ≡ Some other → IsTaken writable (bytes other)
+taken_before writable bytes xs all k other e =
+    subst (λ (name : List ℕ). IsTaken writable (bytes name)) (get_or_from_slice_get xs k other other e)
+    (All-get_or (λ name. IsTaken writable (bytes name)) xs k other (slice_get_within xs k other e) all)
 
 -- what is told of a file by its fault
-pub told_of : (bytes : List ℕ → List ℕ) (name : Bor (List ℕ)) (fault : ObjectFault) → IsFileFault (bytes name.now) fault
-    → IsRefusalOf bytes name.now (read_refusal_of name fault)
-told_of bytes name object.OutOfMemory here = tt
-told_of bytes name (object.At section entry kind) here = (refl, here)
+pub told_of : (writable : WritableSections) (bytes : List ℕ → List ℕ) (name : Bor (List ℕ)) (fault : ObjectFault)
+    → IsFileFault writable (bytes name.now) fault → IsRefusalOf writable bytes name.now (read_refusal_of name fault)
+told_of writable bytes name object.OutOfMemory here = tt
+told_of writable bytes name (object.At section entry kind) here = (refl, here)
 
--- a refusal behind sound objects
-pub refused_at : (bytes : List ℕ → List ℕ) (names : List (List ℕ)) (i : ℕ) (refusal : ReadRefusal)
-    → i < length names → All (λ name. IsSound (bytes name)) (take i names)
-    → IsRefusalOf bytes (get_or names i []) refusal → IsRefusalIn bytes names refusal
-refused_at bytes names i unread.OutOfMemory inside sound here = tt
-refused_at bytes names i (unread.At name section entry kind) inside sound here = record {
+-- a refusal behind objects that are taken
+pub refused_at : (writable : WritableSections) (bytes : List ℕ → List ℕ) (names : List (List ℕ)) (i : ℕ)
+    (refusal : ReadRefusal) → i < length names → All (λ name. IsTaken writable (bytes name)) (take i names)
+    → IsRefusalOf writable bytes (get_or names i []) refusal → IsRefusalIn writable bytes names refusal
+refused_at writable bytes names i unread.OutOfMemory inside taken here = tt
+refused_at writable bytes names i (unread.At name section entry kind) inside taken here = record {
   at = i;
   there = slice_get-get_or names i [] inside ∙ ap Some (sym here.0);
-  here = subst (λ (n : List ℕ). IsFileFault (bytes n) (object.At section entry kind)) (sym here.0) here.1;
-  before = λ k other less e. sound_before bytes (take i names) sound k other (up_to k other less e);
+  here = subst (λ (n : List ℕ). IsFileFault writable (bytes n) (object.At section entry kind)) (sym here.0) here.1;
+  before = λ k other less e. taken_before writable bytes (take i names) taken k other (up_to k other less e);
 }
   where
     up_to : (k : ℕ) (other : List ℕ) → k < i → slice_get names k ≡ Some other → slice_get (take i names) k ≡ Some other
@@ -169,12 +179,13 @@ refused_at bytes names i (unread.At name section entry kind) inside sound here =
         front (take i names) (drop i names) k other short
         (ap (λ (xs : List (List ℕ)). slice_get xs k) (take-append-drop i names) ∙ e)
 
--- an image behind sound ones
-pub refused_in : (bytes : List ℕ → List ℕ) (job : JobParts) (names more rest : List (List ℕ)) (refusal : ReadRefusal)
-    → mentions_of job ≡ (names ++ more) ++ rest
-    → All (λ name. IsSound (bytes name)) names → IsRefusalIn bytes more refusal → IsReadRefusal bytes job refusal
-refused_in bytes job names more rest unread.OutOfMemory all sound is = tt
-refused_in bytes job names more rest (unread.At name section entry kind) all sound is = record {
+-- an image behind those that are taken
+pub refused_in : (writable : WritableSections) (bytes : List ℕ → List ℕ) (job : JobParts)
+    (names more rest : List (List ℕ)) (refusal : ReadRefusal) → mentions_of job ≡ (names ++ more) ++ rest
+    → All (λ name. IsTaken writable (bytes name)) names → IsRefusalIn writable bytes more refusal
+    → IsReadRefusal writable bytes job refusal
+refused_in writable bytes job names more rest unread.OutOfMemory all taken is = tt
+refused_in writable bytes job names more rest (unread.At name section entry kind) all taken is = record {
   at = length names + is.at;
   there = ap (λ (xs : List (List ℕ)). slice_get xs (length names + is.at)) all
       ∙ within (names ++ more) rest (length names + is.at) name.now (after names more is.at ∙ is.there);
@@ -183,7 +194,8 @@ refused_in bytes job names more rest (unread.At name section entry kind) all sou
       let e' : slice_get (names ++ (more ++ rest)) k ≡ Some other =
       ap (λ (xs : List (List ℕ)). slice_get xs k) (sym (all ∙ append_assoc names more rest)) ∙ e in
       elim (cases_lt k (length names)) [
-        | inl early ↦ sound_before bytes names sound k other (front names (more ++ rest) k other early e')
+        | inl early ↦
+            taken_before writable bytes names taken k other (front names (more ++ rest) k other early e')
         | inr late ↦
             let at : length names + (k - length names) ≡ k = omega arith in
             let low : k - length names < is.at = omega arith in

@@ -2,15 +2,18 @@
 use Rattle.std.specs.Prelude.{◌≡◌, ◌<◌, ◌⊎◌, ℕ, List, [], Some, length, map, slice_get, slice_index_or}
 use Rattle.std.specs.List.{All}
 use Rattle.object_rules.specs.declared.fault.FaultKind.{FaultKind}
-use Rattle.object_rules.specs.declared.fault.FaultKind.TheVariants.{Sequence, StrayCall}
+use Rattle.object_rules.specs.declared.fault.FaultKind.TheVariants.{Sequence, StrayCall, WritableData}
 use Rattle.object_rules.specs.declared.fault.ObjectFault.{ObjectFault}
 use Rattle.object_rules.specs.declared.fault.ObjectFault.TheVariants.{OutOfMemory, At}
-use Rattle.elf_object.specs.Faults.{IsObject, IsFault}
+use Rattle.elf_object.specs.Faults.{IsObject, IsFault, IsFirstAt}
+use Rattle.elf_object.specs.Object.{IsWritable}
 use Rattle.job_text.specs.declared.images.Image.{Image}
 use Rattle.job_text.specs.Jobs.{JobParts}
 use Rattle.link_faults.specs.declared.image_kind.ImageKind.{ImageKind}
 use Rattle.sequence_forms.specs.declared.places.Site.{Site}
 use Rattle.sequence_match.specs.Faults.{AreSites, Nowhere, IsFault as IsSequenceFault}
+use Rattle.job_link.specs.declared.writable.WritableSections.{WritableSections}
+use Rattle.job_link.specs.declared.writable.WritableSections.TheVariants.{Kept, Refused}
 use Rattle.job_link.specs.Mentions.{mentions_of}
 
 -- ** one file
@@ -21,11 +24,34 @@ pub record IsSound (b : List ℕ) : Type 0 where
   pub no_loose : Nowhere Sequence b
   pub no_stray : Nowhere StrayCall b
 
--- what a refusal says of it: the first fault, those of sequences last; of want of memory nothing
-abbrev pub IsFileFault : List ℕ → ObjectFault → Type 0
-IsFileFault b OutOfMemory = Unit {0}
-IsFileFault b (At section entry kind) =
-    IsFault b (At section entry kind) ⊎ (IsObject b × IsSequenceFault b (At section entry kind))
+-- where data that programs write is refused, no section of it has any, in the file or in memory
+abbrev pub Allows : WritableSections → List ℕ → Type 0
+Allows Kept b = Unit {0}
+Allows Refused b = (section : ℕ) → IsWritable b section → ⊥
+
+-- it is sound, and has nothing that is refused
+pub record IsTaken (writable : WritableSections) (b : List ℕ) : Type 0 where
+  pub sound : IsSound b
+  pub allowed : Allows writable b
+
+-- the lowest of its sections that are refused
+abbrev pub IsDataFault : WritableSections → List ℕ → ℕ → ℕ → FaultKind → Type 0
+IsDataFault Kept b section entry kind = ⊥
+IsDataFault Refused b section entry kind =
+    IsFirstAt (IsWritable b) (Some section) × (entry ≡ 0) × (kind ≡ WritableData)
+
+abbrev pub IsDataFaultOf : WritableSections → List ℕ → ObjectFault → Type 0
+IsDataFaultOf writable b OutOfMemory = ⊥
+IsDataFaultOf writable b (At section entry kind) = IsDataFault writable b section entry kind
+
+-- what a refusal says of it: its first fault, and where it is an object, its lowest section that is refused, and where
+-- none is, the first fault of its sequences; of want of memory nothing
+abbrev pub IsFileFault : WritableSections → List ℕ → ObjectFault → Type 0
+IsFileFault writable b OutOfMemory = Unit {0}
+IsFileFault writable b (At section entry kind) =
+    IsFault b (At section entry kind)
+    ⊎ (IsObject b × (IsDataFault writable b section entry kind
+    ⊎ (Allows writable b × IsSequenceFault b (At section entry kind))))
 
 -- ** the images
 
@@ -50,9 +76,10 @@ pub record AreGiven (bytes : List ℕ → List ℕ) (job : JobParts) (images : L
 
 -- ** the first file that is refused, in the order in which the job mentions them
 
-pub record IsFirstFaulty (bytes : List ℕ → List ℕ) (job : JobParts) (name : List ℕ) (section entry : ℕ)
-    (kind : FaultKind) : Type 0 where
+pub record IsFirstFaulty (writable : WritableSections) (bytes : List ℕ → List ℕ) (job : JobParts) (name : List ℕ)
+    (section entry : ℕ) (kind : FaultKind) : Type 0 where
   pub at : ℕ
   pub there : slice_get (mentions_of job) at ≡ Some name
-  pub here : IsFileFault (bytes name) (At section entry kind)
-  pub before : (k : ℕ) (other : List ℕ) → k < at → slice_get (mentions_of job) k ≡ Some other → IsSound (bytes other)
+  pub here : IsFileFault writable (bytes name) (At section entry kind)
+  pub before : (k : ℕ) (other : List ℕ) → k < at → slice_get (mentions_of job) k ≡ Some other
+      → IsTaken writable (bytes other)

@@ -13,32 +13,34 @@ use Rattle.sequence_match.specs.Faults.{AreSites}
 use Rattle.job_link.specs.declared.images.ReadObject.{ReadObject}
 use Rattle.job_link.specs.declared.reading.ReadRefusal.{ReadRefusal}
 use Rattle.job_link.specs.declared.reading.ReadRefusal.TheVariants as unread
-use Rattle.job_link.specs.Given.{Given, IsFileFault, IsGiven, IsSound}
+use Rattle.job_link.specs.declared.writable.WritableSections.{WritableSections}
+use Rattle.job_link.specs.Given.{Given, IsFileFault, IsGiven, IsTaken}
 
 -- the first of these names whose file is refused
-pub record IsFirstIn (bytes : List ℕ → List ℕ) (names : List (List ℕ)) (name : List ℕ) (section entry : ℕ)
-    (kind : FaultKind) : Type 0 where
+pub record IsFirstIn (writable : WritableSections) (bytes : List ℕ → List ℕ) (names : List (List ℕ)) (name : List ℕ)
+    (section entry : ℕ) (kind : FaultKind) : Type 0 where
   pub at : ℕ
   pub there : slice_get names at ≡ Some name
-  pub here : IsFileFault (bytes name) (object.At section entry kind)
-  pub before : (k : ℕ) (other : List ℕ) → k < at → slice_get names k ≡ Some other → IsSound (bytes other)
+  pub here : IsFileFault writable (bytes name) (object.At section entry kind)
+  pub before : (k : ℕ) (other : List ℕ) → k < at → slice_get names k ≡ Some other → IsTaken writable (bytes other)
 
 -- what a refusal says of files by these names; of want of memory nothing
-abbrev pub IsRefusalIn : (List ℕ → List ℕ) → List (List ℕ) → ReadRefusal → Type 0
-IsRefusalIn bytes names unread.OutOfMemory = Unit {0}
-IsRefusalIn bytes names (unread.At name section entry kind) = IsFirstIn bytes names name.now section entry kind
+abbrev pub IsRefusalIn : WritableSections → (List ℕ → List ℕ) → List (List ℕ) → ReadRefusal → Type 0
+IsRefusalIn writable bytes names unread.OutOfMemory = Unit {0}
+IsRefusalIn writable bytes names (unread.At name section entry kind) =
+    IsFirstIn writable bytes names name.now section entry kind
 
 -- what is told of the file of this name; of want of memory nothing
-abbrev pub IsRefusalOf : (List ℕ → List ℕ) → List ℕ → ReadRefusal → Type 0
-IsRefusalOf bytes name unread.OutOfMemory = Unit {0}
-IsRefusalOf bytes name (unread.At told section entry kind) =
-    (told.now ≡ name) × IsFileFault (bytes name) (object.At section entry kind)
+abbrev pub IsRefusalOf : WritableSections → (List ℕ → List ℕ) → List ℕ → ReadRefusal → Type 0
+IsRefusalOf writable bytes name unread.OutOfMemory = Unit {0}
+IsRefusalOf writable bytes name (unread.At told section entry kind) =
+    (told.now ≡ name) × IsFileFault writable (bytes name) (object.At section entry kind)
 
 -- what comes of reading the file of this name
-abbrev pub IsReading : (List ℕ → List ℕ) → List ℕ → Result ReadObject ReadRefusal → Type 0
-IsReading bytes name came = MatchResult came
-    (λ read. (read.object ≡ bytes name) × AreSites (bytes name) read.sites.items × IsSound (bytes name))
-    (IsRefusalOf bytes name)
+abbrev pub IsReading : WritableSections → (List ℕ → List ℕ) → List ℕ → Result ReadObject ReadRefusal → Type 0
+IsReading writable bytes name came = MatchResult came
+    (λ read. (read.object ≡ bytes name) × AreSites (bytes name) read.sites.items × IsTaken writable (bytes name))
+    (IsRefusalOf writable bytes name)
 
 -- what is told of an object of this name that has this fault
 abbrev pub read_refusal_of : Bor (List ℕ) → ObjectFault → ReadRefusal

@@ -5,14 +5,16 @@ use Rattle.job_link.specs.declared.preparing.ImageRefusal.{ImageRefusal}
 use Rattle.job_link.specs.declared.preparing.ImageRefusal.TheVariants as unlinked
 use Rattle.job_link.specs.declared.reading.ReadRefusal.{ReadRefusal}
 use Rattle.job_link.specs.declared.reading.ReadRefusal.TheVariants as unread
+use Rattle.job_link.specs.declared.writable.WritableSections.{WritableSections}
 use Rattle.job_link.specs.Given.{Given, IsFirstFaulty}
 use Rattle.job_link.specs.Linked.{IsFirstUnlinked}
 use Rattle.link_faults.specs.declared.fault.LinkFault.{LinkFault}
 use Rattle.link_faults.specs.declared.fault.LinkFault.TheVariants as link
 
-abbrev pub IsReadRefusal : (List ℕ → List ℕ) → JobParts → ReadRefusal → Type 0
-IsReadRefusal bytes job unread.OutOfMemory = Unit {0}
-IsReadRefusal bytes job (unread.At name section entry kind) = IsFirstFaulty bytes job name.now section entry kind
+abbrev pub IsReadRefusal : WritableSections → (List ℕ → List ℕ) → JobParts → ReadRefusal → Type 0
+IsReadRefusal writable bytes job unread.OutOfMemory = Unit {0}
+IsReadRefusal writable bytes job (unread.At name section entry kind) =
+    IsFirstFaulty writable bytes job name.now section entry kind
 
 abbrev pub IsImageRefusal : List Given → Bool → ImageRefusal → Type 0
 IsImageRefusal images relax unlinked.OutOfMemory = Unit {0}

@@ -2,8 +2,9 @@
 
 ghost use Rattle.std.specs.Prelude.{◌≡◌, [], ◌∷◌, ◌++◌, IfErr, IfOk, OnOk, map};
 ghost use Rattle.sequence_match.specs.Faults.{AreSites};
-ghost use Rattle.job_link.specs.Given.{IsFileFault, IsGiven, IsSound};
+ghost use Rattle.job_link.specs.Given.{IsFileFault, IsGiven, IsSound, IsTaken};
 
+use crate::writable::WritableSections;
 use elf_object::{Object, ObjectFault};
 use link_faults::ImageKind;
 use sequence_match::{Site, sites};
@@ -18,17 +19,26 @@ pub(crate) struct ReadObject<'a> {
 }
 
 impl<'a> ReadObject<'a> {
-    /// Reads the object of these bytes, or answers its first fault, those of its sequences last.
-    pub(crate) fn read(alloc: Global, bytes: &'a [u8]) -> Result<ReadObject<'a>, ObjectFault>
+    /// Reads the object of these bytes, or answers its first fault: a section that is refused comes behind those of the
+    /// object, and the faults of its sequences last.
+    pub(crate) fn read(
+        alloc: Global,
+        bytes: &'a [u8],
+        writable: WritableSections,
+    ) -> Result<ReadObject<'a>, ObjectFault>
         ensures object { IfOk result (λ read. read.object ≡ bytes.now) }
         ensures sites { IfOk result (λ read. AreSites bytes.now read.sites.items) }
-        ensures sound { OnOk result (IsSound bytes.now) }
-        ensures fault { IfErr result (IsFileFault bytes.now) }
+        ensures taken { OnOk result (IsTaken writable bytes.now) }
+        ensures fault { IfErr result (IsFileFault writable bytes.now) }
     {
         let object = match Object::read(alloc, bytes) {
             Ok(object) => object,
             Err(fault) => return Err(fault),
         };
+        match writable.fault(&object) {
+            Some(fault) => return Err(fault),
+            None => {}
+        }
         match sites(alloc, &object) {
             Ok(sites) => Ok(ReadObject { object, sites }),
             Err(fault) => Err(fault),

@@ -5,7 +5,8 @@
 //!
 //! 1. [`fetch_objects`] asks a store for each object file, and keeps the bytes of all of them. Threads share the reading.
 //! 2. [`read_objects`] reads the objects of each image, and finds the sequences of code that reach thread-local
-//!    storage. Threads share them, and what each says is taken in order.
+//!    storage. Threads share them, and what each says is taken in order. Where threads are to run at once, an object with
+//!    data that programs write is refused ([`WritableSections`]).
 //! 3. [`prepare_images`] makes each image ready beside the names that the startup images export ([`startup_exports`]): the
 //!    program, and the modules that start with it. Or it answers the first that does not link. No byte of any is laid.
 //! 4. [`write_images`] writes all of them, and threads share a large one; who wants one image writes that alone, and a
@@ -35,7 +36,8 @@
 //!
 //! If the store has no `shared.o`, it is asked for `plugin.o` and `shared.o`, and no more. If `shared.o` and `main.o`
 //! are both faulty, `shared.o` is told, which the first line mentions, and of it the first fault in the order of
-//! `elf_object`, with the faults of its sequences last. If neither image links, `app` is told, number 0 in image order.
+//! `elf_object`, with the faults of its sequences last. If `shared.o` is an object with 4 bytes in its section 3, `.data`,
+//! and such data is refused, then section 3 is told before any sequence is looked for. If neither image links, `app` is told, number 0 in image order.
 //!
 //! `specs/` has the steps as definitions: the names that a job mentions and the files by these names (`Mentions`),
 //! what an image is linked from and the first file that is refused (`Given`), and the links and the first image that
@@ -46,8 +48,10 @@ mod fetching;
 mod images;
 mod preparing;
 mod reading;
+mod writable;
 
 pub use fetching::{Files, fetch_objects};
 pub use images::ImageObjects;
 pub use preparing::{ImageRefusal, inputs_of, prepare_images, startup_exports, write_images};
 pub use reading::{ReadRefusal, read_objects};
+pub use writable::WritableSections;

@@ -1,15 +1,16 @@
 //! The objects of all images of a job, read.
 
-ghost use Rattle.std.specs.Prelude.{◌≡◌, ◌<◌, All, IfErr, IfOk, OnOk, length, map, slice_set};
+ghost use Rattle.std.specs.Prelude.{◌≡◌, ◌<◌, [], All, IfErr, IfOk, OnOk, length, map, slice_set};
 ghost use Rattle.std.specs.List.{AllZip};
 ghost use Rattle.job_text.specs.declared.images.Image.{Image as DeclaredImage};
-ghost use Rattle.job_link.specs.Given.{AreGiven, Given, IsGiven, IsSound};
+ghost use Rattle.job_link.specs.Given.{Allows, AreGiven, Given, IsGiven, IsTaken};
 ghost use Rattle.job_link.specs.Mentions.{bytes_in};
 ghost use Rattle.job_link.specs.Reads.{kinds_of, read_refusal_of, IsReading, IsRefusalIn};
 ghost use Rattle.job_link.specs.Refusals.{IsReadRefusal};
 
 use crate::fetching::Files;
 use crate::images::{ImageObjects, ReadObject};
+use crate::writable::WritableSections;
 use elf_object::{FaultKind, ObjectFault};
 use job_text::{Image, Job, Name};
 use rayon::prelude::*;
@@ -47,6 +48,7 @@ fn empty_images<'a>(alloc: Global, job: &Job) -> Result<Vec<ImageObjects<'a>>, A
     ensures kinds { IfOk result (λ images. kinds_of images.items
         ≡ map (λ (image : DeclaredImage). image.kind) job.now.images) }
     ensures given { IfOk result (λ images. All IsGiven images.items) }
+    ensures empty { IfOk result (λ images. All (λ (image : Given). image.objects ≡ []) images.items) }
 {
     let mut images = Vec::with_capacity(alloc, job.images().len())?;
     for image in job.images() {
@@ -79,10 +81,11 @@ fn read_object<'j, 'a>(
     alloc: Global,
     name: &'j str,
     files: &'a Files,
+    writable: WritableSections,
 ) -> Result<ReadObject<'a>, ReadRefusal<'j>>
-    ensures { IsReading (bytes_in files.now) name.now result }
+    ensures { IsReading writable (bytes_in files.now) name.now result }
 {
-    match ReadObject::read(alloc, files.file(name)) {
+    match ReadObject::read(alloc, files.file(name), writable) {
         Ok(read) => Ok(read),
         Err(fault) => Err(refused(name, fault)),
     }
@@ -94,16 +97,17 @@ fn read_each<'j, 'a, R: Threads + Sync>(
     alloc: Global,
     names: &'j [Name],
     files: &'a Files,
+    writable: WritableSections,
 ) -> Result<Vec<Result<ReadObject<'a>, ReadRefusal<'j>>>, AllocError>
-    ensures { IfOk result (λ readings. AllZip (IsReading (bytes_in files.now)) names.now readings.items) }
+    ensures { IfOk result (λ readings. AllZip (IsReading writable (bytes_in files.now)) names.now readings.items) }
 {
     names
         .par_iter()
         .with_min_len(files.share())
         .map(
             |name: &Name| -> Result<ReadObject, ReadRefusal>
-                ensures { IsReading (bytes_in files.entry.now) name.entry.now result }
-            { read_object(alloc, name.as_str(), files) },
+                ensures { IsReading writable (bytes_in files.entry.now) name.entry.now result }
+            { read_object(alloc, name.as_str(), files, writable) },
         )
         .collect(rt, alloc)
 }
@@ -114,14 +118,16 @@ fn read_image<'j, 'a, R: Threads + Sync>(
     alloc: Global,
     image: &'j Image,
     files: &'a Files,
+    writable: WritableSections,
 ) -> Result<ImageObjects<'a>, ReadRefusal<'j>>
     ensures kind { IfOk result (λ read. read.kind ≡ image.now.kind) }
     ensures objects { IfOk result (λ read. read.objects ≡ map (bytes_in files.now) image.now.objects) }
     ensures given { IfOk result IsGiven }
-    ensures sound { OnOk result (All (λ name. IsSound (bytes_in files.now name)) image.now.objects) }
-    ensures refused { IfErr result (IsRefusalIn (bytes_in files.now) image.now.objects) }
+    ensures taken { OnOk result (All (λ name. IsTaken writable (bytes_in files.now name)) image.now.objects) }
+    ensures allowed { IfOk result (λ read. All (Allows writable) read.objects) }
+    ensures refused { IfErr result (IsRefusalIn writable (bytes_in files.now) image.now.objects) }
 {
-    let readings = read_each(rt, alloc, image.objects.as_slice(), files)?;
+    let readings = read_each(rt, alloc, image.objects.as_slice(), files, writable)?;
     let mut read = ImageObjects::new(alloc, image.kind);
     for reading in readings {
         match reading {
@@ -141,19 +147,22 @@ fn put<'a>(images: &mut Vec<ImageObjects<'a>>, at: usize, read: ImageObjects<'a>
 }
 
 /// The objects of all images of a job, which stand in image order. They are read in the order in which the job mentions
-/// them, and the first that has a fault is answered. Threads share the objects of an image.
+/// them, and the first that has a fault is answered; that one has data which programs write is a fault of it where such
+/// data is refused. Threads share the objects of an image.
 pub fn read_objects<'j, 'a, R: Threads + Sync>(
     rt: &R,
     alloc: Global,
     job: &'j Job,
     files: &'a Files,
+    writable: WritableSections,
 ) -> Result<Vec<ImageObjects<'a>>, ReadRefusal<'j>>
     ensures read { IfOk result (λ images. AreGiven (bytes_in files.now) job.now images.items) }
-    ensures refused { IfErr result (IsReadRefusal (bytes_in files.now) job.now) }
+    ensures allowed { IfOk result (λ images. All (λ (image : Given). All (Allows writable) image.objects) images.items) }
+    ensures refused { IfErr result (IsReadRefusal writable (bytes_in files.now) job.now) }
 {
     let mut images = empty_images(alloc, job)?;
     for number in job.mentions() {
-        match read_image(rt, alloc, job.image(*number), files) {
+        match read_image(rt, alloc, job.image(*number), files, writable) {
             Ok(read) => put(&mut images, *number as usize - 1, read),
             Err(refusal) => return Err(refusal),
         }

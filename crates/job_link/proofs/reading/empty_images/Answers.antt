@@ -29,4 +29,8 @@ loop-image-preserved c =
       given =
           subst (λ (images : List Given). All IsGiven images) (sym c.in_ok-push.ensures.items)
           (All-push IsGiven c.loop-image.images.items c.new.result c.loop-image.invariant.given c.new.ensures.given);
+      empty =
+          subst (λ (images : List Given). All (λ (g : Given). g.objects ≡ []) images) (sym c.in_ok-push.ensures.items)
+          (All-push (λ (g : Given). g.objects ≡ []) c.loop-image.images.items c.new.result c.loop-image.invariant.empty
+          (ap (λ (g : Given). g.objects) c.new.ensures.value));
     }

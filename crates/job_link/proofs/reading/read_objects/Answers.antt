@@ -1,9 +1,9 @@
-use Rattle.std.proofs.Common.{◌≡◌, ◌∙◌, ◌+◌, ◌<◌, ◌∷◌, ◌++◌, [], List, ℕ, get_or, length, take, drop, sym, ap, subst}
+use Rattle.std.proofs.Common.{◌≡◌, ◌∙◌, ◌+◌, ◌-◌, ◌<◌, ◌∷◌, ◌++◌, [], List, ℕ, get_or, length, take, drop, sym, ap, subst}
 use Rattle.std.proofs.Common.{arith}
 use Rattle.std.specs.List.{All, Contains}
 use Rattle.std.proofs.lemmas.List.{take_all}
-use Rattle.std.proofs.lemmas.List.Elements.{All-append}
-use Rattle.job_link.specs.Given.{Given, IsSound}
+use Rattle.std.proofs.lemmas.List.Elements.{All-append, All-set}
+use Rattle.job_link.specs.Given.{Allows, Given, IsTaken}
 use Rattle.job_link.specs.Mentions.{bytes_in, mentions_of}
 use Rattle.job_link.specs.Reads.{IsReadIn}
 use Rattle.job_link.specs.Walks.{names_in}
@@ -21,9 +21,9 @@ returns-in-Err-clause-refused g c =
     let all : mentions_of job ≡ (names_in job (take i items) ++ image.objects) ++ names_in job (drop (i + 1) items) =
     mentions_are job ∙ ap (names_in job) (sym c.loop-number.invariant.items)
     ∙ names_around job items i image inside c.image.ensures in
-    refused_in (bytes_in c.args.files.now) job (names_in job (take i items)) image.objects
+    refused_in c.args.writable (bytes_in c.args.files.now) job (names_in job (take i items)) image.objects
     (names_in job (drop (i + 1) items)) c.in-Err.refusal all
-    c.loop-number.invariant.sound c.in-Err.ensures.refused
+    c.loop-number.invariant.taken c.in-Err.ensures.refused
 
 pub loop-number-preserved : goal.loop-number-preserved
 loop-number-preserved g c =
@@ -47,10 +47,15 @@ loop-number-preserved g c =
           subst (λ (ns : List ℕ). IsReadIn bytes job ns c.put.new.images.items) (sym more)
           (subst (λ (images : List Given). IsReadIn bytes job (take i items ++ number ∷ []) images) (sym c.put.ensures)
           read);
-      sound =
-          subst (λ (ns : List (List ℕ)). All (λ name. IsSound (bytes name)) ns) (sym names)
-          (All-append (λ name. IsSound (bytes name)) (names_in job (take i items)) image.objects
-          c.loop-number.invariant.sound c.in-Ok.ensures.sound);
+      allowed =
+          subst (λ (images : List Given). All (λ (g : Given). All (Allows c.args.writable) g.objects) images)
+          (sym c.put.ensures)
+          (All-set (λ (g : Given). All (Allows c.args.writable) g.objects) c.loop-number.images.items (number - 1) g
+          c.in-Ok.ensures.allowed c.loop-number.invariant.allowed);
+      taken =
+          subst (λ (ns : List (List ℕ)). All (λ name. IsTaken c.args.writable (bytes name)) ns) (sym names)
+          (All-append (λ name. IsTaken c.args.writable (bytes name)) (names_in job (take i items)) image.objects
+          c.loop-number.invariant.taken c.in-Ok.ensures.taken);
     }
 
 pub returns-clause-read : goal.returns-clause-read
