@@ -13,7 +13,7 @@ use Rattle.lawful_points.specs.Raced.{IsRacer}
 use Rattle.shared_modules.specs.Passes.{PassView, SharedView}
 use Rattle.shared_modules.specs.Views.{longer, rising}
 use Rattle.job_turns.specs.Alone.{has_data}
-use Rattle.racing_thread.specs.Tallies.{Tally, tally_of}
+use Rattle.racing_thread.specs.Tallies.{Tally, no_tally, plus, tally_of}
 
 -- ---- passes
 
@@ -34,17 +34,11 @@ pub record CanRace (m : JobImages) (first count : ℕ) (shared : SharedView) (p 
 
 -- ---- how often looks loaded the generation and drew a ticket
 
-abbrev pub no_tally : Tally
-no_tally = record { loads = 0; turns = 0 }
-
-abbrev pub both_tallies : Tally → Tally → Tally
-both_tallies a b = record { loads = a.loads + b.loads; turns = a.turns + b.turns }
-
 -- all threads from a number on together, one for each list of lines
 abbrev pub tallies : List (List ThreadLine) → ℕ → List (List ShownLine) → Tally
 tallies lines thread [] = no_tally
 tallies lines thread (said ∷ more) =
-    both_tallies (tally_of (numbered_lines 1 (of_thread lines thread)) said) (tallies lines (thread + 1) more)
+    plus (tally_of thread (numbered_lines 1 (of_thread lines thread)) said) (tallies lines (thread + 1) more)
 
 -- a pass counted these more than it had
 pub record HasCounted (tally : Tally) (old new : PassView) : Type 0 where
