@@ -64,7 +64,7 @@ impl Row {
 
     /// These threads, and then others: all of their lines, and the longer of the lists of events.
     fn with(self, others: Row) -> Result<Row, AllocError>
-        ensures { IfOk result (λ row. row ≡ together self.entry others) }
+        ensures { IfOk result (λ row. row ≡ together self others) }
     {
         let Row {
             mut threads,
@@ -82,7 +82,7 @@ impl Row {
     /// The transcript of these threads.
     fn transcript(self, alloc: Global) -> Result<Transcript, AllocError>
         requires { length self.threads ≤ 64 }
-        ensures { IfOk result (λ shown. shown ≡ self.entry) }
+        ensures { IfOk result (λ shown. shown ≡ self) }
     {
         let Row { threads, events } = self;
         let mut transcript = Transcript::new(alloc);
