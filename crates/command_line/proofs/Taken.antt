@@ -1,4 +1,4 @@
--- Words without a fault name a command, so each of them gives a task, unless its number is no count.
+-- Words without a fault have a command's first word, so each of them gives a command, unless its number is no count.
 use Rattle.std.proofs.Common.{◌≡◌, ℕ, Bool, true, false, List, [], ◌∷◌, Option, None, Some, is_some, cond, refl, sym, ap, ◌∙◌, inl, inr, codes}
 use Rattle.std.specs.Prelude.{◌&&◌, not, find, unwrap_or}
 use Rattle.std.specs.Borrow.{Bor}
@@ -15,11 +15,12 @@ use Rattle.clap.specs.Faults.{check_fault, entered_fault, fault_of, level_fault,
 use Rattle.clap.specs.Values.{kind_of}
 use Rattle.clap.specs.declared.error.Error.{Error}
 use Rattle.clap.specs.declared.error.kind.ErrorKind.TheVariants as kind
-use Rattle.command_line.specs.declared.tasks.Task.{Task}
+use Rattle.command_line.specs.declared.tasks.Command.{Command}
+use Rattle.command_line.specs.declared.tasks.Command.TheVariants.{Plain}
 use Rattle.command_line.specs.declared.tasks.Task.TheVariants as task
 use Rattle.command_line.specs.CommandSet.{tool_app}
 use Rattle.command_line.specs.Counts.{count_of}
-use Rattle.command_line.specs.Words.{asked, has_count, has_no_fault, takes_words, task_of, text_at}
+use Rattle.command_line.specs.Words.{asked, has_count, has_no_fault, takes_words, command_of, text_at}
 
 -- where neither of two steps fails, the second does not
 no_next : (a b : Kinds) → or_else a b ≡ [] → b ≡ []
@@ -68,15 +69,15 @@ each_found P w ws (s ∷ ss) all e = elim (answers_to w (label_of s)) as (λ b.
 yes : {X : Type 0} → X → true ≡ true
 yes x = refl
 
--- a command gives a task where its number is a count
+-- the words of a subcommand give a command where its number is a count
 abbrev Agrees : Option (Text × List Row) → Type 0
-Agrees found = is_some (option_and_then task_of found) ≡ has_count found
+Agrees found = is_some (option_and_then command_of found) ≡ has_count found
 
-counted : (count : Option ℕ) → is_some (option_map task.Gen count) ≡ is_some count
+counted : (count : Option ℕ) → is_some (option_map Plain (option_map task.Gen count)) ≡ is_some count
 counted None = refl
 counted (Some n) = refl
 
-a_count : (rows : List Row) → is_some (option_map task.Gen (count_of (text_at (codes "N") rows))) ≡ is_some (count_of (text_at (codes "N") rows))
+a_count : (rows : List Row) → is_some (option_map Plain (option_map task.Gen (count_of (text_at (codes "N") rows)))) ≡ is_some (count_of (text_at (codes "N") rows))
 a_count rows = counted (count_of (text_at (codes "N") rows))
 
 -- each subcommand that can be entered: one `yes` for each that has no number
@@ -86,9 +87,9 @@ entered_asks None e = absurd (not_none e)
   where
     not_none : false ≡ true → ⊥
     not_none e = cc
-entered_asks (Some p) e = each_found Agrees p.0 p.1 (built tool_app).subs (yes, (yes, (yes, (yes, (yes, (a_count, tt)))))) e
+entered_asks (Some p) e = each_found Agrees p.0 p.1 (built tool_app).subs (yes, (yes, (yes, (yes, (yes, (yes, (a_count, tt))))))) e
 
--- words without a fault give a task where the number is a count
+-- words without a fault give a command where the number is a count
 without_fault : (words : List Text) → fault_of tool_app words ≡ [] → Agrees (subcommand_of tool_app words)
 without_fault words e =
     let top : Shape = (built tool_app).top in
@@ -107,30 +108,30 @@ refused_words words e h other = elim h [ inl m ↦ absurd (other m) | inr among 
     some [] a = absurd a
     some (k ∷ ks) a = refl
 
--- words without a fault are taken where the command that is found gives a task, and only there
+-- words without a fault are taken where the subcommand that is found gives a command, and only there
 told_words : (words : List Text) (found : Option (Text × List Row)) → fault_of tool_app words ≡ [] → found ≡ subcommand_of tool_app words
-    → takes_words words ≡ is_some (option_and_then task_of found)
+    → takes_words words ≡ is_some (option_and_then command_of found)
 unfolding takes_words
 told_words words found none is =
     ap (λ ks. has_no_fault ks && has_count (subcommand_of tool_app words)) none
-    ∙ sym (without_fault words none) ∙ ap (λ o. is_some (option_and_then task_of o)) (sym is)
+    ∙ sym (without_fault words none) ∙ ap (λ o. is_some (option_and_then command_of o)) (sym is)
 
-pub taken_words : (words : List Text) (found : Option (Text × List Row)) (t : Task) → fault_of tool_app words ≡ [] → found ≡ subcommand_of tool_app words
-    → option_and_then task_of found ≡ Some t → takes_words words ≡ true
+pub taken_words : (words : List Text) (found : Option (Text × List Row)) (t : Command) → fault_of tool_app words ≡ [] → found ≡ subcommand_of tool_app words
+    → option_and_then command_of found ≡ Some t → takes_words words ≡ true
 taken_words words found t none is gives = told_words words found none is ∙ ap is_some gives
 
--- the task of words that are taken is that of the command that is found
-pub asked_found : (words : List Text) (found : Option (Text × List Row)) (t : Task) → fault_of tool_app words ≡ [] → found ≡ subcommand_of tool_app words
-    → option_and_then task_of found ≡ Some t → asked words ≡ Some t
+-- the command of words that are taken is that of the subcommand that is found
+pub asked_found : (words : List Text) (found : Option (Text × List Row)) (t : Command) → fault_of tool_app words ≡ [] → found ≡ subcommand_of tool_app words
+    → option_and_then command_of found ≡ Some t → asked words ≡ Some t
 unfolding asked
 asked_found words found t none is gives =
-    ap (λ b. cond b (option_and_then task_of (subcommand_of tool_app words)) None) (taken_words words found t none is gives)
-    ∙ ap (option_and_then task_of) (sym is) ∙ gives
+    ap (λ b. cond b (option_and_then command_of (subcommand_of tool_app words)) None) (taken_words words found t none is gives)
+    ∙ ap (option_and_then command_of) (sym is) ∙ gives
 
--- words without a fault that give no task are not taken
+-- words without a fault that give no command are not taken
 pub no_words : (words : List Text) (found : Option (Text × List Row)) → fault_of tool_app words ≡ [] → found ≡ subcommand_of tool_app words
-    → option_and_then task_of found ≡ None → takes_words words ≡ false
-no_words words found none is no_task = told_words words found none is ∙ ap is_some no_task
+    → option_and_then command_of found ≡ None → takes_words words ≡ false
+no_words words found none is no_command = told_words words found none is ∙ ap is_some no_command
 
 -- the text that a caller reads of an argument, by its rows
 pub text_read : (f : Found) (id : Text) (text : Option (Bor Text)) (other : Bor Text) → option_map (λ s. s.now) text ≡ first_value f id

@@ -19,6 +19,10 @@ no_relax_rule = record (new_rule (codes "no-relax")) {
 abbrev pub run_app : App
 run_app = with_rule (with_rule (new_app (codes "run")) (text_rule (codes "JOB"))) no_relax_rule
 
+-- race JOB [--no-relax]
+abbrev pub race_app : App
+race_app = with_rule (with_rule (new_app (codes "race")) (text_rule (codes "JOB"))) no_relax_rule
+
 -- link JOB IMAGE OUT [--no-relax]
 abbrev pub link_app : App
 link_app =
@@ -51,9 +55,13 @@ top_settings s = record s { no_binary_name = true; subcommand_required = true; d
 abbrev pub bare_tool : App
 bare_tool = on_top top_settings (new_app (codes "tlsld"))
 
--- the commands that link images
+-- the commands that run a job's threads
+abbrev pub running_tool : App
+running_tool = with_subcommand (with_subcommand bare_tool run_app.top) race_app.top
+
+-- the commands that link images: behind those the one that puts an image
 abbrev pub linking_tool : App
-linking_tool = with_subcommand (with_subcommand bare_tool run_app.top) link_app.top
+linking_tool = with_subcommand running_tool link_app.top
 
 -- the commands that read files: behind those the ones that print what is in an image
 abbrev pub reading_tool : App

@@ -1,4 +1,4 @@
--- Which words are taken, and the task that they give.
+-- Which words are taken, and the command that they give.
 use Rattle.std.specs.Prelude.{◌≤◌, ◌&&◌, Bool, true, false, List, [], ◌∷◌, Option, Some, None, codes, unwrap_or, if◌then◌else◌}
 use Rattle.std.specs.Prelude.{is_some}
 use Rattle.std.specs.Option.{option_and_then, option_map}
@@ -7,6 +7,8 @@ use Rattle.clap.specs.Walk.{Row, Text, first_of}
 use Rattle.clap.specs.Kinds.{Kinds}
 use Rattle.clap.specs.Faults.{fault_of}
 use Rattle.clap.specs.Simple.{subcommand_of}
+use Rattle.command_line.specs.declared.tasks.Command.{Command}
+use Rattle.command_line.specs.declared.tasks.Command.TheVariants.{Plain, Race}
 use Rattle.command_line.specs.declared.tasks.Rewriting.{Rewriting}
 use Rattle.command_line.specs.declared.tasks.Rewriting.TheVariants.{Allowed, Off}
 use Rattle.command_line.specs.declared.tasks.Task.{Task}
@@ -30,6 +32,10 @@ rewriting_at rows = if bytes_eq (text_at (codes "no-relax") rows) (codes "true")
 -- run JOB [--no-relax]
 abbrev pub run_task : List Row → Task
 run_task rows = task.Run (text_at (codes "JOB") rows) (rewriting_at rows)
+
+-- race JOB [--no-relax]
+abbrev pub race_command : List Row → Command
+race_command rows = Race (text_at (codes "JOB") rows) (rewriting_at rows)
 
 -- link JOB IMAGE OUT [--no-relax]
 abbrev pub link_task : List Row → Task
@@ -63,22 +69,27 @@ has_count (Some command) =
 unfoldable pub takes_words : List Text → Bool
 takes_words words = has_no_fault (fault_of tool_app words) && has_count (subcommand_of tool_app words)
 
--- the task that a command and the values of its arguments give
-abbrev pub task_of : Text × List Row → Option Task
-task_of command =
-    if bytes_eq command.0 (codes "run") then Some (run_task command.1) else
-    if bytes_eq command.0 (codes "link") then Some (link_task command.1) else
-    if bytes_eq command.0 (codes "sites") then Some (sites_task command.1) else
-    if bytes_eq command.0 (codes "show") then Some (show_task command.1) else
-    if bytes_eq command.0 (codes "check") then Some (check_task command.1) else
-    if bytes_eq command.0 (codes "gen") then gen_task command.1 else
+-- the command that a first word and the values of its arguments give
+abbrev pub command_of : Text × List Row → Option Command
+command_of command =
+    if bytes_eq command.0 (codes "run") then Some (Plain (run_task command.1)) else
+    if bytes_eq command.0 (codes "race") then Some (race_command command.1) else
+    if bytes_eq command.0 (codes "link") then Some (Plain (link_task command.1)) else
+    if bytes_eq command.0 (codes "sites") then Some (Plain (sites_task command.1)) else
+    if bytes_eq command.0 (codes "show") then Some (Plain (show_task command.1)) else
+    if bytes_eq command.0 (codes "check") then Some (Plain (check_task command.1)) else
+    if bytes_eq command.0 (codes "gen") then option_map Plain (gen_task command.1) else
     None
 
--- the task that the words give, where they are taken
-unfoldable pub asked : List Text → Option Task
-asked words = if takes_words words then option_and_then task_of (subcommand_of tool_app words) else None
+-- the command that the words give, where they are taken
+unfoldable pub asked : List Text → Option Command
+asked words = if takes_words words then option_and_then command_of (subcommand_of tool_app words) else None
 
 -- so many objects as `gen` makes
 abbrev pub IsInLimits : Task → Type 0
 IsInLimits (task.Gen count) = (1 ≤ count) × (count ≤ 1000)
 IsInLimits _ = Unit {0}
+
+abbrev pub IsWithinLimits : Command → Type 0
+IsWithinLimits (Plain own) = IsInLimits own
+IsWithinLimits (Race job rewriting) = Unit {0}

@@ -3,8 +3,8 @@ ghost use Rattle.std.specs.Prelude.{◌≡◌, false, IfOk};
 ghost use Rattle.clap.specs.Walk.{rule_of};
 ghost use Rattle.clap.specs.Simple.{app_of};
 ghost use Rattle.clap.specs.declared.builder.command.Command.TheViews.{out-Command};
-ghost use Rattle.command_line.specs.CommandSet.{text_rule, no_relax_rule, run_app, link_app, sites_app, show_app, check_app, gen_app};
-ghost use Rattle.command_line.specs.CommandSet.{bare_tool, linking_tool, reading_tool, tool_app};
+ghost use Rattle.command_line.specs.CommandSet.{text_rule, no_relax_rule, run_app, race_app, link_app, sites_app, show_app, check_app, gen_app};
+ghost use Rattle.command_line.specs.CommandSet.{bare_tool, running_tool, linking_tool, reading_tool, tool_app};
 
 use clap::{Arg, ArgAction, Command};
 use std::alloc::{AllocError, Global};
@@ -33,6 +33,16 @@ fn run_command<'a>(alloc: Global) -> Result<Command<'a>, AllocError>
     ensures local { IfOk result (λ command. (out-Command command).has_globals ≡ false) }
 {
     Command::new(alloc, "run")
+        .arg(text_argument(alloc, "JOB"))?
+        .arg(no_relax_flag(alloc))
+}
+
+/// `race JOB [--no-relax]`.
+fn race_command<'a>(alloc: Global) -> Result<Command<'a>, AllocError>
+    ensures app { IfOk result (λ command. app_of command ≡ race_app) }
+    ensures local { IfOk result (λ command. (out-Command command).has_globals ≡ false) }
+{
+    Command::new(alloc, "race")
         .arg(text_argument(alloc, "JOB"))?
         .arg(no_relax_flag(alloc))
 }
@@ -93,13 +103,20 @@ fn bare_command<'a>(alloc: Global) -> Command<'a>
         .disable_help_subcommand(true)
 }
 
+/// The linker's command line with the commands that run a job's threads.
+fn running_command<'a>(alloc: Global) -> Result<Command<'a>, AllocError>
+    ensures { IfOk result (λ command. app_of command ≡ running_tool) }
+{
+    bare_command(alloc)
+        .subcommand(run_command(alloc)?)?
+        .subcommand(race_command(alloc)?)
+}
+
 /// The linker's command line with the commands that link images.
 fn linking_command<'a>(alloc: Global) -> Result<Command<'a>, AllocError>
     ensures { IfOk result (λ command. app_of command ≡ linking_tool) }
 {
-    bare_command(alloc)
-        .subcommand(run_command(alloc)?)?
-        .subcommand(link_command(alloc)?)
+    running_command(alloc)?.subcommand(link_command(alloc)?)
 }
 
 /// The linker's command line with the commands that read files.

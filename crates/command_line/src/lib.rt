@@ -1,12 +1,13 @@
-//! The words of a command line, read as a task.
+//! The words of a command line, read as a command.
 //!
 //! A linker is asked for its work by words: a command, the names of files, and options that may stand
 //! before, between or after them. This crate reads the words that follow the program's name, and answers
-//! with a [`Task`], or with `Usage` where they are not those of a command:
+//! with a [`Command`], or with `Usage` where they are none:
 //!
-//! | words | task |
+//! | words | what is asked for |
 //! |---|---|
 //! | `run JOB [--no-relax]` | link the images of the job in the file JOB, and run its threads |
+//! | `race JOB [--no-relax]` | the same, each thread in a thread of its own |
 //! | `link JOB IMAGE OUT [--no-relax]` | link the images, put the one named IMAGE to the file OUT, and say how long it is |
 //! | `sites JOB IMAGE` | print the code sequences of the image named IMAGE, and what stands in the place of each |
 //! | `show FILE` | print what the image in the file FILE says |
@@ -19,6 +20,7 @@
 //! run -- --no-relax            Run { job: "--no-relax", rewriting: Allowed }
 //! run -                        Run { job: "-", rewriting: Allowed }
 //! run                          usage: there is no JOB
+//! race a.job                   Race { job: "a.job", rewriting: Allowed }
 //! link a.job app a.out         Link { job: "a.job", image: "app", out: "a.out", rewriting: Allowed }
 //! link a.job app               usage: there is no OUT
 //! sites a.job app              Sites { job: "a.job", image: "app" }
@@ -31,21 +33,22 @@
 //! run a.job b.job              usage: there is one word too many
 //! run a.job --no-rel           usage: an option has no shorter forms
 //! check a.job --no-relax       usage: `check` takes no option
-//! --help                       usage: a wish for help is no task
+//! --help                       usage: a wish for help is no command
 //! ```
 //!
 //! `--no-relax` is the name that linkers give to the option that keeps each code sequence for thread-local
-//! storage as the compiler wrote it, where a shorter one would do.
+//! storage as the compiler wrote it, where a shorter one would do. All that `run` to `gen` do but `race` is a [`Task`]: it
+//! waits for nobody. The threads of a `race` wait for one another, so it is a [`Command`] of its own.
 //!
 //! **The rule that the crate keeps.** The words are read as one simple command of `clap`, with a subcommand
 //! for each row of the table, and the contract says so in `clap`'s own definitions: `takes_words` says
-//! which words are taken, and `asked` which task they give. To `clap` all values are texts; that the one of
+//! which words are taken, and `asked` which command they give. To `clap` all values are texts; that the one of
 //! `gen` is a number, and which one, this crate reads itself, since usual readers of numbers take `05` and
-//! `+5` too. [`read_words`] answers `Ok` only for words that are taken, with the task that they ask for, and
+//! `+5` too. [`read_words`] answers `Ok` only for words that are taken, with the command that they ask for, and
 //! `Usage` only for words that are not. What is left open is `OutOfMemory`, which may come in place of each
 //! answer.
 //!
-//! No other crate stands on `clap`: those above see a [`Task`], whose texts are an own type, [`Text`], that
+//! No other crate stands on `clap`: those above see a [`Command`], whose texts are an own type, [`Text`], that
 //! their contracts read as bytes.
 #![tactic(auto)]
 
@@ -55,6 +58,6 @@ mod tasks;
 mod text;
 mod words;
 
-pub use tasks::{Rewriting, Task, WordsFault};
+pub use tasks::{Command, Rewriting, Task, WordsFault};
 pub use text::Text;
 pub use words::read_words;

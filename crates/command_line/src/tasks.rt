@@ -26,7 +26,7 @@ impl Rewriting {
     }
 }
 
-/// What a user asks for, with the values of the command's words.
+/// What a user asks for that no two threads of a job run for at once, with the values of the command's words.
 #[derive(Drop)]
 pub enum Task {
     /// `run JOB [--no-relax]`: link the images of the job, run its threads, and print what they did.
@@ -72,7 +72,22 @@ pub enum Task {
     },
 }
 
-/// Why words give no task.
+/// What words ask for: a task, or the command whose threads really run.
+#[derive(Drop)]
+pub enum Command {
+    /// A task, which waits for nobody.
+    Plain(Task),
+    /// `race JOB [--no-relax]`: link the images of the job, run each of its threads in a thread of its own, and print
+    /// what they did.
+    Race {
+        /// The name of the job's file.
+        job: Text,
+        /// `Off` by `--no-relax`.
+        rewriting: Rewriting,
+    },
+}
+
+/// Why words give no command.
 #[derive(Clone, Copy, Debug, PartialEq, Eq, Error)]
 pub enum WordsFault {
     /// The words are not those of a command, or wish for help.

@@ -1,15 +1,15 @@
-//! From words to a task.
+//! From words to a command.
 ghost use Rattle.std.specs.Prelude.{◌≡◌, true, false, Some, None, map, string_bytes, IfOk, OnOk, IsErrOf};
 ghost use Rattle.std.specs.Option.{option_and_then};
 ghost use Rattle.clap.specs.Matches.{found_of};
 ghost use Rattle.clap.specs.Walk.{rows_of};
 ghost use Rattle.clap.specs.Simple.{subcommand_rows_of};
-ghost use Rattle.command_line.specs.Words.{takes_words, asked, task_of, text_at, rewriting_at};
-ghost use Rattle.command_line.specs.Words.{run_task, link_task, sites_task, show_task, check_task, gen_task, IsInLimits};
+ghost use Rattle.command_line.specs.Words.{takes_words, asked, command_of, text_at, rewriting_at};
+ghost use Rattle.command_line.specs.Words.{run_task, race_command, link_task, sites_task, show_task, check_task, gen_task, IsInLimits, IsWithinLimits};
 
 use crate::command_set::tool_command;
 use crate::counts::count_of;
-use crate::{Rewriting, Task, Text, WordsFault};
+use crate::{Command, Rewriting, Task, Text, WordsFault};
 use clap::ArgMatches;
 use clap::error::ErrorKind;
 use std::alloc::{AllocError, Global};
@@ -47,6 +47,15 @@ fn run_of(alloc: Global, matches: &ArgMatches<'_>) -> Result<Task, AllocError>
     ensures { IfOk result (λ task. task ≡ run_task (rows_of (found_of matches.now))) }
 {
     Ok(Task::Run {
+        job: Text::copy_of(alloc, text_of(matches, "JOB"))?,
+        rewriting: rewriting_of(matches),
+    })
+}
+
+fn race_of(alloc: Global, matches: &ArgMatches<'_>) -> Result<Command, AllocError>
+    ensures { IfOk result (λ command. command ≡ race_command (rows_of (found_of matches.now))) }
+{
+    Ok(Command::Race {
         job: Text::copy_of(alloc, text_of(matches, "JOB"))?,
         rewriting: rewriting_of(matches),
     })
@@ -99,34 +108,35 @@ fn gen_of(matches: &ArgMatches<'_>) -> Result<Task, WordsFault>
     }
 }
 
-/// The task of the command that `clap` found, with the values of its words.
-fn task_of_matches(alloc: Global, matches: &ArgMatches<'_>) -> Result<Task, WordsFault>
-    ensures ok { IfOk result (λ task. option_and_then task_of (subcommand_rows_of matches.now) ≡ Some task) }
-    ensures within { IfOk result IsInLimits }
+/// The command that `clap` found, with the values of its words.
+fn command_of_matches(alloc: Global, matches: &ArgMatches<'_>) -> Result<Command, WordsFault>
+    ensures ok { IfOk result (λ command. option_and_then command_of (subcommand_rows_of matches.now) ≡ Some command) }
+    ensures within { IfOk result IsWithinLimits }
     ensures usage { IsErrOf result WordsFault.Usage
-        → option_and_then task_of (subcommand_rows_of matches.now) ≡ None }
+        → option_and_then command_of (subcommand_rows_of matches.now) ≡ None }
 {
     match matches.subcommand() {
-        Some(("run", values)) => Ok(run_of(alloc, values)?),
-        Some(("link", values)) => Ok(link_of(alloc, values)?),
-        Some(("sites", values)) => Ok(sites_of(alloc, values)?),
-        Some(("show", values)) => Ok(show_of(alloc, values)?),
-        Some(("check", values)) => Ok(check_of(alloc, values)?),
-        Some(("gen", values)) => gen_of(values),
+        Some(("run", values)) => Ok(Command::Plain(run_of(alloc, values)?)),
+        Some(("race", values)) => Ok(race_of(alloc, values)?),
+        Some(("link", values)) => Ok(Command::Plain(link_of(alloc, values)?)),
+        Some(("sites", values)) => Ok(Command::Plain(sites_of(alloc, values)?)),
+        Some(("show", values)) => Ok(Command::Plain(show_of(alloc, values)?)),
+        Some(("check", values)) => Ok(Command::Plain(check_of(alloc, values)?)),
+        Some(("gen", values)) => Ok(Command::Plain(gen_of(values)?)),
         _ => Err(WordsFault::Usage),
     }
 }
 
 /// Reads the words that follow the program's name.
-pub fn read_words(alloc: Global, words: &[String]) -> Result<Task, WordsFault>
-    ensures ok { IfOk result (λ task. asked (map string_bytes words.now) ≡ Some task) }
-    ensures within { IfOk result IsInLimits }
+pub fn read_words(alloc: Global, words: &[String]) -> Result<Command, WordsFault>
+    ensures ok { IfOk result (λ command. asked (map string_bytes words.now) ≡ Some command) }
+    ensures within { IfOk result IsWithinLimits }
     ensures taken { OnOk result (takes_words (map string_bytes words.now) ≡ true) }
     ensures usage { IsErrOf result WordsFault.Usage → takes_words (map string_bytes words.now) ≡ false }
 {
     let command = tool_command(alloc)?;
     match command.try_get_matches_from(words) {
-        Ok(matches) => task_of_matches(alloc, &matches),
+        Ok(matches) => command_of_matches(alloc, &matches),
         Err(error) => match error.kind() {
             ErrorKind::OutOfMemory => Err(WordsFault::OutOfMemory),
             _ => Err(WordsFault::Usage),

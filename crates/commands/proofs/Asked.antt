@@ -1,12 +1,12 @@
 -- Names asked for, one after another.
 use Rattle.std.proofs.Common.{◌≡◌, ◌∙◌, ℕ, suc, List, [], ◌∷◌, length, take, Option, Some, None, IfSome, Result, Ok, Err, ◌⊎◌, inl, inr, ◌≤◌, refl, sym, ap, subst, append_assoc, arith}
-use Rattle.command_line.specs.declared.tasks.Task.{Task}
+use Rattle.command_line.specs.declared.tasks.Command.{Command}
 use Rattle.command_replies.specs.declared.replies.Answer.{Answer}
 use Rattle.command_replies.specs.declared.replies.Answer.TheVariants.{Replies, StoreFails, NoMemory}
 use Rattle.command_replies.specs.Replies.{IsDelivered}
 use Rattle.command_replies.specs.Statuses.{IsLate}
 use Rattle.commands.specs.Replies.{Asked, AsksOfAnswer}
-use Rattle.commands.specs.Tasks.{task_names}
+use Rattle.commands.specs.Commands.{command_names}
 use Rattle.std.proofs.Math.Seq.{take-length}
 use Rattle.command_replies.specs.Steps.{Asks, AsksFront, with_names}
 use Rattle.command_replies.specs.declared.fault.CommandFault.{CommandFault}
@@ -65,12 +65,12 @@ answered code (inr (inl one)) (inr five) = omega arith
 answered code (inr (inr four)) (inl zero) = omega arith
 answered code (inr (inr four)) (inr five) = omega arith
 
-pub asked_of : (fs : Files) (asked : Task) (answer : Answer) (old new : Option Names) (code : ℕ) → AsksOfAnswer fs asked old new answer → IsDelivered answer code → Asked fs asked old new code
-asked_of fs asked (Replies reply) old new code e delivered = record { front = asks_all (task_names fs asked) old new e; all = λ own. e }
+pub asked_of : (fs : Files) (asked : Command) (answer : Answer) (old new : Option Names) (code : ℕ) → AsksOfAnswer fs asked old new answer → IsDelivered answer code → Asked fs asked old new code
+asked_of fs asked (Replies reply) old new code e delivered = record { front = asks_all (command_names fs asked) old new e; all = λ own. e }
 asked_of fs asked StoreFails old new code front delivered = record { front = front; all = λ own. absurd (answered code delivered own) }
 asked_of fs asked NoMemory old new code front delivered = record { front = front; all = λ own. absurd (answered code (inr delivered) own) }
 
-pub asked_by : (files : Option Files) (asked : Task) (answer : Answer) (old new : Option Names) (code : ℕ) → IfSome files (λ fs. AsksOfAnswer fs asked old new answer) → IsDelivered answer code
+pub asked_by : (files : Option Files) (asked : Command) (answer : Answer) (old new : Option Names) (code : ℕ) → IfSome files (λ fs. AsksOfAnswer fs asked old new answer) → IsDelivered answer code
     → IfSome files (λ fs. Asked fs asked old new code)
 asked_by None asked answer old new code asks delivered = tt
 asked_by (Some fs) asked answer old new code asks delivered = asked_of fs asked answer old new code asks delivered

@@ -6,6 +6,8 @@ use Rattle.std.specs.Option.{option_map}
 use Rattle.std.specs.Str.{bytes_eq}
 use Rattle.std.proofs.lemmas.Bool.{lt-ltb}
 use Rattle.std.proofs.lemmas.Slice.Eq.{bytes_eq-Decides}
+use Rattle.command_line.specs.declared.tasks.Command.{Command}
+use Rattle.command_line.specs.declared.tasks.Command.TheVariants.{Plain, Race}
 use Rattle.command_line.specs.declared.tasks.Task.{Task}
 use Rattle.command_line.specs.declared.tasks.Task.TheVariants.{Run, Check, Link, Sites, Show, Gen}
 use Rattle.command_line.specs.Rewritings.{is_allowed}
@@ -18,7 +20,9 @@ use Rattle.command_replies.specs.Says.{HasFile}
 use Rattle.command_replies.specs.Statuses.{IsLate, SinkShown, code_of}
 use Rattle.generated_laws.specs.Sound.{IsFaultless}
 use Rattle.image_faults.specs.Faults.{IsImage}
-use Rattle.job_link.specs.Given.{Given, AreGiven, IsSound}
+use Rattle.job_link.specs.declared.writable.WritableSections.{WritableSections}
+use Rattle.job_link.specs.declared.writable.WritableSections.TheVariants.{Kept, Refused}
+use Rattle.job_link.specs.Given.{Allows, Given, AreGiven, IsSound}
 use Rattle.job_link.specs.Linked.{AllLink}
 use Rattle.job_link.specs.Mentions.{bytes_at, mentions_of, object_names, once}
 use Rattle.job_text.specs.declared.fault.JobFault.{JobFault}
@@ -29,13 +33,15 @@ use Rattle.ports.specs.Files.{Files, file_at}
 use Rattle.ports.specs.Sinks.{SinkView}
 use Rattle.whole_meaning.specs.declared.unclean.UncleanStep.{UncleanStep}
 use Rattle.commands.specs.Checks.{SaysOf, VerdictSays}
-use Rattle.commands.specs.Completes.{Completes, DidNotFail, IsDone, IsGood, IsGoodJob}
+use Rattle.commands.specs.Completes.{Completes, DidNotFail, IsDone, IsDoneTask, IsGood, IsGoodJob, IsGoodRace, IsGoodTask}
 use Rattle.commands.specs.Jobs.{Ending, FileSays, JobSays, NamedSays, ObjectsSay, has, objects_of}
 use Rattle.commands.specs.Links.{AreLines, IsPut, OfImage}
 use Rattle.commands.specs.Listings.{ListingSays}
 use Rattle.commands.specs.Replies.{AnswerSays}
 use Rattle.commands.specs.RunJobs.{IsRun}
 use Rattle.commands.specs.Tasks.{TaskSays}
+use Rattle.commands.specs.Commands.{CommandSays}
+use Rattle.commands.specs.Races.{IsRace}
 use Rattle.commands.specs.declared.telling.Telling.TheVariants.{Transcript}
 use Rattle.commands.proofs.Membership.{In, in_at, in_contains, of_all}
 use Rattle.commands.proofs.Mentioned.{in_once}
@@ -53,7 +59,8 @@ faultless : (b : List ℕ) → IsSound b → IsFaultless b
 faultless b sound = record { object = sound.object; no_loose = sound.no_loose; no_stray = sound.no_stray }
 
 -- what its ending says alone is said
-module _ (image : Option (List ℕ)) (E : Ending) (relax : Bool) (fs : Files) (name : List ℕ) (good : IsGoodJob fs relax name) (has_is : has good.job image ≡ true)
+module _ (image : Option (List ℕ)) (E : Ending) (relax : Bool) (w : WritableSections) (fs : Files) (name : List ℕ) (good : IsGoodJob fs relax name)
+    (has_is : has good.job image ≡ true) (allowed : (object : List ℕ) → In (mentions_of good.job) object → Allows w (bytes_at fs object))
     (status : ℕ) (text : List ℕ) where
   fine : (object : List ℕ) → In (mentions_of good.job) object → IsFaultless (bytes_at fs object)
   unfolding object_names
@@ -65,15 +72,15 @@ module _ (image : Option (List ℕ)) (E : Ending) (relax : Bool) (fs : Files) (n
   all_link : (images : List Given) → AreGiven (bytes_at fs) good.job images → AllLink images relax
   all_link images given = subst (λ (all : List Given). AllLink all relax) (same_images (bytes_at fs) good.job good.images images good.given given) good.links
 
-  of_file : (o : Option (List ℕ)) → HasFile o (λ bytes. job_of bytes ≡ Ok good.job) → HasFile o (λ bytes. JobSays image E relax fs (job_of bytes) status text)
-      → ObjectsSay E relax fs good.job status text
+  of_file : (o : Option (List ℕ)) → HasFile o (λ bytes. job_of bytes ≡ Ok good.job) → HasFile o (λ bytes. JobSays image E relax w fs (job_of bytes) status text)
+      → ObjectsSay E relax w fs good.job status text
   of_file None is says = absurd is
   of_file (Some bytes) is says =
-      subst (λ (b : Bool). NamedSays E relax fs good.job b status text) has_is
-      (subst (λ (r : Result JobParts JobFault). JobSays image E relax fs r status text) is says)
+      subst (λ (b : Bool). NamedSays E relax w fs good.job b status text) has_is
+      (subst (λ (r : Result JobParts JobFault). JobSays image E relax w fs r status text) is says)
 
-  ends : FileSays image E relax fs name status text → DoesLink E relax (bytes_at fs) good.job status text
-  ends says = let objects = of_file (file_at fs name) good.text says in never_refused E relax (bytes_at fs) good.job status text fine all_link objects.says
+  ends : FileSays image E relax w fs name status text → DoesLink E relax (bytes_at fs) good.job status text
+  ends says = let objects = of_file (file_at fs name) good.text says in never_refused E relax w (bytes_at fs) good.job status text fine allowed all_link objects.says
 
 verdict_done : (found : Option UncleanStep) (status : ℕ) (text : List ℕ) → SaysOf found status text → (status ≡ 0) ⊎ (status ≡ 9)
 verdict_done None status text says = inl says.0
@@ -118,25 +125,46 @@ shown_done (Some b) status text is (inr none) = absurd (is none.first.rule none.
 
 -- ** the law: what a command says of what it is given, where nothing is wrong with it
 
-pub task_done : (fs : Files) (after : Option Files) (task : Task) (status : ℕ) (text : List ℕ) → IsGood fs task → TaskSays fs after task status text → IsDone task status
+pub task_done : (fs : Files) (after : Option Files) (task : Task) (status : ℕ) (text : List ℕ) → IsGoodTask fs task → TaskSays fs after task status text → IsDoneTask task status
 task_done fs after (Run job rewriting) status text good says =
-    let own = ends None (IsRun Transcript) (is_allowed rewriting) fs job good refl status text says in own.linked.says.0
+    let own = ends None (IsRun Transcript) (is_allowed rewriting) Kept fs job good refl (λ name there. tt) status text says in own.linked.says.0
 task_done fs after (Check job) status text good says =
-    let own = ends None VerdictSays true fs job good refl status text says in verdict_done _ status text own.linked.says
+    let own = ends None VerdictSays true Kept fs job good refl (λ name there. tt) status text says in verdict_done _ status text own.linked.says
 task_done fs after (Link job image out rewriting) status text has_it says =
     let own =
-    ends (Some image) (OfImage image (λ j number. IsPut fs after image out)) (is_allowed rewriting) fs job has_it.good
-    (has_declared has_it.good.job image has_it.declared) status text says
+    ends (Some image) (OfImage image (λ j number. IsPut fs after image out)) (is_allowed rewriting) Kept fs job has_it.good
+    (has_declared has_it.good.job image has_it.declared) (λ name there. tt) status text says
     in
     own.linked.says.says.says.says.0
 task_done fs after (Sites job image) status text has_it says =
     let own =
-    ends (Some image) (OfImage image (λ j number. AreLines (objects_of j number))) true fs job has_it.good
-    (has_declared has_it.good.job image has_it.declared) status text says
+    ends (Some image) (OfImage image (λ j number. AreLines (objects_of j number))) true Kept fs job has_it.good
+    (has_declared has_it.good.job image has_it.declared) (λ name there. tt) status text says
     in
     own.linked.says.says.says.0
 task_done fs after (Show file) status text good says = shown_done (file_at fs file) status text good says
 task_done fs after (Gen count) status text good says = says.ran.says.0
+
+-- an object that is there is allowed where its file is
+allowed_at : (o : Option (List ℕ)) → HasFile o (Allows Refused) → Allows Refused (unwrap_or o [])
+allowed_at None is = absurd is
+allowed_at (Some b) is = is
+
+-- no object that a good job of `race` names is refused
+all_allowed : (fs : Files) (relax : Bool) (name : List ℕ) (race : IsGoodRace fs relax name) (object : List ℕ) → In (mentions_of race.good.job) object
+    → Allows Refused (bytes_at fs object)
+unfolding object_names
+all_allowed fs relax name race object i =
+    allowed_at (file_at fs object) (of_all (λ other. HasFile (file_at fs other) (Allows Refused)) (once (mentions_of race.good.job)) object race.dataless
+    (in_once (mentions_of race.good.job) object i))
+
+pub command_done : (fs : Files) (after : Option Files) (command : Command) (status : ℕ) (text : List ℕ) → IsGood fs command → CommandSays fs after command status text
+    → IsDone command status
+command_done fs after (Plain task) status text good says = task_done fs after task status text good says
+command_done fs after (Race job rewriting) status text race says =
+    let own =
+    ends None IsRace (is_allowed rewriting) Refused fs job race.good refl (all_allowed fs (is_allowed rewriting) job race) status text says in
+    own.linked.says.0
 
 -- ** what is delivered where no port failed
 
@@ -156,47 +184,47 @@ delivered text own old new code fine (inl (is, taken)) = inl is
 delivered text own old new code fine (inr (inl (is, refused))) = absurd (fine refused.faults.1)
 delivered text own old new code fine (inr (inr (between, (short, said)))) = once_more own old between new code short.faults fine said
 
-own_done : (task : Task) (own code : ℕ) → IsDone task own → (code ≡ own) ⊎ (code ≡ 1) → IsDone task code ⊎ (code ≡ 1)
-own_done task own code done (inl is) = inl (subst (IsDone task) (sym is) done)
-own_done task own code done (inr is) = inr is
+own_done : (command : Command) (own code : ℕ) → IsDone command own → (code ≡ own) ⊎ (code ≡ 1) → IsDone command code ⊎ (code ≡ 1)
+own_done command own code done (inl is) = inl (subst (IsDone command) (sym is) done)
+own_done command own code done (inr is) = inr is
 
-answer_done : (fs : Files) (after : Option Files) (task : Task) (answer : Answer) (before now own : ℕ) (text : List ℕ) → IsGood fs task → AnswerCounts before now answer
-    → AnswerSays fs after task answer → DidNotFail before now → IsAnswer answer own text → IsDone task own
-answer_done fs after task (Replies reply) before now own text good counts says fine is =
-    subst (IsDone task) (sym is.0) (task_done fs after task (code_of reply.status) reply.text.items good says)
-answer_done fs after task StoreFails before now own text good counts says fine is = absurd (fine counts.1)
-answer_done fs after task NoMemory before now own text good counts says fine is = absurd is
+answer_done : (fs : Files) (after : Option Files) (command : Command) (answer : Answer) (before now own : ℕ) (text : List ℕ) → IsGood fs command → AnswerCounts before now answer
+    → AnswerSays fs after command answer → DidNotFail before now → IsAnswer answer own text → IsDone command own
+answer_done fs after command (Replies reply) before now own text good counts says fine is =
+    subst (IsDone command) (sym is.0) (command_done fs after command (code_of reply.status) reply.text.items good says)
+answer_done fs after command StoreFails before now own text good counts says fine is = absurd (fine counts.1)
+answer_done fs after command NoMemory before now own text good counts says fine is = absurd is
 
 -- an answer that is delivered
-pub answer_completes : (files after : Option Files) (task : Task) (answer : Answer) (before now : ℕ) (old new : SinkView) (code : ℕ) → AnswerCounts before now answer
-    → IfSome files (λ fs. AnswerSays fs after task answer) → Delivered (IsAnswer answer) old new code
-    → IfSome files (λ fs. DidNotFail before now → DidNotFail old.faults new.faults → Completes fs task code)
-answer_completes None after task answer before now old new code counts says is = tt
-answer_completes (Some fs) after task answer before now old new code counts says (inl line) =
+pub answer_completes : (files after : Option Files) (command : Command) (answer : Answer) (before now : ℕ) (old new : SinkView) (code : ℕ) → AnswerCounts before now answer
+    → IfSome files (λ fs. AnswerSays fs after command answer) → Delivered (IsAnswer answer) old new code
+    → IfSome files (λ fs. DidNotFail before now → DidNotFail old.faults new.faults → Completes fs command code)
+answer_completes None after command answer before now old new code counts says is = tt
+answer_completes (Some fs) after command answer before now old new code counts says (inl line) =
     λ store sink good. ⊎_elim (λ one. inr one) (λ one. inr one) (of_sink memory_line 1 old new code sink line)
-answer_completes (Some fs) after task answer before now old new code counts says (inr (own, (text, (may, put)))) =
-    λ store sink good. own_done task own code (answer_done fs after task answer before now own text good counts says store may) (delivered text own old new code sink put)
+answer_completes (Some fs) after command answer before now old new code counts says (inr (own, (text, (may, put)))) =
+    λ store sink good. own_done command own code (answer_done fs after command answer before now own text good counts says store may) (delivered text own old new code sink put)
 
 -- ** words
 
-abbrev Words : Option Files → Option Task → ℕ → ℕ → ℕ → ℕ → ℕ → Type 0
-Words files task before now old new code =
-    IfSome files (λ fs. IfSome task (λ own. DidNotFail before now → DidNotFail old new → Completes fs own code))
+abbrev Words : Option Files → Option Command → ℕ → ℕ → ℕ → ℕ → ℕ → Type 0
+Words files command before now old new code =
+    IfSome files (λ fs. IfSome command (λ own. DidNotFail before now → DidNotFail old new → Completes fs own code))
 
-pub words_complete : (files : Option Files) (words : List (List ℕ)) (task : Task) (before now old new code : ℕ) → asked words ≡ Some task
-    → IfSome files (λ fs. DidNotFail before now → DidNotFail old new → Completes fs task code) → Words files (asked words) before now old new code
-words_complete None words task before now old new code e completes = tt
-words_complete (Some fs) words task before now old new code e completes = rw e completes
+pub words_complete : (files : Option Files) (words : List (List ℕ)) (command : Command) (before now old new code : ℕ) → asked words ≡ Some command
+    → IfSome files (λ fs. DidNotFail before now → DidNotFail old new → Completes fs command code) → Words files (asked words) before now old new code
+words_complete None words command before now old new code e completes = tt
+words_complete (Some fs) words command before now old new code e completes = rw e completes
 
 pub usage_completes : (files : Option Files) (words : List (List ℕ)) (before now old new code : ℕ) → takes_words words ≡ false → Words files (asked words) before now old new code
 usage_completes None words before now old new code other = tt
 usage_completes (Some fs) words before now old new code other = rw (not_asked words other) tt
 
-late : (fs : Files) (task : Task) (old new code : ℕ) → IsLate code → SinkShown old new code → DidNotFail old new → Completes fs task code
-late fs task old new code (inl one) shown fine good = inr one
-late fs task old new code (inr four) shown fine good = absurd (fine (shown.cause four))
+late : (fs : Files) (command : Command) (old new code : ℕ) → IsLate code → SinkShown old new code → DidNotFail old new → Completes fs command code
+late fs command old new code (inl one) shown fine good = inr one
+late fs command old new code (inr four) shown fine good = absurd (fine (shown.cause four))
 
-pub late_completes : (files : Option Files) (task : Option Task) (before now old new code : ℕ) → IsLate code → SinkShown old new code → Words files task before now old new code
-late_completes None task before now old new code is shown = tt
+pub late_completes : (files : Option Files) (command : Option Command) (before now old new code : ℕ) → IsLate code → SinkShown old new code → Words files command before now old new code
+late_completes None command before now old new code is shown = tt
 late_completes (Some fs) None before now old new code is shown = tt
 late_completes (Some fs) (Some own) before now old new code is shown = λ store sink. late fs own old new code is shown sink

@@ -8,6 +8,7 @@ use Rattle.command_replies.specs.declared.fault.CommandFault.TheVariants as faul
 use Rattle.command_replies.specs.Steps.{Comes}
 use Rattle.job_link.specs.declared.preparing.ImageRefusal.{ImageRefusal}
 use Rattle.job_link.specs.declared.preparing.ImageRefusal.TheVariants as refusal
+use Rattle.job_link.specs.declared.writable.WritableSections.{WritableSections}
 use Rattle.job_link.specs.Given.{Given, AreGiven}
 use Rattle.job_link.specs.Linked.{AllLink}
 use Rattle.job_link.specs.Mentions.{AreFilesOf, Fetched, bytes_at, bytes_in, object_names}
@@ -23,21 +24,21 @@ use Rattle.commands.proofs.Saying.{Text, comes_by, items}
 
 -- ** files
 
-module _ (E : Ending) (relax : Bool) (fs : Files) (job : JobParts) (files : Fetched) (are : AreFilesOf fs (object_names job) files)
+module _ (E : Ending) (relax : Bool) (w : WritableSections) (fs : Files) (job : JobParts) (files : Fetched) (are : AreFilesOf fs (object_names job) files)
     (every : (k : ℕ) → 1 ≤ k → k ≤ length job.images → Contains job.mentions k) where
-  at_files : (status : ℕ) (text : List ℕ) → BytesSay E relax (bytes_in files) job status text → BytesSay E relax (bytes_at fs) job status text
+  at_files : (status : ℕ) (text : List ℕ) → BytesSay E relax w (bytes_in files) job status text → BytesSay E relax w (bytes_at fs) job status text
   at_files status text (inl read) = inl (record { images = read.images; given = given_at fs job files are every read.images read.given; says = read.says })
-  at_files status text (inr un) = inr (unread_at fs job files are every status text un)
+  at_files status text (inr un) = inr (unread_at fs job files are every w status text un)
 
-  pub objects_say : (status : ℕ) (text : List ℕ) → BytesSay E relax (bytes_in files) job status text → ObjectsSay E relax fs job status text
+  pub objects_say : (status : ℕ) (text : List ℕ) → BytesSay E relax w (bytes_in files) job status text → ObjectsSay E relax w fs job status text
   objects_say status text says = record { there = are.there; says = at_files status text says }
 
-pub files_say : (E : Ending) (relax : Bool) (old : Option Files) (job : JobParts) (files : Fetched) → IfSome old (λ fs. AreFilesOf fs (object_names job) files)
+pub files_say : (E : Ending) (relax : Bool) (w : WritableSections) (old : Option Files) (job : JobParts) (files : Fetched) → IfSome old (λ fs. AreFilesOf fs (object_names job) files)
     → ((k : ℕ) → 1 ≤ k → k ≤ length job.images → Contains job.mentions k) → (r : Result Text CommandFault)
-    → Comes items (BytesSay E relax (bytes_in files) job) r → IfSome old (λ fs. Comes items (ObjectsSay E relax fs job) r)
-files_say E relax None job files are every r says = tt
-files_say E relax (Some fs) job files are every r says =
-    comes_by (BytesSay E relax (bytes_in files) job) (ObjectsSay E relax fs job) r (objects_say E relax fs job files are every) says
+    → Comes items (BytesSay E relax w (bytes_in files) job) r → IfSome old (λ fs. Comes items (ObjectsSay E relax w fs job) r)
+files_say E relax w None job files are every r says = tt
+files_say E relax w (Some fs) job files are every r says =
+    comes_by (BytesSay E relax w (bytes_in files) job) (ObjectsSay E relax w fs job) r (objects_say E relax w fs job files are every) says
 
 -- ** images
 

@@ -15,6 +15,7 @@ mod Mentioned
 mod NoFault
 mod Places
 mod Putting
+mod Raced
 mod Ready
 mod SameGiven
 mod Saying

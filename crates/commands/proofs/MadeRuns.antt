@@ -6,6 +6,7 @@ use Rattle.generated_job.specs.Generated.{generated_files, generated_text}
 use Rattle.generated_laws.specs.Jobs.{GeneratedTextsAreJobs, generated_parts}
 use Rattle.generated_laws.specs.Linked.{GeneratedObjectsLink}
 use Rattle.generated_laws.specs.Sound.{GeneratedObjectsAreFaultless}
+use Rattle.job_link.specs.declared.writable.WritableSections.TheVariants.{Kept}
 use Rattle.job_link.specs.Mentions.{bytes_in}
 use Rattle.job_text.specs.Jobs.{job_of}
 use Rattle.commands.specs.GeneratedRuns.{GenSays, MadeSays}
@@ -20,7 +21,7 @@ module _ (texts : GeneratedTextsAreJobs) (objects : GeneratedObjectsAreFaultless
   gen_says : (status : ℕ) (text : List ℕ) → MadeSays n (job_of (generated_text n)) status text → GenSays n status text
   gen_says status text says =
       let own =
-      never_refused (IsRun (Summary n)) true (bytes_in (generated_files n)) (generated_parts n) status text (mentioned_faultless objects n few)
+      never_refused (IsRun (Summary n)) true Kept (bytes_in (generated_files n)) (generated_parts n) status text (mentioned_faultless objects n few) (λ name there. tt)
       (made_link link n some few) (subst (λ job. MadeSays n job status text) (texts n some few) says)
       in
       record { images = own.images; given = own.given; ran = own.linked }

@@ -5,7 +5,7 @@ use Rattle.std.specs.List.{Contains}
 use Rattle.std.specs.Str.{bytes_eq}
 use Rattle.std.proofs.lemmas.Option.{slice_get_within}
 use Rattle.std.proofs.lemmas.Slice.Eq.{bytes_eq-Decides}
-use Rattle.job_link.specs.declared.writable.WritableSections.TheVariants.{Kept}
+use Rattle.job_link.specs.declared.writable.WritableSections.{WritableSections}
 use Rattle.job_link.specs.Given.{Given, AreGiven, IsFileFault, IsTaken}
 use Rattle.job_link.specs.Mentions.{AreFilesOf, Fetched, bytes_at, bytes_in, mentioned, mentions_of, object_names, once}
 use Rattle.job_text.specs.declared.images.Image.{Image}
@@ -72,8 +72,8 @@ module _ (fs : Files) (job : JobParts) (files : Fetched) (are : AreFilesOf fs (o
     given = g.given;
   }
 
-  pub unread_at : (status : ℕ) (text : List ℕ) → IsUnread (bytes_in files) job status text → IsUnread (bytes_at fs) job status text
-  unread_at status text un = record {
+  pub unread_at : (w : WritableSections) (status : ℕ) (text : List ℕ) → IsUnread w (bytes_in files) job status text → IsUnread w (bytes_at fs) job status text
+  unread_at w status text un = record {
     name = un.name;
     section = un.section;
     entry = un.entry;
@@ -81,8 +81,8 @@ module _ (fs : Files) (job : JobParts) (files : Fetched) (are : AreFilesOf fs (o
     first = record {
       at = un.first.at;
       there = un.first.there;
-      here = subst (λ b. IsFileFault Kept b (At un.section un.entry un.kind)) (of_mention un.name (in_at (mentions_of job) un.first.at un.name un.first.there)) un.first.here;
-      before = λ k other h g. subst (IsTaken Kept) (of_mention other (in_at (mentions_of job) k other g)) (un.first.before k other h g);
+      here = subst (λ b. IsFileFault w b (At un.section un.entry un.kind)) (of_mention un.name (in_at (mentions_of job) un.first.at un.name un.first.there)) un.first.here;
+      before = λ k other h g. subst (IsTaken w) (of_mention other (in_at (mentions_of job) k other g)) (un.first.before k other h g);
     };
     says = un.says;
   }

@@ -2,8 +2,9 @@
 use Rattle.std.proofs.Common.{ℕ, Bool, Option, List, inl, inr, subst}
 use Rattle.std.proofs.lemmas.Option.{get_or_from_slice_get, slice_get_within}
 use Rattle.generated_laws.specs.Sound.{IsFaultless}
-use Rattle.job_link.specs.declared.writable.WritableSections.TheVariants.{Kept}
-use Rattle.job_link.specs.Given.{Given, AreGiven, IsFileFault}
+use Rattle.job_link.specs.declared.writable.WritableSections.{WritableSections}
+use Rattle.job_link.specs.declared.writable.WritableSections.TheVariants.{Kept, Refused}
+use Rattle.job_link.specs.Given.{Allows, Given, AreGiven, IsDataFault, IsFileFault}
 use Rattle.job_link.specs.Linked.{AllLink, link_in}
 use Rattle.job_link.specs.Mentions.{mentions_of}
 use Rattle.job_link.specs.NoFault.{no_link_fault}
@@ -23,10 +24,15 @@ no_sequence_fault Sequence b r e fine here = fine.no_loose r e here
 no_sequence_fault StrayCall b r e fine here = fine.no_stray r e here
 no_sequence_fault kind b r e fine (above, (s, kept, never)) = never
 
-no_file_fault : (b : List ℕ) (section entry : ℕ) (kind : FaultKind) → IsFaultless b → IsFileFault Kept b (object_fault.At section entry kind) → ⊥
-no_file_fault b section entry kind fine (inl first) = fine.object kind section entry first.here
-no_file_fault b section entry kind fine (inr (is, inl never)) = never
-no_file_fault b section entry kind fine (inr (is, inr (allowed, first))) =
+no_data_fault : (w : WritableSections) (b : List ℕ) (section entry : ℕ) (kind : FaultKind) → Allows w b → IsDataFault w b section entry kind → ⊥
+no_data_fault Kept b section entry kind allowed never = never
+no_data_fault Refused b section entry kind none ((here, first), (entry_is, kind_is)) = none section here
+
+no_file_fault : (w : WritableSections) (b : List ℕ) (section entry : ℕ) (kind : FaultKind) → IsFaultless b → Allows w b
+    → IsFileFault w b (object_fault.At section entry kind) → ⊥
+no_file_fault w b section entry kind fine none (inl first) = fine.object kind section entry first.here
+no_file_fault w b section entry kind fine none (inr (is, inl writable)) = no_data_fault w b section entry kind none writable
+no_file_fault w b section entry kind fine none (inr (is, inr (allowed, first))) =
     no_sequence_fault kind b section entry fine first.here
 
 -- ** links
@@ -47,15 +53,16 @@ pub record DoesLink (E : Ending) (relax : Bool) (bytes : List ℕ → List ℕ) 
   pub given : AreGiven bytes job images
   pub linked : DoLink E relax job images status text
 
-module _ (E : Ending) (relax : Bool) (bytes : List ℕ → List ℕ) (job : JobParts) (status : ℕ) (text : List ℕ)
+module _ (E : Ending) (relax : Bool) (w : WritableSections) (bytes : List ℕ → List ℕ) (job : JobParts) (status : ℕ) (text : List ℕ)
     (fine : (name : List ℕ) → In (mentions_of job) name → IsFaultless (bytes name))
+    (allowed : (name : List ℕ) → In (mentions_of job) name → Allows w (bytes name))
     (link : (images : List Given) → AreGiven bytes job images → AllLink images relax) where
   of_images : (images : List Given) → AreGiven bytes job images → ImagesSay E relax job images status text → DoesLink E relax bytes job status text
   of_images images given (inl linked) = record { images = images; given = given; linked = linked }
   of_images images given (inr un) = absurd (none_unlinked images relax job status text (link images given) un)
 
-  pub never_refused : BytesSay E relax bytes job status text → DoesLink E relax bytes job status text
+  pub never_refused : BytesSay E relax w bytes job status text → DoesLink E relax bytes job status text
   never_refused (inl read) = of_images read.images read.given read.says
   never_refused (inr un) =
       let there = in_at (mentions_of job) un.first.at un.name un.first.there in
-      absurd (no_file_fault (bytes un.name) un.section un.entry un.kind (fine un.name there) un.first.here)
+      absurd (no_file_fault w (bytes un.name) un.section un.entry un.kind (fine un.name there) (allowed un.name there) un.first.here)

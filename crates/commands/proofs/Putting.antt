@@ -7,6 +7,7 @@ use Rattle.command_replies.specs.declared.fault.InputRefusal.{InputRefusal}
 use Rattle.command_replies.specs.declared.fault.InputRefusal.TheVariants.{Job, Object, Link, Image, Unclean}
 use Rattle.command_replies.specs.Faults.{IsFetchFault}
 use Rattle.command_replies.specs.Steps.{Comes, refusal_code}
+use Rattle.job_link.specs.declared.writable.WritableSections.TheVariants.{Kept}
 use Rattle.link_needs.specs.Linking.{Linking}
 use Rattle.ports.specs.Files.{Files, file_at, with_file}
 use Rattle.commands.specs.Jobs.{FileSays}
@@ -23,14 +24,14 @@ some_code (Unclean line) = lit≤ tt
 module _ (image out name : List ℕ) (relax : Bool) (after : Option Files) where
   -- what the image's file is, and what is said where it is put
   abbrev pub Made : Files → Said
-  Made fs = FileSays (Some image) (OfImage image (λ own number. IsFile)) relax fs name
+  Made fs = FileSays (Some image) (OfImage image (λ own number. IsFile)) relax Kept fs name
 
   abbrev pub Put : Files → Said
-  Put fs = FileSays (Some image) (OfImage image (λ own number. IsPut fs after image out)) relax fs name
+  Put fs = FileSays (Some image) (OfImage image (λ own number. IsPut fs after image out)) relax Kept fs name
 
   put : (fs : Files) (file : List ℕ) → after ≡ with_file out file (Some fs) → Made fs 0 file → Put fs 0 (linked_text image (length file))
   put fs file files_are =
-      file_more (OfImage image (λ own number. IsFile)) (OfImage image (λ own number. IsPut fs after image out)) relax 0 0 file (linked_text image (length file))
+      file_more (OfImage image (λ own number. IsFile)) (OfImage image (λ own number. IsPut fs after image out)) relax Kept 0 0 file (linked_text image (length file))
       (λ P high own. absurd (omega (arith, high own))) (Some image) fs
       (λ job ls of. record {
         number = of.number;
@@ -49,7 +50,7 @@ module _ (image out name : List ℕ) (relax : Bool) (after : Option Files) where
   unput fs fault.Store says = tt
   unput fs fault.OutOfMemory says = tt
   unput fs (fault.Refused refusal) says =
-      file_more (OfImage image (λ own number. IsFile)) (OfImage image (λ own number. IsPut fs after image out)) relax _ _ _ _
+      file_more (OfImage image (λ own number. IsFile)) (OfImage image (λ own number. IsPut fs after image out)) relax Kept _ _ _ _
       (λ P high own. own) (Some image) fs (λ job ls of. absurd (omega (arith, of.says.says.0, some_code refusal))) (file_at fs name) says
 
   pub unput_says : (old : Option Files) (f : CommandFault) → IfSome old (λ fs. Comes items (Made fs) (Err f)) → IfSome old (λ fs. Comes items (Put fs) (Err f))

@@ -2,7 +2,8 @@
 use Rattle.std.proofs.Common.{◌≡◌, ◌∙◌, ◌≤◌, ◌<◌, ◌^◌, ℕ, Bool, true, List, All, [], ◌∷◌, get_or, length, map, refl, sym, ap, subst, arith}
 use Rattle.std.proofs.lemmas.List.{length-map}
 use Rattle.std.proofs.lemmas.List.Elements.{All-cons, All-map, All-nil, All-same, All-weaker}
-use Rattle.job_link.specs.Given.{Given, IsGiven as IsGivenImage}
+use Rattle.job_link.specs.declared.writable.WritableSections.TheVariants.{Refused}
+use Rattle.job_link.specs.Given.{Allows, Given, IsGiven as IsGivenImage}
 use Rattle.job_link.specs.Linked.{link_in}
 use Rattle.job_link.specs.LinkLaws.{is_given, kinds_linked}
 use Rattle.job_text.specs.declared.images.Image.{Image}
@@ -14,6 +15,7 @@ use Rattle.link_core.specs.Laws.{HasNoStray}
 use Rattle.link_faults.specs.declared.image_kind.ImageKind.{ImageKind}
 use Rattle.link_needs.specs.Given.{IsGiven}
 use Rattle.link_needs.specs.Linking.{Linking}
+use Rattle.linked_modules.specs.Dataless.{IsOfDataless}
 use Rattle.linked_modules.specs.Together.{AreTogether}
 use Rattle.loaded_bytes.specs.Small.{AreBytes}
 use Rattle.meant_images.specs.Images.{AreSound}
@@ -74,6 +76,11 @@ module _ (job : JobParts) (images : List Given) (ls : List Linking) (are : AreLi
   few : All IsOfFew images → All (λ (l : Linking). length l.objects < 2 ^ 32) ls
   unfolding link_in
   few all = each (λ (l : Linking). length l.objects < 2 ^ 32) all
+
+  -- no object has data for programs to write
+  pub dataless : All (λ g. All (Allows Refused) g.objects) images → All IsOfDataless ls
+  unfolding link_in
+  dataless all = each IsOfDataless all
 
   kinds_are : map (λ (l : Linking). l.kind) ls ≡ map (λ (image : Image). image.kind) job.images
   kinds_are = ap (map (λ (l : Linking). l.kind)) are.links_are ∙ kinds_linked images are.relax images ∙ are.given.kinds

@@ -1,6 +1,6 @@
 -- What an answer shows.
 use Rattle.std.proofs.Common.{◌≡◌, ◌≤◌, ℕ, List, Option, Some, None, IfSome, ◌⊎◌, inl, inr, refl, sym, subst, arith}
-use Rattle.command_line.specs.declared.tasks.Task.{Task}
+use Rattle.command_line.specs.declared.tasks.Command.{Command}
 use Rattle.command_replies.specs.Delivery.{Delivered}
 use Rattle.command_replies.specs.Replies.{AnswerCounts, IsAnswer, IsOfFiles}
 use Rattle.command_replies.specs.Statuses.{code_of}
@@ -27,15 +27,15 @@ own_code status.Link h = inr (omega arith)
 own_code status.Image h = inr (omega arith)
 own_code status.Unclean h = inr (omega arith)
 
-answer_may : (files after : Option Files) (task : Task) (answer : Answer) (before now own : ℕ) (text : List ℕ) → AnswerCounts before now answer → IfSome files (λ fs. AnswerSays fs after task answer)
-    → IsAnswer answer own text → MaySay files after task own text
-answer_may None after task (Replies reply) before now own text counts says is = inr (subst (λ (c : ℕ). (c ≡ 0) ⊎ (5 ≤ c)) (sym is.0) (own_code reply.status counts.1))
-answer_may (Some fs) after task (Replies reply) before now own text counts says is = inr (rw (is.0, is.1) says)
-answer_may None after task StoreFails before now own text counts says is = inl is
-answer_may (Some fs) after task StoreFails before now own text counts says is = inl is
-answer_may files after task NoMemory before now own text counts says is = absurd is
+answer_may : (files after : Option Files) (command : Command) (answer : Answer) (before now own : ℕ) (text : List ℕ) → AnswerCounts before now answer → IfSome files (λ fs. AnswerSays fs after command answer)
+    → IsAnswer answer own text → MaySay files after command own text
+answer_may None after command (Replies reply) before now own text counts says is = inr (subst (λ (c : ℕ). (c ≡ 0) ⊎ (5 ≤ c)) (sym is.0) (own_code reply.status counts.1))
+answer_may (Some fs) after command (Replies reply) before now own text counts says is = inr (rw (is.0, is.1) says)
+answer_may None after command StoreFails before now own text counts says is = inl is
+answer_may (Some fs) after command StoreFails before now own text counts says is = inl is
+answer_may files after command NoMemory before now own text counts says is = absurd is
 
-pub answer_shows : (files after : Option Files) (task : Task) (answer : Answer) (before now : ℕ) (old new : SinkView) (code : ℕ) → AnswerCounts before now answer
-    → IfSome files (λ fs. AnswerSays fs after task answer) → Delivered (IsAnswer answer) old new code → Shows files after task old new code
-answer_shows files after task answer before now old new code counts says delivered =
-    delivered_weaker (IsAnswer answer) (MaySay files after task) old new code (λ own text is. answer_may files after task answer before now own text counts says is) delivered
+pub answer_shows : (files after : Option Files) (command : Command) (answer : Answer) (before now : ℕ) (old new : SinkView) (code : ℕ) → AnswerCounts before now answer
+    → IfSome files (λ fs. AnswerSays fs after command answer) → Delivered (IsAnswer answer) old new code → Shows files after command old new code
+answer_shows files after command answer before now old new code counts says delivered =
+    delivered_weaker (IsAnswer answer) (MaySay files after command) old new code (λ own text is. answer_may files after command answer before now own text counts says is) delivered

@@ -20,7 +20,7 @@ use Rattle.transcript_text.specs.Texts.{Shown}
 use Rattle.commands.specs.InOrder.{AreLinks}
 use Rattle.commands.specs.declared.telling.Telling.{Telling}
 use Rattle.commands.specs.RunJobs.{IsTold, told}
-use Rattle.commands.specs.Runs.{HasRun, modules_of, read_back, world_of}
+use Rattle.commands.specs.Runs.{AreBack, AreModulesBack, HasRun, modules_of, read_back, world_of}
 
 -- ** the images
 
@@ -32,11 +32,6 @@ preparing (l ∷ ls) = ap (λ more. image_of l ∷ more) (preparing ls)
 images_back : (ls : List Linking) → map read_back (map linked_of ls) ≡ map (λ l. read_back (linked_of l)) ls
 images_back [] = refl
 images_back (l ∷ ls) = ap (λ more. read_back (linked_of l) ∷ more) (images_back ls)
-
--- the images of a job, as they are read back
-pub record AreBack (job : JobParts) (all : List LinkedImage) (images : List Spelled) : Type 0 where
-  pub read : images ≡ map read_back all
-  pub again : images ≡ map (λ linked. linked.image) all
 
 module _ (job : JobParts) (ls : List Linking) (links : AreLinks job ls) (all : List LinkedImage) (all_is : all ≡ map linked_of ls)
     (images : List Spelled) (back : AreBack job all images) where
@@ -89,12 +84,13 @@ module _ (job : JobParts) (ls : List Linking) (links : AreLinks job ls) (few : l
 
 -- what a run answers
 pub ran : {E : Type 0} → LinkedJobsPrint → TranscriptsTellTheirThreads → VerdictKnowsNoSetting → (job : JobParts) → length job.lines ≤ 64
-    → (all : List LinkedImage) (images : List Spelled) → AreBack job all images → (m : JobImages) → m ≡ of_job job images → (r : Result Shown E)
+    → (all : List LinkedImage) (m : JobImages) → AreModulesBack job all m → (r : Result Shown E)
     → IfOk r (λ transcript. Tells (world_of job m) transcript)
     → IfOk r (λ transcript. (ls : List Linking) → AreLinks job ls → all ≡ map linked_of ls → HasRun job ls transcript)
-ran jobs threads settings job few all images back m m_is (Ok transcript) printed =
-    λ ls links all_is. has_run job ls links few all all_is images back m m_is transcript printed jobs threads settings
-ran jobs threads settings job few all images back m m_is (Err e) printed = tt
+ran jobs threads settings job few all m made (Ok transcript) printed =
+    λ ls links all_is.
+    has_run job ls links few all all_is made.images made.back m made.modules_are transcript printed jobs threads settings
+ran jobs threads settings job few all m made (Err e) printed = tt
 
 -- what is told of it
 pub is_told : {E : Type 0} (telling : Telling) (job : JobParts) (ls : List Linking) (all : List LinkedImage) → all ≡ map linked_of ls

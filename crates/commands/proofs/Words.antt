@@ -1,6 +1,7 @@
 -- What is shown of words.
 use Rattle.std.proofs.Common.{◌≡◌, inl, inr, ℕ, List, [], Option, Some, None, IfSome, false, refl, sym, ap, append-nil}
-use Rattle.command_line.specs.declared.tasks.Task.{Task}
+use Rattle.command_line.specs.declared.tasks.Command.{Command}
+use Rattle.command_line.specs.declared.tasks.Command.TheVariants.{Plain, Race}
 use Rattle.command_line.specs.Words.{asked, takes_words}
 use Rattle.ports.specs.Files.{Files, untold_files}
 use Rattle.ports.specs.Sinks.{SinkView}
@@ -8,7 +9,7 @@ use Rattle.command_line.specs.declared.tasks.Task.TheVariants.{Run, Check, Link,
 use Rattle.command_replies.specs.Statuses.{IsLate}
 use Rattle.command_replies.specs.Steps.{with_names}
 use Rattle.commands.specs.Links.{LinkSays, Leaves}
-use Rattle.commands.specs.Tasks.{TaskLeaves}
+use Rattle.commands.specs.Commands.{CommandLeaves}
 use Rattle.commands.specs.Replies.{Shows, ShowsWords, Asked, AskedWords, WordsLeave}
 use Rattle.commands.proofs.Asked.{answered}
 
@@ -19,10 +20,10 @@ none_more : (old : Option Names) → old ≡ with_names [] old
 none_more None = refl
 none_more (Some names) = ap (λ (ns : Names). Some ns) (sym (append-nil names))
 
-pub asked_late : (files : Option Files) (task : Option Task) (old : Option Names) (code : ℕ) → IsLate code → IfSome files (λ fs. AskedWords fs task old old code)
-asked_late None task old code late = tt
+pub asked_late : (files : Option Files) (command : Option Command) (old : Option Names) (code : ℕ) → IsLate code → IfSome files (λ fs. AskedWords fs command old old code)
+asked_late None command old code late = tt
 asked_late (Some fs) None old code late = refl
-asked_late (Some fs) (Some task) old code late = record { front = (0, none_more old); all = λ own. absurd (answered code (inr late) own) }
+asked_late (Some fs) (Some command) old code late = record { front = (0, none_more old); all = λ own. absurd (answered code (inr late) own) }
 
 pub not_asked : (words : List (List ℕ)) → takes_words words ≡ false → asked words ≡ None
 unfolding asked
@@ -36,31 +37,32 @@ pub asked_usage : (files : Option Files) (words : List (List ℕ)) (old : Option
 asked_usage None words old code other = tt
 asked_usage (Some fs) words old code other = rw (not_asked words other) refl
 
-pub shows_task : (files after : Option Files) (words : List (List ℕ)) (task : Task) (old new : SinkView) (code : ℕ) → asked words ≡ Some task → Shows files after task old new code
+pub shows_command : (files after : Option Files) (words : List (List ℕ)) (command : Command) (old new : SinkView) (code : ℕ) → asked words ≡ Some command → Shows files after command old new code
     → ShowsWords files after (asked words) old new code
-shows_task files after words task old new code e shown = rw e shown
+shows_command files after words command old new code e shown = rw e shown
 
-pub asked_task : (files : Option Files) (words : List (List ℕ)) (task : Task) (old new : Option Names) (code : ℕ) → asked words ≡ Some task → IfSome files (λ fs. Asked fs task old new code)
+pub asked_command : (files : Option Files) (words : List (List ℕ)) (command : Command) (old new : Option Names) (code : ℕ) → asked words ≡ Some command → IfSome files (λ fs. Asked fs command old new code)
     → IfSome files (λ fs. AskedWords fs (asked words) old new code)
-asked_task None words task old new code e shown = tt
-asked_task (Some fs) words task old new code e shown = rw e shown
+asked_command None words command old new code e shown = tt
+asked_command (Some fs) words command old new code e shown = rw e shown
 
 -- the files after words
 pub leave_usage : (files : Option Files) (words : List (List ℕ)) → takes_words words ≡ false → WordsLeave files files (asked words)
 leave_usage files words other = rw (not_asked words other) refl
 
-pub leave_task : (files after : Option Files) (words : List (List ℕ)) (task : Task) → asked words ≡ Some task → TaskLeaves files after task → WordsLeave files after (asked words)
-leave_task files after words task e left = rw e left
+pub leave_command : (files after : Option Files) (words : List (List ℕ)) (command : Command) → asked words ≡ Some command → CommandLeaves files after command → WordsLeave files after (asked words)
+leave_command files after words command e left = rw e left
 
 unchanged : (files : Option Files) (Says : Files → ℕ → List ℕ → Type 0) → Leaves files files Says
 unchanged None Says = refl
 unchanged (Some fs) Says = inl refl
 
-pub leave_late : (files : Option Files) (task : Option Task) → WordsLeave files files task
+pub leave_late : (files : Option Files) (command : Option Command) → WordsLeave files files command
 leave_late files None = refl
-leave_late files (Some (Run job rewriting)) = refl
-leave_late files (Some (Check job)) = refl
-leave_late files (Some (Link job image out rewriting)) = unchanged files (λ fs. LinkSays fs files job image out rewriting)
-leave_late files (Some (Sites job image)) = refl
-leave_late files (Some (Show file)) = refl
-leave_late files (Some (Gen count)) = refl
+leave_late files (Some (Plain (Run job rewriting))) = refl
+leave_late files (Some (Plain (Check job))) = refl
+leave_late files (Some (Plain (Link job image out rewriting))) = unchanged files (λ fs. LinkSays fs files job image out rewriting)
+leave_late files (Some (Plain (Sites job image))) = refl
+leave_late files (Some (Plain (Show file))) = refl
+leave_late files (Some (Plain (Gen count))) = refl
+leave_late files (Some (Race job rewriting)) = refl

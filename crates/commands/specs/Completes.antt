@@ -3,11 +3,14 @@
 use Rattle.std.specs.Prelude.{◌≡◌, ◌⊎◌, ℕ, Bool, true, List, Contains, map, Ok}
 use Rattle.std.specs.List.{All}
 use Rattle.command_line.specs.Rewritings.{is_allowed}
+use Rattle.command_line.specs.declared.tasks.Command.{Command}
+use Rattle.command_line.specs.declared.tasks.Command.TheVariants.{Plain, Race}
 use Rattle.command_line.specs.declared.tasks.Task.{Task}
 use Rattle.command_line.specs.declared.tasks.Task.TheVariants.{Run, Check, Link, Sites, Show, Gen}
 use Rattle.command_replies.specs.Says.{HasFile}
 use Rattle.image_faults.specs.Faults.{IsImage}
-use Rattle.job_link.specs.Given.{Given, AreGiven, IsSound}
+use Rattle.job_link.specs.declared.writable.WritableSections.TheVariants.{Refused}
+use Rattle.job_link.specs.Given.{Allows, Given, AreGiven, IsSound}
 use Rattle.job_link.specs.Linked.{AllLink}
 use Rattle.job_link.specs.Mentions.{bytes_at, object_names}
 use Rattle.job_text.specs.Jobs.{JobParts, job_of}
@@ -31,29 +34,43 @@ pub record HasGoodImage (fs : Files) (relax : Bool) (name image : List ℕ) : Ty
   pub good : IsGoodJob fs relax name
   pub declared : Contains (map (λ own. own.name) good.job.images) image
 
+-- and no object that the job names has data for programs to write
+pub record IsGoodRace (fs : Files) (relax : Bool) (name : List ℕ) : Type 0 where
+  pub good : IsGoodJob fs relax name
+  pub dataless : All (λ object. HasFile (file_at fs object) (Allows Refused)) (object_names good.job)
+
 -- of `show` the file stands for an image; and nothing is ever wrong with the job that `gen` makes
-abbrev pub IsGood : Files → Task → Type 0
-IsGood fs (Run job rewriting) = IsGoodJob fs (is_allowed rewriting) job
-IsGood fs (Check job) = IsGoodJob fs true job
-IsGood fs (Link job image out rewriting) = HasGoodImage fs (is_allowed rewriting) job image
-IsGood fs (Sites job image) = HasGoodImage fs true job image
-IsGood fs (Show file) = HasFile (file_at fs file) IsImage
-IsGood fs (Gen count) = Unit {0}
+abbrev pub IsGoodTask : Files → Task → Type 0
+IsGoodTask fs (Run job rewriting) = IsGoodJob fs (is_allowed rewriting) job
+IsGoodTask fs (Check job) = IsGoodJob fs true job
+IsGoodTask fs (Link job image out rewriting) = HasGoodImage fs (is_allowed rewriting) job image
+IsGoodTask fs (Sites job image) = HasGoodImage fs true job image
+IsGoodTask fs (Show file) = HasFile (file_at fs file) IsImage
+IsGoodTask fs (Gen count) = Unit {0}
+
+abbrev pub IsGood : Files → Command → Type 0
+IsGood fs (Plain task) = IsGoodTask fs task
+IsGood fs (Race job rewriting) = IsGoodRace fs (is_allowed rewriting) job
 
 -- ---- and then it completes
 
--- the status of a command that did all that it is to do
-abbrev pub IsDone : Task → ℕ → Type 0
-IsDone (Run job rewriting) code = code ≡ 0
-IsDone (Check job) code = (code ≡ 0) ⊎ (code ≡ 9)
-IsDone (Link job image out rewriting) code = code ≡ 0
-IsDone (Sites job image) code = code ≡ 0
-IsDone (Show file) code = code ≡ 0
-IsDone (Gen count) code = code ≡ 0
+-- the status of a task that did all that it is to do
+abbrev pub IsDoneTask : Task → ℕ → Type 0
+IsDoneTask (Run job rewriting) code = code ≡ 0
+IsDoneTask (Check job) code = (code ≡ 0) ⊎ (code ≡ 9)
+IsDoneTask (Link job image out rewriting) code = code ≡ 0
+IsDoneTask (Sites job image) code = code ≡ 0
+IsDoneTask (Show file) code = code ≡ 0
+IsDoneTask (Gen count) code = code ≡ 0
+
+-- and of a command
+abbrev pub IsDone : Command → ℕ → Type 0
+IsDone (Plain task) code = IsDoneTask task code
+IsDone (Race job rewriting) code = code ≡ 0
 
 -- a port did not fail: its count of faults did not rise
 abbrev pub DidNotFail : ℕ → ℕ → Type 0
 DidNotFail before now = Rose before now → ⊥
 
-abbrev pub Completes : Files → Task → ℕ → Type 0
-Completes fs task code = IsGood fs task → IsDone task code ⊎ (code ≡ 1)
+abbrev pub Completes : Files → Command → ℕ → Type 0
+Completes fs command code = IsGood fs command → IsDone command code ⊎ (code ≡ 1)

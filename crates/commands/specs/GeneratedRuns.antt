@@ -3,6 +3,7 @@ use Rattle.std.specs.Prelude.{ℕ, true, List, Result, Ok, Err}
 use Rattle.command_replies.specs.Says.{JobFaultSays}
 use Rattle.generated_job.specs.Generated.{generated_files}
 use Rattle.generated_laws.specs.Jobs.{generated_parts}
+use Rattle.job_link.specs.declared.writable.WritableSections.TheVariants.{Kept}
 use Rattle.job_link.specs.Given.{Given, AreGiven}
 use Rattle.job_link.specs.Mentions.{bytes_in}
 use Rattle.job_text.specs.Jobs.{JobParts}
@@ -22,5 +23,5 @@ pub record GenSays (count status : ℕ) (text : List ℕ) : Type 0 where
 -- what a job, or a text that is none, says over objects that were made
 abbrev pub MadeSays : ℕ → Result JobParts JobFault → ℕ → List ℕ → Type 0
 MadeSays count (Ok job) status text =
-    BytesSay (IsRun (Summary count)) true (bytes_in (generated_files count)) job status text
+    BytesSay (IsRun (Summary count)) true Kept (bytes_in (generated_files count)) job status text
 MadeSays count (Err fault) status text = JobFaultSays fault status text

@@ -5,7 +5,7 @@ use Rattle.std.specs.Prelude.{Option, Some, None, IsSome, Result, Ok, Err, is_so
 use Rattle.std.specs.List.{All}
 use Rattle.std.specs.Option.{option_map_or}
 use Rattle.command_replies.specs.Says.{HasFile, Is, JobFaultSays, fault_text, job_fault_text, link_line, shown_object}
-use Rattle.job_link.specs.declared.writable.WritableSections.TheVariants.{Kept}
+use Rattle.job_link.specs.declared.writable.WritableSections.{WritableSections}
 use Rattle.job_link.specs.Given.{Given, AreGiven, IsFirstFaulty}
 use Rattle.job_link.specs.Linked.{AllLink, IsFirstUnlinked, link_in}
 use Rattle.job_link.specs.Mentions.{bytes_at, object_names}
@@ -30,13 +30,13 @@ link_fault_text job number kind object section entry =
     link_line (option_map_or (λ image. image.name) (slice_get job.images number) []) kind
     (shown_object (objects_of job number) object) section entry
 
--- an object has a fault: 6, and the first
-pub record IsUnread (bytes : List ℕ → List ℕ) (job : JobParts) (status : ℕ) (text : List ℕ) : Type 0 where
+-- an object has a fault: 6, and the first; w: whether data that programs write is kept, or a fault too
+pub record IsUnread (w : WritableSections) (bytes : List ℕ → List ℕ) (job : JobParts) (status : ℕ) (text : List ℕ) : Type 0 where
   pub name : List ℕ
   pub section : ℕ
   pub entry : ℕ
   pub kind : FaultKind
-  pub first : IsFirstFaulty Kept bytes job name section entry kind
+  pub first : IsFirstFaulty w bytes job name section entry kind
   pub says : Is 6 (fault_text name section entry kind) status text
 
 -- an image does not link: 7, and the first
@@ -77,18 +77,20 @@ module _ (E : Ending) (relax : Bool) where
     pub given : AreGiven bytes job images
     pub says : ImagesSay job images status text
 
-  abbrev pub BytesSay : (List ℕ → List ℕ) → JobParts → ℕ → List ℕ → Type 0
-  BytesSay bytes job status text = AreRead bytes job status text ⊎ IsUnread bytes job status text
+  -- w: what is asked of the sections that programs write
+  module _ (w : WritableSections) where
+    abbrev pub BytesSay : (List ℕ → List ℕ) → JobParts → ℕ → List ℕ → Type 0
+    BytesSay bytes job status text = AreRead bytes job status text ⊎ IsUnread w bytes job status text
 
-  -- fs: the files; each object is there
-  pub record ObjectsSay (fs : Files) (job : JobParts) (status : ℕ) (text : List ℕ) : Type 0 where
-    pub there : All (λ name. IsSome (file_at fs name)) (object_names job)
-    pub says : BytesSay (bytes_at fs) job status text
+    -- fs: the files; each object is there
+    pub record ObjectsSay (fs : Files) (job : JobParts) (status : ℕ) (text : List ℕ) : Type 0 where
+      pub there : All (λ name. IsSome (file_at fs name)) (object_names job)
+      pub says : BytesSay (bytes_at fs) job status text
 
-  -- the job has the image that the command names, or it has not
-  abbrev pub NamedSays : Files → JobParts → Bool → ℕ → List ℕ → Type 0
-  NamedSays fs job true status text = ObjectsSay fs job status text
-  NamedSays fs job false status text = Is 5 (job_fault_text 0 Name) status text
+    -- the job has the image that the command names, or it has not
+    abbrev pub NamedSays : Files → JobParts → Bool → ℕ → List ℕ → Type 0
+    NamedSays fs job true status text = ObjectsSay fs job status text
+    NamedSays fs job false status text = Is 5 (job_fault_text 0 Name) status text
 
 -- the job has an image of that name, where one is named
 abbrev pub has : JobParts → Option (List ℕ) → Bool
@@ -97,9 +99,9 @@ has job (Some name) = is_some (image_number job.images name)
 
 -- image: the name of the image that the command is about; none where it is about all
 module _ (image : Option (List ℕ)) where
-  module _ (E : Ending) (relax : Bool) (fs : Files) where
+  module _ (E : Ending) (relax : Bool) (w : WritableSections) (fs : Files) where
     abbrev pub JobSays : Result JobParts JobFault → ℕ → List ℕ → Type 0
-    JobSays (Ok job) status text = NamedSays E relax fs job (has job image) status text
+    JobSays (Ok job) status text = NamedSays E relax w fs job (has job image) status text
     JobSays (Err fault) status text = JobFaultSays fault status text
 
     -- of the job in the file of that name

@@ -1,4 +1,5 @@
 pub mod Checks
+pub mod Commands
 pub mod Completes
 pub mod GeneratedRuns
 pub mod InOrder
@@ -6,6 +7,7 @@ pub mod Jobs
 pub mod Links
 pub mod Listings
 pub mod Purposes
+pub mod Races
 pub mod Refusals
 pub mod Replies
 pub mod RunJobs

@@ -7,6 +7,7 @@ use Rattle.command_line.specs.declared.tasks.Rewriting.{Rewriting}
 use Rattle.command_line.specs.Rewritings.{is_allowed}
 use Rattle.command_replies.specs.Says.{Is}
 use Rattle.image_writer.specs.Written.{written}
+use Rattle.job_link.specs.declared.writable.WritableSections.TheVariants.{Kept}
 use Rattle.job_link.specs.Given.{Given}
 use Rattle.job_text.specs.Images.{image_number}
 use Rattle.job_text.specs.Jobs.{JobParts}
@@ -72,12 +73,12 @@ pub record OfImage (name : List ℕ) (O : JobParts → ℕ → Output) (job : Jo
 -- `link JOB IMAGE OUT [--no-relax]`, after which the store's files are so
 abbrev pub LinkSays : Files → Option Files → List ℕ → List ℕ → List ℕ → Rewriting → ℕ → List ℕ → Type 0
 LinkSays fs after job image out rewriting status text =
-    FileSays (Some image) (OfImage image (λ own number. IsPut fs after image out)) (is_allowed rewriting) fs job status text
+    FileSays (Some image) (OfImage image (λ own number. IsPut fs after image out)) (is_allowed rewriting) Kept fs job status text
 
 -- `sites JOB IMAGE`
 abbrev pub SitesSays : Files → List ℕ → List ℕ → ℕ → List ℕ → Type 0
 SitesSays fs job image status text =
-    FileSays (Some image) (OfImage image (λ own number. AreLines (objects_of own number))) true fs job status text
+    FileSays (Some image) (OfImage image (λ own number. AreLines (objects_of own number))) true Kept fs job status text
 
 -- ---- the files after a command that may put: those before, or those of its output
 abbrev pub Leaves : Option Files → Option Files → (Files → ℕ → List ℕ → Type 0) → Type 0

@@ -5,6 +5,7 @@ use Rattle.command_line.specs.Rewritings.{is_allowed}
 use Rattle.command_replies.specs.declared.fault.CommandFault.{CommandFault}
 use Rattle.command_replies.specs.declared.fault.CommandFault.TheVariants.{Refused}
 use Rattle.command_replies.specs.declared.fault.InputRefusal.TheVariants.{Job}
+use Rattle.job_link.specs.declared.writable.WritableSections.TheVariants.{Kept}
 use Rattle.job_text.specs.declared.fault.JobFault.{JobFault}
 use Rattle.job_text.specs.declared.fault.JobFaultKind.TheVariants.{Name}
 use Rattle.job_text.specs.Images.{image_number}
@@ -37,11 +38,11 @@ Tells (Sites image) job ls status text =
 
 abbrev pub JobTold : Purpose → Rewriting → Files → Result JobParts JobFault → ℕ → List ℕ → Type 0
 JobTold purpose rewriting fs job status text =
-    JobSays (wanted_by purpose) (Tells purpose) (is_allowed rewriting) fs job status text
+    JobSays (wanted_by purpose) (Tells purpose) (is_allowed rewriting) Kept fs job status text
 
 abbrev pub FileTold : Purpose → Rewriting → Files → List ℕ → ℕ → List ℕ → Type 0
 FileTold purpose rewriting fs name status text =
-    FileSays (wanted_by purpose) (Tells purpose) (is_allowed rewriting) fs name status text
+    FileSays (wanted_by purpose) (Tells purpose) (is_allowed rewriting) Kept fs name status text
 
 -- ---- where the image is found
 

@@ -3,6 +3,7 @@
 use Rattle.std.specs.Prelude.{◌≡◌, ℕ, Bool, true, List, map, None}
 use Rattle.command_line.specs.declared.tasks.Rewriting.{Rewriting}
 use Rattle.command_line.specs.Rewritings.{is_allowed}
+use Rattle.job_link.specs.declared.writable.WritableSections.TheVariants.{Kept}
 use Rattle.job_link.specs.Given.{Given}
 use Rattle.job_text.specs.declared.images.Image.{Image}
 use Rattle.job_text.specs.Jobs.{JobParts}
@@ -48,11 +49,11 @@ IsRun telling job ls status text = (status ≡ 0) × IsTold telling job ls text
 -- `run JOB [--no-relax]`
 abbrev pub RunSays : Files → List ℕ → Rewriting → ℕ → List ℕ → Type 0
 RunSays fs name rewriting status text =
-    FileSays None (IsRun Transcript) (is_allowed rewriting) fs name status text
+    FileSays None (IsRun Transcript) (is_allowed rewriting) Kept fs name status text
 
 -- `check JOB`
 abbrev pub CheckSays : Files → List ℕ → ℕ → List ℕ → Type 0
-CheckSays fs name status text = FileSays None VerdictSays true fs name status text
+CheckSays fs name status text = FileSays None VerdictSays true Kept fs name status text
 
 -- the names that they ask for over these files: the job, and then its objects
 abbrev pub run_names : Files → List ℕ → List (List ℕ)

@@ -35,6 +35,17 @@ read_back linked = spelled (written linked.image)
 unfoldable pub modules_of : JobParts → List Linking → JobImages
 modules_of job ls = of_job job (map (λ l. read_back (linked_of l)) ls)
 
+-- the images of a job, as they are read back: those that are written and read are the linked ones
+pub record AreBack (job : JobParts) (all : List LinkedImage) (images : List Spelled) : Type 0 where
+  pub read : images ≡ map read_back all
+  pub again : images ≡ map (λ linked. linked.image) all
+
+-- and the modules that are made of them
+pub record AreModulesBack (job : JobParts) (all : List LinkedImage) (modules : JobImages) : Type 0 where
+  pub images : List Spelled
+  pub back : AreBack job all images
+  pub modules_are : modules ≡ of_job job images
+
 -- ** what is printed
 
 -- all turns of the job's threads, by the machine with its run time, over the bytes of these images

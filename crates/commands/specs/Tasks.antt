@@ -1,4 +1,4 @@
--- What each command says over the files of a store, and which names it asks for.
+-- What each task says over the files of a store, and which names it asks for.
 use Rattle.std.specs.Prelude.{◌≡◌, ℕ, List, [], ◌∷◌, Option}
 use Rattle.command_line.specs.declared.tasks.Task.{Task}
 use Rattle.command_line.specs.declared.tasks.Task.TheVariants.{Run, Check, Link, Sites, Show, Gen}
@@ -13,7 +13,7 @@ use Rattle.commands.specs.Listings.{ListingSays}
 abbrev pub ShowSays : Files → List ℕ → ℕ → List ℕ → Type 0
 ShowSays fs name status text = HasFile (file_at fs name) (λ b. ListingSays b status text)
 
--- what a command says over these files, after which the store's files are so
+-- what a task says over these files, after which the store's files are so
 abbrev pub TaskSays : Files → Option Files → Task → ℕ → List ℕ → Type 0
 TaskSays fs after (Run job rewriting) status text = RunSays fs job rewriting status text
 TaskSays fs after (Check job) status text = CheckSays fs job status text
@@ -22,7 +22,7 @@ TaskSays fs after (Sites job image) status text = SitesSays fs job image status 
 TaskSays fs after (Show file) status text = ShowSays fs file status text
 TaskSays fs after (Gen count) status text = GenSays count status text
 
--- the files after a command: as before, but that `link` may have put the whole image
+-- the files after a task: as before, but that `link` may have put the whole image
 abbrev pub TaskLeaves : Option Files → Option Files → Task → Type 0
 TaskLeaves before after (Run job rewriting) = after ≡ before
 TaskLeaves before after (Check job) = after ≡ before

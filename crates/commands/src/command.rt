@@ -13,17 +13,19 @@ ghost use Rattle.commands.specs.Tasks.{ShowSays, TaskLeaves, TaskSays, task_name
 use crate::generated::generated;
 use crate::links::link;
 use crate::purpose::Purpose;
+use crate::races::raced;
 use crate::telling::Telling;
 use crate::told::told;
-use command_line::{Rewriting, Task};
+use command_line::{Command, Rewriting, Task};
 use command_replies::{Answer, CommandFault, InputRefusal, Reply, Status, reply_of, whole_file};
 use image_file::{Image, ImageFault, read_owned};
 use image_text::push_shown;
 use ports::Store;
 use std::alloc::{AllocError, Global};
+use std::sync::Wait;
 use std::thread::Threads;
 
-/// What a command answers.
+/// What a task answers.
 #[tactic(auto, using(crate::proofs::Asked::asks_all))]
 pub fn answer<R: Threads + Sync, S: Store>(
     rt: &R,
@@ -35,8 +37,9 @@ pub fn answer<R: Threads + Sync, S: Store>(
     ensures files { TaskLeaves (S.files store.old) (S.files store.new) task.now }
     ensures kept { AnswerKeeps (S.files store.old) (S.files store.new) result }
     ensures cause { AnswerCounts (S.faults store.old) (S.faults store.new) result }
-    ensures says { IfSome (S.files store.old) (λ fs. AnswerSays fs (S.files store.new) task.now result) }
-    ensures asks { IfSome (S.files store.old) (λ fs. AsksOfAnswer fs task.now
+    ensures says { IfSome (S.files store.old)
+        (λ fs. AnswerSays fs (S.files store.new) (Command.Plain task.now) result) }
+    ensures asks { IfSome (S.files store.old) (λ fs. AsksOfAnswer fs (Command.Plain task.now)
         (S.asked store.old) (S.asked store.new) result) }
 {
     match output(rt, alloc, task, store) {
@@ -53,7 +56,38 @@ pub fn answer<R: Threads + Sync, S: Store>(
     }
 }
 
-/// What a command puts where nothing is wrong.
+/// What `race` answers of the job in the file of that name.
+#[tactic(auto, using(crate::proofs::Asked::asks_all))]
+pub fn race_answer<R: Threads + Wait + Sync, S: Store>(
+    rt: &R,
+    alloc: Global,
+    job: &str,
+    rewriting: Rewriting,
+    store: &mut S,
+) -> Answer
+    ensures files { S.files store.new ≡ S.files store.old }
+    ensures kept { AnswerKeeps (S.files store.old) (S.files store.new) result }
+    ensures cause { AnswerCounts (S.faults store.old) (S.faults store.new) result }
+    ensures says { IfSome (S.files store.old)
+        (λ fs. AnswerSays fs (S.files store.new) (Command.Race job.now rewriting) result) }
+    ensures asks { IfSome (S.files store.old) (λ fs. AsksOfAnswer fs (Command.Race job.now rewriting)
+        (S.asked store.old) (S.asked store.new) result) }
+{
+    match raced(rt, alloc, store, job, rewriting) {
+        Ok(text) => Answer::Replies(Reply {
+            status: Status::Done,
+            text,
+        }),
+        Err(CommandFault::Store) => Answer::StoreFails,
+        Err(CommandFault::OutOfMemory) => Answer::NoMemory,
+        Err(CommandFault::Refused(refusal)) => match reply_of(alloc, &refusal) {
+            Ok(reply) => Answer::Replies(reply),
+            Err(_) => Answer::NoMemory,
+        },
+    }
+}
+
+/// What a task puts where nothing is wrong.
 #[tactic(auto, using(crate::proofs::Kept::keeps_same))]
 fn output<R: Threads + Sync, S: Store>(
     rt: &R,

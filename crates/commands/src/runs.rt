@@ -9,7 +9,7 @@
 ghost use Rattle.std.specs.Prelude.{◌≡◌, List, All, IfOk, map, true};
 ghost use Rattle.commands.specs.RunJobs.{IsTold};
 ghost use Rattle.commands.specs.InOrder.{AreLinks, IsOfFew};
-ghost use Rattle.commands.specs.Runs.{HasRun, read_back};
+ghost use Rattle.commands.specs.Runs.{AreModulesBack, HasRun, read_back};
 ghost use Rattle.image_file.specs.Spelled.{spelled};
 ghost use Rattle.image_writer.specs.Loadable.{HoldsTls};
 ghost use Rattle.image_writer.specs.Outlined.{outline_of};
@@ -61,15 +61,24 @@ fn run_linked(alloc: Global, job: &Job, all: Vec<Linked>) -> Result<Transcript, 
     ensures images { IfOk result (λ transcript.
         All (λ event. IsImageNumber job.now.images event.image) transcript.events) }
 {
-    images_hold_tls();
-    linked_images_are_modules();
     linked_jobs_print();
     transcripts_tell_their_threads();
     verdict_knows_no_setting();
     let _threads = job.threads();
-    let images = images_again(alloc, all)?;
-    let modules = Modules::new(alloc, job, images)?;
+    let modules = modules_again(alloc, job, all)?;
     run_job(alloc, job, &modules)
+}
+
+/// The modules of a job whose images are linked, each read from the file that is written of it.
+pub fn modules_again(alloc: Global, job: &Job, all: Vec<Linked>) -> Result<Modules, AllocError>
+    requires links { (ls : List Linking) × AreLinks job.now ls × (all.items ≡ map linked_of ls) }
+    ensures back { IfOk result (AreModulesBack job.now all.entry.items) }
+    ensures kinds { IfOk result (λ modules. modules.kinds ≡ map (λ image. image.kind) job.now.images) }
+{
+    images_hold_tls();
+    linked_images_are_modules();
+    let images = images_again(alloc, all)?;
+    Modules::new(alloc, job, images)
 }
 
 /// Whether each image is linked of so few objects that each of their symbols has a number of its own.

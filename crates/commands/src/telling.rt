@@ -1,7 +1,7 @@
 //! What is told of a run.
 
 ghost use Rattle.std.specs.Prelude.{◌≡◌, All, IfOk};
-ghost use Rattle.transcript_text.specs.Texts.{IsImageNumber};
+ghost use Rattle.transcript_text.specs.Texts.{IsImageNumber, transcript_text};
 ghost use Rattle.commands.specs.RunJobs.{told};
 
 use job_text::Job;
@@ -18,6 +18,20 @@ pub enum Telling {
     Summary { count: u32 },
 }
 
+/// The text of a transcript.
+pub fn text_of_transcript(
+    alloc: Global,
+    job: &Job,
+    transcript: &Transcript,
+) -> Result<Vec<u8>, AllocError>
+    requires { All (λ event. IsImageNumber job.now.images event.image) transcript.now.events }
+    ensures { IfOk result (λ text. text.items ≡ transcript_text job.now.images transcript.now) }
+{
+    let mut text = Vec::new(alloc);
+    transcript.text(job, &mut text)?;
+    Ok(text)
+}
+
 impl Telling {
     /// The text of a run, whose images have so many sites.
     pub fn text(
@@ -31,11 +45,7 @@ impl Telling {
         ensures { IfOk result (λ text. text.items ≡ told self job.now.images counts transcript.now) }
     {
         match self {
-            Telling::Transcript => {
-                let mut text = Vec::new(alloc);
-                transcript.text(job, &mut text)?;
-                Ok(text)
-            }
+            Telling::Transcript => text_of_transcript(alloc, job, transcript),
             Telling::Summary { count } => summary(alloc, count, counts, transcript),
         }
     }

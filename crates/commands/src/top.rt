@@ -1,14 +1,14 @@
 //! The top calls, which `main` makes.
 ghost use Rattle.std.specs.Prelude.{◌≢◌, IfSome, None, false, map, string_bytes};
-ghost use Rattle.command_line.specs.Words.{IsInLimits, asked, takes_words};
+ghost use Rattle.command_line.specs.Words.{IsInLimits, IsWithinLimits, asked, takes_words};
 ghost use Rattle.command_replies.specs.Statuses.{FilesShown, UsageShown, StoreShown, SinkShown};
 ghost use Rattle.ports.specs.Files.{untold_files};
 ghost use Rattle.commands.specs.Completes.{Completes, DidNotFail};
 ghost use Rattle.commands.specs.Replies.{Asked, AskedWords, Shows, ShowsWords, WordsLeave};
-ghost use Rattle.commands.specs.Tasks.{TaskLeaves};
+ghost use Rattle.commands.specs.Commands.{CommandLeaves};
 
-use crate::command::answer;
-use command_line::{Task, WordsFault, read_words};
+use crate::command::{answer, race_answer};
+use command_line::{Command, Rewriting, Task, WordsFault, read_words};
 use command_replies::{Status, deliver, say, say_no_memory};
 use ports::{Sink, Store};
 use std::alloc::Global;
@@ -17,7 +17,7 @@ use std::thread::Threads;
 
 /// Reads the words, which hold no program name, and answers the command that they are: puts its output, or the one line
 /// that says why there is none, and gives the status to end with.
-#[tactic(auto, using(crate::proofs::Words::asked_late, crate::proofs::Words::asked_usage, crate::proofs::Words::shows_task, crate::proofs::Words::asked_task, crate::proofs::Words::leave_task, crate::proofs::Words::leave_usage, crate::proofs::Words::leave_late, crate::proofs::Completing::words_complete, crate::proofs::Completing::usage_completes, crate::proofs::Completing::late_completes))]
+#[tactic(auto, using(crate::proofs::Words::asked_late, crate::proofs::Words::asked_usage, crate::proofs::Words::shows_command, crate::proofs::Words::asked_command, crate::proofs::Words::leave_command, crate::proofs::Words::leave_usage, crate::proofs::Words::leave_late, crate::proofs::Completing::words_complete, crate::proofs::Completing::usage_completes, crate::proofs::Completing::late_completes))]
 pub fn tlsld<R: Threads + Wait + Sync, S: Store, K: Sink>(
     rt: &R,
     alloc: Global,
@@ -34,14 +34,42 @@ pub fn tlsld<R: Threads + Wait + Sync, S: Store, K: Sink>(
         (K.view out.old) (K.view out.new) result }
     ensures asked { IfSome (S.files store.old) (λ fs. AskedWords fs (asked (map string_bytes words.now))
         (S.asked store.old) (S.asked store.new) result) }
-    ensures completes { IfSome (S.files store.old) (λ fs. IfSome (asked (map string_bytes words.now)) (λ task.
+    ensures completes { IfSome (S.files store.old) (λ fs. IfSome (asked (map string_bytes words.now)) (λ command.
         DidNotFail (S.faults store.old) (S.faults store.new)
-        → DidNotFail (K.view out.old).faults (K.view out.new).faults → Completes fs task result)) }
+        → DidNotFail (K.view out.old).faults (K.view out.new).faults → Completes fs command result)) }
 {
     match read_words(alloc, words) {
-        Ok(task) => tlsld_plain(rt, alloc, &task, store, out),
+        Ok(command) => command_shown(rt, alloc, &command, store, out),
         Err(WordsFault::Usage) => say_usage(out),
         Err(WordsFault::OutOfMemory) => say_no_memory(out),
+    }
+}
+
+/// Answers a command.
+fn command_shown<R: Threads + Wait + Sync, S: Store, K: Sink>(
+    rt: &R,
+    alloc: Global,
+    command: &Command,
+    store: &mut S,
+    out: &mut K,
+) -> u8
+    requires within { IsWithinLimits command.now }
+    ensures taken { result ≢ 2 }
+    ensures store { StoreShown (S.faults store.old) (S.faults store.new) result }
+    ensures sink { SinkShown (K.view out.old).faults (K.view out.new).faults result }
+    ensures kept { FilesShown (S.files store.old) (S.files store.new) result }
+    ensures files { CommandLeaves (S.files store.old) (S.files store.new) command.now }
+    ensures shows { Shows (S.files store.old) (S.files store.new) command.now (K.view out.old) (K.view out.new) result }
+    ensures asked { IfSome (S.files store.old)
+        (λ fs. Asked fs command.now (S.asked store.old) (S.asked store.new) result) }
+    ensures completes { IfSome (S.files store.old) (λ fs. DidNotFail (S.faults store.old) (S.faults store.new)
+        → DidNotFail (K.view out.old).faults (K.view out.new).faults → Completes fs command.now result) }
+{
+    match command {
+        Command::Plain(task) => tlsld_plain(rt, alloc, task, store, out),
+        Command::Race { job, rewriting } => {
+            race_shown(rt, alloc, job.as_str(), *rewriting, store, out)
+        }
     }
 }
 
@@ -59,14 +87,43 @@ pub fn tlsld_plain<R: Threads + Sync, S: Store, K: Sink>(
     ensures store { StoreShown (S.faults store.old) (S.faults store.new) result }
     ensures sink { SinkShown (K.view out.old).faults (K.view out.new).faults result }
     ensures kept { FilesShown (S.files store.old) (S.files store.new) result }
-    ensures files { TaskLeaves (S.files store.old) (S.files store.new) task.now }
-    ensures shows { Shows (S.files store.old) (S.files store.new) task.now (K.view out.old) (K.view out.new) result }
+    ensures files { CommandLeaves (S.files store.old) (S.files store.new) (Command.Plain task.now) }
+    ensures shows { Shows (S.files store.old) (S.files store.new) (Command.Plain task.now)
+        (K.view out.old) (K.view out.new) result }
     ensures asked { IfSome (S.files store.old)
-        (λ fs. Asked fs task.now (S.asked store.old) (S.asked store.new) result) }
+        (λ fs. Asked fs (Command.Plain task.now) (S.asked store.old) (S.asked store.new) result) }
     ensures completes { IfSome (S.files store.old) (λ fs. DidNotFail (S.faults store.old) (S.faults store.new)
-        → DidNotFail (K.view out.old).faults (K.view out.new).faults → Completes fs task.now result) }
+        → DidNotFail (K.view out.old).faults (K.view out.new).faults
+        → Completes fs (Command.Plain task.now) result) }
 {
     let answer = answer(rt, alloc, task, store);
+    deliver(out, &answer)
+}
+
+/// Answers `race`, whose threads wait for one another.
+#[tactic(auto, using(crate::proofs::Kept::answer_kept))]
+fn race_shown<R: Threads + Wait + Sync, S: Store, K: Sink>(
+    rt: &R,
+    alloc: Global,
+    job: &str,
+    rewriting: Rewriting,
+    store: &mut S,
+    out: &mut K,
+) -> u8
+    ensures taken { result ≢ 2 }
+    ensures store { StoreShown (S.faults store.old) (S.faults store.new) result }
+    ensures sink { SinkShown (K.view out.old).faults (K.view out.new).faults result }
+    ensures kept { FilesShown (S.files store.old) (S.files store.new) result }
+    ensures files { CommandLeaves (S.files store.old) (S.files store.new) (Command.Race job.now rewriting) }
+    ensures shows { Shows (S.files store.old) (S.files store.new) (Command.Race job.now rewriting)
+        (K.view out.old) (K.view out.new) result }
+    ensures asked { IfSome (S.files store.old)
+        (λ fs. Asked fs (Command.Race job.now rewriting) (S.asked store.old) (S.asked store.new) result) }
+    ensures completes { IfSome (S.files store.old) (λ fs. DidNotFail (S.faults store.old) (S.faults store.new)
+        → DidNotFail (K.view out.old).faults (K.view out.new).faults
+        → Completes fs (Command.Race job.now rewriting) result) }
+{
+    let answer = race_answer(rt, alloc, job, rewriting, store);
     deliver(out, &answer)
 }
 

@@ -25,7 +25,7 @@ returns-in-Ok-clause-ok c =
     let none : fault_of tool_app words ≡ [] = ap (λ a. fault_of a words) (sym app_is) ∙ c.in-Ok.ensures.kinds (ap is_simple_and_free app_is ∙ free) in
     let found : subcommand_rows_of c.in-Ok.matches ≡ subcommand_of tool_app words =
     (c.in-Ok.ensures.matches (ap is_simple app_is ∙ simple)).1 ∙ ap (λ a. subcommand_of a words) app_is in
-    IfOk-weaker c.task_of_matches.result _ _ (λ task h. asked_found words _ task none found h) c.task_of_matches.ensures.ok
+    IfOk-weaker c.command_of_matches.result _ _ (λ command h. asked_found words _ command none found h) c.command_of_matches.ensures.ok
 
 pub returns-in-Ok-clause-taken : goal.returns-in-Ok-clause-taken
 returns-in-Ok-clause-taken c =
@@ -34,7 +34,7 @@ returns-in-Ok-clause-taken c =
     let none : fault_of tool_app words ≡ [] = ap (λ a. fault_of a words) (sym app_is) ∙ c.in-Ok.ensures.kinds (ap is_simple_and_free app_is ∙ free) in
     let found : subcommand_rows_of c.in-Ok.matches ≡ subcommand_of tool_app words =
     (c.in-Ok.ensures.matches (ap is_simple app_is ∙ simple)).1 ∙ ap (λ a. subcommand_of a words) app_is in
-    IfOk-weaker c.task_of_matches.result _ _ (λ task h. taken_words words _ task none found h) c.task_of_matches.ensures.ok
+    IfOk-weaker c.command_of_matches.result _ _ (λ command h. taken_words words _ command none found h) c.command_of_matches.ensures.ok
 
 pub returns-in-Ok-clause-usage : goal.returns-in-Ok-clause-usage
 returns-in-Ok-clause-usage c =
@@ -43,7 +43,7 @@ returns-in-Ok-clause-usage c =
     let none : fault_of tool_app words ≡ [] = ap (λ a. fault_of a words) (sym app_is) ∙ c.in-Ok.ensures.kinds (ap is_simple_and_free app_is ∙ free) in
     let found : subcommand_rows_of c.in-Ok.matches ≡ subcommand_of tool_app words =
     (c.in-Ok.ensures.matches (ap is_simple app_is ∙ simple)).1 ∙ ap (λ a. subcommand_of a words) app_is in
-    λ usage. no_words words _ none found (c.task_of_matches.ensures.usage usage)
+    λ usage. no_words words _ none found (c.command_of_matches.ensures.usage usage)
 
 pub returns-clause-usage : goal.returns-clause-usage
 returns-clause-usage c =

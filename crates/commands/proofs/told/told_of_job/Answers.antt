@@ -1,6 +1,7 @@
 use Rattle.std.proofs.Common.{Bool, Ok, sym, subst}
 use Rattle.command_line.specs.Rewritings.{is_allowed}
 use Rattle.command_replies.specs.Steps.{Asks}
+use Rattle.job_link.specs.declared.writable.WritableSections.TheVariants.{Kept}
 use Rattle.commands.specs.Jobs.{ObjectsSay, has, named_objects}
 use Rattle.commands.specs.Purposes.{JobTold, Makes, Tells, wanted_by}
 use Rattle.commands.proofs.Found.{has_found, tells_found}
@@ -13,8 +14,8 @@ returns-in-Ok-clause-says g c =
     let job = c.args.job.now in
     let ending = c.in-Ok.ending in
     let relax = is_allowed c.args.rewriting in
-    says_by (g.S.Store.files c.args.store.now) (λ fs. ObjectsSay (Makes ending) relax fs job) (λ fs. JobTold purpose c.args.rewriting fs (Ok job)) c.told_of_objects.result
-    (λ fs e. objects_named (Makes ending) (Tells purpose) relax fs job (has job (wanted_by purpose)) (has_found purpose job ending c.in-Ok.ensures.ending)
+    says_by (g.S.Store.files c.args.store.now) (λ fs. ObjectsSay (Makes ending) relax Kept fs job) (λ fs. JobTold purpose c.args.rewriting fs (Ok job)) c.told_of_objects.result
+    (λ fs e. objects_named (Makes ending) (Tells purpose) relax Kept fs job (has job (wanted_by purpose)) (has_found purpose job ending c.in-Ok.ensures.ending)
     (tells_found purpose job ending c.in-Ok.ensures.ending))
     c.told_of_objects.ensures.says
 

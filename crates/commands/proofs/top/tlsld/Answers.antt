@@ -16,5 +16,5 @@ returns-in-Err-Usage-clause-completes g c =
 
 pub returns-in-Ok-clause-completes : goal.returns-in-Ok-clause-completes
 returns-in-Ok-clause-completes g c =
-    words_complete (g.S.Store.files c.args.store.now) (map string_bytes c.args.words.now) _ _ _ _ _ c.tlsld_plain.result
-    c.in-Ok.ensures.ok c.tlsld_plain.ensures.completes
+    words_complete (g.S.Store.files c.args.store.now) (map string_bytes c.args.words.now) _ _ _ _ _ c.command_shown.result
+    c.in-Ok.ensures.ok c.command_shown.ensures.completes

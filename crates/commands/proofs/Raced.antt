@@ -1,0 +1,116 @@
+-- What threads that ran at once say: the machine's lines, and where a thread is clean what it means.
+use Rattle.std.proofs.Common.{◌≡◌, ◌∙◌, ◌≤◌, ℕ, zero, suc, false, List, All, Vec, Global, [], ◌∷◌, length, map, Some, None, ◌⊎◌, inl, inr, Result, Ok, Err, IfOk, refl, sym, ap, subst, arith}
+use Rattle.std.specs.Prelude.{take}
+use Rattle.std.proofs.lemmas.Option.{slice_get_within}
+use Rattle.begin_alike.proofs.Printed.{verdict_clean}
+use Rattle.begin_alike.specs.Laws.{meant_thread}
+use Rattle.image_file.specs.Spelled.{Spelled}
+use Rattle.job_text.specs.declared.thread_lines.ThreadLine.{ThreadLine}
+use Rattle.job_text.specs.Jobs.{JobParts}
+use Rattle.job_turns.specs.Alone.{has_data}
+use Rattle.lawful_points.specs.Laws.{RacersAreInHistory, RacersPrintTheirPoints}
+use Rattle.lawful_points.specs.Printed.{printed_points}
+use Rattle.lawful_points.specs.Raced.{IsRacer, raced_of}
+use Rattle.link_core.specs.Images.{LinkedImage, linked_of}
+use Rattle.link_needs.specs.Linking.{Linking}
+use Rattle.linked_jobs.specs.Laws.{LinkedThreadsPrint}
+use Rattle.linked_modules.specs.Dataless.{DatalessObjectsShareNoData, IsOfDataless}
+use Rattle.loaded_bytes.specs.Laws.{images_of}
+use Rattle.loaded_modules.specs.Given.{of_job}
+use Rattle.loaded_modules.specs.Images.{JobImages}
+use Rattle.module_table.specs.declared.events.Event.{Event}
+use Rattle.thread_blocks.specs.JobLoads.{job_loads}
+use Rattle.thread_blocks.specs.Lines.{Line}
+use Rattle.thread_blocks.specs.MachineTurns.{shown}
+use Rattle.thread_blocks.specs.Turns.{Thread, at_number}
+use Rattle.thread_blocks.specs.TurnsAlike.{HasUnclean}
+use Rattle.transcript_text.specs.declared.outcomes.Line.{Line as ShownLine}
+use Rattle.transcript_text.specs.Texts.{Shown, transcript_text}
+use Rattle.whole_meaning.specs.Jobs.{verdict_of}
+use Rattle.whole_meaning.specs.Loads.{meaning_of}
+use Rattle.whole_meaning.specs.Threads.{Meant}
+use Rattle.commands.specs.InOrder.{AreLinks}
+use Rattle.commands.specs.Races.{AreRaced, HasRace, IsRaceTold}
+use Rattle.commands.specs.Runs.{AreModulesBack, IsMeant, meant_lines, modules_of}
+use Rattle.commands.proofs.Transcribed.{images_are, modules_are, modules_linked}
+
+-- ** threads
+
+-- they are numbered from 1
+some_thread : {X : Type 0} (xs : List X) (n : ℕ) (x : X) → at_number xs n ≡ Some x → 1 ≤ n
+some_thread xs zero x e = cc
+some_thread xs (suc i) x e = omega arith
+
+few_threads : {X : Type 0} (xs : List X) (n : ℕ) (x : X) → at_number xs n ≡ Some x → length xs ≤ 64 → n ≤ 64
+few_threads xs zero x e few = omega arith
+few_threads xs (suc i) x e few = let below = slice_get_within xs i x e in omega (arith, below, few)
+
+-- the verdict on one thread alone
+alone_clean : (t : Thread Meant Line Event) → verdict_of (t.said ∷ []) ≡ None → HasUnclean t.said → ⊥
+alone_clean t clean = verdict_clean (t ∷ []) clean zero t refl
+
+-- of two answers the second, where the first is none
+second_of : {A B : Type 0} → (A → ⊥) → A ⊎ B → B
+second_of none (inl a) = absurd (none a)
+second_of none (inr b) = b
+
+-- ** a job
+
+module _ (threads : LinkedThreadsPrint) (fronts : RacersAreInHistory) (print : RacersPrintTheirPoints) (job : JobParts) (few : length job.lines ≤ 64) (ls : List Linking) (links : AreLinks job ls) where
+  -- a clean thread of it has its meaning's lines
+  thread_told : (transcript : Shown) → AreRaced (images_of ls) job transcript
+      → (thread : ℕ) (own : List ThreadLine) (said : List ShownLine) → at_number job.lines thread ≡ Some own
+      → at_number transcript.threads thread ≡ Some said → IsMeant said (meant_lines job ls transcript thread own said)
+  thread_told transcript ran thread own said is_own is_said clean =
+      let racer = ran.raced.each thread own said is_own is_said in
+      let within = fronts (job_loads (images_of ls)) job.fuel thread own transcript.events said racer in
+      let either =
+      threads ls transcript.events links.links.ready ran.legal job.fuel thread (some_thread job.lines thread own is_own)
+      (few_threads job.lines thread own is_own few) own racer.points within in
+      told_at racer (subst (λ (at : List (List Event)). HasUnclean (meant_thread (meaning_of ls) job.fuel thread own at).said
+      ⊎ ((raced_of (job_loads (images_of ls)) job.fuel thread own racer.points).said
+      ≡ (meant_thread (meaning_of ls) job.fuel thread own at).said))
+      (sym (print (job_loads (images_of ls)) job.fuel thread own transcript.events said racer)) either)
+    where
+      meant : Thread Meant Line Event
+      meant = meant_thread (meaning_of ls) job.fuel thread own (map (λ (number : ℕ). take number transcript.events) (printed_points said))
+
+      told_at : (racer : IsRacer (job_loads (images_of ls)) job.fuel thread own transcript.events said)
+          → HasUnclean meant.said ⊎ ((raced_of (job_loads (images_of ls)) job.fuel thread own racer.points).said ≡ meant.said)
+          → map Some said ≡ map shown meant.said
+      told_at racer either = racer.lines ∙ ap (map shown) (second_of (alone_clean meant clean) either)
+
+  has_race : (all : List LinkedImage) → all ≡ map linked_of ls → (m : JobImages) → AreModulesBack job all m
+      → (transcript : Shown) → AreRaced m job transcript → HasRace job ls transcript
+  has_race all all_is m made transcript ran = record {
+    ran =
+        subst (λ (n : JobImages). AreRaced n job transcript)
+        (made.modules_are ∙ modules_are job ls links all all_is made.images made.back) ran;
+    thread_is =
+        thread_told transcript
+        (subst (λ (n : JobImages). AreRaced n job transcript)
+        (made.modules_are ∙ modules_linked job ls links all all_is made.images made.back) ran);
+  }
+
+-- what its threads answer
+pub raced : {E : Type 0} → LinkedThreadsPrint → RacersAreInHistory → RacersPrintTheirPoints → (job : JobParts) → length job.lines ≤ 64
+    → (all : List LinkedImage) (m : JobImages) → AreModulesBack job all m → (r : Result Shown E) → IfOk r (AreRaced m job)
+    → IfOk r (λ transcript. (ls : List Linking) → AreLinks job ls → all ≡ map linked_of ls → HasRace job ls transcript)
+raced threads fronts print job few all m made (Ok transcript) ran =
+    λ ls links all_is. has_race threads fronts print job few ls links all all_is m made transcript ran
+raced threads fronts print job few all m made (Err e) ran = tt
+
+-- and their text
+pub race_told : {E : Type 0} (job : JobParts) (ls : List Linking) (transcript : Shown) → HasRace job ls transcript → (r : Result (Vec ℕ Global) E)
+    → IfOk r (λ text. text.items ≡ transcript_text job.images transcript) → IfOk r (λ text. IsRaceTold job ls text.items)
+race_told job ls transcript ran (Ok text) is = record { transcript = transcript; ran = ran; told_is = is }
+race_told job ls transcript ran (Err e) is = tt
+
+-- ** the images of objects with no data for programs to write have none
+
+pub shares_none : DatalessObjectsShareNoData → (job : JobParts) (ls : List Linking) (links : AreLinks job ls) → All IsOfDataless ls
+    → (all : List LinkedImage) → all ≡ map linked_of ls → (m : JobImages) → AreModulesBack job all m → has_data m ≡ false
+unfolding has_data
+shares_none law job ls links dataless all all_is m made =
+    ap has_data (made.modules_are ∙ ap (of_job job) (images_are job ls links all all_is made.images made.back))
+    ∙ (law ls dataless).parts
