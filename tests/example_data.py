@@ -38,6 +38,7 @@ def runs_of(job, files):
     """What is run of a job, by the names of the files beside it: a status, a file with what is printed, and words."""
     end = job[len("job"):]
     transcript, refusal, verdict = f"transcript{end}", f"refusal{end}", f"verdict{end}"
+    raced = f"raced{end}"
     if transcript in files:
         kept = f"{transcript}.kept"
         for expected, setting in zip((transcript, kept if kept in files else transcript), SETTINGS):
@@ -45,6 +46,9 @@ def runs_of(job, files):
     for name in sorted(files):
         if name.startswith(f"sites{end}."):
             yield 0, name, ["sites", job, name[len(f"sites{end}."):]]
+    if raced in files:
+        for setting in SETTINGS:
+            yield 0, raced, ["race", job, *setting]
     if refusal in files:
         for setting in SETTINGS:
             yield refusal_status(files[refusal]), refusal, ["run", job, *setting]

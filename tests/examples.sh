@@ -8,6 +8,7 @@
 #
 #     transcript       what `run` prints, with and without --no-relax
 #     transcript.kept  what it prints with --no-relax, where that differs
+#     raced            what `race` prints, with and without --no-relax, where that hangs on no thread's pace
 #     sites.IMAGE      what `sites` prints of that image
 #     verdict          what `check` prints
 #     refusal          the line that `run` ends with, and `link`, with and without --no-relax
@@ -60,6 +61,10 @@ runs() {
     for sites in sites"$end".*; do
         [ ! -f "$sites" ] || holds "$sites" 0 sites "$job" "${sites#sites"$end".}"
     done
+    if [ -f "raced$end" ]; then
+        holds "raced$end" 0 race "$job"
+        holds "raced$end" 0 race "$job" --no-relax
+    fi
     if [ -f "refusal$end" ]; then
         ends=$(refusal_status "refusal$end")
         holds "refusal$end" "$ends" run "$job"

@@ -26,7 +26,7 @@ impl Rewriting {
     }
 }
 
-/// What a user asks for that no two threads of a job run for at once, with the values of the command's words.
+/// What a user asks for of a command that waits for nobody, with the values of its words.
 #[derive(Drop)]
 pub enum Task {
     /// `run JOB [--no-relax]`: link the images of the job, run its threads, and print what they did.

@@ -1,6 +1,7 @@
 //! The last step of a command about a job: what it does with images that all link.
 
 ghost use Rattle.std.specs.Prelude.{◌≡◌, ℕ, List, All};
+ghost use Rattle.std.specs.Thread.{IsSync};
 ghost use Rattle.command_replies.specs.Faults.{NoStoreFault};
 ghost use Rattle.command_replies.specs.Steps.{Comes};
 ghost use Rattle.commands.specs.InOrder.{AreLinked};
@@ -40,6 +41,7 @@ pub(crate) trait LastStep<R> {
         images: &[ImageObjects],
         ready: Vec<ReadyLink>,
     ) -> Result<Vec<u8>, CommandFault>
+        requires sync { IsSync R.row }
         requires linked { AreLinked job.now images.now ready.items }
         requires allowed { All (λ image. All (Allows (asks self.now)) image.objects) images.now }
         requires within { within self.now job.now }

@@ -1,5 +1,5 @@
 //! The words of each kind that users write, and what they ask for.
-use command_line::{Rewriting, Task, WordsFault, read_words};
+use command_line::{Command, Rewriting, Task, WordsFault, read_words};
 use std::alloc::{AllocError, Global};
 use std::process::Abort;
 use std::test::Fail;
@@ -17,6 +17,10 @@ run --no-relax allowed|run|--|--no-relax
 run -- allowed|run|--|--
 run -x off|run|--no-relax|--|-x
 run run allowed|run|run
+race job allowed|race|job
+race job off|race|job|--no-relax
+race - off|race|--no-relax|-
+race race allowed|race|race
 link job app out allowed|link|job|app|out
 link a b c off|link|--no-relax|a|b|c
 link a b c off|link|a|--no-relax|b|c
@@ -59,6 +63,10 @@ usage|help|run
 usage|--help
 usage|run|job|--help
 usage|-h
+usage|race
+usage|race|job|more
+usage|race|job|--help
+usage|rac|job
 usage|link
 usage|link|a|b
 usage|link|a|b|c|d
@@ -115,22 +123,20 @@ fn shown(rewriting: Rewriting) -> &'static str {
     }
 }
 
-/// What is asked for, as a case writes it.
-fn told(alloc: Global, task: Result<Task, WordsFault>) -> Result<String, AllocError> {
+/// A task, as a case writes it.
+fn task_told(alloc: Global, task: Task) -> Result<String, AllocError> {
     match task {
-        Ok(Task::Run { job, rewriting }) => format!(in alloc;
+        Task::Run { job, rewriting } => format!(in alloc;
             "run {} {}",
             job.as_str(),
             shown(rewriting)
         ),
-        Ok(
-            Task::Link {
-                job,
-                image,
-                out,
-                rewriting,
-            },
-        ) => {
+        Task::Link {
+            job,
+            image,
+            out,
+            rewriting,
+        } => {
             format!(in alloc;
                 "link {} {} {} {}",
                 job.as_str(),
@@ -139,14 +145,26 @@ fn told(alloc: Global, task: Result<Task, WordsFault>) -> Result<String, AllocEr
                 shown(rewriting)
             )
         }
-        Ok(Task::Sites { job, image }) => format!(in alloc;
+        Task::Sites { job, image } => format!(in alloc;
             "sites {} {}",
             job.as_str(),
             image.as_str()
         ),
-        Ok(Task::Show { file }) => format!(in alloc; "show {}", file.as_str()),
-        Ok(Task::Check { job }) => format!(in alloc; "check {}", job.as_str()),
-        Ok(Task::Gen { count }) => format!(in alloc; "gen {count}"),
+        Task::Show { file } => format!(in alloc; "show {}", file.as_str()),
+        Task::Check { job } => format!(in alloc; "check {}", job.as_str()),
+        Task::Gen { count } => format!(in alloc; "gen {count}"),
+    }
+}
+
+/// What is asked for, as a case writes it.
+fn told(alloc: Global, command: Result<Command, WordsFault>) -> Result<String, AllocError> {
+    match command {
+        Ok(Command::Plain(task)) => task_told(alloc, task),
+        Ok(Command::Race { job, rewriting }) => format!(in alloc;
+            "race {} {}",
+            job.as_str(),
+            shown(rewriting)
+        ),
         Err(fault) => format!(in alloc; "{fault}"),
     }
 }
@@ -169,7 +187,7 @@ fn check(rt: &impl Abort, alloc: Global, line: &str) -> Result<(), AllocError> {
 }
 
 #[test]
-fn words_ask_for_tasks(rt: HostRuntime) -> Result<(), Fail> {
+fn words_ask_for_commands(rt: HostRuntime) -> Result<(), Fail> {
     for line in CASES.lines() {
         check(&rt, rt.alloc(), line)?;
     }
