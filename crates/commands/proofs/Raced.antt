@@ -10,15 +10,18 @@ use Rattle.job_text.specs.Jobs.{JobParts}
 use Rattle.job_turns.specs.Alone.{has_data}
 use Rattle.lawful_points.specs.Laws.{RacersAreInHistory, RacersPrintTheirPoints}
 use Rattle.lawful_points.specs.Printed.{printed_points}
-use Rattle.lawful_points.specs.Raced.{IsRacer, raced_of}
+use Rattle.lawful_points.specs.Raced.{IsRaced, IsRacer, raced_of}
 use Rattle.link_core.specs.Images.{LinkedImage, linked_of}
 use Rattle.link_needs.specs.Linking.{Linking}
 use Rattle.linked_jobs.specs.Laws.{LinkedThreadsPrint}
 use Rattle.linked_modules.specs.Dataless.{DatalessObjectsShareNoData, IsOfDataless}
 use Rattle.loaded_bytes.specs.Laws.{images_of}
 use Rattle.loaded_modules.specs.Given.{of_job}
-use Rattle.loaded_modules.specs.Images.{JobImages}
+use Rattle.loaded_modules.specs.Images.{JobImages, infos, last_offset}
 use Rattle.module_table.specs.declared.events.Event.{Event}
+use Rattle.module_table.specs.History.{History, IsLegal}
+use Rattle.shared_modules.specs.declared.board.Images.{Images}
+use Rattle.shared_modules.specs.Views.{all_threads, images_of}
 use Rattle.thread_blocks.specs.JobLoads.{job_loads}
 use Rattle.thread_blocks.specs.Lines.{Line}
 use Rattle.thread_blocks.specs.MachineTurns.{shown}
@@ -105,6 +108,25 @@ pub race_told : {E : Type 0} (job : JobParts) (ls : List Linking) (transcript : 
     → IfOk r (λ text. text.items ≡ transcript_text job.images transcript) → IfOk r (λ text. IsRaceTold job ls text.items)
 race_told job ls transcript ran (Ok text) is = record { transcript = transcript; ran = ran; told_is = is }
 race_told job ls transcript ran (Err e) is = tt
+
+-- ** the history that they shared
+
+-- a pass of all threads
+pub all_of_them : (threads : List ℕ) → threads ≡ all_threads → length threads ≡ 64
+unfolding all_threads
+all_of_them threads is = ap length is
+
+-- what ran is told by the history that was closed in the end
+pub are_raced : {E : Type 0} (m : JobImages) (job : JobParts) (h : History) → images_of h ≡ record { infos = infos m; last_offset = last_offset m }
+    → IsLegal h.infos h.last_offset h.events → (seen : List Event) → h.events ≡ seen → (r : Result Shown E)
+    → IfOk r (IsRaced (job_loads m) job.fuel job.lines) → IfOk r (λ shown. shown.events ≡ seen) → IfOk r (AreRaced m job)
+are_raced m job h images_are legal seen events_are (Ok shown) raced history = record {
+  legal =
+      subst (λ (es : List Event). IsLegal (infos m) (last_offset m) es) (events_are ∙ sym history)
+      (subst (λ (own : Images). IsLegal own.infos own.last_offset h.events) images_are legal);
+  raced = raced;
+}
+are_raced m job h images_are legal seen events_are (Err e) raced history = tt
 
 -- ** the images of objects with no data for programs to write have none
 

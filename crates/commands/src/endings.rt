@@ -13,48 +13,21 @@ ghost use Rattle.link_core.specs.Faults.{Links};
 ghost use Rattle.link_needs.specs.Given.{IsGiven};
 
 use crate::checks::verdict_line;
-use crate::last_step::LastStep;
 use crate::purpose::Ending;
 use crate::runs::{are_of_few, told_run};
 use crate::site_lines::image_lines;
 use crate::telling::Telling;
 use command_replies::CommandFault;
 use image_writer::into_file;
-use job_link::{ImageObjects, WritableSections};
+use job_link::ImageObjects;
 use job_text::Job;
 use link_core::ReadyLink;
 use link_core::laws::images_hold_tls;
 use std::alloc::{AllocError, Global};
 use std::thread::Threads;
 
-impl<R: Threads + Sync> LastStep<R> for Ending {
-    ghost use Rattle.job_link.specs.declared.writable.WritableSections.TheVariants.{Kept};
-    ghost use Rattle.commands.specs.Purposes.{IsWithin, Makes};
-
-    ghost asks = { λ ending. Kept };
-
-    ghost within = { IsWithin };
-
-    ghost makes = { Makes };
-
-    fn writable(&self) -> WritableSections {
-        WritableSections::Kept
-    }
-
-    fn finish(
-        &self,
-        rt: &R,
-        alloc: Global,
-        job: &Job,
-        images: &[ImageObjects],
-        ready: Vec<ReadyLink>,
-    ) -> Result<Vec<u8>, CommandFault> {
-        ended(rt, alloc, job, images, ready, *self)
-    }
-}
-
 /// What is told of a job whose images are ready.
-fn ended<R: Threads + Sync>(
+pub fn ended<R: Threads + Sync>(
     rt: &R,
     alloc: Global,
     job: &Job,

@@ -5,6 +5,7 @@
 ghost use Rattle.std.specs.Prelude.{◌≡◌, ◌≤◌, IfOk, map, true};
 ghost use Rattle.command_replies.specs.Faults.{NoStoreFault};
 ghost use Rattle.command_replies.specs.Steps.{Comes};
+ghost use Rattle.job_link.specs.declared.writable.WritableSections.TheVariants.{Kept};
 ghost use Rattle.job_link.specs.Mentions.{bytes_in};
 ghost use Rattle.generated_job.specs.Generated.{generated_files};
 ghost use Rattle.commands.specs.InOrder.{AreInOrder};
@@ -22,7 +23,7 @@ use generated_job::{GeneratedFile, generated_objects, generated_text};
 use generated_laws::links::generated_objects_link;
 use generated_laws::objects::generated_objects_are_faultless;
 use generated_laws::texts::generated_texts_are_jobs;
-use job_link::{Files, WritableSections};
+use job_link::Files;
 use job_text::Job;
 use std::alloc::{AllocError, Global};
 use std::thread::Threads;
@@ -60,13 +61,13 @@ fn run_generated<R: Threads + Sync>(
     requires few { count ≤ 1000 }
     requires order { AreInOrder (map (λ image. image.kind) job.now.images) }
     ensures says { Comes (λ text. text.items)
-        (BytesSay (IsRun (Telling.Summary count)) true WritableSections.Kept (bytes_in (generated_files count)) job.now) result }
+        (BytesSay (IsRun (Telling.Summary count)) true Kept (bytes_in (generated_files count)) job.now) result }
     ensures cause { NoStoreFault result }
 {
     let objects = generated_objects(alloc, count)?;
     let files = files_of(alloc, objects.as_slice())?;
     let ending = Ending::Run(Telling::Summary { count });
-    told_of_files(rt, alloc, job, &files, Rewriting::Allowed, &ending)
+    told_of_files(rt, alloc, job, &files, Rewriting::Allowed, ending)
 }
 
 /// These files, as if they were fetched.

@@ -20,6 +20,8 @@
 //! the transcript; `check` (`checks`) says whether what they do is in the objects alone, or hangs on what a linker
 //! chooses; `sites` (`site_lines`) tells what stands in the place of each sequence; and `link` (`links`) writes its image
 //! alone, and puts the file into the store, whole. `gen` (`generated`) is `run` of a job that is made and not fetched.
+//! `race` (`races`) is `run` with no order: each thread of the job in a thread of its own (`race_runs`). It alone may wait,
+//! so its steps and its answer stand beside those of the others, who are tasks.
 //!
 //! `run` and `check` are tied: where `check` says `clean`, what `run` prints is what the objects mean, event by event and
 //! line by line, whether sequences were rewritten or not (`specs/Runs`, `HasRun`, by the laws of `linked_jobs`).
@@ -40,10 +42,10 @@ mod checks;
 mod command;
 mod endings;
 mod generated;
-mod last_step;
 mod laws;
 mod links;
 mod purpose;
+mod race_runs;
 mod races;
 mod runs;
 mod site_lines;

@@ -1,86 +1,41 @@
 //! `race`: what a job's threads say that really run.
 //!
-//! The steps up to images that all link are those of `run`, but that objects may have no data for programs to write:
-//! threads that run at once would all write the same bytes. What threads share then is one history of opens and closes.
-//! Each thread runs in a thread of its own (`job_race`) over the images that were written and read back, and the
-//! transcript ends with the history that came of it. The job's `order` lines are read, and mean nothing here.
-//!
-//! Two runs may print different transcripts. What holds of each is `HasRace`: each thread's lines are the machine's at
-//! the points that they print, which are lawful, and where the thread is clean by itself they are its meaning's. That a
-//! thread gets on at all is no clause: threads wait for one another.
-ghost use Rattle.std.specs.Prelude.{◌≡◌, List, All, IfOk, IfSome, None, false, map};
+//! The steps up to images that all link are those of `run` (`told`), but that objects may have no data for programs to
+//! write: threads that run at once would all write the same bytes. They stand here once more, since whoever calls those of
+//! `run` gives no leave to wait. The job's `order` lines are read, and mean nothing here. How the threads run is in
+//! `race_runs`.
+ghost use Rattle.std.specs.Prelude.{◌≡◌, ℕ, List, All, IfSome, None, map};
 ghost use Rattle.command_line.specs.Rewritings.{is_allowed};
-ghost use Rattle.command_replies.specs.Faults.{NoStoreFault, StoreCounts};
+ghost use Rattle.command_replies.specs.Faults.{KeepsFiles, NoStoreFault, StoreCounts};
 ghost use Rattle.command_replies.specs.Steps.{Asks, Comes};
-ghost use Rattle.commands.specs.InOrder.{AreLinks};
-ghost use Rattle.commands.specs.Jobs.{JobSays, asked_names, job_names};
-ghost use Rattle.commands.specs.Races.{AreRaced, HasRace, IsRace, IsRaceTold, RaceSays};
+ghost use Rattle.commands.specs.InOrder.{AreInOrder, AreLinked};
+ghost use Rattle.commands.specs.Jobs.{BytesSay, ImagesSay, JobSays, ObjectsSay, asked_names, job_names};
+ghost use Rattle.commands.specs.Races.{IsRace, RaceSays};
 ghost use Rattle.job_link.specs.declared.writable.WritableSections.TheVariants.{Refused};
+ghost use Rattle.job_link.specs.Given.{Allows, AreGiven};
+ghost use Rattle.job_link.specs.Mentions.{bytes_in, object_names};
 ghost use Rattle.job_text.specs.Jobs.{job_of as job_of_text};
-ghost use Rattle.job_turns.specs.Alone.{has_data};
-ghost use Rattle.link_core.specs.Images.{linked_of};
-ghost use Rattle.link_needs.specs.Linking.{Linking};
-ghost use Rattle.linked_modules.specs.Dataless.{IsOfDataless};
-ghost use Rattle.transcript_text.specs.Texts.{IsImageNumber};
+ghost use Rattle.loaded_bytes.specs.Small.{AreBytes};
 
-use crate::last_step::LastStep;
 use crate::laws::images_are_in_order;
-use crate::runs::{are_of_few, modules_again};
-use crate::telling::text_of_transcript;
-use crate::told::told_of_objects;
+use crate::race_runs::told_race;
+use crate::runs::are_of_few;
+use crate::unlinked::{unlinked, unread};
 use command_line::Rewriting;
 use command_replies::{CommandFault, job_of, whole_file};
-use job_link::{ImageObjects, WritableSections, write_images};
-use job_race::race_job;
+use job_link::{
+    Files, ImageObjects, WritableSections, fetch_objects, prepare_images, read_objects,
+    startup_exports,
+};
 use job_text::Job;
-use lawful_points::laws::{racers_are_in_history, racers_print_their_points};
-use link_core::{Linked, ReadyLink};
-use linked_jobs::linked_threads_print;
-use linked_modules::laws::dataless_objects_share_no_data;
-use loaded_modules::Modules;
-use module_table::Registry;
+use link_core::ReadyLink;
 use ports::Store;
-use racing_thread::NoGate;
-use shared_modules::Shared;
-use std::alloc::{AllocError, Global};
+use std::alloc::Global;
 use std::sync::Wait;
 use std::thread::Threads;
-use transcript_text::Transcript;
-
-/// The last step of `race`: all threads run at once, and their transcript is told.
-struct Race;
-
-impl<R: Threads + Wait + Sync> LastStep<R> for Race {
-    ghost use Rattle.job_link.specs.declared.writable.WritableSections.TheVariants.{Refused};
-    ghost use Rattle.commands.specs.Races.{IsRace};
-
-    ghost asks = { λ race. Refused };
-
-    ghost within = { λ race job. Unit {0} };
-
-    ghost makes = { λ race. IsRace };
-
-    fn writable(&self) -> WritableSections {
-        WritableSections::Refused
-    }
-
-    fn finish(
-        &self,
-        rt: &R,
-        alloc: Global,
-        job: &Job,
-        images: &[ImageObjects],
-        ready: Vec<ReadyLink>,
-    ) -> Result<Vec<u8>, CommandFault> {
-        if are_of_few(images) {
-            Ok(told_race(rt, alloc, job, ready)?)
-        } else {
-            Err(CommandFault::OutOfMemory)
-        }
-    }
-}
 
 /// `race JOB [--no-relax]`: what the job's threads say that run at once, each in a thread of its own.
+#[tactic(auto, using(crate::proofs::Kept::keeps_same))]
 pub fn raced<R: Threads + Wait + Sync, S: Store>(
     rt: &R,
     alloc: Global,
@@ -92,6 +47,7 @@ pub fn raced<R: Threads + Wait + Sync, S: Store>(
     ensures cause { StoreCounts (S.faults store.old) (S.faults store.new) result }
     ensures says { IfSome (S.files store.old) (λ fs. Comes (λ text. text.items)
         (RaceSays fs name.now rewriting) result) }
+    ensures kept { KeepsFiles (S.files store.old) (S.files store.new) result }
     ensures asks { IfSome (S.files store.old) (λ fs. Asks (asked_names fs name.now None)
         (S.asked store.old) (S.asked store.new) result) }
 {
@@ -117,67 +73,90 @@ fn raced_of_text<R: Threads + Wait + Sync, S: Store>(
 {
     images_are_in_order();
     match job_of(alloc, text) {
-        Ok(job) => told_of_objects(rt, alloc, store, &job, rewriting, &Race),
+        Ok(job) => raced_of_job(rt, alloc, store, &job, rewriting),
         Err(fault) => Err(fault),
     }
 }
 
-/// The transcript's text of a job whose images are ready to be written.
-fn told_race<R: Threads + Wait + Sync>(
+/// What the threads of a job say whose objects are fetched.
+fn raced_of_job<R: Threads + Wait + Sync, S: Store>(
+    rt: &R,
+    alloc: Global,
+    store: &mut S,
+    job: &Job,
+    rewriting: Rewriting,
+) -> Result<Vec<u8>, CommandFault>
+    requires order { AreInOrder (map (λ image. image.kind) job.now.images) }
+    ensures files { S.files store.new ≡ S.files store.old }
+    ensures cause { StoreCounts (S.faults store.old) (S.faults store.new) result }
+    ensures says { IfSome (S.files store.old) (λ fs. Comes (λ text. text.items)
+        (ObjectsSay IsRace (is_allowed rewriting) Refused fs job.now) result) }
+    ensures asks { Asks (object_names job.now) (S.asked store.old) (S.asked store.new) result }
+{
+    let _mentions = job.mentions();
+    let files = fetch_objects(rt, alloc, store, job)?;
+    raced_of_files(rt, alloc, job, &files, rewriting)
+}
+
+/// What the threads of a job say that has these files. None of its objects may have data that programs write.
+fn raced_of_files<R: Threads + Wait + Sync>(
     rt: &R,
     alloc: Global,
     job: &Job,
+    files: &Files,
+    rewriting: Rewriting,
+) -> Result<Vec<u8>, CommandFault>
+    requires order { AreInOrder (map (λ image. image.kind) job.now.images) }
+    ensures says { Comes (λ text. text.items)
+        (BytesSay IsRace (is_allowed rewriting) Refused (bytes_in files.now) job.now) result }
+    ensures cause { NoStoreFault result }
+{
+    files.are_bytes();
+    match read_objects(rt, alloc, job, files, WritableSections::Refused) {
+        Ok(images) => raced_of_images(rt, alloc, job, images.as_slice(), rewriting),
+        Err(refusal) => Err(unread(alloc, refusal)),
+    }
+}
+
+/// What the threads of a job say whose images are these.
+fn raced_of_images<R: Threads + Wait + Sync>(
+    rt: &R,
+    alloc: Global,
+    job: &Job,
+    images: &[ImageObjects],
+    rewriting: Rewriting,
+) -> Result<Vec<u8>, CommandFault>
+    requires given { (bytes : List ℕ → List ℕ) × AreGiven bytes job.now images.now
+        × ((name : List ℕ) → AreBytes (bytes name)) }
+    requires order { AreInOrder (map (λ image. image.kind) job.now.images) }
+    requires allowed { All (λ image. All (Allows Refused) image.objects) images.now }
+    ensures says { Comes (λ text. text.items) (ImagesSay IsRace (is_allowed rewriting) job.now images.now) result }
+    ensures cause { NoStoreFault result }
+{
+    let _images = job.images();
+    let startup = startup_exports(alloc, images)?;
+    match prepare_images(alloc, images, startup.as_slice(), rewriting.is_allowed()) {
+        Ok(ready) => race_ready(rt, alloc, job, images, ready),
+        Err(refusal) => Err(unlinked(alloc, job, refusal)),
+    }
+}
+
+/// What the threads of a job say whose images are ready to be written.
+fn race_ready<R: Threads + Wait + Sync>(
+    rt: &R,
+    alloc: Global,
+    job: &Job,
+    images: &[ImageObjects],
     ready: Vec<ReadyLink>,
-) -> Result<Vec<u8>, AllocError>
-    requires links { AreLinks job.now ready.items }
-    requires dataless { All IsOfDataless ready.items }
-    ensures { IfOk result (λ text. IsRaceTold job.now ready.entry.items text.items) }
+) -> Result<Vec<u8>, CommandFault>
+    requires linked { AreLinked job.now images.now ready.items }
+    requires allowed { All (λ image. All (Allows Refused) image.objects) images.now }
+    ensures says { Comes (λ text. text.items) (IsRace job.now ready.entry.items) result }
+    ensures cause { NoStoreFault result }
 {
-    let all = write_images(rt, alloc, ready)?;
-    let transcript = race_linked(rt, alloc, job, all)?;
-    text_of_transcript(alloc, job, &transcript)
-}
-
-/// What a job's threads say that run at once over linked images, each of which is written and read back.
-fn race_linked<R: Threads + Wait + Sync>(
-    rt: &R,
-    alloc: Global,
-    job: &Job,
-    all: Vec<Linked>,
-) -> Result<Transcript, AllocError>
-    requires links { (ls : List Linking) × AreLinks job.now ls × All IsOfDataless ls
-        × (all.items ≡ map linked_of ls) }
-    ensures ran { IfOk result (λ transcript. (ls : List Linking) → AreLinks job.now ls → all.items ≡ map linked_of ls
-        → HasRace job.now ls transcript) }
-    ensures images { IfOk result (λ transcript.
-        All (λ event. IsImageNumber job.now.images event.image) transcript.events) }
-{
-    dataless_objects_share_no_data();
-    linked_threads_print();
-    racers_are_in_history();
-    racers_print_their_points();
-    let _threads = job.threads();
-    let modules = modules_again(alloc, job, all)?;
-    race_modules(rt, alloc, job, &modules)
-}
-
-/// What a job's threads say that run at once over these modules, and the one history that they share.
-fn race_modules<R: Threads + Wait + Sync>(
-    rt: &R,
-    alloc: Global,
-    job: &Job,
-    modules: &Modules,
-) -> Result<Transcript, AllocError>
-    requires job { modules.now.kinds ≡ map (λ image. image.kind) job.now.images }
-    requires alone { has_data modules.now ≡ false }
-    ensures ran { IfOk result (AreRaced modules.now job.now) }
-    ensures images { IfOk result (λ transcript.
-        All (λ event. IsImageNumber job.now.images event.image) transcript.events) }
-{
-    let registry = Registry::new(alloc, modules.infos(), modules.last_offset())?;
-    let (shared, pass) = Shared::start(alloc, registry)?;
-    let (pass, transcript) = race_job(rt, alloc, job, modules, &shared, pass, &NoGate);
-    let registry = shared.finish(pass);
-    let _accepted = registry.len();
-    transcript
+    if are_of_few(images) {
+        Ok(told_race(rt, alloc, job, ready)?)
+    } else {
+        Err(CommandFault::OutOfMemory)
+    }
 }

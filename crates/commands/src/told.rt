@@ -1,27 +1,29 @@
 //! What is told of a job: how it is refused, and where its images all link what is asked of it.
 //!
-//! The steps are those of `run`, `check`, `link` and `sites`, of `gen`, which begins with files that it made, and of `race`,
-//! whose last step is another (`LastStep`). What is asked (`Purpose`) says what the last step does (`endings`).
-ghost use Rattle.std.specs.Prelude.{◌≡◌, ℕ, List, All, IfSome, Some, Ok, map};
+//! The steps are those of `run`, `check`, `link` and `sites`, and of `gen`, which begins with files that it made. What is
+//! asked (`Purpose`) says what the last step does (`endings`).
+ghost use Rattle.std.specs.Prelude.{◌≡◌, ℕ, List, IfSome, Some, Ok, map};
 ghost use Rattle.command_line.specs.Rewritings.{is_allowed};
 ghost use Rattle.command_replies.specs.Faults.{NoStoreFault, StoreCounts};
 ghost use Rattle.command_replies.specs.Steps.{Asks, Comes};
 ghost use Rattle.commands.specs.InOrder.{AreInOrder};
 ghost use Rattle.commands.specs.Jobs.{BytesSay, ImagesSay, ObjectsSay, asked_names, job_names};
-ghost use Rattle.commands.specs.Purposes.{FileTold, JobTold, wanted_by};
-ghost use Rattle.job_link.specs.Given.{Allows, AreGiven};
+ghost use Rattle.commands.specs.Purposes.{FileTold, IsWithin, JobTold, Makes, wanted_by};
+ghost use Rattle.job_link.specs.declared.writable.WritableSections.TheVariants.{Kept};
+ghost use Rattle.job_link.specs.Given.{AreGiven};
 ghost use Rattle.job_link.specs.Mentions.{bytes_in, object_names};
 ghost use Rattle.job_text.specs.Jobs.{job_of as job_of_text};
 ghost use Rattle.loaded_bytes.specs.Small.{AreBytes};
 
-use crate::last_step::LastStep;
+use crate::endings::ended;
 use crate::laws::images_are_in_order;
-use crate::purpose::Purpose;
+use crate::purpose::{Ending, Purpose};
 use crate::unlinked::{unlinked, unread};
 use command_line::Rewriting;
 use command_replies::{CommandFault, job_of, whole_file};
 use job_link::{
-    Files, ImageObjects, fetch_objects, prepare_images, read_objects, startup_exports,
+    Files, ImageObjects, WritableSections, fetch_objects, prepare_images, read_objects,
+    startup_exports,
 };
 use job_text::Job;
 use ports::Store;
@@ -91,77 +93,76 @@ fn told_of_job<R: Threads + Sync, S: Store>(
         (S.asked store.old) (S.asked store.new) result }
 {
     match purpose.ending(job) {
-        Ok(ending) => told_of_objects(rt, alloc, store, job, rewriting, &ending),
+        Ok(ending) => told_of_objects(rt, alloc, store, job, rewriting, ending),
         Err(fault) => Err(fault),
     }
 }
 
-/// What is told of a job whose objects are fetched, where this is the last step.
-pub fn told_of_objects<R: Threads + Sync, S: Store, L: LastStep<R>>(
+/// What is told of a job whose objects are fetched.
+fn told_of_objects<R: Threads + Sync, S: Store>(
     rt: &R,
     alloc: Global,
     store: &mut S,
     job: &Job,
     rewriting: Rewriting,
-    last: &L,
+    ending: Ending,
 ) -> Result<Vec<u8>, CommandFault>
     requires order { AreInOrder (map (λ image. image.kind) job.now.images) }
-    requires within { L.within last.now job.now }
+    requires place { IsWithin ending job.now }
     ensures files { S.files store.new ≡ S.files store.old }
     ensures cause { StoreCounts (S.faults store.old) (S.faults store.new) result }
     ensures says { IfSome (S.files store.old) (λ fs. Comes (λ text. text.items)
-        (ObjectsSay (L.makes last.now) (is_allowed rewriting) (L.asks last.now) fs job.now) result) }
+        (ObjectsSay (Makes ending) (is_allowed rewriting) Kept fs job.now) result) }
     ensures asks { Asks (object_names job.now) (S.asked store.old) (S.asked store.new) result }
 {
     let _mentions = job.mentions();
     let files = fetch_objects(rt, alloc, store, job)?;
-    told_of_files(rt, alloc, job, &files, rewriting, last)
+    told_of_files(rt, alloc, job, &files, rewriting, ending)
 }
 
 /// What is told of a job that has these files.
-pub fn told_of_files<R: Threads + Sync, L: LastStep<R>>(
+pub fn told_of_files<R: Threads + Sync>(
     rt: &R,
     alloc: Global,
     job: &Job,
     files: &Files,
     rewriting: Rewriting,
-    last: &L,
+    ending: Ending,
 ) -> Result<Vec<u8>, CommandFault>
     requires order { AreInOrder (map (λ image. image.kind) job.now.images) }
-    requires within { L.within last.now job.now }
+    requires place { IsWithin ending job.now }
     ensures says { Comes (λ text. text.items)
-        (BytesSay (L.makes last.now) (is_allowed rewriting) (L.asks last.now) (bytes_in files.now) job.now) result }
+        (BytesSay (Makes ending) (is_allowed rewriting) Kept (bytes_in files.now) job.now) result }
     ensures cause { NoStoreFault result }
 {
     files.are_bytes();
-    match read_objects(rt, alloc, job, files, last.writable()) {
-        Ok(images) => told_of_images(rt, alloc, job, images.as_slice(), rewriting, last),
+    match read_objects(rt, alloc, job, files, WritableSections::Kept) {
+        Ok(images) => told_of_images(rt, alloc, job, images.as_slice(), rewriting, ending),
         Err(refusal) => Err(unread(alloc, refusal)),
     }
 }
 
 /// What is told of a job whose images are these.
-fn told_of_images<R: Threads + Sync, L: LastStep<R>>(
+fn told_of_images<R: Threads + Sync>(
     rt: &R,
     alloc: Global,
     job: &Job,
     images: &[ImageObjects],
     rewriting: Rewriting,
-    last: &L,
+    ending: Ending,
 ) -> Result<Vec<u8>, CommandFault>
     requires given { (bytes : List ℕ → List ℕ) × AreGiven bytes job.now images.now
         × ((name : List ℕ) → AreBytes (bytes name)) }
-    requires allowed { All (λ image. All (Allows (L.asks last.now)) image.objects) images.now }
     requires order { AreInOrder (map (λ image. image.kind) job.now.images) }
-    requires within { L.within last.now job.now }
+    requires place { IsWithin ending job.now }
     ensures says { Comes (λ text. text.items)
-        (ImagesSay (L.makes last.now) (is_allowed rewriting) job.now images.now) result }
+        (ImagesSay (Makes ending) (is_allowed rewriting) job.now images.now) result }
     ensures cause { NoStoreFault result }
 {
     let _images = job.images();
     let startup = startup_exports(alloc, images)?;
     match prepare_images(alloc, images, startup.as_slice(), rewriting.is_allowed()) {
-        Ok(ready) => last.finish(rt, alloc, job, images, ready),
+        Ok(ready) => ended(rt, alloc, job, images, ready, ending),
         Err(refusal) => Err(unlinked(alloc, job, refusal)),
     }
 }

@@ -1,5 +1,6 @@
 use Rattle.std.proofs.Common.{◌≤◌, length, subst, arith}
 use Rattle.command_line.specs.Rewritings.{is_allowed}
+use Rattle.commands.specs.Purposes.{Makes}
 use Rattle.commands.proofs.Fetched.{count_is, linked_say, names_image, unlinked_say}
 use Rattle.commands.proofs.told.told_of_images.Goals as goal
 
@@ -9,8 +10,8 @@ prepare_images-requires-clause-few g c =
     let few = subst (λ is. length is ≤ 64) c.images-images.ensures.value c.images-images.ensures.few in
     omega (arith, count_is bytes c.args.job.now c.args.images.now are, few)
 
-pub finish-requires-clause-linked : goal.finish-requires-clause-linked
-finish-requires-clause-linked g c =
+pub ended-requires-clause-linked : goal.ended-requires-clause-linked
+ended-requires-clause-linked g c κs within =
     let (bytes, are, small) = c.requires.given in
     record {
       some = subst (λ is. 1 ≤ length is) c.images-images.ensures.value c.images-images.ensures.some;
@@ -31,10 +32,10 @@ unlinked-requires g c =
 
 pub returns-in-Ok-clause-says : goal.returns-in-Ok-clause-says
 returns-in-Ok-clause-says g c =
-    linked_say (g.L.LastStep.makes c.args.last.now) c.is_allowed.result (is_allowed c.args.rewriting) c.is_allowed.ensures c.args.job.now c.args.images.now c.in-Ok.ready.items c.in-Ok.ensures.links
-    c.in-Ok.ensures.ready c.finish.result c.finish.ensures.says
+    linked_say (Makes c.args.ending) c.is_allowed.result (is_allowed c.args.rewriting) c.is_allowed.ensures c.args.job.now c.args.images.now c.in-Ok.ready.items c.in-Ok.ensures.links
+    c.in-Ok.ensures.ready c.ended.result c.ended.ensures.says
 
 pub returns-clause-says : goal.returns-clause-says
 returns-clause-says g c =
-    unlinked_say (g.L.LastStep.makes c.args.last.now) c.is_allowed.result (is_allowed c.args.rewriting) c.is_allowed.ensures c.args.job.now c.args.images.now c.in-Err.refusal c.unlinked.result
+    unlinked_say (Makes c.args.ending) c.is_allowed.result (is_allowed c.args.rewriting) c.is_allowed.ensures c.args.job.now c.args.images.now c.in-Err.refusal c.unlinked.result
     c.in-Err.ensures.refused c.unlinked.ensures.says

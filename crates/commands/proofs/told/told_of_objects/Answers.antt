@@ -1,14 +1,16 @@
 use Rattle.std.proofs.Common.{subst}
 use Rattle.std.specs.List.{Contains}
 use Rattle.command_line.specs.Rewritings.{is_allowed}
+use Rattle.job_link.specs.declared.writable.WritableSections.TheVariants.{Kept}
 use Rattle.job_link.specs.Mentions.{object_names}
+use Rattle.commands.specs.Purposes.{Makes}
 use Rattle.commands.proofs.Asked.{asks_whole}
 use Rattle.commands.proofs.Fetched.{files_say}
 use Rattle.commands.proofs.told.told_of_objects.Goals as goal
 
 pub returns-clause-says : goal.returns-clause-says
 returns-clause-says g c =
-    files_say (g.L.LastStep.makes c.args.last.now) (is_allowed c.args.rewriting) (g.L.LastStep.asks c.args.last.now) (g.S.Store.files c.args.store.now) c.args.job.now c.in_ok-files.files c.in_ok-files.ensures.bytes
+    files_say (Makes c.args.ending) (is_allowed c.args.rewriting) Kept (g.S.Store.files c.args.store.now) c.args.job.now c.in_ok-files.files c.in_ok-files.ensures.bytes
     (λ k a b. subst (λ ms. Contains ms k) c.mentions-mentions.ensures.value (c.mentions-mentions.ensures.every k a b)) c.told_of_files.result c.told_of_files.ensures.says
 
 pub returns-clause-asks : goal.returns-clause-asks

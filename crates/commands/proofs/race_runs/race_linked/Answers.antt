@@ -1,6 +1,6 @@
 use Rattle.std.proofs.Common.{◌≤◌, subst}
 use Rattle.commands.proofs.Raced.{raced, shares_none}
-use Rattle.commands.proofs.races.race_linked.Goals as goal
+use Rattle.commands.proofs.race_runs.race_linked.Goals as goal
 
 pub modules_again-requires : goal.modules_again-requires
 modules_again-requires g c = let (ls, links, dataless, all_is) = c.requires.links in (ls, links, all_is)

@@ -1,6 +1,6 @@
 use Rattle.std.proofs.Common.{rules}
 use Rattle.commands.proofs.Raced.{race_told}
-use Rattle.commands.proofs.races.told_race.Goals as goal
+use Rattle.commands.proofs.race_runs.told_race.Goals as goal
 
 pub write_images-requires : goal.write_images-requires
 write_images-requires g c = (search rules, c.requires.links.links.ready.together.links)

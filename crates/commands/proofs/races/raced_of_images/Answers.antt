@@ -1,0 +1,41 @@
+use Rattle.std.proofs.Common.{◌≤◌, length, subst, arith}
+use Rattle.command_line.specs.Rewritings.{is_allowed}
+use Rattle.commands.specs.Races.{IsRace}
+use Rattle.commands.proofs.Fetched.{count_is, linked_say, names_image, unlinked_say}
+use Rattle.commands.proofs.races.raced_of_images.Goals as goal
+
+pub prepare_images-requires-clause-few : goal.prepare_images-requires-clause-few
+prepare_images-requires-clause-few g c =
+    let (bytes, are, small) = c.requires.given in
+    let few = subst (λ is. length is ≤ 64) c.images-images.ensures.value c.images-images.ensures.few in
+    omega (arith, count_is bytes c.args.job.now c.args.images.now are, few)
+
+pub race_ready-requires-clause-linked : goal.race_ready-requires-clause-linked
+race_ready-requires-clause-linked g c κs within =
+    let (bytes, are, small) = c.requires.given in
+    record {
+      some = subst (λ is. 1 ≤ length is) c.images-images.ensures.value c.images-images.ensures.some;
+      few = subst (λ is. length is ≤ 64) c.images-images.ensures.value c.images-images.ensures.few;
+      order = c.requires.order;
+      bytes = bytes;
+      small = small;
+      given = are;
+      relax = c.is_allowed.result;
+      links = c.in-Ok.ensures.links;
+      links_are = c.in-Ok.ensures.ready;
+    }
+
+pub unlinked-requires : goal.unlinked-requires
+unlinked-requires g c =
+    let (bytes, are, small) = c.requires.given in
+    names_image c.args.job.now c.args.images.now c.is_allowed.result (count_is bytes c.args.job.now c.args.images.now are) c.in-Err.refusal c.in-Err.ensures.refused
+
+pub returns-in-Ok-clause-says : goal.returns-in-Ok-clause-says
+returns-in-Ok-clause-says g c =
+    linked_say IsRace c.is_allowed.result (is_allowed c.args.rewriting) c.is_allowed.ensures c.args.job.now c.args.images.now c.in-Ok.ready.items c.in-Ok.ensures.links
+    c.in-Ok.ensures.ready c.race_ready.result c.race_ready.ensures.says
+
+pub returns-clause-says : goal.returns-clause-says
+returns-clause-says g c =
+    unlinked_say IsRace c.is_allowed.result (is_allowed c.args.rewriting) c.is_allowed.ensures c.args.job.now c.args.images.now c.in-Err.refusal c.unlinked.result
+    c.in-Err.ensures.refused c.unlinked.ensures.says

@@ -1,0 +1,18 @@
+use Rattle.std.proofs.Common.{subst}
+use Rattle.std.specs.List.{Contains}
+use Rattle.command_line.specs.Rewritings.{is_allowed}
+use Rattle.job_link.specs.declared.writable.WritableSections.TheVariants.{Refused}
+use Rattle.job_link.specs.Mentions.{object_names}
+use Rattle.commands.specs.Races.{IsRace}
+use Rattle.commands.proofs.Asked.{asks_whole}
+use Rattle.commands.proofs.Fetched.{files_say}
+use Rattle.commands.proofs.races.raced_of_job.Goals as goal
+
+pub returns-clause-says : goal.returns-clause-says
+returns-clause-says g c =
+    files_say IsRace (is_allowed c.args.rewriting) Refused (g.S.Store.files c.args.store.now) c.args.job.now c.in_ok-files.files c.in_ok-files.ensures.bytes
+    (λ k a b. subst (λ ms. Contains ms k) c.mentions-mentions.ensures.value (c.mentions-mentions.ensures.every k a b)) c.raced_of_files.result c.raced_of_files.ensures.says
+
+pub returns-clause-asks : goal.returns-clause-asks
+returns-clause-asks g c =
+    asks_whole (object_names c.args.job.now) (g.S.Store.asked c.args.store.now) (g.S.Store.asked c.fetch_objects.new.store) c.raced_of_files.result c.in_ok-files.ensures.asked
