@@ -26,7 +26,7 @@ no_sequence_fault kind b r e fine (above, (s, kept, never)) = never
 
 no_data_fault : (w : WritableSections) (b : List ℕ) (section entry : ℕ) (kind : FaultKind) → Allows w b → IsDataFault w b section entry kind → ⊥
 no_data_fault Kept b section entry kind allowed never = never
-no_data_fault Refused b section entry kind none ((here, first), (entry_is, kind_is)) = none section here
+no_data_fault Refused b section entry kind none first = none section first.0.0
 
 no_file_fault : (w : WritableSections) (b : List ℕ) (section entry : ℕ) (kind : FaultKind) → IsFaultless b → Allows w b
     → IsFileFault w b (object_fault.At section entry kind) → ⊥

@@ -20,6 +20,7 @@ use Rattle.loaded_modules.specs.Given.{of_job}
 use Rattle.loaded_modules.specs.Images.{JobImages, infos, last_offset}
 use Rattle.module_table.specs.declared.events.Event.{Event}
 use Rattle.module_table.specs.History.{History, IsLegal}
+use Rattle.module_table.specs.declared.modules.ImageInfo.{ImageInfo}
 use Rattle.shared_modules.specs.declared.board.Images.{Images}
 use Rattle.shared_modules.specs.Views.{all_threads, images_of}
 use Rattle.thread_blocks.specs.JobLoads.{job_loads}
@@ -115,6 +116,13 @@ race_told job ls transcript ran (Err e) is = tt
 pub all_of_them : (threads : List ℕ) → threads ≡ all_threads → length threads ≡ 64
 unfolding all_threads
 all_of_them threads is = ap length is
+
+-- it began with the images of the modules
+pub same_images : (h : History) (m : JobImages) (own : List ImageInfo) (offset : ℕ) → h.infos ≡ own → own ≡ infos m → h.last_offset ≡ offset → offset ≡ last_offset m
+    → images_of h ≡ record { infos = infos m; last_offset = last_offset m }
+same_images h m own offset infos_are own_is offset_is own_offset =
+    ap (λ (is : List ImageInfo). record { infos = is; last_offset = h.last_offset }) (infos_are ∙ own_is)
+    ∙ ap (λ (n : ℕ). record { infos = infos m; last_offset = n }) (offset_is ∙ own_offset)
 
 -- what ran is told by the history that was closed in the end
 pub are_raced : {E : Type 0} (m : JobImages) (job : JobParts) (h : History) → images_of h ≡ record { infos = infos m; last_offset = last_offset m }

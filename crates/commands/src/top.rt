@@ -123,8 +123,8 @@ fn race_shown<R: Threads + Wait + Sync, S: Store, K: Sink>(
         → DidNotFail (K.view out.old).faults (K.view out.new).faults
         → Completes fs (Command.Race job.now rewriting) result) }
 {
-    let answer = race_answer(rt, alloc, job, rewriting, store);
-    deliver(out, &answer)
+    let raced = race_answer(rt, alloc, job, rewriting, store);
+    deliver(out, &raced)
 }
 
 /// Puts the line for words that are not taken.

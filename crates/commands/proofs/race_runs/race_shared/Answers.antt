@@ -1,4 +1,4 @@
-use Rattle.std.proofs.Common.{◌∙◌, List, ℕ, ap, length, refl}
+use Rattle.std.proofs.Common.{◌∙◌, ap}
 use Rattle.shared_modules.specs.Passes.{PassView}
 use Rattle.commands.proofs.Raced.{all_of_them, are_raced}
 use Rattle.commands.proofs.race_runs.race_shared.Goals as goal
@@ -17,5 +17,5 @@ finish-requires-clause-all g c = all_of_them _ c.race_job.ensures.whole.1
 
 pub returns-clause-ran : goal.returns-clause-ran
 returns-clause-ran g c =
-    are_raced c.args.modules.now c.args.job.now c.registry.now (c.finish.ensures.images ∙ c.requires.images) c.len.ensures.legal
-    _ c.finish.ensures.events c.race_job.result.1 c.race_job.ensures.raced c.race_job.ensures.history
+    are_raced c.args.modules.now c.args.job.now c.finish-registry.result (c.finish-registry.ensures.images ∙ c.requires.images) c.len-accepted.ensures.legal
+    _ c.finish-registry.ensures.events c.race_job.result.1 c.race_job.ensures.raced c.race_job.ensures.history

@@ -2,6 +2,9 @@ use Rattle.std.proofs.Common.{◌≤◌, subst}
 use Rattle.commands.proofs.Transcribed.{ran}
 use Rattle.commands.proofs.runs.run_linked.Goals as goal
 
+pub modules_again-requires : goal.modules_again-requires
+modules_again-requires c = record { links = c.requires.links }
+
 pub returns-clause-ran : goal.returns-clause-ran
 returns-clause-ran c =
     ran c.linked_jobs_print.ensures c.transcripts_tell_their_threads.ensures c.verdict_knows_no_setting.ensures

@@ -6,14 +6,14 @@ use Rattle.commands.proofs.top.race_shown.Goals as goal
 
 pub returns-clause-asked : goal.returns-clause-asked
 returns-clause-asked g c =
-    asked_by (g.S.Store.files c.args.store.now) (Race c.args.job.now c.args.rewriting) c.race_answer.result (g.S.Store.asked c.args.store.now) _ c.deliver.result c.race_answer.ensures.asks c.deliver.ensures.own
+    asked_by (g.S.Store.files c.args.store.now) (Race c.args.job.now c.args.rewriting) c.race_answer-raced.result (g.S.Store.asked c.args.store.now) _ c.deliver.result c.race_answer-raced.ensures.asks c.deliver.ensures.own
 
 pub returns-clause-shows : goal.returns-clause-shows
 returns-clause-shows g c =
-    answer_shows (g.S.Store.files c.args.store.now) _ (Race c.args.job.now c.args.rewriting) c.race_answer.result _ _ _ _ c.deliver.result
-    c.race_answer.ensures.cause c.race_answer.ensures.says c.deliver.ensures.delivered
+    answer_shows (g.S.Store.files c.args.store.now) _ (Race c.args.job.now c.args.rewriting) c.race_answer-raced.result _ _ _ _ c.deliver.result
+    c.race_answer-raced.ensures.cause c.race_answer-raced.ensures.says c.deliver.ensures.delivered
 
 pub returns-clause-completes : goal.returns-clause-completes
 returns-clause-completes g c =
-    answer_completes (g.S.Store.files c.args.store.now) _ (Race c.args.job.now c.args.rewriting) c.race_answer.result _ _ _ _ c.deliver.result
-    c.race_answer.ensures.cause c.race_answer.ensures.says c.deliver.ensures.delivered
+    answer_completes (g.S.Store.files c.args.store.now) _ (Race c.args.job.now c.args.rewriting) c.race_answer-raced.result _ _ _ _ c.deliver.result
+    c.race_answer-raced.ensures.cause c.race_answer-raced.ensures.says c.deliver.ensures.delivered
