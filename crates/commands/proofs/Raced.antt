@@ -128,6 +128,7 @@ same_images h m own offset infos_are own_is offset_is own_offset =
 pub are_raced : {E : Type 0} (m : JobImages) (job : JobParts) (h : History) → images_of h ≡ record { infos = infos m; last_offset = last_offset m }
     → IsLegal h.infos h.last_offset h.events → (seen : List Event) → h.events ≡ seen → (r : Result Shown E)
     → IfOk r (IsRaced (job_loads m) job.fuel job.lines) → IfOk r (λ shown. shown.events ≡ seen) → IfOk r (AreRaced m job)
+unfolding job_loads infos last_offset
 are_raced m job h images_are legal seen events_are (Ok shown) raced history = record {
   legal =
       subst (λ (es : List Event). IsLegal (infos m) (last_offset m) es) (events_are ∙ sym history)

@@ -6,7 +6,7 @@ pub modules_again-requires : goal.modules_again-requires
 modules_again-requires g c = let (ls, links, dataless, all_is) = c.requires.links in record { links = (ls, links, all_is) }
 
 pub race_modules-requires-clause-alone : goal.race_modules-requires-clause-alone
-race_modules-requires-clause-alone g c =
+race_modules-requires-clause-alone g c κs within =
     let (ls, links, dataless, all_is) = c.requires.links in
     shares_none c.dataless_objects_share_no_data.ensures c.args.job.now ls links dataless c.args.all.items all_is
     c.in_ok-modules.modules c.in_ok-modules.ensures.back
