@@ -4,16 +4,16 @@
 //! write: threads that run at once would all write the same bytes. They stand here once more, since whoever calls those of
 //! `run` gives no leave to wait. The job's `order` lines are read, and mean nothing here. How the threads run is in
 //! `race_runs`.
-ghost use Rattle.std.specs.Prelude.{◌≡◌, ℕ, List, All, IfSome, None, map};
+ghost use Rattle.std.specs.Prelude.{◌≡◌, ℕ, List, All, IfSome, None, Ok, map};
 ghost use Rattle.command_line.specs.Rewritings.{is_allowed};
 ghost use Rattle.command_replies.specs.Faults.{KeepsFiles, NoStoreFault, StoreCounts};
 ghost use Rattle.command_replies.specs.Steps.{Asks, Comes};
 ghost use Rattle.commands.specs.InOrder.{AreInOrder, AreLinked};
-ghost use Rattle.commands.specs.Jobs.{BytesSay, ImagesSay, JobSays, ObjectsSay, asked_names, job_names};
+ghost use Rattle.commands.specs.Jobs.{BytesSay, ImagesSay, JobSays, asked_names, job_names};
 ghost use Rattle.commands.specs.Races.{IsRace, RaceSays};
 ghost use Rattle.job_link.specs.declared.writable.WritableSections.TheVariants.{Refused};
 ghost use Rattle.job_link.specs.Given.{Allows, AreGiven};
-ghost use Rattle.job_link.specs.Mentions.{bytes_in, object_names};
+ghost use Rattle.job_link.specs.Mentions.{bytes_in};
 ghost use Rattle.job_text.specs.Jobs.{job_of as job_of_text};
 ghost use Rattle.loaded_bytes.specs.Small.{AreBytes};
 
@@ -90,8 +90,8 @@ fn raced_of_job<R: Threads + Wait + Sync, S: Store>(
     ensures files { S.files store.new ≡ S.files store.old }
     ensures cause { StoreCounts (S.faults store.old) (S.faults store.new) result }
     ensures says { IfSome (S.files store.old) (λ fs. Comes (λ text. text.items)
-        (ObjectsSay IsRace (is_allowed rewriting) Refused fs job.now) result) }
-    ensures asks { Asks (object_names job.now) (S.asked store.old) (S.asked store.new) result }
+        (JobSays None IsRace (is_allowed rewriting) Refused fs (Ok job.now)) result) }
+    ensures asks { Asks (job_names None (Ok job.now)) (S.asked store.old) (S.asked store.new) result }
 {
     let _mentions = job.mentions();
     let files = fetch_objects(rt, alloc, store, job)?;

@@ -72,7 +72,7 @@ fn run_linked(alloc: Global, job: &Job, all: Vec<Linked>) -> Result<Transcript, 
 /// The modules of a job whose images are linked, each read from the file that is written of it.
 pub fn modules_again(alloc: Global, job: &Job, all: Vec<Linked>) -> Result<Modules, AllocError>
     requires links { (ls : List Linking) × AreLinks job.now ls × (all.items ≡ map linked_of ls) }
-    ensures back { IfOk result (AreModulesBack job.now all.entry.items) }
+    ensures back { IfOk result (AreModulesBack job.now all.items) }
     ensures kinds { IfOk result (λ modules. modules.kinds ≡ map (λ image. image.kind) job.now.images) }
 {
     images_hold_tls();

@@ -1,3 +1,6 @@
+use Rattle.std.proofs.Common.{ap}
+use Rattle.std.proofs.lemmas.Result.{IfOk-weaker}
+use Rattle.loaded_modules.specs.Images.{JobImages}
 use Rattle.commands.proofs.Again.{all_hold, are_modules, modules_back}
 use Rattle.commands.proofs.runs.modules_again.Goals as goal
 
@@ -15,3 +18,6 @@ pub returns-clause-back : goal.returns-clause-back
 returns-clause-back c =
     modules_back c.args.job.now c.args.all.items c.in_ok-images.images.items
     (record { read = c.in_ok-images.ensures.read; again = c.in_ok-images.ensures.again }) c.new.result c.new.ensures
+
+pub returns-clause-kinds : goal.returns-clause-kinds
+returns-clause-kinds c = IfOk-weaker c.new.result _ _ (λ modules is. ap (λ (m : JobImages). m.kinds) is) c.new.ensures
