@@ -1,5 +1,5 @@
 -- What is known of a thread that raced stays when others add events.
-use Rattle.std.proofs.Common.{◌≡◌, ◌≢◌, ◌==◌, ◌+◌, ◌≤◌, ◌∙◌, ℕ, zero, suc, false, true, Bool, List, [], ◌∷◌, ◌++◌, length, refl, sym, ap, subst, append_assoc, arith}
+use Rattle.std.proofs.Common.{◌≡◌, ◌==◌, ◌+◌, ◌≤◌, ◌∙◌, ℕ, zero, suc, false, true, Bool, List, [], ◌∷◌, ◌++◌, length, refl, ap, subst, append_assoc, arith}
 use Rattle.std.specs.Prelude.{if◌then◌else◌}
 use Rattle.job_text.specs.Jobs.{JobParts}
 use Rattle.job_text.specs.Threads.{of_thread}
@@ -9,7 +9,7 @@ use Rattle.module_table.specs.declared.events.Event.{Event}
 use Rattle.transcript_text.specs.declared.outcomes.Line.{Line as ShownLine}
 use Rattle.thread_blocks.specs.Instances.{Loads}
 use Rattle.thread_blocks.specs.JobLoads.{job_loads}
-use Rattle.thread_blocks.specs.TurnsAlike.{AllFronts, IsFront}
+use Rattle.thread_blocks.specs.TurnsAlike.{AllFronts}
 use Rattle.lawful_points.specs.Raced.{IsRacer}
 use Rattle.shared_modules.specs.Laws.{own_from}
 use Rattle.shared_modules.specs.Stable.{IsStable, stays}
@@ -64,7 +64,7 @@ row_stable m job (said ∷ more) first zero few front e none raced = absurd (ome
 row_stable m job (said ∷ more) first (suc count) few front e none raced =
     let other = no_flag (first == e.thread) (times e.thread (rising (first + 1) count)) none in (
       racer_stays (job_loads m) job.fuel first (of_thread job.lines first) said front e (eqb_swap first e.thread other.0)
-      raced.0,
+          raced.0,
       row_stable m job more (first + 1) count (omega (arith, few)) front e other.1 raced.1,
     )
 

@@ -63,7 +63,9 @@ impl<'j, 'n, 'm, 'g, G: Gate> Racers for JobRacers<'j, 'n, 'm, 'g, G> {
         pass: Pass,
         thread: u32,
     ) -> (Pass, Result<Row, AllocError>) {
-        race_one(rt, alloc, self.job, self.names, shared, pass, thread, self.gate)
+        race_one(
+            rt, alloc, self.job, self.names, shared, pass, thread, self.gate,
+        )
     }
 }
 

@@ -1,6 +1,6 @@
 -- Each half can race. Their passes make one that is ready again, and their rows one row.
 use Rattle.std.proofs.Common.{◌≡◌, ◌+◌, ◌-◌, ◌/◌, ◌≤◌, IfOk, sym, subst, rules, arith}
-use Rattle.shared_modules.specs.Passes.{PassView, left_pass, right_pass}
+use Rattle.shared_modules.specs.Passes.{PassView}
 use Rattle.job_race.specs.Rows.{CanRace, HasRow, IsReady}
 use Rattle.job_race.proofs.Joined.{results_joined}
 use Rattle.job_race.proofs.Passes.{both_ready, left_can, right_can}
