@@ -1,0 +1,7 @@
+mod FirstThread
+mod Looking
+mod Marking
+mod Asked
+mod Tallying
+mod Going
+mod Ends
