@@ -5,3 +5,5 @@ mod Asked
 mod Tallying
 mod Going
 mod Ends
+mod Found
+mod TurnTaken
