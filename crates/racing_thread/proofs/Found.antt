@@ -106,7 +106,7 @@ unless_ok (Some refusal) a b same = cc
 
 unless_err : {A R : Type 0} (refusal : Option R) (a : A) (r : R) → unless refusal a ≡ Err r → refusal ≡ Some r
 unless_err None a r same = cc
-unless_err (Some refusal) a r same = ap (λ (x : R). Some x) (let e : refusal ≡ r = cc in e)
+unless_err {R = R} (Some refusal) a r same = let e : refusal ≡ r = cc in ap (λ (x : R). Some x) e
 
 legal_before : (images : Images) (history : List Event) (e : Event)
     → IsLegal images.infos images.last_offset (history ++ e ∷ []) → IsLegal images.infos images.last_offset history

@@ -75,7 +75,10 @@ own_with : (thread : ℕ) (history : List Event) (own : Option Event)
     → ((e : Event) → own ≡ Some e → e.thread ≡ thread)
     → own_events thread (with_event history own) ≡ own_events thread history ++ placed (length history) own
 own_with thread history None named = sym (append-nil (own_events thread history))
-own_with thread history (Some e) named = own_last thread 0 history e (eq-eqb e.thread thread (named e refl))
+own_with thread history (Some e) named =
+    let sum : 0 + length history ≡ length history = omega arith in
+    own_last thread 0 history e (eq-eqb e.thread thread (named e refl))
+    ∙ ap (λ (n : ℕ). own_events thread history ++ placed n (Some e)) sum
 
 -- ** the law
 
