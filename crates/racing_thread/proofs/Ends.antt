@@ -1,5 +1,5 @@
 -- A thread that races, before its first turn and behind its last.
-use Rattle.std.proofs.Common.{◌≡◌, ◌∙◌, ◌+◌, ℕ, false, List, [], ◌∷◌, length, map, Some, refl, sym, ap, subst, arith}
+use Rattle.std.proofs.Common.{◌≡◌, ◌∙◌, ◌+◌, ℕ, true, false, List, [], ◌∷◌, length, map, Some, refl, sym, ap, subst, arith}
 use Rattle.job_text.specs.Jobs.{JobParts}
 use Rattle.job_text.specs.Threads.{of_thread}
 use Rattle.loaded_modules.specs.Images.{JobImages, infos, last_offset}
@@ -7,7 +7,7 @@ use Rattle.module_table.specs.declared.events.Event.{Event}
 use Rattle.module_table.specs.History.{IsLegal}
 use Rattle.shared_modules.specs.declared.board.Images.{Images}
 use Rattle.shared_modules.specs.Laws.{own_events}
-use Rattle.shared_modules.specs.Passes.{PassView}
+use Rattle.shared_modules.specs.Passes.{IsSamePass, PassView}
 use Rattle.lawful_points.specs.Raced.{IsRacer, raced_looks, raced_of}
 use Rattle.lawful_points.specs.Told.{points_of}
 use Rattle.lawful_points.proofs.Jobs.{turns_tell}
@@ -19,9 +19,11 @@ use Rattle.thread_blocks.specs.MachineTurns.{shown}
 use Rattle.thread_blocks.specs.RunTime.{Runs, thread_turns}
 use Rattle.thread_blocks.specs.Turns.{IsFinished, Thread}
 use Rattle.thread_space.specs.Kept.{HasSeen}
-use Rattle.job_turns.specs.declared.asking.Ask.TheVariants.{Done}
+use Rattle.job_turns.specs.declared.asking.Ask.{Ask}
+use Rattle.job_turns.specs.declared.asking.Ask.TheVariants.{Done, Look, Opens, Closes}
 use Rattle.job_turns.specs.Alone.{has_data}
-use Rattle.job_turns.specs.Standing.{IsFirstRun, Run, ask_of}
+use Rattle.job_turns.specs.Progress.{is_done}
+use Rattle.job_turns.specs.Standing.{IsFirstRun, IsGoing, Run, ask_of}
 use Rattle.racing_thread.specs.Racing.{HasRaced, lines_in}
 use Rattle.racing_thread.specs.Tallies.{Mark, marks_of, tally_from}
 use Rattle.racing_thread.proofs.FirstThread.{first_runner, is_finished, seen_none}
@@ -106,3 +108,21 @@ module _ (m : JobImages) (job : JobParts) (thread : ℕ) (first : PassView) (r :
     loads_are = g.counts.loads_are ∙ ap (λ (marks : List Mark). first.loads + (tally_from 0 marks).loads) marks_are;
     turns_are = g.counts.turns_are ∙ ap (λ (marks : List Mark). first.turns + (tally_from 0 marks).turns) marks_are;
   }
+
+-- ** the loop
+
+pub done_is : (ask : Ask) → is_done ask ≡ true → ask ≡ Done
+done_is Done done = refl
+done_is (Look line) done = cc
+done_is (Opens line image) done = cc
+done_is (Closes line image) done = cc
+
+pub going_is : (ask : Ask) → is_done ask ≡ false → IsGoing ask
+going_is Done done = cc
+going_is (Look line) done = tt
+going_is (Opens line image) done = tt
+going_is (Closes line image) done = tt
+
+pub same_along : (p q s : PassView) → IsSamePass p q → IsSamePass q s → IsSamePass p s
+same_along p q s first second =
+    record { shared = second.shared ∙ first.shared; threads = second.threads ∙ first.threads }

@@ -4,6 +4,7 @@ ghost use Rattle.std.specs.Prelude.{◌≡◌, ◌≤◌, ◌×◌, ◌∷◌, [
 ghost use Rattle.loaded_modules.specs.Images.{infos, last_offset};
 ghost use Rattle.shared_modules.specs.Passes.{IsSamePass};
 ghost use Rattle.job_turns.specs.Alone.{has_data};
+ghost use Rattle.job_turns.specs.Progress.{is_done};
 ghost use Rattle.job_turns.specs.Standing.{IsGoing, ask_of};
 ghost use Rattle.racing_thread.specs.Answers.{IsLevel, TakesRacingTurn};
 ghost use Rattle.racing_thread.specs.Racing.{HasRaced};
@@ -27,6 +28,16 @@ const MOST_EVENTS: usize = 1 << 61;
 pub struct Raced {
     pub lines: Vec<Line>,
     pub events: Vec<Event>,
+}
+
+/// Whether nothing is left to do.
+fn is_done(ask: Ask) -> bool
+    ensures { result ≡ is_done ask }
+{
+    match ask {
+        Ask::Done => true,
+        Ask::Look(_) | Ask::Opens(_, _) | Ask::Closes(_, _) => false,
+    }
 }
 
 /// A turn of a thread that has something left to do. The list has what its pass has seen.
@@ -84,7 +95,7 @@ fn take_turns<R: Wait, G: Gate>(
     for _ in rt.forever() {
         let ask = runner.asks();
         line = pass_gate(gate, thread, line, ask);
-        if let Ask::Done = ask {
+        if is_done(ask) {
             let lines = runner.lines();
             return Ok(Raced { lines, events });
         }
