@@ -45,8 +45,12 @@ module _ {W F B : Type 0} (ops : Operations W F B) (l : Loads B) (show : List B 
       Goes line (begun_by ops l show thread line seen h action)
   by_goes number image (Call symbol a b c) seen h =
       any_goes (record { number = number; told = record { image = image; action = Call symbol a b c } }) refl _
-  by_goes number image Open seen h = open_goes _ seen h (open_refusal (left_by l seen) image)
-  by_goes number image Close seen h = close_goes _ seen h (close_refusal (left_by l seen) image)
+  by_goes number image Open seen h =
+      open_goes (record { number = number; told = record { image = image; action = Open } }) seen h
+      (open_refusal (left_by l seen) image)
+  by_goes number image Close seen h =
+      close_goes (record { number = number; told = record { image = image; action = Close } }) seen h
+      (close_refusal (left_by l seen) image)
   by_goes number image (Peek symbol size) seen h =
       any_goes (record { number = number; told = record { image = image; action = Peek symbol size } }) refl _
 

@@ -7,12 +7,14 @@ use Rattle.module_table.specs.declared.events.Event.{Event}
 use Rattle.module_table.specs.declared.events.Opened.{Opened}
 use Rattle.module_table.specs.declared.events.Closed.{Closed}
 use Rattle.module_table.specs.declared.events.OpenRefusal.{OpenRefusal}
+use Rattle.module_table.specs.declared.events.OpenRefusal.TheVariants.{Unknown, Full, StaticFull, OutOfMemory as NoRoomToOpen}
 use Rattle.module_table.specs.declared.events.CloseRefusal.{CloseRefusal}
+use Rattle.module_table.specs.declared.events.CloseRefusal.TheVariants.{Permanent, NotOpen, OutOfMemory as NoRoomToClose}
 use Rattle.module_table.specs.History.{History, IsLegal, close_answer, left, open_answer, unless}
 use Rattle.module_table.specs.Past.{close_refusal, open_refusal, start}
 use Rattle.module_table.specs.Walks.{is_legal-append}
 use Rattle.shared_modules.specs.declared.board.Images.{Images}
-use Rattle.shared_modules.specs.Passes.{PassView, IsAccepted, IsCaught, IsClosed, IsLoaded, IsOpened, IsRefused, IsTold}
+use Rattle.shared_modules.specs.Passes.{PassView, IsAccepted, IsCaught, IsCloseRefused, IsClosed, IsLoaded, IsOpenRefused, IsOpened, IsRefused, IsTold}
 use Rattle.shared_modules.specs.Views.{Knows, history_at}
 use Rattle.thread_blocks.specs.Lines.{event_at, unless_refused}
 use Rattle.job_turns.specs.declared.asking.Ask.TheVariants.{Opens, Closes}
@@ -156,6 +158,21 @@ module _ (p : PassView) (before : List Event) (all : before ≡ p.seen) (q : Pas
       loads_are = ap (λ (x : PassView). x.loads) is.caught.rest;
       turns_are = ap (λ (x : PassView). x.turns) is.caught.rest;
     }
+
+-- a refusal that is not want of memory
+module _ (p : PassView) (image : ℕ) (q : PassView) (before after : List Event) where
+  pub open_refused : (refusal : OpenRefusal) → (refusal ≡ NoRoomToOpen → ⊥) → IsOpenRefused p image q before after refusal
+      → IsRefused p (λ h. open_answer h image ≡ Err refusal) q before after
+  open_refused Unknown other is = is
+  open_refused Full other is = is
+  open_refused StaticFull other is = is
+  open_refused NoRoomToOpen other is = absurd (other refl)
+
+  pub close_refused : (refusal : CloseRefusal) → (refusal ≡ NoRoomToClose → ⊥) → IsCloseRefused p image q before after refusal
+      → IsRefused p (λ h. close_answer h image ≡ Err refusal) q before after
+  close_refused Permanent other is = is
+  close_refused NotOpen other is = is
+  close_refused NoRoomToClose other is = absurd (other refl)
 
 module _ (p : PassView) (history : List Event) (image : ℕ) where
   abbrev h : History

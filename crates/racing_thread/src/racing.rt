@@ -1,6 +1,6 @@
 //! The turns of a thread, up to its end.
 
-ghost use Rattle.std.specs.Prelude.{◌≡◌, ◌≤◌, ◌×◌, ◌∷◌, [], false, IfOk};
+ghost use Rattle.std.specs.Prelude.{◌≡◌, ◌≤◌, ◌∷◌, [], false, IfOk};
 ghost use Rattle.loaded_modules.specs.Images.{infos, last_offset};
 ghost use Rattle.shared_modules.specs.Passes.{IsSamePass};
 ghost use Rattle.job_turns.specs.Alone.{has_data};
@@ -125,7 +125,7 @@ pub fn race_thread<R: Wait, G: Gate>(
     requires data { has_data names.now ≡ false }
     ensures same { (result.0.shared ≡ shared.now) × (result.0.threads ≡ thread ∷ []) }
     ensures raced { IfOk result.1 (λ raced.
-        HasRaced names.now job.now thread pass.entry result.0 raced.lines.items raced.events.items) }
+        HasRaced names.now job.now thread pass result.0 raced.lines.items raced.events.items) }
 {
     let raced = take_turns(rt, alloc, job, names, shared, &mut pass, thread, gate);
     (pass, raced)
