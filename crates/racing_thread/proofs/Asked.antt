@@ -1,5 +1,5 @@
 -- Whether a thread's next turn asks the registry: only lines that open or close do, and these are over at once.
-use Rattle.std.proofs.Common.{◌≡◌, ◌+◌, ℕ, Bool, false, List, [], ◌∷◌, drop, Option, Some, None, refl}
+use Rattle.std.proofs.Common.{◌≡◌, ◌+◌, ℕ, false, List, [], ◌∷◌, drop, Option, Some, None, refl}
 use Rattle.std.specs.Prelude.{slice_get}
 use Rattle.guest_arithmetic.specs.Plain.{plain_operations}
 use Rattle.guest_arithmetic.specs.Values.{Operations}
@@ -11,9 +11,9 @@ use Rattle.module_table.specs.declared.events.Event.{Event}
 use Rattle.module_table.specs.declared.events.OpenRefusal.{OpenRefusal}
 use Rattle.module_table.specs.Past.{close_refusal, open_refusal}
 use Rattle.thread_blocks.specs.Held.{Held, looked}
-use Rattle.thread_blocks.specs.Instances.{Loads, instance_at, left_by}
+use Rattle.thread_blocks.specs.Instances.{Loads, left_by}
 use Rattle.thread_blocks.specs.JobWorlds.{numbered_lines}
-use Rattle.thread_blocks.specs.Lines.{Line, begin_line, begun_by, begun_close, begun_open, begun_peek}
+use Rattle.thread_blocks.specs.Lines.{Line, begin_line, begun_by, begun_close, begun_open}
 use Rattle.thread_blocks.specs.RunTime.{Runs, shows, thread_turns}
 use Rattle.thread_blocks.specs.Turns.{Begun, Ending, Idle, Mid, Phase, Says, Calls, Thread, next_line}
 use Rattle.thread_space.specs.Kept.{Kept}

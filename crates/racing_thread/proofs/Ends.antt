@@ -1,12 +1,11 @@
 -- A thread that races, before its first turn and behind its last.
-use Rattle.std.proofs.Common.{◌≡◌, ◌∙◌, ◌+◌, ℕ, true, false, List, [], ◌∷◌, length, map, Some, refl, sym, ap, subst, arith}
+use Rattle.std.proofs.Common.{◌≡◌, ◌∙◌, ◌+◌, ℕ, true, false, List, [], ◌∷◌, map, Some, refl, sym, ap, subst, arith}
 use Rattle.job_text.specs.Jobs.{JobParts}
 use Rattle.job_text.specs.Threads.{of_thread}
 use Rattle.loaded_modules.specs.Images.{JobImages, infos, last_offset}
 use Rattle.module_table.specs.declared.events.Event.{Event}
 use Rattle.module_table.specs.History.{IsLegal}
 use Rattle.shared_modules.specs.declared.board.Images.{Images}
-use Rattle.shared_modules.specs.Laws.{own_events}
 use Rattle.shared_modules.specs.Passes.{IsSamePass, PassView}
 use Rattle.lawful_points.specs.Raced.{IsRacer, raced_looks, raced_of}
 use Rattle.lawful_points.specs.Told.{points_of}

@@ -1,5 +1,5 @@
 -- How far a thread that races has come, and one turn more.
-use Rattle.std.proofs.Common.{◌≡◌, ◌∙◌, ◌+◌, ◌++◌, ℕ, Bool, false, List, [], ◌∷◌, length, drop, map, Option, Some, None, refl, sym, ap, subst, arith}
+use Rattle.std.proofs.Common.{◌≡◌, ◌∙◌, ◌+◌, ◌++◌, ℕ, Bool, false, List, [], ◌∷◌, length, drop, Option, Some, None, refl, sym, ap, subst, arith}
 use Rattle.std.specs.Prelude.{option_and_then}
 use Rattle.std.proofs.Math.Seq.{drop-append_seam}
 use Rattle.job_text.specs.declared.thread_lines.ThreadLine.{ThreadLine}
@@ -11,14 +11,13 @@ use Rattle.module_table.specs.Past.{Past, after, past}
 use Rattle.shared_modules.specs.declared.board.Images.{Images}
 use Rattle.shared_modules.specs.Passes.{PassView, SharedView, IsSamePass}
 use Rattle.shared_modules.specs.Views.{Knows}
-use Rattle.lawful_points.specs.Orders.{is_over, look_at, looks_of}
+use Rattle.lawful_points.specs.Orders.{is_over, look_at}
 use Rattle.lawful_points.specs.Points.{AreLawful, Look}
 use Rattle.lawful_points.specs.Raced.{first_of, raced_looks, raced_of}
 use Rattle.lawful_points.specs.Told.{Point, points_of}
 use Rattle.lawful_points.proofs.Jobs.{event_named, turns_tell}
 use Rattle.lawful_points.proofs.Telling.{HasTold, turn_told}
 use Rattle.thread_blocks.specs.JobLoads.{job_loads}
-use Rattle.thread_blocks.specs.JobWorlds.{numbered_lines}
 use Rattle.thread_blocks.specs.Lines.{Line, event_by}
 use Rattle.thread_blocks.specs.RunTime.{Runs, thread_turns}
 use Rattle.thread_blocks.specs.Turns.{Thread, Turns, event_of, next_line, turn, with_event}

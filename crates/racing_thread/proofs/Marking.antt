@@ -1,5 +1,5 @@
 -- Each turn of a thread that is not over tells one mark more: that of its look.
-use Rattle.std.proofs.Common.{◌≡◌, ◌∙◌, ◌+◌, ◌-◌, ◌++◌, ℕ, Bool, true, false, List, [], ◌∷◌, map, length, Option, Some, None, refl, sym, ap, arith, append-nil, append_assoc, length-append}
+use Rattle.std.proofs.Common.{◌≡◌, ◌∙◌, ◌+◌, ◌-◌, ◌++◌, ℕ, Bool, false, List, [], ◌∷◌, map, length, Option, Some, None, refl, sym, ap, arith, append-nil, append_assoc, length-append}
 use Rattle.std.specs.Prelude.{option_and_then, option_map}
 use Rattle.std.proofs.lemmas.List.{map-append}
 use Rattle.guest_machine.specs.Run.{Outcome, Ended, Waits, run}
@@ -11,7 +11,7 @@ use Rattle.lawful_points.specs.Told.{added_by}
 use Rattle.lawful_points.proofs.Telling.{IsSilent, TellsBegun, added_in}
 use Rattle.thread_blocks.specs.Lines.{Line}
 use Rattle.thread_blocks.specs.MachineTurns.{answer_of, shown}
-use Rattle.thread_blocks.specs.Turns.{Ending, Stopped, Said, Begun, Says, Calls, Turns, Phase, Idle, Mid, Thread, IsFinished, after_look, after_run, event_of, next_line, ready, turn, turn_at, with_last}
+use Rattle.thread_blocks.specs.Turns.{Ending, Stopped, Said, Begun, Says, Calls, Turns, Phase, Idle, Mid, Thread, IsFinished, after_look, after_run, event_of, next_line, turn, turn_at, with_last}
 use Rattle.racing_thread.specs.Tallies.{Mark, is_registry_line, marks_of, marks_of_line}
 
 -- ** what is said of lines

@@ -41,27 +41,27 @@ pub returns-clause-takes : goal.returns-clause-takes
 returns-clause-takes g c =
     let found = c.answer.new.events.items in
     let fresh = cut_is c.args.runner c.args.pass.now c.args.events.now.items c.requires.level c.answer.new.events.items c.answer.new.pass
-      c.in_ok-answered.answered.answer c.in_ok-answered.answered.own c.thread.result c.asks.result c.thread.ensures c.asks.ensures
-      c.in_ok-answered.ensures.answers c.as_slice-known.result.now c.as_slice-2.result.now
-      c.as_slice-known.ensures.value c.as_slice-2.ensures.value in
+    c.in_ok-answered.answered.answer c.in_ok-answered.answered.own c.thread.result c.asks.result c.thread.ensures c.asks.ensures
+    c.in_ok-answered.ensures.answers c.as_slice-known.result.now c.as_slice-2.result.now
+    c.as_slice-known.ensures.value c.as_slice-2.ensures.value in
     elim c.match-answered.branch [
       | in-Some+in_ok-push w ↦
-        let which = w.in-Some.is in
-        let own : c.in_ok-answered.answered.own ≡ Some w.in-Some.own = cc in
-        let moved = w.events-is in
-        let pushed = w.in_ok-push.ensures.items in
-        let are : c.match-answered.events.items ≡ found ++ w.in-Some.own ∷ [] = cc in
-        takes_turn c.args.runner c.args.pass.now c.args.events.now.items c.requires.level c.answer.new.events.items c.answer.new.pass
-      c.in_ok-answered.answered.answer c.in_ok-answered.answered.own c.thread.result c.asks.result c.thread.ensures c.asks.ensures
-      c.in_ok-answered.ensures.answers _ c.match-answered.events.items c.in_ok-runner.runner fresh c.in_ok-runner.ensures
-        (are ∙ ap (with_event found) (sym own))
+          let which = w.in-Some.is in
+          let own : c.in_ok-answered.answered.own ≡ Some w.in-Some.own = cc in
+          let moved = w.events-is in
+          let pushed = w.in_ok-push.ensures.items in
+          let are : c.match-answered.events.items ≡ found ++ w.in-Some.own ∷ [] = cc in
+          takes_turn c.args.runner c.args.pass.now c.args.events.now.items c.requires.level c.answer.new.events.items c.answer.new.pass
+          c.in_ok-answered.answered.answer c.in_ok-answered.answered.own c.thread.result c.asks.result c.thread.ensures c.asks.ensures
+          c.in_ok-answered.ensures.answers _ c.match-answered.events.items c.in_ok-runner.runner fresh c.in_ok-runner.ensures
+          (are ∙ ap (with_event found) (sym own))
       | in_default w ↦
-        let which = w.in_default.is in
-        let own : c.in_ok-answered.answered.own ≡ None = cc in
-        let moved = w.events-is in
-        let are : c.match-answered.events.items ≡ found = cc in
-        takes_turn c.args.runner c.args.pass.now c.args.events.now.items c.requires.level c.answer.new.events.items c.answer.new.pass
-      c.in_ok-answered.answered.answer c.in_ok-answered.answered.own c.thread.result c.asks.result c.thread.ensures c.asks.ensures
-      c.in_ok-answered.ensures.answers _ c.match-answered.events.items c.in_ok-runner.runner fresh c.in_ok-runner.ensures
-        (are ∙ ap (with_event found) (sym own))
+          let which = w.in_default.is in
+          let own : c.in_ok-answered.answered.own ≡ None = cc in
+          let moved = w.events-is in
+          let are : c.match-answered.events.items ≡ found = cc in
+          takes_turn c.args.runner c.args.pass.now c.args.events.now.items c.requires.level c.answer.new.events.items c.answer.new.pass
+          c.in_ok-answered.answered.answer c.in_ok-answered.answered.own c.thread.result c.asks.result c.thread.ensures c.asks.ensures
+          c.in_ok-answered.ensures.answers _ c.match-answered.events.items c.in_ok-runner.runner fresh c.in_ok-runner.ensures
+          (are ∙ ap (with_event found) (sym own))
     ]
