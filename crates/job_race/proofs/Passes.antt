@@ -1,8 +1,7 @@
 -- The passes of a row of threads: in halves, and joined.
-use Rattle.std.proofs.Common.{◌≡◌, ◌+◌, ◌-◌, ◌/◌, ◌≤◌, ◌<◌, ◌∙◌, ℕ, false, List, [], ◌∷◌, ◌++◌, length, refl, sym, ap, subst, arith}
+use Rattle.std.proofs.Common.{◌≡◌, ◌+◌, ◌-◌, ◌/◌, ◌≤◌, ◌∙◌, ℕ, false, [], ◌++◌, length, sym, ap, arith}
 use Rattle.loaded_modules.specs.Images.{JobImages, infos, last_offset}
 use Rattle.job_turns.specs.Alone.{has_data}
-use Rattle.shared_modules.specs.declared.board.Images.{Images}
 use Rattle.shared_modules.specs.Passes.{PassView, SharedView, joined, left_pass, right_pass}
 use Rattle.shared_modules.specs.Threads.{all_rising, first_rising, join_rising, rising-length, second_rising}
 use Rattle.shared_modules.specs.Views.{all_threads, first_half, rising, second_half}

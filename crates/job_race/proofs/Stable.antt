@@ -1,5 +1,6 @@
 -- What is known of a thread that raced stays when others add events.
-use Rattle.std.proofs.Common.{◌≡◌, ◌≢◌, ◌==◌, ◌+◌, ◌≤◌, ◌∙◌, ℕ, zero, suc, false, true, Bool, List, [], ◌∷◌, ◌++◌, length, refl, sym, ap, subst, append_assoc, arith}
+use Rattle.std.proofs.Common.{◌≡◌, ◌==◌, ◌+◌, ◌≤◌, ◌∙◌, ℕ, zero, suc, false, true, Bool, List, [], ◌∷◌, ◌++◌, length, refl, ap, subst, append_assoc, arith}
+use Rattle.std.specs.Prelude.{if◌then◌else◌}
 use Rattle.job_text.specs.Jobs.{JobParts}
 use Rattle.job_text.specs.Threads.{of_thread}
 use Rattle.job_text.specs.declared.thread_lines.ThreadLine.{ThreadLine}
@@ -8,9 +9,10 @@ use Rattle.module_table.specs.declared.events.Event.{Event}
 use Rattle.transcript_text.specs.declared.outcomes.Line.{Line as ShownLine}
 use Rattle.thread_blocks.specs.Instances.{Loads}
 use Rattle.thread_blocks.specs.JobLoads.{job_loads}
-use Rattle.thread_blocks.specs.TurnsAlike.{AllFronts, IsFront}
+use Rattle.thread_blocks.specs.TurnsAlike.{AllFronts}
 use Rattle.lawful_points.specs.Raced.{IsRacer}
-use Rattle.shared_modules.specs.Stable.{IsStable, other_last, stays}
+use Rattle.shared_modules.specs.Laws.{own_from}
+use Rattle.shared_modules.specs.Stable.{IsStable, stays}
 use Rattle.shared_modules.specs.Views.{Knows, flag, rising, times}
 use Rattle.job_race.specs.Rows.{AllRaced}
 
@@ -22,6 +24,14 @@ fronts_stay (front ∷ fronts) whole more are = (
   (are.0.0 ++ more, ap (λ (events : List Event). events ++ more) are.0.1 ∙ append_assoc front are.0.0 more),
   fronts_stay fronts whole more are.1,
 )
+
+-- an event of another thread is none of a thread's own
+other_last : (thread at : ℕ) (front : List Event) (e : Event) → (e.thread == thread) ≡ false
+    → own_from thread at (front ++ e ∷ []) ≡ own_from thread at front
+other_last thread at [] e other = ap (λ b. if b then record { at = at; event = e } ∷ [] else []) other
+other_last thread at (x ∷ xs) e other = ap
+    (λ rest. if x.thread == thread then record { at = at; event = x } ∷ rest else rest)
+    (other_last thread (at + 1) xs e other)
 
 -- one thread, and an event of another
 racer_stays : (l : Loads ℕ) (fuel thread : ℕ) (own : List ThreadLine) (said : List ShownLine) (front : List Event)
@@ -54,7 +64,7 @@ row_stable m job (said ∷ more) first zero few front e none raced = absurd (ome
 row_stable m job (said ∷ more) first (suc count) few front e none raced =
     let other = no_flag (first == e.thread) (times e.thread (rising (first + 1) count)) none in (
       racer_stays (job_loads m) job.fuel first (of_thread job.lines first) said front e (eqb_swap first e.thread other.0)
-      raced.0,
+          raced.0,
       row_stable m job more (first + 1) count (omega (arith, few)) front e other.1 raced.1,
     )
 

@@ -1,8 +1,7 @@
 -- Rows of one thread, of none, and of all.
-use Rattle.std.proofs.Common.{◌≡◌, ◌+◌, ◌-◌, ◌≤◌, ◌<◌, ℕ, zero, suc, true, List, [], ◌∷◌, length, min, map, Some, None, refl, sym, ap, subst, ◌∙◌, arith}
+use Rattle.std.proofs.Common.{◌≡◌, ◌+◌, ◌-◌, ◌≤◌, ◌<◌, ℕ, zero, suc, true, List, [], ◌∷◌, length, map, Some, sym, subst, arith}
 use Rattle.std.specs.Prelude.{All, IfOk, Result, Ok, Err, nat_lt, slice_get}
 use Rattle.std.proofs.lemmas.Option.{get_or_from_slice_get}
-use Rattle.job_text.specs.declared.images.Image.{Image}
 use Rattle.job_text.specs.declared.thread_lines.ThreadLine.{ThreadLine}
 use Rattle.job_text.specs.Images.{IsImageNumber}
 use Rattle.job_text.specs.Jobs.{JobParts}
@@ -18,7 +17,7 @@ use Rattle.lawful_points.specs.Raced.{IsRaced, IsRacer}
 use Rattle.shared_modules.specs.Passes.{PassView, SharedView}
 use Rattle.job_turns.proofs.LastTurn.{named_images}
 use Rattle.racing_thread.specs.Racing.{HasRaced}
-use Rattle.job_race.specs.Rows.{AllRaced, CanRace, CountsLooks, HasRow, tallies}
+use Rattle.job_race.specs.Rows.{AllRaced, CanRace, CountsLooks, HasRow}
 
 -- ---- one thread, and none
 

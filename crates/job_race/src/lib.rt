@@ -38,6 +38,7 @@
 #![tactic(auto)]
 
 mod race;
+mod racers;
 mod row;
 mod rows;
 

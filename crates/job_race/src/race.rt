@@ -9,6 +9,7 @@ ghost use Rattle.thread_blocks.specs.JobLoads.{job_loads};
 ghost use Rattle.transcript_text.specs.Texts.{IsImageNumber};
 ghost use Rattle.job_race.specs.Rows.{CountsLooks};
 
+use crate::racers::JobRacers;
 use crate::row::transcript_of;
 use crate::rows::race_threads;
 use job_text::Job;
@@ -50,7 +51,17 @@ pub fn race_job<R: Threads + Wait + Sync, G: Gate + Sync>(
     let Ok(names) = JobNames::new(alloc, modules) else {
         return (pass, Err(AllocError));
     };
-    let (pass, row) = race_threads(rt, alloc, job, &names, shared, pass, 1, 64, gate);
+    let racers = JobRacers {
+        job,
+        names: &names,
+        gate,
+    };
+    let (pass, row) = race_threads(rt, alloc, &racers, shared, pass, 1, 64);
+    let JobRacers {
+        job: _,
+        names: _,
+        gate: _,
+    } = racers;
     let _seen = pass.seen();
     let _threads = job.threads();
     let transcript = transcript_of(alloc, row);

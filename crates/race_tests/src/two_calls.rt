@@ -26,6 +26,7 @@ e0 t1 l1 open plug
 ";
 
 /// Which lines are over: 1 once it is so.
+#[derive(Drop)]
 struct TwoCalls {
     opened: AtomicU64,
     called: AtomicU64,

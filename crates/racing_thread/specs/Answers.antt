@@ -4,7 +4,6 @@ use Rattle.loaded_modules.specs.Images.{infos, last_offset}
 use Rattle.module_table.specs.declared.events.Event.{Event}
 use Rattle.module_table.specs.History.{IsLegal}
 use Rattle.module_table.specs.Past.{Past, past}
-use Rattle.shared_modules.specs.declared.board.Images.{Images}
 use Rattle.shared_modules.specs.Passes.{PassView}
 use Rattle.shared_modules.specs.Views.{Knows}
 use Rattle.job_turns.specs.declared.asking.Ask.{Ask}

@@ -64,11 +64,13 @@ fn open<R: Wait>(
                 image,
             }),
         }),
-        Err(OpenRefusal::OutOfMemory) => Err(AllocError),
-        Err(refusal) => Ok(Answered {
-            answer: Some(LineAnswer::Opened(Err(refusal))),
-            own: None,
-        }),
+        Err(refusal) => match refusal {
+            OpenRefusal::OutOfMemory => Err(AllocError),
+            _ => Ok(Answered {
+                answer: Some(LineAnswer::Opened(Err(refusal))),
+                own: None,
+            }),
+        },
     }
 }
 
@@ -99,11 +101,13 @@ fn close<R: Wait>(
                 image,
             }),
         }),
-        Err(CloseRefusal::OutOfMemory) => Err(AllocError),
-        Err(refusal) => Ok(Answered {
-            answer: Some(LineAnswer::Closed(Err(refusal))),
-            own: None,
-        }),
+        Err(refusal) => match refusal {
+            CloseRefusal::OutOfMemory => Err(AllocError),
+            _ => Ok(Answered {
+                answer: Some(LineAnswer::Closed(Err(refusal))),
+                own: None,
+            }),
+        },
     }
 }
 

@@ -1,9 +1,10 @@
 //! The turns of a thread, up to its end.
 
-ghost use Rattle.std.specs.Prelude.{◌≡◌, ◌≤◌, ◌×◌, ◌∷◌, [], false, IfOk};
+ghost use Rattle.std.specs.Prelude.{◌≡◌, ◌≤◌, ◌∷◌, [], false, IfOk};
 ghost use Rattle.loaded_modules.specs.Images.{infos, last_offset};
 ghost use Rattle.shared_modules.specs.Passes.{IsSamePass};
 ghost use Rattle.job_turns.specs.Alone.{has_data};
+ghost use Rattle.job_turns.specs.Progress.{is_done};
 ghost use Rattle.job_turns.specs.Standing.{IsGoing, ask_of};
 ghost use Rattle.racing_thread.specs.Answers.{IsLevel, TakesRacingTurn};
 ghost use Rattle.racing_thread.specs.Racing.{HasRaced};
@@ -27,6 +28,16 @@ const MOST_EVENTS: usize = 1 << 61;
 pub struct Raced {
     pub lines: Vec<Line>,
     pub events: Vec<Event>,
+}
+
+/// Whether nothing is left to do.
+fn is_done(ask: Ask) -> bool
+    ensures { result ≡ is_done ask }
+{
+    match ask {
+        Ask::Done => true,
+        Ask::Look(_) | Ask::Opens(_, _) | Ask::Closes(_, _) => false,
+    }
 }
 
 /// A turn of a thread that has something left to do. The list has what its pass has seen.
@@ -84,7 +95,7 @@ fn take_turns<R: Wait, G: Gate>(
     for _ in rt.forever() {
         let ask = runner.asks();
         line = pass_gate(gate, thread, line, ask);
-        if let Ask::Done = ask {
+        if is_done(ask) {
             let lines = runner.lines();
             return Ok(Raced { lines, events });
         }
@@ -114,7 +125,7 @@ pub fn race_thread<R: Wait, G: Gate>(
     requires data { has_data names.now ≡ false }
     ensures same { (result.0.shared ≡ shared.now) × (result.0.threads ≡ thread ∷ []) }
     ensures raced { IfOk result.1 (λ raced.
-        HasRaced names.now job.now thread pass.entry result.0 raced.lines.items raced.events.items) }
+        HasRaced names.now job.now thread pass result.0 raced.lines.items raced.events.items) }
 {
     let raced = take_turns(rt, alloc, job, names, shared, &mut pass, thread, gate);
     (pass, raced)

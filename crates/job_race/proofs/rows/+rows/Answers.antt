@@ -1,10 +1,26 @@
--- The halves' passes make one that is ready again, and their rows one row.
-use Rattle.std.proofs.Common.{◌≡◌, ◌+◌, ◌-◌, ◌/◌, IfOk, sym, subst, arith}
-use Rattle.shared_modules.specs.Passes.{PassView, left_pass, right_pass}
+-- Each half can race. Their passes make one that is ready again, and their rows one row.
+use Rattle.std.proofs.Common.{◌≡◌, ◌+◌, ◌-◌, ◌/◌, ◌≤◌, IfOk, sym, subst, rules, arith}
+use Rattle.shared_modules.specs.Passes.{PassView}
 use Rattle.job_race.specs.Rows.{CanRace, HasRow, IsReady}
 use Rattle.job_race.proofs.Joined.{results_joined}
-use Rattle.job_race.proofs.Passes.{both_ready}
+use Rattle.job_race.proofs.Passes.{both_ready, left_can, right_can}
 use Rattle.job_race.proofs.rows.+rows.Goals as goal
+
+pub join-left-requires-after_bounds : goal.join-left-requires-after_bounds
+join-left-requires-after_bounds g t c κs within =
+    let m = g.T.Racers.all_images c.args.racers.now in
+    let first = c.args.first in
+    let count = c.args.count in
+    let half = (count + 1) / 2 in
+    let shared = c.args.shared.now in
+    let two : 2 ≤ count = omega (arith, c.if-count-eq1.false, c.requires.can.ready.some) in
+    let left : CanRace m first half shared c.halve-left.result.0 =
+    subst (λ (r : PassView × PassView). CanRace m first half shared r.0) (sym c.halve-left.ensures)
+    (left_can m first count shared c.args.pass c.requires.can two) in
+    let right : CanRace m (first + half) (count - half) shared c.halve-left.result.1 =
+    subst (λ (r : PassView × PassView). CanRace m (first + half) (count - half) shared r.1) (sym c.halve-left.ensures)
+    (right_can m first count shared c.args.pass c.requires.can two) in
+    search rules
 
 pub returns-clause-ready : goal.returns-clause-ready
 returns-clause-ready g t c =
@@ -16,8 +32,8 @@ returns-clause-ready g t c =
 
 pub returns-clause-raced : goal.returns-clause-raced
 returns-clause-raced g t c =
-    let m = c.args.names.now in
-    let job = c.args.job.now in
+    let m = g.T.Racers.all_images c.args.racers.now in
+    let job = g.T.Racers.whole_job c.args.racers.now in
     let first = c.args.first in
     let count = c.args.count in
     let half = (count + 1) / 2 in
