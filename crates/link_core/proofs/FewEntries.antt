@@ -17,7 +17,8 @@ others xs = length (not_runtime xs)
 -- in two lists are those of the first and those of the second
 pub others-append : (xs ys : List Need) → others (xs ++ ys) ≡ others xs + others ys
 others-append xs ys =
-    ap length (filter-append (λ y. not (same_need RuntimeWord y)) xs ys) ∙ length-append (not_runtime xs) (not_runtime ys)
+    ap length (filter-append (λ y. not (same_need RuntimeWord y)) xs ys)
+    ∙ length-append (not_runtime xs) (not_runtime ys)
 
 length-filter-le : (p : Need → Bool) (xs : List Need) → length (filter p xs) ≤ length xs
 length-filter-le p [] = omega arith

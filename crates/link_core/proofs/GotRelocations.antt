@@ -60,7 +60,8 @@ right_got l given sound = λ k d h.
       symbol_in = named.symbol_in;
       names = named.names;
       own = named.own;
-      held = held_in l given (table_fits l given sound.limits) (table_extent l) (table_part l some) r lies.above lies.below;
+      held = held_in l given (table_fits l given sound.limits) (table_extent l) (table_part l some) r lies.above
+          lies.below;
     }
 
 -- they lie at or behind its start

@@ -95,7 +95,8 @@ passes b x test h is =
 
 -- ** offsets
 
-pub class_is : (class : Option SectionClass) → is_tls_class class ≡ true → (initial : Bool) × (class ≡ Some (Tls initial))
+pub class_is : (class : Option SectionClass) → is_tls_class class ≡ true
+    → (initial : Bool) × (class ≡ Some (Tls initial))
 class_is (Some (Tls initial)) h = (initial, refl)
 class_is class h = absurd (cc)
 

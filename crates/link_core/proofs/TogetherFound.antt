@@ -45,5 +45,6 @@ module _ (l : Linking) (o t k : ℕ) where
           let site = h.0 in
           let is = h.1 in
           let some = any_among (is_in_rewritten l o t k) own site is.0
-          (covers_so site.section t site.start k (site.start + site.len) (is_kept (choice l o site)) is.1 is.2 is.3 is.4) in
+          (covers_so site.section t site.start k (site.start + site.len) (is_kept (choice l o site)) is.1 is.2 is.3
+          is.4) in
           cc)
