@@ -72,8 +72,4 @@ start_among need from at (k ∷ ks) e = of_test (same_need need k) refl e (start
 -- no entry is empty
 pub size_some : (need : Need) → 0 < size_of need
 size_some ModulePair = omega arith
-size_some (SymbolPair x) = omega arith
-size_some (Descriptor x) = omega arith
-size_some (SymbolWord x) = omega arith
-size_some (AddressWord s p) = omega arith
-size_some RuntimeWord = omega arith
+size_some need = omega arith

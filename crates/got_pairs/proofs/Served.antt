@@ -84,11 +84,7 @@ among_groups n xs (g ∷ gs) own e = by (same_group g (group_of n)) refl (among_
 
 own_group : (n : Need) → list_any (λ g. same_group g (group_of n)) groups ≡ true
 own_group ModulePair = refl
-own_group (SymbolPair x) = refl
-own_group (Descriptor x) = refl
-own_group (SymbolWord x) = refl
-own_group (AddressWord s p) = refl
-own_group RuntimeWord = refl
+own_group n = refl
 
 among_at : (xs : List Need) (k : ℕ) (d : Need) → k < length xs → is_among xs (slice_index_or xs k d) ≡ true
 among_at [] k d h = absurd (omega arith)
@@ -147,11 +143,7 @@ six-total : (xs : List Need) → six xs ≡ total_size xs
 unfolding six
 six-total [] = omega arith
 six-total (ModulePair ∷ xs) = omega (arith, six-total xs)
-six-total (SymbolPair x ∷ xs) = omega (arith, six-total xs)
-six-total (Descriptor x ∷ xs) = omega (arith, six-total xs)
-six-total (SymbolWord x ∷ xs) = omega (arith, six-total xs)
-six-total (AddressWord s p ∷ xs) = omega (arith, six-total xs)
-six-total (RuntimeWord ∷ xs) = omega (arith, six-total xs)
+six-total (x ∷ xs) = omega (arith, six-total xs)
 
 total-by_group : (xs : List Need) → total_size (by_group xs) ≡ six xs
 unfolding six
@@ -160,11 +152,7 @@ total-by_group xs = simp total-append (omega arith)
 total-length : (xs : List Need) → total_size xs ≤ 16 * length xs
 total-length [] = omega arith
 total-length (ModulePair ∷ xs) = omega (arith, total-length xs)
-total-length (SymbolPair x ∷ xs) = omega (arith, total-length xs)
-total-length (Descriptor x ∷ xs) = omega (arith, total-length xs)
-total-length (SymbolWord x ∷ xs) = omega (arith, total-length xs)
-total-length (AddressWord s p ∷ xs) = omega (arith, total-length xs)
-total-length (RuntimeWord ∷ xs) = omega (arith, total-length xs)
+total-length (x ∷ xs) = omega (arith, total-length xs)
 
 pub small : (needs : List Need) → total_size (entries needs) ≤ 16 * length needs
 unfolding entries

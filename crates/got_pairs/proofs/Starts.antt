@@ -24,41 +24,17 @@ target_is (Import n) (Import m) = refl
 
 pub eq_is : (x y : Need) → (eq-value).it x y ≡ same_need x y
 eq_is ModulePair ModulePair = refl
-eq_is ModulePair (SymbolPair y) = refl
-eq_is ModulePair (Descriptor y) = refl
-eq_is ModulePair (SymbolWord y) = refl
-eq_is ModulePair (AddressWord t q) = refl
-eq_is ModulePair RuntimeWord = refl
-eq_is (SymbolPair x) ModulePair = refl
+eq_is ModulePair y = refl
 eq_is (SymbolPair x) (SymbolPair y) = target_is x y
-eq_is (SymbolPair x) (Descriptor y) = refl
-eq_is (SymbolPair x) (SymbolWord y) = refl
-eq_is (SymbolPair x) (AddressWord t q) = refl
-eq_is (SymbolPair x) RuntimeWord = refl
-eq_is (Descriptor x) ModulePair = refl
-eq_is (Descriptor x) (SymbolPair y) = refl
+eq_is (SymbolPair x) y = refl
 eq_is (Descriptor x) (Descriptor y) = target_is x y
-eq_is (Descriptor x) (SymbolWord y) = refl
-eq_is (Descriptor x) (AddressWord t q) = refl
-eq_is (Descriptor x) RuntimeWord = refl
-eq_is (SymbolWord x) ModulePair = refl
-eq_is (SymbolWord x) (SymbolPair y) = refl
-eq_is (SymbolWord x) (Descriptor y) = refl
+eq_is (Descriptor x) y = refl
 eq_is (SymbolWord x) (SymbolWord y) = target_is x y
-eq_is (SymbolWord x) (AddressWord t q) = refl
-eq_is (SymbolWord x) RuntimeWord = refl
+eq_is (SymbolWord x) y = refl
 eq_is (AddressWord s p) ModulePair = refl
-eq_is (AddressWord s p) (SymbolPair y) = refl
-eq_is (AddressWord s p) (Descriptor y) = refl
-eq_is (AddressWord s p) (SymbolWord y) = refl
-eq_is (AddressWord s p) (AddressWord t q) = refl
-eq_is (AddressWord s p) RuntimeWord = refl
+eq_is (AddressWord s p) y = refl
 eq_is RuntimeWord ModulePair = refl
-eq_is RuntimeWord (SymbolPair y) = refl
-eq_is RuntimeWord (Descriptor y) = refl
-eq_is RuntimeWord (SymbolWord y) = refl
-eq_is RuntimeWord (AddressWord t q) = refl
-eq_is RuntimeWord RuntimeWord = refl
+eq_is RuntimeWord y = refl
 
 -- a need that stands among the keys is found
 pub found : (test : Need → Bool) (es : List (Need × ℕ)) → is_some (lookup test es) ≡ list_any test (keys_of es)

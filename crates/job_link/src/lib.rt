@@ -36,8 +36,9 @@
 //!
 //! If the store has no `shared.o`, it is asked for `plugin.o` and `shared.o`, and no more. If `shared.o` and `main.o`
 //! are both faulty, `shared.o` is told, which the first line mentions, and of it the first fault in the order of
-//! `elf_object`, with the faults of its sequences last. If `shared.o` is an object with 4 bytes in its section 3, `.data`,
-//! and such data is refused, then section 3 is told before any sequence is looked for. If neither image links, `app` is told, number 0 in image order.
+//! `elf_object`, with the faults of its sequences last. If `shared.o` is an object with 4 bytes in its section 3,
+//! `.data`, and such data is refused, then section 3 is told, before any sequence is looked for. If neither image
+//! links, `app` is told, number 0 in image order.
 //!
 //! `specs/` has the steps as definitions: the names that a job mentions and the files by these names (`Mentions`),
 //! what an image is linked from and the first file that is refused (`Given`), and the links and the first image that

@@ -157,7 +157,8 @@ pub fn read_objects<'j, 'a, R: Threads + Sync>(
     writable: WritableSections,
 ) -> Result<Vec<ImageObjects<'a>>, ReadRefusal<'j>>
     ensures read { IfOk result (λ images. AreGiven (bytes_in files.now) job.now images.items) }
-    ensures allowed { IfOk result (λ images. All (λ (image : Given). All (Allows writable) image.objects) images.items) }
+    ensures allowed { IfOk result (λ images. All (λ (image : Given). All (Allows writable) image.objects)
+        images.items) }
     ensures refused { IfErr result (IsReadRefusal writable (bytes_in files.now) job.now) }
 {
     let mut images = empty_images(alloc, job)?;

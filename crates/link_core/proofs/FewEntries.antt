@@ -1,10 +1,10 @@
 -- The entries of a table are no more than the needs, the run time's word aside.
 use Rattle.std.proofs.Common.{◌≡◌, ◌+◌, ◌*◌, ◌≤◌, ℕ, Bool, true, false, cond, not, List, [], ◌∷◌, ◌++◌, filter, length}
-use Rattle.std.proofs.Common.{refl, arith}
+use Rattle.std.proofs.Common.{◌∙◌, ap, length-append, refl, arith}
+use Rattle.std.proofs.lemmas.List.Elements.{filter-append}
 use Rattle.got_pairs.specs.declared.need.Group.TheVariants as group
 use Rattle.got_pairs.specs.declared.need.Need.{Need}
-use Rattle.got_pairs.specs.declared.need.Need.TheVariants.{ModulePair, SymbolPair, Descriptor, SymbolWord}
-use Rattle.got_pairs.specs.declared.need.Need.TheVariants.{AddressWord, RuntimeWord}
+use Rattle.got_pairs.specs.declared.need.Need.TheVariants.{ModulePair, RuntimeWord}
 use Rattle.got_pairs.specs.Needs.{by_group, distinct, entries, of_group, same_need, total_size}
 
 -- those that are not the run time's word, and how many they are
@@ -16,26 +16,9 @@ others xs = length (not_runtime xs)
 
 -- in two lists are those of the first and those of the second
 pub others-append : (xs ys : List Need) → others (xs ++ ys) ≡ others xs + others ys
-others-append [] ys = omega arith
-others-append (x ∷ xs) ys =
-    elim (not (same_need RuntimeWord x)) as (λ b.
-    length (cond b (x ∷ not_runtime (xs ++ ys)) (not_runtime (xs ++ ys)))
-    ≡ length (cond b (x ∷ not_runtime xs) (not_runtime xs)) + others ys) [
-      | true ↦ omega (arith, others-append xs ys)
-      | false ↦ omega (arith, others-append xs ys)
-    ]
-
--- they are no more than all
-pub others-le : (xs : List Need) → others xs ≤ length xs
-others-le [] = omega arith
-others-le (ModulePair ∷ xs) = omega (arith, others-le xs)
-others-le (SymbolPair x ∷ xs) = omega (arith, others-le xs)
-others-le (Descriptor x ∷ xs) = omega (arith, others-le xs)
-others-le (SymbolWord x ∷ xs) = omega (arith, others-le xs)
-others-le (AddressWord s p ∷ xs) = omega (arith, others-le xs)
-others-le (RuntimeWord ∷ xs) = omega (arith, others-le xs)
-
--- ** each once
+others-append xs ys =
+    ap length (filter-append (λ y. not (same_need RuntimeWord y)) xs ys)
+    ∙ length-append (not_runtime xs) (not_runtime ys)
 
 length-filter-le : (p : Need → Bool) (xs : List Need) → length (filter p xs) ≤ length xs
 length-filter-le p [] = omega arith
@@ -44,6 +27,12 @@ length-filter-le p (x ∷ xs) =
       | true ↦ omega (arith, length-filter-le p xs)
       | false ↦ omega (arith, length-filter-le p xs)
     ]
+
+-- they are no more than all
+pub others-le : (xs : List Need) → others xs ≤ length xs
+others-le xs = length-filter-le (λ y. not (same_need RuntimeWord y)) xs
+
+-- ** each once
 
 others-filter : (p : Need → Bool) (xs : List Need) → others (filter p xs) ≤ others xs
 others-filter p [] = omega arith
@@ -68,12 +57,8 @@ one_more x xs one h =
 -- of these needs each stands once, and the run time's word once more
 length-distinct : (xs : List Need) → length (distinct xs) ≤ others xs + 1
 length-distinct [] = omega arith
-length-distinct (ModulePair ∷ xs) = one_more ModulePair xs refl (length-distinct xs)
-length-distinct (SymbolPair x ∷ xs) = one_more (SymbolPair x) xs refl (length-distinct xs)
-length-distinct (Descriptor x ∷ xs) = one_more (Descriptor x) xs refl (length-distinct xs)
-length-distinct (SymbolWord x ∷ xs) = one_more (SymbolWord x) xs refl (length-distinct xs)
-length-distinct (AddressWord s p ∷ xs) = one_more (AddressWord s p) xs refl (length-distinct xs)
 length-distinct (RuntimeWord ∷ xs) = omega (arith, others-distinct xs)
+length-distinct (x ∷ xs) = one_more x xs refl (length-distinct xs)
 
 -- ** group by group
 
@@ -87,31 +72,12 @@ six xs =
 six-others : (xs : List Need) → six xs ≡ others xs
 unfolding six
 six-others [] = omega arith
-six-others (ModulePair ∷ xs) = omega (arith, six-others xs)
-six-others (SymbolPair x ∷ xs) = omega (arith, six-others xs)
-six-others (Descriptor x ∷ xs) = omega (arith, six-others xs)
-six-others (SymbolWord x ∷ xs) = omega (arith, six-others xs)
-six-others (AddressWord s p ∷ xs) = omega (arith, six-others xs)
 six-others (RuntimeWord ∷ xs) = omega (arith, six-others xs)
+six-others (x ∷ xs) = omega (arith, six-others xs)
 
 others-by_group : (xs : List Need) → others (by_group xs) ≡ six xs
 unfolding six
-others-by_group xs =
-    let a = of_group group.ModulePair xs in
-    let b = of_group group.SymbolPairs xs in
-    let c = of_group group.Descriptors xs in
-    let d = of_group group.SymbolWords xs in
-    let e = of_group group.AddressWords xs in
-    let f = of_group group.RuntimeWord xs in
-    omega (
-      arith,
-      others-append a (b ++ (c ++ (d ++ (e ++ (f ++ []))))),
-      others-append b (c ++ (d ++ (e ++ (f ++ [])))),
-      others-append c (d ++ (e ++ (f ++ []))),
-      others-append d (e ++ (f ++ [])),
-      others-append e (f ++ []),
-      others-append f [],
-    )
+others-by_group xs = simp others-append (omega arith)
 
 -- ** the table
 
@@ -123,9 +89,5 @@ length-entries needs = omega (arith, length-distinct (by_group needs), others-by
 -- an entry has at most two words
 pub total_size-le : (xs : List Need) → total_size xs ≤ 16 * length xs
 total_size-le [] = omega arith
-total_size-le (ModulePair ∷ xs) = omega (arith, total_size-le xs)
-total_size-le (SymbolPair x ∷ xs) = omega (arith, total_size-le xs)
-total_size-le (Descriptor x ∷ xs) = omega (arith, total_size-le xs)
-total_size-le (SymbolWord x ∷ xs) = omega (arith, total_size-le xs)
-total_size-le (AddressWord s p ∷ xs) = omega (arith, total_size-le xs)
 total_size-le (RuntimeWord ∷ xs) = omega (arith, total_size-le xs)
+total_size-le (x ∷ xs) = omega (arith, total_size-le xs)

@@ -1,7 +1,7 @@
 -- Each sequence, each address field and each address of an object has a relocation of its own.
 use Rattle.std.proofs.Common.{◌≡◌, ◌+◌, ◌-◌, ◌*◌, ◌<◌, ◌≤◌, ◌∙◌, ℕ, zero, suc, Bool, true, false, cond, List, [], ◌∷◌}
-use Rattle.std.proofs.Common.{◌++◌, Option, Some, None, filter, length, get_or, if◌then◌else◌, refl, sym, ap, subst}
-use Rattle.std.proofs.Common.{inl, inr, arith}
+use Rattle.std.proofs.Common.{◌++◌, Option, Some, filter, length, get_or, if◌then◌else◌, refl, sym, ap, subst, inl, inr}
+use Rattle.std.proofs.Common.{arith}
 use Rattle.std.specs.Prelude.{sum_by}
 use Rattle.std.specs.List.{Contains, flat_map, range_with_len, slice_get}
 use Rattle.std.proofs.lemmas.List.{length-append}
@@ -11,26 +11,23 @@ use Rattle.std.proofs.lemmas.List.Sums.{sum_by-cons}
 use Rattle.std.proofs.lemmas.Bool.{cases_lt}
 use Rattle.std.proofs.lemmas.Option.{same_Some}
 use Rattle.elf_records.specs.declared.relocation.RelocationKind.{RelocationKind}
-use Rattle.elf_records.specs.declared.relocation.RelocationKind.TheVariants.{Nothing, Absolute64, Pc32, Plt32, GotPcRel}
-use Rattle.elf_records.specs.declared.relocation.RelocationKind.TheVariants.{Absolute32}
-use Rattle.elf_records.specs.declared.relocation.RelocationKind.TheVariants.{Absolute32Signed, TlsGd, TlsLd, DtpOff32}
-use Rattle.elf_records.specs.declared.relocation.RelocationKind.TheVariants.{GotTpOff}
-use Rattle.elf_records.specs.declared.relocation.RelocationKind.TheVariants.{TpOff32, GotPc32TlsDesc, TlsDescCall}
-use Rattle.elf_records.specs.declared.relocation.RelocationKind.TheVariants.{GotPcRelX, RexGotPcRelX}
+use Rattle.elf_records.specs.declared.relocation.RelocationKind.TheVariants.{Nothing}
+use Rattle.elf_records.specs.RelocationRows.{is_of_sequence}
 use Rattle.elf_object.specs.declared.relocation.Relocation.{Relocation}
 use Rattle.elf_object.specs.Lent.{kept_relocation_table, relocations, relocations_in, section_class}
 use Rattle.elf_object.specs.Object.{section_count}
 use Rattle.link_refusals.specs.Counts.{own_count}
 use Rattle.sequence_forms.specs.declared.forms.Form.{Form}
-use Rattle.sequence_forms.specs.declared.forms.Form.TheVariants.{Gd, Ld, IeMov, IeAdd, GdInd, LdInd, DescLea, DescCall}
+use Rattle.sequence_forms.specs.declared.forms.Form.TheVariants.{Gd}
 use Rattle.sequence_forms.specs.declared.places.Site.{Site}
 use Rattle.sequence_match.specs.Faults.{AreSites, Before, IsGetter, IsSite, code_of}
 use Rattle.sequence_forms.specs.Forms.{row}
 use Rattle.sequence_match.specs.Sites.{IsSiteOf}
 use Rattle.sequence_match.proofs.ApartSites.{sites_apart}
+use Rattle.sequence_match.proofs.Rows.{first_inside}
 use Rattle.sequence_match.proofs.Sections.{code_past, code_zero}
 use Rattle.link_faults.specs.declared.binding.Binding.{Binding}
-use Rattle.link_faults.specs.declared.binding.Binding.TheVariants.{Here, Startup, Runtime}
+use Rattle.link_faults.specs.declared.binding.Binding.TheVariants.{Here}
 use Rattle.link_needs.specs.Linking.{Linking, binding}
 use Rattle.link_needs.specs.Needs.{address_fields, address_needs, is_address_kind, object_needs, own_word, section_needs}
 use Rattle.link_tables.specs.Dynamic.{field_relocations, is_absolute, object_relocations, section_relocations}
@@ -38,51 +35,24 @@ use Rattle.link_core.proofs.FewLists.{contains_flat, length-each, length-sorted_
 
 -- ** the first relocations of sequences
 
--- the types that a sequence begins with
-abbrev opens : RelocationKind → Bool
-opens TlsGd = true
-opens TlsLd = true
-opens GotTpOff = true
-opens GotPc32TlsDesc = true
-opens TlsDescCall = true
-opens kind = false
-
-first_opens : (form : Form) → opens (row form).first ≡ true
+first_opens : (form : Form) → is_of_sequence (row form).first ≡ true
 unfolding row
 first_opens Gd = refl
-first_opens Ld = refl
-first_opens IeMov = refl
-first_opens IeAdd = refl
-first_opens GdInd = refl
-first_opens LdInd = refl
-first_opens DescLea = refl
-first_opens DescCall = refl
-
--- the first relocation lies in the sequence
-first_within : (form : Form) → (row form).first_at < length (row form).cells
-unfolding row
-first_within Gd = omega arith
-first_within Ld = omega arith
-first_within IeMov = omega arith
-first_within IeAdd = omega arith
-first_within GdInd = omega arith
-first_within LdInd = omega arith
-first_within DescLea = omega arith
-first_within DescCall = omega arith
+first_opens form = refl
 
 -- those of section t, each by the section and its number, from number e on
 abbrev openers : ℕ → ℕ → List Relocation → List (ℕ × ℕ)
 openers t e [] = []
-openers t e (r ∷ rs) = cond (opens r.kind) ((t, e) ∷ openers t (e + 1) rs) (openers t (e + 1) rs)
+openers t e (r ∷ rs) = cond (is_of_sequence r.kind) ((t, e) ∷ openers t (e + 1) rs) (openers t (e + 1) rs)
 
 -- a relocation of these types is among them
-is_opener : (t e k : ℕ) (rs : List Relocation) (r : Relocation) → slice_get rs k ≡ Some r → opens r.kind ≡ true
+is_opener : (t e k : ℕ) (rs : List Relocation) (r : Relocation) → slice_get rs k ≡ Some r → is_of_sequence r.kind ≡ true
     → Contains (openers t e rs) (t, e + k)
 is_opener t e k [] r is opening = cc
 is_opener t e zero (x ∷ rs) r is opening =
     let same : x ≡ r = same_Some x r is in
-    let O : Relocation → Type 0 = λ y. opens y.kind ≡ true in
-    let here : opens x.kind ≡ true = subst O (sym same) opening in
+    let O : Relocation → Type 0 = λ y. is_of_sequence y.kind ≡ true in
+    let here : is_of_sequence x.kind ≡ true = subst O (sym same) opening in
     let start : e + 0 ≡ e = omega arith in
     let P : Bool → Type 0 = λ b. Contains (cond b ((t, e) ∷ openers t (e + 1) rs) (openers t (e + 1) rs)) (t, e + 0) in
     subst P (sym here) (0, omega arith, ap (λ n. (t, n)) (sym start))
@@ -90,7 +60,7 @@ is_opener t e (suc k) (x ∷ rs) r is opening =
     let later : Contains (openers t (e + 1) rs) (t, (e + 1) + k) = is_opener t (e + 1) k rs r is opening in
     let same : (e + 1) + k ≡ e + suc k = omega arith in
     let P : ℕ → Type 0 = λ n. Contains (openers t (e + 1) rs) (t, n) in
-    elim (opens x.kind) as (λ b.
+    elim (is_of_sequence x.kind) as (λ b.
     Contains (cond b ((t, e) ∷ openers t (e + 1) rs) (openers t (e + 1) rs)) (t, e + suc k)) [
       | true ↦ Contains-append_right ((t, e) ∷ []) (openers t (e + 1) rs) (t, e + suc k) (subst P same later)
       | false ↦ subst P same later
@@ -115,7 +85,7 @@ module _ (b : List ℕ) where
       cells = omega (arith, is.1.spelled.inside)
 
       some : 0 < length (code_of b site.section)
-      some = omega (arith, cells, first_within site.form)
+      some = omega (arith, cells, first_inside site.form)
 
       above : (s : ℕ) → s ≡ site.section → 0 < s
       above zero e =
@@ -138,7 +108,7 @@ module _ (b : List ℕ) where
       let first = is.1.first in
       let inside = in_section site is in
       let t = site.section in
-      let kind : opens first.0.kind ≡ true = ap opens first.2.kind_is ∙ first_opens site.form in
+      let kind : is_of_sequence first.0.kind ≡ true = ap is_of_sequence first.2.kind_is ∙ first_opens site.form in
       let there : get_or (range_with_len 1 (section_count b - 1)) (t - 1) t ≡ t =
       (let low : t - 1 < section_count b - 1 = omega (arith, inside.0, inside.1) in
       let back : 1 + (t - 1) ≡ t = omega (arith, inside.0) in
@@ -151,7 +121,7 @@ module _ (b : List ℕ) where
         (refl, is.1),
       )
     where
-      own : (t e : ℕ) (rs : List Relocation) (r : Relocation) → slice_get rs e ≡ Some r → opens r.kind ≡ true
+      own : (t e : ℕ) (rs : List Relocation) (r : Relocation) → slice_get rs e ≡ Some r → is_of_sequence r.kind ≡ true
           → Contains (openers t 0 rs) (t, e)
       own t e rs r at opening =
           let same : 0 + e ≡ e = omega arith in
@@ -169,9 +139,9 @@ module _ (b : List ℕ) where
       let offsets : first.0.offset ≡ other.0.offset = ap (λ r. r.offset) same in
       sites_apart b p q first.0.offset (place.1, a.1) (place.1, c.1) section
       (omega (arith, first.2.offset_is))
-      (omega (arith, first.2.offset_is, first_within p.form, a.1.len_is))
+      (omega (arith, first.2.offset_is, first_inside p.form, a.1.len_is))
       (omega (arith, offsets, other.2.offset_is))
-      (omega (arith, offsets, other.2.offset_is, first_within q.form, c.1.len_is))
+      (omega (arith, offsets, other.2.offset_is, first_inside q.form, c.1.len_is))
 
   -- so there are as many at least
   few_sites : (sites : List Site) → AreSites b sites → length sites ≤ length all_openers
@@ -187,23 +157,9 @@ module _ (b : List ℕ) where
 
 -- no type is of two of the three kinds
 one_kind : (kind : RelocationKind)
-    → cond (opens kind) 1 0 + (cond (is_address_kind kind) 1 0 + cond (is_absolute kind) 1 0) ≤ 1
+    → cond (is_of_sequence kind) 1 0 + (cond (is_address_kind kind) 1 0 + cond (is_absolute kind) 1 0) ≤ 1
 one_kind Nothing = omega arith
-one_kind Absolute64 = omega arith
-one_kind Pc32 = omega arith
-one_kind Plt32 = omega arith
-one_kind GotPcRel = omega arith
-one_kind Absolute32 = omega arith
-one_kind Absolute32Signed = omega arith
-one_kind TlsGd = omega arith
-one_kind TlsLd = omega arith
-one_kind DtpOff32 = omega arith
-one_kind GotTpOff = omega arith
-one_kind TpOff32 = omega arith
-one_kind GotPc32TlsDesc = omega arith
-one_kind TlsDescCall = omega arith
-one_kind GotPcRelX = omega arith
-one_kind RexGotPcRelX = omega arith
+one_kind kind = omega arith
 
 module _ (l : Linking) (o : ℕ) where
   -- of a section's relocations
@@ -212,7 +168,7 @@ module _ (l : Linking) (o : ℕ) where
       + (length (filter (λ r. is_address_kind r.kind) rs) + length (flat_map (field_relocations l o t) rs)) ≤ length rs
   of_relocations t e [] = omega arith
   of_relocations t e (r ∷ rs) =
-      by (opens r.kind) (is_address_kind r.kind) (is_absolute r.kind) (one_kind r.kind) _ _ _ _ _ _
+      by (is_of_sequence r.kind) (is_address_kind r.kind) (is_absolute r.kind) (one_kind r.kind) _ _ _ _ _ _
       (of_relocations t (e + 1) rs)
     where
       by : {X Y Z : Type 0} (p q s : Bool) → cond p 1 0 + (cond q 1 0 + cond s 1 0) ≤ 1
@@ -230,10 +186,8 @@ module _ (l : Linking) (o : ℕ) where
 
   -- an address field asks for at most one word
   own_word-le : (bound : Option Binding) → length (own_word l bound) ≤ 1
-  own_word-le None = omega arith
   own_word-le (Some (Here found)) = omega arith
-  own_word-le (Some (Startup image)) = omega arith
-  own_word-le (Some Runtime) = omega arith
+  own_word-le bound = omega arith
 
   section_needs-le : (b : List ℕ) (t : ℕ)
       → length (section_needs l o b t) ≤ length (filter (λ r. is_address_kind r.kind) (relocations b t))

@@ -1,22 +1,20 @@
 -- A relocation of the table names what it may, and has the storage that it asks for.
-use Rattle.std.proofs.Common.{◌≡◌, ◌+◌, ◌<◌, ◌≤◌, ◌^◌, ◌==◌, ℕ, true, false, List, [], ◌∷◌, length, IsSome, inl, inr}
-use Rattle.std.proofs.Common.{refl, arith}
+use Rattle.std.proofs.Common.{◌≡◌, ◌+◌, ◌<◌, ◌≤◌, ◌^◌, ℕ, true, List, [], ◌∷◌, length, IsSome, inl, inr, refl, arith}
 use Rattle.std.specs.Prelude.{pos, ◌≤ℤ◌}
 use Rattle.std.specs.Int.{w64, cast_signed}
 use Rattle.std.specs.List.{All}
-use Rattle.std.proofs.lemmas.Bool.Decides.{nat_tests}
 use Rattle.std.proofs.lemmas.Int.{ints}
 use Rattle.std.proofs.lemmas.List.Elements.{All-cons, All-nil}
 use Rattle.image_file.specs.declared.relocation.ImageRelocation.{ImageRelocation}
 use Rattle.image_writer.specs.Linkable.{HasOwnTls, MayName, tls_size}
 use Rattle.link_faults.specs.declared.image_kind.ImageKind.{ImageKind}
-use Rattle.link_faults.specs.declared.image_kind.ImageKind.TheVariants.{Exe, Pie, Start, Late}
+use Rattle.link_faults.specs.declared.image_kind.ImageKind.TheVariants.{Exe, Pie}
 use Rattle.got_pairs.specs.declared.entry.DynamicKind.{DynamicKind}
 use Rattle.got_pairs.specs.declared.entry.DynamicKind.TheVariants as dynamic
 use Rattle.got_pairs.specs.declared.entry.DynamicSymbol.TheVariants.{Image, Imported, Runtime}
 use Rattle.got_pairs.specs.declared.need.Need.{Need}
-use Rattle.got_pairs.specs.declared.need.Need.TheVariants.{ModulePair, SymbolPair, Descriptor, SymbolWord}
-use Rattle.got_pairs.specs.declared.need.Need.TheVariants.{AddressWord, RuntimeWord}
+use Rattle.got_pairs.specs.declared.need.Need.TheVariants.{ModulePair, SymbolPair, Descriptor, SymbolWord, AddressWord}
+use Rattle.got_pairs.specs.declared.need.Need.TheVariants.{RuntimeWord}
 use Rattle.got_pairs.specs.declared.need.Target.TheVariants.{Here, Import}
 use Rattle.got_pairs.specs.Entries.{entry_of}
 use Rattle.link_needs.specs.Linking.{Linking, block_offset}
@@ -26,7 +24,7 @@ use Rattle.link_tables.specs.Dynamic.{symbols}
 use Rattle.link_core.specs.Images.{contents, tls_part}
 use Rattle.link_core.proofs.GotRelocationsNeeds.{IsEntry, Suits}
 use Rattle.link_core.proofs.GotRelocationsShown.{import_in, is_import, is_runtime, runtime_in}
-use Rattle.link_core.proofs.GotRelocationsSites.{segment}
+use Rattle.link_core.proofs.GotRelocationsSites.{not_zero, segment}
 
 -- what the relocation says is right
 pub record IsNamed (l : Linking) (r : ImageRelocation) : Type 0 where
@@ -37,19 +35,13 @@ pub record IsNamed (l : Linking) (r : ImageRelocation) : Type 0 where
 module _ (l : Linking) where
   -- ** storage
 
-  some_size : 0 < segment l → (segment l == 0) ≡ false
-  some_size some = of (segment l) some
-    where
-      of : (n : ℕ) → 0 < n → (n == 0) ≡ false
-      of n h = grind (arith, nat_tests)
-
   has_tls : 0 < segment l → IsSome (contents l).tls
   unfolding contents tls_part
-  has_tls some = rw (some_size some) refl
+  has_tls some = rw (not_zero (segment l) some) refl
 
   tls_long : 0 < segment l → tls_size (contents l).tls ≡ segment l
   unfolding contents tls_part
-  tls_long some = rw (some_size some) refl
+  tls_long some = rw (not_zero (segment l) some) refl
 
   module _ (small : segment l ≤ 2 ^ 20) where
     offset_in : (o : ℕ) → 0 < segment l → o ≤ segment l
@@ -114,12 +106,10 @@ module _ (l : Linking) where
         → All (IsNamed l) (entry_relocations l at (entry_of kind block need))
     entry_named Exe block ModulePair at suits uses = none
     entry_named Pie block ModulePair at suits uses = none
-    entry_named Start block ModulePair at suits uses = block_named at suits
-    entry_named Late block ModulePair at suits uses = block_named at suits
+    entry_named kind block ModulePair at suits uses = block_named at suits
     entry_named Exe block (SymbolPair (Here s o)) at suits uses = none
     entry_named Pie block (SymbolPair (Here s o)) at suits uses = none
-    entry_named Start block (SymbolPair (Here s o)) at suits uses = block_named at (suits refl).0
-    entry_named Late block (SymbolPair (Here s o)) at suits uses = block_named at (suits refl).0
+    entry_named kind block (SymbolPair (Here s o)) at suits uses = block_named at (suits refl).0
     entry_named kind block (SymbolPair (Import n)) at suits uses = pair_named at n suits
     entry_named kind block (Descriptor (Here s o)) at suits uses =
         let h = suits refl in
@@ -128,14 +118,11 @@ module _ (l : Linking) where
         one _ (import_named at dynamic.TlsDesc n suits (inr (is_import l n suits)))
     entry_named Exe block (SymbolWord (Here s o)) at suits uses = none
     entry_named Pie block (SymbolWord (Here s o)) at suits uses = none
-    entry_named Start block (SymbolWord (Here s o)) at suits uses = word_named at o (suits refl)
-    entry_named Late block (SymbolWord (Here s o)) at suits uses = word_named at o (suits refl)
+    entry_named kind block (SymbolWord (Here s o)) at suits uses = word_named at o (suits refl)
     entry_named kind block (SymbolWord (Import n)) at suits uses =
         one _ (import_named at dynamic.TpOff64 n suits (inr (is_import l n suits)))
     entry_named Exe block (AddressWord s p) at suits uses = none
-    entry_named Pie block (AddressWord s p) at suits uses = address_named at p
-    entry_named Start block (AddressWord s p) at suits uses = address_named at p
-    entry_named Late block (AddressWord s p) at suits uses = address_named at p
+    entry_named kind block (AddressWord s p) at suits uses = address_named at p
     entry_named kind block RuntimeWord at suits uses = one _ (runtime_named at (uses refl))
 
     pub rows_named : (need : Need) (at : ℕ) → IsEntry l need → All (IsNamed l) (need_relocations l (need, at))

@@ -191,12 +191,9 @@ module _ (l : Linking) (o : ℕ) (site : Site) (is : IsKnown l o site) where
     where
       same : ((row site.form).first ≡ TlsGd) ⊎ ((row site.form).first ≡ GotPc32TlsDesc)
           → binding l o (first_of site) ≡ binding l o (new_relocation site f)
-      same (inl e) =
+      same of =
           bound_alike l.objects l.startup o (first_of site) (new_relocation site f)
-          (ap may_import e ∙ sym (ap may_import h.0)) refl
-      same (inr e) =
-          bound_alike l.objects l.startup o (first_of site) (new_relocation site f)
-          (ap may_import e ∙ sym (ap may_import h.0)) refl
+          (elim of [ inl e ↦ ap may_import e | inr e ↦ ap may_import e ] ∙ sym (ap may_import h.0)) refl
 
       which : ((row site.form).first ≡ TlsGd) ⊎ ((row site.form).first ≡ GotPc32TlsDesc)
           → ((row site.form).first ≡ TlsGd)
@@ -244,10 +241,8 @@ sites_suit l n (own ∷ more) each =
     subst R next (each (suc o) (omega arith))))
 
 own_suits : (l : Linking) (bound : Option Binding) → All (S l) (own_word l bound)
-own_suits l None = All-nil (S l)
-own_suits l (Some Runtime) = All-nil (S l)
-own_suits l (Some (Startup image)) = All-nil (S l)
 own_suits l (Some (Here found)) = one l (AddressWord found (address l found)) tt
+own_suits l bound = All-nil (S l)
 
 object_suits : (l : Linking) (o : ℕ) (b : List ℕ) → All (S l) (object_needs l o b)
 unfolding object_needs

@@ -5,14 +5,13 @@ use Rattle.std.proofs.lemmas.List.Elements.{All-append, All-cons, All-head, All-
 use Rattle.image_file.specs.declared.relocation.ImageRelocation.{ImageRelocation}
 use Rattle.image_writer.specs.Linkable.{AreRising, width}
 use Rattle.got_pairs.specs.declared.need.Need.{Need}
-use Rattle.got_pairs.specs.declared.need.Need.TheVariants.{ModulePair, SymbolPair, Descriptor, SymbolWord}
-use Rattle.got_pairs.specs.declared.need.Need.TheVariants.{AddressWord, RuntimeWord}
+use Rattle.got_pairs.specs.declared.need.Need.TheVariants.{ModulePair, SymbolPair, Descriptor, SymbolWord, AddressWord}
 use Rattle.got_pairs.specs.declared.need.Target.TheVariants.{Here, Import}
 use Rattle.got_pairs.specs.Entries.{entry_of}
 use Rattle.got_pairs.specs.Needs.{size_of, total_size}
 use Rattle.got_pairs.specs.Plans.{starts_from}
 use Rattle.link_faults.specs.declared.image_kind.ImageKind.{ImageKind}
-use Rattle.link_faults.specs.declared.image_kind.ImageKind.TheVariants.{Exe, Pie, Start, Late}
+use Rattle.link_faults.specs.declared.image_kind.ImageKind.TheVariants.{Exe, Pie}
 use Rattle.link_needs.specs.Linking.{Linking, block_offset}
 use Rattle.link_needs.specs.Needs.{entries, got_size, got_start}
 use Rattle.link_tables.specs.Dynamic.{entry_relocations, got_relocations, need_relocations}
@@ -78,25 +77,15 @@ entry_chain : (l : Linking) (kind : ImageKind) (block : ℕ) (need : Need) (at :
 unfolding Chained
 entry_chain l Exe block ModulePair at = omega arith
 entry_chain l Pie block ModulePair at = omega arith
-entry_chain l Start block ModulePair at = (omega arith, omega arith)
-entry_chain l Late block ModulePair at = (omega arith, omega arith)
 entry_chain l Exe block (SymbolPair (Here s o)) at = omega arith
 entry_chain l Pie block (SymbolPair (Here s o)) at = omega arith
-entry_chain l Start block (SymbolPair (Here s o)) at = (omega arith, omega arith)
-entry_chain l Late block (SymbolPair (Here s o)) at = (omega arith, omega arith)
 entry_chain l kind block (SymbolPair (Import n)) at = (omega arith, (omega arith, omega arith))
 entry_chain l kind block (Descriptor (Here s o)) at = (omega arith, omega arith)
-entry_chain l kind block (Descriptor (Import n)) at = (omega arith, omega arith)
 entry_chain l Exe block (SymbolWord (Here s o)) at = omega arith
 entry_chain l Pie block (SymbolWord (Here s o)) at = omega arith
-entry_chain l Start block (SymbolWord (Here s o)) at = (omega arith, omega arith)
-entry_chain l Late block (SymbolWord (Here s o)) at = (omega arith, omega arith)
 entry_chain l kind block (SymbolWord (Import n)) at = (omega arith, omega arith)
 entry_chain l Exe block (AddressWord s p) at = omega arith
-entry_chain l Pie block (AddressWord s p) at = (omega arith, omega arith)
-entry_chain l Start block (AddressWord s p) at = (omega arith, omega arith)
-entry_chain l Late block (AddressWord s p) at = (omega arith, omega arith)
-entry_chain l kind block RuntimeWord at = (omega arith, omega arith)
+entry_chain l kind block need at = (omega arith, omega arith)
 
 rows_chain : (l : Linking) (at : ℕ) (ks : List Need) → Chained at (rows l at ks) (at + total_size ks)
 unfolding Chained

@@ -1,18 +1,16 @@
 -- What the loader may rely on of a sequence's variable: its name is imported, or it lies in the segment.
 use Rattle.std.proofs.Common.{◌≡◌, ◌∙◌, ◌+◌, ◌<◌, ◌≤◌, ◌==◌, ◌&&◌, ℕ, zero, suc, Bool, true, false, not, List, [], ◌∷◌}
-use Rattle.std.proofs.Common.{length, Option, Some, None, IsSome, inl, inr, refl, sym, ap, subst, arith}
+use Rattle.std.proofs.Common.{length, Option, Some, None, IsSome, refl, sym, ap, subst, arith}
 use Rattle.std.specs.Prelude.{IsSomeAnd, slice_get, slice_index_or, unwrap_or}
 use Rattle.std.specs.List.{Contains, flat_map}
 use Rattle.std.specs.Option.{IfSome}
-use Rattle.std.proofs.lemmas.Bool.{cases_lt}
 use Rattle.std.proofs.lemmas.Bool.Decides.{nat_tests}
 use Rattle.std.proofs.lemmas.List.{length-append}
 use Rattle.object_faults.specs.declared.class.SectionClass.{SectionClass}
-use Rattle.object_faults.specs.declared.class.SectionClass.TheVariants.{Tls, Executable, ReadOnly, Writable}
+use Rattle.object_faults.specs.declared.class.SectionClass.TheVariants.{Tls}
 use Rattle.elf_object.specs.declared.relocation.Relocation.{Relocation}
 use Rattle.elf_object.specs.declared.symbol.SymbolPlace.{SymbolPlace}
 use Rattle.elf_object.specs.declared.symbol.SymbolPlace.TheVariants.{Undefined, Absolute, InSection}
-use Rattle.elf_object.specs.Firsts.{nonzero}
 use Rattle.elf_object.specs.Laws.{table_of_kept}
 use Rattle.elf_object.specs.LawsOfParts.{placed}
 use Rattle.elf_object.specs.Lent.{kept_relocation_table, relocation_target, relocations, relocations_in, section_class}
@@ -20,7 +18,7 @@ use Rattle.elf_object.specs.Lent.{symbol_place, symbol_value}
 use Rattle.elf_object.specs.Object.{section_count}
 use Rattle.elf_object.specs.Parts.{symbol_count}
 use Rattle.sequence_forms.specs.declared.forms.Form.{Form}
-use Rattle.sequence_forms.specs.declared.forms.Form.TheVariants.{Gd, Ld, IeMov, IeAdd, GdInd, LdInd, DescLea, DescCall}
+use Rattle.sequence_forms.specs.declared.forms.Form.TheVariants.{Gd}
 use Rattle.sequence_forms.specs.declared.places.Site.{Site}
 use Rattle.sequence_match.specs.Faults.{IsSite}
 use Rattle.sequence_forms.specs.Forms.{row}
@@ -34,12 +32,11 @@ use Rattle.link_faults.specs.declared.binding.Binding.TheVariants.{Here}
 use Rattle.link_faults.specs.declared.symbol_ref.SymbolRef.{SymbolRef}
 use Rattle.tls_symbols.specs.Bindings.{is_tls_class, is_tls_place, is_tls_symbol, IsBindingWithin}
 use Rattle.tls_symbols.specs.Definitions.{IsWithin}
-use Rattle.tls_symbols.specs.Faults.{differ, held_in, held_for, is_faulty, is_mismatched, is_tls_kind, names_symbol}
-use Rattle.tls_symbols.specs.Faults.{Stands}
+use Rattle.tls_symbols.specs.Faults.{differ, held_in, is_faulty, is_mismatched, is_tls_kind, names_symbol, Stands}
 use Rattle.tls_symbols.proofs.Within.{binding_within}
-use Rattle.dynamic_symbols.specs.Names.{distinct, imported_at, imported_from, imported_in}
+use Rattle.dynamic_symbols.specs.Names.{distinct, imported_at, imported_from, imported_in, imports as imports_of}
 use Rattle.sequence_match.specs.Sites.{first_of}
-use Rattle.dynamic_symbols.specs.Names.{imports as imports_of, is_import}
+use Rattle.dynamic_symbols.specs.Names.{is_import}
 use Rattle.dynamic_symbols.proofs.Foreign.{bindings_by_use}
 use Rattle.link_refusals.specs.Faults.{by_storage}
 use Rattle.link_refusals.specs.Refused.{asks_storage}
@@ -62,25 +59,19 @@ pub record IsHeld (b : List ℕ) (x : Relocation) : Type 0 where
   pub below : table < section_count b
   pub there : slice_get (held_in b table) entry ≡ Some x
 
-held_of : (b : List ℕ) (t r : ℕ) → 0 < t → relocation_target b r ≡ t → held_in b r ≡ relocations b t
+-- a number above zero is not zero
+pub not_zero : (n : ℕ) → 0 < n → (n == 0) ≡ false
+not_zero n h = grind (arith, nat_tests)
+
+pub held_of : (b : List ℕ) (t r : ℕ) → 0 < t → relocation_target b r ≡ t → held_in b r ≡ relocations b t
 unfolding held_in
-held_of b t r above target = ap (λ n. held_for b (nonzero n)) target ∙ ap (λ o. held_for b o) (some t above)
-  where
-    not_zero : (n : ℕ) → 0 < n → (n == 0) ≡ false
-    not_zero n h = grind (arith, nat_tests)
+held_of b t r above target = rw (target, not_zero t above) refl
 
-    some : (n : ℕ) → 0 < n → nonzero n ≡ Some n
-    some n h = rw (not_zero n h) refl
-
-has_table : (b : List ℕ) (r e : ℕ) (x : Relocation) → slice_get (relocations_in b r) e ≡ Some x → 0 < r
+-- a section that has relocations has a table of them
+pub has_table : (b : List ℕ) (r e : ℕ) (x : Relocation) → slice_get (relocations_in b r) e ≡ Some x → 0 < r
 unfolding relocations_in
-has_table b r e x is = elim (cases_lt 0 r) [
-  | inl some ↦ some
-  | inr none ↦ absurd (let null : r ≡ 0 = omega arith in by r null is)
-]
-  where
-    by : (n : ℕ) → n ≡ 0 → slice_get (relocations_in b n) e ≡ Some x → ⊥
-    by n null h = let same : None ≡ Some x = rw null at h in cc
+has_table b zero e x is = absurd (cc)
+has_table b (suc r) e x is = omega arith
 
 pub held : (b : List ℕ) (t e : ℕ) (x : Relocation) → slice_get (relocations b t) e ≡ Some x → IsHeld b x
 held b t e x is =
@@ -104,19 +95,17 @@ passes b x test h is =
 
 -- ** offsets
 
-class_is : (class : Option SectionClass) → is_tls_class class ≡ true → (initial : Bool) × (class ≡ Some (Tls initial))
-class_is None h = absurd (cc)
-class_is (Some Executable) h = absurd (cc)
-class_is (Some ReadOnly) h = absurd (cc)
-class_is (Some (Writable initial)) h = absurd (cc)
+pub class_is : (class : Option SectionClass) → is_tls_class class ≡ true
+    → (initial : Bool) × (class ≡ Some (Tls initial))
 class_is (Some (Tls initial)) h = (initial, refl)
+class_is class h = absurd (cc)
 
-has_value : {X : Type 0} (o : Option X) → IsSome o → (x : X) × (o ≡ Some x)
+pub has_value : {X : Type 0} (o : Option X) → IsSome o → (x : X) × (o ≡ Some x)
 has_value None h = absurd (cc)
 has_value (Some x) h = (x, refl)
 
 module _ (l : Linking) (given : IsGiven l) (lawful : IsLawful (layout l)) where
-  in_section : (found : SymbolRef) → IsWithin l.objects found → (s : ℕ)
+  pub in_section : (found : SymbolRef) → IsWithin l.objects found → (s : ℕ)
       → symbol_place (object l found.object) found.symbol ≡ InSection s
       → is_tls_class (section_class (object l found.object) s) ≡ true
       → unwrap_or (tls_offset_of (layout l) found.object s) 0 + symbol_value (object l found.object) found.symbol
@@ -206,13 +195,7 @@ pub record IsKnown (l : Linking) (o : ℕ) (site : Site) : Type 0 where
 first_is_tls : (form : Form) → (names_symbol (row form).first ≡ true) × (is_tls_kind (row form).first ≡ true)
 unfolding row
 first_is_tls Gd = (refl, refl)
-first_is_tls Ld = (refl, refl)
-first_is_tls IeMov = (refl, refl)
-first_is_tls IeAdd = (refl, refl)
-first_is_tls GdInd = (refl, refl)
-first_is_tls LdInd = (refl, refl)
-first_is_tls DescLea = (refl, refl)
-first_is_tls DescCall = (refl, refl)
+first_is_tls form = (refl, refl)
 
 module _ (l : Linking) (sound : IsSound l) (o : ℕ) (there : o < length l.objects) where
   -- a segment that is asked for has bytes

@@ -23,6 +23,7 @@ use Rattle.link_core.proofs.LengthsInside.{form_some, is_code, is_object, is_rel
 use Rattle.link_core.proofs.LengthsPlaces.{all_follow, end_from, last_end, lie_between, places_end-is, same_base}
 use Rattle.link_core.proofs.LengthsRaw.{raw_length}
 use Rattle.link_core.proofs.LengthsKept.{FieldsFit, SiteFits, objects_keep, sites_keep}
+use Rattle.link_core.proofs.StandingSteps.{from_zero}
 
 -- a field that has bytes lies in the file
 pub field_inside : (l : Linking) (o t : ℕ) (r : Relocation) → IsGiven l → FitsTable l → o < length l.objects
@@ -61,9 +62,6 @@ file_keeps l given limits =
     sites_keep l n 0 l.sites (with_fields_from l 0 l.objects (raw_file l)) sites
     (objects_keep l n 0 l.objects (raw_file l) fields refl)
   where
-    from_zero : (k : ℕ) → k ≡ 0 + k
-    from_zero k = omega arith
-
     fields : (k : ℕ) → k < length l.objects → FieldsFit l (length (raw_file l)) (0 + k) (object l k)
     fields k below = subst (λ i. FieldsFit l (length (raw_file l)) i (object l k)) (from_zero k)
         (λ t r has wide. field_inside l k t r given limits below has wide)

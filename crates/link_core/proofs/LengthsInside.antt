@@ -1,12 +1,12 @@
 -- A section whose fields are filled lies in the file of sections, and that file is the front of the whole.
-use Rattle.std.proofs.Common.{◌≡◌, ◌≢◌, ◌+◌, ◌*◌, ◌<◌, ◌≤◌, ◌∙◌, ℕ, zero, suc, Bool, true, false, List, []}
-use Rattle.std.proofs.Common.{Option, Some, None, length, inl, inr, refl, sym, ap, subst, arith, length-append}
+use Rattle.std.proofs.Common.{◌≡◌, ◌≢◌, ◌+◌, ◌*◌, ◌<◌, ◌≤◌, ◌∙◌, ℕ, zero, suc, Bool, true, false, List, [], Option}
+use Rattle.std.proofs.Common.{Some, None, length, inl, inr, refl, sym, ap, subst, arith, length-append}
 use Rattle.std.specs.Prelude.{IsSome, map, nat_lt, unwrap_or, if◌then◌else◌, ◌==◌}
 use Rattle.std.specs.List.{Contains, range_with_len}
-use Rattle.std.proofs.lemmas.Bool.Decides.{nat_tests}
+use Rattle.std.proofs.lemmas.Bool.{ltb-true}
 use Rattle.object_rules.specs.declared.fault.FaultKind.TheVariants.{RelocTarget}
 use Rattle.object_faults.specs.declared.class.SectionClass.{SectionClass}
-use Rattle.object_faults.specs.declared.class.SectionClass.TheVariants.{Executable, ReadOnly, Tls, Writable}
+use Rattle.object_faults.specs.declared.class.SectionClass.TheVariants.{Executable, Tls}
 use Rattle.elf_object.specs.declared.relocation.Relocation.{Relocation}
 use Rattle.elf_object.specs.Classes.{kept_class, IsKeptSection}
 use Rattle.elf_object.specs.Faults.{IsObject, Stands}
@@ -17,8 +17,6 @@ use Rattle.elf_object.specs.Lent.{kept_relocation_table, relocation_at, relocati
 use Rattle.elf_object.specs.Lent.{section_bytes, section_class, section_size}
 use Rattle.elf_object.specs.Parts.{section, entry_count}
 use Rattle.sequence_forms.specs.declared.forms.Form.{Form}
-use Rattle.sequence_forms.specs.declared.forms.Form.TheVariants.{Gd, Ld, IeMov, IeAdd, GdInd, LdInd, DescLea}
-use Rattle.sequence_forms.specs.declared.forms.Form.TheVariants.{DescCall}
 use Rattle.sequence_match.specs.Faults.{bytes_of_code, code_of}
 use Rattle.sequence_forms.specs.Forms.{row}
 use Rattle.tls_layout.specs.Places.{address_of}
@@ -31,6 +29,7 @@ use Rattle.link_needs.specs.Linking.{Linking, layout, object, place}
 use Rattle.link_needs.specs.Needs.{got_size, got_start, has_stub, stub_start}
 use Rattle.link_core.specs.Bytes.{got_bytes, raw_file, stub_bytes, with_got, with_part, with_stub}
 use Rattle.link_needs.specs.Given.{FitsTable, IsGiven}
+use Rattle.sequence_match.proofs.Rows.{first_inside}
 
 pub are_laid : (l : Linking) → IsGiven l → FitsTable l → AreLaid l.kind l.objects
 are_laid l given limits = record { lawful = limits.lawful; are_objects = given.are_objects }
@@ -74,16 +73,13 @@ some_if true f zero x has = absurd (omega arith)
 some_if true f (suc n) x has = (refl, omega arith)
 some_if false f n x has = absurd (omega arith)
 
-table_some : (b : List ℕ) (r : ℕ) (x : Relocation) → Contains (relocations_in b r) x
+pub table_some : (b : List ℕ) (r : ℕ) (x : Relocation) → Contains (relocations_in b r) x
     → (0 < r) × (0 < entry_count (section b r))
 unfolding relocations_in relocations_from
 table_some b r x has =
     let at = (section b r).offset in
     let is = some_if (nat_lt 0 r) (λ k. relocation_at (at + 24 * k) b) (entry_count (section b r)) x has in
-    (above r is.0, is.1)
-  where
-    above : (r : ℕ) → nat_lt 0 r ≡ true → 0 < r
-    above r h = grind (arith, nat_tests)
+    (ltb-true 0 r is.0, is.1)
 
 -- its target has a class that has addresses: thread-local storage that is zero has no relocations
 pub record IsRelocated (b : List ℕ) (t : ℕ) : Type 0 where
@@ -151,24 +147,13 @@ is_code b object t some = of_class (section_class b t) refl some
   where
     of_class : (class : Option SectionClass) → section_class b t ≡ class
         → 0 < length (bytes_of_code class (section_bytes b t)) → IsCode b t
-    of_class None e some = absurd (omega arith)
     of_class (Some Executable) e some = record {
       class_is = e;
       size_is = sym (kept_as b object t Executable e).filled
           ∙ ap (λ c. length (bytes_of_code c (section_bytes b t))) (sym e);
     }
-    of_class (Some ReadOnly) e some = absurd (omega arith)
-    of_class (Some (Tls initial)) e some = absurd (omega arith)
-    of_class (Some (Writable initial)) e some = absurd (omega arith)
+    of_class class e some = absurd (omega arith)
 
 -- a sequence has bytes
 pub form_some : (form : Form) → 0 < length (row form).cells
-unfolding row
-form_some Gd = omega arith
-form_some Ld = omega arith
-form_some IeMov = omega arith
-form_some IeAdd = omega arith
-form_some GdInd = omega arith
-form_some LdInd = omega arith
-form_some DescLea = omega arith
-form_some DescCall = omega arith
+form_some form = omega (arith, first_inside form)

@@ -1,15 +1,14 @@
 -- Fields and sequences that lie in a file leave it as long as it was.
 use Rattle.std.proofs.Common.{◌≡◌, ◌≢◌, ◌+◌, ◌-◌, ◌<◌, ◌≤◌, ◌∙◌, ℕ, ℤ, suc, Bool, true, false, List, [], ◌∷◌, Option}
-use Rattle.std.proofs.Common.{Some, None, length, refl, ap, subst, arith}
+use Rattle.std.proofs.Common.{IsSome, Some, None, length, refl, ap, subst, arith}
 use Rattle.std.specs.Prelude.{pos, ◌+ℤ◌, ◌-ℤ◌, fold, slice_index_or, unwrap_or, if◌then◌else◌}
 use Rattle.std.specs.List.{Contains, range_with_len}
 use Rattle.std.proofs.lemmas.Bool.Decides.{nat_tests}
 use Rattle.std.proofs.lemmas.List.{take-append-drop}
 use Rattle.elf_records.specs.declared.relocation.RelocationKind.{RelocationKind}
-use Rattle.elf_records.specs.declared.relocation.RelocationKind.TheVariants.{Nothing, Absolute64, Pc32, Plt32}
-use Rattle.elf_records.specs.declared.relocation.RelocationKind.TheVariants.{GotPcRel, Absolute32, Absolute32Signed}
-use Rattle.elf_records.specs.declared.relocation.RelocationKind.TheVariants.{TlsGd, TlsLd, DtpOff32, GotTpOff}
-use Rattle.elf_records.specs.declared.relocation.RelocationKind.TheVariants.{TpOff32}
+use Rattle.elf_records.specs.declared.relocation.RelocationKind.TheVariants.{Nothing, Absolute64, Pc32, Plt32, GotPcRel}
+use Rattle.elf_records.specs.declared.relocation.RelocationKind.TheVariants.{Absolute32, Absolute32Signed, TlsGd, TlsLd}
+use Rattle.elf_records.specs.declared.relocation.RelocationKind.TheVariants.{DtpOff32, GotTpOff, TpOff32}
 use Rattle.elf_records.specs.declared.relocation.RelocationKind.TheVariants.{GotPc32TlsDesc, TlsDescCall, GotPcRelX}
 use Rattle.elf_records.specs.declared.relocation.RelocationKind.TheVariants.{RexGotPcRelX}
 use Rattle.elf_records.specs.Fields.{splice}
@@ -21,8 +20,7 @@ use Rattle.elf_object.specs.Object.{section_count}
 use Rattle.tls_relocs.specs.declared.fields.Field.{Field}
 use Rattle.tls_relocs.specs.declared.fields.Field.TheVariants.{Empty}
 use Rattle.tls_relocs.specs.Fields.{field_bytes}
-use Rattle.tls_relocs.specs.Values.{fits_signed, fits_unsigned, signed_field, stored_field, unsigned_field, word32}
-use Rattle.tls_relocs.specs.Values.{wrapped_field}
+use Rattle.tls_relocs.specs.Values.{fits_signed, fits_unsigned, signed_field, stored_field, word32}
 use Rattle.section_file.specs.Files.{offset_of}
 use Rattle.object_faults.specs.Firsts.{nonzero}
 use Rattle.tls_symbols.specs.Faults.{held_for, held_in}
@@ -46,41 +44,47 @@ use Rattle.link_needs.specs.Values.{field, is_replaced}
 
 -- ** how many bytes a field has
 
--- as many as its type says, or none where the value does not fit it
+-- a field that holds its value is as wide as its type says
+abbrev pub IsExact : ℕ → Option Field → Type 0
+IsExact n value = IsSome value → length (field_bytes (unwrap_or value Empty)) ≡ n
+
+four_exact : (fits : Bool) (z : ℤ) → IsExact 4 (word32 fits z)
+four_exact true z some = length-bytes_of 4 _
+four_exact false z some = absurd (cc)
+
+signed_exact : (z : ℤ) → IsExact 4 (signed_field z)
+signed_exact z = four_exact (fits_signed z) z
+
+pub field_exact : (kind : RelocationKind) (s : ℕ) (a : ℤ) (p g : ℕ)
+    → IsExact (field_width kind) (stored_field kind s a p g)
+field_exact Nothing s a p g some = refl
+field_exact Absolute64 s a p g some = length-bytes_of 8 _
+field_exact Pc32 s a p g some = signed_exact ((pos s +ℤ a) -ℤ pos p) some
+field_exact Plt32 s a p g some = signed_exact ((pos s +ℤ a) -ℤ pos p) some
+field_exact GotPcRel s a p g some = signed_exact ((pos g +ℤ a) -ℤ pos p) some
+field_exact Absolute32 s a p g some = four_exact (fits_unsigned (pos s +ℤ a)) (pos s +ℤ a) some
+field_exact Absolute32Signed s a p g some = signed_exact (pos s +ℤ a) some
+field_exact TlsGd s a p g some = signed_exact ((pos g +ℤ a) -ℤ pos p) some
+field_exact TlsLd s a p g some = signed_exact ((pos g +ℤ a) -ℤ pos p) some
+field_exact DtpOff32 s a p g some = signed_exact ((pos s +ℤ a) -ℤ pos g) some
+field_exact GotTpOff s a p g some = signed_exact ((pos g +ℤ a) -ℤ pos p) some
+field_exact TpOff32 s a p g some = signed_exact ((pos s +ℤ a) -ℤ pos g) some
+field_exact GotPc32TlsDesc s a p g some = signed_exact ((pos g +ℤ a) -ℤ pos p) some
+field_exact TlsDescCall s a p g some = refl
+field_exact GotPcRelX s a p g some = signed_exact ((pos g +ℤ a) -ℤ pos p) some
+field_exact RexGotPcRelX s a p g some = signed_exact ((pos g +ℤ a) -ℤ pos p) some
+
+-- it has as many bytes as its type says, or none where the value does not fit it
 abbrev pub IsAtMost : ℕ → Option Field → Type 0
 IsAtMost n value = length (field_bytes (unwrap_or value Empty)) ≤ n
 
-four_at_most : (fits : Bool) (z : ℤ) → IsAtMost 4 (word32 fits z)
-four_at_most true z = omega (arith, length-bytes_of)
-four_at_most false z = omega arith
-
-signed_at_most : (z : ℤ) → IsAtMost 4 (signed_field z)
-signed_at_most z = four_at_most (fits_signed z) z
-
-unsigned_at_most : (z : ℤ) → IsAtMost 4 (unsigned_field z)
-unsigned_at_most z = four_at_most (fits_unsigned z) z
-
-wrapped_at_most : (z : ℤ) → IsAtMost 8 (wrapped_field z)
-wrapped_at_most z = omega (arith, length-bytes_of)
+at_most : (n : ℕ) (value : Option Field) → IsExact n value → IsAtMost n value
+at_most n None exact = omega arith
+at_most n (Some value) exact = omega (arith, exact refl)
 
 pub field_at_most : (kind : RelocationKind) (s : ℕ) (a : ℤ) (p g : ℕ)
     → IsAtMost (field_width kind) (stored_field kind s a p g)
-field_at_most Nothing s a p g = omega arith
-field_at_most Absolute64 s a p g = wrapped_at_most (pos s +ℤ a)
-field_at_most Pc32 s a p g = signed_at_most ((pos s +ℤ a) -ℤ pos p)
-field_at_most Plt32 s a p g = signed_at_most ((pos s +ℤ a) -ℤ pos p)
-field_at_most GotPcRel s a p g = signed_at_most ((pos g +ℤ a) -ℤ pos p)
-field_at_most Absolute32 s a p g = unsigned_at_most (pos s +ℤ a)
-field_at_most Absolute32Signed s a p g = signed_at_most (pos s +ℤ a)
-field_at_most TlsGd s a p g = signed_at_most ((pos g +ℤ a) -ℤ pos p)
-field_at_most TlsLd s a p g = signed_at_most ((pos g +ℤ a) -ℤ pos p)
-field_at_most DtpOff32 s a p g = signed_at_most ((pos s +ℤ a) -ℤ pos g)
-field_at_most GotTpOff s a p g = signed_at_most ((pos g +ℤ a) -ℤ pos p)
-field_at_most TpOff32 s a p g = signed_at_most ((pos s +ℤ a) -ℤ pos g)
-field_at_most GotPc32TlsDesc s a p g = signed_at_most ((pos g +ℤ a) -ℤ pos p)
-field_at_most TlsDescCall s a p g = omega arith
-field_at_most GotPcRelX s a p g = signed_at_most ((pos g +ℤ a) -ℤ pos p)
-field_at_most RexGotPcRelX s a p g = signed_at_most ((pos g +ℤ a) -ℤ pos p)
+field_at_most kind s a p g = at_most (field_width kind) (stored_field kind s a p g) (field_exact kind s a p g)
 
 -- ** writing
 
@@ -105,6 +109,23 @@ fold_keeps f n [] file each is = is
 fold_keeps f n (x ∷ xs) file each is =
     fold_keeps f n xs (f file x) (λ y has. each y (suc has.0, omega arith, has.2))
     (each x (0, omega arith, refl) file is)
+
+-- the relocations that a section holds are those of its target
+pub held_of : (b : List ℕ) (t : ℕ) (r : Relocation) → Contains (held_for b (nonzero t)) r → Contains (relocations b t) r
+held_of b t r has = of_target (nonzero t) refl has
+  where
+    of_target : (s : Option ℕ) → s ≡ nonzero t → Contains (held_for b s) r → Contains (relocations b t) r
+    of_target None e has = absurd (omega arith)
+    of_target (Some s) e has = subst (λ i. Contains (relocations b i) r) (own t s e) has
+      where
+        own : (t s : ℕ) → Some s ≡ nonzero t → s ≡ t
+        own t s e = grind (arith, nat_tests)
+
+-- what is chosen is of its form
+pub chosen_own : (l : Linking) (form : Form) (bound : Option Binding) → chosen l form bound ≢ Keep
+    → IsChoiceOf form (chosen l form bound)
+chosen_own l form None changes = absurd (changes refl)
+chosen_own l form (Some bound) changes = own_choice form bound l.kind l.relax
 
 -- ** the parts of the linking, of which each leaves n bytes
 
@@ -135,25 +156,13 @@ module _ (l : Linking) (n : ℕ) where
       of_test false = field_at_keeps o t r.offset (field_width r.kind) (field l o t r) now
           (field_at_most r.kind _ r.addend _ _) inside is
 
-  held_keeps : (o : ℕ) (b : List ℕ) (t : ℕ) (s : Option ℕ) (now : List ℕ) → FieldsFit o b → s ≡ nonzero t
-      → length now ≡ n → length (fold (with_field l o t) now (held_for b s)) ≡ n
-  held_keeps o b t None now fit e is = is
-  held_keeps o b t (Some s) now fit e is =
-      fold_keeps (with_field l o t) n (relocations b s) now
-      (λ r has file long. field_keeps o t r file (inside r has) long) is
-    where
-      same : (t s : ℕ) → Some s ≡ nonzero t → s ≡ t
-      same t s e = grind (arith, nat_tests)
-
-      inside : (r : Relocation) → Contains (relocations b s) r → 0 < field_width r.kind
-          → offset_of (layout l) (place l o t r.offset) + field_width r.kind ≤ n
-      inside r has = fit t r (subst (λ i. Contains (relocations b i) r) (same t s e) has)
-
   table_keeps : (o : ℕ) (b : List ℕ) (s : ℕ) (now : List ℕ) → FieldsFit o b
       → length now ≡ n → length (with_table l o b now s) ≡ n
   unfolding held_in
   table_keeps o b s now fit is =
-      held_keeps o b (relocation_target b s) (nonzero (relocation_target b s)) now fit refl is
+      let t = relocation_target b s in
+      fold_keeps (with_field l o t) n (held_in b s) now
+      (λ r has file long. field_keeps o t r file (fit t r (held_of b t r has)) long) is
 
   object_keeps : (o : ℕ) (b now : List ℕ) → FieldsFit o b → length now ≡ n → length (with_fields l o b now) ≡ n
   unfolding with_fields
@@ -229,12 +238,8 @@ module _ (l : Linking) (n : ℕ) where
   site_keeps o site now fits is =
       let inside = fits.inside in
       field_of_site_keeps o site (choice l o site) (new_field site.form (choice l o site)) _ fits refl
-      (rewritten_keeps (in_file l o site) (choice l o site) now (own (binding l o (first_of site))) (omega arith)
-      fits.whole ∙ is)
-    where
-      own : (bound : Option Binding) → chosen l site.form bound ≢ Keep → IsChoiceOf site.form (chosen l site.form bound)
-      own None changes = absurd (changes refl)
-      own (Some bound) changes = own_choice site.form bound l.kind l.relax
+      (rewritten_keeps (in_file l o site) (choice l o site) now (chosen_own l site.form (binding l o (first_of site)))
+      (omega arith) fits.whole ∙ is)
 
   pub sites_keep : (o : ℕ) (sites : List (List Site)) (now : List ℕ)
       → ((k : ℕ) → k < length sites → (site : Site) → Contains (slice_index_or sites k []) site → SiteFits (o + k) site)

@@ -12,7 +12,7 @@ use Rattle.image_writer.specs.declared.outline.PartPlace.{PartPlace}
 use Rattle.image_writer.specs.Page.{base_of as base_in_file}
 use Rattle.image_writer.specs.Told.{places_end}
 use Rattle.link_faults.specs.declared.image_kind.ImageKind.{ImageKind}
-use Rattle.link_faults.specs.declared.image_kind.ImageKind.TheVariants.{Exe, Pie, Start, Late}
+use Rattle.link_faults.specs.declared.image_kind.ImageKind.TheVariants.{Exe}
 use Rattle.link_faults.specs.ImageKinds.{base_of}
 use Rattle.tls_layout.specs.declared.extent.Extent.{Extent}
 use Rattle.tls_layout.specs.Places.{executable, read_only, room, tls_image, writable}
@@ -143,6 +143,13 @@ are_parts p =
 
 -- ** all parts
 
+-- where the table lies, and the stub
+abbrev pub got_place : Linking → PartPlace
+got_place l = record { class = Writable; address = got_start l; size = got_size l }
+
+abbrev pub stub_place : Linking → PartPlace
+stub_place l = record { class = Executable; address = stub_start l; size = 6 }
+
 -- where the table ends, or the sections where there is none
 abbrev pub got_end : Linking → ℕ
 got_end l = if got_size l == 0 then sections_end (layout l) else got_start l + got_size l
@@ -196,22 +203,16 @@ all_follow l =
           ∙ t.1;
     }
   where
-    got_place : PartPlace
-    got_place = record { class = Writable; address = got_start l; size = got_size l }
-
-    stub_place : PartPlace
-    stub_place = record { class = Executable; address = stub_start l; size = 6 }
-
     got : (test : Bool) → sections_end (layout l) ≤ got_start l
-        → Follow (sections_end (layout l)) (if test then [] else got_place ∷ [])
-        × (end_from (sections_end (layout l)) (if test then [] else got_place ∷ [])
+        → Follow (sections_end (layout l)) (if test then [] else got_place l ∷ [])
+        × (end_from (sections_end (layout l)) (if test then [] else got_place l ∷ [])
         ≡ (if test then sections_end (layout l) else got_start l + got_size l))
     got true before = (tt, refl)
     got false before = ((before, tt), refl)
 
     stub : (test : Bool) → got_end l ≤ stub_start l
-        → Follow (got_end l) (if test then stub_place ∷ [] else [])
-        × (end_from (got_end l) (if test then stub_place ∷ [] else [])
+        → Follow (got_end l) (if test then stub_place l ∷ [] else [])
+        × (end_from (got_end l) (if test then stub_place l ∷ [] else [])
         ≡ (if test then stub_start l + 6 else got_end l))
     stub true before = ((before, tt), refl)
     stub false before = (tt, refl)
@@ -219,6 +220,4 @@ all_follow l =
 -- an image begins at one place, whatever says so
 pub same_base : (kind : ImageKind) → base_in_file (file_kind kind) ≡ base_of kind
 same_base Exe = refl
-same_base Pie = refl
-same_base Start = refl
-same_base Late = refl
+same_base kind = refl

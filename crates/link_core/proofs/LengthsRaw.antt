@@ -11,21 +11,18 @@ use Rattle.elf_records.specs.Fields.{bytes_of}
 use Rattle.elf_records.specs.Laws.{length-bytes_of}
 use Rattle.got_pairs.specs.declared.entry.Word.{Word}
 use Rattle.got_pairs.specs.declared.need.Need.{Need}
-use Rattle.got_pairs.specs.declared.need.Need.TheVariants.{ModulePair, SymbolPair, Descriptor, SymbolWord}
-use Rattle.got_pairs.specs.declared.need.Need.TheVariants.{AddressWord, RuntimeWord}
+use Rattle.got_pairs.specs.declared.need.Need.TheVariants.{ModulePair, SymbolPair, Descriptor, SymbolWord, RuntimeWord}
 use Rattle.got_pairs.specs.declared.need.Target.TheVariants.{Here, Import}
 use Rattle.got_pairs.specs.Entries.{entry_of, words}
 use Rattle.got_pairs.specs.Needs.{size_of, start_of, total_size}
 use Rattle.got_pairs.proofs.Served.{within}
 use Rattle.link_faults.specs.declared.image_kind.ImageKind.{ImageKind}
-use Rattle.link_faults.specs.declared.image_kind.ImageKind.TheVariants.{Exe, Pie, Start, Late}
+use Rattle.link_faults.specs.declared.image_kind.ImageKind.TheVariants.{Exe}
 use Rattle.link_faults.specs.ImageKinds.{base_of}
 use Rattle.section_file.specs.Files.{offset_of, sections_file}
 use Rattle.section_file.specs.Laws.{sections_end}
 use Rattle.section_file.proofs.Told.{files_end}
 use Rattle.tls_layout.specs.Places.{room, zero_data}
-use Rattle.tls_layout.specs.Rounding.{page_up}
-use Rattle.tls_layout.proofs.Rounds.{round_up-near}
 use Rattle.tls_layout.proofs.Together.{page_limit, page_up-above}
 use Rattle.tls_relocs.specs.declared.fields.Field.TheVariants.{Empty}
 use Rattle.tls_relocs.specs.Fields.{field_bytes}
@@ -38,6 +35,7 @@ use Rattle.link_core.specs.Bytes.{got_bytes, need_bytes, raw_file, stub_bytes, w
 use Rattle.link_needs.specs.Given.{FitsTable, IsGiven}
 use Rattle.link_core.proofs.LengthsInside.{are_laid}
 use Rattle.link_core.proofs.LengthsPlaces.{base_before, got_end, got_end-before, got_start-after, last_end}
+use Rattle.link_core.proofs.LoadsParts.{page_near}
 
 -- ** the table
 
@@ -55,26 +53,14 @@ words_length (w ∷ ws) =
 -- an entry has as many words as it has room for
 word_count : (kind : ImageKind) (block : ℕ) (need : Need) → 8 * length (words (entry_of kind block need)) ≡ size_of need
 word_count Exe block ModulePair = refl
-word_count Pie block ModulePair = refl
-word_count Start block ModulePair = refl
-word_count Late block ModulePair = refl
-word_count Exe block (SymbolPair (Here s o)) = refl
-word_count Pie block (SymbolPair (Here s o)) = refl
-word_count Start block (SymbolPair (Here s o)) = refl
-word_count Late block (SymbolPair (Here s o)) = refl
+word_count kind block ModulePair = refl
+word_count kind block (SymbolPair (Here s o)) = refl
 word_count kind block (SymbolPair (Import n)) = refl
 word_count kind block (Descriptor (Here s o)) = refl
 word_count kind block (Descriptor (Import n)) = refl
-word_count Exe block (SymbolWord (Here s o)) = refl
-word_count Pie block (SymbolWord (Here s o)) = refl
-word_count Start block (SymbolWord (Here s o)) = refl
-word_count Late block (SymbolWord (Here s o)) = refl
+word_count kind block (SymbolWord (Here s o)) = refl
 word_count kind block (SymbolWord (Import n)) = refl
-word_count Exe block (AddressWord s p) = refl
-word_count Pie block (AddressWord s p) = refl
-word_count Start block (AddressWord s p) = refl
-word_count Late block (AddressWord s p) = refl
-word_count kind block RuntimeWord = refl
+word_count kind block need = refl
 
 pub need_length : (l : Linking) (need : Need) → length (need_bytes l need) ≡ size_of need
 need_length l need =
@@ -137,13 +123,7 @@ room_small l limits =
 
 base_small : (kind : ImageKind) → base_of kind ≤ 2 ^ 23
 base_small Exe = omega arith
-base_small Pie = omega arith
-base_small Start = omega arith
-base_small Late = omega arith
-
-page_near : (n : ℕ) → page_up n < n + 4096
-unfolding page_up
-page_near n = round_up-near n 4096 (omega arith)
+base_small kind = omega arith
 
 pub stub_small : (l : Linking) → IsGiven l → FitsTable l → stub_start l + 2 < 2 ^ 29
 stub_small l given limits =

@@ -1,6 +1,5 @@
 -- A page of headers can say what the image is.
-use Rattle.std.proofs.Common.{◌≡◌, ◌+◌, ◌-◌, ◌%◌, ◌^◌, ◌<◌, ◌≤◌, ◌==◌, ◌∙◌, ℕ, Bool, true, false, List, [], ◌∷◌}
-use Rattle.std.proofs.Common.{◌++◌}
+use Rattle.std.proofs.Common.{◌≡◌, ◌+◌, ◌-◌, ◌%◌, ◌^◌, ◌<◌, ◌≤◌, ◌==◌, ◌∙◌, ℕ, Bool, true, false, List, [], ◌∷◌, ◌++◌}
 use Rattle.std.proofs.Common.{Option, Some, None, length, get_or, map, refl, sym, ap, subst, arith, length-append}
 use Rattle.std.proofs.Common.{append_assoc}
 use Rattle.std.specs.Prelude.{if◌then◌else◌, is_some}
@@ -11,7 +10,7 @@ use Rattle.std.proofs.lemmas.List.{get_or_push, length_push, map-append}
 use Rattle.std.proofs.lemmas.List.Elements.{All-cons, All-head, All-nil, All-tail}
 use Rattle.std.proofs.lemmas.Option.{same_Some, none-some}
 use Rattle.image_faults.specs.Counts.{behind_last}
-use Rattle.image_file.specs.declared.part.PartClass.TheVariants.{Executable, ReadOnly, Writable}
+use Rattle.image_file.specs.declared.part.PartClass.TheVariants.{ReadOnly}
 use Rattle.image_rules.specs.declared.places.FileKind.{FileKind}
 use Rattle.image_writer.specs.declared.outline.PartPlace.{PartPlace}
 use Rattle.image_writer.specs.Contents.{part_in, tables_address}
@@ -26,7 +25,7 @@ use Rattle.tls_layout.specs.Rounding.{page_up, round_up}
 use Rattle.tls_layout.proofs.LawsOfPlaces.{page_multiple}
 use Rattle.tls_layout.proofs.Together.{page_up-above}
 use Rattle.link_needs.specs.Linking.{Linking, layout}
-use Rattle.link_needs.specs.Needs.{got_size, got_start, has_stub, stub_start}
+use Rattle.link_needs.specs.Needs.{got_size, got_start, has_stub}
 use Rattle.link_core.specs.Bytes.{file}
 use Rattle.link_tables.specs.Faults.{FitsLimits}
 use Rattle.link_needs.specs.Given.{IsGiven}
@@ -41,6 +40,7 @@ use Rattle.link_core.proofs.LoadsPlaces.{begins_well, image_before, places_lie, 
 use Rattle.link_core.proofs.LoadsPlaces.{stub_few, stub_unwritten}
 use Rattle.link_core.proofs.LoadsTables.{array_inside, array_some, tables_short}
 use Rattle.link_core.proofs.LoadsTls.{outline, right_tls, same_base, segment}
+use Rattle.link_core.proofs.LengthsPlaces.{got_place, stub_place}
 
 -- ** the outline of the image
 
@@ -144,14 +144,6 @@ whole_chain l given limits =
 
 -- ** what a page of headers asks
 
--- the part of the table
-abbrev got_part : Linking → PartPlace
-got_part l = record { class = Writable; address = got_start l; size = got_size l }
-
--- the part of the stub
-abbrev stub_part : Linking → PartPlace
-stub_part l = record { class = Executable; address = stub_start l; size = 6 }
-
 -- a part is not written
 abbrev IsConstant : PartPlace → Type 0
 IsConstant p = is_writable p.class ≡ false
@@ -168,8 +160,8 @@ unfolding got_number
 got_counts l = of_test (got_size l == 0)
   where
     of_test : (t : Bool)
-        → (length (if t then [] else got_part l ∷ []) ≤ 1)
-        × (1 + written (if t then [] else got_part l ∷ [])
+        → (length (if t then [] else got_place l ∷ []) ≤ 1)
+        × (1 + written (if t then [] else got_place l ∷ [])
         ≤ (if is_some (if t then None else Some (length (section_places (layout l)))) then 2 else 1))
     of_test true = (omega arith, omega arith)
     of_test false = (omega arith, omega arith)
@@ -213,9 +205,9 @@ stub_constant : (l : Linking) (tables : PartPlace) → tables.class ≡ ReadOnly
 stub_constant l tables constant = of_test (has_stub l)
   where
     of_test : (t : Bool)
-        → All IsConstant ((if t then stub_part l ∷ [] else []) ++ (tables ∷ []))
+        → All IsConstant ((if t then stub_place l ∷ [] else []) ++ (tables ∷ []))
     of_test true =
-        All-cons IsConstant (stub_part l) (tables ∷ []) refl
+        All-cons IsConstant (stub_place l) (tables ∷ []) refl
         (All-cons IsConstant tables [] (ap is_writable constant) (All-nil IsConstant))
     of_test false = All-cons IsConstant tables [] (ap is_writable constant) (All-nil IsConstant)
 
@@ -231,13 +223,13 @@ got_last l tables g constant is = of_test (got_size l == 0) is
   where
     of_test : (t : Bool) → (if t then None else Some (length (section_places (layout l)))) ≡ Some g
         → written_end
-        ((section_places (layout l) ++ ((if t then [] else got_part l ∷ []) ++ stub_places l)) ++ (tables ∷ []))
+        ((section_places (layout l) ++ ((if t then [] else got_place l ∷ []) ++ stub_places l)) ++ (tables ∷ []))
         ≡ g + 1
     of_test true is = absurd (none-some g is)
     of_test false is =
         let same = same_Some (length (section_places (layout l))) g is in
-        ap written_end (append_assoc (section_places (layout l)) (got_part l ∷ stub_places l) (tables ∷ []))
-        ∙ (last_written (section_places (layout l)) (got_part l) (stub_places l ++ (tables ∷ [])) refl
+        ap written_end (append_assoc (section_places (layout l)) (got_place l ∷ stub_places l) (tables ∷ []))
+        ∙ (last_written (section_places (layout l)) (got_place l) (stub_places l ++ (tables ∷ [])) refl
         (stub_constant l tables constant)
         ∙ ap (λ n. n + 1) same)
 

@@ -8,6 +8,7 @@ use Rattle.image_writer.specs.Contents.{parts_end}
 use Rattle.image_writer.specs.Loadable.{IsRightPart}
 use Rattle.image_writer.specs.Outlined.{Outlined, end_of, no_part, part, place_of}
 use Rattle.image_writer.specs.Page.{base_of}
+pub use Rattle.link_core.proofs.LengthsPlaces.{end_from as last_end, end_from-append as last_end-append}
 
 -- a part has bytes, begins at a page, and lies in the range of the image
 pub record IsGood (base : ℕ) (p : PartPlace) : Type 0 where
@@ -20,11 +21,6 @@ pub record IsGood (base : ℕ) (p : PartPlace) : Type 0 where
 abbrev pub Chain : ℕ → ℕ → List PartPlace → Type 0
 Chain base at [] = Unit {0}
 Chain base at (p ∷ more) = IsGood base p × (at ≤ p.address) × Chain base (end_of p) more
-
--- where the last one ends
-abbrev pub last_end : ℕ → List PartPlace → ℕ
-last_end at [] = at
-last_end at (p ∷ more) = last_end (end_of p) more
 
 -- good parts between two places
 pub record Lies (base at : ℕ) (xs : List PartPlace) (next : ℕ) : Type 0 where
@@ -48,11 +44,6 @@ pub chain_rises : (base at : ℕ) (xs : List PartPlace) → Chain base at xs →
 chain_rises base at [] chain = omega arith
 chain_rises base at (p ∷ xs) chain =
     let front = chain.1 in let rest = chain_rises base (end_of p) xs chain.2 in omega arith
-
--- parts behind others end where these do
-pub last_end-append : (at : ℕ) (xs ys : List PartPlace) → last_end at (xs ++ ys) ≡ last_end (last_end at xs) ys
-last_end-append at [] ys = refl
-last_end-append at (p ∷ xs) ys = last_end-append (end_of p) xs ys
 
 -- from a lower place on they end no higher
 pub last_end_lower : (low at : ℕ) (xs : List PartPlace) → low ≤ at → last_end low xs ≤ last_end at xs

@@ -17,8 +17,7 @@ use Rattle.tls_layout.proofs.LawsOfPlaces.{classes_follow, page_multiple}
 use Rattle.tls_layout.proofs.Together.{page_up-above, page_up-least, ascend, rise}
 use Rattle.link_core.specs.Images.{filled, section_places}
 use Rattle.link_core.proofs.LoadsChains.{Lies, last_end, last_end-append, chain_rises, chain_lower, lies-append}
-use Rattle.link_core.proofs.LoadsChains.{lies_longer}
-use Rattle.link_core.proofs.LoadsChains.{lies_none}
+use Rattle.link_core.proofs.LoadsChains.{lies_longer, lies_none}
 use Rattle.link_core.proofs.LoadsCounts.{one_if, written}
 
 -- ** pages

@@ -1,6 +1,6 @@
 -- The table and the stub lie behind the sections, and how many parts there are.
-use Rattle.std.proofs.Common.{◌≡◌, ◌+◌, ◌*◌, ◌^◌, ◌<◌, ◌≤◌, ◌==◌, ℕ, Bool, true, false, [], ◌∷◌, ◌++◌}
-use Rattle.std.proofs.Common.{length, refl, arith, inl, inr, length-append}
+use Rattle.std.proofs.Common.{◌≡◌, ◌+◌, ◌*◌, ◌^◌, ◌≤◌, ◌==◌, ℕ, Bool, true, false, [], ◌∷◌, ◌++◌, length, refl, arith}
+use Rattle.std.proofs.Common.{inl, inr, length-append}
 use Rattle.std.specs.Prelude.{if◌then◌else◌}
 use Rattle.std.proofs.lemmas.Bool.{cases_lt}
 use Rattle.std.proofs.lemmas.Bool.Decides.{nat_tests}
@@ -20,6 +20,7 @@ use Rattle.link_core.proofs.LoadsChains.{lies_none, lies_one}
 use Rattle.link_core.proofs.LoadsCounts.{written, written-append}
 use Rattle.link_core.proofs.LoadsParts.{on_page, page_near, page_rises, sections_lie, image_early, filled_few}
 use Rattle.link_core.proofs.LoadsParts.{filled_written}
+use Rattle.link_core.proofs.GotRelocationsSites.{not_zero}
 
 -- ** where the table and the stub lie
 
@@ -42,13 +43,8 @@ begins_well l lawful =
       below = page_limit l.kind (zero_data p.kind p.sections).end (omega arith);
     }
 
--- a number is zero or is not
 none_is : (n : ℕ) → n ≤ 0 → (n == 0) ≡ true
 none_is n h = grind (arith, nat_tests)
-
--- one above zero is not
-some_is : (n : ℕ) → 0 < n → (n == 0) ≡ false
-some_is n h = grind (arith, nat_tests)
 
 -- the table lies between its start and the page of the stub
 got_lies : (l : Linking) → IsLawful (layout l) → got_size l ≤ 16 * (2 ^ 19 + 1)
@@ -58,7 +54,7 @@ got_lies l lawful small =
     let page = (classes_follow (layout l)).room_page in
     let up = page_up-above (got_start l + got_size l) in
     elim (cases_lt 0 (got_size l)) [
-      | inl some ↦ rw (some_is (got_size l) some) (record {
+      | inl some ↦ rw (not_zero (got_size l) some) (record {
         chain = (
           record {
             filled = some;

@@ -8,8 +8,7 @@ use Rattle.std.proofs.lemmas.List.Sums.{sum_by-cons}
 use Rattle.dynamic_symbols.specs.Names.{name_of, name_size, size_of}
 use Rattle.image_file.specs.declared.symbol.SymbolType.TheVariants as type_in_image
 use Rattle.image_writer.specs.Contents.{Contents}
-use Rattle.image_writer.specs.Tables.{array_size, has_relocations, is_pie, name_bytes, strings}
-use Rattle.image_writer.specs.Tables.{tables}
+use Rattle.image_writer.specs.Tables.{array_size, has_relocations, is_pie, name_bytes, strings, tables}
 use Rattle.image_writer.proofs.TableSizes.{tables_long}
 use Rattle.link_faults.specs.declared.symbol_ref.SymbolRef.{SymbolRef}
 use Rattle.link_needs.specs.Linking.{Linking}

@@ -1,6 +1,6 @@
 -- The TLS segment of an image is as a page of headers wants it.
-use Rattle.std.proofs.Common.{◌≡◌, ◌+◌, ◌-◌, ◌*◌, ◌%◌, ◌<◌, ◌==◌, ◌∙◌, ℕ, Bool, true, false, List, [], ◌∷◌, ◌++◌}
-use Rattle.std.proofs.Common.{Some, None, length, get_or, refl, ap, arith, inl, inr, length-append, mul_assoc}
+use Rattle.std.proofs.Common.{◌≡◌, ◌+◌, ◌-◌, ◌*◌, ◌%◌, ◌<◌, ◌==◌, ◌∙◌, ℕ, Bool, true, false, List, [], ◌∷◌, ◌++◌, Some}
+use Rattle.std.proofs.Common.{None, length, get_or, refl, ap, arith, inl, inr, length-append, mul_assoc}
 use Rattle.std.specs.Prelude.{fold, if◌then◌else◌}
 use Rattle.std.specs.List.{All}
 use Rattle.std.specs.Option.{IfSome}
@@ -16,15 +16,10 @@ use Rattle.image_file.specs.declared.part.TlsPart.{TlsPart}
 use Rattle.image_writer.specs.declared.outline.PartPlace.{PartPlace}
 use Rattle.image_writer.specs.Loadable.{HoldsInitial, IsRightTlsPart}
 use Rattle.image_writer.specs.Outlined.{Outlined, no_part}
-use Rattle.image_writer.specs.Page.{base_of as page_base}
-use Rattle.link_faults.specs.declared.image_kind.ImageKind.{ImageKind}
-use Rattle.link_faults.specs.declared.image_kind.ImageKind.TheVariants.{Exe, Pie, Start, Late}
-use Rattle.link_faults.specs.ImageKinds.{base_of}
 use Rattle.tls_layout.specs.declared.extent.Extent.{Extent}
 use Rattle.tls_layout.specs.declared.sections.Section.{Section}
 use Rattle.tls_layout.specs.Places.{executable, greatest_alignment, initial_tls, next_alignment, read_only}
-use Rattle.tls_layout.specs.Places.{tls_alignment}
-use Rattle.tls_layout.specs.Places.{tls_image, tls_size, writable, IsLawful}
+use Rattle.tls_layout.specs.Places.{tls_alignment, tls_image, tls_size, writable, IsLawful}
 use Rattle.tls_layout.specs.Rounding.{IsMultiple}
 use Rattle.tls_layout.specs.Sections.{Layout, IsOrdinary}
 use Rattle.tls_layout.proofs.LawsOfPlaces.{classes_follow}
@@ -34,13 +29,7 @@ use Rattle.tls_layout.proofs.Together.{ascend, power_more, rise}
 use Rattle.link_needs.specs.Linking.{Linking, layout}
 use Rattle.link_core.specs.Images.{file_kind, filled, got_number, got_places, places, section_places, stub_places}
 use Rattle.link_core.specs.Images.{tls_part}
-
--- an image of either sort begins at the same address
-pub same_base : (kind : ImageKind) → page_base (file_kind kind) ≡ base_of kind
-same_base Exe = refl
-same_base Pie = refl
-same_base Start = refl
-same_base Late = refl
+pub use Rattle.link_core.proofs.LengthsPlaces.{same_base}
 
 -- ** its alignment
 
@@ -53,7 +42,7 @@ greatest_power greatest (x ∷ xs) power ordinary =
     (All-tail IsOrdinary x xs ordinary)
 
 -- that of the segment
-alignment_power : (sections : List Section) → All IsOrdinary sections → IsPower (tls_alignment sections)
+pub alignment_power : (sections : List Section) → All IsOrdinary sections → IsPower (tls_alignment sections)
 unfolding tls_alignment greatest_alignment
 alignment_power sections ordinary = of_test (tls_size sections == 0)
   where

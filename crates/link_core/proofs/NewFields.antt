@@ -1,16 +1,15 @@
 -- The field of a rewritten sequence fits its value: a variable's distance from the thread pointer, and how far an entry
 -- of the table is from the field's end, are small.
-use Rattle.std.proofs.Common.{◌≡◌, ◌+◌, ◌<◌, ◌≤◌, ◌⊎◌, ◌^◌, ◌==◌, ℕ, ℤ, pos, negsuc, Bool, true, false, List}
-use Rattle.std.proofs.Common.{[], ◌∷◌, Option, Some, None, length, inl, inr, refl, sym, ap, subst, arith}
-use Rattle.std.specs.Prelude.{◌+ℤ◌, ◌-ℤ◌, fold, unwrap_or, if◌then◌else◌}
-use Rattle.std.specs.List.{All, Contains}
+use Rattle.std.proofs.Common.{◌≡◌, ◌+◌, ◌<◌, ◌≤◌, ◌⊎◌, ◌^◌, ℕ, ℤ, pos, negsuc, Bool, true, false, List, Option, Some}
+use Rattle.std.proofs.Common.{None, length, inl, inr, refl, sym, ap, subst, arith}
+use Rattle.std.specs.Prelude.{◌+ℤ◌, ◌-ℤ◌, unwrap_or, if◌then◌else◌}
+use Rattle.std.specs.List.{Contains}
 use Rattle.std.specs.Str.{bytes_eq}
 use Rattle.std.proofs.lemmas.Bool.{lt-ltb}
 use Rattle.std.proofs.lemmas.Int.{ints}
-use Rattle.std.proofs.lemmas.List.Elements.{All-contains, All-head, All-tail}
+use Rattle.std.proofs.lemmas.List.Elements.{All-contains}
 use Rattle.elf_object.specs.declared.relocation.Relocation.{Relocation}
 use Rattle.elf_object.specs.declared.symbol.SymbolBinding.TheVariants.{Local}
-use Rattle.elf_object.specs.Lawful.{IsPower}
 use Rattle.elf_object.specs.Lent.{symbol_binding, symbol_name}
 use Rattle.elf_records.specs.declared.relocation.RelocationKind.{RelocationKind}
 use Rattle.elf_records.specs.declared.relocation.RelocationKind.TheVariants.{GotTpOff, TpOff32}
@@ -20,7 +19,7 @@ use Rattle.got_pairs.specs.Needs.{start_of, total_size}
 use Rattle.link_faults.specs.declared.binding.Binding.{Binding}
 use Rattle.link_faults.specs.declared.binding.Binding.TheVariants.{Here, Startup, Runtime}
 use Rattle.link_faults.specs.declared.image_kind.ImageKind.{ImageKind}
-use Rattle.link_faults.specs.declared.image_kind.ImageKind.TheVariants.{Exe, Pie, Start, Late}
+use Rattle.link_faults.specs.declared.image_kind.ImageKind.TheVariants.{Exe, Pie}
 use Rattle.link_faults.specs.declared.symbol_ref.SymbolRef.{SymbolRef}
 use Rattle.link_needs.proofs.InputsLemmas.{address_small}
 use Rattle.link_needs.proofs.PlanLemmas.{table_small}
@@ -38,15 +37,12 @@ use Rattle.relax_sites.specs.declared.choices.Choice.TheVariants.{Keep}
 use Rattle.relax_sites.specs.declared.rows.NewField.{NewField}
 use Rattle.relax_sites.specs.Rows.{new_field}
 use Rattle.sequence_forms.specs.declared.forms.Form.{Form}
-use Rattle.sequence_forms.specs.declared.forms.Form.TheVariants.{Gd, Ld, IeMov, IeAdd, GdInd, LdInd, DescLea, DescCall}
+use Rattle.sequence_forms.specs.declared.forms.Form.TheVariants.{Gd, IeMov, IeAdd, GdInd, DescLea, DescCall}
 use Rattle.sequence_forms.specs.declared.places.Site.{Site}
 use Rattle.sequence_match.specs.Faults.{IsSite}
 use Rattle.sequence_match.specs.Sites.{first_of}
 use Rattle.tls_layout.proofs.Rounds.{power_bounds, round_up-near}
-use Rattle.tls_layout.proofs.Together.{power_more}
-use Rattle.tls_layout.specs.declared.sections.Section.{Section}
-use Rattle.tls_layout.specs.Places.{greatest_alignment, next_alignment, tls_alignment, tls_size}
-use Rattle.tls_layout.specs.Sections.{IsOrdinary}
+use Rattle.tls_layout.specs.Places.{tls_alignment, tls_size}
 use Rattle.tls_relocs.specs.declared.fields.Field.{Field}
 use Rattle.tls_relocs.specs.declared.fields.Field.TheVariants.{Word32}
 use Rattle.tls_relocs.specs.Values.{modulo, signed_field, stored_field}
@@ -55,6 +51,7 @@ use Rattle.tls_symbols.specs.Bindings.{object_at, of_startup}
 use Rattle.tls_symbols.specs.Definitions.{definition_of, same_binding}
 use Rattle.link_core.proofs.Few.{table_fits}
 use Rattle.link_core.proofs.GotRelocationsSites.{known}
+use Rattle.link_core.proofs.LoadsTls.{alignment_power}
 use Rattle.link_core.proofs.StandingPlaces.{site_in}
 use Rattle.link_core.specs.Laws.{NewFieldsFit}
 
@@ -86,42 +83,25 @@ of_program : (form : Form) (bound : Binding) (new : NewField) → new_field form
     → IsNew (Some bound) new
 of_program Gd (Here variable) new e = distance variable 12 new e
 of_program Gd (Startup image) new e = word _ 12 new e
-of_program Gd Runtime new e = absurd (cc)
 of_program GdInd (Here variable) new e = distance variable 12 new e
 of_program GdInd (Startup image) new e = word _ 12 new e
-of_program GdInd Runtime new e = absurd (cc)
 of_program IeMov (Here variable) new e = distance variable 3 new e
-of_program IeMov (Startup image) new e = absurd (cc)
-of_program IeMov Runtime new e = absurd (cc)
 of_program IeAdd (Here variable) new e = distance variable 3 new e
-of_program IeAdd (Startup image) new e = absurd (cc)
-of_program IeAdd Runtime new e = absurd (cc)
 of_program DescLea (Here variable) new e = distance variable 3 new e
 of_program DescLea (Startup image) new e = word _ 3 new e
-of_program DescLea Runtime new e = absurd (cc)
 of_program DescCall (Here variable) new e = absurd (cc)
-of_program DescCall (Startup image) new e = absurd (cc)
-of_program DescCall Runtime new e = absurd (cc)
-of_program Ld bound new e = absurd (cc)
-of_program LdInd bound new e = absurd (cc)
+of_program form bound new e = absurd (cc)
 
 kept_has_none : (form : Form) (new : NewField) → new_field form Keep ≡ Some new → ⊥
 kept_has_none Gd new e = cc
-kept_has_none Ld new e = cc
-kept_has_none IeMov new e = cc
-kept_has_none IeAdd new e = cc
-kept_has_none GdInd new e = cc
-kept_has_none LdInd new e = cc
-kept_has_none DescLea new e = cc
-kept_has_none DescCall new e = cc
+kept_has_none form new e = cc
 
 of_kind : (form : Form) (bound : Binding) (kind : ImageKind) (relax : Bool) (new : NewField)
     → new_field form (choice_of form bound kind relax) ≡ Some new → IsNew (Some bound) new
 of_kind form bound kind false new e = absurd (kept_has_none form new e)
 of_kind form bound Exe true new e = of_program form bound new e
 of_kind form bound Pie true new e = of_program form bound new e
-of_kind form bound Start true new e = absurd (kept_has_none form new e)
-of_kind form bound Late true new e = absurd (kept_has_none form new e)
+of_kind form bound kind true new e = absurd (kept_has_none form new e)
 
 which : (l : Linking) (form : Form) (bound : Option Binding) (new : NewField)
     → new_field form (chosen l form bound) ≡ Some new → IsNew bound new
@@ -174,24 +154,6 @@ here_alike objects startup o x y found same e =
         (bytes_eq (symbol_name (object_at objects o) x.symbol) get_address) e
 
 -- ** numbers
-
-greatest_power : (greatest : ℕ) (sections : List Section) → IsPower greatest → All IsOrdinary sections
-    → IsPower (fold next_alignment greatest sections)
-greatest_power greatest [] power ordinary = power
-greatest_power greatest (x ∷ xs) power ordinary =
-    greatest_power (next_alignment greatest x) xs (power_more greatest x power (All-head IsOrdinary x xs ordinary))
-    (All-tail IsOrdinary x xs ordinary)
-
-alignment_power : (sections : List Section) → All IsOrdinary sections → IsPower (tls_alignment sections)
-unfolding tls_alignment greatest_alignment
-alignment_power sections ordinary = of_test (tls_size sections == 0)
-  where
-    one : IsPower 1
-    one = (0, omega arith, refl)
-
-    of_test : (t : Bool) → IsPower (if t then 1 else fold next_alignment 1 sections)
-    of_test true = one
-    of_test false = greatest_power 1 sections one ordinary
 
 -- the block begins near the thread pointer
 block_near : (l : Linking) → FitsTable l → block_offset l < 2 ^ 21

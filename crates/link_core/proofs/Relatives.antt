@@ -15,7 +15,8 @@ use Rattle.link_tables.specs.Dynamic.{image_relocations, got_relocations, object
 use Rattle.link_needs.specs.Given.{FitsTable, IsGiven}
 use Rattle.link_core.specs.Images.{contents}
 use Rattle.link_needs.specs.Sorting.{sorted_by}
-use Rattle.link_core.proofs.GotRelocations.{got_above, rising_got}
+use Rattle.link_core.proofs.GotRelocations.{got_above}
+use Rattle.link_core.proofs.GotRelocationsRows.{got_rises}
 use Rattle.link_core.proofs.RelativesApart.{IsRelative, all_sorted, rising_append, rising_from, sorted_rise, width_of}
 use Rattle.link_core.proofs.RelativesFields.{IsField, all_from, apart_from}
 use Rattle.link_core.proofs.RelativesParts.{class_part, held_in}
@@ -89,7 +90,7 @@ relatives_below l given limits =
 pub rising_all : (l : Linking) → IsGiven l → FitsTable l → AreRising (image_relocations l)
 unfolding image_relocations
 rising_all l given limits =
-    rising_append (got_start l) (relatives l) (got_relocations l) (rising_relatives l given limits) (rising_got l)
+    rising_append (got_start l) (relatives l) (got_relocations l) (rising_relatives l given limits) (got_rises l)
     (All-weaker (IsField l 0) (λ r. r.place + width r.kind ≤ got_start l)
     (λ r is. rw (width_of r (relative l r is)) (below_table l limits r is)) (relatives l) (are_fields l given))
     (got_above l)

@@ -3,7 +3,7 @@ use Rattle.std.proofs.Common.{◌≡◌, ◌+◌, ◌<◌, ◌≤◌, ◌⊎◌,
 use Rattle.std.proofs.Common.{inl, inr, refl, arith}
 use Rattle.std.specs.Prelude.{nat_le, if◌then◌else◌}
 use Rattle.std.specs.List.{All, flat_map, range_with_len}
-use Rattle.std.proofs.lemmas.Bool.Decides.{nat_tests}
+use Rattle.std.proofs.lemmas.Bool.{leb-false, leb-true}
 use Rattle.std.proofs.lemmas.List.Elements.{All-cons, All-head, All-tail, All-append, All-weaker}
 use Rattle.dynamic_symbols.proofs.Lists.{all_flat_range}
 use Rattle.image_faults.specs.declared.loader_kind.LoaderKind.TheVariants.{Relative}
@@ -44,12 +44,6 @@ module _ {X : Type 0} (number : X → ℕ) (P : X → Type 0) where
   all_sorted (x ∷ more) all =
       all_inserted x (sorted_by number more) (All-head P x more all) (all_sorted more (All-tail P x more all))
 
-below : (m n : ℕ) → nat_le m n ≡ true → m ≤ n
-below m n h = grind (arith, nat_tests)
-
-above : (m n : ℕ) → nat_le m n ≡ false → n < m
-above m n h = grind (arith, nat_tests)
-
 rise_inserted : (n : ℕ) (x : ImageRelocation) (xs : List ImageRelocation) → n ≤ x.place → All (IsApart x) xs
     → RiseFrom n xs → RiseFrom n (inserted (λ r. r.place) x xs)
 rise_inserted n x [] low apart rises = (low, tt)
@@ -61,8 +55,8 @@ rise_inserted n x (y ∷ more) low apart rises =
         → (y.place + 8 ≤ x.place → RiseFrom (y.place + 8) (inserted (λ r. r.place) x more))
         → RiseFrom n (if t then x ∷ (y ∷ more) else y ∷ inserted (λ r. r.place) x more)
     of_test true e (inl before) rest = (low, (before, rises.1))
-    of_test true e (inr behind) rest = absurd (omega (arith, below x.place y.place e))
-    of_test false e (inl before) rest = absurd (omega (arith, above x.place y.place e))
+    of_test true e (inr behind) rest = absurd (omega (arith, leb-true x.place y.place e))
+    of_test false e (inl before) rest = absurd (omega (arith, leb-false x.place y.place e))
     of_test false e (inr behind) rest = (rises.0, rest behind)
 
 -- sorted by place they lie behind each other

@@ -1,6 +1,6 @@
 -- The relocations of fields: each lies in a section that has an address, and they share no byte.
-use Rattle.std.proofs.Common.{◌≡◌, ◌+◌, ◌<◌, ◌≤◌, ◌⊎◌, ℕ, Bool, true, false, List, [], ◌∷◌, length}
-use Rattle.std.proofs.Common.{drop, get_or, Option, Some, None, IsSome, inl, inr, refl, subst, arith, ◌∙◌, ap}
+use Rattle.std.proofs.Common.{◌≡◌, ◌+◌, ◌<◌, ◌≤◌, ◌⊎◌, ℕ, Bool, true, false, List, [], ◌∷◌, length, drop, get_or, Some}
+use Rattle.std.proofs.Common.{inl, inr, refl, subst, arith, ◌∙◌, ap}
 use Rattle.std.specs.Prelude.{if◌then◌else◌, unwrap_or}
 use Rattle.std.specs.List.{All, flat_map}
 use Rattle.std.proofs.lemmas.List.Elements.{All-nil, All-cons, All-head, All-tail, All-append, All-weaker}
@@ -29,6 +29,7 @@ use Rattle.link_tables.specs.Dynamic.{relative, section_relocations, sum_of}
 use Rattle.link_needs.specs.Given.{IsGiven}
 use Rattle.link_core.proofs.RelativesApart.{AreApart, IsApart, apart_append, apart_range}
 use Rattle.link_tables.proofs.RelativesTables.{IsPlaced, IsApart as FieldsApart, apart_first, apart_rest, placed_section}
+use Rattle.link_core.proofs.GotRelocationsSites.{has_value}
 
 -- ** where a relocation lies
 
@@ -60,10 +61,6 @@ sections_far l o t p u x y first next other =
 absolute_is : (kind : RelocationKind) → is_absolute kind ≡ true → kind ≡ Absolute64
 absolute_is Absolute64 e = refl
 absolute_is kind e = cc
-
-some_of : {X : Type 0} (o : Option X) → IsSome o → (x : X) × (o ≡ Some x)
-some_of (Some x) some = (x, refl)
-some_of None some = absurd (cc)
 
 all_one : {X : Type 0} (P : X → Type 0) (x : X) → P x → All P (x ∷ [])
 all_one P x here = All-cons P x [] here (All-nil P)
@@ -132,7 +129,7 @@ module _ (l : Linking) (given : IsGiven l) (o : ℕ) (within : o < length l.obje
   in_section t r placed law absolute =
       let found = finds_sections l.kind l.objects o t within in
       let class = found.class_is ∙ placed.class_is in
-      let there = some_of (address_of (layout l) o t)
+      let there = has_value (address_of (layout l) o t)
       (have_addresses (layout l) o t placed.class class placed.other) in
       let size = found.size_is (rw placed.class_is refl) in
       let first : unwrap_or (address_of (layout l) o t) 0 ≡ there.0 = ap (λ a. unwrap_or a 0) there.1 in

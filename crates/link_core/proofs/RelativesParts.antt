@@ -1,9 +1,8 @@
 -- What lies in a class of sections lies in a part of the image.
-use Rattle.std.proofs.Common.{◌≡◌, ◌+◌, ◌-◌, ◌<◌, ◌≤◌, ◌∙◌, ℕ, Bool, true, false, List, [], ◌∷◌, ◌++◌, length}
-use Rattle.std.proofs.Common.{get_or, map, refl, sym, ap, subst, arith, length-append}
-use Rattle.std.specs.Prelude.{nat_lt, if◌then◌else◌}
+use Rattle.std.proofs.Common.{◌≡◌, ◌+◌, ◌-◌, ◌<◌, ◌≤◌, ◌∙◌, ℕ, List, [], ◌∷◌, ◌++◌, length, get_or, map, refl, sym, ap}
+use Rattle.std.proofs.Common.{subst, arith, length-append}
 use Rattle.std.specs.List.{Contains}
-use Rattle.std.proofs.lemmas.Bool.Decides.{nat_tests}
+use Rattle.std.proofs.lemmas.Bool.{lt-ltb}
 use Rattle.std.proofs.lemmas.List.{get_or-map, get_or_append_left, get_or_default, length-map}
 use Rattle.std.proofs.lemmas.List.Elements.{Contains-append_left, Contains-append_right}
 use Rattle.object_faults.specs.declared.class.SectionClass.{SectionClass}
@@ -39,19 +38,14 @@ pub record IsPart (xs : List PartPlace) (extent : Extent) : Type 0 where
   pub ends : place.address + place.size ≡ extent.end
 
 is_filled : (c : PartClass) (extent : Extent) → extent.start < extent.end → IsPart (filled c extent) extent
-is_filled c extent some = of_test (nat_lt extent.start extent.end) (test extent.start extent.end some)
-  where
-    whole : PartPlace
-    whole = record { class = c; address = extent.start; size = extent.end - extent.start }
+is_filled c extent some = rw (lt-ltb extent.start extent.end some) (record {
+  place = record { class = c; address = extent.start; size = extent.end - extent.start };
+  listed = (0, omega arith, refl);
+  begins = refl;
+  ends = omega arith;
+})
 
-    test : (m n : ℕ) → m < n → nat_lt m n ≡ true
-    test m n h = grind (arith, nat_tests)
-
-    of_test : (t : Bool) → t ≡ true → IsPart (if t then whole ∷ [] else []) extent
-    of_test true e = record { place = whole; listed = (0, omega arith, refl); begins = refl; ends = omega arith }
-    of_test false e = absurd (cc)
-
-in_front : (xs ys : List PartPlace) (extent : Extent) → IsPart xs extent → IsPart (xs ++ ys) extent
+pub in_front : (xs ys : List PartPlace) (extent : Extent) → IsPart xs extent → IsPart (xs ++ ys) extent
 in_front xs ys extent is = record {
   place = is.place;
   listed = Contains-append_left xs ys is.place is.listed;
@@ -59,7 +53,7 @@ in_front xs ys extent is = record {
   ends = is.ends;
 }
 
-behind : (xs ys : List PartPlace) (extent : Extent) → IsPart ys extent → IsPart (xs ++ ys) extent
+pub behind : (xs ys : List PartPlace) (extent : Extent) → IsPart ys extent → IsPart (xs ++ ys) extent
 behind xs ys extent is = record {
   place = is.place;
   listed = Contains-append_right xs ys is.place is.listed;

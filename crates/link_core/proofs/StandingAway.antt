@@ -1,19 +1,15 @@
 -- What is written in sections leaves every byte that lies in none, and every other section.
-use Rattle.std.proofs.Common.{◌≡◌, ◌+◌, ◌-◌, ◌<◌, ◌≤◌, ◌∙◌, ℕ, zero, suc, true, List, [], ◌∷◌}
-use Rattle.std.proofs.Common.{Option, Some, None, length}
-use Rattle.std.proofs.Common.{drop, take, inr, refl, sym, subst, arith}
+use Rattle.std.proofs.Common.{◌≡◌, ◌+◌, ◌-◌, ◌<◌, ◌≤◌, ◌∙◌, ℕ, zero, suc, true, List, [], ◌∷◌, length, drop, take, inr}
+use Rattle.std.proofs.Common.{refl, sym, subst, arith}
 use Rattle.std.specs.Prelude.{fold, slice_get}
-use Rattle.std.specs.List.{Contains, range_with_len}
-use Rattle.std.proofs.lemmas.Bool.Decides.{nat_tests}
+use Rattle.std.specs.List.{range_with_len}
 use Rattle.std.proofs.lemmas.Option.{same_Some}
-use Rattle.object_faults.specs.Firsts.{nonzero}
 use Rattle.elf_records.specs.Fields.{part_at}
-use Rattle.elf_object.specs.declared.relocation.Relocation.{Relocation}
-use Rattle.elf_object.specs.Lent.{relocation_target, relocations}
+use Rattle.elf_object.specs.Lent.{relocation_target}
 use Rattle.elf_object.specs.Object.{section_count}
 use Rattle.section_file.specs.Files.{offset_of}
 use Rattle.tls_relocs.specs.Elements.{slice_get-drop}
-use Rattle.tls_symbols.specs.Faults.{held_for, held_in}
+use Rattle.tls_symbols.specs.Faults.{held_in}
 use Rattle.link_needs.specs.Linking.{Linking, layout, object, sites_at}
 use Rattle.link_needs.specs.Needs.{got_start}
 use Rattle.link_core.specs.Bytes.{file, raw_file, with_field, with_fields, with_fields_from, with_site, with_sites_from}
@@ -21,17 +17,7 @@ use Rattle.link_core.specs.Bytes.{with_table}
 use Rattle.link_needs.specs.Given.{FitsTable, IsGiven}
 use Rattle.link_core.proofs.StandingSteps.{Acts, after, always, fold_leaves, from_zero, numbered_acts, same}
 use Rattle.link_core.proofs.StandingPlaces.{IsAway, field_in, field_leaves, in_away, site_in, site_leaves}
-
--- the relocations that a section holds are those of its target
-pub held_of : (b : List ℕ) (t : ℕ) (r : Relocation) → Contains (held_for b (nonzero t)) r → Contains (relocations b t) r
-held_of b t r has = of_target (nonzero t) refl has
-  where
-    of_target : (s : Option ℕ) → s ≡ nonzero t → Contains (held_for b s) r → Contains (relocations b t) r
-    of_target None e has = absurd (omega arith)
-    of_target (Some s) e has = subst (λ i. Contains (relocations b i) r) (own t s e) has
-      where
-        own : (t s : ℕ) → Some s ≡ nonzero t → s ≡ t
-        own t s e = grind (arith, nat_tests)
+pub use Rattle.link_core.proofs.LengthsKept.{held_of}
 
 module _ (l : Linking) (given : IsGiven l) (limits : FitsTable l) (q : ℕ) where
   abbrev Leaves : (List ℕ → List ℕ) → Type 0

@@ -1,22 +1,11 @@
 -- What the fields of relocations make of a byte of a section.
-use Rattle.std.proofs.Common.{◌≡◌, ◌+◌, ◌-◌, ◌<◌, ◌≤◌, ◌⊎◌, ◌&&◌, ◌==◌, ◌∙◌, ℕ, ℤ, Bool, true, false, not}
-use Rattle.std.proofs.Common.{List, [], Option, Some, None, IsSome, length, inl, inr, refl, sym, ap, subst}
-use Rattle.std.proofs.Common.{arith}
-use Rattle.std.specs.Prelude.{pos, ◌+ℤ◌, ◌-ℤ◌, fold, nat_le, nat_lt, slice_get, slice_index_or, unwrap_or}
-use Rattle.std.specs.Prelude.{if◌then◌else◌}
+use Rattle.std.proofs.Common.{◌≡◌, ◌+◌, ◌-◌, ◌<◌, ◌≤◌, ◌⊎◌, ◌&&◌, ◌==◌, ◌∙◌, ℕ, Bool, true, false, not, List, []}
+use Rattle.std.proofs.Common.{Option, Some, None, IsSome, length, inl, inr, refl, sym, ap, subst, arith}
+use Rattle.std.specs.Prelude.{fold, nat_le, nat_lt, slice_get, slice_index_or, unwrap_or, if◌then◌else◌}
 use Rattle.std.specs.List.{Contains, find, list_any, range_with_len}
-use Rattle.std.proofs.lemmas.Bool.{cases_lt}
+use Rattle.std.proofs.lemmas.Bool.{cases_lt, eq-eqb, eqb-true}
 use Rattle.std.proofs.lemmas.Bool.Decides.{nat_tests}
 use Rattle.std.proofs.lemmas.Option.{same_Some, slice_get-get_or}
-use Rattle.object_faults.specs.Firsts.{nonzero}
-use Rattle.elf_records.specs.declared.relocation.RelocationKind.{RelocationKind}
-use Rattle.elf_records.specs.declared.relocation.RelocationKind.TheVariants.{Nothing, Absolute64, Pc32, Plt32}
-use Rattle.elf_records.specs.declared.relocation.RelocationKind.TheVariants.{GotPcRel, Absolute32, Absolute32Signed}
-use Rattle.elf_records.specs.declared.relocation.RelocationKind.TheVariants.{TlsGd, TlsLd, DtpOff32, GotTpOff}
-use Rattle.elf_records.specs.declared.relocation.RelocationKind.TheVariants.{TpOff32}
-use Rattle.elf_records.specs.declared.relocation.RelocationKind.TheVariants.{GotPc32TlsDesc, TlsDescCall, GotPcRelX}
-use Rattle.elf_records.specs.declared.relocation.RelocationKind.TheVariants.{RexGotPcRelX}
-use Rattle.elf_records.specs.Laws.{length-bytes_of}
 use Rattle.elf_object.specs.declared.relocation.Relocation.{Relocation}
 use Rattle.elf_object.specs.Laws.{table_of_kept}
 use Rattle.elf_object.specs.Lent.{kept_relocation_table, relocation_target, relocations, relocations_in, section_size}
@@ -30,8 +19,7 @@ use Rattle.tls_layout.proofs.LawsOfPlaces.{addresses_apart}
 use Rattle.tls_relocs.specs.declared.fields.Field.{Field}
 use Rattle.tls_relocs.specs.declared.fields.Field.TheVariants.{Empty}
 use Rattle.tls_relocs.specs.Fields.{field_bytes}
-use Rattle.tls_relocs.specs.Values.{fits_signed, fits_unsigned, signed_field, stored_field, word32}
-use Rattle.tls_symbols.specs.Faults.{held_for, held_in}
+use Rattle.tls_symbols.specs.Faults.{held_in}
 use Rattle.link_needs.specs.Linking.{Linking, layout, object, place}
 use Rattle.link_core.specs.Bytes.{raw_file, with_field, with_field_at, with_fields, with_fields_from, with_table}
 use Rattle.link_tables.specs.Faults.{Links, Overflows}
@@ -39,77 +27,21 @@ use Rattle.link_needs.specs.Given.{FitsTable, IsGiven}
 use Rattle.link_core.specs.Meant.{is_in_field}
 use Rattle.link_needs.specs.Values.{field, is_replaced}
 use Rattle.link_core.proofs.Lengths.{field_inside}
-use Rattle.link_core.proofs.LengthsInside.{is_object}
+use Rattle.link_core.proofs.GotRelocationsSites.{held_of}
+use Rattle.link_core.proofs.LengthsKept.{IsExact, field_exact}
+use Rattle.link_core.proofs.LengthsInside.{is_object, table_some}
 use Rattle.link_core.proofs.StandingSteps.{Acts, always, any_range, fold_acts, from_zero, like, none_found}
-use Rattle.link_core.proofs.StandingSteps.{number_is, number_not, number_same, numbered_acts, one_found, same}
-use Rattle.link_core.proofs.StandingSteps.{splice_fills, when}
+use Rattle.link_core.proofs.StandingSteps.{number_not, numbered_acts, one_found, same, splice_fills, when}
 use Rattle.link_core.proofs.StandingPlaces.{IsAway, Lies, field_leaves}
 use Rattle.link_core.proofs.StandingAway.{object_away, table_away}
 use Rattle.link_core.proofs.Few.{table_fits}
 
--- ** a field that holds its value is as wide as its type says
-
-abbrev IsExact : ℕ → Option Field → Type 0
-IsExact n value = IsSome value → length (field_bytes (unwrap_or value Empty)) ≡ n
-
-four_exact : (fits : Bool) (z : ℤ) → IsExact 4 (word32 fits z)
-four_exact true z some = length-bytes_of 4 _
-four_exact false z some = absurd (cc)
-
-signed_exact : (z : ℤ) → IsExact 4 (signed_field z)
-signed_exact z = four_exact (fits_signed z) z
-
-field_exact : (kind : RelocationKind) (s : ℕ) (a : ℤ) (p g : ℕ) → IsExact (field_width kind) (stored_field kind s a p g)
-field_exact Nothing s a p g some = refl
-field_exact Absolute64 s a p g some = length-bytes_of 8 _
-field_exact Pc32 s a p g some = signed_exact ((pos s +ℤ a) -ℤ pos p) some
-field_exact Plt32 s a p g some = signed_exact ((pos s +ℤ a) -ℤ pos p) some
-field_exact GotPcRel s a p g some = signed_exact ((pos g +ℤ a) -ℤ pos p) some
-field_exact Absolute32 s a p g some = four_exact (fits_unsigned (pos s +ℤ a)) (pos s +ℤ a) some
-field_exact Absolute32Signed s a p g some = signed_exact (pos s +ℤ a) some
-field_exact TlsGd s a p g some = signed_exact ((pos g +ℤ a) -ℤ pos p) some
-field_exact TlsLd s a p g some = signed_exact ((pos g +ℤ a) -ℤ pos p) some
-field_exact DtpOff32 s a p g some = signed_exact ((pos s +ℤ a) -ℤ pos g) some
-field_exact GotTpOff s a p g some = signed_exact ((pos g +ℤ a) -ℤ pos p) some
-field_exact TpOff32 s a p g some = signed_exact ((pos s +ℤ a) -ℤ pos g) some
-field_exact GotPc32TlsDesc s a p g some = signed_exact ((pos g +ℤ a) -ℤ pos p) some
-field_exact TlsDescCall s a p g some = refl
-field_exact GotPcRelX s a p g some = signed_exact ((pos g +ℤ a) -ℤ pos p) some
-field_exact RexGotPcRelX s a p g some = signed_exact ((pos g +ℤ a) -ℤ pos p) some
-
--- so is every field of the image
+-- every field of the image that holds its value is as wide as its type says
 exact : (l : Linking) (o t : ℕ) (r : Relocation) → IsExact (field_width r.kind) (field l o t r)
 unfolding field
 exact l o t r = field_exact r.kind _ r.addend _ _
 
 -- ** the relocations of a section
-
--- they are held by the section that is its table
-held_is : (b : List ℕ) (s t : ℕ) → relocation_target b s ≡ t → 0 < t → held_in b s ≡ relocations b t
-unfolding held_in
-held_is b s t e some = ap (λ i. held_for b (nonzero i)) e ∙ ap (held_for b) (of_test (t == 0) (test t some))
-  where
-    test : (n : ℕ) → 0 < n → (n == 0) ≡ false
-    test n some = grind (arith, nat_tests)
-
-    of_test : (x : Bool) → x ≡ false → (if x then None else Some t) ≡ Some t
-    of_test true e = absurd (cc)
-    of_test false e = refl
-
--- that has a table
-has_table : (b : List ℕ) (t : ℕ) (r : Relocation) → Contains (relocations b t) r → 0 < kept_relocation_table b t
-unfolding relocations_in
-has_table b t r has = of_table (kept_relocation_table b t) has
-  where
-    test : (n : ℕ) → nat_lt 0 n ≡ true → 0 < n
-    test n e = grind (arith, nat_tests)
-
-    of_test : (n : ℕ) (x : Bool) (xs : List Relocation) → nat_lt 0 n ≡ x → Contains (if x then xs else []) r → 0 < n
-    of_test n true xs e has = test n e
-    of_test n false xs e has = absurd (omega arith)
-
-    of_table : (n : ℕ) → Contains (relocations_in b n) r → 0 < n
-    of_table n has = of_test n (nat_lt 0 n) _ refl has
 
 no_table : (b : List ℕ) (t : ℕ) → kept_relocation_table b t ≤ 0 → relocations b t ≡ []
 unfolding relocations_in
@@ -144,13 +76,13 @@ field_some l links o t r there some has own = of_value (field l o t r) refl
     s = kept_relocation_table (object l o) t
 
     table : 0 < kept_relocation_table (object l o) t
-    table = has_table (object l o) t r has
+    table = (table_some (object l o) (kept_relocation_table (object l o) t) r has).0
 
     fault : field l o t r ≡ None → Overflows l o (kept_relocation_table (object l o) t) has.0
     fault none =
         let target = target_of_table (object l o) t table in
         let entry : slice_get (held_in (object l o) s) has.0 ≡ Some r =
-        ap (λ xs. slice_get xs has.0) (held_is (object l o) s t target some)
+        ap (λ xs. slice_get xs has.0) (held_of (object l o) t s some target)
         ∙ slice_get-get_or (relocations (object l o) t) has.0 r has.1 ∙ ap Some has.2 in
         (there, table, (table_of_kept (object l o) t table).1.0.1, rw (entry, target, none) (own, refl))
 
@@ -163,12 +95,7 @@ field_some l links o t r there some has own = of_value (field l o t r) refl
 -- what the test of a field says
 covers_true : (a w k : ℕ) (s : Bool) → ((nat_le a k && nat_lt k (a + w)) && not s) ≡ true
     → (a ≤ k) × (k < a + w) × (s ≡ false)
-covers_true a w k true e = absurd (no (nat_le a k && nat_lt k (a + w)) e)
-  where
-    no : (t : Bool) → (t && false) ≡ true → ⊥
-    no true e = cc
-    no false e = cc
-covers_true a w k false e = grind (arith, nat_tests)
+covers_true a w k s e = grind (arith, nat_tests)
 
 covers_false : (a w k : ℕ) → ((nat_le a k && nat_lt k (a + w)) && true) ≡ false → (k < a) ⊎ (a + w ≤ k)
 covers_false a w k e = elim (cases_lt k a) [
@@ -252,16 +179,9 @@ module _ (l : Linking) (given : IsGiven l) (links : Links l) (o t address k : �
       (when (is_in_field l o k r) (field_change found_field)) (λ now. with_field l o t now r)
   own_field r has = of_test (is_in_field l o k r) refl
     where
-      set : (x : Bool) → x ≡ false → (now : List ℕ)
-          → (if x then now else with_field_at l o t r.offset (field l o t r) now)
-          ≡ with_field_at l o t r.offset (field l o t r) now
-      set true e now = absurd (cc)
-      set false e now = refl
-
-      kept : (x : Bool) → x ≡ true → (now : List ℕ)
-          → (if x then now else with_field_at l o t r.offset (field l o t r) now) ≡ now
-      kept true e now = refl
-      kept false e now = absurd (cc)
+      replaced : (x : Bool) → is_replaced l o r ≡ x → (now : List ℕ)
+          → with_field l o t now r ≡ (if x then now else with_field_at l o t r.offset (field l o t r) now)
+      replaced x e now = ap (λ y. if y then now else with_field_at l o t r.offset (field l o t r) now) e
 
       at : ℕ
       at = offset_of (layout l) (place l o t r.offset)
@@ -279,7 +199,7 @@ module _ (l : Linking) (given : IsGiven l) (links : Links l) (o t address k : �
           → ((nat_le r.offset k && nat_lt k (r.offset + field_width r.kind)) && not x) ≡ false
           → Acts n q same (λ now. with_field l o t now r)
       of_replaced true e outside =
-          like n q same (λ now. with_field l o t now r) (λ now. now) (kept (is_replaced l o r) e) (λ now is. (is, refl))
+          like n q same (λ now. with_field l o t now r) (λ now. now) (replaced true e) (λ now is. (is, refl))
       of_replaced false e outside =
           field_leaves l given limits q o t r lies.there has
           (moved (covers_false r.offset (field_width r.kind) k outside))
@@ -292,7 +212,7 @@ module _ (l : Linking) (given : IsGiven l) (links : Links l) (o t address k : �
           subst (λ f. Acts n q (field_change f)
           (λ now. with_field l o t now r)) (sym (found_is r has e))
           (like n q (field_change (Some r)) (λ now. with_field l o t now r)
-          (λ now. with_field_at l o t r.offset (field l o t r) now) (set (is_replaced l o r) covers.2)
+          (λ now. with_field_at l o t r.offset (field l o t r) now) (replaced false covers.2)
           (field_fills r has covers.2 covers.0 covers.1))
       of_test false e = of_replaced (is_replaced l o r) refl e
 
@@ -316,7 +236,7 @@ module _ (l : Linking) (given : IsGiven l) (links : Links l) (o t address k : �
           → with_table l o (object l o) now s ≡ fold (with_field l o t) now rs
       alike e now =
           ap (λ i. fold (with_field l o i) now (held_in (object l o) s)) e
-          ∙ ap (fold (with_field l o t) now) (held_is (object l o) s t e lies.some)
+          ∙ ap (fold (with_field l o t) now) (held_of (object l o) t s lies.some e)
 
       of_test : (x : Bool) → (relocation_target (object l o) s == t) ≡ x
           → Acts n q (when x (field_change found_field))
@@ -325,7 +245,7 @@ module _ (l : Linking) (given : IsGiven l) (links : Links l) (o t address k : �
           let any = list_any (is_in_field l o k) rs in
           like n q (field_change found_field) (λ now. with_table l o (object l o) now s)
           (λ now. fold (with_field l o t) now rs)
-          (alike (number_is (relocation_target (object l o) s) t e))
+          (alike (eqb-true (relocation_target (object l o) s) t e))
           (always n q (field_change found_field) any (λ now. fold (with_field l o t) now rs)
           (of_any any refl)
           (fold_acts n q (field_change found_field) (once found_field) (is_in_field l o k) (with_field l o t)
@@ -356,7 +276,7 @@ module _ (l : Linking) (given : IsGiven l) (links : Links l) (o t address k : �
           let s = kept_relocation_table (object l o) t in
           let inside = (table_of_kept (object l o) t some).1.0.1 in
           inl (any_range (λ i. relocation_target (object l o) i == t) 1 (section_count (object l o) - 1) s some
-          (omega arith) (number_same (relocation_target (object l o) s) t (target_of_table (object l o) t some)))
+          (omega arith) (eq-eqb (relocation_target (object l o) s) t (target_of_table (object l o) t some)))
       of_table (inr none) =
           inr (λ byte. ap (λ xs. field_change (find (is_in_field l o k) xs) byte) (no_table (object l o) t none))
 
@@ -367,7 +287,7 @@ module _ (l : Linking) (given : IsGiven l) (links : Links l) (o t address k : �
   fields_act =
       always n q (field_change found_field) _ (with_fields_from l 0 l.objects)
       (inl (any_range (λ i. i == o) 0 (length l.objects) o (omega arith) (omega (arith, lies.there))
-      (number_same o o refl)))
+      (eq-eqb o o refl)))
       (numbered_acts n q (field_change found_field) (once found_field) [] (λ i. i == o) (with_fields l)
       (with_fields_from l) (λ i now. refl) (λ i b more now. refl) 0 l.objects (λ p below.
       subst (λ i. Acts n q
@@ -379,6 +299,6 @@ module _ (l : Linking) (given : IsGiven l) (links : Links l) (o t address k : �
           (with_fields l p (object l p))
       of_test p below true e =
           subst (λ i. Acts n q (field_change found_field)
-          (with_fields l i (object l i))) (sym (number_is p o e)) own_object
+          (with_fields l i (object l i))) (sym (eqb-true p o e)) own_object
       of_test p below false e =
           object_away l given limits q p below (λ u. other_away p u (λ same. number_not p o e same.0))

@@ -1,8 +1,7 @@
 -- The parts of an image: those of sections are zero where no section has a byte, and the table and the stub are parts.
-use Rattle.std.proofs.Common.{◌≡◌, ◌+◌, ◌-◌, ◌<◌, ◌≤◌, ◌⊎◌, ◌==◌, ◌∙◌, ◌++◌, ℕ, true, false, List, [], ◌∷◌, Option, Some, length, map}
-use Rattle.std.proofs.Common.{drop, inl, inr, refl, sym, ap, subst, arith}
+use Rattle.std.proofs.Common.{◌≡◌, ◌+◌, ◌-◌, ◌<◌, ◌≤◌, ◌⊎◌, ◌∙◌, ◌++◌, ℕ, true, List, [], ◌∷◌, Option, Some, length}
+use Rattle.std.proofs.Common.{map, drop, inl, inr, refl, sym, ap, subst, arith}
 use Rattle.std.specs.Prelude.{option_map, slice_get, slice_index_or}
-use Rattle.std.proofs.lemmas.Bool.Decides.{nat_tests}
 use Rattle.std.proofs.lemmas.List.{length-append, length-take}
 use Rattle.std.proofs.lemmas.Option.{get_or_from_slice_get, same_Some, slice_get-get_or, slice_get-map, slice_get_within}
 use Rattle.elf_object.specs.Lent.{section_size}
@@ -28,8 +27,8 @@ use Rattle.link_core.specs.Images.{stub_places}
 use Rattle.link_core.specs.Laws.{GapsAreZero, IsGap, StubsAreParts, TablesAreParts}
 use Rattle.link_core.proofs.Few.{table_fits}
 use Rattle.link_core.proofs.LengthsInside.{are_laid}
-use Rattle.link_core.proofs.LengthsPlaces.{are_parts, base_before, lie_between}
-use Rattle.link_core.proofs.LoadsTls.{same_base}
+use Rattle.link_core.proofs.LengthsPlaces.{are_parts, base_before, got_place, lie_between, same_base, stub_place}
+use Rattle.link_core.proofs.GotRelocationsSites.{not_zero}
 use Rattle.link_core.proofs.Standing.{raw_leaves}
 use Rattle.link_core.proofs.StandingAway.{file_away}
 use Rattle.link_core.proofs.StandingPlaces.{Lies, lies_at}
@@ -124,17 +123,11 @@ gaps_are_zero l i k part given links few at below gap =
 
 -- ** the table
 
-abbrev pub got_place : Linking → PartPlace
-got_place l = record { class = Writable; address = got_start l; size = got_size l }
-
 abbrev pub got_part : Linking → Part
 got_part l = record { class = Writable; address = got_start l; bytes = got_bytes l }
 
 abbrev pub got_index : Linking → ℕ
 got_index l = length (section_places (layout l))
-
-not_empty : (n : ℕ) → 0 < n → (n == 0) ≡ false
-not_empty n h = grind (arith, nat_tests)
 
 module _ (l : Linking) (some : 0 < got_size l) where
   got_placed : slice_get (places l) (got_index l) ≡ Some (got_place l)
@@ -143,11 +136,11 @@ module _ (l : Linking) (some : 0 < got_size l) where
       let none : length (section_places (layout l)) - length (section_places (layout l)) ≡ 0 = omega arith in
       slice_get-append_behind (section_places (layout l)) (got_places l ++ stub_places l) (got_index l) (omega arith)
       ∙ ap (slice_get (got_places l ++ stub_places l)) none
-      ∙ rw (not_empty (got_size l) some) refl
+      ∙ rw (not_zero (got_size l) some) refl
 
   pub got_numbered : got_number l ≡ Some (got_index l)
   unfolding got_number
-  got_numbered = rw (not_empty (got_size l) some) refl
+  got_numbered = rw (not_zero (got_size l) some) refl
 
   pub got_is_part : IsGiven l → FitsTable l → slice_get (image_of l).parts (got_index l) ≡ Some (got_part l)
   got_is_part given limits =
@@ -168,9 +161,6 @@ tables_are_parts l given links some = (
 )
 
 -- ** the stub
-
-abbrev pub stub_place : Linking → PartPlace
-stub_place l = record { class = Executable; address = stub_start l; size = 6 }
 
 abbrev pub stub_part : Linking → Part
 stub_part l = record { class = Executable; address = stub_start l; bytes = stub_bytes l }

@@ -1,6 +1,6 @@
 -- Where sections lie, and what writing in them does to a byte that lies elsewhere.
-use Rattle.std.proofs.Common.{◌≡◌, ◌≢◌, ◌+◌, ◌<◌, ◌≤◌, ◌⊎◌, ◌∙◌, ℕ, Bool, true, false, List}
-use Rattle.std.proofs.Common.{Option, Some, None, IsSome, length, inl, inr, refl, ap, arith}
+use Rattle.std.proofs.Common.{◌≡◌, ◌≢◌, ◌+◌, ◌<◌, ◌≤◌, ◌⊎◌, ◌∙◌, ℕ, Bool, true, false, List, Option, Some, None, IsSome}
+use Rattle.std.proofs.Common.{length, inl, inr, refl, ap, arith}
 use Rattle.std.specs.Prelude.{slice_get, unwrap_or, if◌then◌else◌}
 use Rattle.std.specs.List.{Contains}
 use Rattle.std.proofs.lemmas.List.Elements.{All-contains}
@@ -23,7 +23,6 @@ use Rattle.tls_layout.proofs.LawsOfPlaces.{have_addresses, lie_in_classes}
 use Rattle.tls_layout.proofs.LawsOfSections.{finds_sections}
 use Rattle.tls_relocs.specs.declared.fields.Field.TheVariants.{Empty}
 use Rattle.tls_relocs.specs.Fields.{field_bytes}
-use Rattle.link_faults.specs.declared.binding.Binding.{Binding}
 use Rattle.sequence_match.specs.Sites.{first_of}
 use Rattle.relax_sites.specs.declared.choices.Choice.{Choice}
 use Rattle.relax_sites.specs.declared.choices.Choice.TheVariants.{Keep}
@@ -31,15 +30,15 @@ use Rattle.relax_sites.specs.declared.rows.NewField.{NewField}
 use Rattle.relax_sites.specs.Choices.{IsChoiceOf}
 use Rattle.relax_sites.specs.Rewriting.{rewritten}
 use Rattle.relax_sites.specs.Rows.{form_length, new_bytes, new_field}
-use Rattle.relax_sites.proofs.Tables.{field_end, own_choice, row_length}
-use Rattle.link_needs.specs.Linking.{Linking, binding, choice, chosen, layout, object, place, sites_at}
+use Rattle.relax_sites.proofs.Tables.{field_end, row_length}
+use Rattle.link_needs.specs.Linking.{Linking, binding, choice, layout, object, place, sites_at}
 use Rattle.link_needs.specs.Needs.{got_start, new_relocation}
 use Rattle.link_core.specs.Bytes.{in_file, raw_file, with_field, with_field_at, with_new_field, with_site}
 use Rattle.link_needs.specs.Given.{FitsTable, IsGiven}
 use Rattle.link_needs.specs.Values.{field, is_replaced}
 use Rattle.link_core.proofs.Lengths.{field_inside, site_inside}
 use Rattle.link_core.proofs.LengthsInside.{form_some, is_code, is_object, is_relocated}
-use Rattle.link_core.proofs.LengthsKept.{IsAtMost, field_at_most, new_width}
+use Rattle.link_core.proofs.LengthsKept.{IsAtMost, chosen_own, field_at_most, new_width}
 use Rattle.link_core.proofs.StandingSteps.{Acts, after, same, splice_leaves}
 
 -- ** where a section lies
@@ -192,11 +191,7 @@ module _ (l : Linking) (given : IsGiven l) (limits : FitsTable l) where
   -- what is chosen for a site is of its form
   pub own_choice_of : (o : ℕ) (site : Site) → choice l o site ≢ Keep → IsChoiceOf site.form (choice l o site)
   unfolding choice
-  own_choice_of o site = own (binding l o (first_of site))
-    where
-      own : (bound : Option Binding) → chosen l site.form bound ≢ Keep → IsChoiceOf site.form (chosen l site.form bound)
-      own None changes = absurd (changes refl)
-      own (Some bound) changes = own_choice site.form bound l.kind l.relax
+  own_choice_of o site = chosen_own l site.form (binding l o (first_of site))
 
   -- the row in a site's place leaves what lies outside the site
   row_leaves : (n q : ℕ) (site : Site) (choice : Choice) → (choice ≢ Keep → IsChoiceOf site.form choice)

@@ -1,9 +1,9 @@
 -- What the sequences in the place of rewritten sites make of a byte of a section.
-use Rattle.std.proofs.Common.{◌≡◌, ◌≢◌, ◌+◌, ◌-◌, ◌<◌, ◌≤◌, ◌⊎◌, ◌&&◌, ◌==◌, ◌∙◌, ℕ, Bool, true, false, not}
-use Rattle.std.proofs.Common.{List, [], Option, Some, None, length, drop, inl, inr, refl, sym, ap, subst, arith}
+use Rattle.std.proofs.Common.{◌≡◌, ◌≢◌, ◌+◌, ◌-◌, ◌<◌, ◌≤◌, ◌⊎◌, ◌&&◌, ◌==◌, ◌∙◌, ℕ, Bool, true, false, not, List, []}
+use Rattle.std.proofs.Common.{Option, Some, None, length, drop, inl, inr, refl, sym, ap, subst, arith}
 use Rattle.std.specs.Prelude.{fold, nat_le, nat_lt, slice_get, slice_index_or, unwrap_or}
 use Rattle.std.specs.List.{Contains, find, list_any}
-use Rattle.std.proofs.lemmas.Bool.{cases_lt}
+use Rattle.std.proofs.lemmas.Bool.{cases_lt, eq-eqb, eqb-true}
 use Rattle.std.proofs.lemmas.Bool.Decides.{nat_tests}
 use Rattle.std.proofs.lemmas.List.Elements.{All-contains}
 use Rattle.std.proofs.lemmas.Option.{slice_get-get_or}
@@ -11,7 +11,7 @@ use Rattle.elf_records.specs.Fields.{part_at, splice}
 use Rattle.elf_records.specs.Laws.{length-splice, part_at-splice}
 use Rattle.elf_object.specs.Lent.{section_size}
 use Rattle.relax_sites.specs.declared.choices.Choice.{Choice}
-use Rattle.relax_sites.specs.declared.choices.Choice.TheVariants.{Keep, GdLe, GdIe, LdLe, IeLe, DescLe, DescIe}
+use Rattle.relax_sites.specs.declared.choices.Choice.TheVariants.{Keep}
 use Rattle.relax_sites.specs.declared.rows.NewField.{NewField}
 use Rattle.relax_sites.specs.Rewriting.{rewritten}
 use Rattle.relax_sites.specs.Rows.{new_bytes, new_field}
@@ -19,8 +19,7 @@ use Rattle.relax_sites.proofs.Parts.{part_at-splice_inside}
 use Rattle.relax_sites.proofs.Tables.{row_length}
 use Rattle.section_file.specs.Files.{offset_of}
 use Rattle.sequence_forms.specs.declared.forms.Form.{Form}
-use Rattle.sequence_forms.specs.declared.forms.Form.TheVariants.{Gd, Ld, IeMov, IeAdd, GdInd, LdInd, DescLea}
-use Rattle.sequence_forms.specs.declared.forms.Form.TheVariants.{DescCall}
+use Rattle.sequence_forms.specs.declared.forms.Form.TheVariants.{Gd}
 use Rattle.sequence_forms.specs.declared.places.Site.{Site}
 use Rattle.sequence_match.specs.Faults.{IsSite}
 use Rattle.sequence_match.proofs.ApartSites.{sites_apart}
@@ -37,12 +36,12 @@ use Rattle.link_needs.specs.Values.{field}
 use Rattle.link_core.proofs.Lengths.{site_inside}
 use Rattle.link_core.proofs.LengthsKept.{splice_keeps}
 use Rattle.link_core.proofs.StandingSteps.{Acts, always, any_range, fold_acts, from_zero, like, none_found}
-use Rattle.link_core.proofs.StandingSteps.{number_is, number_not, number_same, numbered_acts, one_found, same}
-use Rattle.link_core.proofs.StandingSteps.{splice_fills, when}
+use Rattle.link_core.proofs.StandingSteps.{number_not, numbered_acts, one_found, same, splice_fills, when}
 use Rattle.link_core.proofs.StandingPlaces.{Lies, in_away, new_field_in, own_choice_of, site_in, site_leaves}
 use Rattle.link_core.proofs.StandingAway.{own_sites_away}
 use Rattle.link_core.proofs.StandingFields.{other_away}
 use Rattle.link_core.proofs.Few.{table_fits}
+use Rattle.link_core.proofs.TogetherFound.{covers_is}
 
 -- ** choices
 
@@ -57,24 +56,13 @@ kept_not choice e = λ h. cc
 -- a site that is kept has no field
 no_field : (form : Form) → new_field form Keep ≡ None
 no_field Gd = refl
-no_field Ld = refl
-no_field IeMov = refl
-no_field IeAdd = refl
-no_field GdInd = refl
-no_field LdInd = refl
-no_field DescLea = refl
-no_field DescCall = refl
+no_field form = refl
 
 -- the row of one that is not stands in its place
 spliced : (site : Site) (choice : Choice) (bytes : List ℕ) → choice ≢ Keep
     → rewritten site choice bytes ≡ splice site.start (new_bytes site.form choice site.reg) bytes
 spliced site Keep bytes changes = absurd (changes refl)
-spliced site GdLe bytes changes = refl
-spliced site GdIe bytes changes = refl
-spliced site LdLe bytes changes = refl
-spliced site IeLe bytes changes = refl
-spliced site DescLe bytes changes = refl
-spliced site DescIe bytes changes = refl
+spliced site choice bytes changes = refl
 
 -- ** bytes in a row that was written
 
@@ -100,13 +88,6 @@ pub record IsCovering (l : Linking) (o t k : ℕ) (site : Site) : Type 0 where
   pub to : k < site.start + site.len
   pub rewrites : is_kept (choice l o site) ≡ false
 
--- what the test of a site says
-covers_true : (m n a w k : ℕ) (kept : Bool)
-    → ((m == n) && (nat_le a k && nat_lt k (a + w)) && not kept) ≡ true
-    → (m ≡ n) × (a ≤ k) × (k < a + w) × (kept ≡ false)
-covers_true m n a w k true e = grind (arith, nat_tests)
-covers_true m n a w k false e = grind (arith, nat_tests)
-
 covers_false : (m n a w k : ℕ) → m ≡ n → ((m == n) && (nat_le a k && nat_lt k (a + w)) && not false) ≡ false
     → (k < a) ⊎ (a + w ≤ k)
 covers_false m n a w k same e = elim (cases_lt k a) [
@@ -119,7 +100,7 @@ covers_false m n a w k same e = elim (cases_lt k a) [
 
 covering : (l : Linking) (o t k : ℕ) (site : Site) → is_in_rewritten l o t k site ≡ true → IsCovering l o t k site
 covering l o t k site e =
-    let parts = covers_true site.section t site.start site.len k (is_kept (choice l o site)) e in record {
+    let parts = covers_is site.section t site.start k (site.start + site.len) (is_kept (choice l o site)) e in record {
       section = parts.0;
       from = parts.1;
       to = parts.2;
@@ -276,7 +257,7 @@ module _ (l : Linking) (given : IsGiven l) (links : Links l) (o t address k : �
       of_section : (x : Bool) → (site.section == t) ≡ x → is_in_rewritten l o t k site ≡ false
           → Acts n q same (λ now. with_site l o now site)
       of_section true e outside =
-          of_kept (is_kept (choice l o site)) refl (number_is site.section t e) outside
+          of_kept (is_kept (choice l o site)) refl (eqb-true site.section t e) outside
       of_section false e outside =
           site_leaves l given limits q o site lies.there has
           (in_away l given limits q o site.section site.start site.len (site_in l given limits o site lies.there has)
@@ -311,7 +292,7 @@ module _ (l : Linking) (given : IsGiven l) (links : Links l) (o t address k : �
   sites_act =
       always n q (site_change found_site) _ (with_sites_from l 0 l.sites)
       (inl (any_range (λ i. i == o) 0 (length l.sites) o (omega arith) (omega (arith, lies.there, given.each))
-      (number_same o o refl)))
+      (eq-eqb o o refl)))
       (numbered_acts n q (site_change found_site) (once found_site) [] (λ i. i == o)
       (λ i sites now. fold (with_site l i) now sites) (with_sites_from l) (λ i now. refl) (λ i sites more now. refl) 0
       l.sites (λ p below.
@@ -322,7 +303,7 @@ module _ (l : Linking) (given : IsGiven l) (links : Links l) (o t address k : �
           → Acts n q (when x (site_change found_site)) (λ now. fold (with_site l p) now (sites_at l p))
       of_test p there true e =
           subst (λ i. Acts n q (site_change found_site) (λ now. fold (with_site l i) now (sites_at l i)))
-          (sym (number_is p o e)) own_sites
+          (sym (eqb-true p o e)) own_sites
       of_test p there false e =
           own_sites_away l given limits q p there
           (λ u. other_away l given links o t address k lies below p u (λ same. number_not p o e same.0))

@@ -1,7 +1,6 @@
 -- What steps over a file do to one byte of it.
-use Rattle.std.proofs.Common.{◌≡◌, ◌+◌, ◌-◌, ◌<◌, ◌≤◌, ◌⊎◌, ◌==◌, ◌||◌, ◌∙◌, ℕ, zero, suc, Bool, true, false}
-use Rattle.std.proofs.Common.{List, [], ◌∷◌}
-use Rattle.std.proofs.Common.{Option, Some, None, get_or, length, inl, inr, refl, sym, ap, subst, arith}
+use Rattle.std.proofs.Common.{◌≡◌, ◌+◌, ◌-◌, ◌<◌, ◌≤◌, ◌⊎◌, ◌==◌, ◌||◌, ◌∙◌, ℕ, zero, suc, Bool, true, false, List, []}
+use Rattle.std.proofs.Common.{◌∷◌, Option, Some, None, get_or, length, inl, inr, refl, sym, ap, subst, arith}
 use Rattle.std.specs.Prelude.{fold, slice_get, slice_index_or, if◌then◌else◌}
 use Rattle.std.specs.List.{Contains, find, list_any, range_with_len}
 use Rattle.std.proofs.lemmas.Bool.{cases_lt}
@@ -110,17 +109,9 @@ from_zero k = omega arith
 
 -- ** tests
 
--- of two numbers
-pub number_is : (m n : ℕ) → (m == n) ≡ true → m ≡ n
-number_is m n e = grind (arith, nat_tests)
-
--- they differ
+-- of two numbers that differ
 pub number_not : (m n : ℕ) → (m == n) ≡ false → n ≡ m → ⊥
 number_not m n e same = grind (arith, nat_tests)
-
--- they are one
-pub number_same : (m n : ℕ) → m ≡ n → (m == n) ≡ true
-number_same m n e = grind (arith, nat_tests)
 
 -- a test that a number of a range passes
 pub any_range : (test : ℕ → Bool) (i n k : ℕ) → i ≤ k → k < i + n → test k ≡ true

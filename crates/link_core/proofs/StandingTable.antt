@@ -1,13 +1,12 @@
 -- The entries of the table and the stub stand at their places.
-use Rattle.std.proofs.Common.{◌≡◌, ◌+◌, ◌-◌, ◌^◌, ◌<◌, ◌≤◌, ◌∙◌, ◌++◌, ℕ, suc, ℤ, Bool, true, false, List, []}
-use Rattle.std.proofs.Common.{◌∷◌, ◌%◌, inl, inr, Some, FitsSigned, length, take, refl, sym, ap, subst, arith}
-use Rattle.std.specs.Prelude.{pos, negsuc, ◌+ℤ◌, ◌-ℤ◌, ◌==◌, if◌then◌else◌, unwrap_or}
+use Rattle.std.proofs.Common.{◌≡◌, ◌+◌, ◌-◌, ◌^◌, ◌<◌, ◌≤◌, ◌∙◌, ◌++◌, ℕ, suc, ℤ, Bool, true, false, List, [], ◌∷◌, ◌%◌}
+use Rattle.std.proofs.Common.{inl, inr, Some, FitsSigned, length, take, refl, sym, ap, subst, arith}
+use Rattle.std.specs.Prelude.{pos, negsuc, ◌+ℤ◌, ◌-ℤ◌, if◌then◌else◌, unwrap_or}
 use Rattle.std.specs.Int.{w32, cast_unsigned}
 use Rattle.std.specs.List.{flat_map}
 use Rattle.std.specs.Option.{IfSome}
 use Rattle.std.proofs.Math.Nat.{mod-eq_of_lt}
 use Rattle.std.proofs.lemmas.Bool.{cases_lt, le-ltb, lt-ltb}
-use Rattle.std.proofs.lemmas.Bool.Decides.{nat_tests}
 use Rattle.std.proofs.lemmas.List.{append-nil, length-replicate, take_at}
 use Rattle.std.proofs.lemmas.Option.{same_Some}
 use Rattle.elf_records.specs.Fields.{bytes_of, part_at}
@@ -18,7 +17,6 @@ use Rattle.got_pairs.specs.Needs.{same_need, size_of, start_from, start_of}
 use Rattle.got_pairs.proofs.Equal.{need_is, size_some}
 use Rattle.got_pairs.proofs.Served.{within}
 use Rattle.section_file.specs.Files.{offset_of, sections_file}
-use Rattle.section_file.specs.Laws.{sections_end}
 use Rattle.section_file.proofs.Told.{files_end}
 use Rattle.tls_layout.proofs.Together.{page_up-above}
 use Rattle.tls_relocs.specs.declared.fields.Field.TheVariants.{Empty, Word32}
@@ -33,6 +31,7 @@ use Rattle.link_core.proofs.LengthsInside.{are_laid}
 use Rattle.link_core.proofs.LengthsPlaces.{base_before, got_end, got_end-before, got_start-after}
 use Rattle.link_core.proofs.LengthsRaw.{back_fits, got_length, need_length, stub_length, stub_small, with_got_length, word_before}
 use Rattle.link_core.proofs.StandingAway.{table_stays}
+use Rattle.link_core.proofs.GotRelocationsSites.{not_zero}
 
 -- ** an entry in the bytes of the table
 
@@ -100,17 +99,7 @@ stub_behind l n at file inside = of_test (has_stub l)
 -- a table that has bytes is one
 pub got_there : (l : Linking) (file : List ℕ) → 0 < got_size l
     → (with_got l file ≡ with_part l (got_start l) (got_bytes l) file) × (got_end l ≡ got_start l + got_size l)
-got_there l file some = of_test (got_size l == 0) (test (got_size l) some)
-  where
-    test : (n : ℕ) → 0 < n → (n == 0) ≡ false
-    test n some = grind (arith, nat_tests)
-
-    of_test : (t : Bool) → t ≡ false
-        → ((if t then file else with_part l (got_start l) (got_bytes l) file)
-        ≡ with_part l (got_start l) (got_bytes l) file)
-        × ((if t then sections_end (layout l) else got_start l + got_size l) ≡ got_start l + got_size l)
-    of_test true e = absurd (cc)
-    of_test false e = (refl, refl)
+got_there l file some = rw (not_zero (got_size l) some) (refl, refl)
 
 -- each entry, with the words of its need
 pub entry_stands : (l : Linking) → IsGiven l → FitsTable l → (need : Need) (at : ℕ)
@@ -164,12 +153,7 @@ table_at l given limits some =
 
 stub_there : (l : Linking) (file : List ℕ) → has_stub l ≡ true
     → with_stub l file ≡ with_part l (stub_start l) (stub_bytes l) file
-stub_there l file e = of_test (has_stub l) e
-  where
-    of_test : (t : Bool) → t ≡ true → (if t then with_part l (stub_start l) (stub_bytes l) file else file)
-        ≡ with_part l (stub_start l) (stub_bytes l) file
-    of_test true e = refl
-    of_test false e = absurd (cc)
+stub_there l file e = rw e refl
 
 -- the stub stands at its place
 pub stub_at : (l : Linking) → IsGiven l → FitsTable l → has_stub l ≡ true

@@ -1,61 +1,19 @@
 -- What each step of linking tells is a fault of the link.
-use Rattle.std.proofs.Common.{◌≡◌, ◌<◌, ◌≤◌, ◌^◌, ◌⊎◌, ◌↔◌, ℕ, Bool, true, false, IsTrue, Some, None}
-use Rattle.std.proofs.Common.{List, inl, inr, refl, subst, arith}
+use Rattle.std.proofs.Common.{◌≡◌, ◌<◌, ◌≤◌, ◌^◌, ◌⊎◌, ◌↔◌, ℕ, Bool, true, false, IsTrue, None, List, inl, inr, refl}
+use Rattle.std.proofs.Common.{subst}
 use Rattle.std.proofs.lemmas.Bool.{cases_lt}
 use Rattle.link_faults.specs.declared.fault.LinkFault.{LinkFault}
 use Rattle.link_faults.specs.declared.image_kind.ImageKind.{ImageKind}
 use Rattle.link_faults.specs.declared.fault.LinkFault.TheVariants.{OutOfMemory, At}
 use Rattle.link_faults.specs.declared.fault.LinkFaultKind.TheVariants as fault
-use Rattle.link_refusals.specs.Faults.{FitsKind, IsKindFault, IsStorageFault}
-use Rattle.tls_layout.specs.Faults.{IsLayoutFault}
+use Rattle.link_refusals.specs.Faults.{FitsKind, IsStorageFault}
 use Rattle.tls_layout.specs.Places.{tls_size}
-use Rattle.tls_symbols.specs.Faults.{AreResolved, IsFault}
+use Rattle.tls_symbols.specs.Faults.{AreResolved}
 use Rattle.link_needs.specs.Linking.{Linking, layout}
 use Rattle.link_tables.specs.Faults.{FitsLimits, IsCrowded, IsLinkFault, IsWordy, LacksStorage}
 
--- a name's
-pub names_fault : (l : Linking) (told : LinkFault) → IsFault l.objects l.startup told → IsLinkFault l told
-names_fault l OutOfMemory is = tt
-names_fault l (At fault.Undefined (Some o) s e) is = is
-names_fault l (At fault.Duplicate (Some o) s e) is = is
-names_fault l (At fault.NotTls (Some o) s e) is = is
-names_fault l (At fault.Overflow (Some o) s e) is = absurd (omega (arith, is.known))
-names_fault l (At fault.LocalExecInModule (Some o) s e) is = absurd (omega (arith, is.known))
-names_fault l (At fault.NarrowInModule (Some o) s e) is = absurd (omega (arith, is.known))
-names_fault l (At fault.TlsTooLarge (Some o) s e) is = absurd (omega (arith, is.known))
-names_fault l (At fault.ImageTooLarge (Some o) s e) is = absurd (omega (arith, is.known))
-names_fault l (At fault.NoTls (Some o) s e) is = absurd (omega (arith, is.known))
-names_fault l (At kind None s e) is = absurd is
-
 module _ (l : Linking) (resolved : AreResolved l.objects l.startup) where
-  -- that of a relocation that the image's kind refuses
-  pub kind_fault : (told : LinkFault) → IsKindFault l.objects l.kind told → IsLinkFault l told
-  kind_fault OutOfMemory is = tt
-  kind_fault (At fault.LocalExecInModule object s e) is = (resolved, is)
-  kind_fault (At fault.NarrowInModule object s e) is = (resolved, is)
-  kind_fault (At fault.Undefined object s e) is = absurd is
-  kind_fault (At fault.Duplicate object s e) is = absurd is
-  kind_fault (At fault.NotTls object s e) is = absurd is
-  kind_fault (At fault.Overflow object s e) is = absurd is
-  kind_fault (At fault.TlsTooLarge object s e) is = absurd is
-  kind_fault (At fault.ImageTooLarge object s e) is = absurd is
-  kind_fault (At fault.NoTls object s e) is = absurd is
-
   module _ (fits : FitsKind l.objects l.kind) where
-    -- that of sections which are too large
-    pub layout_fault : (told : LinkFault) → IsLayoutFault (layout l) told → IsLinkFault l told
-    layout_fault OutOfMemory is = tt
-    layout_fault (At fault.TlsTooLarge object s e) is = (resolved, ((is.0, is.1, is.2), fits, is.3))
-    layout_fault (At fault.ImageTooLarge object s e) is =
-        (resolved, ((is.0, is.1, is.2), fits, is.3.0, inl is.3.1))
-    layout_fault (At fault.Undefined object s e) is = absurd is.3
-    layout_fault (At fault.Duplicate object s e) is = absurd is.3
-    layout_fault (At fault.NotTls object s e) is = absurd is.3
-    layout_fault (At fault.Overflow object s e) is = absurd is.3
-    layout_fault (At fault.LocalExecInModule object s e) is = absurd is.3
-    layout_fault (At fault.NarrowInModule object s e) is = absurd is.3
-    layout_fault (At fault.NoTls object s e) is = absurd is.3
-
     -- that of too many relocations or names
     pub limit_fault : tls_size (layout l).sections ≤ 2 ^ 20 → IsCrowded l ⊎ IsWordy l
         → IsLinkFault l (At fault.ImageTooLarge None 0 0)
@@ -66,14 +24,7 @@ module _ (l : Linking) (resolved : AreResolved l.objects l.startup) where
         → LacksStorage l.objects l.startup l.kind (tls_size (layout l).sections) told → IsLinkFault l told
     storage_fault limits OutOfMemory is = tt
     storage_fault limits (At fault.NoTls object s e) is = (resolved, (fits, limits, is))
-    storage_fault limits (At fault.Undefined object s e) is = absurd is
-    storage_fault limits (At fault.Duplicate object s e) is = absurd is
-    storage_fault limits (At fault.NotTls object s e) is = absurd is
-    storage_fault limits (At fault.Overflow object s e) is = absurd is
-    storage_fault limits (At fault.LocalExecInModule object s e) is = absurd is
-    storage_fault limits (At fault.NarrowInModule object s e) is = absurd is
-    storage_fault limits (At fault.TlsTooLarge object s e) is = absurd is
-    storage_fault limits (At fault.ImageTooLarge object s e) is = absurd is
+    storage_fault limits (At kind object s e) is = absurd is
 
 -- a fault of storage that is no want of memory
 pub lacks : (objects : List (List ℕ)) (startup : List (List (List ℕ))) (kind : ImageKind) (size : ℕ) (told : LinkFault)

@@ -1,12 +1,11 @@
 -- The symbols of an image are shared, and those of thread-local storage lie in its TLS segment.
-use Rattle.std.proofs.Common.{◌≡◌, ◌≢◌, ◌+◌, ◌≤◌, ◌==◌, ℕ, Bool, true, false, List, [], ◌++◌, map}
-use Rattle.std.proofs.Common.{Option, Some, None, IsSome, unwrap_or, refl, ◌∙◌, arith}
+use Rattle.std.proofs.Common.{◌≡◌, ◌≢◌, ◌+◌, ◌≤◌, ◌==◌, ℕ, Bool, true, false, List, [], ◌++◌, map, Option, Some, None}
+use Rattle.std.proofs.Common.{refl, arith}
 use Rattle.std.specs.Prelude.{if◌then◌else◌}
 use Rattle.std.specs.List.{All}
 use Rattle.std.proofs.lemmas.Bool.Decides.{nat_tests}
 use Rattle.std.proofs.lemmas.List.Elements.{All-append, All-cons, All-map, All-nil, All-weaker}
 use Rattle.object_faults.specs.declared.class.SectionClass.{SectionClass}
-use Rattle.object_faults.specs.declared.class.SectionClass.TheVariants.{Executable, ReadOnly, Writable}
 use Rattle.object_faults.specs.declared.class.SectionClass.TheVariants.{Tls as ThreadLocal}
 use Rattle.elf_object.specs.declared.symbol.SymbolBinding.{SymbolBinding}
 use Rattle.elf_object.specs.declared.symbol.SymbolBinding.TheVariants as of_object
@@ -18,8 +17,7 @@ use Rattle.elf_object.specs.Classes.{IsTls}
 use Rattle.elf_object.specs.Faults.{IsObject}
 use Rattle.elf_object.specs.Lawful.{IsPlaced, IsShared as IsSharedIn}
 use Rattle.elf_object.specs.LawsOfParts.{placed, shared}
-use Rattle.elf_object.specs.Lent.{section_class, section_size, symbol_binding, symbol_place, symbol_size, symbol_type}
-use Rattle.elf_object.specs.Lent.{symbol_value}
+use Rattle.elf_object.specs.Lent.{section_class, symbol_binding, symbol_place, symbol_type, symbol_value}
 use Rattle.dynamic_symbols.specs.Laws.{IsShared}
 use Rattle.dynamic_symbols.proofs.Named.{symbols_shared}
 use Rattle.image_file.specs.declared.part.TlsPart.{TlsPart}
@@ -28,10 +26,8 @@ use Rattle.image_file.specs.declared.symbol.SymbolBinding.TheVariants as of_imag
 use Rattle.image_file.specs.declared.symbol.SymbolType as type_of_image
 use Rattle.image_file.specs.declared.symbol.SymbolType.TheVariants as type_in_image
 use Rattle.image_writer.specs.Linkable.{tls_size as size_of}
-use Rattle.tls_layout.specs.Places.{section_named, tls_alignment, tls_image, tls_offset_of, tls_size, initial_tls}
+use Rattle.tls_layout.specs.Places.{tls_alignment, tls_image, tls_size, initial_tls}
 use Rattle.tls_layout.specs.Sections.{Layout}
-use Rattle.tls_layout.proofs.LawsOfSections.{finds_sections}
-use Rattle.tls_layout.proofs.LawsOfTls.{have_offsets, lie_in_segment}
 use Rattle.tls_symbols.specs.Bindings.{is_tls_class, is_tls_place}
 use Rattle.tls_symbols.specs.Definitions.{same_binding}
 use Rattle.link_needs.specs.Linking.{Linking, address, layout, object, offset, offset_in}
@@ -40,6 +36,7 @@ use Rattle.link_tables.specs.Dynamic.{type_shown}
 use Rattle.link_needs.specs.Given.{FitsTable, IsGiven}
 use Rattle.link_core.specs.Images.{tls_part}
 use Rattle.link_needs.specs.Needs.{uses_runtime}
+use Rattle.link_core.proofs.GotRelocationsSites.{in_section}
 
 -- a symbol that is shared, and lies in a TLS segment of n bytes if it is thread-local here
 pub record IsRight (n : ℕ) (s : ImageSymbol) : Type 0 where
@@ -50,36 +47,19 @@ pub record IsRight (n : ℕ) (s : ImageSymbol) : Type 0 where
 
 not_local : (y : SymbolBinding) → same_binding of_object.Local y ≡ false → y ≢ of_object.Local
 not_local of_object.Local other = absurd (cc)
-not_local of_object.Global other = λ h. cc
-not_local of_object.Weak other = λ h. cc
+not_local y other = λ h. cc
 
 shown_shared : (y : SymbolBinding) → same_binding of_object.Local y ≡ false → binding_shown y ≢ of_image.Local
 shown_shared of_object.Local other = absurd (cc)
-shown_shared of_object.Global other = λ h. cc
-shown_shared of_object.Weak other = λ h. cc
+shown_shared y other = λ h. cc
 
 shown_tls : (x : SymbolType) → type_shown x ≡ type_in_image.Tls → x ≡ type_in_object.Tls
-shown_tls type_in_object.NoType h = absurd (cc)
-shown_tls type_in_object.Object h = absurd (cc)
-shown_tls type_in_object.Func h = absurd (cc)
-shown_tls type_in_object.Section h = absurd (cc)
-shown_tls type_in_object.File h = absurd (cc)
 shown_tls type_in_object.Tls h = refl
-
-class_is : (class : Option SectionClass) → is_tls_class class ≡ true
-    → (initial : Bool) × (class ≡ Some (ThreadLocal initial))
-class_is None h = absurd (cc)
-class_is (Some Executable) h = absurd (cc)
-class_is (Some ReadOnly) h = absurd (cc)
-class_is (Some (ThreadLocal initial)) h = (initial, refl)
-class_is (Some (Writable initial)) h = absurd (cc)
+shown_tls kind h = absurd (cc)
 
 tls_class : (class : Option SectionClass) → IsTls class → is_tls_class class ≡ true
-tls_class None h = absurd h
-tls_class (Some Executable) h = absurd h
-tls_class (Some ReadOnly) h = absurd h
 tls_class (Some (ThreadLocal initial)) h = refl
-tls_class (Some (Writable initial)) h = absurd h
+tls_class class h = absurd h
 
 -- ** what the image defines
 
@@ -100,23 +80,7 @@ module _ (l : Linking) (given : IsGiven l) (limits : FitsTable l) (o e : ℕ)
       → is_tls_class (section_class (object l o) s) ≡ true
       → offset_in (layout l) o (InSection s) (symbol_value (object l o) e) ≤ tls_size (layout l).sections
   in_segment s at tls =
-      let p = layout l in
-      let class = class_is (section_class (object l o) s) tls in
-      let seen = finds_sections l.kind l.objects o s found.within.object in
-      let some : IsSome (section_class (object l o) s) = is_shared.kept s at in
-      let fits = is_placed.inside s at some in
-      let size = seen.size_is some in
-      let has = have_offsets p o s class.0 (seen.class_is ∙ class.1) in
-      by (tls_offset_of p o s) refl has fits size
-    where
-      by : (found : Option ℕ) → tls_offset_of (layout l) o s ≡ found → IsSome found
-          → symbol_value (object l o) e + symbol_size (object l o) e ≤ section_size (object l o) s
-          → (section_named (layout l) o s).size ≡ section_size (object l o) s
-          → unwrap_or found 0 + symbol_value (object l o) e ≤ tls_size (layout l).sections
-      by None is has fits size = absurd (cc)
-      by (Some start) is has fits size =
-          let lies = (lie_in_segment (layout l) limits.lawful o s start is).inside in
-          omega (arith, lies, fits, size)
+      in_section l given limits.lawful (record { object = o; symbol = e }) found.within s at tls
 
   -- a symbol that an image shows as thread-local
   shown_inside : (place : SymbolPlace) (address : ℕ) → symbol_place (object l o) e ≡ place

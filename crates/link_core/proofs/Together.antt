@@ -1,8 +1,8 @@
 -- A relocation that has a field has it outside all rewritten sequences, and one that has none lies in one.
-use Rattle.std.proofs.Common.{◌≡◌, ◌≢◌, ◌+◌, ◌<◌, ◌≤◌, ◌&&◌, ◌∙◌, ℕ, zero, suc, Bool, true, false, List, []}
-use Rattle.std.proofs.Common.{Option, Some, None, length, refl, sym, ap, subst, inl, inr, arith}
+use Rattle.std.proofs.Common.{◌≡◌, ◌≢◌, ◌+◌, ◌<◌, ◌≤◌, ◌&&◌, ◌∙◌, ℕ, Bool, true, false, List, [], Option, Some, None}
+use Rattle.std.proofs.Common.{length, refl, sym, ap, subst, inl, inr, arith}
 use Rattle.std.specs.Prelude.{is_none}
-use Rattle.std.specs.List.{Contains, slice_get}
+use Rattle.std.specs.List.{Contains}
 use Rattle.std.proofs.lemmas.List.Elements.{All-contains}
 use Rattle.std.proofs.lemmas.Option.{slice_get-get_or}
 use Rattle.elf_records.specs.declared.relocation.RelocationKind.{RelocationKind}
@@ -12,7 +12,7 @@ use Rattle.elf_object.specs.declared.relocation.Relocation.{Relocation}
 use Rattle.elf_object.specs.Lawful.{IsLawful}
 use Rattle.elf_object.specs.LawsOfRelocations.{lawful}
 use Rattle.elf_object.specs.Parts.{symbol_count}
-use Rattle.elf_object.specs.Lent.{kept_relocation_table, relocations, relocations_in}
+use Rattle.elf_object.specs.Lent.{kept_relocation_table, relocations}
 use Rattle.elf_object.specs.Relocations.{field_width}
 use Rattle.link_faults.specs.declared.fault.LinkFaultKind.TheVariants.{NotTls, Undefined}
 use Rattle.sequence_forms.specs.declared.forms.Call.{Call}
@@ -34,7 +34,7 @@ use Rattle.link_needs.specs.Given.{IsGiven}
 use Rattle.link_core.specs.Laws.{FieldsGoWithTheirSites, HasNoStray, IsCovered, IsInSite}
 use Rattle.link_needs.specs.Needs.{is_kept}
 use Rattle.link_needs.specs.Values.{goes, is_replaced, is_rewriting}
-use Rattle.link_core.proofs.GotRelocationsSites.{held, IsHeld, passes}
+use Rattle.link_core.proofs.GotRelocationsSites.{has_table, held, IsHeld, passes}
 use Rattle.link_core.proofs.TogetherFound.{Rewritten, rewritten_or_not}
 use Rattle.link_core.proofs.TogetherNames.{getter_bound, runtime_getter}
 use Rattle.link_core.proofs.TogetherRows.{both, call_goes, chosen_kept, chosen_taken, first_goes, first_stays}
@@ -82,12 +82,6 @@ some_kind r k covers none =
 
 some_width : (r : Relocation) (k : ℕ) → IsCovered r k → 0 < field_width r.kind
 some_width r k covers = omega (arith, covers.0, covers.1)
-
--- a section that has relocations has a table of them
-has_table : (b : List ℕ) (r e : ℕ) (x : Relocation) → slice_get (relocations_in b r) e ≡ Some x → 0 < r
-unfolding relocations_in
-has_table b zero e x is = absurd (cc)
-has_table b (suc r) e x is = omega arith
 
 -- ** one section
 

@@ -2,7 +2,7 @@
 use Rattle.std.proofs.Common.{◌≡◌, ◌<◌, ◌==◌, ◌||◌, ◌&&◌, ℕ, Bool, true, false, not, List, Option, Some}
 use Rattle.std.proofs.Common.{None, length, nat_lt, if◌then◌else◌, refl, inl, inr, arith}
 use Rattle.std.specs.Str.{bytes_eq}
-use Rattle.std.proofs.lemmas.Bool.Decides.{nat_tests}
+use Rattle.std.proofs.lemmas.Bool.{eqb-true, lt-ltb}
 use Rattle.std.proofs.lemmas.Slice.Eq.{bytes_eq-Decides}
 use Rattle.elf_records.specs.Records.{symbol_binding as binding_number}
 use Rattle.object_rules.specs.declared.fault.FaultKind.TheVariants.{SymbolSection}
@@ -28,14 +28,8 @@ use Rattle.tls_symbols.specs.Faults.{is_second, AreResolved, Stands as StandsAt}
 
 undefined_is : (b : List ℕ) (e : ℕ) → 0 < e → symbol_place b e ≡ Undefined → (symbol b e).shndx ≡ 0
 unfolding symbol_place
-undefined_is b e above h = of (nat_lt 0 e) (symbol b e).shndx (is_above e above) h
+undefined_is b e above h = of (nat_lt 0 e) (symbol b e).shndx (lt-ltb 0 e above) h
   where
-    is_above : (e : ℕ) → 0 < e → nat_lt 0 e ≡ true
-    is_above e h = grind (arith, nat_tests)
-
-    zero_of : (n : ℕ) → (n == 0) ≡ true → n ≡ 0
-    zero_of n h = grind (arith, nat_tests)
-
     of_tests : (none absolute : Bool) (n : ℕ)
         → (if none then Undefined else if absolute then Absolute else InSection n) ≡ Undefined → none ≡ true
     of_tests true absolute n h = refl
@@ -43,21 +37,15 @@ undefined_is b e above h = of (nat_lt 0 e) (symbol b e).shndx (is_above e above)
     of_tests false false n h = absurd (cc)
 
     of : (t : Bool) (n : ℕ) → t ≡ true → (if t then place_numbered n else Undefined) ≡ Undefined → n ≡ 0
-    of true n t h = zero_of n (of_tests (n == 0) (n == 0xfff1) n h)
+    of true n t h = eqb-true n 0 (of_tests (n == 0) (n == 0xfff1) n h)
     of false n t h = absurd (cc)
 
 local_is : (b : List ℕ) (e : ℕ) → 0 < e → same_binding Local (symbol_binding b e) ≡ true
     → binding_number (symbol b e) ≡ 0
 unfolding symbol_binding
-local_is b e above h = of (nat_lt 0 e) (is_above e above) (binding_number (symbol b e) == 0)
-    (binding_number (symbol b e) == 1) (binding_number (symbol b e)) h (zero_of (binding_number (symbol b e)))
+local_is b e above h = of (nat_lt 0 e) (lt-ltb 0 e above) (binding_number (symbol b e) == 0)
+    (binding_number (symbol b e) == 1) (binding_number (symbol b e)) h (eqb-true (binding_number (symbol b e)) 0)
   where
-    is_above : (e : ℕ) → 0 < e → nat_lt 0 e ≡ true
-    is_above e h = grind (arith, nat_tests)
-
-    zero_of : (n : ℕ) → (n == 0) ≡ true → n ≡ 0
-    zero_of n h = grind (arith, nat_tests)
-
     of : (t : Bool) → t ≡ true → (a c : Bool) (n : ℕ)
         → same_binding Local (if t then (if a then Local else if c then Global else Weak) else Local) ≡ true
         → (a ≡ true → n ≡ 0) → n ≡ 0

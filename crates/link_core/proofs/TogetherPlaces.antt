@@ -1,9 +1,9 @@
 -- Which relocation has no field, and what a byte means, by place alone.
-use Rattle.std.proofs.Common.{◌≡◌, ◌+◌, ◌<◌, ◌≤◌, ◌&&◌, ◌||◌, ◌==◌, ◌∙◌, ℕ, zero, suc, Bool, true, false, not, List, [], ◌∷◌}
+use Rattle.std.proofs.Common.{◌≡◌, ◌+◌, ◌<◌, ◌≤◌, ◌&&◌, ◌||◌, ◌∙◌, ℕ, zero, suc, Bool, true, false, not, List, [], ◌∷◌}
 use Rattle.std.proofs.Common.{Option, Some, None, length, refl, sym, ap, arith, if◌then◌else◌}
 use Rattle.std.specs.Prelude.{nat_le, nat_lt, slice_index_or}
 use Rattle.std.specs.List.{Contains, find, list_any}
-use Rattle.std.proofs.lemmas.Bool.{lt-ltb}
+use Rattle.std.proofs.lemmas.Bool.{lt-ltb, ltb-true}
 use Rattle.std.proofs.lemmas.Bool.Decides.{nat_tests}
 use Rattle.elf_object.specs.declared.relocation.Relocation.{Relocation}
 use Rattle.elf_object.specs.Lent.{relocations, section_bytes}
@@ -22,16 +22,9 @@ use Rattle.link_core.specs.Laws.{BytesAreMeantByPlace, GoWithTheirSites, HasNoSt
 use Rattle.link_core.specs.Meant.{field_byte, is_in_field, is_in_rewritten, is_of_field, lies_in_rewritten, meant_byte}
 use Rattle.link_core.specs.Meant.{placed_byte, site_byte}
 use Rattle.link_core.proofs.Together.{together}
+pub use Rattle.link_core.proofs.TogetherFound.{covers_is, covers_so}
 
 -- ** tests
-
-pub covers_is : (m n a k e : ℕ) (kept : Bool) → ((m == n) && (nat_le a k && nat_lt k e) && not kept) ≡ true
-    → (m ≡ n) × (a ≤ k) × (k < e) × (kept ≡ false)
-covers_is m n a k e kept h = grind (arith, nat_tests)
-
-pub covers_so : (m n a k e : ℕ) (kept : Bool) → m ≡ n → a ≤ k → k < e → kept ≡ false
-    → ((m == n) && (nat_le a k && nat_lt k e) && not kept) ≡ true
-covers_so m n a k e kept same low high off = grind (arith, nat_tests)
 
 within_is : (a k e : ℕ) → (nat_le a k && nat_lt k e) ≡ true → (a ≤ k) × (k < e)
 within_is a k e h = grind (arith, nat_tests)
@@ -119,14 +112,11 @@ module _ (l : Linking) (given : IsGiven l) (links : Links l) (stray : HasNoStray
     pub replaced : is_replaced l o r ≡ lies_in_rewritten l o t r
     replaced = of_test (is_replaced l o r) refl
       where
-        above : (n : ℕ) → nat_lt 0 n ≡ true → 0 < n
-        above n e = grind (arith, nat_tests)
-
         of_width : (x : Bool) → nat_lt 0 (field_width r.kind) ≡ x → is_replaced l o r ≡ false
             → false ≡ (x && list_any (is_in_rewritten l o t r.offset) (sites_at l o))
         of_width false w e = refl
         of_width true w e =
-            let some = above (field_width r.kind) w in
+            let some = ltb-true 0 (field_width r.kind) w in
             sym (none_among (is_in_rewritten l o t r.offset) (sites_at l o)
             (stays e r.offset (omega arith) (omega (arith, some))))
 

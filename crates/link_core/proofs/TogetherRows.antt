@@ -1,23 +1,22 @@
 -- What the rows of sequences say of their relocations' fields, and of which ones a program rewrites.
-use Rattle.std.proofs.Common.{◌≡◌, ◌+◌, ◌<◌, ◌≤◌, ◌⊎◌, ◌||◌, ◌&&◌, ℕ, zero, suc, Bool, true, false, List}
-use Rattle.std.proofs.Common.{[], ◌∷◌, Option, Some, None, length, nat_lt, if◌then◌else◌, refl, ap, subst, inl, inr}
-use Rattle.std.proofs.Common.{arith}
+use Rattle.std.proofs.Common.{◌≡◌, ◌+◌, ◌<◌, ◌≤◌, ◌⊎◌, ◌||◌, ◌&&◌, ℕ, zero, suc, Bool, true, false, List, [], ◌∷◌}
+use Rattle.std.proofs.Common.{Option, Some, None, length, nat_lt, if◌then◌else◌, refl, ap, subst, inl, inr, arith}
 use Rattle.std.specs.Prelude.{nat_le}
 use Rattle.std.specs.List.{slice_get}
 use Rattle.std.proofs.lemmas.Bool.Decides.{nat_tests}
 use Rattle.elf_records.specs.declared.relocation.RelocationKind.{RelocationKind}
-use Rattle.elf_records.specs.declared.relocation.RelocationKind.TheVariants.{Nothing, Pc32, Plt32, GotPcRel}
-use Rattle.elf_records.specs.declared.relocation.RelocationKind.TheVariants.{TlsGd, TlsLd, GotTpOff, GotPc32TlsDesc}
-use Rattle.elf_records.specs.declared.relocation.RelocationKind.TheVariants.{GotPcRelX, RexGotPcRelX}
+use Rattle.elf_records.specs.declared.relocation.RelocationKind.TheVariants.{Nothing, Pc32, Plt32, GotPcRel, TlsGd}
+use Rattle.elf_records.specs.declared.relocation.RelocationKind.TheVariants.{TlsLd, GotTpOff, GotPc32TlsDesc, GotPcRelX}
+use Rattle.elf_records.specs.declared.relocation.RelocationKind.TheVariants.{RexGotPcRelX}
 use Rattle.elf_object.specs.declared.relocation.Relocation.{Relocation}
 use Rattle.elf_object.specs.Relocations.{field_width}
 use Rattle.link_faults.specs.declared.image_kind.ImageKind.{ImageKind}
-use Rattle.link_faults.specs.declared.image_kind.ImageKind.TheVariants.{Exe, Pie, Start, Late}
+use Rattle.link_faults.specs.declared.image_kind.ImageKind.TheVariants.{Exe, Pie}
 use Rattle.link_faults.specs.ImageKinds.{is_module}
 use Rattle.sequence_forms.specs.declared.forms.Form.{Form}
-use Rattle.sequence_forms.specs.declared.forms.Form.TheVariants.{Gd, Ld, IeMov, IeAdd, GdInd, LdInd, DescLea, DescCall}
+use Rattle.sequence_forms.specs.declared.forms.Form.TheVariants.{Gd, IeMov, IeAdd, DescLea, DescCall}
 use Rattle.sequence_forms.specs.declared.forms.Cell.{Cell}
-use Rattle.sequence_forms.specs.declared.forms.Cell.TheVariants.{Is, Rex, ModRm, Field}
+use Rattle.sequence_forms.specs.declared.forms.Cell.TheVariants.{Field}
 use Rattle.sequence_forms.specs.declared.forms.Call.{Call}
 use Rattle.sequence_forms.specs.declared.forms.Call.TheVariants.{Direct, Indirect}
 use Rattle.sequence_forms.specs.declared.forms.Second.{Second}
@@ -49,22 +48,15 @@ IsVariable (Some bound) = Unit {0}
 of_program : (form : Form) (bound : Binding) (kind : ImageKind) (relax : Bool)
     → (if is_module kind then false else relax) ≡ true → choice_of form bound kind relax ≡ program_choice form bound
 of_program form bound Exe true h = refl
-of_program form bound Exe false h = absurd (cc)
 of_program form bound Pie true h = refl
-of_program form bound Pie false h = absurd (cc)
-of_program form bound Start relax h = absurd (cc)
-of_program form bound Late relax h = absurd (cc)
+of_program form bound kind relax h = absurd (cc)
 
 of_other : (form : Form) (bound : Binding) (kind : ImageKind) (relax : Bool)
     → (if is_module kind then false else relax) ≡ false → choice_of form bound kind relax ≡ Keep
 of_other form bound Exe true h = absurd (cc)
-of_other form bound Exe false h = refl
 of_other form bound Pie true h = absurd (cc)
-of_other form bound Pie false h = refl
-of_other form bound Start true h = refl
-of_other form bound Start false h = refl
-of_other form bound Late true h = refl
-of_other form bound Late false h = refl
+of_other form bound kind false h = refl
+of_other form bound kind true h = refl
 
 -- what is chosen with rewriting, and without
 pub chosen_taken : (l : Linking) (form : Form) (bound : Option Binding) → is_rewriting l ≡ true
@@ -81,79 +73,41 @@ chosen_kept l form (Some bound) h = ap is_kept (of_other form bound l.kind l.rel
 pub first_goes : (form : Form) (bound : Option Binding) → IsVariable bound → goes bound (row form).first ≡ true
     → is_kept (taken form bound) ≡ false
 unfolding row
-first_goes Gd None variable h = absurd variable
-first_goes Gd (Some (Here found)) variable h = refl
-first_goes Gd (Some (Startup image)) variable h = refl
-first_goes Gd (Some Runtime) variable h = absurd variable
-first_goes Ld None variable h = absurd variable
-first_goes Ld (Some bound) variable h = refl
-first_goes IeMov None variable h = absurd variable
-first_goes IeMov (Some (Here found)) variable h = refl
+first_goes form None variable h = absurd variable
+first_goes form (Some Runtime) variable h = absurd variable
 first_goes IeMov (Some (Startup image)) variable h = absurd (cc)
-first_goes IeMov (Some Runtime) variable h = absurd variable
-first_goes IeAdd None variable h = absurd variable
-first_goes IeAdd (Some (Here found)) variable h = refl
 first_goes IeAdd (Some (Startup image)) variable h = absurd (cc)
-first_goes IeAdd (Some Runtime) variable h = absurd variable
-first_goes GdInd None variable h = absurd variable
-first_goes GdInd (Some (Here found)) variable h = refl
-first_goes GdInd (Some (Startup image)) variable h = refl
-first_goes GdInd (Some Runtime) variable h = absurd variable
-first_goes LdInd None variable h = absurd variable
-first_goes LdInd (Some bound) variable h = refl
-first_goes DescLea None variable h = absurd variable
-first_goes DescLea (Some (Here found)) variable h = refl
-first_goes DescLea (Some (Startup image)) variable h = refl
-first_goes DescLea (Some Runtime) variable h = absurd variable
 first_goes DescCall bound variable h = absurd (cc)
+first_goes form bound variable h = refl
 
 -- and stays where that stays, if it has a field
 pub first_stays : (form : Form) (bound : Option Binding) → goes bound (row form).first ≡ false
     → 0 < field_width (row form).first → is_kept (taken form bound) ≡ true
 unfolding row
-first_stays Gd bound h wide = absurd (cc)
-first_stays Ld bound h wide = absurd (cc)
-first_stays IeMov None h wide = refl
 first_stays IeMov (Some (Here found)) h wide = absurd (cc)
-first_stays IeMov (Some (Startup image)) h wide = refl
-first_stays IeMov (Some Runtime) h wide = refl
-first_stays IeAdd None h wide = refl
+first_stays IeMov bound h wide = refl
 first_stays IeAdd (Some (Here found)) h wide = absurd (cc)
-first_stays IeAdd (Some (Startup image)) h wide = refl
-first_stays IeAdd (Some Runtime) h wide = refl
-first_stays GdInd bound h wide = absurd (cc)
-first_stays LdInd bound h wide = absurd (cc)
-first_stays DescLea bound h wide = absurd (cc)
+first_stays IeAdd bound h wide = refl
 first_stays DescCall bound h wide = absurd (omega arith)
+first_stays form bound h wide = absurd (cc)
 
 -- a sequence with a call goes
 pub call_goes : (form : Form) (bound : Option Binding) (getter : ℕ → Type 0) (xs : List Relocation) (start f : ℕ)
     → IsVariable bound → IsSecond (row form).second getter xs start f → is_kept (taken form bound) ≡ false
 unfolding row
-call_goes Gd None getter xs start f variable h = absurd variable
-call_goes Gd (Some (Here found)) getter xs start f variable h = refl
-call_goes Gd (Some (Startup image)) getter xs start f variable h = refl
-call_goes Gd (Some Runtime) getter xs start f variable h = absurd variable
-call_goes Ld None getter xs start f variable h = absurd variable
-call_goes Ld (Some bound) getter xs start f variable h = refl
+call_goes form None getter xs start f variable h = absurd variable
+call_goes form (Some Runtime) getter xs start f variable h = absurd variable
 call_goes IeMov bound getter xs start f variable h = absurd h
 call_goes IeAdd bound getter xs start f variable h = absurd h
-call_goes GdInd None getter xs start f variable h = absurd variable
-call_goes GdInd (Some (Here found)) getter xs start f variable h = refl
-call_goes GdInd (Some (Startup image)) getter xs start f variable h = refl
-call_goes GdInd (Some Runtime) getter xs start f variable h = absurd variable
-call_goes LdInd None getter xs start f variable h = absurd variable
-call_goes LdInd (Some bound) getter xs start f variable h = refl
 call_goes DescLea bound getter xs start f variable h = absurd h
 call_goes DescCall bound getter xs start f variable h = absurd h
+call_goes form bound getter xs start f variable h = refl
 
 -- ** which relocations go
 
 runtime_of : (bound : Option Binding) → is_runtime bound ≡ true → bound ≡ Some Runtime
-runtime_of None h = absurd (cc)
-runtime_of (Some (Here found)) h = absurd (cc)
-runtime_of (Some (Startup image)) h = absurd (cc)
 runtime_of (Some Runtime) h = refl
+runtime_of bound h = absurd (cc)
 
 -- one that goes is of a type of sequences, or names the run time's function
 pub goes_with : (bound : Option Binding) (kind : RelocationKind) → goes bound kind ≡ true
@@ -176,8 +130,7 @@ runtime_goes Direct Pc32 h = refl
 runtime_goes Indirect GotPcRel h = refl
 runtime_goes Indirect GotPcRelX h = refl
 runtime_goes Indirect RexGotPcRelX h = refl
-runtime_goes Direct _ h = absurd h
-runtime_goes Indirect _ h = absurd h
+runtime_goes call kind h = absurd h
 
 -- ** where fields lie in a row
 
@@ -189,24 +142,15 @@ FitsIn (Some second) n = second.at + 4 ≤ n
 pub first_fits : (form : Form) → (row form).first_at + field_width (row form).first ≤ length (row form).cells
 unfolding row
 first_fits Gd = omega arith
-first_fits Ld = omega arith
-first_fits IeMov = omega arith
-first_fits IeAdd = omega arith
-first_fits GdInd = omega arith
-first_fits LdInd = omega arith
-first_fits DescLea = omega arith
-first_fits DescCall = omega arith
+first_fits form = omega arith
 
 pub second_fits : (form : Form) → FitsIn (row form).second (length (row form).cells)
 unfolding row
-second_fits Gd = omega arith
-second_fits Ld = omega arith
 second_fits IeMov = tt
 second_fits IeAdd = tt
-second_fits GdInd = omega arith
-second_fits LdInd = omega arith
 second_fits DescLea = tt
 second_fits DescCall = tt
+second_fits form = omega arith
 
 -- whether place n lies so far behind a start
 abbrev in_range : ℕ → ℕ → ℕ → Bool
@@ -231,13 +175,7 @@ are_known s (c ∷ cs) n = (is_literal c || in_fields s n) && are_known s cs (n 
 row_known : (form : Form) → are_known (row form) (row form).cells 0 ≡ true
 unfolding row
 row_known Gd = refl
-row_known Ld = refl
-row_known IeMov = refl
-row_known IeAdd = refl
-row_known GdInd = refl
-row_known LdInd = refl
-row_known DescLea = refl
-row_known DescCall = refl
+row_known form = refl
 
 pub both : (a b : Bool) → (a && b) ≡ true → (a ≡ true) × (b ≡ true)
 both true b h = (refl, h)
@@ -248,10 +186,8 @@ either true b h = inl refl
 either false b h = inr h
 
 literal_of : (c : Cell) → is_literal c ≡ true → IsLiteral c
-literal_of (Is byte) h = tt
-literal_of Rex h = tt
-literal_of ModRm h = tt
 literal_of Field h = absurd (cc)
+literal_of cell h = tt
 
 within_of : (at width n : ℕ) → in_range at width n ≡ true → (at ≤ n) × (n < at + width)
 within_of at width n h = grind (arith, nat_tests)

@@ -8,12 +8,9 @@ use Rattle.sequence_forms.specs.declared.places.Site.{Site}
 use Rattle.sequence_match.specs.Code.{AreApart}
 use Rattle.sequence_forms.specs.Forms.{row}
 use Rattle.sequence_match.specs.Sites.{Covers, HasSecond, IsEntry, IsSecond, IsSiteOf}
-use Rattle.sequence_match.proofs.Entries.{same_entry}
+use Rattle.sequence_match.proofs.Entries.{below_or_not, same_entry}
 use Rattle.sequence_match.proofs.Rows.{call_width_is}
 use Rattle.link_core.proofs.TogetherRows.{cell_at, first_fits, FitsIn, IsInSecond, second_fits}
-
-below_or_not : (e f : ℕ) → (e < f) ⊎ ((e ≡ f) ⊎ (f < e))
-below_or_not e f = grind arith
 
 covers_at : (o w start at n k : ℕ) → o ≡ start + at → k ≡ start + n → (at ≤ n) × (n < at + w)
     → (o ≤ k) × (k < o + w)

@@ -1,6 +1,6 @@
 -- Images that are linked from objects which have no section for programs to write share no data.
-use Rattle.std.proofs.Common.{◌≡◌, ◌∙◌, ◌-◌, ◌==◌, Bool, true, false, List, [], ◌∷◌, ◌++◌, Some, None, length, map, nat_lt}
-use Rattle.std.proofs.Common.{refl, sym, ap, subst, append_assoc}
+use Rattle.std.proofs.Common.{◌≡◌, ◌∙◌, ◌-◌, ◌==◌, Bool, true, false, List, [], ◌∷◌, ◌++◌, Some, None}
+use Rattle.std.proofs.Common.{length, map, nat_lt, refl, sym, ap, subst, append_assoc}
 use Rattle.std.specs.Prelude.{is_some, if◌then◌else◌}
 use Rattle.std.specs.List.{All}
 use Rattle.std.proofs.lemmas.List.{length-map, map-append}
@@ -13,8 +13,8 @@ use Rattle.image_writer.specs.declared.outline.PartPlace.{PartPlace}
 use Rattle.image_writer.specs.Contents.{part_in}
 use Rattle.image_writer.specs.Tables.{finished, tables_part}
 use Rattle.link_core.specs.Bytes.{file}
-use Rattle.link_core.specs.Images.{contents, file_kind, filled, got_number, got_places, image_of, places, section_places}
-use Rattle.link_core.specs.Images.{stub_places}
+use Rattle.link_core.specs.Images.{contents, file_kind, filled, got_number, got_places, image_of, places}
+use Rattle.link_core.specs.Images.{section_places, stub_places}
 use Rattle.link_needs.specs.Linking.{Linking, layout}
 use Rattle.link_needs.specs.Needs.{got_size, got_start, has_stub, stub_start}
 use Rattle.module_data.specs.Parts.{data_part, is_writable}
@@ -29,7 +29,8 @@ use Rattle.linked_modules.proofs.Unwritten.{empty}
 abbrev IsStillPlace : PartPlace → Type 0
 IsStillPlace place = is_writable place.class ≡ false
 
-filled_still : (class : PartClass) (extent : Extent) → is_writable class ≡ false → All IsStillPlace (filled class extent)
+filled_still : (class : PartClass) (extent : Extent) → is_writable class ≡ false
+    → All IsStillPlace (filled class extent)
 filled_still class extent still = of_test (nat_lt extent.start extent.end)
   where
     place : PartPlace
@@ -70,7 +71,8 @@ module _ (l : Linking) (none : has_writable l ≡ false) where
       let r = filled ReadOnly (read_only (layout l).kind (layout l).sections) in
       let t = filled ReadOnly (tls_image (layout l).kind (layout l).sections) in
       let w = filled Writable (writable (layout l).kind (layout l).sections) in
-      All-append IsStillPlace x (r ++ (t ++ w)) (filled_still Executable (executable (layout l).kind (layout l).sections) refl)
+      All-append IsStillPlace x (r ++ (t ++ w))
+      (filled_still Executable (executable (layout l).kind (layout l).sections) refl)
       (All-append IsStillPlace r (t ++ w) (filled_still ReadOnly (read_only (layout l).kind (layout l).sections) refl)
       (All-append IsStillPlace t w (filled_still ReadOnly (tls_image (layout l).kind (layout l).sections) refl)
       (none_filled Writable (writable (layout l).kind (layout l).sections) none)))

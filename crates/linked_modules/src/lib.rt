@@ -30,12 +30,12 @@
 //! The module's two relocations name `total`, which the loader finds in the program. Were it HIDDEN there, the program
 //! would not export it, and the module would not link.
 //!
-//! The other law is of **data that threads share**. A loader leaves two kinds of parts writable: the class of writable
-//! sections (gABI, "Section Attributes": SHF_ALLOC and SHF_WRITE), which all threads write, and the global offset table,
-//! which the loader alone writes. So where no object has a byte in such a section, in the file or in memory
-//! (`IsDataless`, `specs/Dataless`), that class is empty in each image and the table is all that is left (`ShareNoData`):
-//! threads of such images have their blocks and their stacks to themselves, and nothing else to write. For example, of a
-//! program with `.text`, `.tdata` and an empty `.data`:
+//! The other law is of **data that threads share**. Two kinds of parts are writable: the class of writable sections
+//! (gABI, "Section Attributes": SHF_ALLOC and SHF_WRITE), which all threads write, and the global offset table, which
+//! the loader alone writes. So where no object has a byte in such a section, in the file or in memory (`IsDataless`,
+//! `specs/Dataless`), that class is empty in each image and the table is all that is left (`ShareNoData`): threads of
+//! such images have their blocks and their stacks to themselves, and nothing else to write. For example, of a program
+//! with `.text`, `.tdata` and an empty `.data`:
 //!
 //! ```text
 //! part 0   executable   .text

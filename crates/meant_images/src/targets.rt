@@ -118,6 +118,8 @@ fn bound_target(images: &[Inputs], inputs: &Inputs, number: usize, site: &Site) 
     ensures target { IsBound images.now inputs.now number site.now result }
     ensures numbered { IsNumbered result }
 {
+    // What is known of inputs is known where a part of them is read.
+    let _objects = inputs.objects;
     match inputs.bound(number, site.symbol, site.form.row().first) {
         Some(Binding::Here(found)) => Target::Own(found, inputs.offset(found)),
         Some(Binding::Startup(image)) => {

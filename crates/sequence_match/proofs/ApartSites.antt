@@ -8,7 +8,7 @@ use Rattle.elf_object.specs.declared.relocation.Relocation.{Relocation}
 use Rattle.elf_object.specs.Relocations.{field_width}
 use Rattle.elf_object.specs.Lent.{relocations}
 use Rattle.sequence_forms.specs.declared.forms.Form.{Form}
-use Rattle.sequence_forms.specs.declared.forms.Form.TheVariants.{Gd, Ld, IeMov, IeAdd, GdInd, LdInd, DescLea, DescCall}
+use Rattle.sequence_forms.specs.declared.forms.Form.TheVariants.{Gd, IeMov, IeAdd, GdInd, DescCall}
 use Rattle.sequence_forms.specs.declared.forms.Cell.{Cell}
 use Rattle.sequence_forms.specs.declared.forms.Cell.TheVariants.{Is, Rex}
 use Rattle.sequence_forms.specs.declared.forms.Second.{Second}
@@ -19,16 +19,9 @@ use Rattle.sequence_match.specs.Laws.{SitesAreApart}
 use Rattle.sequence_match.specs.Sites.{Covers, HasSecond, IsEntry, IsLiteral, IsSiteOf}
 use Rattle.sequence_match.proofs.Clashes.{all_clash, behind_first, clash, is_field, tails_clash}
 use Rattle.sequence_match.proofs.Found.{one_site, other_start}
-use Rattle.sequence_match.proofs.OneForm.{cells_clash}
+use Rattle.sequence_match.proofs.Literals.{both_of as both}
+use Rattle.sequence_match.proofs.OneForm.{cells_clash, either}
 use Rattle.sequence_match.proofs.Rows.{call_width_is}
-
-both : (a b : Bool) → (a && b) ≡ true → (a ≡ true) × (b ≡ true)
-both true b h = (refl, h)
-both false b h = absurd (cc)
-
-either : (a b : Bool) → (a || b) ≡ true → (a ≡ true) ⊎ (b ≡ true)
-either true b h = inl refl
-either false b h = inr h
 
 -- the cells stand in the code at a place
 abbrev StandAt : List Cell → List ℕ → ℕ → Type 0
@@ -70,13 +63,7 @@ all_fields s (c ∷ cs) n = (not (is_field c) || in_fields s n) && all_fields s 
 row_fields : (form : Form) → all_fields (row form) (row form).cells 0 ≡ true
 unfolding row
 row_fields Gd = refl
-row_fields Ld = refl
-row_fields IeMov = refl
-row_fields IeAdd = refl
-row_fields GdInd = refl
-row_fields LdInd = refl
-row_fields DescLea = refl
-row_fields DescCall = refl
+row_fields form = refl
 
 not_field : (a : Bool) → not a ≡ true → a ≡ true → ⊥
 not_field true h k = absurd (cc)
@@ -142,13 +129,11 @@ covered code xs getter e n site is inside =
 first_literal : (form : Form) → (c : Cell) × (slice_get (row form).cells 0 ≡ Some c) × IsLiteral c
 unfolding row
 first_literal Gd = (Is 0x66, refl, tt)
-first_literal Ld = (Is 0x48, refl, tt)
+first_literal GdInd = (Is 0x66, refl, tt)
 first_literal IeMov = (Rex, refl, tt)
 first_literal IeAdd = (Rex, refl, tt)
-first_literal GdInd = (Is 0x66, refl, tt)
-first_literal LdInd = (Is 0x48, refl, tt)
-first_literal DescLea = (Is 0x48, refl, tt)
 first_literal DescCall = (Is 0xff, refl, tt)
+first_literal form = (Is 0x48, refl, tt)
 
 -- behind the first byte
 tail_get : (cells : List Cell) (d : ℕ) (c : Cell) → slice_get (behind_first cells) d ≡ Some c → slice_get cells (suc d) ≡ Some c

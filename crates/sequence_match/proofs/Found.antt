@@ -68,7 +68,7 @@ pub record SitesBelow (code : Code) (n : ℕ) (sites : List Site) : Type 0 where
   pub every : (site : Site) → IsBelow code n site → Contains sites site
   pub apart : AllPairs (λ p q. p.start ≢ q.start) sites
 
-below_or_at : (e n : ℕ) → e < n + 1 → (e < n) ⊎ (e ≡ n)
+pub below_or_at : (e n : ℕ) → e < n + 1 → (e < n) ⊎ (e ≡ n)
 below_or_at e n h = grind arith
 
 module _ (code : Code) (n : ℕ) (sites : List Site) (below : SitesBelow code n sites) where
@@ -102,13 +102,6 @@ module _ (code : Code) (n : ℕ) (sites : List Site) (below : SitesBelow code n 
         (λ k d inside. let h = below.only k d inside in
         other_start code.bytes.now code.relocations.now (Names code.getters.now) h.1.0 n (get_or sites k d) p h.1.1 h.1.2 found.2);
   }
-
-pub sites_none : (code : Code) → SitesBelow code 0 []
-sites_none code = record {
-  only = λ k d inside. absurd (omega arith);
-  every = λ site h. absurd (omega (arith, h.1.1));
-  apart = λ i j d less inside. absurd (omega arith);
-}
 
 pub sites_all : (code : Code) (n : ℕ) (sites : List Site) → n ≡ length code.relocations.now → SitesBelow code n sites → AreSitesIn code sites
 sites_all code n sites all below = record {
@@ -159,10 +152,6 @@ stands_with P Q _ code xs e to from h = h
 pub least_more : (P : ℕ → Type 0) (n : ℕ) (least : Option ℕ) → IsLeastBelow P n least → (P n → ⊥) → IsLeastBelow P (n + 1) least
 least_more P n None least none = below_more (λ e. P e → ⊥) n least none
 least_more P n (Some e) least none = least
-
--- one number more, at which it does
-pub least_at : (P : ℕ → Type 0) (n : ℕ) → IsLeastBelow P n None → P n → IsLeastBelow P (n + 1) (Some n)
-least_at P n least here = (here, least)
 
 -- none of the numbers that count is left
 pub least_all : (P : ℕ → Type 0) (n : ℕ) (least : Option ℕ) → ((e : ℕ) → P e → e < n) → IsLeastBelow P n least → IsFirstAt P least

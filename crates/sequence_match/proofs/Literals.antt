@@ -8,9 +8,9 @@ use Rattle.elf_records.specs.declared.relocation.RelocationKind.TheVariants.{Not
 use Rattle.elf_object.specs.declared.relocation.Relocation.{Relocation}
 use Rattle.elf_object.specs.Relocations.{field_width}
 use Rattle.sequence_forms.specs.declared.forms.Cell.{Cell}
-use Rattle.sequence_forms.specs.declared.forms.Cell.TheVariants.{Is, Rex, ModRm, Field}
+use Rattle.sequence_forms.specs.declared.forms.Cell.TheVariants.{Field}
 use Rattle.sequence_forms.specs.declared.forms.Form.{Form}
-use Rattle.sequence_forms.specs.declared.forms.Form.TheVariants.{Gd, Ld, IeMov, IeAdd, GdInd, LdInd, DescLea, DescCall}
+use Rattle.sequence_forms.specs.declared.forms.Form.TheVariants.{Gd}
 use Rattle.sequence_forms.specs.Forms.{row}
 use Rattle.sequence_match.specs.Code.{AreBare, AreBytes, behind_at, behind_end}
 use Rattle.sequence_match.specs.Sites.{IsBare, IsLiteral, IsSpelled}
@@ -34,15 +34,9 @@ agree (c ∷ cs) i first at end = same_bool (not (is_field c)) (lies first at en
 rows_agree : (form : Form) → agree (row form).cells 0 (row form).first_at (behind_at (row form)) (behind_end (row form)) ≡ true
 unfolding row
 rows_agree Gd = refl
-rows_agree Ld = refl
-rows_agree IeMov = refl
-rows_agree IeAdd = refl
-rows_agree GdInd = refl
-rows_agree LdInd = refl
-rows_agree DescLea = refl
-rows_agree DescCall = refl
+rows_agree form = refl
 
-both_of : (a b : Bool) → (a && b) ≡ true → (a ≡ true) × (b ≡ true)
+pub both_of : (a b : Bool) → (a && b) ≡ true → (a ≡ true) × (b ≡ true)
 both_of true b h = (refl, h)
 both_of false b h = absurd (cc)
 
@@ -74,27 +68,17 @@ row_agrees form k cell is =
 pub ranges_short : (form : Form) → ((row form).first_at ≤ 5) × (behind_end (row form) ≤ behind_at (row form) + 5) × ((row form).first_at ≤ length (row form).cells) × (behind_end (row form) ≤ length (row form).cells)
 unfolding row
 ranges_short Gd = (omega arith, omega arith, omega arith, omega arith)
-ranges_short Ld = (omega arith, omega arith, omega arith, omega arith)
-ranges_short IeMov = (omega arith, omega arith, omega arith, omega arith)
-ranges_short IeAdd = (omega arith, omega arith, omega arith, omega arith)
-ranges_short GdInd = (omega arith, omega arith, omega arith, omega arith)
-ranges_short LdInd = (omega arith, omega arith, omega arith, omega arith)
-ranges_short DescLea = (omega arith, omega arith, omega arith, omega arith)
-ranges_short DescCall = (omega arith, omega arith, omega arith, omega arith)
+ranges_short form = (omega arith, omega arith, omega arith, omega arith)
 
 -- ** literal cells
 
 literal_of : (cell : Cell) → IsLiteral cell → not (is_field cell) ≡ true
-literal_of (Is n) h = refl
-literal_of Rex h = refl
-literal_of ModRm h = refl
 literal_of Field h = absurd h
+literal_of cell h = refl
 
 of_literal : (cell : Cell) → not (is_field cell) ≡ true → IsLiteral cell
-of_literal (Is n) h = tt
-of_literal Rex h = tt
-of_literal ModRm h = tt
 of_literal Field h = absurd (cc)
+of_literal cell h = tt
 
 lies_where : (first at end k : ℕ) → lies first at end k ≡ true → (k < first) ⊎ ((at ≤ k) × (k < end))
 lies_where first at end k h = grind (arith, nat_tests)

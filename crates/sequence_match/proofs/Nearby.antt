@@ -1,25 +1,23 @@
 -- Relocations that rise: neighbours tell which field covers a byte.
-use Rattle.std.proofs.Common.{◌≡◌, ◌+◌, ◌-◌, ◌<◌, ◌≤◌, ◌⊎◌, ◌↔◌, ℕ, Bool, IsTrue, List, length, get_or, sym, ap, subst, inl, inr, arith}
+use Rattle.std.proofs.Common.{◌≡◌, ◌+◌, ◌-◌, ◌<◌, ◌≤◌, ◌⊎◌, ℕ, List, length, get_or, sym, ap, subst, inl, inr, arith}
 use Rattle.std.specs.List.{AllWithin}
 use Rattle.std.proofs.lemmas.List.{get_or_default}
 use Rattle.std.proofs.lemmas.Option.{slice_get_within, get_or_from_slice_get}
 use Rattle.elf_records.specs.declared.relocation.RelocationKind.{RelocationKind}
-use Rattle.elf_records.specs.declared.relocation.RelocationKind.TheVariants.{Nothing, Absolute64, TlsDescCall}
+use Rattle.elf_records.specs.declared.relocation.RelocationKind.TheVariants.{Nothing}
 use Rattle.elf_object.specs.declared.relocation.Relocation.{Relocation}
 use Rattle.elf_object.specs.Relocations.{field_width}
 use Rattle.sequence_match.specs.declared.index.Reach.TheVariants.{OfField}
 use Rattle.sequence_match.specs.Code.{AreApart, CoversIn, IsEarliest, ReachesAt, Rise}
 use Rattle.sequence_match.specs.Sites.{Covers, IsEntry}
 use Rattle.sequence_match.proofs.Entries.{same_entry}
+use Rattle.sequence_match.proofs.Found.{below_or_at}
 
 -- ** whether they rise
 
 -- the first n do
 abbrev pub RiseUpTo : List Relocation → ℕ → Type 0
 RiseUpTo xs n = (i j : ℕ) (d : Relocation) → i < j → j < n → j < length xs → (get_or xs i d).offset < (get_or xs j d).offset
-
-below_or_at : (m n : ℕ) → m < n + 1 → (m < n) ⊎ (m ≡ n)
-below_or_at m n h = grind arith
 
 before_or_at : (i n : ℕ) → i < n → (i + 1 ≡ n) ⊎ (i + 1 < n)
 before_or_at i n h = grind arith
@@ -76,10 +74,8 @@ module _ (xs : List Relocation) (rise : Rise xs) where
 -- ** which covers a place
 
 width_most : (kind : RelocationKind) → field_width kind ≤ 8
-width_most Absolute64 = omega arith
 width_most Nothing = omega arith
-width_most TlsDescCall = omega arith
-width_most _ = omega arith
+width_most kind = omega arith
 
 seen_or_here : (end f step : ℕ) → end ≤ f + (step + 1) → (end ≤ f + step) ⊎ (f + (step + 1) ≡ end)
 seen_or_here end f step h = grind arith
@@ -140,17 +136,3 @@ far_not_any from to x far h = omega (arith, far, h.3.1, h.1, width_most x.kind)
 pub first_over : (xs : List Relocation) (place e : ℕ) (x : Relocation) → AreApart xs → IsEntry xs e x → Covers x place
     → ReachesAt OfField xs place e × ((f : ℕ) → f < e → ReachesAt OfField xs place f → ⊥)
 first_over xs place e x apart entry covers = ((x, entry, covers), λ f less h. apart f e place h.0 x h.1 entry less h.2 covers)
-
--- ** which covers a byte from one place to another
-
-pub covers_low : (x : Relocation) (from to : ℕ) (r : Bool) → x.offset < from → from < to → (IsTrue r ↔ Covers x from) → IsTrue r ↔ CoversIn x from to
-covers_low x from to r below some is = (
-  λ t. (from, omega arith, some, is.0 t),
-  λ h. is.1 (omega arith, omega (arith, h.1, h.3.1)),
-)
-
-pub covers_high : (x : Relocation) (from to : ℕ) (r : Bool) → from ≤ x.offset → (IsTrue r ↔ ((x.offset < to) × Covers x x.offset)) → IsTrue r ↔ CoversIn x from to
-covers_high x from to r above is = (
-  λ t. let h = is.0 t in (x.offset, above, h.0, h.1),
-  λ h. is.1 (omega (arith, h.3.0, h.2), (omega arith, omega (arith, h.3.0, h.3.1))),
-)

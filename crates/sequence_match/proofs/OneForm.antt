@@ -4,7 +4,7 @@ use Rattle.std.specs.List.{slice_get}
 use Rattle.elf_object.specs.declared.relocation.Relocation.{Relocation}
 use Rattle.sequence_forms.specs.declared.forms.Form.{Form}
 use Rattle.sequence_forms.specs.declared.forms.Cell.{Cell}
-use Rattle.sequence_forms.specs.declared.forms.Cell.TheVariants.{Is, Rex, ModRm, Field}
+use Rattle.sequence_forms.specs.declared.forms.Cell.TheVariants.{Is, Rex, ModRm}
 use Rattle.sequence_forms.specs.Forms.{row, fits}
 use Rattle.sequence_match.specs.Sites.{IsSpelled}
 use Rattle.sequence_match.proofs.Clashes.{disjoint, clash, same_or_clash, same_byte, rex_modrm}
@@ -23,16 +23,12 @@ literal_byte n b c apart is fit =
 disjoint_cells : (a b : Cell) (byte : ℕ) → disjoint a b ≡ true → fits a byte ≡ true → fits b byte ≡ true → ⊥
 disjoint_cells (Is n) b byte h f g = literal_byte n byte b h f g
 disjoint_cells Rex (Is n) byte h f g = literal_byte n byte Rex h g f
-disjoint_cells Rex Rex byte h f g = absurd (cc)
 disjoint_cells Rex ModRm byte h f g = rex_modrm byte f g
-disjoint_cells Rex Field byte h f g = absurd (cc)
 disjoint_cells ModRm (Is n) byte h f g = literal_byte n byte ModRm h g f
 disjoint_cells ModRm Rex byte h f g = rex_modrm byte g f
-disjoint_cells ModRm ModRm byte h f g = absurd (cc)
-disjoint_cells ModRm Field byte h f g = absurd (cc)
-disjoint_cells Field b byte h f g = absurd (cc)
+disjoint_cells a b byte h f g = absurd (cc)
 
-either : (a b : Bool) → (a || b) ≡ true → (a ≡ true) ⊎ (b ≡ true)
+pub either : (a b : Bool) → (a || b) ≡ true → (a ≡ true) ⊎ (b ≡ true)
 either true b h = inl refl
 either false b h = inr h
 

@@ -83,13 +83,7 @@ place_of _ = 3
 pub first_at_is : (form : Form) → (row form).first_at ≡ place_of (row form).first
 unfolding row
 first_at_is Gd = refl
-first_at_is Ld = refl
-first_at_is IeMov = refl
-first_at_is IeAdd = refl
-first_at_is GdInd = refl
-first_at_is LdInd = refl
-first_at_is DescLea = refl
-first_at_is DescCall = refl
+first_at_is form = refl
 
 -- a sequence starts so far before its first relocation as the type says
 pub start_of : (code : List ℕ) (xs : List Relocation) (getter : ℕ → Type 0) (e : ℕ) (x : Relocation) (site : Site) → IsEntry xs e x

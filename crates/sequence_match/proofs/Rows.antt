@@ -15,24 +15,15 @@ use Rattle.sequence_match.specs.Faults.{IsOfSequence}
 pub first_inside : (form : Form) → (row form).first_at < length (row form).cells
 unfolding row
 first_inside Gd = omega arith
-first_inside Ld = omega arith
-first_inside IeMov = omega arith
-first_inside IeAdd = omega arith
-first_inside GdInd = omega arith
-first_inside LdInd = omega arith
-first_inside DescLea = omega arith
-first_inside DescCall = omega arith
+first_inside form = omega arith
 
 pub second_inside : (form : Form) → IfSome (row form).second (λ second. second.at < length (row form).cells)
 unfolding row
-second_inside Gd = omega arith
-second_inside Ld = omega arith
 second_inside IeMov = tt
 second_inside IeAdd = tt
-second_inside GdInd = omega arith
-second_inside LdInd = omega arith
 second_inside DescLea = tt
 second_inside DescCall = tt
+second_inside form = omega arith
 
 -- so where the bytes of a row lie in the code, its second relocation does
 pub second_within : (second : Option Second) (n start len : ℕ) → IfSome second (λ s. s.at < n) → start + n ≤ len
@@ -44,25 +35,16 @@ second_within (Some s) n start len h fits = omega arith
 pub first_of_sequence : (form : Form) → IsOfSequence (row form).first
 unfolding row
 first_of_sequence Gd = tt
-first_of_sequence Ld = tt
-first_of_sequence IeMov = tt
-first_of_sequence IeAdd = tt
-first_of_sequence GdInd = tt
-first_of_sequence LdInd = tt
-first_of_sequence DescLea = tt
-first_of_sequence DescCall = tt
+first_of_sequence form = tt
 
 -- where there is a second one, the first has a field
 pub first_has_field : (form : Form) (second : Second) → (row form).second ≡ Some second → field_width (row form).first ≡ 4
 unfolding row
 first_has_field Gd second h = refl
 first_has_field Ld second h = refl
-first_has_field IeMov second h = absurd (cc)
-first_has_field IeAdd second h = absurd (cc)
 first_has_field GdInd second h = refl
 first_has_field LdInd second h = refl
-first_has_field DescLea second h = absurd (cc)
-first_has_field DescCall second h = absurd (cc)
+first_has_field form second h = absurd (cc)
 
 -- a call's relocation has a field of four bytes
 pub call_width_is : (call : Call) (kind : RelocationKind) → IsCallKind call kind → field_width kind ≡ 4

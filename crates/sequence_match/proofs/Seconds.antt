@@ -4,7 +4,7 @@ use Rattle.elf_records.specs.declared.relocation.RelocationKind.TheVariants.{Not
 use Rattle.elf_object.specs.declared.relocation.Relocation.{Relocation}
 use Rattle.elf_object.specs.Relocations.{field_width}
 use Rattle.sequence_forms.specs.declared.forms.Form.{Form}
-use Rattle.sequence_forms.specs.declared.forms.Form.TheVariants.{Gd, Ld, IeMov, IeAdd, GdInd, LdInd, DescLea, DescCall}
+use Rattle.sequence_forms.specs.declared.forms.Form.TheVariants.{Gd, Ld, GdInd, LdInd}
 use Rattle.sequence_forms.specs.declared.forms.Second.{Second}
 use Rattle.sequence_match.specs.declared.matching.Code.{Code}
 use Rattle.sequence_forms.specs.declared.places.Site.{Site}
@@ -110,10 +110,7 @@ of_four code f a b c Gd h = absurd (a h)
 of_four code f a b c Ld h = absurd (b h)
 of_four code f a b c GdInd h = absurd (c h)
 of_four code f a b c LdInd h = h
-of_four code f a b c IeMov h = absurd h.1.3
-of_four code f a b c IeAdd h = absurd h.1.3
-of_four code f a b c DescLea h = absurd h.1.3
-of_four code f a b c DescCall h = absurd h.1.3
+of_four code f a b c form h = absurd h.1.3
 
 -- a relocation that names `__tls_get_addr` is stray where it is the second of none
 pub stray_is : (code : Code) (f : ℕ) (x : Relocation) (r : Bool) → IsEntry code.relocations.now f x → x.kind ≢ Nothing → Names code.getters.now x.symbol

@@ -9,7 +9,7 @@ use Rattle.elf_object.specs.LawsOfRelocations.{lawful}
 use Rattle.elf_object.specs.Lent.{relocations}
 use Rattle.elf_object.specs.Parts.{symbol_count}
 use Rattle.sequence_forms.specs.declared.forms.Form.{Form}
-use Rattle.sequence_forms.specs.declared.forms.Form.TheVariants.{Gd, Ld, IeMov, IeAdd, GdInd, LdInd, DescLea, DescCall}
+use Rattle.sequence_forms.specs.declared.forms.Form.TheVariants.{Gd}
 use Rattle.sequence_forms.specs.declared.places.Site.{Site}
 use Rattle.sequence_match.specs.Faults.{AreSites, IsSite}
 use Rattle.sequence_match.specs.Sites.{HaveSymbols}
@@ -25,13 +25,7 @@ of_each P (y ∷ ys) (suc e) x all is = of_each P ys e x (λ k d h. all (suc k) 
 is_some_type : (form : Form) → (row form).first ≡ Nothing → ⊥
 unfolding row
 is_some_type Gd h = cc
-is_some_type Ld h = cc
-is_some_type IeMov h = cc
-is_some_type IeAdd h = cc
-is_some_type GdInd h = cc
-is_some_type LdInd h = cc
-is_some_type DescLea h = cc
-is_some_type DescCall h = cc
+is_some_type form h = cc
 
 site_has_symbol : (b : List ℕ) (site : Site) → IsObject b → IsSite b site → site.symbol < symbol_count b
 site_has_symbol b site object is =

@@ -11,11 +11,9 @@ use Rattle.sequence_match.specs.declared.index.Span.{Span}
 use Rattle.sequence_match.specs.Code.{AreSpans, IsFirstFrom, IsLastBelow, IsRising, IsSpanOf, IsSplit, order_of, reach_width, span_of}
 use Rattle.sequence_match.specs.Sites.{IsEntry}
 use Rattle.sequence_match.proofs.Entries.{same_entry}
+use Rattle.sequence_match.proofs.Found.{below_or_at}
 
 -- ** how they are made
-
-below_or_at : (m n : ℕ) → m < n + 1 → (m < n) ⊎ (m ≡ n)
-below_or_at m n h = grind arith
 
 module _ (reach : Reach) (xs : List Relocation) (n : ℕ) (spans : List Span) (are : AreSpans reach xs n spans) (x : Relocation) (entry : IsEntry xs n x) where
   wider : (k : ℕ) (d : Span) → k < length spans → IsSpanOf reach xs (n + 1) (get_or spans k d)

@@ -9,9 +9,9 @@ returns c =
     let l = c.args.self.now in
     let o = c.args.object in
     let r = c.args.relocation.now in
-    let bound = c.binding-bound.ensures.binding ∙ ap (λ (l : Linking). binding l o r) c.self.view_is in
+    let bound = c.bound-bound.ensures.binding ∙ ap (λ (l : Linking). binding l o r) c.self.view_is in
     c.need_address.ensures
     ∙ ap (need_address l) (
     c.need.ensures
-    ∙ ap (λ m. need_by m o r.symbol c.binding-bound.result r.kind) c.self.view_is
+    ∙ ap (λ m. need_by m o r.symbol c.bound-bound.result r.kind) c.self.view_is
     ∙ ap (λ bound. need_by l o r.symbol bound r.kind) bound)
