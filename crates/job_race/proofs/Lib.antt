@@ -1,0 +1,4 @@
+pub mod Stable
+pub mod Passes
+pub mod Joined
+pub mod Whole

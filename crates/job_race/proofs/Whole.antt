@@ -1,0 +1,120 @@
+-- Rows of one thread, of none, and of all.
+use Rattle.std.proofs.Common.{◌≡◌, ◌+◌, ◌-◌, ◌≤◌, ◌<◌, ℕ, zero, suc, true, List, [], ◌∷◌, length, map, Some, sym, subst, arith}
+use Rattle.std.specs.Prelude.{All, IfOk, Result, Ok, Err, nat_lt, slice_get}
+use Rattle.std.proofs.lemmas.Option.{get_or_from_slice_get}
+use Rattle.job_text.specs.declared.thread_lines.ThreadLine.{ThreadLine}
+use Rattle.job_text.specs.Images.{IsImageNumber}
+use Rattle.job_text.specs.Jobs.{JobParts}
+use Rattle.job_text.specs.Threads.{of_thread}
+use Rattle.loaded_modules.specs.Images.{JobImages, infos, last_offset}
+use Rattle.module_table.specs.declared.events.Event.{Event}
+use Rattle.module_table.specs.History.{IsLegal}
+use Rattle.transcript_text.specs.declared.outcomes.Line.{Line as ShownLine}
+use Rattle.transcript_text.specs.Texts.{Shown}
+use Rattle.thread_blocks.specs.JobLoads.{job_loads}
+use Rattle.thread_blocks.specs.Turns.{at_number}
+use Rattle.lawful_points.specs.Raced.{IsRaced, IsRacer}
+use Rattle.shared_modules.specs.Passes.{PassView, SharedView}
+use Rattle.job_turns.proofs.LastTurn.{named_images}
+use Rattle.racing_thread.specs.Racing.{HasRaced}
+use Rattle.job_race.specs.Rows.{AllRaced, CanRace, CountsLooks, HasRow}
+
+-- ---- one thread, and none
+
+pub one_row : (m : JobImages) (job : JobParts) (thread : ℕ) (old new : PassView) (said : List ShownLine)
+    (events : List Event) (row : Shown) → HasRaced m job thread old new said events → 1 ≤ thread
+    → thread ≤ length job.lines → row ≡ record { threads = said ∷ []; events = events }
+    → HasRow m job thread 1 old new row
+one_row m job thread old new said events row raced low there is =
+    subst (HasRow m job thread 1 old new) (sym is) (record {
+      long = omega (arith, there, low);
+      each = (raced.racer, tt);
+      events = raced.events_are;
+      counted = record { loads = omega (arith, raced.loads_are); turns = omega (arith, raced.turns_are) };
+    })
+
+pub no_row : (m : JobImages) (job : JobParts) (first count : ℕ) (shared : SharedView) (p : PassView) (row : Shown)
+    → CanRace m first count shared p → length job.lines < first → row ≡ record { threads = []; events = [] }
+    → HasRow m job first count p p row
+no_row m job first count shared p row can past is =
+    subst (HasRow m job first count p p) (sym is) (record {
+      long = omega (arith, past);
+      each = tt;
+      events = sym can.fresh;
+      counted = record { loads = omega arith; turns = omega arith };
+    })
+
+-- ---- all threads
+
+lines_at : {X : Type 0} (all : List (List X)) (k : ℕ) (own : List X) → slice_get all k ≡ Some own
+    → of_thread all (suc k) ≡ own
+lines_at all k own at =
+    let positive : nat_lt 0 (suc k) ≡ true = grind arith in
+    let index : suc k - 1 ≡ k = omega arith in
+    rw (positive, index) (get_or_from_slice_get all k own [] at)
+
+module _ (m : JobImages) (job : JobParts) (history : List Event) where
+  abbrev Racer : ℕ → List ThreadLine → List ShownLine → Type 0
+  Racer thread own said = IsRacer (job_loads m) job.fuel thread own history said
+
+  racer_at : (first k : ℕ) (lines : List (List ShownLine)) (said : List ShownLine) → AllRaced m job history first lines
+      → slice_get lines k ≡ Some said → Racer (first + k) (of_thread job.lines (first + k)) said
+  racer_at first k [] said raced at = absurd cc
+  racer_at first zero (x ∷ lines) said raced at =
+      let same : x ≡ said = cc in
+      let here : first ≡ first + 0 = omega arith in
+      subst (λ (n : ℕ). Racer n (of_thread job.lines n) said) here
+      (subst (Racer first (of_thread job.lines first)) same raced.0)
+  racer_at first (suc k) (x ∷ lines) said raced at =
+      let next : first + 1 + k ≡ first + suc k = omega arith in
+      subst (λ (n : ℕ). Racer n (of_thread job.lines n) said) next (racer_at (first + 1) k lines said raced.1 at)
+
+  racer_of : (thread : ℕ) (lines : List (List ShownLine)) (own : List ThreadLine) (said : List ShownLine)
+      → AllRaced m job history 1 lines → at_number job.lines thread ≡ Some own → at_number lines thread ≡ Some said
+      → Racer thread own said
+  racer_of zero lines own said raced at shown = absurd cc
+  racer_of (suc k) lines own said raced at shown =
+      let number : 1 + k ≡ suc k = omega arith in
+      subst (λ (xs : List ThreadLine). Racer (suc k) xs said) (lines_at job.lines k own at)
+      (subst (λ (n : ℕ). Racer n (of_thread job.lines n) said) number (racer_at 1 k lines said raced shown))
+
+all_raced : (m : JobImages) (job : JobParts) (old new : PassView) (shown : Shown) → length job.lines ≤ 64
+    → HasRow m job 1 64 old new shown → IsRaced (job_loads m) job.fuel job.lines shown
+all_raced m job old new shown few row = record {
+  count = omega (arith, row.long, few);
+  each = λ thread own said at there.
+      subst (λ (events : List Event). IsRacer (job_loads m) job.fuel thread own events said) (sym row.events)
+      (racer_of m job new.seen thread shown.threads own said row.each at there);
+}
+
+-- what is known of a row is known of its transcript
+told_row : {X Y : Type 0} (P Q : Shown → Type 0) (row : Result Shown X) (result : Result Shown Y)
+    → ((shown : Shown) → P shown → Q shown) → IfOk row P → IfOk result (λ shown. row ≡ Ok shown) → IfOk result Q
+told_row P Q row (Ok shown) known all is = known shown (subst (λ r. IfOk r P) is all)
+told_row P Q row (Err why) known all is = tt
+
+module _ {X Y : Type 0} (m : JobImages) (job : JobParts) (old new : PassView) (row : Result Shown X)
+    (result : Result Shown Y) (all : IfOk row (HasRow m job 1 64 old new)) (is : IfOk result (λ shown. row ≡ Ok shown)) where
+  pub told_raced : length job.lines ≤ 64 → IfOk result (IsRaced (job_loads m) job.fuel job.lines)
+  told_raced few = told_row (HasRow m job 1 64 old new) (IsRaced (job_loads m) job.fuel job.lines) row result
+      (λ shown known. all_raced m job old new shown few known) all is
+
+  pub told_history : IfOk result (λ shown. shown.events ≡ new.seen)
+  told_history = told_row (HasRow m job 1 64 old new) (λ shown. shown.events ≡ new.seen) row result
+      (λ shown known. known.events) all is
+
+  pub told_looks : IfOk result (λ shown. CountsLooks job.lines shown old new)
+  told_looks = told_row (HasRow m job 1 64 old new) (λ shown. CountsLooks job.lines shown old new) row result
+      (λ shown known. known.counted) all is
+
+  pub told_named : m.kinds ≡ map (λ image. image.kind) job.images → IsLegal (infos m) (last_offset m) new.seen
+      → IfOk result (λ shown. All (λ event. IsImageNumber job.images event.image) shown.events)
+  told_named are legal = told_row (HasRow m job 1 64 old new)
+      (λ shown. All (λ event. IsImageNumber job.images event.image) shown.events) row result
+      (λ shown known. subst (λ (events : List Event). All (λ event. IsImageNumber job.images event.image) events)
+      (sym known.events) (named_images m job.images are new.seen legal)) all is
+
+pub few_threads : {X : Type 0} (m : JobImages) (job : JobParts) (old new : PassView) (row : Result Shown X)
+    → IfOk row (HasRow m job 1 64 old new) → IfOk row (λ row. length row.threads ≤ 64)
+few_threads m job old new (Ok row) all = omega (arith, all.long)
+few_threads m job old new (Err why) all = tt

@@ -1,0 +1,69 @@
+//! A job's threads, all at once.
+
+ghost use Rattle.std.specs.Prelude.{◌≡◌, [], false, All, IfOk, map};
+ghost use Rattle.loaded_modules.specs.Images.{infos, last_offset};
+ghost use Rattle.job_turns.specs.Alone.{has_data};
+ghost use Rattle.lawful_points.specs.Raced.{IsRaced};
+ghost use Rattle.shared_modules.specs.Views.{all_threads};
+ghost use Rattle.thread_blocks.specs.JobLoads.{job_loads};
+ghost use Rattle.transcript_text.specs.Texts.{IsImageNumber};
+ghost use Rattle.job_race.specs.Rows.{CountsLooks};
+
+use crate::racers::JobRacers;
+use crate::row::transcript_of;
+use crate::rows::race_threads;
+use job_text::Job;
+use loaded_modules::Modules;
+use racing_thread::Gate;
+use shared_modules::{Pass, Shared};
+use std::alloc::{AllocError, Global};
+use std::sync::Wait;
+use std::thread::Threads;
+use thread_space::JobNames;
+use transcript_text::Transcript;
+
+/// Runs all threads of a job at once over its images, and answers what they say, with the history that came of it. The
+/// pass is the one of all threads at the start, and speaks for all again. The gate is called round each line of each
+/// thread. The only error is want of memory, which stops no other thread.
+///
+/// None of the images may have data that programs write, since each thread runs as if it were alone.
+pub fn race_job<R: Threads + Wait + Sync, G: Gate + Sync>(
+    rt: &R,
+    alloc: Global,
+    job: &Job,
+    modules: &Modules,
+    shared: &Shared,
+    pass: Pass,
+    gate: &G,
+) -> (Pass, Result<Transcript, AllocError>)
+    requires of { pass.shared ≡ shared.now }
+    requires all { pass.threads ≡ all_threads }
+    requires fresh { pass.seen ≡ [] }
+    requires images { shared.now.images ≡ record { infos = infos modules.now; last_offset = last_offset modules.now } }
+    requires job { modules.now.kinds ≡ map (λ image. image.kind) job.now.images }
+    requires alone { has_data modules.now ≡ false }
+    ensures whole { (result.0.shared ≡ shared.now) × (result.0.threads ≡ all_threads) }
+    ensures raced { IfOk result.1 (IsRaced (job_loads modules.now) job.now.fuel job.now.lines) }
+    ensures history { IfOk result.1 (λ shown. shown.events ≡ result.0.seen) }
+    ensures looks { IfOk result.1 (λ shown. CountsLooks job.now.lines shown pass result.0) }
+    ensures named { IfOk result.1 (λ shown. All (λ event. IsImageNumber job.now.images event.image) shown.events) }
+{
+    let Ok(names) = JobNames::new(alloc, modules) else {
+        return (pass, Err(AllocError));
+    };
+    let racers = JobRacers {
+        job,
+        names: &names,
+        gate,
+    };
+    let (pass, row) = race_threads(rt, alloc, &racers, shared, pass, 1, 64);
+    let JobRacers {
+        job: _,
+        names: _,
+        gate: _,
+    } = racers;
+    let _seen = pass.seen();
+    let _threads = job.threads();
+    let transcript = transcript_of(alloc, row);
+    (pass, transcript)
+}

@@ -1,0 +1,13 @@
+-- Images whose relocations any job can have.
+use Rattle.std.specs.Prelude.{◌≡◌, ◌≢◌, ◌⊎◌}
+use Rattle.std.specs.List.{All}
+use Rattle.image_faults.specs.declared.loader_kind.LoaderKind.TheVariants.{JumpSlot, ThreadOffset}
+use Rattle.image_file.specs.declared.relocation.ImageRelocation.{ImageRelocation}
+use Rattle.image_file.specs.Spelled.{Spelled}
+
+-- it names no variable, and wants no place at a fixed distance from the thread pointer
+abbrev pub IsPlain : ImageRelocation → Type 0
+IsPlain r = ((r.symbol ≡ 0) ⊎ (r.kind ≡ JumpSlot)) × (r.kind ≢ ThreadOffset)
+
+abbrev pub IsPlainImage : Spelled → Type 0
+IsPlainImage image = All IsPlain image.relocations

@@ -1,0 +1,14 @@
+//! Tests of `job_race`: that its threads run at once.
+//!
+//! Its clauses say what a transcript is. They would hold of a body that ran one thread after another, and no clause can
+//! say otherwise: so a gate holds two threads back until each has been waited for by the other.
+#![tactic(auto)]
+
+mod images;
+mod loading;
+
+pub use images::{image, plug_image, program_image};
+pub use loading::{loaded, race};
+
+#[cfg(test)]
+mod two_calls;

@@ -1,0 +1,9 @@
+mod FirstThread
+mod Looking
+mod Marking
+mod Asked
+mod Tallying
+mod Going
+mod Ends
+mod Found
+mod TurnTaken

@@ -1,0 +1,4 @@
+pub mod Lines
+pub mod Tallies
+pub mod Answers
+pub mod Racing

@@ -1,0 +1,142 @@
+//! What a thread asks of the shared history at a turn.
+
+ghost use Rattle.std.specs.Prelude.{◌≡◌, ◌∷◌, [], IfOk, OnOk};
+ghost use Rattle.shared_modules.specs.Passes.{IsSamePass};
+ghost use Rattle.job_turns.specs.declared.asking.Ask.TheVariants.{Opens, Closes};
+ghost use Rattle.racing_thread.specs.Answers.{Answers, Looks};
+
+use job_turns::{Ask, LineAnswer};
+use module_table::{CloseRefusal, Event, OpenRefusal};
+use shared_modules::{Pass, Shared};
+use std::alloc::AllocError;
+use std::sync::Wait;
+
+/// What the shared history answers to a turn, and the thread's own event that stands in it since, if there is one.
+#[derive(Clone, Copy)]
+pub(crate) struct Answered {
+    pub(crate) answer: Option<LineAnswer>,
+    pub(crate) own: Option<Event>,
+}
+
+/// A look: one load, and the lock only where there is something new.
+fn look<R: Wait>(
+    rt: &R,
+    shared: &Shared,
+    pass: &mut Pass,
+    events: &mut Vec<Event>,
+) -> Result<(), AllocError>
+    requires of { pass.old.shared ≡ shared.now }
+    requires all { events.old.items ≡ pass.old.seen }
+    ensures looks { OnOk result (Looks pass.old events.new.items pass.new) }
+    ensures same { IsSamePass pass.old pass.new }
+{
+    let _legal = pass.seen();
+    if shared.newer(pass) {
+        shared.catch_up(rt, pass, events)?;
+    }
+    Ok(())
+}
+
+/// The thread's line opens an image.
+fn open<R: Wait>(
+    rt: &R,
+    shared: &Shared,
+    pass: &mut Pass,
+    thread: u32,
+    line: u32,
+    image: u32,
+    events: &mut Vec<Event>,
+) -> Result<Answered, AllocError>
+    requires of { pass.old.shared ≡ shared.now }
+    requires alone { pass.old.threads ≡ thread ∷ [] }
+    requires all { events.old.items ≡ pass.old.seen }
+    ensures opens { IfOk result (λ answered.
+        Answers thread (Opens line image) pass.old events.new.items pass.new answered.answer answered.own) }
+    ensures same { IsSamePass pass.old pass.new }
+{
+    match shared.open(rt, pass, thread, line, image, events) {
+        Ok(opened) => Ok(Answered {
+            answer: Some(LineAnswer::Opened(Ok(opened))),
+            own: Some(Event {
+                thread,
+                line,
+                opens: true,
+                image,
+            }),
+        }),
+        Err(refusal) => match refusal {
+            OpenRefusal::OutOfMemory => Err(AllocError),
+            _ => Ok(Answered {
+                answer: Some(LineAnswer::Opened(Err(refusal))),
+                own: None,
+            }),
+        },
+    }
+}
+
+/// The thread's line closes an image.
+fn close<R: Wait>(
+    rt: &R,
+    shared: &Shared,
+    pass: &mut Pass,
+    thread: u32,
+    line: u32,
+    image: u32,
+    events: &mut Vec<Event>,
+) -> Result<Answered, AllocError>
+    requires of { pass.old.shared ≡ shared.now }
+    requires alone { pass.old.threads ≡ thread ∷ [] }
+    requires all { events.old.items ≡ pass.old.seen }
+    ensures closes { IfOk result (λ answered.
+        Answers thread (Closes line image) pass.old events.new.items pass.new answered.answer answered.own) }
+    ensures same { IsSamePass pass.old pass.new }
+{
+    match shared.close(rt, pass, thread, line, image, events) {
+        Ok(closed) => Ok(Answered {
+            answer: Some(LineAnswer::Closed(Ok(closed))),
+            own: Some(Event {
+                thread,
+                line,
+                opens: false,
+                image,
+            }),
+        }),
+        Err(refusal) => match refusal {
+            CloseRefusal::OutOfMemory => Err(AllocError),
+            _ => Ok(Answered {
+                answer: Some(LineAnswer::Closed(Err(refusal))),
+                own: None,
+            }),
+        },
+    }
+}
+
+/// What a thread asks at its turn. The list gets what the pass lacked of the history, without the thread's own event.
+/// The only error is want of memory.
+pub(crate) fn answer<R: Wait>(
+    rt: &R,
+    shared: &Shared,
+    pass: &mut Pass,
+    thread: u32,
+    ask: Ask,
+    events: &mut Vec<Event>,
+) -> Result<Answered, AllocError>
+    requires of { pass.old.shared ≡ shared.now }
+    requires alone { pass.old.threads ≡ thread ∷ [] }
+    requires all { events.old.items ≡ pass.old.seen }
+    ensures answers { IfOk result (λ answered.
+        Answers thread ask pass.old events.new.items pass.new answered.answer answered.own) }
+    ensures same { IsSamePass pass.old pass.new }
+{
+    match ask {
+        Ask::Done | Ask::Look(_) => {
+            look(rt, shared, pass, events)?;
+            Ok(Answered {
+                answer: None,
+                own: None,
+            })
+        }
+        Ask::Opens(line, image) => open(rt, shared, pass, thread, line, image, events),
+        Ask::Closes(line, image) => close(rt, shared, pass, thread, line, image, events),
+    }
+}

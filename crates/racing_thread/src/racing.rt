@@ -1,0 +1,132 @@
+//! The turns of a thread, up to its end.
+
+ghost use Rattle.std.specs.Prelude.{◌≡◌, ◌≤◌, ◌∷◌, [], false, IfOk};
+ghost use Rattle.loaded_modules.specs.Images.{infos, last_offset};
+ghost use Rattle.shared_modules.specs.Passes.{IsSamePass};
+ghost use Rattle.job_turns.specs.Alone.{has_data};
+ghost use Rattle.job_turns.specs.Progress.{is_done};
+ghost use Rattle.job_turns.specs.Standing.{IsGoing, ask_of};
+ghost use Rattle.racing_thread.specs.Answers.{IsLevel, TakesRacingTurn};
+ghost use Rattle.racing_thread.specs.Racing.{HasRaced};
+
+use crate::gates::{Gate, pass_gate};
+use crate::looks::answer;
+use job_text::Job;
+use job_turns::{Ask, Runner};
+use module_table::Event;
+use shared_modules::{Pass, Shared};
+use std::alloc::{AllocError, Global};
+use std::sync::Wait;
+use thread_space::JobNames;
+use transcript_text::Line;
+
+/// So many events no memory holds.
+const MOST_EVENTS: usize = 1 << 61;
+
+/// What one thread gives: what it said of its lines, and all events that it has seen.
+#[derive(Drop)]
+pub struct Raced {
+    pub lines: Vec<Line>,
+    pub events: Vec<Event>,
+}
+
+/// Whether nothing is left to do.
+fn is_done(ask: Ask) -> bool
+    ensures { result ≡ is_done ask }
+{
+    match ask {
+        Ask::Done => true,
+        Ask::Look(_) | Ask::Opens(_, _) | Ask::Closes(_, _) => false,
+    }
+}
+
+/// A turn of a thread that has something left to do. The list has what its pass has seen.
+fn take_turn<'j, 'n, 'm, R: Wait>(
+    rt: &R,
+    shared: &Shared,
+    pass: &mut Pass,
+    events: &mut Vec<Event>,
+    runner: Runner<'j, 'n, 'm>,
+) -> Result<Runner<'j, 'n, 'm>, AllocError>
+    requires of { pass.old.shared ≡ shared.now }
+    requires going { IsGoing (ask_of runner) }
+    requires level { IsLevel runner pass.old events.old.items }
+    ensures takes { IfOk result (TakesRacingTurn runner.entry pass.old events.new.items pass.new) }
+    ensures same { IsSamePass pass.old pass.new }
+{
+    let known = events.as_slice().len();
+    let answered = answer(rt, shared, pass, runner.thread(), runner.asks(), events)?;
+    if events.as_slice().len() >= MOST_EVENTS {
+        return Err(AllocError);
+    }
+    let runner = runner.turn(&events.as_slice()[known..], answered.answer)?;
+    if let Some(own) = answered.own {
+        events.push(own)?;
+    }
+    Ok(runner)
+}
+
+/// The turns of a thread, up to its end.
+fn take_turns<R: Wait, G: Gate>(
+    rt: &R,
+    alloc: Global,
+    job: &Job,
+    names: &JobNames,
+    shared: &Shared,
+    pass: &mut Pass,
+    thread: u32,
+    gate: &G,
+) -> Result<Raced, AllocError>
+    requires of { pass.old.shared ≡ shared.now }
+    requires alone { pass.old.threads ≡ thread ∷ [] }
+    requires fresh { pass.old.seen ≡ [] }
+    requires low { 1 ≤ thread }
+    requires high { thread ≤ 64 }
+    requires images { shared.now.images ≡ record { infos = infos names.now; last_offset = last_offset names.now } }
+    requires data { has_data names.now ≡ false }
+    ensures raced { IfOk result (λ raced.
+        HasRaced names.now job.now thread pass.old pass.new raced.lines.items raced.events.items) }
+    ensures same { IsSamePass pass.old pass.new }
+{
+    let _legal = pass.seen();
+    let mut events = Vec::new(alloc);
+    let mut runner = Runner::new(alloc, thread, job, names)?;
+    let mut line = 0;
+    for _ in rt.forever() {
+        let ask = runner.asks();
+        line = pass_gate(gate, thread, line, ask);
+        if is_done(ask) {
+            let lines = runner.lines();
+            return Ok(Raced { lines, events });
+        }
+        runner = take_turn(rt, shared, pass, &mut events, runner)?;
+    }
+    unreachable!()
+}
+
+/// One thread of a job takes its turns, each at the history as it finds it, while other threads take theirs. The pass
+/// comes back in any case, and of it the history that was seen. The only error is want of memory.
+pub fn race_thread<R: Wait, G: Gate>(
+    rt: &R,
+    alloc: Global,
+    job: &Job,
+    names: &JobNames,
+    shared: &Shared,
+    mut pass: Pass,
+    thread: u32,
+    gate: &G,
+) -> (Pass, Result<Raced, AllocError>)
+    requires of { pass.shared ≡ shared.now }
+    requires alone { pass.threads ≡ thread ∷ [] }
+    requires fresh { pass.seen ≡ [] }
+    requires low { 1 ≤ thread }
+    requires high { thread ≤ 64 }
+    requires images { shared.now.images ≡ record { infos = infos names.now; last_offset = last_offset names.now } }
+    requires data { has_data names.now ≡ false }
+    ensures same { (result.0.shared ≡ shared.now) × (result.0.threads ≡ thread ∷ []) }
+    ensures raced { IfOk result.1 (λ raced.
+        HasRaced names.now job.now thread pass result.0 raced.lines.items raced.events.items) }
+{
+    let raced = take_turns(rt, alloc, job, names, shared, &mut pass, thread, gate);
+    (pass, raced)
+}
