@@ -25,7 +25,8 @@ meet threads first some more xs (said ∷ ys) left right = inl (omega (arith, le
 both_long : (threads first some more count : ℕ) (xs ys : List (List ShownLine)) → some + more ≡ count
     → length xs ≡ present threads first some → length ys ≡ present threads (first + some) more
     → length (xs ++ ys) ≡ present threads first count
-both_long threads first some more count xs ys whole left right = let e = length-append xs ys in omega (arith, e, left, right, whole)
+both_long threads first some more count xs ys whole left right =
+    let long = length-append xs ys in omega (arith, long, left, right, whole)
 
 -- ---- what is said of each thread of a row
 
@@ -41,7 +42,8 @@ module _ (m : JobImages) (job : JobParts) (history : List Event) where
   raced_where : (next begins : ℕ) (ys : List (List ShownLine)) → Meet next begins ys → AllRaced m job history begins ys
       → AllRaced m job history next ys
   raced_where next begins ys (inl e) raced = subst (λ (n : ℕ). AllRaced m job history n ys) (sym e) raced
-  raced_where next begins ys (inr none) raced = subst (λ (zs : List (List ShownLine)). AllRaced m job history next zs) (sym none) tt
+  raced_where next begins ys (inr none) raced =
+      subst (λ (zs : List (List ShownLine)). AllRaced m job history next zs) (sym none) tt
 
 -- ---- what was counted
 
@@ -70,8 +72,8 @@ tallies_where : (lines : List (List ThreadLine)) (next begins : ℕ) (ys : List 
 tallies_where lines next begins ys (inl e) = ap (λ (n : ℕ). tallies lines n ys) e
 tallies_where lines next begins ys (inr none) = ap (tallies lines next) none ∙ sym (ap (tallies lines begins) none)
 
-counted_both : (a b c : Tally) (old p q : PassView) → IsSum a b c → HasCounted a (left_pass old) p → HasCounted b (right_pass old) q
-    → HasCounted c old (joined p q)
+counted_both : (a b c : Tally) (old p q : PassView) → IsSum a b c → HasCounted a (left_pass old) p
+    → HasCounted b (right_pass old) q → HasCounted c old (joined p q)
 counted_both a b c old p q sums left right = record {
   loads = omega (arith, sums.loads, left.loads, right.loads);
   turns = omega (arith, sums.turns, left.turns, right.turns);
@@ -91,8 +93,9 @@ module _ (m : JobImages) (job : JobParts) (first some more : ℕ) (p q : PassVie
   in_longer false few_xs few_ys left right knows raced others =
       (raced, row_stays m job ys (first + some) more q.threads p.seen q.seen few_ys right knows others)
 
-module _ (m : JobImages) (job : JobParts) (first some more count : ℕ) (old p q : PassView) (whole : some + more ≡ count)
-    (left_are : p.threads ≡ rising first some) (right_are : q.threads ≡ rising (first + some) more) (agree : Agree p q) where
+module _ (m : JobImages) (job : JobParts) (first some more count : ℕ) (old p q : PassView)
+    (whole : some + more ≡ count) (left_are : p.threads ≡ rising first some)
+    (right_are : q.threads ≡ rising (first + some) more) (agree : Agree p q) where
   rows_joined : (left right : Shown) → HasRow m job first some (left_pass old) p left
       → HasRow m job (first + some) more (right_pass old) q right
       → HasRow m job first count old (joined p q) (together left right)
@@ -103,13 +106,16 @@ module _ (m : JobImages) (job : JobParts) (first some more count : ℕ) (old p q
       let meets = meet T first some more xs ys l.long r.long in
       let few_xs : length xs ≤ some = omega (arith, l.long) in
       let few_ys : length ys ≤ more = omega (arith, r.long) in
-      let raced = in_longer m job first some more p q xs ys (nat_lt (length p.seen) (length q.seen)) few_xs few_ys left_are right_are agree l.each r.each in
+      let raced = in_longer m job first some more p q xs ys (nat_lt (length p.seen) (length q.seen)) few_xs few_ys
+      left_are right_are agree l.each r.each in
       let history = longer p.seen q.seen in
       record {
         long = both_long T first some more count xs ys whole l.long r.long;
-        each = all_raced m job history first xs ys raced.0 (raced_where m job history (first + length xs) (first + some) ys meets raced.1);
+        each = all_raced m job history first xs ys raced.0
+            (raced_where m job history (first + length xs) (first + some) ys meets raced.1);
         events = λ i. longer (l.events i) (r.events i);
-        counted = counted_both (tallies job.lines first xs) (tallies job.lines (first + some) ys) (tallies job.lines first (xs ++ ys)) old p q
+        counted = counted_both (tallies job.lines first xs) (tallies job.lines (first + some) ys)
+            (tallies job.lines first (xs ++ ys)) old p q
             (subst (λ (t : Tally). IsSum (tallies job.lines first xs) t (tallies job.lines first (xs ++ ys)))
             (tallies_where job.lines (first + length xs) (first + some) ys meets) (tallies_both job.lines first xs ys))
             l.counted r.counted;

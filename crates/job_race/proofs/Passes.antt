@@ -62,8 +62,8 @@ both_ready first some more count shared p q left right whole few = let s = left.
 }
 
 -- the pass of all threads
-pub all_can : (m : JobImages) (shared : SharedView) (p : PassView) → p.shared ≡ shared → p.threads ≡ all_threads → p.seen ≡ []
-    → shared.images ≡ record { infos = infos m; last_offset = last_offset m } → has_data m ≡ false
+pub all_can : (m : JobImages) (shared : SharedView) (p : PassView) → p.shared ≡ shared → p.threads ≡ all_threads
+    → p.seen ≡ [] → shared.images ≡ record { infos = infos m; last_offset = last_offset m } → has_data m ≡ false
     → CanRace m 1 64 shared p
 all_can m shared p of all fresh images alone = record {
   ready = record { of = of; threads = all ∙ all_rising; some = omega arith; low = omega arith; few = omega arith };

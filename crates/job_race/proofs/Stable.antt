@@ -63,8 +63,8 @@ row_stable m job [] first count few front e none raced = tt
 row_stable m job (said ∷ more) first zero few front e none raced = absurd (omega (arith, few))
 row_stable m job (said ∷ more) first (suc count) few front e none raced =
     let other = no_flag (first == e.thread) (times e.thread (rising (first + 1) count)) none in (
-      racer_stays (job_loads m) job.fuel first (of_thread job.lines first) said front e (eqb_swap first e.thread other.0)
-          raced.0,
+      racer_stays (job_loads m) job.fuel first (of_thread job.lines first) said front e
+          (eqb_swap first e.thread other.0) raced.0,
       row_stable m job more (first + 1) count (omega (arith, few)) front e other.1 raced.1,
     )
 

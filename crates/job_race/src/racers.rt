@@ -13,8 +13,8 @@ use std::alloc::{AllocError, Global};
 use std::sync::Wait;
 use thread_space::JobNames;
 
-/// Who runs the threads of a job over its images, one by one. (What `thread::join` tells of a closure it tells only where
-/// what that holds names no lifetime but those of its references; behind a type parameter no lifetime is named.)
+/// Whoever runs the threads of a job over its images, one by one. It is a trait since `thread::join` tells what a
+/// closure ensures only where nothing that it holds names a lifetime, as `JobNames` does; a type parameter names none.
 pub(crate) trait Racers {
     ghost all_images: { Self → JobImages };
 

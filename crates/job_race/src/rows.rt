@@ -34,7 +34,8 @@ pub(crate) fn race_threads<R: Threads + Wait + Sync, T: Racers + Sync>(
 ) -> (Pass, Result<Row, AllocError>)
     requires can { CanRace (T.all_images racers.now) first count shared.now pass }
     ensures ready { IsReady first count shared.now result.0 }
-    ensures raced { IfOk result.1 (HasRow (T.all_images racers.now) (T.whole_job racers.now) first count pass result.0) }
+    ensures raced { IfOk result.1
+        (HasRow (T.all_images racers.now) (T.whole_job racers.now) first count pass result.0) }
 {
     if first > racers.threads() {
         return (pass, Ok(Row::none(alloc)));

@@ -1,5 +1,5 @@
-//! The images of the tests, in hexadecimal digits: a line for each run of bytes, with the place where it begins. Between
-//! runs there are zeros.
+//! The images of the tests, in hexadecimal digits: a line for each run of bytes, with the place where it begins.
+//! Between runs there are zeros.
 
 use image_file::{Image, read_owned};
 use std::alloc::Global;
@@ -25,8 +25,8 @@ f4 00000000002040000000000000204000000000006000000000000000600000000000000008000
 30c4 00
 ";
 
-/// A module with a thread-local variable, which begins as 5. Its function `f` asks for it by the General Dynamic sequence
-/// and returns it: `image_listing`'s image `late`, whose code ends at 1013 here, behind `mov (%rax), %eax; ret`.
+/// A module with a thread-local variable, which begins as 5. Its function `f` asks for it by the General Dynamic
+/// sequence and returns it: `image_listing`'s image `late`, whose code goes on here by `mov (%rax), %eax; ret` at 1010.
 const PLUG: &str = "
 0 7f454c4602010100000000000000000003003e0001
 20 40

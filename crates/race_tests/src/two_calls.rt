@@ -1,8 +1,8 @@
 //! Two threads that wait for each other.
 //!
-//! Thread 1 opens a module and calls its function; thread 2 calls it too. The gate lets thread 2's call begin once thread
-//! 1 has opened, and thread 1's call once thread 2's is over. So neither thread can come to its end before the other has
-//! begun, and thread 2 must see the open that happened after both had started.
+//! Thread 1 opens a module and calls its function; thread 2 calls it too. The gate lets thread 2's call begin once
+//! thread 1 has opened, and thread 1's call once thread 2's is over. So neither can come to its end before the other
+//! has begun, and thread 2 must see an open of a thread that is still on its way.
 
 use crate::images::{plug_image, program_image};
 use crate::loading::{loaded, race};

@@ -21,7 +21,8 @@ abbrev pub left_by : PassView → List Event → Past
 left_by p events = past p.shared.images.infos p.shared.images.last_offset events
 
 -- a pass before and after it asked of the history, which it found to be this, and to which its thread added this
-pub record Finds (registry : Bool) (p : PassView) (history : List Event) (own : Option Event) (q : PassView) : Type 0 where
+pub record Finds (registry : Bool) (p : PassView) (history : List Event) (own : Option Event) (q : PassView)
+    : Type 0 where
   -- it goes on from what was seen, by other threads
   pub known : Knows history p.threads p.seen
   pub legal : IsLegal p.shared.images.infos p.shared.images.last_offset history

@@ -22,8 +22,8 @@ plus x y = record { loads = x.loads + y.loads; turns = x.turns + y.turns }
 
 -- ** one look
 
--- an open and a close take the lock, and load with the history in their hands; any other look loads first, and takes the
--- lock only where there is something new
+-- an open and a close take the lock, and load with the history in their hands; any other look loads first, and takes
+-- the lock only where there is something new
 abbrev pub look_tally : Bool → ℕ → ℕ → Tally
 look_tally true seen point = record { loads = 1; turns = 1 }
 look_tally false seen point =

@@ -5,8 +5,8 @@ ghost use Rattle.racing_thread.specs.Lines.{line_of};
 
 use job_turns::Ask;
 
-/// Told of each line of each thread: before its first look, and once it is over. A thread waits meanwhile, so a test can
-/// hold one thread back until another has come so far.
+/// Told of each line of each thread: before its first look, and once it is over. A thread waits meanwhile, so a test
+/// can hold one thread back until another has come so far.
 pub trait Gate {
     /// The line of a thread begins, both counted from 1.
     fn before(&self, thread: u32, line: u32);
@@ -34,7 +34,8 @@ fn line_of(ask: Ask) -> u32
     }
 }
 
-/// Tells the gate where a turn is in another line than the turn before, whose line was this, or 0 before the first turn.
+/// Tells the gate where a turn is in another line than the turn before, whose line was this, or 0 before the first
+/// turn. The next turn's line is returned.
 pub(crate) fn pass_gate<G: Gate>(gate: &G, thread: u32, line: u32, ask: Ask) -> u32
     ensures { result ≡ line_of ask }
 {

@@ -12,10 +12,11 @@
 //!
 //! # A turn
 //!
-//! `looks` asks the history what the thread's next turn asks for. A look is one load of the history's length; only where
-//! it has grown is the lock taken, and what the pass lacked is added to the thread's list. An open or a close takes the
-//! lock always: it must find the whole history, since the answer follows from it, and its event comes right behind.
-//! Then the runner takes its turn with what is new and the answer, and the thread's own event is added to its list too.
+//! `looks` asks the history what the thread's next turn asks for. A look is one load of the history's length; only
+//! where it has grown is the lock taken, and what the pass lacked is added to the thread's list. An open or a close
+//! takes the lock always: it must find the whole history, since the answer follows from it, and its event comes right
+//! behind. Then the runner takes its turn with what is new and the answer, and the thread's own event is added to its
+//! list too. A test sees and holds the lines by a [`Gate`].
 //!
 //! # What holds
 //!
@@ -23,7 +24,7 @@
 //! these points are lawful in the history that its pass has seen (`lawful_points`, `IsRacer`), and that it loaded the
 //! history's length and took the lock as often as its printed lines tell (`specs/Tallies`), and not once more.
 //!
-//! Between two turns there are points so far, one list of events for each turn, and (`specs/Going`)
+//! Between two turns there are points so far, one list of events for each turn, and (`proofs/Going`)
 //!
 //! - the runner stands for the definition's thread after these points;
 //! - their looks are lawful in the history that was seen: they are fronts of it, each has all that the one before it
@@ -31,8 +32,8 @@
 //! - what the pass has seen is just what the runner knows.
 //!
 //! A turn finds a history that goes on from what was seen by *other* threads, so all of this stays true of it, and the
-//! turn adds one point more (`proofs/`). What others do later changes nothing of it for the same reason, so whoever joins
-//! threads keeps it (`shared_modules::laws`).
+//! turn adds one point more (`proofs/Looking`). What others do later changes nothing of it for the same reason, so
+//! whoever joins threads keeps it (`shared_modules::laws`).
 #![tactic(auto)]
 
 mod gates;

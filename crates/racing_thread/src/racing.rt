@@ -104,8 +104,9 @@ fn take_turns<R: Wait, G: Gate>(
     unreachable!()
 }
 
-/// One thread of a job takes its turns, each at the history as it finds it, while other threads take theirs. The pass
-/// comes back in any case, and of it the history that was seen. The only error is want of memory.
+/// One thread of a job, from 1 to 64, takes its turns, each at the history as it finds it, while other threads take
+/// theirs. The pass comes back in any case. The only error is want of memory; an open or a close that was accepted before
+/// stays in the history then.
 pub fn race_thread<R: Wait, G: Gate>(
     rt: &R,
     alloc: Global,

@@ -42,7 +42,8 @@ returns-clause-raced g t c =
     let q = c.join-left.result.1.0 in
     let left = subst (λ (r : PassView × PassView). IfOk c.join-left.result.0.1 (HasRow m job first half r.0 p))
     c.halve-left.ensures c.join-left.ensures.first.1 in
-    let right = subst (λ (r : PassView × PassView). IfOk c.join-left.result.1.1 (HasRow m job (first + half) (count - half) r.1 q))
+    let right = subst
+    (λ (r : PassView × PassView). IfOk c.join-left.result.1.1 (HasRow m job (first + half) (count - half) r.1 q))
     c.halve-left.ensures c.join-left.ensures.second.1 in
     subst (λ (r : PassView). IfOk c.together-row.result (HasRow m job first count c.args.pass r))
     (sym c.join-pass.ensures.joined)

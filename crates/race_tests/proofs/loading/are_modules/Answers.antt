@@ -1,5 +1,5 @@
 -- One image more, and all of them.
-use Rattle.std.proofs.Common.{◌≡◌, ◌≤◌, ◌<◌, ℕ, List, length, refl, sym, ap, subst, ◌∙◌, arith}
+use Rattle.std.proofs.Common.{◌≡◌, ◌≤◌, ◌<◌, List, length, refl, sym, ap, subst, ◌∙◌, arith}
 use Rattle.std.specs.List.{All}
 use Rattle.std.proofs.lemmas.List.{take_all}
 use Rattle.std.proofs.lemmas.List.Elements.{All-more}
@@ -18,14 +18,14 @@ loop-index-preserved c =
     let a = c.index-asked-index.result in
     let b = c.index-images-index.result in
     let less : n < length images = omega (arith, c.loop-index-test.true) in
-    let more : n < length asked = omega (arith, c.loop-index-test.true, c.if-images-asked.false) in
-    (
-      one_more n asked images a b c.loop-index.invariant.0 (slice_get_read asked (length asked) n a refl more c.index-asked-index.is)
-      (slice_get_read images (length images) n b refl less c.index-images-index.is)
-      (subst (λ (x : Image). b.kind ≡ file_kind_of x.kind) (sym c.index-asked-index.is)
-      (sym c.kind.ensures ∙ c.if-not-is_kind.ensures refl)),
+    let more : n < length asked = omega (arith, c.loop-index-test.true, c.if-images-asked.false) in (
+      one_more n asked images a b c.loop-index.invariant.0
+          (slice_get_read asked (length asked) n a refl more c.index-asked-index.is)
+          (slice_get_read images (length images) n b refl less c.index-images-index.is)
+          (subst (λ (x : Image). b.kind ≡ file_kind_of x.kind) (sym c.index-asked-index.is)
+          (sym c.kind.ensures ∙ c.if-not-is_kind.ensures refl)),
       All-more IsPlainImage images n b less c.loop-index.invariant.1
-      (subst IsPlainImage c.index-images-index.is (c.if-not-is_plain_image.ensures refl)),
+          (subst IsPlainImage c.index-images-index.is (c.if-not-is_plain_image.ensures refl)),
     )
 
 pub returns : goal.returns
@@ -36,7 +36,8 @@ returns c = λ yes.
     let past : length images ≤ n = omega (arith, c.loop-index-test.false) in
     let long : length images ≡ length c.args.job.now.images =
     c.if-images-asked.false ∙ ap length c.images-asked.ensures.value in
-    let kinds : AreOfKind (length images) asked images = λ k less. c.loop-index.invariant.0 k (omega (arith, past, less)) in
+    let kinds : AreOfKind (length images) asked images =
+    λ k less. c.loop-index.invariant.0 k (omega (arith, past, less)) in
     fitting c.args.job.now images c.requires long
     (subst (λ (xs : List Image). AreOfKind (length images) xs images) c.images-asked.ensures.value kinds)
     (subst (All IsPlainImage) (take_all n images past) c.loop-index.invariant.1)
