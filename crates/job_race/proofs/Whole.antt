@@ -94,7 +94,8 @@ told_row P Q row (Ok shown) known all is = known shown (subst (λ r. IfOk r P) i
 told_row P Q row (Err why) known all is = tt
 
 module _ {X Y : Type 0} (m : JobImages) (job : JobParts) (old new : PassView) (row : Result Shown X)
-    (result : Result Shown Y) (all : IfOk row (HasRow m job 1 64 old new)) (is : IfOk result (λ shown. row ≡ Ok shown)) where
+    (result : Result Shown Y) (all : IfOk row (HasRow m job 1 64 old new))
+    (is : IfOk result (λ shown. row ≡ Ok shown)) where
   pub told_raced : length job.lines ≤ 64 → IfOk result (IsRaced (job_loads m) job.fuel job.lines)
   told_raced few = told_row (HasRow m job 1 64 old new) (IsRaced (job_loads m) job.fuel job.lines) row result
       (λ shown known. all_raced m job old new shown few known) all is

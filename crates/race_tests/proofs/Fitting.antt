@@ -26,7 +26,8 @@ one_more n asked images a b before at_a at_b is =
     let same_b : Some b ≡ Some y = sym at_b ∙ at_y in
     let left : a ≡ x = cc in
     let right : b ≡ y = cc in
-    subst (λ (z : Image). y.kind ≡ file_kind_of z.kind) left (subst (λ (z : Spelled). z.kind ≡ file_kind_of a.kind) right is))
+    subst (λ (z : Image). y.kind ≡ file_kind_of z.kind) left
+    (subst (λ (z : Spelled). z.kind ≡ file_kind_of a.kind) right is))
 
 pub within_list : {X : Type 0} (xs : List X) (k : ℕ) (x : X) → slice_get xs k ≡ Some x → k < length xs
 within_list [] k x at = absurd cc
