@@ -129,13 +129,13 @@ pub are_raced : {E : Type 0} (m : JobImages) (job : JobParts) (h : History) → 
     → IsLegal h.infos h.last_offset h.events → (seen : List Event) → h.events ≡ seen → (r : Result Shown E)
     → IfOk r (IsRaced (job_loads m) job.fuel job.lines) → IfOk r (λ shown. shown.events ≡ seen) → IfOk r (AreRaced m job)
 unfolding job_loads infos last_offset
-are_raced m job h images_are legal seen events_are (Ok shown) raced history = record {
+are_raced m job h same legal seen events_are (Ok shown) raced history = record {
   legal =
       subst (λ (es : List Event). IsLegal (infos m) (last_offset m) es) (events_are ∙ sym history)
-      (subst (λ (own : Images). IsLegal own.infos own.last_offset h.events) images_are legal);
+      (subst (λ (own : Images). IsLegal own.infos own.last_offset h.events) same legal);
   raced = raced;
 }
-are_raced m job h images_are legal seen events_are (Err e) raced history = tt
+are_raced m job h same legal seen events_are (Err e) raced history = tt
 
 -- ** the images of objects with no data for programs to write have none
 
