@@ -22,7 +22,7 @@ use Rattle.module_table.specs.declared.events.Event.{Event}
 use Rattle.module_table.specs.History.{History, IsLegal}
 use Rattle.module_table.specs.declared.modules.ImageInfo.{ImageInfo}
 use Rattle.shared_modules.specs.declared.board.Images.{Images}
-use Rattle.shared_modules.specs.Views.{all_threads, images_of}
+use Rattle.shared_modules.specs.Views.{all_threads, images_of as registry_images}
 use Rattle.thread_blocks.specs.JobLoads.{job_loads}
 use Rattle.thread_blocks.specs.Lines.{Line}
 use Rattle.thread_blocks.specs.MachineTurns.{shown}
@@ -119,13 +119,13 @@ all_of_them threads is = ap length is
 
 -- it began with the images of the modules
 pub same_images : (h : History) (m : JobImages) (own : List ImageInfo) (offset : ℕ) → h.infos ≡ own → own ≡ infos m → h.last_offset ≡ offset → offset ≡ last_offset m
-    → images_of h ≡ record { infos = infos m; last_offset = last_offset m }
+    → registry_images h ≡ record { infos = infos m; last_offset = last_offset m }
 same_images h m own offset infos_are own_is offset_is own_offset =
     ap (λ (is : List ImageInfo). record { infos = is; last_offset = h.last_offset }) (infos_are ∙ own_is)
     ∙ ap (λ (n : ℕ). record { infos = infos m; last_offset = n }) (offset_is ∙ own_offset)
 
 -- what ran is told by the history that was closed in the end
-pub are_raced : {E : Type 0} (m : JobImages) (job : JobParts) (h : History) → images_of h ≡ record { infos = infos m; last_offset = last_offset m }
+pub are_raced : {E : Type 0} (m : JobImages) (job : JobParts) (h : History) → registry_images h ≡ record { infos = infos m; last_offset = last_offset m }
     → IsLegal h.infos h.last_offset h.events → (seen : List Event) → h.events ≡ seen → (r : Result Shown E)
     → IfOk r (IsRaced (job_loads m) job.fuel job.lines) → IfOk r (λ shown. shown.events ≡ seen) → IfOk r (AreRaced m job)
 unfolding job_loads infos last_offset

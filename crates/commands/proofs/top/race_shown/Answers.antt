@@ -15,5 +15,5 @@ returns-clause-shows g c =
 
 pub returns-clause-completes : goal.returns-clause-completes
 returns-clause-completes g c =
-    answer_completes (g.S.Store.files c.args.store.now) _ (Race c.args.job.now c.args.rewriting) c.race_answer-raced.result _ _ _ _ c.deliver.result
+    answer_completes (g.S.Store.files c.args.store.now) (g.S.Store.files c.args.store.now) (Race c.args.job.now c.args.rewriting) c.race_answer-raced.result _ _ _ _ c.deliver.result
     c.race_answer-raced.ensures.cause c.race_answer-raced.ensures.says c.deliver.ensures.delivered
