@@ -4,7 +4,6 @@ use Rattle.std.specs.Prelude.{take}
 use Rattle.std.proofs.lemmas.Option.{slice_get_within}
 use Rattle.begin_alike.proofs.Printed.{verdict_clean}
 use Rattle.begin_alike.specs.Laws.{meant_thread}
-use Rattle.image_file.specs.Spelled.{Spelled}
 use Rattle.job_text.specs.declared.thread_lines.ThreadLine.{ThreadLine}
 use Rattle.job_text.specs.Jobs.{JobParts}
 use Rattle.job_turns.specs.Alone.{has_data}
@@ -35,7 +34,7 @@ use Rattle.whole_meaning.specs.Loads.{meaning_of}
 use Rattle.whole_meaning.specs.Threads.{Meant}
 use Rattle.commands.specs.InOrder.{AreLinks}
 use Rattle.commands.specs.Races.{AreRaced, HasRace, IsRaceTold}
-use Rattle.commands.specs.Runs.{AreModulesBack, IsMeant, meant_lines, modules_of}
+use Rattle.commands.specs.Runs.{AreModulesBack, IsMeant, meant_lines}
 use Rattle.commands.proofs.Transcribed.{images_are, modules_are, modules_linked}
 
 -- ** threads
@@ -129,13 +128,13 @@ pub are_raced : {E : Type 0} (m : JobImages) (job : JobParts) (h : History) → 
     → IsLegal h.infos h.last_offset h.events → (seen : List Event) → h.events ≡ seen → (r : Result Shown E)
     → IfOk r (IsRaced (job_loads m) job.fuel job.lines) → IfOk r (λ shown. shown.events ≡ seen) → IfOk r (AreRaced m job)
 unfolding job_loads infos last_offset
-are_raced m job h images_are legal seen events_are (Ok shown) raced history = record {
+are_raced m job h same legal seen events_are (Ok shown) raced history = record {
   legal =
       subst (λ (es : List Event). IsLegal (infos m) (last_offset m) es) (events_are ∙ sym history)
-      (subst (λ (own : Images). IsLegal own.infos own.last_offset h.events) images_are legal);
+      (subst (λ (own : Images). IsLegal own.infos own.last_offset h.events) same legal);
   raced = raced;
 }
-are_raced m job h images_are legal seen events_are (Err e) raced history = tt
+are_raced m job h same legal seen events_are (Err e) raced history = tt
 
 -- ** the images of objects with no data for programs to write have none
 
