@@ -1,5 +1,5 @@
 -- A command that is given nothing wrong completes.
-use Rattle.std.proofs.Common.{◌≡◌, ◌+◌, ◌-◌, ◌<◌, ℕ, suc, Bool, true, false, cond, not, List, [], ◌∷◌, length, map, Option, Some, None, IfSome, Result, Ok, ◌⊎◌, inl, inr, ⊎_elim, refl, sym, ap, subst, arith}
+use Rattle.std.proofs.Common.{◌≡◌, ◌+◌, ◌<◌, ℕ, suc, Bool, true, false, cond, not, List, [], ◌∷◌, length, map, Option, Some, None, IfSome, Result, Ok, ◌⊎◌, inl, inr, ⊎_elim, refl, sym, ap, subst, arith}
 use Rattle.std.specs.Prelude.{is_some, unwrap_or}
 use Rattle.std.specs.List.{Contains, position_or_len}
 use Rattle.std.specs.Option.{option_map}
@@ -43,7 +43,7 @@ use Rattle.commands.specs.Tasks.{TaskSays}
 use Rattle.commands.specs.Commands.{CommandSays}
 use Rattle.commands.specs.Races.{IsRace}
 use Rattle.commands.specs.declared.telling.Telling.TheVariants.{Transcript}
-use Rattle.commands.proofs.Membership.{In, in_at, in_contains, of_all}
+use Rattle.commands.proofs.Membership.{In, in_contains, of_all}
 use Rattle.commands.proofs.Mentioned.{in_once}
 use Rattle.commands.proofs.NoFault.{DoesLink, never_refused}
 use Rattle.commands.proofs.SameGiven.{same_images}

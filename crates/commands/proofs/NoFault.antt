@@ -1,5 +1,5 @@
 -- What has no fault is refused with none: bytes, the link of an image, and a job.
-use Rattle.std.proofs.Common.{ℕ, Bool, Option, List, inl, inr, subst}
+use Rattle.std.proofs.Common.{ℕ, Bool, List, inl, inr, subst}
 use Rattle.std.proofs.lemmas.Option.{get_or_from_slice_get, slice_get_within}
 use Rattle.generated_laws.specs.Sound.{IsFaultless}
 use Rattle.job_link.specs.declared.writable.WritableSections.{WritableSections}

@@ -4,7 +4,6 @@ use Rattle.std.specs.Prelude.{take}
 use Rattle.std.proofs.lemmas.Option.{slice_get_within}
 use Rattle.begin_alike.proofs.Printed.{verdict_clean}
 use Rattle.begin_alike.specs.Laws.{meant_thread}
-use Rattle.image_file.specs.Spelled.{Spelled}
 use Rattle.job_text.specs.declared.thread_lines.ThreadLine.{ThreadLine}
 use Rattle.job_text.specs.Jobs.{JobParts}
 use Rattle.job_turns.specs.Alone.{has_data}
@@ -35,7 +34,7 @@ use Rattle.whole_meaning.specs.Loads.{meaning_of}
 use Rattle.whole_meaning.specs.Threads.{Meant}
 use Rattle.commands.specs.InOrder.{AreLinks}
 use Rattle.commands.specs.Races.{AreRaced, HasRace, IsRaceTold}
-use Rattle.commands.specs.Runs.{AreModulesBack, IsMeant, meant_lines, modules_of}
+use Rattle.commands.specs.Runs.{AreModulesBack, IsMeant, meant_lines}
 use Rattle.commands.proofs.Transcribed.{images_are, modules_are, modules_linked}
 
 -- ** threads

@@ -10,7 +10,7 @@ use Rattle.job_text.specs.declared.fault.JobFault.{JobFault}
 use Rattle.job_text.specs.declared.fault.JobFault.TheVariants as job_fault
 use Rattle.job_text.specs.Jobs.{JobParts, job_of}
 use Rattle.link_needs.specs.Linking.{Linking}
-use Rattle.ports.specs.Files.{Files, file_at}
+use Rattle.ports.specs.Files.{Files}
 use Rattle.commands.specs.Jobs.{BytesSay, Ending, ImagesSay, IsUnlinked, IsUnread, JobSays, NamedSays, ObjectsSay, has, links_of}
 use Rattle.commands.specs.Purposes.{IsMissing}
 

@@ -1,6 +1,6 @@
 -- What a command of a job says over the files of a store: how the job is refused, in which order, and of a job whose
 -- images all link what the command's own ending says.
-use Rattle.std.specs.Prelude.{◌≡◌, ◌⊎◌, ℕ, Bool, true, false, List, [], ◌∷◌, map, slice_get}
+use Rattle.std.specs.Prelude.{◌⊎◌, ℕ, Bool, true, false, List, [], ◌∷◌, map, slice_get}
 use Rattle.std.specs.Prelude.{Option, Some, None, IsSome, Result, Ok, Err, is_some}
 use Rattle.std.specs.List.{All}
 use Rattle.std.specs.Option.{option_map_or}

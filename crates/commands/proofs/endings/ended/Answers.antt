@@ -1,4 +1,4 @@
-use Rattle.std.proofs.Common.{◌<◌, length, sym, subst, arith, rules}
+use Rattle.std.proofs.Common.{subst, arith, rules}
 use Rattle.commands.specs.Purposes.{IsWithin}
 use Rattle.commands.proofs.Ready.{all_given, all_link, count_linked}
 use Rattle.commands.proofs.endings.ended.Goals as goal

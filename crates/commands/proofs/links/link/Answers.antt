@@ -1,4 +1,3 @@
-use Rattle.std.proofs.Common.{sym}
 use Rattle.command_line.specs.Rewritings.{is_allowed}
 use Rattle.commands.specs.Links.{image_names}
 use Rattle.commands.proofs.Asked.{asks_before}

@@ -1,4 +1,4 @@
-use Rattle.std.proofs.Common.{◌∙◌, ◌<◌, Global, Vec, get_or, length, map, sym, ap, arith}
+use Rattle.std.proofs.Common.{◌∙◌, Global, Vec, get_or, map, sym, ap, arith}
 use Rattle.relax_sites.specs.declared.choices.Choice.{Choice}
 use Rattle.commands.proofs.ImageEndings.{are_lines, have_lines}
 use Rattle.commands.proofs.Ready.{count}
