@@ -56,7 +56,7 @@ f0 00400000000000000030000000000000003000000000000006000000000000000600000000000
 ";
 
 /// The image of a text.
-pub fn image(alloc: Global, text: &str) -> Result<Image, Fail> {
+fn image(alloc: Global, text: &str) -> Result<Image, Fail> {
     let mut file = Vec::new(alloc);
     for line in text.lines() {
         if let Some((place, digits)) = line.split_once(' ') {
@@ -73,11 +73,11 @@ pub fn image(alloc: Global, text: &str) -> Result<Image, Fail> {
 }
 
 /// The program.
-pub fn program_image(alloc: Global) -> Result<Image, Fail> {
+pub(crate) fn program_image(alloc: Global) -> Result<Image, Fail> {
     image(alloc, PROGRAM)
 }
 
 /// The module.
-pub fn plug_image(alloc: Global) -> Result<Image, Fail> {
+pub(crate) fn plug_image(alloc: Global) -> Result<Image, Fail> {
     image(alloc, PLUG)
 }

@@ -4,10 +4,10 @@
 //! say otherwise: so a gate holds two threads back until each has been waited for by the other.
 #![tactic(auto)]
 
+#[cfg(test)]
 mod images;
 mod loading;
 
-pub use images::{image, plug_image, program_image};
 pub use loading::{loaded, race};
 
 #[cfg(test)]
