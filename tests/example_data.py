@@ -4,7 +4,7 @@
 The gate runs a program over files of its own crate alone. So data/examples of the crate command_runs are the folders of
 examples/ whose jobs have something to print: these jobs, the objects, what stands beside the jobs, and `runs`, the list of what
 is to be run. The crate's `stdout` is what the program prints where all is well: a line for this list, and one for each list of
-data/cases, which are written by hand. tests/examples.sh says which file beside a job means which runs, and
+data/cases and data/lying, which are written by hand. tests/examples.sh says which file beside a job means which runs, and
 crates/command_runs/src/main.rt what the lines of a list are.
 """
 import os
@@ -14,7 +14,7 @@ import sys
 
 TOP = os.path.dirname(os.path.dirname(os.path.abspath(__file__)))
 CRATE = f"{TOP}/crates/command_runs"
-CASES = ("commands", "turns", "verdicts")
+BY_HAND = ("cases/commands", "cases/turns", "cases/verdicts", "cases/failing", "lying/objects", "lying/images")
 HEAD = "# Written by tests/example_data.py from examples/.\n"
 SETTINGS = ([], ["--no-relax"])
 
@@ -76,10 +76,18 @@ def plain(name):
     return name
 
 
+def run_count(line):
+    """How often a line of a list has a command run: a row that cuts a file does so at each length."""
+    kind = line.split(b" ")[0]
+    cut = re.match(rb"row [^|]*\| cut \S+ (\d+)\.\.(\d+) ", line)
+    return int(cut[2]) - int(cut[1]) if cut else int(kind in (b"run", b"row"))
+
+
 def last_line(name, text):
     """What is printed at the end of a list where all is well."""
-    first = [line.split(b" ")[0] for line in text.splitlines()]
-    return f"{name}: {first.count(b'run')} runs in {first.count(b'folder')} folders end as they must\n"
+    lines = text.splitlines()
+    folders = sum(line.startswith(b"folder ") for line in lines)
+    return f"{name}: {sum(map(run_count, lines))} runs in {folders} folders end as they must\n"
 
 
 def wanted():
@@ -91,7 +99,7 @@ def wanted():
         listed += [f"run {status} {expected} {' '.join(map(plain, words))}\n" for status, expected, words in runs]
         made |= {f"data/examples/{folder}/{name}": content for name, content in files.items()}
     made["data/examples/runs"] = "".join(listed).encode()
-    lists = {"examples/runs": made["data/examples/runs"]} | {f"cases/{it}": read(f"{CRATE}/data/cases/{it}") for it in CASES}
+    lists = {"examples/runs": made["data/examples/runs"]} | {it: read(f"{CRATE}/data/{it}") for it in BY_HAND}
     made["stdout"] = "".join(last_line(name, text) for name, text in lists.items()).encode()
     return made
 

@@ -1,6 +1,8 @@
 //! A folder: its files in memory, and what commands over them end with.
 
-use anyhow::{Context, Result};
+use crate::patches::patched;
+use crate::rows::Answer;
+use anyhow::{Context, Result, ensure};
 use commands::tlsld;
 use ports::{MemorySink, MemoryStore, Store};
 use std::alloc::{AllocError, Global};
@@ -11,21 +13,17 @@ use std::thread::Threads;
 /// A folder.
 #[derive(Drop)]
 pub(crate) struct Folder {
-    alloc: Global,
+    pub(crate) alloc: Global,
     pub(crate) title: String,
     files: MemoryStore,
     /// The file whose lines are read.
     text: String,
-    /// How many bytes the sink of the next run takes, if it is to fail.
-    taken: Option<u64>,
 }
 
 /// What a command ends with.
 #[derive(Drop)]
 pub(crate) struct Ended {
     pub(crate) status: u8,
-    /// How many bytes the sink was to take, if it was to fail.
-    pub(crate) taken: Option<u64>,
     out: MemorySink,
 }
 
@@ -62,23 +60,53 @@ impl Folder {
             title: String::from_str(alloc, title)?,
             files: MemoryStore::new(alloc),
             text: String::new(alloc),
-            taken: None,
         })
     }
 
-    /// The bytes of a file.
-    fn bytes(&self, name: &str) -> Result<&[u8]> {
-        self.files.get(name).context(format_args!("no file {name}"))
+    /// The bytes of a file, if it is there.
+    pub(crate) fn get(&self, name: &str) -> Option<&[u8]> {
+        self.files.get(name)
     }
 
-    /// The text of a file.
-    pub(crate) fn text(&self, name: &str) -> Result<&str> {
-        str::from_utf8(self.bytes(name)?).context(format_args!("{name} is no text"))
+    /// The bytes of a file.
+    pub(crate) fn bytes(&self, name: &str) -> Result<&[u8]> {
+        self.get(name).context(format_args!("no file {name}"))
+    }
+
+    /// A copy of the bytes of a file.
+    pub(crate) fn copy(&self, name: &str) -> Result<Vec<u8>> {
+        Ok(Vec::from_slice(self.alloc, self.bytes(name)?)?)
+    }
+
+    /// A copy of the text of a file.
+    fn copy_text(&self, name: &str) -> Result<String> {
+        let text = str::from_utf8(self.bytes(name)?).context(format_args!("{name} is no text"))?;
+        Ok(String::from_str(self.alloc, text)?)
+    }
+
+    /// All that an answer says.
+    pub(crate) fn wanted(&self, answer: Answer) -> Result<String> {
+        match answer {
+            Answer::Line(line) => Ok(format!(in self.alloc; "{line}\n")?),
+            Answer::File(name) => self.copy_text(name),
+        }
     }
 
     /// Gives a file these bytes.
     pub(crate) fn put(&mut self, name: &str, bytes: &[u8]) -> Result<(), AllocError> {
         self.files.add(name, bytes)
+    }
+
+    /// Gives a file other bytes at some places.
+    pub(crate) fn patch(&mut self, name: &str, places: &str) -> Result<()> {
+        let bytes = patched(self.alloc, self.bytes(name)?, places)?;
+        Ok(self.put(name, bytes.as_slice())?)
+    }
+
+    /// Gives a file as many bytes of these as it is to have, which are not all.
+    pub(crate) fn cut(&mut self, name: &str, whole: &[u8], length: usize) -> Result<()> {
+        ensure!(length < whole.len(), "{name} is no longer than {length}");
+        Ok(self.put(name, &whole[..length])?)
     }
 
     /// Begins a file whose lines follow.
@@ -90,7 +118,7 @@ impl Folder {
     /// Adds a line to the file that was begun last.
     pub(crate) fn push_line(&mut self, line: &str) -> Result<()> {
         let name = self.text.clone()?;
-        let mut bytes = Vec::from_slice(self.alloc, self.bytes(name.as_str())?)?;
+        let mut bytes = self.copy(name.as_str())?;
         bytes.extend_from_slice(line.as_bytes())?;
         bytes.push(b'\n')?;
         Ok(self.put(name.as_str(), bytes.as_slice())?)
@@ -98,30 +126,29 @@ impl Folder {
 
     /// Gives a file this length, with zeros behind it.
     pub(crate) fn pad(&mut self, name: &str, length: usize) -> Result<()> {
-        let mut bytes = Vec::from_slice(self.alloc, self.bytes(name)?)?;
+        let mut bytes = self.copy(name)?;
         bytes.resize(length, 0)?;
         Ok(self.put(name, bytes.as_slice())?)
     }
 
-    /// Lets the store fail at this call from now on.
+    /// Lets the store fail at this call from now on, counted from 1; at 0 at none.
     pub(crate) fn fail_store(&mut self, call: u64) {
         self.files.fail_at(call);
     }
 
-    /// Lets the sink of the next run take so many bytes, and fail.
-    pub(crate) fn fail_sink(&mut self, taken: u64) {
-        self.taken = Some(taken);
-    }
-
-    /// What a command over the files ends with.
-    pub(crate) fn ended<R: Threads + Wait + Sync>(&mut self, rt: &R, words: &str) -> Result<Ended> {
+    /// What a command over the files ends with, where the sink fails once it took so many bytes, if it is to fail.
+    pub(crate) fn ended<R: Threads + Wait + Sync>(
+        &mut self,
+        rt: &R,
+        words: &str,
+        taken: Option<u64>,
+    ) -> Result<Ended> {
         let words = words_of(self.alloc, words)?;
         let mut out = MemorySink::new(self.alloc);
-        let taken = self.taken.take();
         if let Some(count) = taken {
             out.fail_part(1, count);
         }
         let status = tlsld(rt, self.alloc, words.as_slice(), &mut self.files, &mut out);
-        Ok(Ended { status, taken, out })
+        Ok(Ended { status, out })
     }
 }

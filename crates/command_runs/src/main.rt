@@ -1,9 +1,9 @@
 //! Runs commands over files in memory, and compares what each prints and the status that it ends with.
 //!
-//! This is the test of the whole: of the examples, whose output stands beside them for readers, and of cases that were
-//! worked out by hand. It is a program and not a crate of test functions, since what is run is data: so the crate, which
-//! stands on all others, is proved once however many runs there are, and they are made by what each of the two compilers
-//! builds.
+//! This is the test of the whole: of the examples, whose output stands beside them for readers, of cases that were worked
+//! out by hand, of files that lie, and of stores and sinks that fail. It is a program and not a crate of test functions,
+//! since what is run is data: so the crate, which stands on all others, is proved once however many runs there are, and
+//! they are made by what each of the two compilers builds.
 //!
 //! What is run stands in lists among the crate's data. A list is read from top to bottom, a line at a time, of words with
 //! single spaces between:
@@ -16,105 +16,112 @@
 //! text wanted                      it has a file `wanted`, of the lines that follow
 //! | t1 l1 g0 opened 2
 //! pad plug.o 524288                the file gets zeros behind it, up to this length
-//! store 2                          the store fails at its second call from here on
-//! sink 6                           the sink of the next run takes six bytes of what it is given, and fails
 //! run 0 wanted run job             a command: its status, the file with what it prints, and its words
+//! row WHAT | CHANGE | COMMAND | STATUS LINE
+//! absent out                       there is no file `out` now
+//! same out wanted                  there is a file `out` now, with the bytes of `wanted`
 //! ```
 //!
 //! A command is handed to [`commands::tlsld`] as the program `tlsld` hands it, with a store in memory that has the files
-//! of the folder so far, and a sink in memory. Where the sink fails, as much of the expected text is wanted as it takes.
-//! For each run that differs a line is printed, and at the end of each list one that counts; the status is 1 if any
-//! differs, or if a list has another line or names a file that is not there.
+//! of the folder so far, and a sink in memory. For each run that differs a line is printed, and at the end of each list
+//! one that counts; the status is 1 if any differs, or if a list has another line or names a file that is not there.
+//!
+//! **Rows make tables.** A row says in words what it changes, then the change itself, the command, and the status with the
+//! one line that is printed, or `< wanted` for all lines of that file. Columns may have more spaces for looks. The change
+//! is there for the row's run alone:
+//!
+//! ```text
+//! row as it stands                 | -                        | run job          | 0 t1 l1 g0 = 000000000000002a
+//! row e_machine is 3               | put a.o 18 03            | run job          | 6 object a.o section 0 entry 0 NotRelocatable
+//! row a value and a size           | put a.o 645 01, 653 ffff | run job          | 6 object a.o section 5 entry 2 SymbolRange
+//! row the first {n} bytes          | cut image 0..64          | show image       | 8 image {n} Truncated
+//! row the second fetch fails       | store 2                  | run job          | 3 store fault
+//! row the sink fails, 6 bytes in   | sink 6                   | link job app out | 4 linked app 12485
+//! ```
+//!
+//! `put` gives a file these bytes, in hexadecimal digits, from an offset on, or from several; at the file's end they are
+//! added. `cut` makes a run for each length from the first to the one before the last, all of them shorter than the file,
+//! with the length in place of `{n}`. `store` lets the store fail at a call, counted from 1. `sink` lets the sink take so
+//! many bytes of what it is given, and fail: as much of the expected text is wanted.
 //!
 //! The list of the examples and the files beside it are copies, which tests/example_data.py writes; it knows which file
-//! of an example belongs to which command. The others are written by hand, and `cases/README.md` says what their objects
-//! are.
+//! of an example belongs to which command. The others are written by hand: `cases/README.md` and `lying/README.md` say
+//! what their objects and images are.
 #![tactic(auto)]
 
 mod difference;
 mod folder;
 mod lines;
+mod looks;
+mod patches;
+mod rows;
 mod tally;
+mod trials;
 
 use anyhow::{Context, Result};
-use difference::{Difference, difference_of};
 use folder::{Folder, fetched};
-use lines::{Line, Run, line_of};
+use lines::{Gift, Line, Test, line_of};
+use looks::{is_there, is_unlike};
 use ports::{HostStore, Store};
 use std::alloc::Global;
 use std::process::ExitCode;
+use std::str;
 use std::sync::Wait;
 use std::thread::Threads;
-use std::{io, str};
 use tally::Tally;
+use trials::run_row;
 
 /// The lists of what is to be run: the folder of each, with the files that it names, and its name there.
-const LISTS: [(&str, &str); 4] = [
+const LISTS: [(&str, &str); 7] = [
     ("examples", "runs"),
     ("cases", "commands"),
     ("cases", "turns"),
     ("cases", "verdicts"),
+    ("cases", "failing"),
+    ("lying", "objects"),
+    ("lying", "images"),
 ];
-
-/// Prints how a run ended otherwise than it must.
-fn print_differing(
-    rt: &impl Print,
-    title: &str,
-    run: &Run,
-    status: u8,
-    difference: Option<Difference>,
-) -> io::Result<()> {
-    let words = run.words;
-    let wanted = run.status;
-    print!(rt; "{title}: tlsld {words}: status {status}, wanted {wanted}")?;
-    if let Some(difference) = difference {
-        let line = difference.line;
-        let found = difference.found;
-        let wanted = difference.wanted;
-        print!(rt; "; line {line}: {found:?}, wanted {wanted:?}")?;
-    }
-    println!(rt; "")
-}
-
-/// As much of a text as a sink takes.
-fn front(text: &str, taken: Option<u64>) -> Option<&str> {
-    match taken {
-        Some(count) => text.get(..count as usize),
-        None => Some(text),
-    }
-}
-
-/// Makes a run, and says whether it ends otherwise than it must.
-fn differs<R: Threads + Wait + Sync + Print>(
-    rt: &R,
-    folder: &mut Folder,
-    run: &Run,
-) -> Result<bool> {
-    let ended = folder.ended(rt, run.words)?;
-    let wanted = front(folder.text(run.expected)?, ended.taken).context("no such front")?;
-    let difference = difference_of(ended.text()?, wanted);
-    let differs = ended.status != run.status || difference.is_some();
-    if differs {
-        print_differing(rt, folder.title.as_str(), run, ended.status, difference)?;
-    }
-    Ok(differs)
-}
 
 /// Lays a file into a folder.
 fn lay<S: Store>(
-    alloc: Global,
     store: &mut S,
     folder: &mut Folder,
     place: &str,
     name: &str,
     from: &str,
 ) -> Result<()> {
-    let path = format!(in alloc; "{place}/{from}")?;
-    let bytes = fetched(alloc, store, path.as_str())?;
+    let path = format!(in folder.alloc; "{place}/{from}")?;
+    let bytes = fetched(folder.alloc, store, path.as_str())?;
     Ok(folder.put(name, bytes.as_slice())?)
 }
 
-/// Reads a list whose files are in this place, and makes its runs one after another.
+/// Gives a folder what a list whose files are in this place gives it.
+fn give<S: Store>(store: &mut S, folder: &mut Folder, place: &str, gift: Gift) -> Result<()> {
+    match gift {
+        Gift::File(name, from) => lay(store, folder, place, name, from)?,
+        Gift::Text(name) => folder.begin_text(name)?,
+        Gift::TextLine(text) => folder.push_line(text)?,
+        Gift::Pad(name, length) => folder.pad(name, length)?,
+    }
+    Ok(())
+}
+
+/// Tests a folder, and counts what comes of it.
+fn test<R: Threads + Wait + Sync + Print>(
+    rt: &R,
+    folder: &mut Folder,
+    test: Test,
+    tally: &mut Tally,
+) -> Result<()> {
+    match test {
+        Test::Row(row) => run_row(rt, folder, row, tally)?,
+        Test::Absent(name) => tally.count_look(is_there(rt, folder, name)?),
+        Test::Same(name, other) => tally.count_look(is_unlike(rt, folder, name, other)?),
+    }
+    Ok(())
+}
+
+/// Does what a list whose files are in this place says, a line after another.
 fn run_list<R: Threads + Wait + Sync + Print, S: Store>(
     rt: &R,
     alloc: Global,
@@ -131,19 +138,14 @@ fn run_list<R: Threads + Wait + Sync + Print, S: Store>(
                 folder = Folder::new(alloc, title)?;
                 tally.count_folder();
             }
-            Line::File(name, from) => lay(alloc, store, &mut folder, place, name, from)?,
-            Line::Text(name) => folder.begin_text(name)?,
-            Line::TextLine(text) => folder.push_line(text)?,
-            Line::Pad(name, length) => folder.pad(name, length)?,
-            Line::StoreFails(call) => folder.fail_store(call),
-            Line::SinkTakes(count) => folder.fail_sink(count),
-            Line::Run(run) => tally.count_run(differs(rt, &mut folder, &run)?),
+            Line::Gift(gift) => give(store, &mut folder, place, gift)?,
+            Line::Test(it) => test(rt, &mut folder, it, &mut tally)?,
         }
     }
     Ok(tally)
 }
 
-/// Makes the runs of a list, and says whether all end as they must.
+/// Does what a list says, and whether all was as it must be.
 fn holds<R: Threads + Wait + Sync + Print, S: Store>(
     rt: &R,
     alloc: Global,

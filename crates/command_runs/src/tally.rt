@@ -1,4 +1,4 @@
-//! How many runs there were, and how many of them differ.
+//! How many runs there were, and what of them was otherwise than it must be.
 
 use std::io;
 
@@ -7,7 +7,7 @@ use std::io;
 pub(crate) struct Tally {
     folders: u64,
     runs: u64,
-    differing: u64,
+    differences: u64,
 }
 
 impl Tally {
@@ -16,7 +16,7 @@ impl Tally {
         Tally {
             folders: 0,
             runs: 0,
-            differing: 0,
+            differences: 0,
         }
     }
 
@@ -25,24 +25,29 @@ impl Tally {
         self.folders = self.folders.saturating_add(1);
     }
 
-    /// Counts a run.
+    /// Counts a run, and whether it ended otherwise than it must.
     pub(crate) fn count_run(&mut self, differs: bool) {
         self.runs = self.runs.saturating_add(1);
+        self.count_look(differs);
+    }
+
+    /// Counts whether a file is otherwise than a run must leave it.
+    pub(crate) fn count_look(&mut self, differs: bool) {
         if differs {
-            self.differing = self.differing.saturating_add(1);
+            self.differences = self.differences.saturating_add(1);
         }
     }
 
-    /// Prints the last line of a list, and says whether all ended as they must.
+    /// Prints the last line of a list, and says whether all was as it must be.
     pub(crate) fn conclude(&self, rt: &impl Print, list: &str) -> io::Result<bool> {
         let folders = self.folders;
         let runs = self.runs;
-        let differing = self.differing;
-        if differing == 0 {
+        let differences = self.differences;
+        if differences == 0 {
             println!(rt; "{list}: {runs} runs in {folders} folders end as they must")?;
         } else {
-            println!(rt; "{list}: {differing} of {runs} runs in {folders} folders differ")?;
+            println!(rt; "{list}: {differences} differences in {runs} runs in {folders} folders")?;
         }
-        Ok(differing == 0)
+        Ok(differences == 0)
     }
 }
