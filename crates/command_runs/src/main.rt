@@ -1,12 +1,12 @@
 //! Runs commands over files in memory, and compares what each prints and the status that it ends with.
 //!
-//! This is the test of the whole: of the examples, whose output stands beside them for readers, of cases that were worked
-//! out by hand, of files that lie, and of stores and sinks that fail. It is a program and not a crate of test functions,
-//! since what is run is data: so the crate, which stands on all others, is proved once however many runs there are, and
-//! they are made by what each of the two compilers builds.
+//! This is the test of the whole: of the examples, whose output stands beside them for readers, of cases that were
+//! worked out by hand, of files that lie, and of stores and sinks that fail. It is a program and not a crate of test
+//! functions, since what is run is data: so the crate, which stands on all others, is proved once however many runs
+//! there are, and they are made by what each of the two compilers builds.
 //!
-//! What is run stands in lists among the crate's data. A list is read from top to bottom, a line at a time, of words with
-//! single spaces between:
+//! What is run stands in lists among the crate's data. A list is read from top to bottom, a line at a time, of words
+//! with single spaces between:
 //!
 //! ```text
 //! # a comment; so is an empty line
@@ -22,31 +22,32 @@
 //! same out wanted                  there is a file `out` now, with the bytes of `wanted`
 //! ```
 //!
-//! A command is handed to [`commands::tlsld`] as the program `tlsld` hands it, with a store in memory that has the files
-//! of the folder so far, and a sink in memory. For each run that differs a line is printed, and at the end of each list
-//! one that counts; the status is 1 if any differs, or if a list has another line or names a file that is not there.
+//! A command is handed to [`commands::tlsld`] as the program `tlsld` hands it, with a store in memory that has the
+//! files of the folder so far, and a sink in memory. For each run that differs a line is printed, and at the end of
+//! each list one that counts; the status is 1 if any differs, or if a list has another line or names a file that is
+//! not there.
 //!
-//! **Rows make tables.** A row says in words what it changes, then the change itself, the command, and the status with the
-//! one line that is printed, or `< wanted` for all lines of that file. Columns may have more spaces for looks. The change
-//! is there for the row's run alone:
+//! **Rows make tables.** A row says in words what it changes, then the change itself, the command, and the status with
+//! the one line that is printed, or `< wanted` for all lines of that file. Columns may have more spaces for looks. The
+//! change stands for the row's run alone:
 //!
 //! ```text
-//! row as it stands                 | -                        | run job          | 0 t1 l1 g0 = 000000000000002a
-//! row e_machine is 3               | put a.o 18 03            | run job          | 6 object a.o section 0 entry 0 NotRelocatable
-//! row a value and a size           | put a.o 645 01, 653 ffff | run job          | 6 object a.o section 5 entry 2 SymbolRange
-//! row the first {n} bytes          | cut image 0..64          | show image       | 8 image {n} Truncated
-//! row the second fetch fails       | store 2                  | run job          | 3 store fault
-//! row the sink fails, 6 bytes in   | sink 6                   | link job app out | 4 linked app 12485
+//! row as it stands               | -                        | run job          | 0 t1 l1 g0 = 000000000000002a
+//! row e_shstrndx is 8            | put a.o 62 08            | run job          | 6 object a.o section 0 entry 0 NotRelocatable
+//! row x has other numbers        | put a.o 645 01, 653 ffff | run job          | 6 object a.o section 5 entry 2 SymbolRange
+//! row the first {n} bytes        | cut image 0..64          | show image       | 8 image {n} Truncated
+//! row the first object is not    | store 2                  | run job          | 3 store fault
+//! row six bytes of the line are  | sink 6                   | link job app out | 4 linked app 12485
 //! ```
 //!
-//! `put` gives a file these bytes, in hexadecimal digits, from an offset on, or from several; at the file's end they are
-//! added. `cut` makes a run for each length from the first to the one before the last, all of them shorter than the file,
-//! with the length in place of `{n}`. `store` lets the store fail at a call, counted from 1. `sink` lets the sink take so
-//! many bytes of what it is given, and fail: as much of the expected text is wanted.
+//! `put` gives a file these bytes, in hexadecimal digits, from an offset on, or from several; at the file's end they
+//! are added. `cut` makes a run for each length from the first to the one before the last, all of them shorter than the
+//! file, with the length in place of `{n}`. `store` lets the store fail at a call, counted from 1. `sink` lets the sink
+//! take so many bytes of what it is given, and fail: as much of the expected text is wanted.
 //!
-//! The list of the examples and the files beside it are copies, which tests/example_data.py writes; it knows which file
-//! of an example belongs to which command. The others are written by hand: `cases/README.md` and `lying/README.md` say
-//! what their objects and images are.
+//! The list of the examples and the files beside it are copies, which tests/example_data.py writes; it knows which
+//! file of an example belongs to which command. The others are written by hand: `cases/README.md` and
+//! `lying/README.md` say what their objects and images are.
 #![tactic(auto)]
 
 mod difference;
