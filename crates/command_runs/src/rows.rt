@@ -91,14 +91,11 @@ fn answer_of(text: &str) -> Answer<'_> {
 
 /// A row as the rest of a line has it, by its four columns.
 pub(crate) fn row_of(text: &str) -> Option<Row<'_>> {
-    let mut columns = text.split('|');
+    let mut columns = text.splitn(4, '|');
     let about = columns.next()?.trim();
     let change = change_of(columns.next()?.trim())?;
     let words = columns.next()?.trim();
     let (status, answer) = columns.next()?.trim().split_once(' ')?;
-    if columns.next().is_some() {
-        return None;
-    }
     Some(Row {
         about,
         change,
