@@ -329,28 +329,36 @@ def races(tlsld, runs):
     return wrong == 0
 
 
-def measured(tlsld, room, *words):
-    """The milliseconds that a command takes, and the most memory that it has at a time, in KiB."""
+def measured(tlsld, room, command):
+    """The milliseconds that a command takes for a long text, and the KiB of memory that it has had when it puts it."""
     begin = time.monotonic()
-    process = subprocess.Popen([tlsld, *words], cwd=room, stdout=subprocess.DEVNULL)
-    _, status, used = os.wait4(process.pid, 0)
-    process.returncode = os.waitstatus_to_exitcode(status)
-    return (time.monotonic() - begin) * 1000, used.ru_maxrss, process.returncode
+    process = subprocess.Popen([tlsld, command, "job"], cwd=room, stdout=subprocess.PIPE, pipesize=4096)
+    os.read(process.stdout.fileno(), 1)
+    # it waits for room in the pipe now (what wait4 tells of a process counts what its parent had, too)
+    with open(f"/proc/{process.pid}/status") as file:
+        most = re.search(r"VmHWM:\s+(\d+)", file.read())
+    process.stdout.read()
+    process.wait()
+    return (time.monotonic() - begin) * 1000, int(most[1])
 
 
 def cost(tlsld):
-    """Whether `race` costs no more time than `run`, where 64 threads only call, and at most a MiB of memory a thread beyond it."""
-    jobs = [
+    """Whether 64 threads that only call take no longer by `race` than by `run`, and at most a MiB of memory each beyond it."""
+    holds = True
+    for case in [
         spread("tests/worked/run-loop", 64, 10, ["call app f 30000 0 0"]),
-        spread("tests/worked/run-sixty-four-threads", 64, 500, ["call app f 0 0 0"]),
-        stored("tests/worked/run-sixty-four-threads"),
-    ]
-    for case in jobs:
+        spread("tests/worked/run-sixty-four-threads", 64, 100, ["call app f 0 0 0"]),
+        spread("tests/worked/run-sixty-four-threads", 64, 3, ["call app f 0 0 0"]),
+    ]:
         with tempfile.TemporaryDirectory() as room:
             prepare(case, room)
-            pairs = [[measured(tlsld, room, command, "job") for command in ("run", "race")] for _ in range(7)]
-        run, raced = [[min(one[at] for one in column) for at in (0, 1)] for column in zip(*pairs)]
-        print(case.name, run, raced, pairs)
+            pairs = [(measured(tlsld, room, "run"), measured(tlsld, room, "race")) for _ in range(7)]
+        (run, run_most), (raced, raced_most) = ([min(it) for it in zip(*one)] for one in zip(*pairs))
+        more = (raced_most - run_most) / 64
+        holds = holds and raced <= run and more <= 1024
+        print(f"{case.name}: run {run:.1f} ms, race {raced:.1f} ms, and {more:.0f} KiB a thread more")
+    print(f"race: costs {'no more time than run, and at most a MiB a thread' if holds else 'TOO MUCH'}")
+    return holds
 
 
 def main():
