@@ -45,10 +45,11 @@ class Job:
         own = {thread: [row[1:] for row in rows if row[0] == str(thread)] for thread in range(1, self.threads + 1)}
         self.lines = [(thread, number, words) for thread in own for number, words in enumerate(own[thread], 1)]
 
-    def in_order(self, order):
-        """The job with another order of turns."""
+    def in_order_of(self, lines):
+        """The job with turns that see just as many events as the looks of these lines: by points, and what adds an event last."""
+        looks = sorted((point, bool(line.event), line.thread) for line in lines for point in line.points)
         kept = [row for row in self.text.splitlines() if row.split()[:1] != ["order"]]
-        return "\n".join([*kept, " ".join(["order", *map(str, order)]), ""])
+        return "\n".join([*kept, " ".join(["order", *(str(thread) for _, _, thread in looks)]), ""])
 
 
 @dataclass(frozen=True)
@@ -72,7 +73,7 @@ class Line:
 
 @dataclass(frozen=True)
 class Modules:
-    """What a history leaves: how many instances were made, and of each open image which one it is, and its opens less its closes."""
+    """What a history leaves: how many instances were made, and of each open image which one it is, and its opens less closes."""
     made: int
     open: dict
 
@@ -176,11 +177,6 @@ def judge(job, text):
     return lines
 
 
-def order_of(lines):
-    """An order of turns in which each look sees just as many events: by points, the one that adds an event last."""
-    return [thread for _, _, thread in sorted((point, bool(it.event), it.thread) for it in lines for point in it.points)]
-
-
 @dataclass(frozen=True)
 class Case:
     """A job's text, and the folder that its objects lie in."""
@@ -205,7 +201,7 @@ def spread(place, threads, again, lines):
 
 
 def cases():
-    """Twenty jobs of 2 to 64 threads: late modules, which one thread opens or many do, the surplus, descriptors, and none of these."""
+    """Twenty jobs of 2 to 64 threads: late modules that one thread opens or all do, the surplus, descriptors, and none of these."""
     examples = ["race", "late_module", "id_used_again", "descriptors", "initial_exec", "startup_module"]
     worked = ["run-unloaded", "run-threads", "run-block-is-gone", "run-call-symbol", "run-sixty-four-threads"]
     late = ["open plug", "call plug f 7 0 0", "peek plug v 4", "close plug"]
@@ -237,22 +233,28 @@ def wrong_texts(text):
         order = [other if it == one else one if it == other else it for it in range(len(events))]
         return with_events([events[it] for it in order])
 
-    stale = {"l4 g2 opened 3": "l4 g2 opened 2", "l3 g1 closed": "l3 g1 refused not-open", "l5 g3 bytes 05000000": "l5 g3 refused not-open",
-        "l1 g1,1 = 0000000000000069": "l1 g1 refused not-open", "l2 g1,2 fault unloaded": "l2 g1,2 = 000000000000006a"}
+    points = list(re.finditer(r"(?<=[g,])[1-9]", text))
+    stale = [
+        ("t1 l3 g1 closed", "t1 l3 g1 refused not-open"),
+        ("t1 l4 g2 opened 3", "t1 l4 g2 opened 2"),
+        ("t1 l5 g3 bytes 05000000", "t1 l5 g3 refused not-open"),
+        ("t2 l1 g1,1 = 0000000000000069", "t2 l1 g1 refused not-open"),
+        ("t2 l2 g1,2 fault unloaded", "t2 l2 g1,2 = 000000000000006a"),
+    ]
     return {
         "two events exchanged": [exchanged(one, other) for one, other in combinations(range(len(events)), 2)],
-        "a point one lower": [f"{text[:it.start()]}{int(it[0]) - 1}{text[it.end():]}" for it in re.finditer(r"(?<=[g,])[1-9]", text)],
+        "a point one lower": [f"{text[:it.start()]}{int(it[0]) - 1}{text[it.end():]}" for it in points],
         "an event left out": ["".join(row for row in rows if row[:2] != f"e{index}") for index in range(len(events))],
-        "an event left out, and the others counted anew": [with_events(events[:it] + events[it + 1:]) for it in range(len(events))],
+        "an event left out, the others counted anew": [with_events(events[:it] + events[it + 1:]) for it in range(len(events))],
         "an event said twice": [with_events([*events, event]) for event in events],
-        "a stale answer": [text.replace(old, new) for old, new in stale.items()],
+        "a stale answer": [text.replace(old, new) for old, new in stale],
     }
 
 
-def refusal(job, text):
-    """Why the rule refuses a text, or None."""
+def complaint(judged, *words):
+    """What is wrong by a call that judges these, or None."""
     try:
-        judge(job, text)
+        judged(*words)
         return None
     except Wrong as why:
         return str(why)
@@ -260,11 +262,10 @@ def refusal(job, text):
 
 def selftest():
     """Whether the rule takes a lawful text, and no wrong one; says for each kind how many it refuses, and why the last of them."""
-    example = stored("examples/late_module")
-    job, lawful = Job(example.text), stored("examples/late_module", "transcript").text
-    holds = refusal(job, lawful) is None
+    job, lawful = Job(stored("examples/late_module").text), stored("examples/late_module", "transcript").text
+    holds = complaint(judge, job, lawful) is None
     for kind, texts in wrong_texts(lawful).items():
-        said = [refusal(job, text) for text in texts]
+        said = [complaint(judge, job, text) for text in texts]
         holds = holds and None not in said
         print(f"refused: {kind}, {len(said) - said.count(None)} of {len(said)}: {said[-1]}")
     print(f"race: the rule {'takes a lawful text, and refuses the wrong ones' if holds else 'IS WRONG'}")
@@ -294,7 +295,7 @@ def printed(tlsld, room, *words):
 def judge_by_turns(tlsld, room, job, text, setting):
     """Refuses a text that is not lawful, and one that `run` does not print in an order with the same points."""
     with open(f"{room}/turns", "w") as file:
-        file.write(job.in_order(order_of(judge(job, text))))
+        file.write(job.in_order_of(judge(job, text)))
     turned = printed(tlsld, room, "run", "turns", *setting)
     for row, wanted in zip_longest(text.splitlines(), turned.splitlines()):
         if row != wanted:
@@ -316,16 +317,26 @@ def race(tlsld, case, runs):
     print(f"{job.threads:3} threads: {runs} runs, {found} texts: {case.name}", flush=True)
 
 
+def refuses_old_bytes(tlsld):
+    """Whether a text is refused that shows bytes from before its module was opened anew: by turns, for the rule has no bytes."""
+    case, lawful = stored("examples/late_module"), stored("examples/late_module", "transcript").text
+    with tempfile.TemporaryDirectory() as room:
+        prepare(case, room)
+        said = [complaint(judge_by_turns, tlsld, room, Job(case.text), text, [])
+            for text in (lawful, lawful.replace("bytes 05000000", "bytes 0c000000"))]
+    print(f"refused by turns: {said[1]}")
+    return said[0] is None and said[1] is not None
+
+
 def races(tlsld, runs):
     """Whether all texts of all jobs are as they have to be."""
     wrong = 0
     for case in cases():
-        try:
-            race(tlsld, case, runs)
-        except Wrong as why:
+        said = complaint(race, tlsld, case, runs)
+        if said:
             wrong += 1
-            print(f"WRONG: {case.name}: {why}", flush=True)
-    print(f"race: {runs} runs of each of {len(cases())} jobs, {wrong} of these wrong")
+            print(f"WRONG: {case.name}: {said}", flush=True)
+    print(f"race: {runs} runs of each of {len(cases())} jobs, {wrong} jobs with a wrong one")
     return wrong == 0
 
 
@@ -367,7 +378,8 @@ def main():
     if "--cost" in sys.argv:
         holds = cost(tlsld)
     else:
-        holds = selftest() and ("--selftest" in sys.argv or races(tlsld, int(words[1]) if len(words) > 1 else 1000))
+        runs = int(words[1]) if len(words) > 1 else 1000
+        holds = selftest() and ("--selftest" in sys.argv or refuses_old_bytes(tlsld) and races(tlsld, runs))
     sys.exit(0 if holds else 1)
 
 
