@@ -40,6 +40,7 @@ EXAMPLES = [f"late_module {words} job" for words in ("run", "check", "race")] + 
 MANY_THREADS = "run-sixty-four-threads race job"
 SAID = (1, b"out of memory\n")
 SILENT = (1, b"")
+USAGE = 2
 SECONDS = 30
 MIB = 1 << 20
 
@@ -74,23 +75,23 @@ class Bench:
     def __init__(self, tlsld, shim, counts):
         self.tlsld, self.shim, self.counts = tlsld, shim, counts
 
-    def run(self, case, room, limit=None, **more):
+    def run(self, words, room, limit=None, **more):
         """The status and the output of a command, or None for both where it hangs."""
         def set_limit():
             if limit:
                 resource.setrlimit(resource.RLIMIT_AS, (limit, limit))
         try:
-            found = subprocess.run([self.tlsld, *case.words], cwd=room, env={**os.environ, **more}, stdout=subprocess.PIPE,
+            found = subprocess.run([self.tlsld, *words], cwd=room, env={**os.environ, **more}, stdout=subprocess.PIPE,
                                    stderr=subprocess.DEVNULL, timeout=SECONDS, preexec_fn=set_limit)
         except subprocess.TimeoutExpired:
             return None, None
         return found.returncode, found.stdout
 
-    def refuse(self, case, room, **more):
+    def refuse(self, words, room, **more):
         """What a command ends with under the shim, and how many requests and starts it made."""
         with open(self.counts, "wb") as file:
             file.write(bytes(16))
-        ended = self.run(case, room, LD_PRELOAD=self.shim, COUNT=self.counts, **more)
+        ended = self.run(words, room, LD_PRELOAD=self.shim, COUNT=self.counts, **more)
         with open(self.counts, "rb") as file:
             return ended, struct.unpack("<QQ", file.read())
 
@@ -173,14 +174,15 @@ def judge(case, number, ended, whole, tally):
 
 def refuse_memory(bench, case, room, whole, tally):
     """Refuses each request once. Answers how many threads the command starts."""
-    files, new_files = whole
+    ended_whole, files_whole = whole
     before = contents(room)
     for number in itertools.count(1):
-        ended, (requests, starts) = bench.refuse(case, room, REFUSE=str(number))
-        wrong = None if requests >= number or is_same(case, ended, files) else "differs, with nothing refused"
+        ended, (requests, starts) = bench.refuse(case.words, room, REFUSE=str(number))
         if requests >= number:
-            wrong = judge(case, number, ended, files, tally)
-        wrong = wrong or wrong_files(case, before, contents(room), new_files)
+            wrong = judge(case, number, ended, ended_whole, tally)
+        else:
+            wrong = None if is_same(case, ended, ended_whole) else "differs, with nothing refused"
+        wrong = wrong or wrong_files(case, before, contents(room), files_whole)
         if wrong:
             tally.wrong.append(f"request {number} of {requests}: {wrong}")
         if requests < number:
@@ -191,32 +193,31 @@ def refuse_memory(bench, case, room, whole, tally):
 def refuse_starts(bench, case, room, whole, starts, tally):
     """Refuses each start of a thread once, alone and with all that follow."""
     for later, number in itertools.product("01", range(1, starts + 1)):
-        ended, _ = bench.refuse(case, room, UNSTARTED=str(number), LATER=later)
+        ended, _ = bench.refuse(case.words, room, UNSTARTED=str(number), LATER=later)
         tally.starts += 1
         if not is_same(case, ended, whole):
             tally.wrong.append(f"start {number}, later ones {later}: {ended[0]} and {str(ended[1])[:60]}")
 
 
+def least_room(bench, room):
+    """The fewest MiB, in steps of four, in which the program can be loaded and say that there are no words."""
+    return next(mib for mib in itertools.count(4, 4) if bench.run([], room, limit=mib * MIB)[0] == USAGE)
+
+
 def limit_room(bench, case, room, whole, tally):
-    """Limits how much the program may hold at once, from where it can just be loaded to where it ends as without a limit."""
-    for mib in itertools.count(4, 4):
-        loaded = Case("job-number")
-        loaded.words = []
-        if bench.run(loaded, room, limit=mib * MIB)[0] != 2:
-            continue
-        ended = bench.run(case, room, limit=mib * MIB)
+    """Limits how much the program may hold at once, up to more than all stacks of 64 threads take."""
+    for mib in range(least_room(bench, room), 1024, 4):
+        ended = bench.run(case.words, room, limit=mib * MIB)
         tally.limits += 1
         if ended != SAID and not is_same(case, ended, whole):
             tally.wrong.append(f"{mib} MiB: {ended[0]} and {str(ended[1])[:60]}")
-        if mib > 1024:
-            return
 
 
 def tally_of(bench, name):
     case, tally = Case(name), Tally()
     with tempfile.TemporaryDirectory() as room:
         case.lay_files(room)
-        whole = bench.run(case, room)
+        whole = bench.run(case.words, room)
         new_files = contents(room)
         case.lay_files(room)
         starts = refuse_memory(bench, case, room, (whole, new_files), tally)
