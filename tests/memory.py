@@ -1,63 +1,249 @@
 #!/usr/bin/env python3
-"""memory.py [TLSLD] [CASE..]: runs cases of tests/worked again and again, each time with another request for memory refused.
+"""memory.py [TLSLD] [CASE..]: runs commands again and again, each time with another request for memory refused.
 
-A refused request ends a command with status 1 and the line `out of memory`, or with nothing said where the command had not begun.
-Or it changes nothing at all, where the program can do without. No other output may come. Without names of cases it takes one of
-each command, and runs of late modules, of data and of many threads. Needs gcc, which makes the shim of tests/refuse.c.
+A refused request ends a command with status 1 and the line `out of memory`. Or it changes nothing at all, where the program can do
+without. Nothing else may come, no run may hang, and no file may change but OUT of `link`, which is the old or the whole new one.
+Status 1 with nothing said passes only before the first refusal of which something is said, and within as many requests as
+reading the words takes: nobody has read yet what the command is. These are counted apart.
+
+`race` has threads, so the request with the number n may come in any of them, and how many there are may differ from run to run.
+So each command goes on until a run in which none was refused. What `race` prints hangs on who comes first: its lines and events
+then have to fit together. Where threads are started, each start is refused too, alone and with all later ones; and the room for
+all that the program holds is limited, in many steps. Neither may change what is printed.
+
+Without names of cases it takes all below. A folder of tests/worked is a case too. Needs gcc, which makes the shim of tests/refuse.c.
 """
+import itertools
 import os
+import re
+import resource
 import shlex
 import shutil
+import struct
 import subprocess
 import sys
 import tempfile
 
 HERE = os.path.dirname(os.path.abspath(__file__))
 OWN = {"words", "status", "output", "facts"}
-CASES = [
+WORKED = [
     "link-local-dynamic", "show-pie", "sites-general-dynamic", "run-late-module", "run-unloaded", "run-nested-opens",
     "run-surplus", "run-descriptor-in-late-module", "run-data-of-threads", "run-id-used-again", "run-sixty-four-threads",
-    "job-number", "object-entsize", "refused-undefined",
+    "job-number", "object-entsize", "refused-undefined", "race-late", "race-late-kept", "race-surplus", "race-writable",
+    "race-writable-later",
 ]
-SAID = b"out of memory\n"
+EXAMPLES = [f"late_module {words} job" for words in ("run", "check", "race")] + [
+    "late_module run job-all", "late_module check job-all", "late_module race job-all", "late_module run job --no-relax",
+    "late_module link job plug out", "late_module link job app out --no-relax", "late_module sites job plug",
+    "late_module gen 4", "race race job", "race race job-alone", "race race job-apart", "race check job-apart",
+]
+MANY_THREADS = "run-sixty-four-threads race job"
+SAID = (1, b"out of memory\n")
+SILENT = (1, b"")
+USAGE = 2
+SECONDS = 30
+MIB = 1 << 20
 
 
-def run(tlsld, words, room, **more):
-    """What the command ends with, and what it prints."""
-    found = subprocess.run([tlsld, *words], cwd=room, env={**os.environ, **more}, capture_output=True, timeout=60)
-    return found.returncode, found.stdout
+class Case:
+    """A command, and the folder whose files it runs among."""
+
+    def __init__(self, name):
+        first, _, words = name.partition(" ")
+        worked = f"{HERE}/worked/{first}"
+        self.name = name
+        self.folder = worked if os.path.isdir(worked) else f"{HERE}/../examples/{first}"
+        self.words = shlex.split(words or open(f"{worked}/words").read())
+
+    def lay_files(self, room):
+        """Puts the files into a folder of their own, with an old OUT where the command writes one."""
+        for name in os.listdir(self.folder):
+            if name not in OWN and os.path.isfile(f"{self.folder}/{name}"):
+                shutil.copy(f"{self.folder}/{name}", room)
+        if self.words[0] == "link":
+            with open(f"{room}/{self.words[3]}", "wb") as out:
+                out.write(b"old")
+
+    def most_silent(self):
+        """How many requests are made before the command is known: one at the start, and two a word at the most."""
+        return 1 + 2 * len(self.words)
 
 
-def complaint(tlsld, shim, folder):
-    """How many requests a case makes, and what is wrong with it, or None."""
-    words = shlex.split(open(f"{folder}/words").read())
+class Bench:
+    """The program, the shim, and a place for the shim's counts."""
+
+    def __init__(self, tlsld, shim, counts):
+        self.tlsld, self.shim, self.counts = tlsld, shim, counts
+
+    def run(self, words, room, limit=None, **more):
+        """The status and the output of a command, or None for both where it hangs."""
+        def set_limit():
+            if limit:
+                resource.setrlimit(resource.RLIMIT_AS, (limit, limit))
+        try:
+            found = subprocess.run([self.tlsld, *words], cwd=room, env={**os.environ, **more}, stdout=subprocess.PIPE,
+                                   stderr=subprocess.DEVNULL, timeout=SECONDS, preexec_fn=set_limit)
+        except subprocess.TimeoutExpired:
+            return None, None
+        return found.returncode, found.stdout
+
+    def refuse(self, words, room, **more):
+        """What a command ends with under the shim, and how many requests and starts it made."""
+        with open(self.counts, "wb") as file:
+            file.write(bytes(16))
+        ended = self.run(words, room, LD_PRELOAD=self.shim, COUNT=self.counts, **more)
+        with open(self.counts, "rb") as file:
+            return ended, struct.unpack("<QQ", file.read())
+
+
+class Tally:
+    """What came of the refused requests of a case."""
+
+    def __init__(self):
+        self.said = self.silent = self.without = self.starts = self.limits = 0
+        self.wrong = []
+
+    def line(self, name):
+        return (f"{name:44}{self.said:7}{self.silent:7}{self.without:8}{self.starts:7}{self.limits:7}"
+                f"  {self.wrong[0] if self.wrong else 'holds'}")
+
+
+def contents(room):
+    """Each file of a folder, with its bytes."""
+    found = {}
+    for name in os.listdir(room):
+        with open(f"{room}/{name}", "rb") as file:
+            found[name] = file.read()
+    return found
+
+
+def fits(text):
+    """Whether the lines and the events of a transcript fit together, as those of `race` do whoever came first."""
+    added, shown, last = {}, {}, {}
+    for line in text.decode().splitlines():
+        event = re.fullmatch(r"e(\d+) (t\d+ l\d+) (open|close) \S+", line)
+        if event:
+            shown[int(event[1])] = (event[2], event[3])
+            continue
+        said = re.fullmatch(r"((t\d+) l\d+) g([\d,]+) (\S.*)", line)
+        if not said:
+            return False
+        looks = [last.get(said[2], 0), *map(int, said[3].split(","))]
+        if looks != sorted(looks):
+            return False
+        is_open, is_close = said[4].startswith("opened"), said[4] == "closed"
+        last[said[2]] = looks[-1] + (is_open or is_close)
+        if is_open or is_close:
+            added[looks[-1]] = (said[1], "open" if is_open else "close")
+    return added == shown and sorted(shown) == list(range(len(shown)))
+
+
+def heads(text):
+    """The thread and the line of each line of a transcript, events left out."""
+    return re.findall(rb"^t\d+ l\d+ ", text, re.M)
+
+
+def is_same(case, ended, whole):
+    """Whether a run printed what the command prints with nothing refused."""
+    if ended == whole or case.words[0] != "race" or None in ended:
+        return ended == whole
+    return ended[0] == whole[0] == 0 and heads(ended[1]) == heads(whole[1]) and fits(ended[1])
+
+
+def wrong_files(case, before, after, whole):
+    """What is wrong with the files that a run left, or None."""
+    for name in before.keys() | after.keys():
+        is_out = case.words[0] == "link" and name == case.words[3]
+        if after.get(name) != before.get(name) and not (is_out and after.get(name) == whole.get(name)):
+            return f"{name} changed, or should not be there"
+    return None
+
+
+def judge(case, number, ended, whole, tally):
+    """Counts what came of a refused request, and says what is wrong with it, or None."""
+    if ended == SAID and whole != SAID:
+        tally.said += 1
+    elif is_same(case, ended, whole):
+        tally.without += 1
+    elif ended == SILENT and not tally.said and number <= case.most_silent():
+        tally.silent += 1
+    else:
+        return "hangs" if ended[0] is None else f"status {ended[0]} and {ended[1][:60]!r}"
+    return None
+
+
+def refuse_memory(bench, case, room, whole, tally):
+    """Refuses each request once. Answers how many threads the command starts."""
+    ended_whole, files_whole = whole
+    before = contents(room)
+    for number in itertools.count(1):
+        ended, (requests, starts) = bench.refuse(case.words, room, REFUSE=str(number))
+        if requests >= number:
+            wrong = judge(case, number, ended, ended_whole, tally)
+        else:
+            wrong = None if is_same(case, ended, ended_whole) else "differs, with nothing refused"
+        wrong = wrong or wrong_files(case, before, contents(room), files_whole)
+        if wrong:
+            tally.wrong.append(f"request {number} of {requests}: {wrong}")
+        if requests < number:
+            return starts
+        case.lay_files(room)
+
+
+def refuse_starts(bench, case, room, whole, starts, tally):
+    """Refuses each start of a thread once, alone and with all that follow."""
+    for later, number in itertools.product("01", range(1, starts + 1)):
+        ended, _ = bench.refuse(case.words, room, UNSTARTED=str(number), LATER=later)
+        tally.starts += 1
+        if not is_same(case, ended, whole):
+            tally.wrong.append(f"start {number}, later ones {later}: {ended[0]} and {str(ended[1])[:60]}")
+
+
+def least_room(bench, room):
+    """The fewest MiB, in steps of four, in which the program can be loaded and say that there are no words."""
+    return next(mib for mib in itertools.count(4, 4) if bench.run([], room, limit=mib * MIB)[0] == USAGE)
+
+
+def limit_room(bench, case, room, whole, tally):
+    """Limits how much the program may hold at once, up to more than all stacks of 64 threads take."""
+    for mib in range(least_room(bench, room), 1024, 4):
+        ended = bench.run(case.words, room, limit=mib * MIB)
+        tally.limits += 1
+        if ended != SAID and not is_same(case, ended, whole):
+            tally.wrong.append(f"{mib} MiB: {ended[0]} and {str(ended[1])[:60]}")
+
+
+def tally_of(bench, name):
+    case, tally = Case(name), Tally()
     with tempfile.TemporaryDirectory() as room:
-        for name in set(os.listdir(folder)) - OWN:
-            shutil.copy(f"{folder}/{name}", room)
-        whole = run(tlsld, words, room)
-        run(tlsld, words, room, LD_PRELOAD=shim, COUNT=f"{room}/count")
-        count = int(open(f"{room}/count").read())
-        for number in range(1, count + 1):
-            ended = run(tlsld, words, room, LD_PRELOAD=shim, REFUSE=str(number))
-            if ended != whole and ended not in ((1, SAID), (1, b"")):
-                return count, f"request {number} of {count}: status {ended[0]} and {ended[1][:80]!r}"
-        return count, None
+        case.lay_files(room)
+        whole = bench.run(case.words, room)
+        new_files = contents(room)
+        case.lay_files(room)
+        starts = refuse_memory(bench, case, room, (whole, new_files), tally)
+        refuse_starts(bench, case, room, whole, starts, tally)
+        if name == MANY_THREADS:
+            limit_room(bench, case, room, whole, tally)
+    return tally
 
 
 def main():
     built = f"{HERE}/../crates/tlsld/out/tlsld"
     tlsld = os.path.abspath(sys.argv[1] if len(sys.argv) > 1 else built)
-    bad = total = 0
+    tallies = []
     with tempfile.TemporaryDirectory() as room:
         shim = f"{room}/refuse.so"
         subprocess.run(["gcc", "-O1", "-shared", "-fPIC", f"{HERE}/refuse.c", "-o", shim, "-ldl"], check=True)
-        for name in sys.argv[2:] or CASES:
-            count, wrong = complaint(tlsld, shim, f"{HERE}/worked/{name}")
-            total += count
-            if wrong:
-                bad += 1
-                print(f"{name}: {wrong}")
-    print(f"memory: {total} requests were refused, one at a time; {bad} cases do not hold")
+        bench = Bench(tlsld, shim, f"{room}/counts")
+        print(f"{'case':44}{'said':>7}{'silent':>7}{'without':>8}{'starts':>7}{'limits':>7}")
+        for name in sys.argv[2:] or [*WORKED, *EXAMPLES, MANY_THREADS]:
+            tallies.append(tally_of(bench, name))
+            print(tallies[-1].line(name), flush=True)
+    bad = sum(1 for tally in tallies if tally.wrong)
+    total = {key: sum(getattr(tally, key) for tally in tallies) for key in ("said", "silent", "without", "starts", "limits")}
+    print(f"memory: {total['said']} refused requests were said, {total['silent']} ended before the words were read with nothing said, "
+          f"{total['without']} changed nothing; {total['starts']} starts of threads were refused, and {total['limits']} limits set; "
+          f"{bad} cases do not hold")
     sys.exit(1 if bad else 0)
 
 
