@@ -9,6 +9,8 @@
 mod built_objects;
 mod constants;
 #[cfg(test)]
+mod growth;
+#[cfg(test)]
 mod jobs;
 #[cfg(test)]
 mod link_faults_tests;

@@ -15,7 +15,7 @@ const CODE: &[u8] = b"\x64\x8b\x04\x25\0\0\0\0\xc3";
 /// An object with a function and a thread-local variable, as an assembler writes it: sections 1 `.text`, 2 its
 /// relocations, 3 `.tdata`, 4 `.tbss`, 5 `.symtab`, 6 `.strtab`, 7 `.shstrtab`; symbols 1 `f`, 2 `x`. Relocation 1 does
 /// nothing.
-fn example(alloc: Global) -> Result<Vec<u8>, AllocError> {
+pub(crate) fn example(alloc: Global) -> Result<Vec<u8>, AllocError> {
     let relocations = [
         rela(4, R_X86_64_TPOFF32, 2, 0),
         rela(4, R_X86_64_NONE, 0, 0),

@@ -9,6 +9,8 @@
 #[cfg(test)]
 mod compared;
 #[cfg(test)]
+mod growth;
+#[cfg(test)]
 mod histories;
 mod limits;
 #[cfg(test)]

@@ -6,7 +6,7 @@ ghost use Rattle.sequence_match.specs.Faults.{AreSites, Nowhere};
 ghost use Rattle.tls_symbols.specs.Bindings.{object_at};
 
 use crate::objects::object;
-use elf_object::Object;
+use elf_object::{Object, ObjectFault};
 use image_text::push_shown;
 use link_core::{Linked, link};
 use link_faults::{ImageKind, LinkFault};
@@ -49,7 +49,7 @@ fn read<'a>(alloc: Global, files: &'a [Vec<u8>]) -> Result<Vec<Object<'a>>, Fail
 }
 
 /// The sequences of each object. None has a loose relocation or a stray call.
-fn all_sites(alloc: Global, objects: &[Object]) -> Result<Vec<Vec<Site>>, Fail>
+fn all_sites(alloc: Global, objects: &[Object]) -> Result<Vec<Vec<Site>>, ObjectFault>
     ensures len { IfOk result (λ all. length all.items ≡ length objects.now) }
     ensures sites { IfOk result (λ all. (o : ℕ) → o < length objects.now
         → AreSites (object_at objects.now o) (slice_index_or (map (λ own. own.items) all.items) o [])) }
@@ -64,14 +64,14 @@ fn all_sites(alloc: Global, objects: &[Object]) -> Result<Vec<Vec<Site>>, Fail>
     Ok(all)
 }
 
-/// Links objects beside what is loaded with them.
-fn linked<'a>(
+/// Links objects beside what is loaded with them. Where there is no memory for their sequences, that is the error.
+pub(crate) fn linked<'a>(
     rt: &(impl Threads + Sync),
     alloc: Global,
     kind: &str,
     objects: &[Object<'a>],
     startup: &[Exports<'a>; 1],
-) -> Result<Result<Linked, LinkFault>, Fail> {
+) -> Result<Result<Linked, LinkFault>, ObjectFault> {
     let sites = all_sites(alloc, objects)?;
     let (kind, relax) = kind_of(kind);
     Ok(link(rt, alloc, objects, sites.as_slice(), kind, startup, relax))
@@ -88,7 +88,7 @@ fn answer<'a>(
     let module = read(alloc, module)?;
     let startup = [exports(alloc, module.as_slice())?];
     let objects = read(alloc, files)?;
-    linked(rt, alloc, kind, objects.as_slice(), &startup)
+    Ok(linked(rt, alloc, kind, objects.as_slice(), &startup)?)
 }
 
 /// Adds an image as text, and which sequences stand in the place of those of each object.

@@ -17,6 +17,8 @@ mod cases;
 #[cfg(test)]
 mod faults;
 #[cfg(test)]
+mod growth;
+#[cfg(test)]
 mod images;
 #[cfg(test)]
 mod objects;

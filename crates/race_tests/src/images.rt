@@ -1,9 +1,10 @@
 //! The images of the tests, in hexadecimal digits: a line for each run of bytes, with the place where it begins.
 //! Between runs there are zeros.
 
+use crate::loading::Unready;
+use hex::FromHexError;
 use image_file::{Image, read_owned};
 use std::alloc::Global;
-use std::test::Fail;
 
 /// A program with 4 bytes of thread-local data: `image_listing`'s image `program`.
 const PROGRAM: &str = "
@@ -55,29 +56,40 @@ f0 00400000000000000030000000000000003000000000000006000000000000000600000000000
 5153 00
 ";
 
+/// The bytes of hexadecimal digits.
+fn decoded(alloc: Global, digits: &str) -> Result<Vec<u8>, Unready> {
+    match hex::decode(alloc, digits) {
+        Ok(bytes) => Ok(bytes),
+        Err(FromHexError::OutOfMemory) => Err(Unready::OutOfMemory),
+        Err(_) => Err(Unready::Images),
+    }
+}
+
 /// The image of a text.
-fn image(alloc: Global, text: &str) -> Result<Image, Fail> {
+fn image(alloc: Global, text: &str) -> Result<Image, Unready> {
     let mut file = Vec::new(alloc);
     for line in text.lines() {
         if let Some((place, digits)) = line.split_once(' ') {
-            let place: usize = usize::from_str_radix(place, 16)?;
+            let place = usize::from_str_radix(place, 16)
+                .ok()
+                .ok_or(Unready::Images)?;
             if file.as_slice().len() > place || place > 65_536 {
-                return Err(Fail::from("place"));
+                return Err(Unready::Images);
             }
             file.resize(place, 0u8)?;
-            let bytes = hex::decode(alloc, digits).ok().ok_or("digits")?;
+            let bytes = decoded(alloc, digits)?;
             file.extend_from_slice(bytes.as_slice())?;
         }
     }
-    Ok(read_owned(file).ok().ok_or("image")?)
+    read_owned(file).ok().ok_or(Unready::Images)
 }
 
 /// The program.
-pub(crate) fn program_image(alloc: Global) -> Result<Image, Fail> {
+pub(crate) fn program_image(alloc: Global) -> Result<Image, Unready> {
     image(alloc, PROGRAM)
 }
 
 /// The module.
-pub(crate) fn plug_image(alloc: Global) -> Result<Image, Fail> {
+pub(crate) fn plug_image(alloc: Global) -> Result<Image, Unready> {
     image(alloc, PLUG)
 }

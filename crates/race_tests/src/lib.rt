@@ -5,10 +5,12 @@
 #![tactic(auto)]
 
 #[cfg(test)]
+mod growth;
+#[cfg(test)]
 mod images;
 mod loading;
 
-pub use loading::{loaded, race};
+pub use loading::{Unready, loaded, race};
 
 #[cfg(test)]
 mod two_calls;

@@ -8,7 +8,7 @@ ghost use Rattle.race_tests.specs.Plain.{IsPlain, IsPlainImage};
 
 use image_file::{FileKind, Image, ImageRelocation, LoaderKind};
 use job_race::race_job;
-use job_text::Job;
+use job_text::{Job, JobFault};
 use job_turns::has_data;
 use link_faults::ImageKind;
 use loaded_modules::Modules;
@@ -16,11 +16,25 @@ use loaded_modules::laws::late_images_come_last;
 use module_table::Registry;
 use racing_thread::Gate;
 use shared_modules::Shared;
-use std::alloc::Global;
+use std::alloc::{AllocError, Global};
 use std::sync::Wait;
 use std::test::Fail;
 use std::thread::Threads;
 use transcript_text::Transcript;
+
+/// Why a job is not there with its images.
+#[derive(Clone, Copy, PartialEq, Eq, Debug)]
+pub enum Unready {
+    OutOfMemory,
+    Job,
+    Images,
+}
+
+impl From<AllocError> for Unready {
+    fn from(_error: AllocError) -> Unready {
+        Unready::OutOfMemory
+    }
+}
 
 /// Whether a relocation names no variable, and wants no place at a fixed distance from the thread pointer.
 fn is_plain(relocation: ImageRelocation) -> bool
@@ -79,16 +93,17 @@ fn are_modules(job: &Job, images: &[Image]) -> bool
 }
 
 /// A job with these images.
-pub fn loaded(alloc: Global, text: &str, images: Vec<Image>) -> Result<(Job, Modules), Fail>
+pub fn loaded(alloc: Global, text: &str, images: Vec<Image>) -> Result<(Job, Modules), Unready>
     ensures { IfOk result (λ pair. pair.1.kinds ≡ map (λ image. image.kind) pair.0.images) }
 {
     late_images_come_last();
     let job = match Job::read(alloc, text.as_bytes()) {
         Ok(job) => job,
-        Err(_) => return Err(Fail::from("job")),
+        Err(JobFault::OutOfMemory) => return Err(Unready::OutOfMemory),
+        Err(_) => return Err(Unready::Job),
     };
     if !are_modules(&job, images.as_slice()) {
-        return Err(Fail::from("images"));
+        return Err(Unready::Images);
     }
     let modules = Modules::new(alloc, &job, images)?;
     Ok((job, modules))

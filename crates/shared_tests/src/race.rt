@@ -14,7 +14,7 @@ use std::thread;
 use std::thread::{Threads, join};
 
 /// A pass's first thread opens image 2 and closes it again; the number says how many of both were accepted.
-fn open_and_close<R: Wait>(
+pub(crate) fn open_and_close<R: Wait>(
     rt: &R,
     alloc: Global,
     shared: &Shared,

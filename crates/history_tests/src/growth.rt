@@ -1,0 +1,148 @@
+//! An open or a close whose event finds no memory is refused for that alone: every answer of the registry stays as it
+//! was, and the call made again is answered as it is where nothing is refused. A test that met this says so in a line.
+
+use module_table::{CloseRefusal, Closed, ImageInfo, OpenRefusal, Opened, Registry};
+use std::alloc::{AllocError, Global};
+use std::io::Print;
+use std::process::Abort;
+use std::test::Fail;
+
+/// A registry of a program, image 1, and of late images of 8 bytes, image 3 with static blocks; image 2 was opened so
+/// often.
+fn opened_so_often(rt: &impl Abort, alloc: Global, opens: u32) -> Result<Registry, AllocError> {
+    let program = ImageInfo {
+        late: false,
+        statics: false,
+        size: 4,
+        align: 4,
+    };
+    let plug = ImageInfo {
+        late: true,
+        statics: false,
+        size: 8,
+        align: 4,
+    };
+    let fixed = ImageInfo {
+        late: true,
+        statics: true,
+        size: 8,
+        align: 4,
+    };
+    let mut registry = Registry::new(alloc, &[program, plug, fixed], 4)?;
+    for line in 0..opens {
+        if registry.open(1, line, 2) == Err(OpenRefusal::OutOfMemory) {
+            return Err(AllocError);
+        }
+    }
+    assert!(rt; registry.len() == u64::from(opens));
+    Ok(registry)
+}
+
+/// Whether questions with a number have one answer.
+fn answer_alike(one: &Registry, other: &Registry, number: u32) -> bool {
+    one.live(number) == other.live(number)
+        && one.current(number) == other.current(number)
+        && one.instance_of(u64::from(number)) == other.instance_of(u64::from(number))
+        && one.offset(number) == other.offset(number)
+}
+
+/// Whether all questions have one answer; there are no more than three images, instances and ids.
+fn are_alike(one: &Registry, other: &Registry) -> bool {
+    if one.len() != other.len() || one.since(0) != other.since(0) {
+        return false;
+    }
+    for number in 0..5 {
+        if !answer_alike(one, other, number) {
+            return false;
+        }
+    }
+    true
+}
+
+/// Opens image 3 of a copy, whose list of events is full, and again where that is refused.
+fn open_twice(
+    rt: &(impl Abort + Print),
+    registry: &Registry,
+    want: Opened,
+) -> Result<(), AllocError> {
+    let mut tried = registry.copy()?;
+    let mut answer = tried.open(2, 1, 3);
+    if answer == Err(OpenRefusal::OutOfMemory) {
+        assert!(rt;
+            are_alike(&tried, registry),
+            "an open that was refused left something"
+        );
+        let _ = println!(rt; "refused: Registry::open, event {}", want.at);
+        answer = tried.open(2, 1, 3);
+    }
+    assert!(rt; answer == Ok(want), "an open: {answer:?}");
+    assert!(rt; tried.len() == registry.len() + 1 && tried.offset(want.instance) == Some(12));
+    Ok(())
+}
+
+/// Closes image 2 of a copy, whose list of events is full, and again where that is refused.
+fn close_twice(
+    rt: &(impl Abort + Print),
+    registry: &Registry,
+    want: Closed,
+) -> Result<(), AllocError> {
+    let mut tried = registry.copy()?;
+    let mut answer = tried.close(2, 1, 2);
+    if answer == Err(CloseRefusal::OutOfMemory) {
+        assert!(rt;
+            are_alike(&tried, registry),
+            "a close that was refused left something"
+        );
+        let _ = println!(rt; "refused: Registry::close, event {}", want.at);
+        answer = tried.close(2, 1, 2);
+    }
+    assert!(rt; answer == Ok(want), "a close: {answer:?}");
+    assert!(rt; tried.len() == registry.len() + 1 && !tried.live(2));
+    Ok(())
+}
+
+/// An open of image 3 behind so many opens of image 2.
+fn open_behind(
+    rt: &(impl Abort + Print),
+    alloc: Global,
+    opens: u32,
+    want: Opened,
+) -> Result<(), AllocError> {
+    let registry = opened_so_often(rt, alloc, opens)?;
+    open_twice(rt, &registry, want)
+}
+
+/// A close of image 2 behind the one open of it.
+fn close_behind(rt: &(impl Abort + Print), alloc: Global, want: Closed) -> Result<(), AllocError> {
+    let registry = opened_so_often(rt, alloc, 1)?;
+    close_twice(rt, &registry, want)
+}
+
+#[test]
+fn refused_first_open(rt: HostRuntime) -> Result<(), Fail> {
+    let want = Opened {
+        instance: 2,
+        id: 2,
+        at: 0,
+    };
+    let _ = open_behind(&rt, rt.alloc(), 0, want);
+    Ok(())
+}
+
+#[test]
+fn refused_later_open(rt: HostRuntime) -> Result<(), Fail> {
+    let want = Opened {
+        instance: 3,
+        id: 3,
+        at: 5,
+    };
+    let _ = open_behind(&rt, rt.alloc(), 5, want);
+    Ok(())
+}
+
+#[test]
+fn refused_close(rt: HostRuntime) -> Result<(), Fail> {
+    let want = Closed { at: 1, gone: true };
+    let _ = close_behind(&rt, rt.alloc(), want);
+    Ok(())
+}

@@ -1,0 +1,137 @@
+//! An open of a shared history, and a pass that takes what it lacks, are refused for want of memory alone, wherever they
+//! ask for some: pass, list and history stay as they were, and the call made again is answered as it is where nothing
+//! is refused. A test that met this says so in a line.
+
+ghost use Rattle.std.specs.Prelude.{IfOk};
+ghost use Rattle.shared_tests.specs.Races.{IsReady};
+
+use crate::race::open_and_close;
+use crate::start::{halve, started};
+use module_table::{Event, OpenRefusal, Opened};
+use shared_modules::{Pass, Shared};
+use std::alloc::{AllocError, Global};
+use std::io::Print;
+use std::process::Abort;
+use std::sync::Wait;
+use std::test::Fail;
+
+/// An event of thread 33, of image 2.
+fn event(line: u32, opens: bool) -> Event {
+    Event {
+        thread: 33,
+        line,
+        opens,
+        image: 2,
+    }
+}
+
+/// Whether a list has what the second pass did: image 2 was opened and closed again, twice.
+fn is_lacked(events: &[Event]) -> bool {
+    let lacked = [
+        event(1, true),
+        event(2, false),
+        event(1, true),
+        event(2, false),
+    ];
+    events == lacked.as_slice()
+}
+
+/// A shared history, and its pass in halves. The second pass added four events, which the first lacks; the registry has
+/// room for no fifth.
+fn begun<R: Wait>(rt: &R, alloc: Global) -> Result<(Shared, Pass, Pass), AllocError>
+    ensures left { IfOk result (λ begun. IsReady 1 32 begun.0 begun.1) }
+    ensures right { IfOk result (λ begun. IsReady 33 32 begun.0 begun.2) }
+{
+    let (shared, pass) = started(alloc)?;
+    let (left, right) = halve(&shared, pass, 1, 64);
+    let (right, first) = open_and_close(rt, alloc, &shared, right, 33, 32);
+    let (right, second) = open_and_close(rt, alloc, &shared, right, 33, 32);
+    if first + second < 4 {
+        return Err(AllocError);
+    }
+    Ok((shared, left, right))
+}
+
+/// Thread 1 opens image 2.
+fn open_once<R: Wait>(
+    rt: &R,
+    shared: &Shared,
+    pass: &mut Pass,
+    told: &mut Vec<Event>,
+) -> Result<Opened, OpenRefusal>
+    requires { IsReady 1 32 shared.now pass.old }
+    ensures { IsReady 1 32 shared.now pass.new }
+{
+    shared.open(rt, pass, 1, 1, 2, told)
+}
+
+/// The first pass has nothing of the history, nor has its list, and nothing was added that the second lacks.
+fn expect_as_before(
+    rt: &impl Abort,
+    shared: &Shared,
+    left: &mut Pass,
+    right: &mut Pass,
+    told: &[Event],
+)
+    requires left { IsReady 1 32 shared.now left.old }
+    requires right { IsReady 33 32 shared.now right.old }
+    ensures left { IsReady 1 32 shared.now left.new }
+    ensures right { IsReady 33 32 shared.now right.new }
+{
+    assert!(rt; left.seen() == 0 && told.is_empty(), "the pass or its list");
+    assert!(rt; shared.newer(left) && !shared.newer(right), "the history");
+}
+
+/// Opens image 2, and again where that is refused.
+fn open_twice(rt: &(impl Wait + Abort + Print), alloc: Global) -> Result<(), AllocError> {
+    let (shared, mut left, mut right) = begun(rt, alloc)?;
+    let mut told = Vec::new(alloc);
+    let mut answer = open_once(rt, &shared, &mut left, &mut told);
+    if answer == Err(OpenRefusal::OutOfMemory) {
+        expect_as_before(rt, &shared, &mut left, &mut right, &told);
+        let _ = println!(rt; "refused: Shared::open");
+        answer = open_once(rt, &shared, &mut left, &mut told);
+    }
+    let want = Opened {
+        instance: 4,
+        id: 2,
+        at: 4,
+    };
+    assert!(rt;
+        answer == Ok(want) && is_lacked(&told),
+        "an open: {answer:?}"
+    );
+    assert!(rt; left.seen() == 5 && shared.newer(&mut right));
+    let registry = shared.finish(shared.join(left, right));
+    assert!(rt; registry.len() == 5 && registry.current(2) == Some(4));
+    Ok(())
+}
+
+/// Takes what the first pass lacks, and again where that is refused.
+fn catch_up_twice(rt: &(impl Wait + Abort + Print), alloc: Global) -> Result<(), AllocError> {
+    let (shared, mut left, mut right) = begun(rt, alloc)?;
+    let mut told = Vec::new(alloc);
+    let mut answer = shared.catch_up(rt, &mut left, &mut told);
+    if answer.is_err() {
+        expect_as_before(rt, &shared, &mut left, &mut right, &told);
+        let _ = println!(rt; "refused: Shared::catch_up");
+        answer = shared.catch_up(rt, &mut left, &mut told);
+    }
+    assert!(rt; answer.is_ok() && is_lacked(&told) && left.seen() == 4);
+    assert!(rt; !shared.newer(&mut left) && !shared.newer(&mut right));
+    let registry = shared.finish(shared.join(left, right));
+    assert!(rt; registry.len() == 4 && registry.current(2).is_none());
+    Ok(())
+}
+
+#[test]
+fn refused_open(rt: HostRuntime) -> Result<(), Fail> {
+    let _ = open_twice(&rt, rt.alloc());
+    Ok(())
+}
+
+#[test]
+fn refused_catch_up(rt: HostRuntime) -> Result<(), Fail> {
+    let _ = catch_up_twice(&rt, rt.alloc());
+    Ok(())
+}
