@@ -7,10 +7,8 @@
 #include <stdlib.h>
 #include <unistd.h>
 
-static long number;
-
 /* Written at each request, since a program may end without its destructors. */
-static void tell(void)
+static void tell(long number)
 {
     static int file = -1;
     const char *name = getenv("COUNT");
@@ -25,9 +23,11 @@ static void tell(void)
 
 static int is_refused(void)
 {
+    /* threads make requests at once */
+    static long requests;
     const char *refused = getenv("REFUSE");
-    number++;
-    tell();
+    long number = __atomic_add_fetch(&requests, 1, __ATOMIC_SEQ_CST);
+    tell(number);
     if (refused && atol(refused) == number) {
         errno = ENOMEM;
         return 1;
