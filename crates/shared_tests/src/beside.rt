@@ -73,25 +73,39 @@ fn look_beside(shared: &Shared, mut pass: Pass, turn: &AtomicU64) -> (Pass, u64)
     (pass, looks)
 }
 
-/// How many looks came to their end beside another thread's turn.
+/// One thread takes all events while another looks. Says how many of those looks found nothing new.
+fn turn_and_looks<R: Threads + Wait + Sync>(
+    rt: &R,
+    alloc: Global,
+    shared: &Shared,
+    left: Pass,
+    right: Pass,
+    turn: &AtomicU64,
+) -> u64
+    requires left { IsReady 1 32 shared.now left }
+    requires right { IsReady 33 32 shared.now right }
+{
+    let (_left, (_right, looks)) = join(
+        rt,
+        move || -> Pass
+            requires { IsReady 1 32 shared.now left }
+            ensures { IsReady 1 32 shared.entry.now result }
+        { take_events(rt, alloc, shared, left, turn) },
+        move || -> (Pass, u64)
+            requires { IsReady 33 32 shared.now right }
+            ensures { IsReady 33 32 shared.entry.now result.0 }
+        { look_beside(shared, right, turn) },
+    );
+    looks
+}
+
+/// How many looks that found nothing new came to their end beside another thread's turn.
 fn looks_beside<R: Threads + Wait + Sync>(rt: &R, alloc: Global) -> Result<u64, AllocError> {
     let (shared, pass) = started(alloc)?;
     let (left, right) = halve(&shared, pass, 1, 64);
     let right = add_events(rt, alloc, &shared, right);
-    let state = AtomicU64::new(BEFORE);
-    let (turn, history) = (&state, &shared);
-    let (_left, (_right, looks)) = join(
-        rt,
-        move || -> Pass
-            requires { IsReady 1 32 history.now left }
-            ensures { IsReady 1 32 history.entry.now result }
-        { take_events(rt, alloc, history, left, turn) },
-        move || -> (Pass, u64)
-            requires { IsReady 33 32 history.now right }
-            ensures { IsReady 33 32 history.entry.now result.0 }
-        { look_beside(history, right, turn) },
-    );
-    Ok(looks)
+    let turn = AtomicU64::new(BEFORE);
+    Ok(turn_and_looks(rt, alloc, &shared, left, right, &turn))
 }
 
 #[test]
