@@ -1,6 +1,7 @@
 //! How long looks and opens take while other threads do the same: `sharing_benchmark HALVINGS LOOKS OPENS [time]` has 2
-//! threads for one halving, 4 for two, and so on up to 64. Each looks LOOKS times while nothing is new, and then each
-//! opens a module that is loaded, and closes it again, OPENS times. With `time` it prints how long that took.
+//! threads for one halving, 4 for two, and so on up to 64. Each looks LOOKS times while nothing is new, and loads a word
+//! as often, which is the least that a look can cost. Then each opens a module that is loaded, and closes it again, OPENS
+//! times. With `time` it prints how long that took.
 #![tactic(auto)]
 
 ghost use Rattle.std.specs.Prelude.{◌≡◌, ◌≤◌, IfOk};
@@ -13,6 +14,7 @@ use shared_tests::start::{halve, started};
 use std::alloc::Global;
 use std::rt::Clock;
 use std::sync::Wait;
+use std::sync::atomic::{AtomicU64, Ordering};
 use std::thread::{Threads, join};
 use std::time::{Duration, Instant};
 use std::{env, io};
@@ -21,6 +23,7 @@ use std::{env, io};
 #[derive(Clone, Copy)]
 enum Work {
     Look(u32),
+    Load(u32),
     Open(u32),
 }
 
@@ -32,6 +35,17 @@ fn look(shared: &Shared, pass: &mut Pass, first: u32, count: u32, times: u32) ->
     let mut found = 0_u64;
     for _ in 0..times {
         if shared.newer(pass) {
+            found = found.wrapping_add(1);
+        }
+    }
+    found
+}
+
+/// Loads a word so often, and counts the loads that found something.
+fn load(word: &AtomicU64, times: u32) -> u64 {
+    let mut found = 0_u64;
+    for _ in 0..times {
+        if word.load(Ordering::SeqCst) > 0 {
             found = found.wrapping_add(1);
         }
     }
@@ -74,6 +88,7 @@ fn carry_out<R: Wait>(
     rt: &R,
     alloc: Global,
     shared: &Shared,
+    word: &AtomicU64,
     mut pass: Pass,
     first: u32,
     count: u32,
@@ -87,6 +102,7 @@ fn carry_out<R: Wait>(
             let found = look(shared, &mut pass, first, count, times);
             (pass, found)
         }
+        Work::Load(times) => (pass, load(word, times)),
         Work::Open(times) => {
             let others = open(rt, alloc, shared, &mut pass, first, count, times);
             (pass, others)
@@ -100,6 +116,7 @@ fn parts<R: Threads + Wait + Sync>(
     rt: &R,
     alloc: Global,
     shared: &Shared,
+    word: &AtomicU64,
     pass: Pass,
     first: u32,
     count: u32,
@@ -110,7 +127,7 @@ fn parts<R: Threads + Wait + Sync>(
     ensures { IsReady first count shared.now result.0 }
 {
     if count < 2 || halvings == 0 {
-        return carry_out(rt, alloc, shared, pass, first, count, job);
+        return carry_out(rt, alloc, shared, word, pass, first, count, job);
     }
     let half = (count + 1) / 2;
     let next = first + half;
@@ -123,12 +140,12 @@ fn parts<R: Threads + Wait + Sync>(
             requires sync { IsSync R.row }
             requires ready { IsReady first half shared.now left }
             ensures { IsReady first half shared.entry.now result.0 }
-        { parts(rt, alloc, shared, left, first, half, more, job) },
+        { parts(rt, alloc, shared, word, left, first, half, more, job) },
         move || -> (Pass, u64)
             requires sync { IsSync R.row }
             requires ready { IsReady next others shared.now right }
             ensures { IsReady next others shared.entry.now result.0 }
-        { parts(rt, alloc, shared, right, next, others, more, job) },
+        { parts(rt, alloc, shared, word, right, next, others, more, job) },
     );
     (shared.join(left, right), a.wrapping_add(b))
 }
@@ -145,8 +162,9 @@ fn timed<R: Threads + Wait + Clock + Sync>(
     requires { IsReady 1 64 shared.now pass }
     ensures { IfOk result (λ r. IsReady 1 64 shared.now r.0) }
 {
+    let word = AtomicU64::new(0);
     let start = Instant::now(rt)?;
-    let (pass, count) = parts(rt, alloc, shared, pass, 1, 64, halvings, job);
+    let (pass, count) = parts(rt, alloc, shared, &word, pass, 1, 64, halvings, job);
     Ok((pass, count, start.elapsed(rt)?))
 }
 
@@ -163,6 +181,7 @@ fn main(rt: HostRuntime) -> Result<()> {
     let (shared, mut pass) = started(alloc)?;
     keep_loaded(&rt, alloc, &shared, &mut pass);
     let (pass, found, looking) = timed(&rt, alloc, &shared, pass, halvings, Work::Look(looks))?;
+    let (pass, _, loading) = timed(&rt, alloc, &shared, pass, halvings, Work::Load(looks))?;
     let (pass, _, opening) = timed(&rt, alloc, &shared, pass, halvings, Work::Open(opens))?;
     let threads = 1_u64 << halvings;
     println!(rt;
@@ -170,7 +189,9 @@ fn main(rt: HostRuntime) -> Result<()> {
         pass.seen()
     )?;
     if words.next().is_some() {
-        println!(rt; "looks in {looking:?}, opens and closes in {opening:?}")?;
+        println!(rt;
+            "looks in {looking:?}, as many plain loads in {loading:?}, opens and closes in {opening:?}"
+        )?;
     }
     Ok(())
 }
