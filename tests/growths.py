@@ -30,23 +30,24 @@ TESTS = [
 
 
 def run(crate, test, shim, **more):
-    """What a test ends with, and what it prints."""
+    """What a test ends with, what it says of a refused call, and all that it prints."""
     words = [f"{CRATES}/{crate}/out/{crate}_tests", f"growth::{test}"]
     found = subprocess.run(words, env={**os.environ, "LD_PRELOAD": shim, **more}, capture_output=True, text=True, timeout=60)
-    return found.returncode, found.stdout, found.stderr
+    said = [line for line in found.stdout.splitlines() if line.startswith("refused: ")]
+    return found.returncode, said, found.stdout + found.stderr
 
 
 def refusals(crate, test, call, shim, room):
     """How many requests the test makes, at which of them its call was refused, and what is wrong."""
-    status, said, cause = run(crate, test, shim, COUNT=f"{room}/{test}")
+    status, said, printed = run(crate, test, shim, COUNT=f"{room}/{test}")
     if status or said:
-        return 0, [], [f"with nothing refused: status {status} {said}{cause}"]
+        return 0, [], [f"with nothing refused: status {status} {printed}"]
     count = int(open(f"{room}/{test}").read())
     refused, wrong = [], []
     for number in range(1, count + 1):
-        status, said, cause = run(crate, test, shim, REFUSE=str(number))
-        if status or said not in ("", f"refused: {call}\n"):
-            wrong.append(f"request {number} of {count}: status {status} {said}{cause}")
+        status, said, printed = run(crate, test, shim, REFUSE=str(number))
+        if status or said not in ([], [f"refused: {call}"]):
+            wrong.append(f"request {number} of {count}: status {status} {printed}")
         if said:
             refused.append(number)
     return count, refused, wrong

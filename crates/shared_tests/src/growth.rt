@@ -102,7 +102,8 @@ fn open_twice(rt: &(impl Wait + Abort + Print), alloc: Global) -> Result<(), All
         "an open: {answer:?}"
     );
     assert!(rt; left.seen() == 5 && shared.newer(&mut right));
-    let registry = shared.finish(shared.join(left, right));
+    let pass = shared.join(left, right);
+    let registry = shared.finish(pass);
     assert!(rt; registry.len() == 5 && registry.current(2) == Some(4));
     Ok(())
 }
@@ -119,7 +120,8 @@ fn catch_up_twice(rt: &(impl Wait + Abort + Print), alloc: Global) -> Result<(),
     }
     assert!(rt; answer.is_ok() && is_lacked(&told) && left.seen() == 4);
     assert!(rt; !shared.newer(&mut left) && !shared.newer(&mut right));
-    let registry = shared.finish(shared.join(left, right));
+    let pass = shared.join(left, right);
+    let registry = shared.finish(pass);
     assert!(rt; registry.len() == 4 && registry.current(2).is_none());
     Ok(())
 }
