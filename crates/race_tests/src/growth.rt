@@ -7,6 +7,7 @@ ghost use Rattle.loaded_modules.specs.Images.{infos, last_offset};
 
 use crate::images::{plug_image, program_image};
 use crate::loading::{Unready, loaded};
+use image_file::Image;
 use loaded_modules::Modules;
 use module_table::{OpenRefusal, Registry};
 use std::alloc::{AllocError, Global};
@@ -19,9 +20,14 @@ const JOB: &str = "image app exe app.o
 image plug late plug.o
 ";
 
+/// These two images.
+fn both(alloc: Global, program: Image, plug: Image) -> Result<Vec<Image>, AllocError> {
+    Ok(vec![in alloc; program, plug]?)
+}
+
 /// The images of that job.
 fn modules_of(rt: &impl Abort, alloc: Global) -> Result<Modules, Unready> {
-    let images = vec![in alloc; program_image(alloc)?, plug_image(alloc)?]?;
+    let images = both(alloc, program_image(alloc)?, plug_image(alloc)?)?;
     let (_, modules) = loaded(alloc, JOB, images)?;
     assert!(rt; modules.image_count() == 2);
     Ok(modules)
