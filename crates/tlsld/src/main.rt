@@ -4,11 +4,13 @@
 //! On a terminal a long fetch of files tells how far it is, on standard error (`ports::ProgressStore`).
 #![tactic(auto)]
 
+use command_replies::say_no_memory;
 use commands::tlsld;
 use ports::{HostSink, HostStore, ProgressStore};
 use std::alloc::Global;
-use std::io::IsTerminal;
+use std::io::{ErrorKind, IsTerminal};
 use std::process::ExitCode;
+use std::rt::Env;
 use std::{env, io};
 
 /// How many bytes a request may have and be served from memory that is kept.
@@ -20,15 +22,28 @@ fn keep_freed(alloc: Global) {
     let _given_back = Vec::<u8>::with_capacity(alloc, LARGEST_KEPT);
 }
 
-fn main(rt: HostRuntime) -> io::Result<ExitCode> {
-    keep_freed(rt.alloc());
+/// The words behind the program's name. Each must be UTF-8.
+fn words_of(rt: &(impl Env + AllocGlobal)) -> io::Result<Vec<String>> {
     let mut words = Vec::new(rt.alloc());
-    for word in env::args(&rt)?.skip(1) {
+    for word in env::args(rt)?.skip(1) {
         words.push(word)?;
     }
+    Ok(words)
+}
+
+fn main(rt: HostRuntime) -> ExitCode {
+    keep_freed(rt.alloc());
+    let mut out = HostSink::new(io::writer(&rt));
+    let words = match words_of(&rt) {
+        Ok(words) => words,
+        Err(error) if error.kind() == ErrorKind::OutOfMemory => {
+            return ExitCode::from(say_no_memory(&mut out));
+        }
+        // A word that is no UTF-8 belongs to no command, and neither do no words at all.
+        Err(_) => Vec::new(rt.alloc()),
+    };
     let files = HostStore::new(&rt, rt.alloc());
     let mut store = ProgressStore::new(files, &rt, rt.stderr().is_terminal());
-    let mut out = HostSink::new(io::writer(&rt));
     let status = tlsld(&rt, rt.alloc(), words.as_slice(), &mut store, &mut out);
-    Ok(ExitCode::from(status))
+    ExitCode::from(status)
 }
