@@ -23,6 +23,7 @@ import struct
 import subprocess
 import sys
 import tempfile
+from concurrent.futures import ThreadPoolExecutor
 
 HERE = os.path.dirname(os.path.abspath(__file__))
 OWN = {"words", "status", "output", "facts"}
@@ -65,24 +66,23 @@ class Case:
                 out.write(b"old")
 
     def most_silent(self):
-        """How many requests are made before the command is known: one at the start, and two a word at the most."""
-        return 1 + 2 * len(self.words)
+        """How many requests are made before all words are read: one at the start, two a word, and one for each four in their list."""
+        return 1 + 2 * len(self.words) + (len(self.words) + 3) // 4
 
 
 class Bench:
     """The program, the shim, and a place for the shim's counts."""
 
-    def __init__(self, tlsld, shim, counts):
-        self.tlsld, self.shim, self.counts = tlsld, shim, counts
+    def __init__(self, tlsld, shim, folder):
+        self.tlsld, self.shim, self.counts = tlsld, shim, f"{folder}/counts"
 
     def run(self, words, room, limit=None, **more):
         """The status and the output of a command, or None for both where it hangs."""
         def set_limit():
-            if limit:
-                resource.setrlimit(resource.RLIMIT_AS, (limit, limit))
+            resource.setrlimit(resource.RLIMIT_AS, (limit, limit))
         try:
             found = subprocess.run([self.tlsld, *words], cwd=room, env={**os.environ, **more}, stdout=subprocess.PIPE,
-                                   stderr=subprocess.DEVNULL, timeout=SECONDS, preexec_fn=set_limit)
+                                   stderr=subprocess.DEVNULL, timeout=SECONDS, preexec_fn=set_limit if limit else None)
         except subprocess.TimeoutExpired:
             return None, None
         return found.returncode, found.stdout
@@ -213,9 +213,10 @@ def limit_room(bench, case, room, whole, tally):
             tally.wrong.append(f"{mib} MiB: {ended[0]} and {str(ended[1])[:60]}")
 
 
-def tally_of(bench, name):
+def tally_of(tlsld, shim, name):
     case, tally = Case(name), Tally()
-    with tempfile.TemporaryDirectory() as room:
+    with tempfile.TemporaryDirectory() as folder, tempfile.TemporaryDirectory() as room:
+        bench = Bench(tlsld, shim, folder)
         case.lay_files(room)
         whole = bench.run(case.words, room)
         new_files = contents(room)
@@ -230,15 +231,15 @@ def tally_of(bench, name):
 def main():
     built = f"{HERE}/../crates/tlsld/out/tlsld"
     tlsld = os.path.abspath(sys.argv[1] if len(sys.argv) > 1 else built)
+    names = sys.argv[2:] or [*WORKED, *EXAMPLES, MANY_THREADS]
     tallies = []
-    with tempfile.TemporaryDirectory() as room:
+    with tempfile.TemporaryDirectory() as room, ThreadPoolExecutor(2 * os.cpu_count()) as pool:
         shim = f"{room}/refuse.so"
         subprocess.run(["gcc", "-O1", "-shared", "-fPIC", f"{HERE}/refuse.c", "-o", shim, "-ldl"], check=True)
-        bench = Bench(tlsld, shim, f"{room}/counts")
         print(f"{'case':44}{'said':>7}{'silent':>7}{'without':>8}{'starts':>7}{'limits':>7}")
-        for name in sys.argv[2:] or [*WORKED, *EXAMPLES, MANY_THREADS]:
-            tallies.append(tally_of(bench, name))
-            print(tallies[-1].line(name), flush=True)
+        for name, tally in zip(names, pool.map(lambda name: tally_of(tlsld, shim, name), names)):
+            tallies.append(tally)
+            print(tally.line(name), flush=True)
     bad = sum(1 for tally in tallies if tally.wrong)
     total = {key: sum(getattr(tally, key) for tally in tallies) for key in ("said", "silent", "without", "starts", "limits")}
     print(f"memory: {total['said']} refused requests were said, {total['silent']} ended before the words were read with nothing said, "
