@@ -1,8 +1,8 @@
 #!/usr/bin/env python3
 """limits.py [TLSLD] [JOB..]: the largest lawful jobs, each by every command that takes it, within a minute and 1 GiB.
 
-A row is a job and a command: how long it takes by the clock, the greatest memory that it holds at once, and whether it says what
-it should. Without names of jobs it takes all of the first table. The jobs of the second pass several limits together; nothing is
+A row is a job and a command: how long it takes by the clock and on all processors together, the greatest memory that it holds at
+once, and whether it says what it should. Without names of jobs it takes all of the first table. The jobs of the second pass several limits together; nothing is
 promised of them, so they fail no run, and say what a job may cost. All objects are made here, by a process of its own, since what
 a process held before it became the program counts as the program's.
 """
@@ -347,7 +347,7 @@ def make(maker, folder):
 
 
 def run(tlsld, command, folder):
-    """The status of a command, its seconds and its MiB. What it prints stands in the file `said`."""
+    """The status of a command, its seconds by the clock and of processors, and its MiB. What it prints is in the file `said`."""
     def limit():
         resource.setrlimit(resource.RLIMIT_AS, (ROOM, ROOM))
     with open(f"{folder}/said", "wb") as said:
@@ -358,7 +358,7 @@ def run(tlsld, command, folder):
         _, status, usage = os.wait4(child.pid, 0)
         alarm.cancel()
     child.returncode = os.waitstatus_to_exitcode(status)
-    return child.returncode, time.monotonic() - began, usage.ru_maxrss / 1024
+    return child.returncode, time.monotonic() - began, usage.ru_utime + usage.ru_stime, usage.ru_maxrss / 1024
 
 
 def wrong_text(command, folder, count):
@@ -392,10 +392,10 @@ def print_rows(tlsld, maker, commands):
         with multiprocessing.Pool(1) as pool:
             count = pool.apply(make, (maker, folder))
         for command in commands:
-            status, seconds, mib = run(tlsld, command, folder)
+            status, seconds, used, mib = run(tlsld, command, folder)
             said = verdict(command, folder, count, status, seconds, mib)
             failed += said != "holds"
-            print(f"{maker.__name__:22}{command:20}{seconds:8.2f}{mib:7.0f}  {said}", flush=True)
+            print(f"{maker.__name__:22}{command:20}{seconds:8.2f}{used:10.2f}{mib:7.0f}  {said}", flush=True)
     return failed
 
 
@@ -404,7 +404,7 @@ def main():
     tlsld = os.path.abspath(words[0] if words else f"{HERE}/../crates/tlsld/out/tlsld")
     chosen = [maker for maker in {**WITHIN, **BEYOND} if maker.__name__ in words[1:]] or list(WITHIN)
     failed = rows = 0
-    print(f"{'job':22}{'command':20}{'seconds':>8}{'MiB':>7}")
+    print(f"{'job':22}{'command':20}{'seconds':>8}{'processor':>10}{'MiB':>7}")
     for maker in chosen:
         commands = {**WITHIN, **BEYOND}[maker]
         wrong = print_rows(tlsld, maker, commands)

@@ -3,8 +3,8 @@
 
 A refused request ends a command with status 1 and the line `out of memory`. Or it changes nothing at all, where the program can do
 without. Nothing else may come, no run may hang, and no file may change but OUT of `link`, which is the old or the whole new one.
-Status 1 with nothing said passes only before the first refusal of which something is said, and within as many requests as
-reading the words takes: nobody has read yet what the command is. These are counted apart.
+Status 1 with nothing on standard output passes only within as many requests as reading the words takes: nobody knows yet what the
+command is. Standard error has a line then. These are counted apart, as `early`.
 
 `race` has threads, so the request with the number n may come in any of them, and how many there are may differ from run to run.
 So each command goes on until a run in which none was refused. What `race` prints hangs on who comes first: its lines and events
@@ -23,6 +23,7 @@ import struct
 import subprocess
 import sys
 import tempfile
+from concurrent.futures import ThreadPoolExecutor
 
 HERE = os.path.dirname(os.path.abspath(__file__))
 OWN = {"words", "status", "output", "facts"}
@@ -38,8 +39,9 @@ EXAMPLES = [f"late_module {words} job" for words in ("run", "check", "race")] + 
     "late_module gen 4", "race race job", "race race job-alone", "race race job-apart", "race check job-apart",
 ]
 MANY_THREADS = "run-sixty-four-threads race job"
-SAID = (1, b"out of memory\n")
-SILENT = (1, b"")
+SAID = (1, b"out of memory\n", b"")
+EARLY = (1, b"", b"Error: Kind(OutOfMemory)\n")
+HANGS = (None, b"", b"")
 USAGE = 2
 SECONDS = 30
 MIB = 1 << 20
@@ -64,28 +66,29 @@ class Case:
             with open(f"{room}/{self.words[3]}", "wb") as out:
                 out.write(b"old")
 
-    def most_silent(self):
-        """How many requests are made before the command is known: one at the start, and two a word at the most."""
-        return 1 + 2 * len(self.words)
+    def most_early(self):
+        """How many requests are made before all words are read: one at the start, one for each word, for the program's name and for
+        the end behind them, and one for each four in the two lists that they stand in, of which one has the name too."""
+        count = len(self.words)
+        return 1 + count + 2 + (count + 4) // 4 + (count + 3) // 4
 
 
 class Bench:
     """The program, the shim, and a place for the shim's counts."""
 
-    def __init__(self, tlsld, shim, counts):
-        self.tlsld, self.shim, self.counts = tlsld, shim, counts
+    def __init__(self, tlsld, shim, folder):
+        self.tlsld, self.shim, self.counts = tlsld, shim, f"{folder}/counts"
 
     def run(self, words, room, limit=None, **more):
-        """The status and the output of a command, or None for both where it hangs."""
+        """The status of a command and what it puts to standard output and to standard error, or HANGS."""
         def set_limit():
-            if limit:
-                resource.setrlimit(resource.RLIMIT_AS, (limit, limit))
+            resource.setrlimit(resource.RLIMIT_AS, (limit, limit))
         try:
             found = subprocess.run([self.tlsld, *words], cwd=room, env={**os.environ, **more}, stdout=subprocess.PIPE,
-                                   stderr=subprocess.DEVNULL, timeout=SECONDS, preexec_fn=set_limit)
+                                   stderr=subprocess.PIPE, timeout=SECONDS, preexec_fn=set_limit if limit else None)
         except subprocess.TimeoutExpired:
-            return None, None
-        return found.returncode, found.stdout
+            return HANGS
+        return found.returncode, found.stdout, found.stderr
 
     def refuse(self, words, room, **more):
         """What a command ends with under the shim, and how many requests and starts it made."""
@@ -100,11 +103,11 @@ class Tally:
     """What came of the refused requests of a case."""
 
     def __init__(self):
-        self.said = self.silent = self.without = self.starts = self.limits = 0
+        self.said = self.early = self.without = self.starts = self.limits = 0
         self.wrong = []
 
     def line(self, name):
-        return (f"{name:44}{self.said:7}{self.silent:7}{self.without:8}{self.starts:7}{self.limits:7}"
+        return (f"{name:44}{self.said:7}{self.early:7}{self.without:8}{self.starts:7}{self.limits:7}"
                 f"  {self.wrong[0] if self.wrong else 'holds'}")
 
 
@@ -145,9 +148,9 @@ def heads(text):
 
 def is_same(case, ended, whole):
     """Whether a run printed what the command prints with nothing refused."""
-    if ended == whole or case.words[0] != "race" or None in ended:
+    if ended == whole or case.words[0] != "race":
         return ended == whole
-    return ended[0] == whole[0] == 0 and heads(ended[1]) == heads(whole[1]) and fits(ended[1])
+    return ended[0] == whole[0] == 0 and ended[2] == b"" and heads(ended[1]) == heads(whole[1]) and fits(ended[1])
 
 
 def wrong_files(case, before, after, whole):
@@ -159,16 +162,21 @@ def wrong_files(case, before, after, whole):
     return None
 
 
+def shown(ended):
+    """How a command ended, for a line of the table."""
+    return "hangs" if ended == HANGS else f"status {ended[0]}, {ended[1][:60]!r} and {ended[2][:60]!r}"
+
+
 def judge(case, number, ended, whole, tally):
     """Counts what came of a refused request, and says what is wrong with it, or None."""
     if ended == SAID and whole != SAID:
         tally.said += 1
     elif is_same(case, ended, whole):
         tally.without += 1
-    elif ended == SILENT and not tally.said and number <= case.most_silent():
-        tally.silent += 1
+    elif ended == EARLY and not tally.said and number <= case.most_early():
+        tally.early += 1
     else:
-        return "hangs" if ended[0] is None else f"status {ended[0]} and {ended[1][:60]!r}"
+        return shown(ended)
     return None
 
 
@@ -196,7 +204,7 @@ def refuse_starts(bench, case, room, whole, starts, tally):
         ended, _ = bench.refuse(case.words, room, UNSTARTED=str(number), LATER=later)
         tally.starts += 1
         if not is_same(case, ended, whole):
-            tally.wrong.append(f"start {number}, later ones {later}: {ended[0]} and {str(ended[1])[:60]}")
+            tally.wrong.append(f"start {number}, later ones {later}: {shown(ended)}")
 
 
 def least_room(bench, room):
@@ -210,12 +218,13 @@ def limit_room(bench, case, room, whole, tally):
         ended = bench.run(case.words, room, limit=mib * MIB)
         tally.limits += 1
         if ended != SAID and not is_same(case, ended, whole):
-            tally.wrong.append(f"{mib} MiB: {ended[0]} and {str(ended[1])[:60]}")
+            tally.wrong.append(f"{mib} MiB: {shown(ended)}")
 
 
-def tally_of(bench, name):
+def tally_of(tlsld, shim, name):
     case, tally = Case(name), Tally()
-    with tempfile.TemporaryDirectory() as room:
+    with tempfile.TemporaryDirectory() as folder, tempfile.TemporaryDirectory() as room:
+        bench = Bench(tlsld, shim, folder)
         case.lay_files(room)
         whole = bench.run(case.words, room)
         new_files = contents(room)
@@ -230,19 +239,19 @@ def tally_of(bench, name):
 def main():
     built = f"{HERE}/../crates/tlsld/out/tlsld"
     tlsld = os.path.abspath(sys.argv[1] if len(sys.argv) > 1 else built)
+    names = sys.argv[2:] or [*WORKED, *EXAMPLES, MANY_THREADS]
     tallies = []
-    with tempfile.TemporaryDirectory() as room:
+    with tempfile.TemporaryDirectory() as room, ThreadPoolExecutor(2 * os.cpu_count()) as pool:
         shim = f"{room}/refuse.so"
         subprocess.run(["gcc", "-O1", "-shared", "-fPIC", f"{HERE}/refuse.c", "-o", shim, "-ldl"], check=True)
-        bench = Bench(tlsld, shim, f"{room}/counts")
-        print(f"{'case':44}{'said':>7}{'silent':>7}{'without':>8}{'starts':>7}{'limits':>7}")
-        for name in sys.argv[2:] or [*WORKED, *EXAMPLES, MANY_THREADS]:
-            tallies.append(tally_of(bench, name))
-            print(tallies[-1].line(name), flush=True)
+        print(f"{'case':44}{'said':>7}{'early':>7}{'without':>8}{'starts':>7}{'limits':>7}")
+        for name, tally in zip(names, pool.map(lambda name: tally_of(tlsld, shim, name), names)):
+            tallies.append(tally)
+            print(tally.line(name), flush=True)
     bad = sum(1 for tally in tallies if tally.wrong)
-    total = {key: sum(getattr(tally, key) for tally in tallies) for key in ("said", "silent", "without", "starts", "limits")}
-    print(f"memory: {total['said']} refused requests were said, {total['silent']} ended before the words were read with nothing said, "
-          f"{total['without']} changed nothing; {total['starts']} starts of threads were refused, and {total['limits']} limits set; "
+    total = {key: sum(getattr(tally, key) for tally in tallies) for key in ("said", "early", "without", "starts", "limits")}
+    print(f"memory: {total['said']} refused requests were said, {total['early']} ended before the words were read, {total['without']} "
+          f"changed nothing; {total['starts']} starts of threads were refused, and {total['limits']} limits set; "
           f"{bad} cases do not hold")
     sys.exit(1 if bad else 0)
 
