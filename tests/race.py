@@ -1,5 +1,5 @@
 #!/usr/bin/env python3
-"""race.py [TLSLD] [RUNS], race.py [TLSLD] --cost, race.py --selftest: runs `race` many times, and judges each text that it prints.
+"""race.py [TLSLD] [RUNS], race.py [TLSLD] --cost, race.py --selftest: runs `race` many times, and judges each text it prints.
 
 What `race` prints may differ from run to run, so no text stands beside a job to compare with. Two things are asked of each one:
 
@@ -202,7 +202,7 @@ def spread(place, threads, again, lines):
 
 
 def cases():
-    """Twenty jobs of 2 to 64 threads: late modules that one thread opens or all do, the surplus, descriptors, and none of these."""
+    """Twenty jobs of 2 to 64 threads: late modules that one thread opens, or all, the surplus, descriptors, and none of these."""
     examples = ["race", "late_module", "id_used_again", "descriptors", "initial_exec", "startup_module"]
     worked = ["run-unloaded", "run-threads", "run-block-is-gone", "run-call-symbol", "run-sixty-four-threads"]
     late = ["open plug", "call plug f 7 0 0", "peek plug v 4", "close plug"]
@@ -262,7 +262,7 @@ def complaint(judged, *words):
 
 
 def selftest():
-    """Whether the rule takes a lawful text, and no wrong one; says for each kind how many it refuses, and why the last of them."""
+    """Whether the rule takes a lawful text, and no wrong one; says of each kind how many it refuses, and why the last of them."""
     job, lawful = Job(stored("examples/late_module").text), stored("examples/late_module", "transcript").text
     holds = complaint(judge, job, lawful) is None
     for kind, texts in wrong_texts(lawful).items():
@@ -357,7 +357,8 @@ def measured(tlsld, room, command):
 def cost(tlsld):
     """Whether 64 threads that only call take no longer by `race` than by `run`, and at most a MiB of memory each beyond it.
 
-    Of a small job the time is shown alone: most of it goes to starting 64 threads."""
+    The times say something where nothing else keeps the processors busy. Of the last job, which is small, they are shown alone:
+    most of it is starting 64 threads."""
     holds = True
     for is_small, case in [
         (False, spread("tests/worked/run-loop", 64, 10, ["call app f 1000 0 0"])),
