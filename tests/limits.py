@@ -168,13 +168,13 @@ def fuel(job):
 
 
 def fuel_beside_images(job):
-    """The same calls, six, with 62 more modules open."""
+    """Six such calls of a tenth of the steps, with 63 modules open: what a thread reaches is looked for in one after the other."""
     job.image("app", "exe", counting_loop())
     for number in range(1, IMAGES):
         job.image(f"m{number}", "late", adding_loop())
     job.say(f"fuel {FUEL}", *[f"1 open m{number}" for number in range(1, IMAGES)])
     calls = [f"1 call m{number} f 1 0 0" for number in range(1, IMAGES)]
-    job.threads([*calls, *[f"1 call {name} f 1000000 0 0" for name in ("app", "m1", "m2", "m32", "m62", "m63")]])
+    job.threads([*calls, *[f"1 call {name} f 100000 0 0" for name in ("app", "m1", "m2", "m32", "m62", "m63")]])
     job.count += IMAGES - 1
 
 
@@ -217,9 +217,9 @@ def relocated_words(job):
 def relocated_code(job):
     """A program and a module with 2^19 relocations each, of sequences that reach 2^18 variables; all are run through."""
     for name, kind in (("app", "exe"), ("plug", "late")):
-        job.image(name, kind, *[sequences(f"f{number}", RELOCATIONS // 8) for number in range(4)])
+        job.image(name, kind, *[sequences(f"f{number}", RELOCATIONS // 16) for number in range(8)])
     job.say("1 open plug")
-    job.threads(f"1 call {name} f{number} 0 0 0" for name in ("app", "plug") for number in range(4))
+    job.threads(f"1 call {name} f{number} 0 0 0" for name in ("app", "plug") for number in range(8))
     job.count += 1
 
 
