@@ -11,7 +11,7 @@ use image_text::push_shown;
 use link_core::{Linked, link};
 use link_faults::{ImageKind, LinkFault};
 use sequence_match::{Site, sites};
-use std::alloc::{AllocError, Global};
+use std::alloc::{AllocError, AllocFailed, Global};
 use std::process::Abort;
 use std::test::Fail;
 use std::thread::Threads;
@@ -19,6 +19,29 @@ use tls_symbols::{Exports, exports};
 
 /// What is loaded with each image: y, w and errno.
 const STARTUP: &str = "y=v0 w=v4 errno=v8 v:000000000000000000000000";
+
+/// Why no link was asked for.
+#[derive(Debug, Drop)]
+pub(crate) enum Unready {
+    OutOfMemory,
+    /// The sequences of an object have a fault.
+    Sites(ObjectFault),
+}
+
+impl From<ObjectFault> for Unready {
+    fn from(fault: ObjectFault) -> Unready {
+        match fault {
+            ObjectFault::OutOfMemory => Unready::OutOfMemory,
+            _ => Unready::Sites(fault),
+        }
+    }
+}
+
+impl<T: Drop> From<AllocFailed<T>> for Unready {
+    fn from(_failed: AllocFailed<T>) -> Unready {
+        Unready::OutOfMemory
+    }
+}
 
 /// The kind of image of a word, and whether its sequences may be rewritten.
 fn kind_of(word: &str) -> (ImageKind, bool) {
@@ -49,7 +72,7 @@ fn read<'a>(alloc: Global, files: &'a [Vec<u8>]) -> Result<Vec<Object<'a>>, Fail
 }
 
 /// The sequences of each object. None has a loose relocation or a stray call.
-fn all_sites(alloc: Global, objects: &[Object]) -> Result<Vec<Vec<Site>>, ObjectFault>
+fn all_sites(alloc: Global, objects: &[Object]) -> Result<Vec<Vec<Site>>, Unready>
     ensures len { IfOk result (λ all. length all.items ≡ length objects.now) }
     ensures sites { IfOk result (λ all. (o : ℕ) → o < length objects.now
         → AreSites (object_at objects.now o) (slice_index_or (map (λ own. own.items) all.items) o [])) }
@@ -64,14 +87,14 @@ fn all_sites(alloc: Global, objects: &[Object]) -> Result<Vec<Vec<Site>>, Object
     Ok(all)
 }
 
-/// Links objects beside what is loaded with them. Where there is no memory for their sequences, that is the error.
+/// Links objects beside what is loaded with them.
 pub(crate) fn linked<'a>(
     rt: &(impl Threads + Sync),
     alloc: Global,
     kind: &str,
     objects: &[Object<'a>],
     startup: &[Exports<'a>; 1],
-) -> Result<Result<Linked, LinkFault>, ObjectFault> {
+) -> Result<Result<Linked, LinkFault>, Unready> {
     let sites = all_sites(alloc, objects)?;
     let (kind, relax) = kind_of(kind);
     Ok(link(rt, alloc, objects, sites.as_slice(), kind, startup, relax))

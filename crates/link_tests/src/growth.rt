@@ -1,7 +1,7 @@
 //! A link is refused for want of memory alone, wherever it asks for some, and made again it gives the same image, byte for
 //! byte. Its objects are lent, so nothing can change them. A test that met this says so in a line.
 
-use crate::cases::linked;
+use crate::cases::{Unready, linked};
 use elf_object::{Object, ObjectFault};
 use elf_records::Rela;
 use elf_records::relocation::{
@@ -60,7 +60,7 @@ fn read<'a>(rt: &impl Abort, alloc: Global, bytes: &'a [u8]) -> Result<Object<'a
     match Object::read(alloc, bytes) {
         Ok(object) => Ok(object),
         Err(fault) => {
-            assert!(rt; fault == ObjectFault::OutOfMemory, "{fault}");
+            assert!(rt; matches!(fault, ObjectFault::OutOfMemory), "{fault}");
             Err(AllocError)
         }
     }
@@ -77,11 +77,11 @@ fn link_once<'a>(
     match linked(rt, alloc, kind, objects, startup) {
         Ok(Ok(linked)) => Ok(Some(linked)),
         Ok(Err(fault)) => {
-            assert!(rt; fault == LinkFault::OutOfMemory, "{fault}");
+            assert!(rt; matches!(fault, LinkFault::OutOfMemory), "{fault}");
             Ok(None)
         }
-        Err(fault) => {
-            assert!(rt; fault == ObjectFault::OutOfMemory, "{fault}");
+        Err(unready) => {
+            assert!(rt; matches!(unready, Unready::OutOfMemory), "{unready:?}");
             Err(AllocError)
         }
     }
@@ -113,18 +113,29 @@ fn link_twice<'a>(
     Ok(())
 }
 
+/// Links the object of these bytes as an image of this kind, beside one of those.
+fn link_bytes(
+    rt: &(impl Abort + Print + Threads + Sync),
+    alloc: Global,
+    kind: &str,
+    own: &[u8],
+    module: &[u8],
+) -> Result<(), AllocError> {
+    let module = vec![in alloc; read(rt, alloc, module)?]?;
+    let startup = [exports(alloc, module.as_slice())?];
+    let objects = vec![in alloc; read(rt, alloc, own)?]?;
+    link_twice(rt, alloc, kind, objects.as_slice(), &startup)
+}
+
 /// Links the object as an image of this kind.
 fn link_as(
     rt: &(impl Abort + Print + Threads + Sync),
     alloc: Global,
     kind: &str,
 ) -> Result<(), AllocError> {
-    let module = beside(alloc)?;
-    let module = [read(rt, alloc, &module)?];
-    let startup = [exports(alloc, &module)?];
     let own = asking(alloc)?;
-    let own = [read(rt, alloc, &own)?];
-    link_twice(rt, alloc, kind, &own, &startup)
+    let module = beside(alloc)?;
+    link_bytes(rt, alloc, kind, &own, &module)
 }
 
 #[test]

@@ -95,7 +95,7 @@ fn ask_twice(rt: &(impl Abort + Print), dtv: &mut Dtv) {
     // Thread 1's blocks lie behind 2^40, that of instance 2 twice 2^24 further.
     assert!(rt; answer == Ok(0x100_0200_0003), "an address: {answer:?}");
     assert!(rt;
-        dtv.block(2) == Some(b"\x05\0\0\0".as_slice()),
+        dtv.block(2) == Some(b"\x05\0\0\0\0\0\0\0".as_slice()),
         "the plug's block"
     );
 }
