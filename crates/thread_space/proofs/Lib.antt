@@ -1,5 +1,6 @@
 pub mod BytesHeld
 pub mod Entries
+pub mod Far
 pub mod Fetched
 pub mod Listing
 pub mod Live

@@ -43,7 +43,7 @@ fold_long m image x part (r ∷ rs) bytes same =
     fold_long m image x part rs (with_relocation m image x part bytes r)
     (written_long (lies_in part r.place (length (relocation_bytes m image x r))) part bytes r.place (relocation_bytes m image x r) refl same)
 
-length-part_bytes : (m : JobImages) (image : Spelled) (x : Instance) (part : Part) → length (part_bytes m image x part) ≡ length part.bytes
+pub length-part_bytes : (m : JobImages) (image : Spelled) (x : Instance) (part : Part) → length (part_bytes m image x part) ≡ length part.bytes
 unfolding part_bytes
 length-part_bytes m image x part = fold_long m image x part image.relocations part.bytes refl
 

@@ -1,5 +1,5 @@
 -- One part of an instance: what may be done with it, and what is found there.
-use Rattle.std.specs.Prelude.{◌+◌, ◌&&◌, ℕ, Bool, false, not, List, Option, Some, None, if◌then◌else◌, option_and_then, slice_get}
+use Rattle.std.specs.Prelude.{◌+◌, ◌^◌, ◌&&◌, ℕ, Bool, false, not, List, Option, Some, None, if◌then◌else◌, option_and_then, nat_lt, slice_get}
 use Rattle.std.specs.List.{filter}
 use Rattle.guest_operands.specs.declared.space.Access.{Access}
 use Rattle.guest_operands.specs.declared.space.Access.TheVariants.{Read, Run, Write}
@@ -19,6 +19,11 @@ abbrev pub allows_fixed : Access → PartClass → Bool → Bool
 allows_fixed Read class is_loaders = not (is_code class) && not (is_written class && not is_loaders)
 allows_fixed Write class is_loaders = false
 allows_fixed Run class is_loaders = is_code class
+
+-- whether an image that is moved so far may have a part at one of the 15 places from a place on: its parts end below 2^32
+-- before they are moved
+abbrev pub is_near : ℕ → ℕ → Bool
+is_near bias place = nat_lt bias (place + 15) && nat_lt place (bias + 2 ^ 32)
 
 -- the ranges that no thread writes
 abbrev pub fixed_ranges : List (Range ℕ) → List (Range ℕ)

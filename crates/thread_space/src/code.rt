@@ -10,9 +10,9 @@ ghost use Rattle.loaded_modules.specs.Loader.{loaded_part};
 ghost use Rattle.thread_space.specs.Fetching.{Copies, code_number, first_code, meets, part_meets};
 ghost use Rattle.thread_space.specs.Kept.{live_in, memory_of};
 
-use crate::parts::{behind_part, is_code};
+use crate::parts::{behind_part, is_code, is_near};
 use crate::space::ThreadSpace;
-use image_file::Image;
+use image_file::{Image, image_is_spelled};
 use loaded_modules::Instance;
 
 /// How many bytes are fetched at once.
@@ -61,10 +61,14 @@ impl<'m> ThreadSpace<'m> {
     fn code_number(&self, instance: &Instance, place: u64) -> Option<u64>
         ensures { result ≡ code_number self.now.vector.images place instance.now }
     {
-        match self.image_of(instance) {
-            Some(image) => self.first_code(image, instance, place),
-            None => None,
+        let Some(image) = self.image_of(instance) else {
+            return None;
+        };
+        image_is_spelled(image);
+        if !is_near(self.bias(instance), place) {
+            return None;
         }
+        self.first_code(image, instance, place)
     }
 
     /// The first live instance that has such a part.

@@ -10,7 +10,7 @@ ghost use Rattle.thread_blocks.specs.JobLoads.{job_loads, parts_from, written_fr
 ghost use Rattle.thread_blocks.specs.Loading.{is_code, is_loaders, is_written};
 ghost use Rattle.thread_blocks.specs.RunTime.{has_words};
 ghost use Rattle.thread_space.specs.Kept.{live_in};
-ghost use Rattle.thread_space.specs.OfParts.{allows_fixed, byte_of_part, fixed_ranges, part_has_words};
+ghost use Rattle.thread_space.specs.OfParts.{allows_fixed, byte_of_part, fixed_ranges, is_near, part_has_words};
 ghost use Rattle.thread_space.specs.Places.{behind};
 
 use crate::space::ThreadSpace;
@@ -20,6 +20,9 @@ use loaded_modules::Instance;
 
 /// How many bytes a question to the run time has: two words.
 const WORDS: u64 = 16;
+
+/// How far behind the start of the address space the parts of an image end at the latest, before they are moved.
+const PARTS_END: u128 = 1 << 32;
 
 pub(crate) fn is_code(class: PartClass) -> bool
     ensures { result ≡ is_code class }
@@ -60,6 +63,16 @@ pub(crate) fn behind_part(start: u64, bias: u64, place: u64) -> Option<u64>
 {
     let place = place.checked_sub(bias)?;
     place.checked_sub(start)
+}
+
+/// Whether an image that is moved so far may have a part at one of the 15 places from a place on. It costs two tests, and a
+/// look at its parts many: most of the live instances are far from a place.
+pub(crate) fn is_near(bias: u64, place: u64) -> bool
+    ensures { result ≡ is_near bias place }
+{
+    let bias = u128::from(bias);
+    let place = u128::from(place);
+    bias < place + 15 && place < bias + PARTS_END
 }
 
 /// Whether two words from an offset on lie among so many bytes.
@@ -155,10 +168,14 @@ impl<'m> ThreadSpace<'m> {
     fn part_byte(&self, instance: &Instance, access: Access, place: u64) -> Option<u8>
         ensures { result ≡ byte_in access ((job_loads self.now.vector.images).fixed instance.now) place }
     {
-        match self.image_of(instance) {
-            Some(image) => self.byte_of_image(image, instance, access, place),
-            None => None,
+        let Some(image) = self.image_of(instance) else {
+            return None;
+        };
+        image_is_spelled(image);
+        if !is_near(self.bias(instance), place) {
+            return None;
         }
+        self.byte_of_image(image, instance, access, place)
     }
 
     /// The same of all live instances.
