@@ -114,12 +114,12 @@ fn link_twice<'a>(
 }
 
 /// Links the object of these bytes as an image of this kind, beside one of those.
-fn link_bytes(
+fn link_bytes<'a>(
     rt: &(impl Abort + Print + Threads + Sync),
     alloc: Global,
     kind: &str,
-    own: &[u8],
-    module: &[u8],
+    own: &'a [u8],
+    module: &'a [u8],
 ) -> Result<(), AllocError> {
     let module = vec![in alloc; read(rt, alloc, module)?]?;
     let startup = [exports(alloc, module.as_slice())?];
