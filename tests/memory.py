@@ -2,9 +2,8 @@
 """memory.py [TLSLD] [CASE..]: runs commands again and again, each time with another request for memory refused.
 
 A refused request ends a command with status 1 and the line `out of memory`. Or it changes nothing at all, where the program can do
-without. Nothing else may come, no run may hang, and no file may change but OUT of `link`, which is the old or the whole new one.
-Status 1 with nothing on standard output passes only within as many requests as reading the words takes: nobody knows yet what the
-command is. Standard error has a line then. These are counted apart, as `early`.
+without. Nothing else may come, from the first word that is read on; no run may hang, and no file may change but OUT of `link`,
+which is the old or the whole new one.
 
 `race` has threads, so the request with the number n may come in any of them, and how many there are may differ from run to run.
 So each command goes on until a run in which none was refused. What `race` prints hangs on who comes first: its lines and events
@@ -40,7 +39,6 @@ EXAMPLES = [f"late_module {words} job" for words in ("run", "check", "race")] + 
 ]
 MANY_THREADS = "run-sixty-four-threads race job"
 SAID = (1, b"out of memory\n", b"")
-EARLY = (1, b"", b"Error: Kind(OutOfMemory)\n")
 HANGS = (None, b"", b"")
 USAGE = 2
 SECONDS = 30
@@ -65,12 +63,6 @@ class Case:
         if self.words[0] == "link":
             with open(f"{room}/{self.words[3]}", "wb") as out:
                 out.write(b"old")
-
-    def most_early(self):
-        """How many requests are made before all words are read: one at the start, one for each word, for the program's name and for
-        the end behind them, and one for each four in the two lists that they stand in, of which one has the name too."""
-        count = len(self.words)
-        return 1 + count + 2 + (count + 4) // 4 + (count + 3) // 4
 
 
 class Bench:
@@ -103,11 +95,11 @@ class Tally:
     """What came of the refused requests of a case."""
 
     def __init__(self):
-        self.said = self.early = self.without = self.starts = self.limits = 0
+        self.said = self.without = self.starts = self.limits = 0
         self.wrong = []
 
     def line(self, name):
-        return (f"{name:44}{self.said:7}{self.early:7}{self.without:8}{self.starts:7}{self.limits:7}"
+        return (f"{name:44}{self.said:7}{self.without:8}{self.starts:7}{self.limits:7}"
                 f"  {self.wrong[0] if self.wrong else 'holds'}")
 
 
@@ -167,14 +159,12 @@ def shown(ended):
     return "hangs" if ended == HANGS else f"status {ended[0]}, {ended[1][:60]!r} and {ended[2][:60]!r}"
 
 
-def judge(case, number, ended, whole, tally):
+def judge(case, ended, whole, tally):
     """Counts what came of a refused request, and says what is wrong with it, or None."""
     if ended == SAID and whole != SAID:
         tally.said += 1
     elif is_same(case, ended, whole):
         tally.without += 1
-    elif ended == EARLY and not tally.said and number <= case.most_early():
-        tally.early += 1
     else:
         return shown(ended)
     return None
@@ -187,7 +177,7 @@ def refuse_memory(bench, case, room, whole, tally):
     for number in itertools.count(1):
         ended, (requests, starts) = bench.refuse(case.words, room, REFUSE=str(number))
         if requests >= number:
-            wrong = judge(case, number, ended, ended_whole, tally)
+            wrong = judge(case, ended, ended_whole, tally)
         else:
             wrong = None if is_same(case, ended, ended_whole) else "differs, with nothing refused"
         wrong = wrong or wrong_files(case, before, contents(room), files_whole)
@@ -244,14 +234,14 @@ def main():
     with tempfile.TemporaryDirectory() as room, ThreadPoolExecutor(2 * os.cpu_count()) as pool:
         shim = f"{room}/refuse.so"
         subprocess.run(["gcc", "-O1", "-shared", "-fPIC", f"{HERE}/refuse.c", "-o", shim, "-ldl"], check=True)
-        print(f"{'case':44}{'said':>7}{'early':>7}{'without':>8}{'starts':>7}{'limits':>7}")
+        print(f"{'case':44}{'said':>7}{'without':>8}{'starts':>7}{'limits':>7}")
         for name, tally in zip(names, pool.map(lambda name: tally_of(tlsld, shim, name), names)):
             tallies.append(tally)
             print(tally.line(name), flush=True)
     bad = sum(1 for tally in tallies if tally.wrong)
-    total = {key: sum(getattr(tally, key) for tally in tallies) for key in ("said", "early", "without", "starts", "limits")}
-    print(f"memory: {total['said']} refused requests were said, {total['early']} ended before the words were read, {total['without']} "
-          f"changed nothing; {total['starts']} starts of threads were refused, and {total['limits']} limits set; "
+    total = {key: sum(getattr(tally, key) for tally in tallies) for key in ("said", "without", "starts", "limits")}
+    print(f"memory: {total['said']} refused requests were said, {total['without']} changed nothing; "
+          f"{total['starts']} starts of threads were refused, and {total['limits']} limits set; "
           f"{bad} cases do not hold")
     sys.exit(1 if bad else 0)
 

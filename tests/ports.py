@@ -2,8 +2,8 @@
 """ports.py [TLSLD]: what the program makes of files, disks and pipes that fail, each case a row of the tables below.
 
 A row says how the command ends, with which line, and what has changed in the folder. All or nothing: where a plain file or
-nothing stands at OUT, it is the old or the whole new file afterwards, no `.part` file is left, and nothing else has changed. Only
-a device, a pipe or a link is written in place. Rows of `link` are run with nothing at OUT and with an old file there.
+nothing stands at OUT, it is the old or the whole new file afterwards, no `.part` file is left, and nothing else has changed, unless
+a signal ends the program. Only a device, a pipe or a link is written in place. Rows of `link` are run with nothing at OUT and with an old file there.
 
 Some rows have true disks, devices and pipes, others the shim of tests/faulty.c, which needs gcc. Rows that need root, for a small
 disk, are left out where it is not there, and counted.
@@ -13,6 +13,7 @@ import itertools
 import os
 import resource
 import shutil
+import signal
 import struct
 import subprocess
 import sys
@@ -39,6 +40,8 @@ JOBS = {
 }
 RUN, LINK = "run job", "link job app out"
 STORE, SINK, MEMORY = (3, "store fault\n"), (4, ""), (1, "out of memory\n")
+# Nothing can be told of a limit of file size by a program that its signal ends: a part is left then.
+KILLED = (-signal.SIGXFSZ, "")
 RAN, LINKED = (0, "t1 l1 g0 = 000000000000002a\n"), (0, "linked app 12485\n")
 NO_EXE, CUT_OBJECT = (5, "job 0 NoExe\n"), (6, "object {} section 0 entry 0 Truncated\n")
 
@@ -335,7 +338,7 @@ OUTPUTS = [
     Row("standard output is only read", RUN, putting(before=lambda: os.dup2(os.open("/", os.O_RDONLY), 1)), SINK),
     Row("a pipe that nobody reads", RUN, unread(False), SINK),
     Row("the same, SIGPIPE ignored", RUN, unread(True), SINK),
-    Row("files of at most 10 bytes", RUN, limited(resource.RLIMIT_FSIZE, 10, target="said"), SINK, {"said": RAN[1][:10].encode()}),
+    Row("files of at most 10 bytes", RUN, limited(resource.RLIMIT_FSIZE, 10, target="said"), KILLED, {"said": RAN[1][:10].encode()}),
     Row("the same, SIGXFSZ ignored", RUN, limited(resource.RLIMIT_FSIZE, 10, True, "said"), SINK, {"said": RAN[1][:10].encode()}),
     Row("writes of one byte each", RUN, shimmed("write", "short", times=0), RAN),
     Row("a thousand writes interrupted", RUN, shimmed("write", errno.EINTR, times=1000), RAN),
@@ -355,7 +358,7 @@ LINKS = [
     Row("a write takes nothing", LINK, shimmed("write", "end"), STORE),
     Row("no memory in the host for a write", LINK, shimmed("write", errno.ENOMEM), MEMORY),
     Row("a disk full at the second write", LINK, shimmed("write", errno.ENOSPC, 2), SINK, {"out": NEW}),
-    Row("files of at most 8,192 bytes", LINK, limited(resource.RLIMIT_FSIZE, 8192), STORE),
+    Row("files of at most 8,192 bytes", LINK, limited(resource.RLIMIT_FSIZE, 8192), KILLED, {"out.part0": PART}),
     Row("the same, SIGXFSZ ignored", LINK, limited(resource.RLIMIT_FSIZE, 8192, True), STORE),
     Row("files of no byte, SIGXFSZ ignored", LINK, limited(resource.RLIMIT_FSIZE, 0, True), STORE),
     Row("a folder that may not be written", LINK, as_another(".", 0o555), STORE),
