@@ -8,6 +8,7 @@ it takes them as they stand. Needs gcc, which makes the shim of tests/refuse.c. 
 crates refuses the Nth request of each test there.
 """
 import os
+import struct
 import subprocess
 import sys
 import tempfile
@@ -29,23 +30,28 @@ TESTS = [
 ]
 
 
-def run(crate, test, shim, **more):
-    """What a test ends with, what it says of a refused call, and all that it prints."""
+def run(crate, test, shim, counts, **more):
+    """What a test ends with, what it says of a refused call, and all that it prints. The shim counts its requests there."""
+    with open(counts, "wb") as file:
+        file.write(bytes(16))
     words = [f"{CRATES}/{crate}/out/{crate}_tests", f"growth::{test}"]
-    found = subprocess.run(words, env={**os.environ, "LD_PRELOAD": shim, **more}, capture_output=True, text=True, timeout=60)
+    settings = {**os.environ, "LD_PRELOAD": shim, "COUNT": counts, **more}
+    found = subprocess.run(words, env=settings, capture_output=True, text=True, timeout=60)
     said = [line for line in found.stdout.splitlines() if line.startswith("refused: ")]
     return found.returncode, said, found.stdout + found.stderr
 
 
 def refusals(crate, test, call, shim, room):
     """How many requests the test makes, at which of them its call was refused, and what is wrong."""
-    status, said, printed = run(crate, test, shim, COUNT=f"{room}/{test}")
+    counts = f"{room}/{test}"
+    status, said, printed = run(crate, test, shim, counts)
     if status or said:
         return 0, [], [f"with nothing refused: status {status} {printed}"]
-    count = int(open(f"{room}/{test}").read())
+    with open(counts, "rb") as file:
+        count = struct.unpack("<QQ", file.read())[0]
     refused, wrong = [], []
     for number in range(1, count + 1):
-        status, said, printed = run(crate, test, shim, REFUSE=str(number))
+        status, said, printed = run(crate, test, shim, counts, REFUSE=str(number))
         if status or said not in ([], [f"refused: {call}"]):
             wrong.append(f"request {number} of {count}: status {status} {printed}")
         if said:
