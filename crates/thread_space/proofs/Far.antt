@@ -25,10 +25,10 @@ use Rattle.thread_space.proofs.PartBytes.{bias_here, by_class, of_image}
 abbrev Apart : ℕ → ℕ → ℕ → Type 0
 Apart start size place = (place + 15 ≤ start) ⊎ (start + size ≤ place)
 
-apart : (address size moved place : ℕ) → address + size < 2 ^ 32 → is_near moved place ≡ false → Apart (address + moved) size place
+apart : (address size moved place : ℕ) → address + size < 2 ^ 27 → is_near moved place ≡ false → Apart (address + moved) size place
 apart address size moved place low far = elim (cases_lt moved (place + 15)) [
   | inl before ↦
-      let past : moved + 2 ^ 32 ≤ place = ltb-false place (moved + 2 ^ 32) (sym (rw (lt-ltb moved (place + 15) before) refl) ∙ far) in
+      let past : moved + 2 ^ 27 ≤ place = ltb-false place (moved + 2 ^ 27) (sym (rw (lt-ltb moved (place + 15) before) refl) ∙ far) in
       inr (omega (arith, past, low))
   | inr behind ↦ inl (omega (arith, behind))
 ]
@@ -58,10 +58,10 @@ no_meeting true start size place (inr ends) = elim (cases_Bool (nat_lt start (pl
 -- ** all parts of an image
 
 abbrev Lows : List Part → Type 0
-Lows parts = (i : ℕ) (part : Part) → slice_get parts i ≡ Some part → part.address + length part.bytes < 2 ^ 32
+Lows parts = (i : ℕ) (part : Part) → slice_get parts i ≡ Some part → part.address + length part.bytes < 2 ^ 27
 
 module _ (m : JobImages) (image : Spelled) (x : Instance) (place : ℕ) (far : is_near (bias image.kind x.number) place ≡ false) where
-  away : (part : Part) → part.address + length part.bytes < 2 ^ 32
+  away : (part : Part) → part.address + length part.bytes < 2 ^ 27
       → Apart (part.address + bias image.kind x.number) (length (part_bytes m image x part)) place
   away part low = rw (length-part_bytes m image x part) (apart part.address (length part.bytes) (bias image.kind x.number) place low far)
 

@@ -62,7 +62,7 @@ base_low false = omega arith
 fits : (b : List ℕ) (i : ℕ) → IsRightLoad b i → (segment b i).vaddr + (segment b i).filesz ≤ base b + 2 ^ 26
 fits b i right = omega (arith, right.2.0, right.3.1)
 
-load_low : (b : List ℕ) → IsImage b → (i : ℕ) → i < loads b → (segment b i).vaddr + (segment b i).filesz < 2 ^ 32
+load_low : (b : List ℕ) → IsImage b → (i : ℕ) → i < loads b → (segment b i).vaddr + (segment b i).filesz < 2 ^ 27
 unfolding Breaks
 load_low b image i within =
     let low = at_most ((segment b i).vaddr + (segment b i).filesz) (base b + 2 ^ 26) (λ no. image SegmentRule i (inl (within, λ right. no (fits b i right)))) in
@@ -74,16 +74,16 @@ range_long xs from n = let e : from + n - from ≡ n = omega arith in rw e (omeg
 same_part : (x y : Part) → Some x ≡ Some y → x ≡ y
 same_part x y e = cc
 
-found_low : (b : List ℕ) → IsImage b → (i : ℕ) (p : Part) → slice_get (parts b) i ≡ Some p → p.address + length p.bytes < 2 ^ 32
+found_low : (b : List ℕ) → IsImage b → (i : ℕ) (p : Part) → slice_get (parts b) i ≡ Some p → p.address + length p.bytes < 2 ^ 27
 unfolding part
 found_low b image i p is =
     let within : i < loads b = let lt = slice_get_within (parts b) i p is in let long = length-tabled (part b) (loads b) in omega (arith, lt, long) in
     let same = same_part (part b i) p (sym (tabled_at (part b) (loads b) i within) ∙ is) in
     let long = range_long b (segment b i).offset (segment b i).filesz in
-    subst (λ (q : Part). q.address + length q.bytes < 2 ^ 32) same (omega (arith, load_low b image i within, long))
+    subst (λ (q : Part). q.address + length q.bytes < 2 ^ 27) same (omega (arith, load_low b image i within, long))
 
 pub part_low : (image : Spelled) → (b : List ℕ) × (IsImage b × (image ≡ spelled b)) → (i : ℕ) (p : Part)
-    → slice_get image.parts i ≡ Some p → p.address + length p.bytes < 2 ^ 32
+    → slice_get image.parts i ≡ Some p → p.address + length p.bytes < 2 ^ 27
 part_low image (b, (is, spells)) i p at = found_low b is i p (ap (λ (s : Spelled). slice_get s.parts i) (sym spells) ∙ at)
 
 -- ** moves

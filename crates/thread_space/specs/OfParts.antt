@@ -20,10 +20,10 @@ allows_fixed Read class is_loaders = not (is_code class) && not (is_written clas
 allows_fixed Write class is_loaders = false
 allows_fixed Run class is_loaders = is_code class
 
--- whether an image that is moved so far may have a part at one of the 15 places from a place on: its parts end below 2^32
+-- whether an image that is moved so far may have a part at one of the 15 places from a place on: its parts end below 2^27
 -- before they are moved
 abbrev pub is_near : ℕ → ℕ → Bool
-is_near bias place = nat_lt bias (place + 15) && nat_lt place (bias + 2 ^ 32)
+is_near bias place = nat_lt bias (place + 15) && nat_lt place (bias + 2 ^ 27)
 
 -- the ranges that no thread writes
 abbrev pub fixed_ranges : List (Range ℕ) → List (Range ℕ)

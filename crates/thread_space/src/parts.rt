@@ -21,8 +21,9 @@ use loaded_modules::Instance;
 /// How many bytes a question to the run time has: two words.
 const WORDS: u64 = 16;
 
-/// How far behind the start of the address space the parts of an image end at the latest, before they are moved.
-const PARTS_END: u128 = 1 << 32;
+/// Where the parts of an image end at the latest, before they are moved. Instances are moved 2^26 bytes further than the
+/// one before, so a place is near to three at the most.
+const PARTS_END: u128 = 1 << 27;
 
 pub(crate) fn is_code(class: PartClass) -> bool
     ensures { result ≡ is_code class }
