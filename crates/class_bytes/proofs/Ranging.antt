@@ -91,36 +91,23 @@ module _ (l : Linking) (bias : ℕ) (keeps : Keeps l bias) where
       (held (class_range l bias ReadOnly) place)
   still_is s Write place are = refl
 
-  pub block_is : (c : ClassTable) (size : ℕ) (values block : List Byte) → IsClass l (Tls true) c → size ≡ tls_size (layout l).sections
-      → values ≡ map Value (bytes_at c bias) → block ≡ values ++ replicate (size - length values) (Value 0)
-      → block ≡ map Value (block_bytes l bias)
+  pub block_is : (c : ClassTable) (size : ℕ) (values block : List ℕ) → IsClass l (Tls true) c → size ≡ tls_size (layout l).sections
+      → values ≡ bytes_at c bias → block ≡ values ++ replicate (size - length values) 0 → block ≡ block_bytes l bias
   block_is c size values block is e all padded =
-      let own : values ≡ map Value (class_bytes l bias (Tls true)) = all ∙ ap (map Value) (is.bytes_are bias keeps) in
-      let len : length values ≡ length (class_bytes l bias (Tls true)) = ap length own ∙ length-map (class_bytes l bias (Tls true)) Value in
-      rw (padded, own, length-map (class_bytes l bias (Tls true)) Value, e) (sym (both (class_bytes l bias (Tls true)) (tls_size (layout l).sections - length (class_bytes l bias (Tls true)))))
-    where
-      zeros : (n : ℕ) → map Value (replicate n 0) ≡ replicate n (Value 0)
-      zeros zero = refl
-      zeros (suc n) = ap (λ xs. Value 0 ∷ xs) (zeros n)
-
-      both : (xs : List ℕ) (n : ℕ) → map Value (xs ++ replicate n 0) ≡ map Value xs ++ replicate n (Value 0)
-      both [] n = zeros n
-      both (x ∷ xs) n = ap (λ ys. Value x ∷ ys) (both xs n)
+      let own : values ≡ class_bytes l bias (Tls true) = all ∙ is.bytes_are bias keeps in
+      rw (padded, own, e) refl
 
 -- ** all bytes of a table
 
-pub no_values : (c : ClassTable) (bias : ℕ) → [] ≡ map Value (map (byte_at c bias) (range_with_len 0 0))
+pub no_values : (c : ClassTable) (bias : ℕ) → [] ≡ map (byte_at c bias) (range_with_len 0 0)
 no_values c bias = refl
 
-pub all_values : (c : ClassTable) (bias n : ℕ) (values : List Byte) → n ≡ length c.bytes → values ≡ map Value (map (byte_at c bias) (range_with_len 0 n)) → values ≡ map Value (bytes_at c bias)
+pub all_values : (c : ClassTable) (bias n : ℕ) (values : List ℕ) → n ≡ length c.bytes → values ≡ map (byte_at c bias) (range_with_len 0 n)
+    → values ≡ bytes_at c bias
 unfolding bytes_at
-all_values c bias n values e all = all ∙ ap (λ k. map Value (map (byte_at c bias) (range_with_len 0 k))) e
+all_values c bias n values e all = all ∙ ap (λ k. map (byte_at c bias) (range_with_len 0 k)) e
 
-pub more_values : (c : ClassTable) (bias n v : ℕ) (values : List Byte) → values ≡ map Value (map (byte_at c bias) (range_with_len 0 n)) → v ≡ byte_at c bias n
-    → values ++ (Value v ∷ []) ≡ map Value (map (byte_at c bias) (range_with_len 0 (n + 1)))
+pub more_values : (c : ClassTable) (bias n v : ℕ) (values : List ℕ) → values ≡ map (byte_at c bias) (range_with_len 0 n) → v ≡ byte_at c bias n
+    → values ++ (v ∷ []) ≡ map (byte_at c bias) (range_with_len 0 (n + 1))
 more_values c bias n v values all e =
-    rw (map-range_with_len_more (byte_at c bias) 0 n n (omega arith), all, e) (sym (push (map (byte_at c bias) (range_with_len 0 n)) (byte_at c bias n)))
-  where
-    push : (xs : List ℕ) (x : ℕ) → map Value (xs ++ (x ∷ [])) ≡ map Value xs ++ (Value x ∷ [])
-    push [] x = refl
-    push (y ∷ xs) x = ap (λ ys. Value y ∷ ys) (push xs x)
+    rw (map-range_with_len_more (byte_at c bias) 0 n n (omega arith), all, e) refl

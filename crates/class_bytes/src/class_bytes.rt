@@ -1,6 +1,6 @@
 //! The bytes of a class of sections, at every place that the image may be moved to.
 
-ghost use Rattle.std.specs.Prelude.{◌≡◌, ◌+◌, ◌<◌, ◌≤◌, ◌^◌, ◌==◌, IfOk, length, map, slice_index_or};
+ghost use Rattle.std.specs.Prelude.{◌≡◌, ◌+◌, ◌<◌, ◌≤◌, ◌^◌, ◌==◌, IfOk, length, slice_index_or};
 ghost use Rattle.elf_records.specs.Fields.{number_at as number_in};
 ghost use Rattle.class_bytes.specs.Laying.{HasRange};
 ghost use Rattle.class_bytes.specs.Tables.{IsClass, byte_at as byte_in, byte_of_place, bytes_at};
@@ -10,7 +10,6 @@ use crate::fields::{Fields, Table};
 use crate::laying::{class_extent, lay};
 use byteorder::{ByteOrder, LittleEndian};
 use elf_object::SectionClass;
-use job_meaning::Byte;
 use link_needs::Inputs;
 use std::alloc::{AllocError, Global};
 use std::marker::Model;
@@ -164,14 +163,14 @@ impl ClassBytes {
 
     /// All bytes of the class, where the image is moved by `bias`.
     #[tactic(auto, using(crate::proofs::Ranging::all_values, crate::proofs::Ranging::more_values))]
-    pub fn values(&self, alloc: Global, bias: u64) -> Result<Vec<Byte>, AllocError>
+    pub fn values(&self, alloc: Global, bias: u64) -> Result<Vec<u8>, AllocError>
         requires { bias < 2 ^ 60 }
-        ensures { IfOk result (λ bytes. bytes.items ≡ map Byte.Value (bytes_at self.now bias)) }
+        ensures { IfOk result (λ bytes. bytes.items ≡ bytes_at self.now bias) }
     {
         let count = self.bytes().len();
         let mut bytes = Vec::with_capacity(alloc, count)?;
         for index in 0..count {
-            bytes.push(Byte::Value(self.byte_at(bias, index)))?;
+            bytes.push(self.byte_at(bias, index))?;
         }
         Ok(bytes)
     }

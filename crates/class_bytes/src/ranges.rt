@@ -16,6 +16,7 @@ use elf_object::SectionClass;
 use guest_operands::Access;
 use job_meaning::Byte;
 use link_needs::Inputs;
+use marked_bytes::MarkedBytes;
 use std::alloc::{AllocError, Global};
 use std::marker::Model;
 
@@ -82,29 +83,44 @@ impl StillBytes {
 }
 
 /// Fills a block with zeros up to a length, if it is shorter.
-fn pad_block(block: &mut Vec<Byte>, len: usize) -> Result<(), AllocError>
-    ensures { OnOk result (block.new.items
-        ≡ block.old.items ++ replicate (len - length block.old.items) (Byte.Value 0)) }
+fn pad_block(block: &mut Vec<u8>, len: usize) -> Result<(), AllocError>
+    ensures { OnOk result (block.new.items ≡ block.old.items ++ replicate (len - length block.old.items) 0) }
 {
     if block.len() < len {
-        block.resize(len, Byte::Value(0))?;
+        block.resize(len, 0)?;
     }
     Ok(())
 }
 
-/// A thread's block before any write, of an instance that is moved by `bias`: the initial image, and zeros up to the
-/// size of the segment.
+/// The values of a thread's block before any write, of an instance that is moved by `bias`: the initial image, and zeros
+/// up to the size of the segment.
+fn block_values(
+    alloc: Global,
+    initial: &ClassBytes,
+    size: u64,
+    bias: u64,
+) -> Result<Vec<u8>, AllocError>
+    requires { bias < 2 ^ 60 }
+    ensures { IfOk result (λ block. (l : Linking) → IsClass l (Tls true) initial.now → Keeps l bias
+        → size ≡ tls_size (layout l).sections → block.items ≡ block_bytes l bias) }
+{
+    let mut block = initial.values(alloc, bias)?;
+    pad_block(&mut block, size as usize)?;
+    Ok(block)
+}
+
+/// A thread's block before any write, of an instance that is moved by `bias`.
 pub fn block_of(
     alloc: Global,
     initial: &ClassBytes,
     size: u64,
     bias: u64,
-) -> Result<Vec<Byte>, AllocError>
+) -> Result<MarkedBytes, AllocError>
     requires { bias < 2 ^ 60 }
     ensures { IfOk result (λ block. (l : Linking) → IsClass l (Tls true) initial.now → Keeps l bias
-        → size ≡ tls_size (layout l).sections → block.items ≡ map Byte.Value (block_bytes l bias)) }
+        → size ≡ tls_size (layout l).sections → block ≡ map Byte.Value (block_bytes l bias)) }
 {
-    let mut block = initial.values(alloc, bias)?;
-    pad_block(&mut block, size as usize)?;
+    let values = block_values(alloc, initial, size, bias)?;
+    let block = MarkedBytes::of(alloc, values)?;
     Ok(block)
 }

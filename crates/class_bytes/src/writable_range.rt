@@ -5,13 +5,14 @@ ghost use Rattle.guest_operands.specs.Ranges.{grants, holds};
 
 use guest_operands::Access;
 use job_meaning::Byte;
+use marked_bytes::MarkedBytes;
 use std::marker::Model;
 
 /// Bytes that programs read and write, from a place on.
 #[derive(Drop)]
 pub struct WritableRange {
     pub start: u64,
-    pub bytes: Vec<Byte>,
+    pub bytes: MarkedBytes,
 }
 
 impl Model for WritableRange {
@@ -23,7 +24,7 @@ impl Model for WritableRange {
 
     ghost view = { λ range. record {
       start = range.start;
-      bytes = range.bytes.items;
+      bytes = range.bytes;
       readable = true;
       writable = true;
       runnable = false;
@@ -39,16 +40,14 @@ impl WritableRange {
             Access::Read | Access::Write => true,
             Access::Run => false,
         };
-        is_allowed && self.start <= place && place - self.start < self.bytes.len() as u64
+        is_allowed && self.start <= place && place - self.start < self.bytes.len()
     }
 
     /// The byte at a place in the range.
     pub fn byte(&self, place: u64) -> Option<Byte>
         ensures { result ≡ slice_get self.now.bytes (place - self.now.start) }
     {
-        self.bytes
-            .get((place.saturating_sub(self.start)) as usize)
-            .copied()
+        self.bytes.byte(place.saturating_sub(self.start))
     }
 
     /// Writes the byte at a place in the range.
@@ -56,6 +55,6 @@ impl WritableRange {
         requires { IsTrue (holds self.old place) }
         ensures { self.new ≡ record self.old { bytes = slice_set self.old.bytes (place - self.old.start) byte } }
     {
-        self.bytes[(place - self.start) as usize] = byte;
+        self.bytes.set_byte(place - self.start, byte);
     }
 }

@@ -10,6 +10,7 @@ mod OneTurn
 mod OpensBegun
 mod Orders
 mod OwnedApart
+mod Parts
 mod PartsTaken
 mod PlainSteps
 mod Resuming

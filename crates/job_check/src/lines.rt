@@ -1,9 +1,10 @@
 //! What the first look of a thread's line comes to.
 
-ghost use Rattle.std.specs.Prelude.{◌≡◌, ◌≤◌, ◌<◌, ◌+◌, ◌^◌, ℕ, IfOk, OnOk, is_some, length, map, option_map};
+ghost use Rattle.std.specs.Prelude.{◌≡◌, ◌≤◌, ◌<◌, ◌+◌, ◌^◌, ℕ, IfOk, OnOk, is_some, length, map};
 ghost use Rattle.job_meaning.specs.Marked.{values_of};
 ghost use Rattle.module_table.specs.Past.{module_of};
-ghost use Rattle.thread_blocks.specs.Instances.{instances_in, loaded_instance};
+ghost use Rattle.thread_blocks.specs.Held.{block_bytes};
+ghost use Rattle.thread_blocks.specs.Instances.{block_start, instances_in, loaded_instance};
 ghost use Rattle.thread_blocks.specs.MachineTurns.{call_start};
 ghost use Rattle.whole_meaning.specs.Loads.{info_of};
 ghost use Rattle.whole_meaning.specs.Threads.{ops};
@@ -16,6 +17,7 @@ use guest_arithmetic::Cause;
 use guest_operands::{State, Stop, start};
 use job_meaning::{Byte, Flag, MarkedValues, Token, Word};
 use job_text::{Action, ThreadLine};
+use loaded_modules::Instance;
 use meant_space::{MeantSpace, Wanted};
 use module_table::{Event, ModuleTable};
 use std::alloc::{AllocError, Global};
@@ -241,26 +243,24 @@ fn shown_step(thread: u32, line: u32, address: u64, bytes: &[Byte]) -> Option<Un
     unclean_stop(thread, line, unclean_bytes(address, bytes))
 }
 
-/// The unclean step of a line that shows bytes of a block, from an offset on, if it has one.
+/// The unclean step of a line that shows bytes of the thread's block of an instance, from an offset on, if it has one.
+#[tactic(auto, using(crate::proofs::Parts::part_shown, crate::proofs::Parts::part_missing))]
 fn step_in(
-    thread: u32,
+    space: &MeantSpace,
+    instance: &Instance,
     line: u32,
-    start: u64,
-    size: u32,
     offset: u64,
-    block: Option<&[Byte]>,
-) -> Option<UncleanStep>
-    requires { start < 2 ^ 57 }
-    ensures { result ≡ step_in thread line start size offset (option_map (λ b. b.now) block.entry) }
+    size: u32,
+) -> Result<Option<UncleanStep>, AllocError>
+    ensures { IfOk result (λ step. step ≡ step_in space.now.thread line (block_start space.now.thread instance.now)
+        size offset (block_bytes instance.now.number space.now.own)) }
 {
-    let block = block?;
-    match offset.checked_add(u64::from(size)) {
-        Some(end) if end <= block.len() as u64 => {
-            let bytes = &block[offset as usize..end as usize];
-            shown_step(thread, line, start + offset, bytes)
-        }
-        _ => None,
-    }
+    let Some(bytes) = space.part(instance.number, offset, size)? else {
+        return Ok(None);
+    };
+    let thread = space.thread();
+    let address = block_start(thread, instance) + offset;
+    Ok(shown_step(thread, line, address, &bytes))
 }
 
 /// Shows bytes of a variable, from the block of the live instance of the line's image. The block is reached, also where
@@ -284,10 +284,7 @@ fn peek(
     let Some(offset) = space.images().variable(line.image, symbol) else {
         return Ok(CLEAN);
     };
-    let thread = space.thread();
-    let start = block_start(thread, &instance);
-    let block = space.block(instance.number);
-    Ok(Started::Says(step_in(thread, number, start, size, offset, block)))
+    Ok(Started::Says(step_in(space, &instance, number, offset, size)?))
 }
 
 // ** lines

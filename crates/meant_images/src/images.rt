@@ -24,9 +24,9 @@ use class_bytes::laws::linked_instances_keep_fields;
 use class_bytes::{ClassBytes, StillBytes, WritableRange, block_of};
 use elf_object::SectionClass;
 use guest_operands::Access;
-use job_meaning::Byte;
 use link_needs::Inputs;
 use loaded_modules::Instance;
+use marked_bytes::MarkedBytes;
 use module_table::ImageInfo;
 use std::alloc::{AllocError, Global};
 use std::marker::Model;
@@ -175,7 +175,7 @@ fn data_in(
         return Ok(None);
     }
     let start = writable.place(bias);
-    let bytes = writable.values(alloc, bias)?;
+    let bytes = MarkedBytes::of(alloc, writable.values(alloc, bias)?)?;
     Ok(Some(WritableRange { start, bytes }))
 }
 
@@ -375,12 +375,12 @@ impl<'i> MeantImages<'i> {
 
     /// A thread's block of the instance before any write.
     #[tactic(auto, unfolding(whole_meaning::specs::Loads::loads_of))]
-    pub fn block(&self, alloc: Global, instance: &Instance) -> Result<Vec<Byte>, AllocError>
-        ensures { IfOk result (λ bytes. bytes.items ≡ (loads_of self.now).block instance.now) }
+    pub fn block(&self, alloc: Global, instance: &Instance) -> Result<MarkedBytes, AllocError>
+        ensures { IfOk result (λ bytes. bytes ≡ (loads_of self.now).block instance.now) }
     {
         linked_instances_keep_fields();
         let Some(own) = self.image(instance.image) else {
-            return Ok(Vec::new(alloc));
+            return Ok(MarkedBytes::none(alloc));
         };
         match self.tables(instance.image) {
             Some(tables) => {
@@ -388,7 +388,7 @@ impl<'i> MeantImages<'i> {
                 let size = own.placement.tls_size();
                 block_of(alloc, tables.still.initial(), size, bias)
             }
-            None => Ok(Vec::new(alloc)),
+            None => Ok(MarkedBytes::none(alloc)),
         }
     }
 }

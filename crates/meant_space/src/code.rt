@@ -1,12 +1,13 @@
 //! The code that a thread may run, and its stack.
 
-ghost use Rattle.std.specs.Prelude.{◌≡◌, ◌≤◌, ◌==◌, ◌-◌, length, option_map};
+ghost use Rattle.std.specs.Prelude.{◌≡◌, ◌≤◌, ◌<◌, ◌==◌, ◌-◌, ◌^◌, IfOk, IfSome, length, option_map};
 ghost use Rattle.std.specs.List.{find, list_any};
 ghost use Rattle.guest_machine.specs.Run.{is_look};
 ghost use Rattle.thread_blocks.specs.Held.{block_bytes};
 ghost use Rattle.thread_blocks.specs.MachineTurns.{stack_start};
 ghost use Rattle.whole_meaning.specs.Loads.{meaning_of};
 ghost use Rattle.meant_space.specs.Kept.{is_stack, mark_in, owner_in, sequence_in, shut_in};
+ghost use Rattle.meant_space.specs.Owners.{part_in};
 ghost use Rattle.meant_space.specs.Spaces.{with_hidden};
 
 use crate::owned;
@@ -15,6 +16,7 @@ use crate::words::stack_start;
 use guest_machine::{DESCRIPTOR, GET_ADDRESS};
 use job_meaning::Byte;
 use loaded_modules::Instance;
+use std::alloc::AllocError;
 use whole_meaning::{Mark, Sequence};
 
 /// Whether the run time is called there.
@@ -37,11 +39,21 @@ impl<'m> MeantSpace<'m> {
         None
     }
 
-    /// The bytes of the block that the thread has of an instance.
-    pub fn block(&self, instance: u32) -> Option<&[Byte]>
-        ensures { option_map (λ b. b.now) result ≡ block_bytes instance self.now.own }
+    /// The bytes of the block that the thread has of an instance, from an offset on, where so many lie in it.
+    pub fn part(
+        &self,
+        instance: u32,
+        offset: u64,
+        size: u32,
+    ) -> Result<Option<Vec<Byte>>, AllocError>
+        ensures part { IfOk result (λ part. option_map (λ bytes. bytes.items) part
+            ≡ part_in offset size (block_bytes instance self.now.own)) }
+        ensures low { IfOk result (λ part. IfSome part (λ bytes. offset < 2 ^ 32)) }
     {
-        owned::block(&self.own, instance)
+        match owned::block(&self.own, instance) {
+            Some(block) => owned::part_of(self.alloc, block, offset, size),
+            None => Ok(None),
+        }
     }
 
     /// The live instance whose code stands at a place.

@@ -13,8 +13,8 @@ use crate::owned::{OwnedRange, Written, take_bytes};
 use crate::space::{MeantSpace, Wanted};
 use crate::words::block_start;
 use class_bytes::WritableRange;
-use job_meaning::Byte;
 use loaded_modules::Instance;
+use marked_bytes::MarkedBytes;
 use std::alloc::AllocError;
 
 /// Whether the block of an instance is wanted.
@@ -39,9 +39,9 @@ fn fills(wanted: Wanted, instance: &Instance) -> bool
 }
 
 /// A thread's block of an instance, of these bytes.
-fn block_with(thread: u32, instance: &Instance, bytes: Vec<Byte>) -> OwnedRange
+fn block_with(thread: u32, instance: &Instance, bytes: MarkedBytes) -> OwnedRange
     requires { thread ≤ 64 }
-    ensures { result ∷ [] ≡ block_with thread instance.now (Some bytes.items) }
+    ensures { result ∷ [] ≡ block_with thread instance.now (Some bytes) }
 {
     OwnedRange {
         kind: Written::Block,

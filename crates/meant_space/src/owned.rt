@@ -1,17 +1,18 @@
 //! Bytes that are written, and whose they are.
 
-ghost use Rattle.std.specs.Prelude.{◌≡◌, ◌-◌, IfOk, IsTrue, option_map, slice_get, slice_set};
+ghost use Rattle.std.specs.Prelude.{◌≡◌, ◌-◌, ◌<◌, ◌^◌, IfOk, IfSome, IsTrue, Some, option_map, slice_get, slice_set};
 ghost use Rattle.std.specs.List.{position_or_len};
 ghost use Rattle.guest_memory.specs.Writable.{first_writable};
 ghost use Rattle.guest_operands.specs.Ranges.{byte_in, grants, holds};
 ghost use Rattle.thread_blocks.specs.Held.{block_bytes, ranges_in};
 ghost use Rattle.thread_blocks.specs.JobWorlds.{blocks_in, data_in};
-ghost use Rattle.meant_space.specs.Owners.{LeavesOthers, bytes_for, is_owner};
+ghost use Rattle.meant_space.specs.Owners.{LeavesOthers, bytes_for, is_owner, part_in};
 ghost use Rattle.meant_space.specs.Writing.{written_in};
 
 use class_bytes::WritableRange;
 use guest_operands::Access;
 use job_meaning::Byte;
+use marked_bytes::MarkedBytes;
 use std::alloc::{AllocError, Global};
 use std::marker::Model;
 use std::mem;
@@ -59,11 +60,11 @@ impl OwnedRange {
     }
 
     /// Its bytes.
-    fn bytes(&self) -> &[Byte]
+    fn bytes(&self) -> &MarkedBytes
         ensures { result.now ≡ self.now.range.bytes }
     {
         let range = &self.range;
-        range.bytes.as_slice()
+        &range.bytes
     }
 
     /// The same once more.
@@ -71,7 +72,7 @@ impl OwnedRange {
         ensures { IfOk result (λ owned. owned ≡ self.now) }
     {
         let range = &self.range;
-        let bytes = Vec::from_slice(alloc, range.bytes.as_slice())?;
+        let bytes = range.bytes.copy(alloc)?;
         Ok(OwnedRange {
             kind: self.kind,
             instance: self.instance,
@@ -83,12 +84,12 @@ impl OwnedRange {
     }
 
     /// Hands out its bytes, and keeps none.
-    fn take_bytes(&mut self, alloc: Global) -> Vec<Byte>
-        ensures bytes { result.items ≡ self.old.range.bytes }
+    fn take_bytes(&mut self, alloc: Global) -> MarkedBytes
+        ensures bytes { result ≡ self.old.range.bytes }
         ensures owner { self.new.owner ≡ self.old.owner }
     {
         let range = &mut self.range;
-        mem::replace(&mut range.bytes, Vec::new(alloc))
+        mem::replace(&mut range.bytes, MarkedBytes::none(alloc))
     }
 
     /// Whether the byte at a place lies in the range and may be accessed so.
@@ -117,7 +118,7 @@ impl OwnedRange {
 }
 
 /// The bytes of the block of an instance.
-pub(crate) fn block(owned: &[OwnedRange], instance: u32) -> Option<&[Byte]>
+pub(crate) fn block(owned: &[OwnedRange], instance: u32) -> Option<&MarkedBytes>
     ensures { option_map (λ b. b.now) result ≡ block_bytes instance owned.now }
 {
     for range in owned {
@@ -126,6 +127,24 @@ pub(crate) fn block(owned: &[OwnedRange], instance: u32) -> Option<&[Byte]>
         }
     }
     None
+}
+
+/// The bytes of a block from an offset on, where so many lie in it.
+pub(crate) fn part_of(
+    alloc: Global,
+    block: &MarkedBytes,
+    offset: u64,
+    size: u32,
+) -> Result<Option<Vec<Byte>>, AllocError>
+    ensures part { IfOk result (λ part. option_map (λ bytes. bytes.items) part ≡ part_in offset size (Some block.now)) }
+    ensures low { IfOk result (λ part. IfSome part (λ bytes. offset < 2 ^ 32)) }
+{
+    match offset.checked_add(u64::from(size)) {
+        Some(end) if end <= block.len() => {
+            Ok(Some(block.part(alloc, offset as usize, end as usize)?))
+        }
+        _ => Ok(None),
+    }
 }
 
 /// The byte at a place, where it may be accessed so.
@@ -215,8 +234,8 @@ pub(crate) fn take_bytes(
     owned: &mut [OwnedRange],
     kind: Written,
     instance: u32,
-) -> Option<Vec<Byte>>
-    ensures bytes { option_map (λ bytes. bytes.items) result ≡ bytes_for (is_owner kind instance) owned.old }
+) -> Option<MarkedBytes>
+    ensures bytes { result ≡ bytes_for (is_owner kind instance) owned.old }
     ensures others { LeavesOthers kind instance owned.old owned.new }
 {
     let index = place_of(owned, kind, instance);

@@ -41,11 +41,8 @@ returns c =
     let new = c.reach.new.self in
     let keeps = keeps line c.args.symbol.now c.args.size p k c.requires x is new c.in_ok-reach.ensures.reached in
     let offset = c.in-Some-variable.offset in
-    let block = block_bytes x.number new.own in
-    let same = c.step_in.ensures
-    ∙ ap (λ b. step_in c.thread-thread.result c.args.number c.block_start-start.result c.args.size offset b) c.block-block.ensures
-    ∙ ap (λ s. step_in c.thread-thread.result c.args.number s c.args.size offset block) c.block_start-start.ensures.value
-    ∙ ap (λ t. step_in t c.args.number (block_start t x) c.args.size offset block) (c.thread-thread.ensures.value ∙ keeps.thread) in
+    let same = c.in_ok-step_in.ensures
+    ∙ ap (λ t. step_in t c.args.number (block_start t x) c.args.size offset (block_bytes x.number new.own)) keeps.thread in
     subst (λ found. BeginsPeek line c.args.symbol.now c.args.size p k (Says found) p new) (sym same)
     (peek_begins line c.args.symbol.now c.args.size p k c.requires x is new c.in_ok-reach.ensures.reached offset
     (ap (λ ls. (loads_of ls).variable image c.args.symbol.now) (sym (c.images-2.ensures ∙ keeps.images)) ∙ sym c.in-Some-variable.ensures))

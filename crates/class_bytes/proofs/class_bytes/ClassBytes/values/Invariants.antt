@@ -1,9 +1,8 @@
 use Rattle.std.proofs.Common.{◌≡◌, map}
 use Rattle.std.specs.List.{range_with_len}
-use Rattle.job_meaning.specs.declared.values.Byte.TheVariants.{Value}
 use Rattle.class_bytes.specs.Tables.{byte_at}
 use Rattle.class_bytes.proofs.class_bytes.ClassBytes.values.Given as goal
 
 -- the bytes so far
 abbrev pub invariant-loop-index : goal.invariant-loop-index
-invariant-loop-index l = l.bytes.items ≡ map Value (map (byte_at l.self l.bias) (range_with_len 0 l.index))
+invariant-loop-index l = l.bytes.items ≡ map (byte_at l.self l.bias) (range_with_len 0 l.index)

@@ -1,5 +1,5 @@
 use Rattle.class_bytes.proofs.Ranging.{block_is}
-use Rattle.class_bytes.proofs.ranges.block_of.Goals as goal
+use Rattle.class_bytes.proofs.ranges.block_values.Goals as goal
 
 pub returns : goal.returns
 returns c = λ l is keeps size.
