@@ -175,7 +175,8 @@ fn data_in(
         return Ok(None);
     }
     let start = writable.place(bias);
-    let bytes = MarkedBytes::of(alloc, writable.values(alloc, bias)?)?;
+    let values = writable.values(alloc, bias)?;
+    let bytes = MarkedBytes::of(alloc, values)?;
     Ok(Some(WritableRange { start, bytes }))
 }
 

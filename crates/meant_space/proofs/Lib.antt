@@ -1,3 +1,4 @@
+pub mod Parts
 pub mod Sought
 pub mod SpaceImages
 pub mod Stacks

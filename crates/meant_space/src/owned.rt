@@ -130,6 +130,7 @@ pub(crate) fn block(owned: &[OwnedRange], instance: u32) -> Option<&MarkedBytes>
 }
 
 /// The bytes of a block from an offset on, where so many lie in it.
+#[tactic(auto, using(crate::proofs::Parts::part_is, crate::proofs::Parts::part_is_none))]
 pub(crate) fn part_of(
     alloc: Global,
     block: &MarkedBytes,
@@ -139,12 +140,12 @@ pub(crate) fn part_of(
     ensures part { IfOk result (λ part. option_map (λ bytes. bytes.items) part ≡ part_in offset size (Some block.now)) }
     ensures low { IfOk result (λ part. IfSome part (λ bytes. offset < 2 ^ 32)) }
 {
-    match offset.checked_add(u64::from(size)) {
-        Some(end) if end <= block.len() => {
-            Ok(Some(block.part(alloc, offset as usize, end as usize)?))
-        }
-        _ => Ok(None),
+    let end = u128::from(offset) + u128::from(size);
+    if end > u128::from(block.len()) {
+        return Ok(None);
     }
+    let bytes = block.part(alloc, offset as usize, end as usize)?;
+    Ok(Some(bytes))
 }
 
 /// The byte at a place, where it may be accessed so.

@@ -1,13 +1,12 @@
 -- The bytes stay, at the place where a load puts them.
-use Rattle.std.proofs.Common.{◌∙◌, ap, sym}
-use Rattle.std.specs.Prelude.{option_map}
+use Rattle.std.proofs.Common.{◌∙◌, sym}
 use Rattle.meant_space.specs.Spaces.{fills}
 use Rattle.meant_space.proofs.Takes.{data_kept}
 use Rattle.meant_space.proofs.space.MeantSpace.data_after.Goals as goal
 
 pub returns-in-Some-data_start-clause-shared : goal.returns-in-Some-data_start-clause-shared
 returns-in-Some-data_start-clause-shared c =
-    data_kept c.args.instance.now c.in-Some.bytes.items c.in-Some-data_start.start c.args.self.now.images (fills c.args.wanted) c.args.pool.now
+    data_kept c.args.instance.now c.in-Some.bytes c.in-Some-data_start.start c.args.self.now.images (fills c.args.wanted) c.args.pool.now
     (sym c.fills.ensures ∙ c.if-fills.false)
-    (sym c.take_bytes-held.ensures.bytes ∙ ap (option_map (λ bytes. bytes.items)) c.in-Some.is)
+    (sym c.take_bytes-held.ensures.bytes ∙ c.in-Some.is)
     (sym c.data_start.ensures ∙ c.in-Some-data_start.is)
