@@ -1,5 +1,5 @@
 -- A line that shows bytes of a block shows a part of it, where all of them lie in it.
-use Rattle.std.proofs.Common.{◌≡◌, ◌+◌, ℕ, Bool, true, false, List, Option, Some, None, length, refl, ap, sym, ◌∙◌}
+use Rattle.std.proofs.Common.{◌≡◌, ◌+◌, ℕ, Bool, true, false, List, Option, Some, None, length, refl, ap, sym}
 use Rattle.std.specs.Prelude.{nat_le, slice_range, if◌then◌else◌}
 use Rattle.job_meaning.specs.declared.values.Byte.{Byte}
 use Rattle.job_meaning.specs.Marked.{values_of}

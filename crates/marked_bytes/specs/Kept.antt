@@ -1,7 +1,6 @@
 -- What holds of the lists that keep bytes.
 use Rattle.std.specs.Prelude.{◌≡◌, ◌<◌, ◌≤◌, ◌^◌, ℕ, suc, List, length, slice_index_or}
 use Rattle.std.specs.Vec.{vec_capacity, vec_len}
-use Rattle.job_meaning.specs.declared.values.Byte.{Byte}
 use Rattle.marked_bytes.specs.declared.marked_bytes.MarkedBytes.TheInside.{Inside}
 use Rattle.marked_bytes.specs.Cells.{marked}
 

@@ -1,5 +1,5 @@
 -- What is made ready of all images of a job.
-use Rattle.std.specs.Prelude.{◌≡◌, ◌<◌, ◌≤◌, ◌^◌, ℕ, true, List, Some, length, map, slice_get}
+use Rattle.std.specs.Prelude.{◌≡◌, ℕ, true, List, Some, length, map, slice_get}
 use Rattle.std.specs.List.{All}
 use Rattle.class_bytes.specs.Still.{AreStill}
 use Rattle.class_bytes.specs.Tables.{IsClass}

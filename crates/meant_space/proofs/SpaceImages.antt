@@ -1,6 +1,6 @@
 -- What a step does over the ranges that the code has, it does over the memory of the meaning's thread.
-use Rattle.std.proofs.Common.{◌≡◌, ◌∙◌, ◌-◌, ◌++◌, ◌<◌, ◌≤◌, ℕ, zero, suc, Bool, true, false, List, [], ◌∷◌, length, Option, Some, None, Result, Ok, Err, refl, sym, ap, subst, inl, inr, arith}
-use Rattle.std.specs.Prelude.{if◌then◌else◌, nat_le, nat_lt, ok_or, slice_get, slice_set}
+use Rattle.std.proofs.Common.{◌≡◌, ◌∙◌, ◌-◌, ◌++◌, ◌<◌, ◌≤◌, ℕ, zero, suc, Bool, true, false, List, [], ◌∷◌, Option, Some, None, Result, Ok, Err, refl, sym, ap, inl, inr, arith}
+use Rattle.std.specs.Prelude.{if◌then◌else◌, ok_or, slice_get, slice_set}
 use Rattle.std.proofs.lemmas.Bool.{cases_lt, le-leb, le-ltb, lt-ltb}
 use Rattle.std.proofs.lemmas.List.{append_cancel_right}
 use Rattle.amd64_subset.specs.declared.instr.Operation.{Operation}
@@ -21,13 +21,13 @@ use Rattle.module_table.specs.declared.events.Event.{Event}
 use Rattle.thread_blocks.specs.Held.{Owner, ranges_in}
 use Rattle.thread_blocks.specs.Instances.{fixed_at, fixed_of, instances}
 use Rattle.thread_blocks.specs.MachineTurns.{pointer_word, stack_start, word_bytes}
-use Rattle.thread_blocks.specs.Spaces.{IsImage, NoneWritable, after_of, mapped, open_everywhere, put_byte, space_accesses, stack_range}
+use Rattle.thread_blocks.specs.Spaces.{IsImage, NoneWritable, mapped, open_everywhere, put_byte, space_accesses, stack_range}
 use Rattle.thread_blocks.proofs.Image.{act_image}
 use Rattle.thread_blocks.proofs.Spaces.{put_is_with_byte}
 use Rattle.whole_meaning.specs.Fields.{lent, lent_byte}
 use Rattle.whole_meaning.specs.Loads.{loads_of, meaning_of}
-use Rattle.whole_meaning.specs.Threads.{Meant, Memory, meant_accesses, ops}
-use Rattle.meant_space.specs.Kept.{HasSeen, Kept, Shape, fixed_in, held_at, lent_range, memory_of, shape_of, with_lent}
+use Rattle.whole_meaning.specs.Threads.{Memory, meant_accesses, ops}
+use Rattle.meant_space.specs.Kept.{HasSeen, Kept, Shape, held_at, lent_range, memory_of, shape_of, with_lent}
 use Rattle.meant_space.proofs.Writes.{lent-written, none_fixed}
 
 -- the memory of the meaning's thread that keeps this, where it saw these events

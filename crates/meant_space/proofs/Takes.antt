@@ -1,7 +1,7 @@
 -- Bytes that are taken out of ranges with owners, and what a thread holds then.
-use Rattle.std.proofs.Common.{◌≡◌, ◌∙◌, ◌+◌, ◌-◌, ◌++◌, ◌<◌, ◌≤◌, ◌==◌, ◌&&◌, ℕ, suc, Bool, true, false, List, [], ◌∷◌, length, get_or, set, drop, Option, Some, None, refl, sym, ap, subst, arith, add-one, append_assoc}
+use Rattle.std.proofs.Common.{◌≡◌, ◌∙◌, ◌+◌, ◌++◌, ◌<◌, ◌≤◌, ◌==◌, ℕ, Bool, true, false, List, [], ◌∷◌, length, get_or, set, drop, Option, Some, None, refl, sym, ap, subst, arith, add-one, append_assoc}
 use Rattle.std.specs.Prelude.{All, if◌then◌else◌, option_map, slice_get}
-use Rattle.std.specs.List.{AllPairs, find, flat_map, position_or_len}
+use Rattle.std.specs.List.{find, flat_map, position_or_len}
 use Rattle.std.specs.Option.{option_or}
 use Rattle.std.proofs.lemmas.Bool.{eqb-true, false≢true}
 use Rattle.std.proofs.lemmas.List.{get_or-drop, length-drop}
@@ -13,7 +13,7 @@ use Rattle.guest_operands.specs.Ranges.{Range}
 use Rattle.job_meaning.specs.declared.values.Byte.{Byte}
 use Rattle.link_needs.specs.Linking.{Linking}
 use Rattle.loaded_modules.specs.declared.instance.Instance.{Instance}
-use Rattle.thread_blocks.specs.Held.{Block, Data, Kind, Owned, Owner, block_after, block_with, data_after, data_bytes, data_with, fresh_data, fresh_if, held_of, is_block, is_block_of, is_data_of}
+use Rattle.thread_blocks.specs.Held.{Block, Data, Kind, Owned, Owner, block_after, block_with, data_after, data_bytes, data_with, fresh_data, fresh_if, held_of, is_block_of, is_data_of}
 use Rattle.thread_blocks.specs.Instances.{Loads}
 use Rattle.thread_blocks.specs.Turns.{at_number}
 use Rattle.whole_meaning.specs.Loads.{at_bias, data_range, data_ranges, has_data, loads_of}
@@ -22,7 +22,7 @@ use Rattle.meant_space.specs.declared.owned.Written.{Written}
 use Rattle.meant_space.specs.declared.owned.Written.TheVariants as written
 use Rattle.meant_space.specs.declared.space.Wanted.{Wanted}
 use Rattle.meant_space.specs.Kept.{Kept}
-use Rattle.meant_space.specs.Owners.{LeavesOthers, bytes_for, is_owner, kind_of}
+use Rattle.meant_space.specs.Owners.{LeavesOthers, is_owner, kind_of}
 use Rattle.meant_space.specs.Spaces.{HaveOwnNumbers, fills, reaches, with_held}
 
 -- ** the first that passes

@@ -1,5 +1,5 @@
 -- What the checker keeps of a thread's memory, and what the meaning's thread holds then.
-use Rattle.std.specs.Prelude.{◌≡◌, ◌==◌, ℕ, Bool, true, false, List, [], ◌∷◌, ◌++◌, length, Option, Some, None, option_and_then, if◌then◌else◌}
+use Rattle.std.specs.Prelude.{◌≡◌, ◌==◌, ℕ, Bool, true, false, List, [], ◌∷◌, ◌++◌, Option, Some, None, option_and_then, if◌then◌else◌}
 use Rattle.std.specs.List.{find, list_any}
 use Rattle.guest_machine.specs.Run.{is_look}
 use Rattle.guest_operands.specs.declared.space.Access.TheVariants.{Write}

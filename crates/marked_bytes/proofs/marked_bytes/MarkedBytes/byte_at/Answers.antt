@@ -1,5 +1,5 @@
 -- A byte is its value, or its mark.
-use Rattle.std.proofs.Common.{◌≡◌, ◌∙◌, ◌-◌, ℕ, List, Some, suc, ap, sym, arith}
+use Rattle.std.proofs.Common.{◌≡◌, ◌∙◌, ◌-◌, ℕ, List, Some, ap, sym, arith}
 use Rattle.std.specs.Prelude.{slice_index_or}
 use Rattle.job_meaning.specs.declared.values.Byte.TheVariants.{Hidden, Value}
 use Rattle.marked_bytes.proofs.Cells.{marked_byte, plain_byte}

@@ -1,5 +1,5 @@
 -- There are as many bytes as values.
-use Rattle.std.proofs.Common.{◌≡◌, ◌∙◌, ℕ, List, length, ap, arith}
+use Rattle.std.proofs.Common.{◌∙◌, ℕ, List, length, ap, arith}
 use Rattle.marked_bytes.proofs.Cells.{as_many}
 use Rattle.marked_bytes.proofs.marked_bytes.MarkedBytes.len.Goals as goal
 

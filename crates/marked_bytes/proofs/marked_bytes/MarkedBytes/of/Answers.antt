@@ -1,5 +1,4 @@
 -- All bytes are values.
-use Rattle.std.proofs.Common.{refl}
 use Rattle.marked_bytes.proofs.Cells.{of_values}
 use Rattle.marked_bytes.proofs.marked_bytes.MarkedBytes.of.Goals as goal
 

@@ -1,12 +1,12 @@
 -- A byte that has a mark keeps one; another gets one where it is no value.
-use Rattle.std.proofs.Common.{◌≡◌, ◌∙◌, ◌-◌, ◌+◌, ◌++◌, ◌∷◌, ◌<◌, [], ℕ, List, Some, length, replicate, suc, ap, sym, subst, arith}
+use Rattle.std.proofs.Common.{◌≡◌, ◌∙◌, ◌-◌, ◌++◌, ◌∷◌, [], ℕ, List, length, replicate, suc, ap, sym, arith}
 use Rattle.std.specs.Prelude.{slice_index_or, slice_set}
 use Rattle.std.proofs.lemmas.List.{length-append, length-replicate, length-set}
 use Rattle.job_meaning.specs.declared.values.Byte.{Byte}
 use Rattle.job_meaning.specs.declared.values.Byte.TheVariants.{Value}
 use Rattle.marked_bytes.specs.Cells.{bytes_from}
 use Rattle.marked_bytes.specs.Kept.{AreSlots}
-use Rattle.marked_bytes.proofs.Cells.{added, inside, mark_added, mark_set, padded, room_left, marked_few, value_set, zeros_change_none}
+use Rattle.marked_bytes.proofs.Cells.{added, inside, mark_added, mark_set, padded, room_left, value_set, zeros_change_none}
 use Rattle.marked_bytes.proofs.marked_bytes.MarkedBytes.set_byte.Goals as goal
 
 pub put_mark-requires : goal.put_mark-requires
