@@ -65,7 +65,7 @@ impl<B: Copy + Drop> GuestRange<B> {
         is_allowed && self.start <= place && place - self.start < self.bytes.len() as u64
     }
 
-    /// The byte at a place, if it lies in the range.
+    /// The byte at a place in the range; `None` past its end.
     pub fn byte(&self, place: u64) -> Option<B>
         ensures { result ≡ slice_get self.now.bytes (place - self.now.start) }
     {

@@ -76,7 +76,7 @@ code_then None rest = []
 code_then (Some byte) rest = byte ∷ rest
 
 module _ {M B : Type 0} (acc : Accesses M B) where
-  -- `count` bytes from a place on
+  -- `size` bytes from a place on
   abbrev pub bytes_at : M → ℕ → ℕ → Result (List B) Refusal
   bytes_at memory place zero = Ok []
   bytes_at memory place (suc size) = both_reached cons (acc.byte memory place) (bytes_at memory (next_place place) size)
