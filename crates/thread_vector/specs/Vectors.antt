@@ -84,7 +84,7 @@ unfoldable pub reached : Vector → ℕ → ℕ → Option (List ℕ)
 reached v asked instance =
     if instance == asked then option_or (held v asked) (fresh v.images v.past asked) else held v instance
 
--- a list with `count` bytes from one on replaced by others
+-- the bytes, with `size` of them from `from` on replaced by others
 abbrev pub over : ℕ → ℕ → List ℕ → List ℕ → List ℕ
 over from size bytes new = take from bytes ++ (new ++ drop (from + size) bytes)
 
@@ -94,7 +94,7 @@ written slots limit m None bytes = slice_set slots m.id (record { instance = Som
 written slots limit m (Some offset) bytes = slice_set slots 0 (record
     { instance = (slot_of slots 0).instance; bytes = over (limit - offset) m.info.size (slot_of slots 0).bytes bytes })
 
--- bytes with others written over them from one on; the length stays
+-- the bytes, with others written over them from `from` on; the length stays
 abbrev pub with_new : List ℕ → ℕ → List ℕ → List ℕ
 with_new bytes from new = take from bytes ++ (new ++ drop (length new) (drop from bytes))
 
