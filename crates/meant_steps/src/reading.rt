@@ -133,7 +133,7 @@ fn end_of(it: &Option<Decoded>, k: u8) -> u8
     }
 }
 
-/// The thread's next address, which fits a word.
+/// The address of the thread's next instruction.
 fn place_of(state: &State<Word, Flag>) -> u64
     ensures { result ≡ state.now.place }
 {

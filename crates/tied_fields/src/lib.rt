@@ -1,6 +1,4 @@
-//! Laws of the code of a linked image outside sequences: at fields that a job's meaning marks, and elsewhere. No code
-//! runs here.
-//! sequences: laws, and no code.
+//! Laws of a linked image's code outside sequences: fields that a job's meaning marks, and all other bytes.
 //!
 //! A job's meaning runs the code of its objects, and marks in it what only a linker knows (`whole_meaning`): offset
 //! fields (`x@dtpoff`), address fields (`f@gotpcrel(%rip)`), and sequences that reach thread-local storage. Its
