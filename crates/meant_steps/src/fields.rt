@@ -95,7 +95,7 @@ fn read_by_move(width: Width, operands: &Operands) -> Option<Memory>
     }
 }
 
-/// The operand, if cmp, which does not write it, reads its 64 bits.
+/// The memory operand, if the instruction reads 64 bits of it and does not write it: into a register, or for cmp.
 #[tactic(auto, unfolding(whole_meaning::specs::Fields::read_in))]
 fn read_by_compute(arithmetic: Arithmetic, width: Width, operands: &Operands) -> Option<Memory>
     ensures { result ≡ read_in (Computes arithmetic width operands.now) }

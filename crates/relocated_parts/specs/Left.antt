@@ -55,6 +55,6 @@ module _ (m : JobImages) (image : Spelled) (x : Instance) where
   byte_by address own None = own
   byte_by address own (Some r) = written_byte r (address - r.place)
 
-  -- the byte at an address, where the part's own byte is the last argument
+  -- the byte at an address; `own` is the part's own byte there
   unfoldable pub left_byte : ℕ → ℕ → ℕ
   left_byte address own = byte_by address own (find (is_written_at address) image.relocations)

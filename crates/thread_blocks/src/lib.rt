@@ -1,5 +1,6 @@
-//! Definitions and laws of what a job's threads do, turn by turn, and of what each has in its memory. No code runs
-//! here; `job_turns` runs threads as these definitions say, each in a memory of `thread_space`.
+//! Definitions and laws of what a job's threads do, turn by turn, and of what each has in its memory.
+//!
+//! No code runs here; `job_turns` runs threads as these definitions say, each in a memory of `thread_space`.
 //!
 //! A thread has a list of lines to do, such as "call `f` of image 1 with 3, 10 and 0" or "open image 2". The result of
 //! a line may depend on what other threads did before: one thread may call a module that another opened. All of that

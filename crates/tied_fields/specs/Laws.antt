@@ -146,7 +146,7 @@ pub record HasItsNumber (g : Setting) (ls : List Linking) (l : Linking) (x : Ins
       → (y : Instance) (below : ℕ) → g.known v.target ≡ Some y → y.offset ≡ Some below
       → g.descriptor x.number v.symbol ≡ less v.offset below
 
--- an image has fewer objects than that, so no two symbols have the same number
+-- each image has fewer than 2^32 objects, so no two symbols have the same number
 abbrev pub DescriptorsHaveOneNumber : Type 0
 DescriptorsHaveOneNumber = (ls : List Linking) (history : List Event) (l : Linking) (x : Instance) (o : ℕ) (site : Site)
     → AreTogether ls → LateLast (map (λ l. l.kind) ls) → All (λ (l : Linking). length l.objects < 2 ^ 32) ls
