@@ -1,5 +1,4 @@
-//! Small jobs, computed by the checker from their objects' bytes to what they print, in the meaning and in the
-//! machine.
+//! Small jobs, computed by the checker from their objects' bytes to their output, in both worlds.
 //!
 //! A job is run by a machine over its linked images (`thread_blocks`), and it has a meaning, taken from its objects
 //! before anything is linked (`whole_meaning`). `tied_meaning` relates the two in many small definitions. Are they the

@@ -20,30 +20,30 @@ pub trait Bytes<V: Values> {
 
     ghost rest: { Self → Self.Rest };
 
-    /// The byte at a place, if it may be read.
+    /// The byte at `place`, if it may be read.
     fn read(&self, place: u64) -> Option<V::Byte>
         ensures { result ≡ byte_in Read (memory self.now).ranges place };
 
-    /// The byte at a place, if it may be run.
+    /// The byte at `place`, if it may be run.
     fn run(&self, place: u64) -> Option<V::Byte>
         ensures { result ≡ byte_in Run (memory self.now).ranges place };
 
-    /// Whether the byte at a place may be written.
+    /// Whether the byte at `place` may be written.
     fn may_write(&self, place: u64) -> bool
         ensures { result ≡ is_some (byte_in Write (memory self.now).ranges place) };
 
-    /// Writes the byte at a place, or nothing if it may not be written.
+    /// Writes the byte at `place`, or nothing if it may not be written.
     fn write(&mut self, place: u64, byte: V::Byte)
         ensures written { memory self.new ≡
             record (memory self.old) { ranges = with_byte (memory self.old).ranges place byte } }
         ensures rest { rest self.new ≡ rest self.old };
 
-    /// Whether an offset field begins at a place.
+    /// Whether an offset field begins at `place`.
     fn is_field(&self, place: u64) -> bool
         ensures { result ≡ is_field_of (memory self.now) place };
 }
 
-/// Four bytes from a place on, unless one of them may not be read.
+/// Four bytes from `place` on, unless one of them may not be read.
 fn four<V: Values, M: Bytes<V>>(memory: &M, place: u64) -> Option<Four<V::Byte>>
     ensures { option_map bytes_of result ≡ bytes_in (M.memory memory.now).ranges place 4 }
 {
