@@ -1,10 +1,9 @@
 //! Writes an instruction in the canonical one of its spellings.
 //!
-//! `amd64_subset` says which bytes spell an instruction, and most instructions have several
-//! spellings: a displacement of 16 fits one byte or four, `mov %eax, %ecx` is 89 c1 or 8b c8, and a
-//! REX may stand none of whose bits is read. `encode` takes the spelling with no redundant prefix,
-//! then the shortest, then the first in the rows of the opcode map; the assembler mostly does the
-//! same. So of the spellings of `mov 8(%rsp), %eax`,
+//! `amd64_subset` says which bytes spell an instruction, and most instructions have several spellings: a displacement
+//! of 16 fits one byte or four, `mov %eax, %ecx` is 89 c1 or 8b c8, and a REX may be there though no bit of it is
+//! used. `encode` takes the spelling with no redundant prefix, then the shortest, then the first in the rows of the
+//! opcode map; the assembler mostly does the same. So of the spellings of `mov 8(%rsp), %eax`,
 //!
 //! ```text
 //! 8b 44 24 08              ModRM, SIB for %rsp, a displacement of one byte

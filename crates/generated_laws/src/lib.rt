@@ -1,4 +1,4 @@
-//! Laws that the job which `gen N` makes has no fault: its text spells a job, and its objects link.
+//! Laws of the job that `gen N` makes: it has no fault, and its objects link. No code runs here.
 //!
 //! `gen` makes a job, and then does with it what `run` does with a job from files: it reads the job and each object,
 //! finds the sequences, links the images and runs the threads. Each of these steps may refuse its input, and then says

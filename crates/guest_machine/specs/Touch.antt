@@ -130,6 +130,6 @@ module _ {M B : Type 0} (acc : Accesses M B) (memory : M) where
       places_from touch.address (bytes_in touch.size)
       ++ (if refuses touch.direction touch.address (bytes_in touch.size) then [] else more)
 
-  -- all bytes of each access in their order, up to and with all of the first refused access
+  -- all bytes of each access in their order; the first refused access is the last one, with all of its bytes
   unfoldable pub touched : Touches → List ℕ
   touched it = touched_then it.first (touched_then it.second [])

@@ -29,9 +29,9 @@
 //!
 //! **The bytes that an instruction touches** are computed without a memory (`Machine::touches`): its accesses in their
 //! order, at most two. `ff 53 08`, call *8(%rbx), loads eight bytes at %rbx + 8 and then stores eight below %rsp. An
-//! access whose address is not a number is left out. The bytes touched are those of each access, up to and with all of
-//! the first refused one (`touched` in `specs/Touch.antt`). A step accesses no other byte of a memory
-//! (`laws::reaches_what_it_touches`).
+//! access whose address is not a number is left out. The bytes touched are those of each access; the first refused
+//! access is the last one, with all of its bytes (`touched` in `specs/Touch.antt`). A step accesses no other byte of a
+//! memory (`laws::reaches_what_it_touches`).
 //!
 //! Two machines whose words and memories are related follow each other through every instruction and every run. These
 //! laws are in `proofs/FollowRows.antt` (`act_follows`) and `proofs/Simulate.antt` (`same_run`, `through`), over any

@@ -35,8 +35,8 @@
 //! of both rows raced in the longer one (`proofs/Joined`), and in the end all raced in the whole history.
 //!
 //! Each pass counts how often its looks loaded the history's length and took the lock, and joins add the counts up
-//! (`specs/Rows`, `CountsLooks`). A body that takes the lock at each look, or keeps a history of its own, does not
-//! prove. No theorem says that threads run at once; `race_tests` shows it.
+//! (`specs/Rows`, `CountsLooks`). So a body that takes the lock at each look, or keeps a history of its own, can't be
+//! proved. No theorem says that threads run at once; `race_tests` shows it.
 #![tactic(auto)]
 
 mod race;

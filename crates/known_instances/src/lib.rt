@@ -1,4 +1,4 @@
-//! Definitions and laws of instance numbers: in a job's whole history a number stands for one instance.
+//! Definitions and laws of instance numbers: each stands for one instance in a job. No code runs here.
 //!
 //! Each load of an image makes a new instance of it, with a number that no instance had before (`module_table`). A
 //! module that is closed and opened again comes back as another instance, at other addresses, with blocks of its own.

@@ -1,4 +1,4 @@
-//! Laws of the bytes of a loaded instance, by its image's objects alone.
+//! Laws of the bytes of a loaded instance, by its image's objects alone. No code runs here.
 //!
 //! A linker lays sections into a file and fills in their fields (`link_core`); a loader relocates the image and writes
 //! words over it (`loaded_modules`, `relocated_parts`). To run the image one needs neither story, but one answer:

@@ -1,4 +1,4 @@
-//! Laws of names and blocks in a loaded image: functions, variables and block sizes are those of its objects.
+//! Laws of names and blocks in a loaded image: they are those of its objects. No code runs here.
 //!
 //! A linker writes a table of symbols into each image (gABI, "Symbol Table"), and describes its thread-local storage
 //! by a segment (gABI, "Program Header", PT_TLS) and a flag (gABI, "Dynamic Section", DF_STATIC_TLS). A loader looks

@@ -1,4 +1,4 @@
-//! Laws of the words in the global offset table of a loaded instance, a line for each kind of entry.
+//! Laws of the words in a loaded instance's global offset table. No code runs here.
 //!
 //! Code that is not rewritten reaches thread-local storage through entries of the table (`got_pairs`). In the file an
 //! entry has the numbers that the linker knows, and relocations for the others (`link_core`); a loader writes these

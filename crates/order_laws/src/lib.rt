@@ -1,4 +1,4 @@
-//! Definitions and laws of two kinds of threads in one order of turns: related threads stay related.
+//! Definitions and laws of two kinds of threads in one order of turns. No code runs here.
 //!
 //! A job's threads take turns in some order (`thread_blocks`): a turn looks at all events so far, holds the data that
 //! threads share, takes steps up to its next look, and may add an event. Say the same lines are run twice in the same

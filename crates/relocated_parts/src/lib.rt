@@ -1,4 +1,4 @@
-//! Laws of the bytes that a loader leaves of an image's parts: relocated words, and the parts' own bytes.
+//! Laws of the bytes that a loader leaves of an image's parts and of its blocks. No code runs here.
 //!
 //! A loader writes words into an image at the addresses of its relocations (`loaded_modules`): one list of bytes over
 //! another, relocation by relocation. To know what an instruction reads at an address, one needs that byte, and not

@@ -1,4 +1,4 @@
-//! Laws of the data that threads share: a read gives what the last write before it left, in the order of turns.
+//! Laws of shared data: a read gives what the last write left, in the order of turns. No code runs here.
 //!
 //! The threads of a job take turns (`thread_blocks`), and the data of images go from turn to turn: each turn begins
 //! with all of them as the turn before left them, whoever took it. What does that mean for a programmer? Say a

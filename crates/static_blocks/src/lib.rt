@@ -1,4 +1,4 @@
-//! Laws of static TLS: code that uses a fixed distance from the thread pointer reaches its own thread's block.
+//! Laws of static TLS: code reaches its own thread's block at a fixed distance. No code runs here.
 //!
 //! A startup image, or a late one with the flag DF_STATIC_TLS, has its blocks at one distance from the thread pointer
 //! of each thread (Drepper, "ELF Handling For Thread-Local Storage", section 3, variant II). Its code may rely on

@@ -1,4 +1,4 @@
-//! Laws of a linked image's code outside sequences: fields that a job's meaning marks, and all other bytes.
+//! Laws of a linked image's code outside sequences: marked fields, and all other bytes. No code runs here.
 //!
 //! A job's meaning runs the code of its objects, and marks in it what only a linker knows (`whole_meaning`): offset
 //! fields (`x@dtpoff`), address fields (`f@gotpcrel(%rip)`), and sequences that reach thread-local storage. Its

@@ -32,8 +32,8 @@ pub record Setting : Type 0 where
 module _ (g : Setting) where
   -- ** tokens
 
-  -- the number to which the offsets in a block are added: the block's address; for the program's blocks, which lie
-  -- below the thread pointer, that or the thread pointer
+  -- the number to which the offsets in a block are added: the block's address; or the thread pointer, for the
+  -- program's block, if its Local Dynamic code is rewritten
   abbrev pub base_number : Block → ℕ
   base_number block =
       if g.counts_from_pointer && (block.instance == 1) then pointer_of block.thread else block.start
