@@ -25,6 +25,7 @@
 //! Two spellings may be one instruction: a displacement of 16 fits one byte or four, `mov %eax, %ecx` is 89 c1 or 8b
 //! c8, and a REX may be there though no bit of it is used. An `Instr` is what they have in common. `Decoded` adds what
 //! a linker needs of the spelling that it found: the length, and where the four-byte fields lie.
+//!
 //! A linker rewrites code in place, and a machine runs code up to the end of mapped memory. Both read bytes in parts,
 //! and must tell bytes that are not an instruction from bytes that end too early: hence `begins`. No spelling is a
 //! prefix of another (`laws::one_spelling`), so a decoded instruction stays the same whatever follows.

@@ -14,8 +14,7 @@
 //! - `specs/EachForm.antt`: a program with each form of sequence that the jobs of `closed_jobs` leave out, for a
 //!   variable of its own or of a library's; so each of the eight forms is kept in a job, and rewritten in one;
 //! - `specs/HandedOver.antt`: a base and a descriptor that one thread stores in data and two others load, and
-//! addresses
-//!   in a program that was moved;
+//!   addresses in a program that was moved;
 //! - `specs/LateData.antt`: data of a late module after it was loaded again;
 //! - `specs/NoStack.antt`: a late module that calls without a stack, which is unclean before any look;
 //! - `specs/Library.antt`: the library of the first two, which is a startup image.

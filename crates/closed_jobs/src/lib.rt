@@ -6,7 +6,6 @@
 //! last as a law that can't be proved. Here such definitions meet numbers: **each side is computed from one list of
 //! links, and the expected result is written down**. No code runs here: definitions, and laws that the checker
 //! computes.
-//! list of links, and what is expected is written down**.
 //!
 //! ```text
 //! f: lea x@tlsld(%rip), %rdi          links                      thread 1 calls f        5

@@ -16,8 +16,7 @@
 //!
 //! - `specs/Peeked.antt`: a program whose variables are shown, as numbers and as tokens;
 //! - `specs/OldDescriptor.antt`: a late module whose descriptor lies in the program's data when it is closed and
-//! opened
-//!   again, and the descriptor of its next instance;
+//!   opened again, and the descriptor of its next instance;
 //! - `specs/Unclean.antt`: a job that is unclean, in both worlds (`IsUnclean`).
 #![tactic(auto)]
 

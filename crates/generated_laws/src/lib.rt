@@ -6,13 +6,11 @@
 //! here say that no refusal comes, whatever N is:
 //!
 //! - **the text spells a job** ([`texts`]): each line has its words, its numbers and its names, and the lines declare
-//! a
-//!   program of N objects, a late module, and two threads with their lines;
+//!   a program of N objects, a late module, and two threads with their lines;
 //! - **each object is one** ([`objects`]): it breaks no rule of an object file (gABI, "Sections", "Symbol Table",
 //!   "Relocation"), and each TLS access is a sequence of the psABI;
 //! - **they link** ([`links`]): each name has one definition, of the kind that its uses need; the sections, the
-//! relocations
-//!   and the names keep within the limits of an image; and each field holds its value.
+//!   relocations and the names keep within the limits of an image; and each field holds its value.
 //!
 //! The rule of the crate: **a generated job is held to the same definitions as one from files**. Nothing here depends
 //! on how `gen` makes its bytes, but only on the bytes (`generated_job`), and on the faults that the readers and the

@@ -18,8 +18,7 @@
 //! 0, where nothing else is. So three more things are proved:
 //!
 //! - an instruction that reads such a word does the same with it at any address (`reads_follow`): `mov`, arithmetic
-//! such
-//!   as `add`, `cmp`, `test`, `imul`, `call` and `jmp`;
+//!   such as `add`, `cmp`, `test`, `imul`, `call` and `jmp`;
 //! - the meaning's address is 0: an operand relative to the next instruction has no index (`next_has_no_index`),
 //!   since its spelling has no byte for one (Intel's manual, volume 2, "ModR/M and SIB Bytes");
 //! - closing the linker's addresses to the meaning changes no step that touches none of them, with a lent word or

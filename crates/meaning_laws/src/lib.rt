@@ -3,6 +3,7 @@
 //! A job's threads take turns in some order. They share two things: the history of opens and closes, and the data that
 //! programs and modules write. If no image has such data, for example because each variable is thread-local, a thread
 //! learns of the others only through the history, as it is at each of its turns. Say the order is 2, 1, 2:
+//!
 //! ```text
 //! thread 1              open m
 //! thread 2    call g              call g

@@ -28,8 +28,7 @@
 //!
 //! - the runner stands for the definition's thread after these points;
 //! - their looks are lawful in the history that was seen: each sees a front of it with all that the look before saw,
-//! and
-//!   its events that name the thread are those that the looks added;
+//!   and its events that name the thread are those that the looks added;
 //! - what the pass has seen is just what the runner knows.
 //!
 //! A turn finds a history that *other* threads continued, so all of this stays true, and the turn adds one point

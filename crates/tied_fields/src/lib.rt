@@ -38,8 +38,7 @@
 //!
 //! - an offset field moves the base of each thread's block to one address in both ([`offset_fields_are_tied`]);
 //! - all that is loaded of it, on both sides, lies at addresses with its number in them, and no instruction runs on
-//! from
-//!   its code into what the linker added ([`places_are_tied`]);
+//!   from its code into what the linker added ([`places_are_tied`]);
 //! - an address field leads to a word with the mark's number ([`address_fields_are_tied`]);
 //! - all sequences of an image that make a symbol's descriptor, or call it, have one number for it
 //!   ([`descriptors_have_one_number`]): their symbol has one definition, so they name one variable and one entry, and

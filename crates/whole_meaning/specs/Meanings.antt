@@ -1,6 +1,5 @@
 -- The inputs of a job's meaning: what is loaded of its images, the marks of their code, and which addresses are the
 -- linker's own.
--- places are the linker's own.
 use Rattle.std.specs.Prelude.{ℕ, Bool, Option}
 use Rattle.job_meaning.specs.declared.values.Byte.{Byte}
 use Rattle.loaded_modules.specs.declared.instance.Instance.{Instance}
