@@ -159,7 +159,7 @@ AsksForRex marks row rest =
     IfSome (action_of row ((slice_index rest 0 / 8) % 8))
     (λ action. allowed action (prefixes_of marks None) (slice_index rest 0) ≡ false)
 
--- REX has no bit that its row does not read, and stands there without a bit only where the row asks for it
+-- REX has no bit that its row does not read, and all its bits are clear only if the row needs a REX
 abbrev pub IsNeeded : List ℕ → Row → List ℕ → ℕ → Type 0
 IsNeeded marks row rest byte =
     AreAmong (rex_of byte) (bits_read row rest) × (rex_of byte ≡ no_bits → AsksForRex marks row rest)

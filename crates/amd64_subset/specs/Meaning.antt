@@ -100,7 +100,7 @@ does CallTarget width r rm m count = operation.Call (Indirect rm)  -- call *rm
 does JumpTarget width r rm m count = operation.Jump (Indirect rm)  -- jmp *rm
 does Padding width r rm m count = operation.Nop (Some rm)  -- nop rm
 
--- the same with the bytes' own operands, and with this count where it is a shift
+-- the same with the bytes' own operands, and with this count if it is a shift
 unfoldable pub operation_of : Action → Prefixes → Selectors → ℕ → Operation
 operation_of action prefixes selectors count =
     does action (width_of prefixes) (register_in prefixes selectors) (operand_in prefixes selectors)

@@ -31,7 +31,7 @@ EventsAreOne = (g : Setting) (m : Meaning) (q : Loads ℕ) (history : List Event
     → (thread : ℕ) (line : Line) (seen : List Event)
     → event_by q thread line seen ≡ event_by m.loads thread line seen
 
--- a line of any kind begins alike, if what is seen is a front of the history, and so it is with the line's own event
+-- a line of any kind begins alike, if what is seen is a front of the history, also with the line's own event added
 abbrev pub LinesBeginAlike : Type 0
 LinesBeginAlike = (g : Setting) (m : Meaning) (q : Loads ℕ) (history : List Event) → AreTied g m q history
     → (thread : ℕ) (seen : List Event) (line : Line) → IsFront seen history

@@ -63,7 +63,7 @@ pub record Stands (m : JobImages) (fuel : ℕ) (w : Shared ℕ Bool ℕ Line) (x
   pub each : (k : ℕ) (r : Run) (t : Thread Runs Line Event) → slice_get x.runs k ≡ Some r → slice_get w.threads k ≡ Some t
       → IsRunner m fuel (suc k) w.events r t
 
--- it stands for threads of some job
+-- the code stands for threads of some job
 pub record StandsForSome (x : Progress) : Type 0 where
   pub images : JobImages
   pub fuel : ℕ
@@ -83,7 +83,7 @@ pub record TakesTurns (old : Progress) (order : List ℕ) (new : Progress) : Typ
 
 -- ---- before the first turn
 
--- it stands for the threads before the first turn of a job over these images
+-- the code stands for the threads before the first turn of a job over these images
 pub record IsFirst (m : JobImages) (job : JobParts) (x : Progress) : Type 0 where
   pub infos_are : x.history.infos ≡ infos m
   pub last_is : x.history.last_offset ≡ last_offset m

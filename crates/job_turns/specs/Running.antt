@@ -108,7 +108,7 @@ pub record RunsOn (limit : ℕ) (m : Standing ℕ Bool) (k : Kept) (result : Ran
   pub runs : (seen : List Event) (asked : Option Asked) → HasSeen k.vector seen
       → left_run limit seen asked m k ≡ outcome_of_run seen asked result (limit - m'.taken) m'.state k'
 
--- it went on for some steps, or ended
+-- the run went on for some steps, or ended
 abbrev pub RunsPart : ℕ → Standing ℕ Bool → Kept → Option Ran → Standing ℕ Bool → Kept → Type 0
 RunsPart limit m k None m' k' = RunsUpTo limit m k m' k' × (m.taken < m'.taken)
 RunsPart limit m k (Some result) m' k' = RunsOn limit m k result m' k'

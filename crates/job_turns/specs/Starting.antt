@@ -100,7 +100,7 @@ LoadsNew true x old new = new ≡ old
 LoadsNew false None old new = new ≡ old
 LoadsNew false (Some x) old new = HasData old (loaded old.vector.images x old.pieces) new
 
--- it reaches the block of a live instance
+-- the thread reaches the block of a live instance
 pub record ReachesLive (old : Kept) (x : Instance) (new : Kept) : Type 0 where
   pub keeps : KeepsJob old new
   pub past : new.vector.past ≡ old.vector.past

@@ -123,7 +123,7 @@ run_after lines begun fuel said points (taken.Waits machine asked) k = record {
   said = said;
 }
 
--- it began its next line, and its turn ended so
+-- the runner began its next line, and its turn ended with this result
 pub record BeginsLine (lines : List ThreadLine) (begun fuel : ℕ) (line : ThreadLine) (k : Kept) (said : List Printed) (r : Run)
     (d : List Piece) : Type 0 where
   pub taken : Taken
@@ -132,7 +132,7 @@ pub record BeginsLine (lines : List ThreadLine) (begun fuel : ℕ) (line : Threa
   pub pieces : d ≡ new.pieces
   pub is : r ≡ run_after lines (begun + 1) fuel said (k.vector.past.seen ∷ []) taken (emptied new)
 
--- it went on with a call, and its turn ended so
+-- the runner went on with a call, and its turn ended with this result
 pub record ResumesLine (lines : List ThreadLine) (begun fuel : ℕ) (k : Kept) (said : List Printed) (c : Waiting) (r : Run)
     (d : List Piece) : Type 0 where
   pub taken : Taken

@@ -52,7 +52,7 @@ RacedPointsAreLawful = (l : Loads ℕ) (fuel : ℕ) (lines : List (List ThreadLi
     → at_number transcript.threads thread ≡ Some said
     → AreLawfulPoints thread transcript.events (told_by thread (numbered_lines 1 own) said)
 
--- what each turn of a thread sees is a front of a history, and so it is with the thread's own event added
+-- what each turn of a thread sees is a front of a history, also with the thread's own event added
 abbrev pub AtFronts : {S L : Type 0} → Turns S L Event → (L → List Event → Option Event) → List Event
     → Thread S L Event → List (List Event) → Type 0
 AtFronts x event history = AtHistory x event (λ (seen : List Event). IsFront seen history)

@@ -28,7 +28,7 @@ pub fn raced_points_are_lawful()
     ensures { RacedPointsAreLawful }
 {}
 
-/// What each turn of a raced thread saw is a front of the history, and so it is with the thread's own event added.
+/// What each turn of a raced thread saw is a front of the history, also with the thread's own event added.
 pub fn racers_are_in_history()
     ensures { RacersAreInHistory }
 {}

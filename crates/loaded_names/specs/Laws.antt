@@ -74,7 +74,7 @@ abbrev pub VariablesAreMeant : Type 0
 VariablesAreMeant = (ls : List Linking) (image : ℕ) (name : List ℕ) → All IsGiven ls
     → (job_loads (images_of ls)).variable image name ≡ (loads_of ls).variable image name
 
--- and for each job, whatever it links
+-- for each job, whatever it links
 abbrev pub InfosAreMeant : Type 0
 InfosAreMeant = (ls : List Linking) → ((job_loads (images_of ls)).infos ≡ (loads_of ls).infos)
     × ((job_loads (images_of ls)).last_offset ≡ (loads_of ls).last_offset)

@@ -39,7 +39,7 @@ set_to relax ls = map (λ (l : Linking). record l { relax = relax }) ls
 abbrev pub MeaningKnowsNoSetting : Type 0
 MeaningKnowsNoSetting = (ls : List Linking) (relax : Bool) → meaning_of (set_to relax ls) ≡ meaning_of ls
 
--- so is the verdict on a job: no step is unclean in either, or the same one is the first
+-- the verdict on a job is the same in both: no step is unclean in either, or the same one is the first
 abbrev pub VerdictKnowsNoSetting : Type 0
 VerdictKnowsNoSetting = (ls : List Linking) (relax : Bool) (fuel : ℕ) (lines : List (List ThreadLine)) (order : List ℕ)
     → verdict_of (lines_of (meant_world (meaning_of (set_to relax ls)) fuel lines order))

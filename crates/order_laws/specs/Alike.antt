@@ -27,7 +27,7 @@ module _ {S S' L E : Type 0} (Wait Rest : S → S' → Type 0) where
   SameOne t t' = SameThread (λ (e : List E). Wait) (λ (e : List E). Rest) t t'
 
 module _ {S L E : Type 0} (x : Turns S L E) (event : L → List E → Option E) (Fine : List E → Type 0) where
-  -- each of these turns of a thread sees what may be seen, and so it is with the event that the turn adds
+  -- each of these turns of a thread sees what may be seen, also with the event added that the turn adds
   abbrev pub AtHistory : Thread S L E → List (List E) → Type 0
   AtHistory t [] = Unit {0}
   AtHistory t (seen ∷ more) =

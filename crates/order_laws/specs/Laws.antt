@@ -61,7 +61,7 @@ abbrev pub TurnsStayAlike : Type 0
 TurnsStayAlike = (rel wait rest : Meant → Runs → Bool) (fine : List Event → Bool)
     → TurnsKeep (BothPass rel) (BothPass wait) (BothPass rest) (Passes fine) Line
 
--- and for the points of a thread of the machine, in a history
+-- the law of points, for a thread of the machine in a history
 abbrev pub PointsAreTold : Type 0
 PointsAreTold = PointsKeep Runs Line Event × FrontsAreTold Event
 

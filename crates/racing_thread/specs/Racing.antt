@@ -21,6 +21,6 @@ pub record HasRaced (m : JobImages) (job : JobParts) (thread : ℕ) (old new : P
     (events : List Event) : Type 0 where
   pub racer : IsRacer (job_loads m) job.fuel thread (of_thread job.lines thread) new.seen said
   pub events_are : events ≡ new.seen
-  -- and it loaded the length and took the lock as often as its lines tell
+  -- it loaded the length and took the lock as often as its lines tell
   pub loads_are : new.loads ≡ old.loads + (tally_of thread (lines_in job thread) said).loads
   pub turns_are : new.turns ≡ old.turns + (tally_of thread (lines_in job thread) said).turns

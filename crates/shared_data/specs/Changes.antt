@@ -41,7 +41,7 @@ abbrev pub data_place : Kind → ℕ → ℕ → Option (ℕ × ℕ)
 data_place Block instance offset = None
 data_place Data instance offset = Some (instance, offset)
 
--- and a load reads the first that may be read there
+-- a load reads the first range that may be read at its address
 abbrev pub data_found : {B : Type 0} → List (Owned B) → ℕ → Option (ℕ × ℕ)
 data_found [] place = None
 data_found (x ∷ xs) place = if grants Read x.range place

@@ -75,13 +75,13 @@ data_bytes instance xs = option_map (λ x. x.range.bytes) (find (λ x. is_data_o
 
 -- ---- what a thread holds of an instance
 
--- its block with these bytes, if there is one
+-- the instance's block with these bytes, if there is one
 abbrev pub block_with : {B : Type 0} → ℕ → Instance → Option (List B) → List (Owned B)
 block_with thread x None = []
 block_with thread x (Some bytes) =
     record { owner = record { kind = Block; instance = x.number }; range = block_range thread x bytes } ∷ []
 
--- its data with these bytes, at their place, if there are any
+-- the instance's data with these bytes, at their address, if there are any
 abbrev pub data_with : {B : Type 0} → Instance → Option (Range B) → Option (List B) → List (Owned B)
 data_with x None bytes = []
 data_with x (Some range) None = []

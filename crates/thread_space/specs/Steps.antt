@@ -19,7 +19,7 @@ pub record IsNew (thread : ℕ) (m : JobImages) (k : Kept) : Type 0 where
   pub data_is : k.pieces ≡ []
   pub stack : k.stack ≡ []
 
--- it looks: the vector sees these events, and nothing else has changed
+-- the thread looks: the vector sees these events, and nothing else has changed
 pub record Looks (old : Kept) (events : List Event) (new : Kept) : Type 0 where
   pub leaves : Leaves old.vector new.vector (after old.vector.past events)
   pub blocks : (i : ℕ) → held new.vector i ≡ caught_up old.vector new.vector.past i

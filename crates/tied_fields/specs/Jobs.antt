@@ -33,7 +33,7 @@ SequencesStand ls history = (l : Linking) (x : Instance) → IsKnown ls history 
     → (place : ℕ) (s : Sequence) → (meaning_of ls).sequence x place ≡ Some s
     → Stands (setting_of ls history) (job_loads (images_of ls)) x place s
 
--- then all that is loaded in the job is tied
+-- if they do, all that is loaded in the job is tied
 abbrev pub JobsAreTied : Type 0
 JobsAreTied = (ls : List Linking) (history : List Event) → IsReady ls history → SequencesStand ls history
     → AreTied (setting_of ls history) (meaning_of ls) (job_loads (images_of ls)) history

@@ -17,8 +17,8 @@ use Rattle.tied_meaning.specs.Sites.{HasInstruction, HasWord}
 use Rattle.tied_meaning.specs.Ties.{AreTied}
 use Rattle.tied_memory.specs.Places.{AreInPlace}
 
--- it holds for each thread, in any memory of its with all written ranges in place, whatever the owners of its ranges,
--- and whatever history the job ends with
+-- the property holds for each thread, in any memory with all written ranges in place, whatever the owners of its
+-- ranges, and whatever history the job ends with
 abbrev pub OfThreads : (Loads ℕ → ℕ → Space Event ℕ → Type 0) → Type 0
 OfThreads Reads = (g : Setting) (m : Meaning) (q : Loads ℕ) (history : List Event) (thread : ℕ)
     → AreTied g m q history → 1 ≤ thread

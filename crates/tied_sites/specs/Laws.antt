@@ -36,7 +36,7 @@ IsInitial IeMov = Unit {0}
 IsInitial IeAdd = Unit {0}
 IsInitial form = ⊥
 
--- of descriptors
+-- descriptors
 abbrev pub IsOfDescriptor : Form → Type 0
 IsOfDescriptor DescLea = Unit {0}
 IsOfDescriptor DescCall = Unit {0}
@@ -77,7 +77,7 @@ DescriptorSitesStand = (ls : List Linking) (history : List Event) (l : Linking) 
     → All (λ l. length l.objects < 2 ^ 32) ls → IsMeant ls history l x place s → IsOfDescriptor s.form
     → StandsInJob ls history x place s
 
--- so it holds for each form
+-- each form of sequence does what it means
 abbrev pub SitesStand : Type 0
 SitesStand = (ls : List Linking) (history : List Event) (l : Linking) (x : Instance) (place : ℕ) (s : Sequence)
     → All (λ l. length l.objects < 2 ^ 32) ls → IsMeant ls history l x place s → StandsInJob ls history x place s
