@@ -49,7 +49,7 @@ charged None result = result
 charged (Some at) (Ok x) = Ok x
 charged (Some at) (Err cause) = Err Field
 
--- the word of f of the number; if the word is not a number, nothing is known of the result
+-- the word of `f` of the number; if the word is not a number, nothing is known of the result
 abbrev pub carried_as : {W F B : Type 0} → Operations W F B → (ℕ → ℕ) → Result ℕ Cause → W
 carried_as ops f (Ok number) = ops.word (f number)
 carried_as ops f (Err cause) = ops.unknown
@@ -79,7 +79,7 @@ module _ {W F B : Type 0} (ops : Operations W F B) where
   index_of registers (Some index) =
       used (λ number. number * factor_of index.scale % 2 ^ 64) (ops.number_of (register_of registers index.register))
 
-  -- where a memory operand lies (Intel's manual, volume 1, section 3.7.5), with the uses of its registers
+  -- the address of a memory operand (Intel's manual, volume 1, section 3.7.5), or the cause why it has none
   unfoldable pub address_of : Frame → State W F → Memory → Result ℕ Cause
   address_of frame state memory =
       used (λ parts. plus (plus parts.0 parts.1) (if memory.from_thread_pointer then state.thread_pointer else 0))

@@ -42,7 +42,7 @@ pub fn number_at<V: Values>(width: Width, word: V::Word) -> Result<u64, Cause>
     Ok(low(width, V::number_of(word)?))
 }
 
-/// The first of a cause and that of the other use.
+/// The cause, or that of the other use if it comes first.
 fn with(cause: Cause, other: Result<u64, Cause>) -> Cause
     ensures { result ≡ cause_with cause other }
 {

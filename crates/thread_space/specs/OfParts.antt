@@ -14,7 +14,7 @@ use Rattle.thread_blocks.specs.Loading.{is_code, is_loaders, is_written}
 use Rattle.thread_blocks.specs.RunTime.{has_words}
 use Rattle.thread_space.specs.Places.{behind}
 
--- the accesses that a part allows which no thread writes
+-- the accesses that a part allows, if no thread writes it
 abbrev pub allows_fixed : Access → PartClass → Bool → Bool
 allows_fixed Read class is_loaders = not (is_code class) && not (is_written class && not is_loaders)
 allows_fixed Write class is_loaders = false
