@@ -8,7 +8,7 @@
 //! line, and one at each access to a module's block that it can't answer by itself. Between two looks its steps are
 //! private, since no other thread sees its registers, its stack or its blocks. So an order of threads can interleave
 //! only **turns**: a turn is a look and the private steps after it. Besides the history, threads share the data of
-//! programs and modules, which goes from turn to turn.
+//! programs and modules, which go from turn to turn.
 //!
 //! That is why there is a history and no shared clock. If no image has data, a thread's lines are a function of the
 //! lists of events that its looks see. To know these lists, it is enough to know the number of events at each look:
